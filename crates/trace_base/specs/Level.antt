@@ -1,0 +1,27 @@
+-- Levels as numbers: how verbose a level is, and how verbose a filter lets it be.
+use Rattle.std.specs.Prelude.{ℕ, Bool, nat_le}
+use Rattle.trace_base.specs.declared.level.Level.{Level}
+use Rattle.trace_base.specs.declared.level.Level.TheVariants as level
+use Rattle.trace_base.specs.declared.level.LevelFilter.{LevelFilter}
+use Rattle.trace_base.specs.declared.level.LevelFilter.TheVariants as filter
+
+-- 1 for the most urgent level, 5 for the most verbose
+abbrev pub verbosity : Level → ℕ
+verbosity level.ERROR = 1
+verbosity level.WARN = 2
+verbosity level.INFO = 3
+verbosity level.DEBUG = 4
+verbosity level.TRACE = 5
+
+-- the verbosity of the most verbose level that a filter lets through, 0 where it lets none through
+abbrev pub greatest_verbosity : LevelFilter → ℕ
+greatest_verbosity filter.OFF = 0
+greatest_verbosity filter.ERROR = 1
+greatest_verbosity filter.WARN = 2
+greatest_verbosity filter.INFO = 3
+greatest_verbosity filter.DEBUG = 4
+greatest_verbosity filter.TRACE = 5
+
+-- a level is within a filter if it is no more verbose than the filter allows
+abbrev pub is_within : Level → LevelFilter → Bool
+is_within level filter = nat_le (verbosity level) (greatest_verbosity filter)

@@ -1,0 +1,5 @@
+//! The core of tracing: levels and callsites.
+#![tactic(auto)]
+
+pub mod callsite;
+pub mod level;

@@ -1,0 +1,198 @@
+-- What is kept fits the tables after a drop, and gives the record of the span that it closes.
+use Rattle.std.proofs.Common.{◌≡◌, ◌≢◌, ℕ, ◌+◌, ◌-◌, ◌^◌, ◌<◌, ◌≤◌, ◌||◌, List, [], ◌∷◌, ◌++◌, length, Bool, true, false, cond, Option, Some, None, option_map, unwrap_or, map, nat_lt, slice_set, refl, sym, ap, subst, ◌∙◌, arith, inl, inr}
+use Rattle.std.specs.Option.{option_map_or}
+use Rattle.std.proofs.lemmas.List.Sums.{sum_by-set}
+use Rattle.std.proofs.lemmas.List.{map-set, get_or-set_same, set-set, append-nil}
+use Rattle.std.proofs.lemmas.Bool.{cases_eq, eq-eqb, ne_eqb, lt-ltb, le-ltb}
+use Rattle.otel_base.specs.declared.record.Record.{Record}
+use Rattle.trace_base.specs.declared.callsite.Callsite.{Callsite}
+use Rattle.trace_pipeline.specs.declared.names.Handle.TheVariants.{Enabled}
+use Rattle.trace_pipeline.specs.declared.span.Span.{Span}
+use Rattle.trace_pipeline.specs.History.{Line, Made, Guarded, slot_at, made_of, place_in, newly, holds, is_in, is_open, closed_of}
+use Rattle.trace_pipeline.specs.Ops.{Stamped, Start}
+use Rattle.trace_pipeline.specs.Content.{content}
+use Rattle.trace_pipeline.specs.Machine.{no_span, span_at, span_started, started_after, span_closed, spans_dropped, started_dropped, records_dropped, record_by, name_at, is_last, IsShort, idle_by}
+use Rattle.trace_pipeline.specs.Stands.{State, Fits, SpansFit, held, IsMade, IsTimed, handle_of, span_by, times_of, is_started}
+use Rattle.trace_pipeline.proofs.Slots.{named_set, named_within, any_counted}
+use Rattle.trace_pipeline.proofs.Writing.{span_is, spans_written}
+use Rattle.trace_pipeline.proofs.Steps.{started_fit, with_starts}
+use Rattle.trace_pipeline.proofs.Fitting.{later_spans}
+
+pub held_set : (hs : List (Option Line)) (handle : ℕ) (line : Line) (t : ℕ) → slot_at hs handle ≡ Some line → held (slice_set hs handle None) t + cond (holds t (Some line)) 1 0 ≡ held hs t
+held_set hs handle line t there =
+    let change = sum_by-set (λ slot. cond (holds t slot) 1 0) hs handle None None (named_within hs handle line there) in
+    let mine = ap (λ slot. cond {A = ℕ} (holds t slot) 1 0) there in
+    omega (arith, change, mine)
+
+-- a drop's ops, in the form of the effect's
+abbrev pub dropped_ops : (ℕ → List Stamped) → ℕ → List ℕ → ℕ → List Stamped
+dropped_ops os at starts t = os t ++ (cond (is_in t starts) (record { at = at; op = Start } ∷ []) [] ++ [])
+
+-- The spans after a drop of a span's handle, in the terms of the tables.
+module _ (spans : List Span) (started : ℕ) (ms : List Made) (order : List ℕ) (below after : ℕ → ℕ) (os : ℕ → List Stamped) (last at guards s : ℕ)
+    (fit : SpansFit spans started ms order below os last guards) (within : s < length ms) (before : last ≤ at) (early : at < 2 ^ 63) (short : length spans < 2 ^ 64)
+    (here : after s + 1 ≡ below s) (others : (t : ℕ) → t ≢ s → after t ≡ below t) where
+  inside : s < length spans
+  inside = let n = fit.count in omega arith
+
+  abbrev Dropped : Bool → List ℕ → Type 0
+  Dropped last_hold starts = SpansFit (slice_set spans s (cond last_hold (span_closed started at (span_at spans s)) (record (span_at spans s) { holds = (span_at spans s).holds - 1 })))
+      (cond last_hold (started_after started (span_at spans s)) started) ms (order ++ starts) after (dropped_ops os at starts) at guards
+
+  -- a hold that isn't the last
+  stays_fit : Dropped false []
+  stays_fit =
+      let e = fit.each s in
+      rw (append-nil order)
+      (spans_written spans started started ms order order below after os (dropped_ops os at []) last at guards guards s (record (span_at spans s) { holds = (span_at spans s).holds - 1 }) fit within
+      (span_is _ _ _ _ (span_at spans s).times (made_of ms s) (place_in order s) (after s) (dropped_ops os at [] s) (ap (λ (span : Span). span.site) e) (ap (λ (span : Span). span.made) e) (ap (λ (span : Span). span.id) e)
+      (let holds = ap (λ (span : Span). span.holds) e in omega (arith, holds, here)) (ap (λ (span : Span). span.times) e ∙ ap times_of (sym (append-nil (os s)))))
+      (λ t other. refl) others (λ t other. append-nil (os t))
+      fit.starts refl (record { busy_in = (fit.timed s).busy_in; last_in = omega (arith, (fit.timed s).last_in); left_in = (fit.timed s).left_in; entered_in = (fit.timed s).entered_in }) before (omega arith))
+
+  -- the last hold
+  closes_fit : after s ≡ 0 → Dropped true (newly order (s ∷ []))
+  closes_fit none =
+      let fresh = newly order (s ∷ []) in
+      let first = span_started started at (span_at spans s) in
+      let starts = started_fit spans started ms order below os last at guards s fit within before early short in
+      let x = span_closed started at (span_at spans s) in
+      let read = get_or-set_same spans s first no_span inside in
+      let e = sym read ∙ starts.each s in
+      let written = spans_written (slice_set spans s first) (started_after started (span_at spans s)) (started_after started (span_at spans s)) ms (order ++ fresh) (order ++ fresh) below after
+      (with_starts spans started ms order below os last at guards s fit within before early fresh) (dropped_ops os at fresh) at at guards guards s x starts within
+      (span_is _ _ _ _ first.times (made_of ms s) (place_in (order ++ fresh) s) (after s) (dropped_ops os at fresh s) (ap (λ (span : Span). span.site) e) (ap (λ (span : Span). span.made) e) (ap (λ (span : Span). span.id) e) (sym none)
+      (ap (λ (span : Span). span.times) e ∙ ap (λ more. times_of (os s ++ more)) (sym (append-nil (cond (is_in s fresh) (record { at = at; op = Start } ∷ []) [])))))
+      (λ t other. refl) others (λ t other. ap (λ more. os t ++ more) (append-nil (cond (is_in t fresh) (record { at = at; op = Start } ∷ []) [])))
+      starts.starts (ap (λ (span : Span). started_after started (span_at spans s) + cond (is_started span) 1 0) read) (subst (λ (span : Span). IsTimed span.times at guards) read (starts.timed s)) (omega arith) (omega arith) in
+      subst (λ xs. SpansFit xs (started_after started (span_at spans s)) ms (order ++ fresh) after (dropped_ops os at fresh) at guards) (set-set spans s first x) written
+
+module _ (k : State) (hs : List (Option Line)) (gs : List (Option Guarded)) (ms : List Made) (order : List ℕ) (os : ℕ → List Stamped) (last at handle : ℕ)
+    (fits : Fits k hs gs ms order os last) (before : last ≤ at) (early : at < 2 ^ 63) (short : length k.spans < 2 ^ 64) where
+  left : List (Option Line)
+  left = slice_set hs handle None
+
+  -- what the spans fit after the drop of a line's handle
+  abbrev DroppedSpans : Line → Type 0
+  DroppedSpans line = SpansFit (spans_dropped k.started at (handle_of line) k.spans) (started_dropped k.started (handle_of line) k.spans) ms (order ++ newly order (closed_of (slice_set hs handle None) line))
+      (held (slice_set hs handle None)) (dropped_ops os at (newly order (closed_of (slice_set hs handle None) line))) at (length gs)
+
+  one_less : (s : ℕ) → slot_at hs handle ≡ Some (s ∷ []) → held (slice_set hs handle None) s + 1 ≡ held hs s
+  one_less s there = ap (λ b. held (slice_set hs handle None) s + cond (b || false) 1 0) (sym (eq-eqb s s refl)) ∙ held_set hs handle (s ∷ []) s there
+
+  same_others : (s : ℕ) → slot_at hs handle ≡ Some (s ∷ []) → (t : ℕ) → t ≢ s → held (slice_set hs handle None) t ≡ held hs t
+  same_others s there t other =
+      let change = held_set hs handle (s ∷ []) t there in
+      let none = ap (λ b. cond {A = ℕ} (b || false) 1 0) (ne_eqb s t (λ e. other (sym e))) in
+      omega (arith, change, none)
+
+  holds_are : (s : ℕ) → (span_at k.spans s).holds ≡ held hs s
+  holds_are s = ap (λ (span : Span). span.holds) (fits.spans_fit.each s)
+
+  dropped_one : (s : ℕ) → s < length ms → slot_at hs handle ≡ Some (s ∷ []) → DroppedSpans (s ∷ [])
+  dropped_one s within there =
+      let open_now = any_counted (holds s) (slice_set hs handle None) in
+      let less = one_less s there in
+      let were = holds_are s in
+      let inside : s < length k.spans = (let n = fits.spans_fit.count in omega arith) in
+      elim (cases_eq (held (slice_set hs handle None) s) 0) [
+        | inl none ↦
+            (let last_one : is_last (span_at k.spans s) ≡ true = lt-ltb _ 2 (omega (arith, less, were, none)) in
+            let shut : is_open (slice_set hs handle None) s ≡ false = open_now ∙ ap (nat_lt 0) none in
+            rw (last_one, shut, lt-ltb s (length k.spans) inside)
+            (closes_fit k.spans k.started ms order (held hs) (held (slice_set hs handle None)) os last at (length gs) s fits.spans_fit within before early short less (same_others s there) none))
+        | inr some ↦
+            (let not_last : is_last (span_at k.spans s) ≡ false = le-ltb _ 2 (omega (arith, less, were, some)) in
+            let still : is_open (slice_set hs handle None) s ≡ true = open_now ∙ lt-ltb 0 _ (omega (arith, some)) in
+            rw (not_last, still, lt-ltb s (length k.spans) inside)
+            (stays_fit k.spans k.started ms order (held hs) (held (slice_set hs handle None)) os last at (length gs) s fits.spans_fit within before early short less (same_others s there)))
+      ]
+
+  dropped_line : (line : Line) → IsMade (length ms) line → slot_at hs handle ≡ Some line → DroppedSpans line
+  dropped_line [] made there =
+      let fit = later_spans k.spans k.started ms order (held hs) os last at (length gs) fits.spans_fit before in
+      rw (append-nil order) record {
+        count = fit.count;
+        each = λ t. fit.each t ∙ ap (λ n. span_by (made_of ms t) (place_in order t) n (os t)) (let change = held_set hs handle [] t there in omega (arith, change))
+            ∙ ap (span_by (made_of ms t) (place_in order t) (held (slice_set hs handle None) t)) (sym (append-nil (os t)));
+        starts = fit.starts;
+        placed = fit.placed;
+        timed = fit.timed;
+      }
+  dropped_line (s ∷ line) made there =
+      subst (λ rest. DroppedSpans (s ∷ rest)) (sym made.1) (dropped_one s made.0 (there ∙ ap (λ (rest : Line). Some (s ∷ rest)) made.1))
+
+  pub fits_dropped : (line : Line) → slot_at hs handle ≡ Some line
+      → Fits (record k { handles = slice_set k.handles handle None; spans = spans_dropped k.started at (handle_of line) k.spans; started = started_dropped k.started (handle_of line) k.spans; moment = at })
+      (slice_set hs handle None) gs ms (order ++ newly order (closed_of (slice_set hs handle None) line)) (dropped_ops os at (newly order (closed_of (slice_set hs handle None) line))) at
+  fits_dropped line there = record {
+    handle_slots = ap (λ xs. slice_set xs handle None) fits.handle_slots ∙ sym (map-set (option_map handle_of) hs handle None);
+    guard_slots = fits.guard_slots;
+    guard_count = fits.guard_count;
+    spans_fit = dropped_line line (fits.named handle line there) there;
+    latest = refl;
+    named = λ n l e. fits.named n l (named_set hs handle n l e);
+    kept = fits.kept;
+    early = early;
+  }
+
+  -- ---- the record
+
+  -- the record of a span by the tables after the drop
+  abbrev record_after : List Callsite → List ℕ → ℕ → Record
+  record_after callsites starts t = content (name_at callsites (made_of ms t).site) (made_of ms t).at (place_in (order ++ starts) t) (dropped_ops os at starts t) at
+
+  record_one : (callsites : List Callsite) (s : ℕ) → s < length ms → slot_at hs handle ≡ Some (s ∷ [])
+      → records_dropped callsites k.started at (Enabled s) k.spans ≡ map (record_after callsites (newly order (closed_of (slice_set hs handle None) (s ∷ [])))) (closed_of (slice_set hs handle None) (s ∷ []))
+  record_one callsites s within there =
+      let open_now = any_counted (holds s) (slice_set hs handle None) in
+      let less = one_less s there in
+      let were = holds_are s in
+      let inside : s < length k.spans = (let n = fits.spans_fit.count in omega arith) in
+      elim (cases_eq (held (slice_set hs handle None) s) 0) [
+        | inl none ↦
+            (let last_one : is_last (span_at k.spans s) ≡ true = lt-ltb _ 2 (omega (arith, less, were, none)) in
+            let shut : is_open (slice_set hs handle None) s ≡ false = open_now ∙ ap (nat_lt 0) none in
+            let fit = closes_fit k.spans k.started ms order (held hs) (held (slice_set hs handle None)) os last at (length gs) s fits.spans_fit within before early short less (same_others s there) none in
+            let mine = sym (get_or-set_same k.spans s (span_closed k.started at (span_at k.spans s)) no_span inside) ∙ fit.each s in
+            let site = ap (λ (span : Span). span.site) (fits.spans_fit.each s) in
+            rw (last_one, shut, lt-ltb s (length k.spans) inside)
+            (ap (λ n. record_by (name_at callsites n) (span_closed k.started at (span_at k.spans s)) at ∷ []) site
+            ∙ ap (λ span. record_by (name_at callsites (made_of ms s).site) span at ∷ []) mine))
+        | inr some ↦
+            (let not_last : is_last (span_at k.spans s) ≡ false = le-ltb _ 2 (omega (arith, less, were, some)) in
+            let still : is_open (slice_set hs handle None) s ≡ true = open_now ∙ lt-ltb 0 _ (omega (arith, some)) in
+            rw (not_last, still, lt-ltb s (length k.spans) inside) refl)
+      ]
+
+  -- the records that the code makes are those of the spans that close
+  pub records_after : (callsites : List Callsite) (line : Line) → slot_at hs handle ≡ Some line
+      → records_dropped callsites k.started at (handle_of line) k.spans ≡ map (record_after callsites (newly order (closed_of (slice_set hs handle None) line))) (closed_of (slice_set hs handle None) line)
+  records_after callsites line there = by_line line (fits.named handle line there) there
+    where
+      by_line : (line : Line) → IsMade (length ms) line → slot_at hs handle ≡ Some line
+          → records_dropped callsites k.started at (handle_of line) k.spans ≡ map (record_after callsites (newly order (closed_of (slice_set hs handle None) line))) (closed_of (slice_set hs handle None) line)
+      by_line [] made there = refl
+      by_line (s ∷ line) made there =
+          subst (λ (rest : Line). records_dropped callsites k.started at (Enabled s) k.spans ≡ map (record_after callsites (newly order (closed_of (slice_set hs handle None) (s ∷ rest)))) (closed_of (slice_set hs handle None) (s ∷ rest)))
+          (sym made.1) (record_one callsites s made.0 (there ∙ ap (λ (rest : Line). Some (s ∷ rest)) made.1))
+
+  idle_short : (span : Span) → IsTimed span.times at (length gs) → idle_by span < 2 ^ 63
+  idle_short span timed = by_left span.made span.times.busy span.times.left (omega (arith, timed.left_in, timed.last_in))
+    where
+      by_left : (made busy : ℕ) (left : Option ℕ) → unwrap_or left 0 < 2 ^ 63 → option_map_or (λ end. end - made - busy) left 0 < 2 ^ 63
+      by_left made busy None below = omega arith
+      by_left made busy (Some end) below = omega arith
+
+  -- the times of a record fit its attributes
+  pub short_times : (line : Line) → slot_at hs handle ≡ Some line → IsShort k.started at (handle_of line) k.spans
+  short_times line there = by_line line (fits.named handle line there)
+    where
+      by_line : (line : Line) → IsMade (length ms) line → IsShort k.started at (handle_of line) k.spans
+      by_line [] made = tt
+      by_line (s ∷ line) made =
+          let first = span_started k.started at (span_at k.spans s) in
+          let starts = started_fit k.spans k.started ms order (held hs) os last at (length gs) s fits.spans_fit made.0 before early short in
+          let inside : s < length k.spans = (let n = fits.spans_fit.count in omega (arith, made.0)) in
+          let timed = subst (λ (span : Span). IsTimed span.times at (length gs)) (get_or-set_same k.spans s first no_span inside) (starts.timed s) in
+          (omega (arith, timed.busy_in, timed.last_in), idle_short (span_closed k.started at (span_at k.spans s)) timed)

@@ -1,0 +1,105 @@
+-- The spans fit the tables after a span is started, entered or exited.
+use Rattle.std.proofs.Common.{◌≡◌, ◌≢◌, ℕ, zero, suc, ◌+◌, ◌^◌, ◌<◌, ◌≤◌, ◌||◌, List, [], ◌∷◌, ◌++◌, length, Bool, true, false, cond, count_by, nat_lt, slice_set, get_or, refl, sym, ap, subst, ◌∙◌, arith, inl, inr}
+use Rattle.std.proofs.lemmas.List.Sums.{sum_by-cons, count_by-le-length}
+use Rattle.std.proofs.lemmas.List.{append-nil, length_push, set-get_or}
+use Rattle.std.proofs.lemmas.Bool.{cases_eq, eq-eqb, ne_eqb}
+use Rattle.std.proofs.lemmas.Bool.Decides.{nat_tests}
+use Rattle.trace_pipeline.specs.declared.span.Span.{Span}
+use Rattle.trace_pipeline.specs.declared.times.Times.{Times}
+use Rattle.trace_pipeline.specs.History.{Made, made_of, place_in, newly, is_in}
+use Rattle.trace_pipeline.specs.Ops.{Stamped, Start, Enter, Exit, on}
+use Rattle.trace_pipeline.specs.Machine.{no_span, span_at, capped, times_at, started_after, span_started, span_entered, span_exited}
+use Rattle.trace_pipeline.specs.Stands.{SpansFit, span_by, times_of, is_started}
+use Rattle.trace_pipeline.proofs.Tables.{place_new, place_more}
+use Rattle.trace_pipeline.proofs.Timing.{timed, times_push, times_started, started_in_time, times_entered, entered_in_time, times_exited, exited_in_time, entered_at, exited_at}
+use Rattle.trace_pipeline.proofs.Writing.{span_is, spans_written}
+
+-- an op on s alone
+abbrev pub with_op : ℕ → Stamped → (ℕ → List Stamped) → ℕ → List Stamped
+with_op s op os t = os t ++ on t (s ∷ []) op
+
+pub with_op_here : (s : ℕ) (op : Stamped) (os : ℕ → List Stamped) → with_op s op os s ≡ os s ++ op ∷ []
+with_op_here s op os = ap (λ b. os s ++ cond (b || false) (op ∷ []) []) (eq-eqb s s refl)
+
+pub with_op_other : (s : ℕ) (op : Stamped) (os : ℕ → List Stamped) (t : ℕ) → t ≢ s → with_op s op os t ≡ os t
+with_op_other s op os t other = ap (λ b. os t ++ cond (b || false) (op ∷ []) []) (ne_eqb s t (λ e. other (sym e))) ∙ append-nil (os t)
+
+-- fewer pass than there are, where one doesn't
+pub count_below : {A : Type 0} (p : A → Bool) (xs : List A) (i : ℕ) (d : A) → i < length xs → p (get_or xs i d) ≡ false → count_by p xs < length xs
+count_below p [] i d within fails = absurd (omega arith)
+count_below p (x ∷ xs) zero d within fails = let more = sum_by-cons (λ x. cond (p x) 1 0) x xs in let rest = count_by-le-length p xs in grind (arith, more, rest, fails)
+count_below p (x ∷ xs) (suc i) d within fails = let more = sum_by-cons (λ x. cond (p x) 1 0) x xs in let rest = count_below p xs i d (omega arith) fails in let one = at_most_one (p x) in omega (arith, more, rest, one)
+  where
+    at_most_one : (b : Bool) → cond {A = ℕ} b 1 0 ≤ 1
+    at_most_one true = omega arith
+    at_most_one false = omega arith
+
+module _ (spans : List Span) (started : ℕ) (ms : List Made) (order : List ℕ) (below : ℕ → ℕ) (os : ℕ → List Stamped) (last at guards s : ℕ) (fit : SpansFit spans started ms order below os last guards) (within : s < length ms) (before : last ≤ at) (early : at < 2 ^ 63) where
+  -- an entry
+  pub entered_fit : guards + 1 < 2 ^ 64 → SpansFit (slice_set spans s (span_entered at (span_at spans s))) started ms order below (with_op s (record { at = at; op = Enter }) os) at (guards + 1)
+  entered_fit few =
+      let e = fit.each s in
+      let op : Stamped = record { at = at; op = Enter } in
+      let times = times_entered _ last guards at (fit.timed s) before early few ∙ ap (λ (t : Times). timed t op) (ap (λ (span : Span). span.times) e) ∙ sym (times_push (os s) op) ∙ ap times_of (sym (with_op_here s op os)) in
+      spans_written spans started started ms order order below below os (with_op s op os) last at guards (guards + 1) s (span_entered at (span_at spans s)) fit within
+      (span_is _ _ _ _ (entered_at (span_at spans s).times at) (made_of ms s) (place_in order s) (below s) (with_op s op os s) (ap (λ (span : Span). span.site) e) (ap (λ (span : Span). span.made) e) (ap (λ (span : Span). span.id) e) (ap (λ (span : Span). span.holds) e) times)
+      (λ t other. refl) (λ t other. refl) (λ t other. with_op_other s op os t other)
+      fit.starts refl (entered_in_time _ last guards at (fit.timed s) before early few) before (omega arith)
+
+  -- an exit
+  pub exited_fit : SpansFit (slice_set spans s (span_exited at (span_at spans s))) started ms order below (with_op s (record { at = at; op = Exit }) os) at guards
+  exited_fit =
+      let e = fit.each s in
+      let op : Stamped = record { at = at; op = Exit } in
+      let times = times_exited _ last guards at (fit.timed s) before early ∙ ap (λ (t : Times). timed t op) (ap (λ (span : Span). span.times) e) ∙ sym (times_push (os s) op) ∙ ap times_of (sym (with_op_here s op os)) in
+      spans_written spans started started ms order order below below os (with_op s op os) last at guards guards s (span_exited at (span_at spans s)) fit within
+      (span_is _ _ _ _ (exited_at (span_at spans s).times at) (made_of ms s) (place_in order s) (below s) (with_op s op os s) (ap (λ (span : Span). span.site) e) (ap (λ (span : Span). span.made) e) (ap (λ (span : Span). span.id) e) (ap (λ (span : Span). span.holds) e) times)
+      (λ t other. refl) (λ t other. refl) (λ t other. with_op_other s op os t other)
+      fit.starts refl (exited_in_time _ last guards at (fit.timed s) before early) before (omega arith)
+
+  -- ---- a start
+
+  -- the ops with the start of s, if it is among those that start
+  abbrev pub with_starts : List ℕ → ℕ → List Stamped
+  with_starts fresh t = os t ++ cond (is_in t fresh) (record { at = at; op = Start } ∷ []) []
+
+  abbrev Starts : List ℕ → Type 0
+  Starts fresh = SpansFit (slice_set spans s (span_started started at (span_at spans s))) (started_after started (span_at spans s)) ms (order ++ fresh) below (with_starts fresh) at guards
+
+  again_fit : place_in order s ≢ 0 → Starts (newly order (s ∷ []))
+  again_fit placed =
+      let e = fit.each s in
+      let there : (span_at spans s).id ≢ 0 = λ z. placed (sym (ap (λ (span : Span). span.id) e) ∙ z) in
+      let kept = ne_eqb (span_at spans s).id 0 there in
+      let none = ap (λ b. cond b (s ∷ []) []) (ne_eqb (place_in order s) 0 placed) in
+      subst Starts (sym none) (rw (kept, append-nil order, set-get_or spans s no_span) record {
+        count = fit.count;
+        each = λ t. fit.each t ∙ ap (span_by (made_of ms t) (place_in order t) (below t)) (sym (append-nil (os t)));
+        starts = fit.starts;
+        placed = fit.placed;
+        timed = λ t. record { busy_in = (fit.timed t).busy_in; last_in = omega (arith, (fit.timed t).last_in); left_in = (fit.timed t).left_in; entered_in = (fit.timed t).entered_in };
+      })
+
+  first_fit : length spans < 2 ^ 64 → place_in order s ≡ 0 → Starts (newly order (s ∷ []))
+  first_fit short fresh =
+      let e = fit.each s in
+      let op : Stamped = record { at = at; op = Start } in
+      let idle : (span_at spans s).id ≡ 0 = ap (λ (span : Span). span.id) e ∙ fresh in
+      let first = eq-eqb (span_at spans s).id 0 idle in
+      let new = ap (λ b. cond b (s ∷ []) []) (eq-eqb (place_in order s) 0 fresh) in
+      let waits : is_started (span_at spans s) ≡ false = ap (nat_lt 0) idle in
+      let room : started + 1 < 2 ^ 64 = (let fewer = count_below is_started spans s no_span (let n = fit.count in omega arith) waits in let count = fit.placed in omega arith) in
+      let exact : capped (started + 1) ≡ started + 1 = omega arith in
+      let times = times_started _ last guards at (fit.timed s) before early ∙ ap (λ (t : Times). timed t op) (ap (λ (span : Span). span.times) e) ∙ sym (times_push (os s) op) ∙ ap times_of (sym (with_op_here s op os)) in
+      let place = place_new order s fresh ∙ ap (λ n. n + 1) (sym fit.starts) in
+      subst Starts (sym new) (rw (first, exact)
+      (spans_written spans started (started + 1) ms order (order ++ s ∷ []) below below os (with_op s op os) last at guards guards s
+      (record (span_at spans s) { id = started + 1; times = times_at (span_at spans s).times at }) fit within
+      (span_is _ _ _ _ (times_at (span_at spans s).times at) (made_of ms s) (place_in (order ++ s ∷ []) s) (below s) (with_op s op os s) (ap (λ (span : Span). span.site) e) (ap (λ (span : Span). span.made) e) (sym place) (ap (λ (span : Span). span.holds) e) times)
+      (λ t other. place_more order s t other) (λ t other. refl) (λ t other. with_op_other s op os t other)
+      (ap (λ n. n + 1) fit.starts ∙ sym (length_push order s))
+      (grind (arith, nat_tests, idle)) (started_in_time _ last guards at (fit.timed s) before early) before (omega arith)))
+
+  -- a start, where the span hasn't been started
+  pub started_fit : length spans < 2 ^ 64 → SpansFit (slice_set spans s (span_started started at (span_at spans s))) (started_after started (span_at spans s)) ms (order ++ newly order (s ∷ [])) below (with_starts (newly order (s ∷ []))) at guards
+  started_fit short = elim (cases_eq (place_in order s) 0) [ inl fresh ↦ first_fit short fresh | inr placed ↦ again_fit placed ]

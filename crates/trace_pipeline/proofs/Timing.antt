@@ -1,0 +1,68 @@
+-- The times of a span: one op more.
+use Rattle.std.proofs.Common.{◌≡◌, ℕ, ◌+◌, ◌-◌, ◌^◌, ◌<◌, ◌≤◌, List, [], ◌∷◌, ◌++◌, Some, None, fold, refl, arith}
+use Rattle.std.proofs.lemmas.List.Sums.{fold_push}
+use Rattle.std.proofs.lemmas.Bool.Decides.{nat_tests}
+use Rattle.trace_pipeline.specs.declared.times.Times.{Times}
+use Rattle.trace_pipeline.specs.Ops.{Stamped, Start, Enter, Exit, entered_after, gap, busy_from, exit_by}
+use Rattle.trace_pipeline.specs.Machine.{capped, times_at}
+use Rattle.trace_pipeline.specs.Stands.{times_of, IsTimed}
+
+-- the times after one op more
+abbrev pub timed : Times → Stamped → Times
+timed times op = record {
+  entered = entered_after times.entered op.op;
+  last = op.at;
+  busy = times.busy + gap times.entered times.last op.at;
+  left = exit_by times.left op.at op.op;
+}
+
+busy_push : (n last : ℕ) (os : List Stamped) (op : Stamped) → busy_from n last (os ++ op ∷ []) ≡ busy_from n last os + gap (fold (λ n op. entered_after n op.op) n os) (fold (λ last op. op.at) last os) op.at
+busy_push n last [] op = omega arith
+busy_push n last (o ∷ os) op = let more = busy_push (entered_after n o.op) o.at os op in omega arith
+
+pub times_push : (os : List Stamped) (op : Stamped) → times_of (os ++ op ∷ []) ≡ timed (times_of os) op
+times_push os op = rw (fold_push (λ n op. entered_after n op.op) 0 os op, fold_push (λ last op. op.at) 0 os op, busy_push 0 0 os op, fold_push (λ before op. exit_by before op.at op.op) None os op) refl
+
+gap_within : (n last at : ℕ) → last ≤ at → last + gap n last at ≤ at
+gap_within n last at below = grind (arith, nat_tests, below)
+
+-- the code's count of busy time doesn't reach its type's end
+pub busy_fits : (times : Times) (last guards at : ℕ) → IsTimed times last guards → last ≤ at → at < 2 ^ 63 → capped (times.busy + gap times.entered times.last at) ≡ times.busy + gap times.entered times.last at
+busy_fits times last guards at fits below early = let more = gap_within times.entered times.last at (omega (arith, fits.last_in)) in omega (arith, fits.busy_in)
+
+pub busy_below : (times : Times) (last guards at : ℕ) → IsTimed times last guards → last ≤ at → times.busy + gap times.entered times.last at ≤ at
+busy_below times last guards at fits below = let more = gap_within times.entered times.last at (omega (arith, fits.last_in)) in omega (arith, fits.busy_in)
+
+-- ---- the code's times are those of one op more, and they are in time
+
+pub times_started : (times : Times) (last guards at : ℕ) → IsTimed times last guards → last ≤ at → at < 2 ^ 63 → times_at times at ≡ timed times (record { at = at; op = Start })
+times_started times last guards at fits below early = rw (busy_fits times last guards at fits below early) refl
+
+pub started_in_time : (times : Times) (last guards at : ℕ) → IsTimed times last guards → last ≤ at → at < 2 ^ 63 → IsTimed (times_at times at) at guards
+started_in_time times last guards at fits below early =
+    let same = busy_fits times last guards at fits below early in
+    record { busy_in = omega (arith, same, busy_below times last guards at fits below); last_in = omega arith; left_in = omega (arith, fits.left_in, fits.last_in); entered_in = fits.entered_in }
+
+abbrev pub entered_at : Times → ℕ → Times
+entered_at times at = record (times_at times at) { entered = capped (times.entered + 1) }
+
+pub times_entered : (times : Times) (last guards at : ℕ) → IsTimed times last guards → last ≤ at → at < 2 ^ 63 → guards + 1 < 2 ^ 64 → entered_at times at ≡ timed times (record { at = at; op = Enter })
+times_entered times last guards at fits below early few =
+    let more : capped (times.entered + 1) ≡ times.entered + 1 = omega (arith, fits.entered_in) in
+    rw (busy_fits times last guards at fits below early, more) refl
+
+pub entered_in_time : (times : Times) (last guards at : ℕ) → IsTimed times last guards → last ≤ at → at < 2 ^ 63 → guards + 1 < 2 ^ 64 → IsTimed (entered_at times at) at (guards + 1)
+entered_in_time times last guards at fits below early few =
+    let same = busy_fits times last guards at fits below early in
+    record { busy_in = omega (arith, same, busy_below times last guards at fits below); last_in = omega arith; left_in = omega (arith, fits.left_in, fits.last_in); entered_in = omega (arith, fits.entered_in) }
+
+abbrev pub exited_at : Times → ℕ → Times
+exited_at times at = record (times_at times at) { entered = times.entered - 1; left = Some at }
+
+pub times_exited : (times : Times) (last guards at : ℕ) → IsTimed times last guards → last ≤ at → at < 2 ^ 63 → exited_at times at ≡ timed times (record { at = at; op = Exit })
+times_exited times last guards at fits below early = rw (busy_fits times last guards at fits below early) refl
+
+pub exited_in_time : (times : Times) (last guards at : ℕ) → IsTimed times last guards → last ≤ at → at < 2 ^ 63 → IsTimed (exited_at times at) at guards
+exited_in_time times last guards at fits below early =
+    let same = busy_fits times last guards at fits below early in
+    record { busy_in = omega (arith, same, busy_below times last guards at fits below); last_in = omega arith; left_in = omega arith; entered_in = omega (arith, fits.entered_in) }

@@ -1,0 +1,17 @@
+-- Each turn puts down one digit, and the last leaves none.
+use Rattle.std.proofs.Common.{◌∙◌, sym, arith}
+use Rattle.std.proofs.Math.ListN.{length-set}
+use Rattle.trace_pipeline.proofs.Hex.{digit_put, all_put, last_digits-onto}
+use Rattle.trace_pipeline.proofs.write.hex.put_digits.Goals as goal
+
+pub loop-at-preserved : goal.loop-at-preserved
+loop-at-preserved c = record {
+  from_start = omega arith;
+  to_end = omega arith;
+  len = length-set _ _ _ ∙ c.loop-at.invariant.len;
+  all = digit_put c.args.start c.loop-at.at c.loop-at.rest c.digit_of.result c.loop-at.digits (omega arith) (omega arith) c.digit_of.ensures ∙ c.loop-at.invariant.all;
+}
+
+pub returns-clause-from_start : goal.returns-clause-from_start
+returns-clause-from_start c =
+    sym (all_put c.args.start c.loop-at.at c.loop-at.rest c.loop-at.digits (omega arith)) ∙ c.loop-at.invariant.all ∙ last_digits-onto c.args.id _ (omega arith)

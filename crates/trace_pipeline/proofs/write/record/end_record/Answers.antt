@@ -1,0 +1,17 @@
+-- The calls' tokens, one after another, are the members'.
+use Rattle.std.proofs.Common.{append_assoc}
+use Rattle.trace_pipeline.proofs.write.record.end_record.Goals as goal
+
+pub returns-clause-ok : goal.returns-clause-ok
+returns-clause-ok c =
+    rw (
+      c.in_ok-end_object.ensures.ok,
+      c.in_ok-long_id_member.ensures.ok,
+      c.in_ok-write_status.ensures.ok,
+      c.in_ok-key.ensures.ok,
+      c.in_ok-whole_member-2.ensures.ok,
+      c.in_ok-id_member-2.ensures.ok,
+      c.in_ok-whole_member.ensures.ok,
+      c.in_ok-id_member.ensures.ok,
+    )
+    (simp append_assoc)

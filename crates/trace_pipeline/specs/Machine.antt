@@ -1,0 +1,125 @@
+-- What the pipeline's code does to what it keeps. Inner definitions: no promise rests on them alone.
+use Rattle.std.specs.Prelude.{ℕ, ◌+◌, ◌-◌, ◌^◌, ◌==◌, ◌&&◌, min, List, [], ◌∷◌, Bool, nat_lt, if◌then◌else◌, Some, None, unwrap_or, length, ◌<◌, slice_get, slice_set, pos, codes}
+use Rattle.std.specs.Option.{option_map_or}
+use Rattle.otel_base.specs.declared.record.Record.{Record}
+use Rattle.otel_base.specs.declared.record.SpanKind.TheVariants.{Internal}
+use Rattle.otel_base.specs.declared.status.Status.TheVariants.{Unset}
+use Rattle.otel_base.specs.declared.value.KeyValue.{KeyValue}
+use Rattle.otel_base.specs.declared.value.OtelValue.TheVariants.{I64}
+use Rattle.trace_base.specs.declared.callsite.Callsite.{Callsite}
+use Rattle.std.specs.List.{slice_index_or}
+use Rattle.trace_pipeline.specs.declared.names.Handle.{Handle}
+use Rattle.trace_pipeline.specs.declared.names.Handle.TheVariants.{Disabled, Enabled}
+use Rattle.trace_pipeline.specs.declared.span.Span.{Span}
+use Rattle.trace_pipeline.specs.declared.times.Times.{Times}
+use Rattle.trace_pipeline.specs.Ops.{gap}
+
+-- a count stands still at its type's end
+abbrev pub capped : ℕ → ℕ
+capped n = min n (2 ^ 64 - 1)
+
+abbrev pub no_times : Times
+no_times = record { entered = 0; last = 0; busy = 0; left = None }
+
+-- the times up to a moment
+abbrev pub times_at : Times → ℕ → Times
+times_at times at = record times { last = at; busy = capped (times.busy + gap times.entered times.last at) }
+
+abbrev pub no_span : Span
+no_span = record { site = 0; made = 0; id = 0; holds = 0; times = no_times }
+
+abbrev pub span_at : List Span → ℕ → Span
+span_at spans s = slice_index_or spans s no_span
+
+abbrev pub started_after : ℕ → Span → ℕ
+started_after started span = if span.id == 0 then capped (started + 1) else started
+
+abbrev pub span_started : ℕ → ℕ → Span → Span
+span_started started at span = record span {
+  id = (if span.id == 0 then capped (started + 1) else span.id);
+  times = (if span.id == 0 then times_at span.times at else span.times);
+}
+
+abbrev pub span_entered : ℕ → Span → Span
+span_entered at span = record span { times = record (times_at span.times at) { entered = capped (span.times.entered + 1) } }
+
+abbrev pub span_exited : ℕ → Span → Span
+span_exited at span = record span { times = record (times_at span.times at) { entered = span.times.entered - 1; left = Some at } }
+
+-- ---- the list of spans, and the number of starts, after an entry, an exit and a release of what a handle stands for
+
+abbrev pub spans_entered : ℕ → ℕ → Handle → List Span → List Span
+spans_entered started at Disabled spans = spans
+spans_entered started at (Enabled s) spans = slice_set spans s (span_entered at (span_started started at (span_at spans s)))
+
+abbrev pub started_entered : ℕ → Handle → List Span → ℕ
+started_entered started Disabled spans = started
+started_entered started (Enabled s) spans = if nat_lt s (length spans) then started_after started (span_at spans s) else started
+
+abbrev pub spans_exited : ℕ → Handle → List Span → List Span
+spans_exited at Disabled spans = spans
+spans_exited at (Enabled s) spans = slice_set spans s (span_exited at (span_at spans s))
+
+-- a span that its last handle lets go is started, and has no hold any more
+abbrev pub span_closed : ℕ → ℕ → Span → Span
+span_closed started at span = record (span_started started at span) { holds = 0 }
+
+-- ---- the record of a span that closes
+
+abbrev pub idle_by : Span → ℕ
+idle_by span = option_map_or (λ end. end - span.made - span.times.busy) span.times.left 0
+
+abbrev pub attributes_by : ℕ → ℕ → List KeyValue
+attributes_by busy idle = record { key = codes "busy_ns"; value = I64 (pos busy) } ∷ record { key = codes "idle_ns"; value = I64 (pos idle) } ∷ []
+
+abbrev pub record_by : List ℕ → Span → ℕ → Record
+record_by name span at = record {
+  name = name;
+  kind = Internal;
+  context = record { trace = span.id; span = span.id };
+  parent = 0;
+  start = span.made;
+  end = unwrap_or span.times.left at;
+  attributes = attributes_by span.times.busy (idle_by span);
+  events = [];
+  links = [];
+  status = Unset;
+}
+
+abbrev pub name_at : List Callsite → ℕ → List ℕ
+name_at callsites site = option_map_or (λ callsite. callsite.name) (slice_get callsites site) []
+
+-- ---- a drop of what a handle stands for
+
+-- whether the hold is the last one
+abbrev pub is_last : Span → Bool
+is_last span = nat_lt span.holds 2
+
+abbrev pub span_dropped : ℕ → ℕ → Span → Span
+span_dropped started at span = if is_last span then span_closed started at span else record span { holds = span.holds - 1 }
+
+abbrev pub spans_dropped : ℕ → ℕ → Handle → List Span → List Span
+spans_dropped started at Disabled spans = spans
+spans_dropped started at (Enabled s) spans = slice_set spans s (span_dropped started at (span_at spans s))
+
+abbrev pub closes : ℕ → List Span → Bool
+closes s spans = nat_lt s (length spans) && is_last (span_at spans s)
+
+abbrev pub started_dropped : ℕ → Handle → List Span → ℕ
+started_dropped started Disabled spans = started
+started_dropped started (Enabled s) spans = if closes s spans then started_after started (span_at spans s) else started
+
+abbrev pub records_dropped : List Callsite → ℕ → ℕ → Handle → List Span → List Record
+records_dropped callsites started at Disabled spans = []
+records_dropped callsites started at (Enabled s) spans =
+    if closes s spans then record_by (name_at callsites (span_at spans s).site) (span_closed started at (span_at spans s)) at ∷ [] else []
+
+-- the times of a record fit its attributes
+abbrev pub IsShort : ℕ → ℕ → Handle → List Span → Type 0
+IsShort started at Disabled spans = Unit {0}
+IsShort started at (Enabled s) spans =
+    ((span_closed started at (span_at spans s)).times.busy < 2 ^ 63) × (idle_by (span_closed started at (span_at spans s)) < 2 ^ 63)
+
+-- a span with a hold is open
+abbrev pub is_held : Span → Bool
+is_held span = nat_lt 0 span.holds

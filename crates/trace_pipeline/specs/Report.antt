@@ -1,0 +1,87 @@
+-- What a run writes for its input, and whether it accepts it.
+use Rattle.std.specs.Prelude.{◌≡◌, ℕ, ◌+◌, ◌^◌, ◌≤◌, List, [], ◌∷◌, ◌++◌, length, Bool, true, false, if◌then◌else◌, Result, Ok, Err}
+use Rattle.otel_base.specs.declared.record.Record.{Record}
+use Rattle.trace_pipeline.specs.declared.settings.Settings.{Settings}
+use Rattle.trace_pipeline.specs.declared.reply.Told.{Told}
+use Rattle.trace_pipeline.specs.declared.reply.Told.TheVariants as told
+use Rattle.trace_pipeline.specs.declared.request.Request.{Request}
+use Rattle.trace_pipeline.specs.History.{History, Effect, closed, open_spans}
+use Rattle.trace_pipeline.specs.Effects.{Resolved, effect_of, reply_to}
+use Rattle.trace_pipeline.specs.Content.{records_of}
+use Rattle.trace_pipeline.specs.Lines.{lines_of, is_blank}
+use Rattle.trace_pipeline.specs.Spelled.{settings_spelled, request_spelled}
+use Rattle.trace_pipeline.specs.Texts.{reply_text, record_text, refusal_text, end_text}
+
+-- what is written, and whether no line is refused
+pub record Report : Type 0 where
+  pub written : List ℕ
+  pub accepted : Bool
+
+-- a text in front of what is written
+abbrev pub behind : List ℕ → Report → Report
+behind text report = record { written = text ++ report.written; accepted = report.accepted }
+
+-- the run ends at a refused line, with its refusal line
+abbrev pub refused : ℕ → Told → Report
+refused line why = record { written = refusal_text line why; accepted = false }
+
+-- the record lines, which are numbered in the order of writing
+abbrev pub record_lines : ℕ → List Record → List ℕ
+record_lines number [] = []
+record_lines number (finished ∷ more) = record_text number finished ++ record_lines (number + 1) more
+
+-- what is written for the request on a line: its reply, and the records of the spans that it closed
+abbrev pub answer_text : Settings → History → ℕ → Effect → List ℕ
+answer_text settings h line effect = reply_text line (reply_to h effect) ++ record_lines (length (closed h) + 1) (records_of settings h effect)
+
+-- why the step is refused, as the line's refusal
+abbrev pub told_step : Resolved → Result Effect Told
+told_step (Ok effect) = Ok effect
+told_step (Err refusal) = Err (told.Step refusal)
+
+abbrev pub effect_of_request : Settings → History → Result Request Told → Result Effect Told
+effect_of_request settings h (Ok request) = told_step (effect_of settings h request)
+effect_of_request settings h (Err why) = Err why
+
+-- the effect of the request that a line spells, or why the line is refused
+unfoldable pub effect_of_line : Settings → History → List ℕ → Result Effect Told
+effect_of_line settings h text = effect_of_request settings h (request_spelled text)
+
+abbrev pub following : Result Effect Told → (Effect → Report) → ℕ → Report
+following (Ok effect) go line = go effect
+following (Err why) go line = refused line why
+
+-- the report on the request lines, n lines having come before
+abbrev pub report_on : Settings → History → ℕ → List (List ℕ) → Report
+report_on settings h n [] = record { written = end_text (open_spans h) (length (closed h)); accepted = true }
+report_on settings h n (text ∷ lines) =
+    if is_blank text then report_on settings h (n + 1) lines else
+    following (effect_of_line settings h text)
+    (λ effect. behind (answer_text settings h (n + 1) effect) (report_on settings (h ++ effect ∷ []) (n + 1) lines)) (n + 1)
+
+abbrev pub opening : Result Settings Told → (Settings → Report) → ℕ → Report
+opening (Ok settings) go line = go settings
+opening (Err why) go line = refused line why
+
+-- The first line that isn't blank is the settings line. If there is none, the input is refused at its end.
+abbrev pub report_from : ℕ → List (List ℕ) → Report
+report_from n [] = refused (n + 1) told.BadLine
+report_from n (text ∷ lines) =
+    if is_blank text then report_from (n + 1) lines else
+    opening (settings_spelled text) (λ settings. report_on settings [] (n + 1) lines) (n + 1)
+
+abbrev pub report : List ℕ → Report
+report bytes = report_from 0 (lines_of bytes)
+
+-- the output of some bytes
+abbrev pub output : List ℕ → List ℕ
+output bytes = (report bytes).written
+
+-- Bytes are valid if they are at most 2 ^ 26, have a settings line, and none of their lines is refused.
+pub record IsValid (bytes : List ℕ) : Type 0 where
+  pub short : length bytes ≤ 2 ^ 26
+  pub accepted : (report bytes).accepted ≡ true
+
+-- some line is refused, or the input ends without a settings line
+abbrev pub IsRefused : List ℕ → Type 0
+IsRefused bytes = (report bytes).accepted ≡ false

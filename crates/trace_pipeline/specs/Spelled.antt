@@ -1,0 +1,38 @@
+-- What lines spell: settings and requests, or why they spell none.
+use Rattle.std.specs.Prelude.{ℕ, List, Option, Some, None, ok_or, option_and_then, Result, Err, if◌then◌else◌}
+use Rattle.std.specs.Str.{is_utf8}
+use Rattle.serde_json.specs.Data.{Data, Members}
+use Rattle.serde_json.specs.Read.{read}
+use Rattle.serde_json.specs.Find.{as_object}
+use Rattle.trace_pipeline.specs.declared.settings.Settings.{Settings}
+use Rattle.trace_pipeline.specs.declared.request.Request.{Request}
+use Rattle.trace_pipeline.specs.declared.reply.Told.{Told}
+use Rattle.trace_pipeline.specs.declared.reply.Told.TheVariants.{BadLine, Later}
+use Rattle.trace_pipeline.specs.Forms.{all_of}
+use Rattle.trace_pipeline.specs.SettingsForm.{settings_form}
+use Rattle.trace_pipeline.specs.RequestForm.{request_form}
+
+-- the value that a line is in JSON
+abbrev pub line_value : List ℕ → Option Data
+line_value line = if is_utf8 line then read line else None
+
+-- the members of the object that a line is
+abbrev pub line_members : List ℕ → Option Members
+line_members line = option_and_then as_object (line_value line)
+
+-- an object that is not of the form is for later
+abbrev pub formed : {A : Type 0} → (Members → Option A) → Option Members → Result A Told
+formed form None = Err BadLine
+formed form (Some members) = ok_or (form members) Later
+
+-- what a line spells by a form, or why it spells nothing
+abbrev pub spelled : {A : Type 0} → (Members → Option A) → List ℕ → Result A Told
+spelled form line = formed form (line_members line)
+
+-- the settings that a line spells, or why it spells none
+unfoldable pub settings_spelled : List ℕ → Result Settings Told
+settings_spelled line = spelled (all_of settings_form) line
+
+-- the request that a line spells, or why it spells none
+unfoldable pub request_spelled : List ℕ → Result Request Told
+request_spelled line = spelled (all_of request_form) line

@@ -1,0 +1,118 @@
+-- A pipeline's state stands for settings and the requests so far.
+use Rattle.std.specs.Prelude.{◌≡◌, ℕ, ◌^◌, ◌<◌, ◌≤◌, List, [], ◌∷◌, ◌++◌, length, Ok, Err, ◌≢◌, Option, Some, option_map, unwrap_or, map, fold, count_by, Bool, nat_lt, is_some}
+use Rattle.otel_base.specs.declared.record.Record.{Record}
+use Rattle.trace_base.specs.declared.level.LevelFilter.{LevelFilter}
+use Rattle.trace_pipeline.specs.declared.settings.Settings.{Settings}
+use Rattle.trace_pipeline.specs.declared.names.Handle.{Handle}
+use Rattle.trace_pipeline.specs.declared.names.Handle.TheVariants.{Disabled, Enabled}
+use Rattle.trace_pipeline.specs.declared.names.Guard.{Guard}
+use Rattle.trace_pipeline.specs.declared.span.Span.{Span}
+use Rattle.trace_pipeline.specs.declared.times.Times.{Times}
+use Rattle.trace_pipeline.specs.Machine.{span_at}
+use Rattle.trace_pipeline.specs.declared.reply.Reply.{Reply}
+use Rattle.trace_pipeline.specs.declared.request.Request.{Request}
+use Rattle.trace_pipeline.specs.declared.reply.Refusal.{Refusal}
+use Rattle.trace_pipeline.specs.declared.reply.Refusal.TheVariants.{Memory}
+use Rattle.trace_pipeline.specs.Effects.{Resolved, in_force, effect_of, reply_to}
+use Rattle.trace_pipeline.specs.Content.{records_of}
+use Rattle.trace_pipeline.specs.History.{Line, Made, Guarded, Effect, History, handles, guards, slot_at, made, made_of, started, place_in, moment, holds}
+use Rattle.trace_pipeline.specs.Ops.{Stamped, ops, entered_after, busy, last_exit}
+
+-- what is kept, but for the finished records
+pub record State : Type 0 where
+  pub settings : Settings
+  pub in_force : LevelFilter
+  pub handles : List (Option Handle)
+  pub guards : List (Option Guard)
+  pub open_guards : ℕ
+  pub spans : List Span
+  pub started : ℕ
+  pub moment : ℕ
+
+-- a pipeline: its state, and the records that haven't been taken
+pub record Kept : Type 0 where
+  pub state : State
+  pub finished : List Record
+
+abbrev pub handle_of : Line → Handle
+handle_of [] = Disabled
+handle_of (s ∷ line) = Enabled s
+
+abbrev pub guard_of : Guarded → Guard
+guard_of guarded = record { handle = guarded.handle; entered = handle_of guarded.line }
+
+-- the times after some ops
+abbrev pub times_of : List Stamped → Times
+times_of os = record {
+  entered = fold (λ n op. entered_after n op.op) 0 os;
+  last = fold (λ last op. op.at) 0 os;
+  busy = busy os;
+  left = last_exit os;
+}
+
+-- what is kept of a span with a making, an id, a number of handles that hold it, and these ops
+abbrev pub span_by : Made → ℕ → ℕ → List Stamped → Span
+span_by made id below os = record { site = made.site; made = made.at; id = id; holds = below; times = times_of os }
+
+abbrev pub is_started : Span → Bool
+is_started span = nat_lt 0 span.id
+
+-- The line of a disabled handle is empty, that of an enabled one is a span that has been made.
+abbrev pub IsMade : ℕ → Line → Type 0
+IsMade n [] = Unit {0}
+IsMade n (s ∷ line) = (s < n) × (line ≡ [])
+
+-- No time is later than the last moment, and no more entries are open than guards were made.
+pub record IsTimed (times : Times) (last guards : ℕ) : Type 0 where
+  pub busy_in : times.busy ≤ times.last
+  pub last_in : times.last ≤ last
+  pub left_in : unwrap_or times.left 0 ≤ times.last
+  pub entered_in : times.entered ≤ guards
+
+-- The spans fit the makings, the order of the starts, the numbers of holds and the ops: for each number, past the
+-- end too, what is kept of a span is what these give.
+pub record SpansFit (spans : List Span) (started : ℕ) (ms : List Made) (order : List ℕ) (below : ℕ → ℕ) (os : ℕ → List Stamped) (last guards : ℕ) : Type 0 where
+  pub count : length spans ≡ length ms
+  pub each : (s : ℕ) → span_at spans s ≡ span_by (made_of ms s) (place_in order s) (below s) (os s)
+  pub starts : started ≡ length order
+  pub placed : count_by is_started spans ≡ started
+  pub timed : (s : ℕ) → IsTimed (span_at spans s).times last guards
+
+-- how many unspent handles hold a span
+abbrev pub held : List (Option Line) → ℕ → ℕ
+held hs s = count_by (holds s) hs
+
+-- What is kept fits the tables of a history: its handles, guards, makings, starts, ops and last moment.
+pub record Fits (k : State) (hs : List (Option Line)) (gs : List (Option Guarded)) (ms : List Made) (order : List ℕ) (os : ℕ → List Stamped) (last : ℕ) : Type 0 where
+  pub handle_slots : k.handles ≡ map (option_map handle_of) hs
+  pub guard_slots : k.guards ≡ map (option_map guard_of) gs
+  pub guard_count : k.open_guards ≡ count_by is_some gs
+  pub spans_fit : SpansFit k.spans k.started ms order (held hs) os last (length gs)
+  pub latest : k.moment ≡ last
+  -- facts of each history that lead here
+  pub named : (n : ℕ) (line : Line) → slot_at hs n ≡ Some line → IsMade (length ms) line
+  pub kept : (n : ℕ) (guarded : Guarded) → slot_at gs n ≡ Some guarded → IsMade (length ms) guarded.line
+  pub early : last < 2 ^ 63
+
+-- the state stands for settings and the effects of the requests so far
+pub record StandsFor (k : State) (settings : Settings) (h : History) : Type 0 where
+  pub settings_kept : k.settings ≡ settings
+  pub filter_kept : k.in_force ≡ in_force settings
+  pub fits : Fits k (handles h) (guards h) (made h) (started h) (ops h) (moment h)
+
+-- A reply is served where the request has an effect: the reply and the new records are the effect's, and the
+-- state stands for one effect more.
+pub record Served (resolved : Resolved) (settings : Settings) (h : History) (old new : Kept) (reply : Reply) : Type 0 where
+  pub effect : Effect
+  pub is : resolved ≡ Ok effect
+  pub reply_is : reply ≡ reply_to h effect
+  pub records : new.finished ≡ old.finished ++ records_of settings h effect
+  pub stands : StandsFor new.state settings (h ++ effect ∷ [])
+
+-- a step's reply is served by the effect of its request
+abbrev pub Answered : Settings → History → Request → Kept → Kept → Reply → Type 0
+Answered settings h request old new reply = Served (effect_of settings h request) settings h old new reply
+
+-- A refusal other than of memory is the one that was resolved.
+abbrev pub IsRefusal : Resolved → Refusal → Type 0
+IsRefusal resolved refusal = refusal ≢ Memory → resolved ≡ Err refusal

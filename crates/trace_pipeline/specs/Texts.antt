@@ -1,0 +1,82 @@
+-- The texts of the lines that are written.
+use Rattle.std.specs.Prelude.{ℕ, List, [], ◌∷◌, codes, true}
+use Rattle.serde_json.specs.Data.{Data, boolean, string, object}
+use Rattle.otel_base.specs.declared.record.Record.{Record}
+use Rattle.trace_pipeline.specs.declared.reply.Reply.{Reply}
+use Rattle.trace_pipeline.specs.declared.reply.Reply.TheVariants as reply
+use Rattle.trace_pipeline.specs.declared.reply.What.{What}
+use Rattle.trace_pipeline.specs.declared.reply.What.TheVariants as what
+use Rattle.trace_pipeline.specs.declared.reply.Refusal.{Refusal}
+use Rattle.trace_pipeline.specs.declared.reply.Refusal.TheVariants as refusal
+use Rattle.trace_pipeline.specs.declared.reply.Told.{Told}
+use Rattle.trace_pipeline.specs.declared.reply.Told.TheVariants as told
+use Rattle.trace_pipeline.specs.Object.{members, whole, line_of}
+use Rattle.trace_pipeline.specs.RecordData.{record_data}
+
+-- ---- replies
+
+-- what a reply line tells of the reply
+abbrev pub reply_members : Reply → List (List ℕ × Data)
+reply_members (reply.Made enabled handle) = (codes "enabled", boolean enabled) ∷ (codes "handle", whole handle) ∷ []
+reply_members (reply.Guard guard) = (codes "guard", whole guard) ∷ []
+reply_members reply.Done = []
+
+-- a reply, with the number of its request's line
+abbrev pub reply_data : ℕ → Reply → Data
+reply_data line answer = object (members ((codes "reply", whole line) ∷ reply_members answer))
+
+-- the reply line of the request on a line
+unfoldable pub reply_text : ℕ → Reply → List ℕ
+reply_text line answer = line_of (reply_data line answer)
+
+-- ---- records
+
+-- the line of the record with a number
+unfoldable pub record_text : ℕ → Record → List ℕ
+record_text number finished = line_of (record_data number finished)
+
+-- ---- refusals
+
+-- the name of what is unknown
+abbrev pub what_name : What → List ℕ
+what_name what.Lane = codes "lane"
+what_name what.Site = codes "site"
+what_name what.Handle = codes "handle"
+what_name what.Guard = codes "guard"
+
+-- the member that names a refusal
+abbrev pub refused_as : List ℕ → List ℕ × Data
+refused_as name = (codes "refused", string name)
+
+-- What a refusal line tells of a step's refusal. Want of memory has no such line: its row stands for none that is written.
+abbrev pub step_members : Refusal → List (List ℕ × Data)
+step_members refusal.Later = refused_as (codes "Later") ∷ []
+step_members (refusal.UnknownName unknown) = refused_as (codes "UnknownName") ∷ (codes "what", string (what_name unknown)) ∷ []
+step_members refusal.Memory = refused_as (codes "Memory") ∷ []
+
+-- what a refusal line tells of the refusal
+abbrev pub told_members : Told → List (List ℕ × Data)
+told_members told.BadLine = refused_as (codes "BadLine") ∷ []
+told_members told.Later = refused_as (codes "Later") ∷ []
+told_members (told.Step why) = step_members why
+
+-- a refusal, with the number of its line
+abbrev pub refusal_data : ℕ → Told → Data
+refusal_data line why = object (members ((codes "line", whole line) ∷ told_members why))
+
+-- the line that tells why a line is refused
+unfoldable pub refusal_text : ℕ → Told → List ℕ
+refusal_text line why = line_of (refusal_data line why)
+
+-- ---- the end
+
+-- the end of a run
+abbrev pub end_data : ℕ → ℕ → Data
+end_data open_spans records = object (members (
+    (codes "done", boolean true)
+    ∷ (codes "open", whole open_spans)
+    ∷ (codes "records", whole records) ∷ []))
+
+-- the last line, which tells how many spans are open and how many records were written
+unfoldable pub end_text : ℕ → ℕ → List ℕ
+end_text open_spans records = line_of (end_data open_spans records)

@@ -1,0 +1,16 @@
+//! Scripts of span calls: reading their lines, running their requests, and writing what they give.
+#![tactic(auto)]
+
+mod finish;
+pub mod laws;
+mod names;
+pub mod pipeline;
+pub mod read;
+pub mod reply;
+pub mod request;
+pub mod settings;
+mod span;
+mod spans;
+mod times;
+mod words;
+pub mod write;

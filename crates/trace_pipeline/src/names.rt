@@ -1,0 +1,41 @@
+//! What the names in requests stand for.
+ghost use Rattle.std.specs.Prelude.{◌≡◌, None, slice_set};
+ghost use Rattle.std.specs.List.{slice_index_or};
+
+/// What a handle that isn't spent stands for.
+#[derive(Clone, Copy)]
+pub enum Handle {
+    Disabled,
+    /// A span, by its number.
+    Enabled { span: u64 },
+}
+
+/// What a guard that isn't spent keeps: the number of its handle, and what that stands for.
+#[derive(Clone, Copy)]
+pub struct Guard {
+    pub handle: u64,
+    pub entered: Handle,
+}
+
+/// What the handle with a number stands for, if it is there and isn't spent.
+pub fn handle_at(handles: &[Option<Handle>], number: u64) -> Option<Handle>
+    ensures { result ≡ slice_index_or handles.now number None }
+{
+    *handles.get(number as usize)?
+}
+
+/// What the guard with a number keeps, if it is there and isn't spent.
+pub fn guard_at(guards: &[Option<Guard>], number: u64) -> Option<Guard>
+    ensures { result ≡ slice_index_or guards.now number None }
+{
+    *guards.get(number as usize)?
+}
+
+/// Spends the name with a number, if it is there.
+pub fn spend<T: Drop>(slots: &mut Vec<Option<T>>, number: u64)
+    ensures { slots.new.items ≡ slice_set slots.old.items number None }
+{
+    if let Some(slot) = slots.get_mut(number as usize) {
+        *slot = None;
+    }
+}

@@ -1,0 +1,45 @@
+//! What readers do by law: lines that are read out, and that each request can be read.
+ghost use Rattle.std.specs.Prelude.{◌≡◌, ℕ, [], ◌∷◌, Ok, Err, Some, None, codes};
+ghost use Rattle.trace_pipeline.specs.Forms.{object_of};
+ghost use Rattle.trace_pipeline.specs.RequestData.{first_lane, request_data};
+ghost use Rattle.trace_pipeline.specs.RequestForm.{request_form};
+ghost use Rattle.trace_pipeline.specs.Spelled.{settings_spelled, request_spelled};
+ghost use Rattle.trace_pipeline.specs.declared.reply.Told.{Told};
+ghost use Rattle.trace_pipeline.specs.declared.request.Call.{Call as AnyCall};
+
+use crate::reply::Told;
+use crate::request::Call;
+use trace_base::callsite::Kind;
+use trace_base::level::Level;
+
+/// A line that enters a span, and the same line with a member too many.
+pub fn enter_line()
+    ensures read { request_spelled (codes "{\"at\":5,\"lane\":0,\"do\":\"enter\",\"handle\":3}")
+        ≡ Ok (first_lane 5 (Call.Enter 3)) }
+    ensures refused { request_spelled (codes "{\"at\":5,\"lane\":0,\"do\":\"enter\",\"handle\":3,\"name\":\"a\"}")
+        ≡ Err Told.Later }
+{}
+
+/// A settings line, with one callsite and two lanes.
+pub fn settings_line()
+    ensures { settings_spelled (codes "{\"callsites\":[{\"name\":\"s\",\"target\":\"app\",\"level\":\"warn\",\"kind\":\"span\",\"fields\":[\"a\"],\"file\":\"f\",\"module\":\"m\",\"line\":7}],\"filter\":\"info\",\"lanes\":[{\"id\":4,\"name\":\"main\"},{\"id\":2}],\"layer\":{\"location\":false,\"target\":false,\"threads\":false}}") ≡ Ok (record {
+      filter = codes "info";
+      lanes = (4, Some (codes "main")) ∷ (2, None) ∷ [];
+      callsites = record {
+        name = codes "s";
+        target = codes "app";
+        level = Level.WARN;
+        kind = Kind.Span;
+        file = Some (codes "f");
+        module_path = Some (codes "m");
+        line = Some 7;
+        fields = codes "a" ∷ [];
+      } ∷ [];
+    }) }
+{}
+
+/// Each request of the first lane has a value that is read as it.
+pub fn every_request()
+    ensures { (at : ℕ) (call : AnyCall)
+        → object_of request_form (request_data (first_lane at call)) ≡ Some (first_lane at call) }
+{}

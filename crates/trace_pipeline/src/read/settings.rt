@@ -1,0 +1,156 @@
+//! Reading settings: callsites, the filter, lanes and the layer.
+ghost use Rattle.std.specs.Prelude.{◌≡◌};
+ghost use Rattle.serde_json.specs.Find.{as_str};
+ghost use Rattle.serde_json.specs.View.{view, items_view};
+ghost use Rattle.trace_pipeline.specs.Gives.{Gives};
+ghost use Rattle.trace_pipeline.specs.Left.{left};
+ghost use Rattle.trace_pipeline.specs.Forms.{each, object_of, provided};
+ghost use Rattle.trace_pipeline.specs.SettingsForm.{Lane, lane_form, callsite_form, layer_form, settings_form, ids, all_differ};
+
+use crate::read::LineError;
+use crate::read::object::{Object, text_of};
+use crate::settings::Settings;
+use crate::words::{filter_of, kind_of, level_of};
+use otel_base::list::Items;
+use otel_base::text::Text;
+use serde_json::Value as Json;
+use std::alloc::Global;
+use std::collections::BTreeSet;
+use trace_base::callsite::Callsite;
+
+// The greatest id of a lane.
+const GREATEST_ID: u64 = 9_223_372_036_854_775_807;
+
+#[tactic(auto, unfolding(crate::specs::SettingsForm::lane_form))]
+fn lane_members(object: &mut Object) -> Result<(u64, Option<Text>), LineError>
+    ensures { Gives (λ l. (l, left object.new)) result (lane_form (left object.old)) }
+{
+    let id = object.whole_to(GREATEST_ID, "id")?;
+    let name = object.optional_text("name")?;
+    Ok((id, name))
+}
+
+fn lane(value: Json) -> Result<(u64, Option<Text>), LineError>
+    ensures { Gives (λ l. l) result (object_of lane_form (view value)) }
+{
+    let mut object = Object::of(value)?;
+    let lane = lane_members(&mut object)?;
+    object.end()?;
+    Ok(lane)
+}
+
+fn lanes(alloc: Global, values: Vec<Json>) -> Result<Items<(u64, Option<Text>)>, LineError>
+    ensures { Gives (λ l. l) result (each (object_of lane_form) (items_view values.items)) }
+{
+    let mut lanes = Items::new(alloc);
+    for value in values {
+        lanes.push(lane(value)?)?;
+    }
+    Ok(lanes)
+}
+
+fn fields(alloc: Global, values: Vec<Json>) -> Result<Items<Text>, LineError>
+    ensures { Gives (λ l. l) result (each as_str (items_view values.items)) }
+{
+    let mut fields = Items::new(alloc);
+    for value in values {
+        fields.push(text_of(value)?)?;
+    }
+    Ok(fields)
+}
+
+#[tactic(auto, unfolding(crate::specs::SettingsForm::callsite_form))]
+fn callsite_members(alloc: Global, object: &mut Object) -> Result<Callsite, LineError>
+    ensures { Gives (λ c. (c, left object.new)) result (callsite_form (left object.old)) }
+{
+    let name = object.text("name")?;
+    let target = object.text("target")?;
+    let level = level_of(object.text("level")?.as_str()).ok_or(LineError::Later)?;
+    let kind = kind_of(object.text("kind")?.as_str()).ok_or(LineError::Later)?;
+    let fields = fields(alloc, object.array("fields")?)?;
+    let file = object.optional_text("file")?;
+    let module_path = object.optional_text("module")?;
+    let line = object.optional_u32("line")?;
+    Ok(Callsite {
+        name,
+        target,
+        level,
+        kind,
+        file,
+        module_path,
+        line,
+        fields,
+    })
+}
+
+fn callsite(alloc: Global, value: Json) -> Result<Callsite, LineError>
+    ensures { Gives (λ c. c) result (object_of callsite_form (view value)) }
+{
+    let mut object = Object::of(value)?;
+    let callsite = callsite_members(alloc, &mut object)?;
+    object.end()?;
+    Ok(callsite)
+}
+
+fn callsites(alloc: Global, values: Vec<Json>) -> Result<Items<Callsite>, LineError>
+    ensures { Gives (λ l. l) result (each (object_of callsite_form) (items_view values.items)) }
+{
+    let mut callsites = Items::new(alloc);
+    for value in values {
+        callsites.push(callsite(alloc, value)?)?;
+    }
+    Ok(callsites)
+}
+
+#[tactic(auto, unfolding(crate::specs::SettingsForm::layer_form))]
+fn layer_members(object: &mut Object) -> Result<(), LineError>
+    ensures { Gives (λ u. (u, left object.new)) result (layer_form (left object.old)) }
+{
+    let location = object.flag("location")?;
+    let target = object.flag("target")?;
+    let threads = object.flag("threads")?;
+    if location || target || threads {
+        Err(LineError::Later)
+    } else {
+        Ok(())
+    }
+}
+
+fn layer(value: Json) -> Result<(), LineError>
+    ensures { Gives (λ u. u) result (object_of layer_form (view value)) }
+{
+    let mut object = Object::of(value)?;
+    layer_members(&mut object)?;
+    object.end()
+}
+
+// Makes sure that no two lanes have the same id.
+fn distinct(alloc: Global, lanes: &[(u64, Option<Text>)]) -> Result<(), LineError>
+    ensures { Gives (λ u. u) result (provided (all_differ (ids lanes.now))) }
+{
+    let mut seen = BTreeSet::new(alloc);
+    for lane in lanes {
+        if !seen.insert(lane.0)? {
+            return Err(LineError::Later);
+        }
+    }
+    Ok(())
+}
+
+/// Takes the members of settings.
+#[tactic(auto, unfolding(crate::specs::SettingsForm::settings_form))]
+pub(crate) fn settings_members(alloc: Global, object: &mut Object) -> Result<Settings, LineError>
+    ensures { Gives (λ s. (s, left object.new)) result (settings_form (left object.old)) }
+{
+    let callsites = callsites(alloc, object.array("callsites")?)?;
+    let filter = object.text("filter")?;
+    filter_of(filter.as_str()).ok_or(LineError::Later)?;
+    let lanes = lanes(alloc, object.array("lanes")?)?;
+    distinct(alloc, lanes.as_slice())?;
+    layer(object.member("layer")?)?;
+    Ok(Settings {
+        filter,
+        lanes,
+        callsites,
+    })
+}

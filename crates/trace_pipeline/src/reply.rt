@@ -1,0 +1,43 @@
+//! What requests are answered, and why lines are refused.
+
+/// The answer to a request.
+#[derive(Clone, Drop)]
+pub enum Reply {
+    /// A handle was made, which is enabled where it has a span.
+    Made { enabled: bool, handle: u64 },
+    /// A guard was made.
+    Guard { guard: u64 },
+    /// Nothing was made.
+    Done,
+}
+
+/// What a request names that isn't there.
+#[derive(Clone, Copy, PartialEq, Eq)]
+pub enum What {
+    Lane,
+    Site,
+    Handle,
+    Guard,
+}
+
+/// Why a request is refused.
+#[derive(Clone, Copy, PartialEq, Eq)]
+pub enum Refusal {
+    /// No built form of request can do this yet.
+    Later,
+    /// A lane, site, handle or guard isn't there, is spent, or is of another kind.
+    UnknownName { what: What },
+    /// No memory was to be had.
+    Memory,
+}
+
+/// Why a line is refused, as its refusal line tells it.
+#[derive(Clone, Copy, PartialEq, Eq)]
+pub enum Told {
+    /// The line is no JSON, or no object; or no settings line came.
+    BadLine,
+    /// The line is an object of no form that is built yet.
+    Later,
+    /// The line's request is refused.
+    Step { refusal: Refusal },
+}

@@ -1,0 +1,56 @@
+//! The state of one span.
+ghost use Rattle.std.specs.Prelude.{◌≡◌};
+ghost use Rattle.trace_pipeline.specs.Machine.{no_times, started_after, span_started, span_entered, span_exited};
+
+use crate::times::Times;
+use otel_base::record::Moment;
+
+/// What is kept of a span: its callsite's place, its moment of making in nanoseconds, its id (0 before its
+/// start), how many unspent handles hold it, and its times.
+#[derive(Clone, Copy)]
+pub struct Span {
+    pub site: u64,
+    pub made: Moment,
+    pub id: u64,
+    pub holds: u64,
+    pub times: Times,
+}
+
+impl Span {
+    /// A span that isn't started, with the hold of its first handle.
+    pub fn new(site: u64, made: Moment) -> Span
+        ensures { result ≡ record { site = site; made = made; id = 0; holds = 1; times = no_times } }
+    {
+        Span {
+            site,
+            made,
+            id: 0,
+            holds: 1,
+            times: Times::new(),
+        }
+    }
+
+    /// Starts the span where it isn't started yet: its id is the number of starts, with its own.
+    pub fn start(&mut self, started: &mut u64, at: Moment)
+        ensures span { self.new ≡ span_started started.old at self.old }
+        ensures started { started.new ≡ started_after started.old self.old }
+    {
+        if self.id == 0 {
+            *started = started.saturating_add(1);
+            self.id = *started;
+            self.times.pass(at);
+        }
+    }
+
+    pub fn enter(&mut self, at: Moment)
+        ensures { self.new ≡ span_entered at self.old }
+    {
+        self.times.enter(at);
+    }
+
+    pub fn exit(&mut self, at: Moment)
+        ensures { self.new ≡ span_exited at self.old }
+    {
+        self.times.exit(at);
+    }
+}

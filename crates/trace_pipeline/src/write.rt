@@ -1,0 +1,296 @@
+//! Writing lines: replies, records, refusals and the end line, each with its line feed.
+ghost use Rattle.std.specs.Prelude.{◌≡◌, ◌≢◌, ◌++◌, IfOk, string_bytes};
+ghost use Rattle.trace_pipeline.specs.Texts.{reply_text, record_text, refusal_text, end_text};
+ghost use Rattle.trace_pipeline.specs.declared.reply.Refusal.{Refusal};
+
+mod attribute;
+mod end;
+mod hex;
+mod line;
+mod member;
+mod record;
+mod refusal;
+mod reply;
+
+use crate::reply::{Reply, Told};
+use end::write_end;
+use json::Writer;
+use line::{bytes_of, text_of};
+use otel_base::memory::Memory;
+use otel_base::record::Record;
+use record::write_record;
+use refusal::write_refusal;
+use reply::write_reply;
+use std::alloc::Global;
+
+/// The reply line of the request on a line.
+#[tactic(auto, using(crate::proofs::Written::line_written), unfolding(crate::specs::Texts::reply_text))]
+pub fn reply_line(alloc: Global, line: u64, reply: &Reply) -> Result<String, Memory>
+    ensures { IfOk result (λ text. string_bytes text ≡ reply_text line reply.now) }
+{
+    let mut out = Writer::new(Vec::new(alloc));
+    write_reply(&mut out, line, reply)?;
+    Ok(text_of(out)?)
+}
+
+/// The line of the record with a number.
+#[tactic(auto, using(crate::proofs::Written::line_written), unfolding(crate::specs::Texts::record_text))]
+pub fn record_line(alloc: Global, number: u64, finished: &Record) -> Result<String, Memory>
+    ensures { IfOk result (λ text. string_bytes text ≡ record_text number finished.now) }
+{
+    let mut out = Writer::new(Vec::new(alloc));
+    write_record(&mut out, number, finished)?;
+    Ok(text_of(out)?)
+}
+
+/// The line that tells why a line is refused. Want of memory has no such line.
+#[tactic(auto, using(crate::proofs::Written::line_written), unfolding(crate::specs::Texts::refusal_text))]
+pub fn refusal_line(alloc: Global, line: u64, told: &Told) -> Result<String, Memory>
+    requires { told.now ≢ Told.Step Refusal.Memory }
+    ensures { IfOk result (λ text. string_bytes text ≡ refusal_text line told.now) }
+{
+    let mut out = Writer::new(Vec::new(alloc));
+    write_refusal(&mut out, line, told)?;
+    Ok(text_of(out)?)
+}
+
+/// The last line of a run.
+#[tactic(auto, using(crate::proofs::Written::line_written), unfolding(crate::specs::Texts::end_text))]
+pub fn end_line(alloc: Global, open_spans: u64, records: u64) -> Result<String, Memory>
+    ensures { IfOk result (λ text. string_bytes text ≡ end_text open_spans records) }
+{
+    let mut out = Writer::new(Vec::new(alloc));
+    write_end(&mut out, open_spans, records)?;
+    Ok(text_of(out)?)
+}
+
+/// Adds the reply line to what `before` holds, and gives it back.
+#[tactic(auto, using(crate::proofs::Written::line_written), unfolding(crate::specs::Texts::reply_text))]
+pub fn append_reply(before: Vec<u8>, line: u64, reply: &Reply) -> Result<Vec<u8>, Memory>
+    ensures { IfOk result (λ out. out.items ≡ before.items ++ reply_text line reply.now) }
+{
+    let mut out = Writer::new(before);
+    write_reply(&mut out, line, reply)?;
+    Ok(bytes_of(out)?)
+}
+
+/// Adds the record line to what `before` holds, and gives it back.
+#[tactic(auto, using(crate::proofs::Written::line_written), unfolding(crate::specs::Texts::record_text))]
+pub fn append_record(before: Vec<u8>, number: u64, finished: &Record) -> Result<Vec<u8>, Memory>
+    ensures { IfOk result (λ out. out.items ≡ before.items ++ record_text number finished.now) }
+{
+    let mut out = Writer::new(before);
+    write_record(&mut out, number, finished)?;
+    Ok(bytes_of(out)?)
+}
+
+/// Adds the refusal line to what `before` holds, and gives it back. Want of memory has no such line.
+#[tactic(auto, using(crate::proofs::Written::line_written), unfolding(crate::specs::Texts::refusal_text))]
+pub fn append_refusal(before: Vec<u8>, line: u64, told: &Told) -> Result<Vec<u8>, Memory>
+    requires { told.now ≢ Told.Step Refusal.Memory }
+    ensures { IfOk result (λ out. out.items ≡ before.items ++ refusal_text line told.now) }
+{
+    let mut out = Writer::new(before);
+    write_refusal(&mut out, line, told)?;
+    Ok(bytes_of(out)?)
+}
+
+/// Adds the end line to what `before` holds, and gives it back.
+#[tactic(auto, using(crate::proofs::Written::line_written), unfolding(crate::specs::Texts::end_text))]
+pub fn append_end(before: Vec<u8>, open_spans: u64, records: u64) -> Result<Vec<u8>, Memory>
+    ensures { IfOk result (λ out. out.items ≡ before.items ++ end_text open_spans records) }
+{
+    let mut out = Writer::new(before);
+    write_end(&mut out, open_spans, records)?;
+    Ok(bytes_of(out)?)
+}
+
+#[cfg(test)]
+mod tests {
+    use super::*;
+    use crate::reply::{Refusal, What};
+    use otel_base::context::SpanContext;
+    use otel_base::list::Items;
+    use otel_base::record::{Link, OtelEvent, SpanKind};
+    use otel_base::status::Status;
+    use otel_base::text::Text;
+    use otel_base::value::{KeyValue, OtelValue};
+    use std::test::Fail;
+
+    #[test]
+    fn replies_and_the_end(rt: HostRuntime) -> Result<(), Fail> {
+        let alloc = rt.alloc();
+        let made = Reply::Made {
+            enabled: true,
+            handle: 0,
+        };
+        let unmade = Reply::Made {
+            enabled: false,
+            handle: 18_446_744_073_709_551_615,
+        };
+        for (line, reply, want) in [
+            (2, made, "{\"enabled\":true,\"handle\":0,\"reply\":2}\n"),
+            (
+                9,
+                unmade,
+                "{\"enabled\":false,\"handle\":18446744073709551615,\"reply\":9}\n",
+            ),
+            (3, Reply::Guard { guard: 0 }, "{\"guard\":0,\"reply\":3}\n"),
+            (4, Reply::Done, "{\"reply\":4}\n"),
+        ] {
+            assert_eq!(rt; reply_line(alloc, line, &reply)?.as_str(), want);
+        }
+        assert_eq!(rt;
+            end_line(alloc, 3, 12)?.as_str(),
+            "{\"done\":true,\"open\":3,\"records\":12}\n"
+        );
+        Ok(())
+    }
+
+    #[test]
+    fn refusals(rt: HostRuntime) -> Result<(), Fail> {
+        let alloc = rt.alloc();
+        for (told, want) in [
+            (Told::BadLine, "{\"line\":4,\"refused\":\"BadLine\"}\n"),
+            (Told::Later, "{\"line\":4,\"refused\":\"Later\"}\n"),
+            (
+                Told::Step {
+                    refusal: Refusal::Later,
+                },
+                "{\"line\":4,\"refused\":\"Later\"}\n",
+            ),
+        ] {
+            assert_eq!(rt; refusal_line(alloc, 4, &told)?.as_str(), want);
+        }
+        for (what, want) in [
+            (What::Lane, "lane"),
+            (What::Site, "site"),
+            (What::Handle, "handle"),
+            (What::Guard, "guard"),
+        ] {
+            let told = Told::Step {
+                refusal: Refusal::UnknownName { what },
+            };
+            assert_eq!(rt;
+                refusal_line(alloc, 4, &told)?,
+                format!(in alloc;
+                    "{{\"line\":4,\"refused\":\"UnknownName\",\"what\":\"{want}\"}}\n"
+                )?
+            );
+        }
+        Ok(())
+    }
+
+    fn text(alloc: Global, bytes: &str) -> Result<Text, Memory> {
+        Ok(Text::from(String::from_str(alloc, bytes)?))
+    }
+
+    fn attribute(alloc: Global, key: &str, value: OtelValue) -> Result<KeyValue, Memory> {
+        Ok(KeyValue {
+            key: text(alloc, key)?,
+            value,
+        })
+    }
+
+    // A record with a value of each kind, an event, a link, an error and ids that fill their digits.
+    fn full(alloc: Global) -> Result<Record, Memory> {
+        let mut names = Items::new(alloc);
+        names.push(text(alloc, "x")?)?;
+        names.push(text(alloc, "")?)?;
+        let said = OtelValue::Str(text(alloc, "a \"b\"\u{1}\n")?);
+        let mut attributes = Items::new(alloc);
+        attributes.push(attribute(alloc, "ok", OtelValue::Bool(false))?)?;
+        attributes.push(attribute(alloc, "least", OtelValue::I64(i64::MIN))?)?;
+        attributes.push(attribute(alloc, "said", said)?)?;
+        attributes.push(attribute(alloc, "names", OtelValue::List(names))?)?;
+        let mut of_event = Items::new(alloc);
+        of_event.push(attribute(alloc, "n", OtelValue::I64(7))?)?;
+        let mut events = Items::new(alloc);
+        events.push(OtelEvent {
+            name: text(alloc, "e")?,
+            time: 18,
+            attributes: of_event,
+        })?;
+        let mut links = Items::new(alloc);
+        links.push(Link {
+            context: SpanContext {
+                trace: 10,
+                span: 11,
+            },
+            attributes: Items::new(alloc),
+        })?;
+        Ok(Record {
+            name: text(alloc, "s")?,
+            kind: SpanKind::Server,
+            context: SpanContext {
+                trace: (1 << 127) + 42,
+                span: u64::MAX,
+            },
+            parent: 1,
+            start: 10,
+            end: 30,
+            attributes,
+            events,
+            links,
+            status: Status::Error {
+                description: text(alloc, "bad")?,
+            },
+        })
+    }
+
+    #[test]
+    fn a_full_record(rt: HostRuntime) -> Result<(), Fail> {
+        let alloc = rt.alloc();
+        let finished = full(alloc)?;
+        let mut want = String::new(alloc);
+        for piece in [
+            "{\"attributes\":[[\"ok\",false],[\"least\",-9223372036854775808],",
+            "[\"said\",\"a \\\"b\\\"\\u0001\\n\"],[\"names\",[\"x\",\"\"]]],\"end\":30,",
+            "\"events\":[{\"attributes\":[[\"n\",7]],\"name\":\"e\",\"time\":18}],",
+            "\"kind\":\"server\",\"links\":[{\"attributes\":[],\"span\":\"000000000000000b\",",
+            "\"trace\":\"0000000000000000000000000000000a\"}],\"name\":\"s\",",
+            "\"parent\":\"0000000000000001\",\"record\":2,\"span\":\"ffffffffffffffff\",",
+            "\"start\":10,\"status\":{\"error\":\"bad\"},",
+            "\"trace\":\"8000000000000000000000000000002a\"}\n",
+        ] {
+            want.push_str(piece)?;
+        }
+        assert_eq!(rt; record_line(alloc, 2, &finished)?, want);
+        Ok(())
+    }
+
+    #[test]
+    fn lines_one_after_another(rt: HostRuntime) -> Result<(), Fail> {
+        let alloc = rt.alloc();
+        let finished = Record {
+            name: text(alloc, "s")?,
+            kind: SpanKind::Internal,
+            context: SpanContext { trace: 1, span: 1 },
+            parent: 0,
+            start: 0,
+            end: 30,
+            attributes: Items::new(alloc),
+            events: Items::new(alloc),
+            links: Items::new(alloc),
+            status: Status::Unset,
+        };
+        let out = append_reply(Vec::new(alloc), 2, &Reply::Done)?;
+        let out = append_record(out, 1, &finished)?;
+        let out = append_end(out, 0, 1)?;
+        let out = append_refusal(out, 3, &Told::BadLine)?;
+        let mut want = String::new(alloc);
+        for piece in [
+            "{\"reply\":2}\n",
+            "{\"attributes\":[],\"end\":30,\"events\":[],\"kind\":\"internal\",\"links\":[],",
+            "\"name\":\"s\",\"parent\":\"0000000000000000\",\"record\":1,",
+            "\"span\":\"0000000000000001\",\"start\":0,\"status\":\"unset\",",
+            "\"trace\":\"00000000000000000000000000000001\"}\n",
+            "{\"done\":true,\"open\":0,\"records\":1}\n",
+            "{\"line\":3,\"refused\":\"BadLine\"}\n",
+        ] {
+            want.push_str(piece)?;
+        }
+        assert_eq!(rt; out.as_slice(), want.as_bytes());
+        Ok(())
+    }
+}

@@ -1,0 +1,86 @@
+//! Ids in hexadecimal, written without an allocation.
+ghost use Rattle.std.specs.Prelude.{◌≡◌, ◌+◌, ◌<◌, ◌≤◌, [], ◌∷◌, ◌++◌, OnOk, drop, length, false};
+ghost use Rattle.std.specs.Fmt.{digit_glyph};
+ghost use Rattle.std.specs.Str.{IsUtf8};
+ghost use Rattle.json.specs.Token.{key, string};
+ghost use Rattle.trace_pipeline.specs.Hex.{hex16, hex32};
+
+use super::member::text_member;
+use json::Writer;
+use std::alloc::AllocError;
+
+/// Writes a member whose value is an id of 64 bits.
+pub fn id_member(out: &mut Writer, name: &str, id: u64) -> Result<(), AllocError>
+    ensures ok { OnOk result (out.new.tokens ≡ out.old.tokens ++ key name.now ∷ string (hex16 id) ∷ []) }
+    ensures before { out.new.before ≡ out.old.before }
+{
+    let digits = digits_of(id);
+    text_member(out, name, as_text(&digits))?;
+    Ok(())
+}
+
+/// Writes a member whose value is an id of 128 bits.
+pub fn long_id_member(out: &mut Writer, name: &str, id: u128) -> Result<(), AllocError>
+    ensures ok { OnOk result (out.new.tokens ≡ out.old.tokens ++ key name.now ∷ string (hex32 id) ∷ []) }
+    ensures before { out.new.before ≡ out.old.before }
+{
+    let digits = digits_of_long(id);
+    text_member(out, name, as_text(&digits))?;
+    Ok(())
+}
+
+// The digits as a text, without a copy.
+#[tactic(auto, using(crate::proofs::Hex::is_ok))]
+fn as_text(digits: &[u8]) -> &str
+    requires { IsUtf8 digits.now }
+    ensures { result.now ≡ digits.now }
+{
+    str::from_utf8(digits).unwrap()
+}
+
+#[tactic(auto, using(crate::proofs::Hex::whole_list))]
+fn digits_of(id: u64) -> [u8; 16]
+    ensures value { result ≡ hex16 id }
+    ensures utf8 { IsUtf8 result }
+{
+    let mut digits = [b'0'; 16];
+    put_digits(&mut digits, 0, id);
+    digits
+}
+
+#[tactic(auto, using(crate::proofs::Hex::both_halves))]
+fn digits_of_long(id: u128) -> [u8; 32]
+    ensures value { result ≡ hex32 id }
+    ensures utf8 { IsUtf8 result }
+{
+    let mut digits = [b'0'; 32];
+    put_digits(&mut digits, 16, (id % (1 << 64)) as u64);
+    put_digits(&mut digits, 0, (id / (1 << 64)) as u64);
+    digits
+}
+
+// Puts 16 digits at `start`, the last of them first.
+fn put_digits(digits: &mut [u8], start: usize, id: u64)
+    requires { start + 16 ≤ length digits.old }
+    ensures len { length digits.new ≡ length digits.old }
+    ensures from_start { drop start digits.new ≡ hex16 id ++ drop (start + 16) digits.old }
+{
+    let mut rest = id;
+    let mut at = start + 16;
+    while at > start {
+        at -= 1;
+        digits[at] = digit_of(rest % 16);
+        rest /= 16;
+    }
+}
+
+fn digit_of(value: u64) -> u8
+    requires { value < 16 }
+    ensures { result ≡ digit_glyph false value }
+{
+    if value < 10 {
+        b'0' + value as u8
+    } else {
+        b'a' + (value - 10) as u8
+    }
+}

@@ -1,0 +1,76 @@
+-- Where lines end.
+use Rattle.std.proofs.Common.{◌≡◌, ℕ, List, [], ◌∷◌, ◌++◌, refl, sym, ap, ◌∙◌, take, drop, length, get_or, ◌+◌, ◌-◌, ◌<◌, ◌≤◌, ◌==◌, arith, false, inl, inr, subst}
+use Rattle.std.proofs.lemmas.Bool.{cases_Bool, ne_eqb}
+use Rattle.std.proofs.lemmas.List.{take-append-drop, take_more, drop_more, take_rest, take_all}
+use Rattle.trace_pipeline.specs.Lines.{onto, lines_of}
+use Rattle.trace_tool.specs.Progress.{IsWhole}
+
+-- no byte is a line feed
+abbrev pub NoFeed : List ℕ → Type 0
+NoFeed [] = Unit {0}
+NoFeed (b ∷ bs) = ((b == 10) ≡ false) × NoFeed bs
+
+pub feedless_more : (bs : List ℕ) (b : ℕ) → NoFeed bs → (b ≡ 10 → ⊥) → NoFeed (bs ++ b ∷ [])
+feedless_more [] b none other = (ne_eqb b 10 other, tt)
+feedless_more (c ∷ bs) b none other = (none.0, feedless_more bs b none.1 other)
+
+-- the step of a search for a line feed
+pub feedless_on : (bs : List ℕ) (at : ℕ) → at < length bs → NoFeed (take at bs) → (get_or bs at 0 ≡ 10 → ⊥) → NoFeed (take (at + 1) bs)
+feedless_on bs at within none other = rw (take_more bs at 0 within) (feedless_more (take at bs) (get_or bs at 0) none other)
+
+ended_line : (line rest : List ℕ) → NoFeed line → lines_of (line ++ 10 ∷ rest) ≡ line ∷ lines_of rest
+ended_line [] rest none = refl
+ended_line (b ∷ bs) rest none = rw none.0 (ap (onto b) (ended_line bs rest none.1))
+
+last_line : (b : ℕ) (bs : List ℕ) → NoFeed (b ∷ bs) → lines_of (b ∷ bs) ≡ (b ∷ bs) ∷ []
+last_line b [] none = rw none.0 refl
+last_line b (c ∷ bs) none = rw none.0 (ap (onto b) (last_line c bs none.1))
+
+-- the only line, where no line feed comes
+pub only_line : (bytes : List ℕ) → 0 < length bytes → NoFeed bytes → lines_of bytes ≡ bytes ∷ []
+only_line [] some none = absurd (omega (arith, some))
+only_line (b ∷ bs) some none = last_line b bs none
+
+-- the first line, where a line feed ends it
+pub fed_line : (bytes : List ℕ) (at : ℕ) → NoFeed (take at bytes) → at < length bytes → get_or bytes at 0 ≡ 10
+    → lines_of bytes ≡ take at bytes ∷ lines_of (take (length bytes - (at + 1)) (drop (at + 1) bytes))
+fed_line bytes at none within feed =
+    rw (take_rest bytes (at + 1)) (ap lines_of (sym (take-append-drop at bytes) ∙ ap (λ (r : List ℕ). take at bytes ++ r) (drop_more bytes at 0 within ∙ ap (λ (b : ℕ). b ∷ drop (at + 1) bytes) feed))
+    ∙ ended_line (take at bytes) (drop (at + 1) bytes) none)
+
+onto_front : (b : ℕ) (front more : List (List ℕ)) → 0 < length front → onto b (front ++ more) ≡ onto b front ++ more
+onto_front b [] more some = absurd (omega (arith, some))
+onto_front b (line ∷ lines) more some = refl
+
+onto_some : (b : ℕ) (lines : List (List ℕ)) → 0 < length (onto b lines)
+onto_some b [] = omega arith
+onto_some b (line ∷ lines) = omega arith
+
+fed_some : (bs : List ℕ) → 0 < length (lines_of (bs ++ 10 ∷ []))
+fed_some [] = omega arith
+fed_some (b ∷ bs) = elim (cases_Bool (b == 10)) [
+  | inl is ↦ rw is (omega arith)
+  | inr is ↦ rw is (onto_some b (lines_of (bs ++ 10 ∷ [])))
+]
+
+fed_whole : (bs tail : List ℕ) → lines_of (bs ++ 10 ∷ [] ++ tail) ≡ lines_of (bs ++ 10 ∷ []) ++ lines_of tail
+fed_whole [] tail = refl
+fed_whole (b ∷ bs) tail = elim (cases_Bool (b == 10)) [
+  | inl is ↦ rw is (ap (λ (ls : List (List ℕ)). [] ∷ ls) (fed_whole bs tail))
+  | inr is ↦ rw is (ap (onto b) (fed_whole bs tail) ∙ onto_front b (lines_of (bs ++ 10 ∷ [])) (lines_of tail) (fed_some bs))
+]
+
+pub none_whole : IsWhole []
+none_whole tail = refl
+
+-- what ends by a line feed is whole
+pub front_whole : (bytes : List ℕ) (at : ℕ) → 0 < at → at ≤ length bytes → get_or bytes (at - 1) 0 ≡ 10 → IsWhole (take at bytes)
+front_whole bytes at some within feed tail =
+    let last : take (at - 1 + 1) bytes ≡ take (at - 1) bytes ++ 10 ∷ [] =
+    take_more bytes (at - 1) 0 (omega arith) ∙ ap (λ (b : ℕ). take (at - 1) bytes ++ b ∷ []) feed in
+    let back : at - 1 + 1 ≡ at = omega arith in
+    let front : take at bytes ≡ take (at - 1) bytes ++ 10 ∷ [] = sym (ap (λ (n : ℕ). take n bytes) back) ∙ last in
+    rw front (fed_whole (take (at - 1) bytes) tail)
+
+pub only_taken : (bytes : List ℕ) → 0 < length bytes → NoFeed (take (length bytes) bytes) → lines_of bytes ≡ bytes ∷ []
+only_taken bytes some none = only_line bytes some (subst NoFeed (take_all (length bytes) bytes (omega arith)) none)

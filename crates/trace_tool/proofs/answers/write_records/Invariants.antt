@@ -1,0 +1,13 @@
+use Rattle.std.proofs.Common.{◌≡◌, ◌+◌, ◌++◌, length}
+use Rattle.trace_pipeline.specs.Report.{record_lines}
+use Rattle.trace_tool.proofs.answers.write_records.Given as goal
+
+abbrev pub invariant-loop-finished : goal.invariant-loop-finished
+invariant-loop-finished l = record {
+  lines : l.text.items ++ record_lines (l.records + 1) l.pipeline.finished ≡ l.initial.text.items ++ record_lines (l.initial.records + 1) l.initial.pipeline.finished;
+  count : l.records + length l.pipeline.finished ≡ l.initial.records + length l.initial.pipeline.finished;
+  state : l.pipeline.state ≡ l.initial.pipeline.state;
+}
+
+abbrev pub decreases-loop-finished : goal.decreases-loop-finished
+decreases-loop-finished l = length l.pipeline.finished

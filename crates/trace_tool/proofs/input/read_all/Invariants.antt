@@ -1,0 +1,12 @@
+use Rattle.std.proofs.Common.{◌+◌, ◌-◌, ◌^◌, ◌≤◌, length}
+use Rattle.trace_tool.specs.Streams.{Takes}
+use Rattle.trace_tool.proofs.input.read_all.Given as goal
+
+abbrev pub invariant-loop-block : goal.invariant-loop-block
+invariant-loop-block g l = record {
+  told : Takes (g.R.Source.left l.fn.source) (g.R.Source.left l.source) l.bytes.items;
+  count : g.R.Source.faults l.fn.source ≤ g.R.Source.faults l.source;
+}
+
+abbrev pub decreases-loop-block : goal.decreases-loop-block
+decreases-loop-block g l = 2 ^ 26 + 1 - length l.bytes.items

@@ -1,0 +1,28 @@
+-- What a source gives and a sink takes, where its bytes are told, and how counts of faults go.
+use Rattle.std.specs.Prelude.{◌≡◌, ℕ, ◌-◌, ◌^◌, ◌<◌, List, ◌++◌, Option, Some, None}
+
+-- the count rises, unless it stands at its greatest value
+abbrev pub Rises : ℕ → ℕ → Type 0
+Rises before now = before < 2 ^ 64 - 1 → before < now
+
+-- no fault was counted, and one would have been
+abbrev pub IsQuiet : ℕ → ℕ → Type 0
+IsQuiet before now = (before < 2 ^ 64 - 1) × (now ≡ before)
+
+-- told bytes begin with the bytes, and lose them
+abbrev pub Takes : Option (List ℕ) → Option (List ℕ) → List ℕ → Type 0
+Takes None new bytes = Unit {0}
+Takes (Some xs) new bytes = (ys : List ℕ) × (new ≡ Some ys) × (xs ≡ bytes ++ ys)
+
+-- told bytes grow by the bytes
+abbrev pub Puts : Option (List ℕ) → Option (List ℕ) → List ℕ → Type 0
+Puts None new bytes = Unit {0}
+Puts (Some xs) new bytes = new ≡ Some (xs ++ bytes)
+
+-- a text is a front of the bytes
+abbrev pub IsFront : List ℕ → List ℕ → Type 0
+IsFront text bytes = (rest : List ℕ) × (bytes ≡ text ++ rest)
+
+-- told bytes grow by a front of the bytes
+abbrev pub PutsFront : Option (List ℕ) → Option (List ℕ) → List ℕ → Type 0
+PutsFront old new bytes = (front : List ℕ) × IsFront front bytes × Puts old new front

@@ -1,0 +1,69 @@
+//! The input of a run, which is read before its first line is handled.
+ghost use Rattle.std.specs.Prelude.{◌≡◌, ◌^◌, ◌<◌, ◌≤◌, length, IfOk, vec_len};
+ghost use Rattle.std.specs.Io.KnownBytes.{IsAtEnd};
+ghost use Rattle.trace_tool.specs.Streams.{Rises, Takes};
+
+use crate::failed::Failed;
+use crate::source::Source;
+use otel_base::memory::Memory;
+use std::alloc::{AllocError, Global};
+
+/// The most bytes that an input may have.
+pub const MAX_INPUT: usize = 67_108_864;
+
+// How many bytes are asked for at once.
+const BLOCK: usize = 65_536;
+
+/// How the reading of an input ended.
+#[derive(Clone, Copy, Debug, PartialEq, Eq)]
+pub enum End {
+    /// At the input's end.
+    Whole,
+    /// At a read that failed.
+    Fault,
+    /// Past the most bytes that an input may have.
+    TooLong,
+}
+
+/// What was read of an input.
+#[derive(Drop)]
+pub struct Input {
+    pub bytes: Vec<u8>,
+    pub end: End,
+}
+
+/// Reads the source to its end, to a fault, or until more was read than an input may have.
+pub fn read_all<R: Source>(alloc: Global, source: &mut R) -> Result<Input, Memory>
+    ensures bytes { IfOk result (λ input. Takes (R.left source.old) (R.left source.new) input.bytes.items) }
+    ensures whole { IfOk result (λ input. input.end ≡ End.Whole → IsAtEnd (R.left source.new)) }
+    ensures short { IfOk result (λ input. input.end ≡ End.Whole → length input.bytes.items ≤ 2 ^ 26) }
+    ensures long { IfOk result (λ input. input.end ≡ End.TooLong → 2 ^ 26 < length input.bytes.items) }
+    ensures fault { IfOk result (λ input. input.end ≡ End.Fault → Rises (R.faults source.old) (R.faults source.new)) }
+    ensures count { R.faults source.old ≤ R.faults source.new }
+{
+    let mut bytes = Vec::new(alloc);
+    let mut room = zeros(alloc, BLOCK)?;
+    let block = room.as_mut_slice();
+    while bytes.len() <= MAX_INPUT {
+        match source.read(block) {
+            Ok(0) => {
+                let end = End::Whole;
+                return Ok(Input { bytes, end });
+            }
+            Ok(count) => bytes.extend_from_slice(&block[..count])?,
+            Err(Failed) => {
+                let end = End::Fault;
+                return Ok(Input { bytes, end });
+            }
+        }
+    }
+    let end = End::TooLong;
+    Ok(Input { bytes, end })
+}
+
+// So many zeros.
+fn zeros(alloc: Global, size: usize) -> Result<Vec<u8>, AllocError>
+    ensures { IfOk result (λ room. vec_len room ≡ size) }
+{
+    vec![in alloc; 0u8; size]
+}

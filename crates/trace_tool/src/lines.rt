@@ -1,0 +1,53 @@
+//! The lines of some bytes.
+ghost use Rattle.std.specs.Prelude.{◌≡◌, ◌∷◌, ◌++◌, ◌<◌, length, drop};
+ghost use Rattle.trace_pipeline.specs.Lines.{lines_of, is_space, is_blank};
+ghost use Rattle.trace_tool.specs.Progress.{IsWhole};
+
+/// The first line, without its line feed, and the bytes after it.
+#[tactic(auto, using(crate::proofs::Feeds::feedless_on, crate::proofs::Feeds::fed_line, crate::proofs::Feeds::only_taken))]
+pub fn first_line(bytes: &[u8]) -> (&[u8], &[u8])
+    requires { 0 < length bytes.now }
+    ensures lines { lines_of bytes.now ≡ result.0.now ∷ lines_of result.1.now }
+    ensures shorter { length result.1.now < length bytes.now }
+{
+    for (at, byte) in bytes.iter().enumerate() {
+        if *byte == b'\n' {
+            return (&bytes[..at], &bytes[at + 1..]);
+        }
+    }
+    (bytes, &[])
+}
+
+/// The lines at the front that end by a line feed.
+#[tactic(auto, using(crate::proofs::Feeds::front_whole, crate::proofs::Feeds::none_whole))]
+pub fn whole_lines(bytes: &[u8]) -> &[u8]
+    ensures front { bytes.now ≡ result.now ++ drop (length result.now) bytes.now }
+    ensures whole { IsWhole result.now }
+{
+    let mut at = bytes.len();
+    while at > 0 {
+        if bytes[at - 1] == b'\n' {
+            return &bytes[..at];
+        }
+        at -= 1;
+    }
+    &[]
+}
+
+/// Whether the line is left out.
+pub fn is_blank(line: &[u8]) -> bool
+    ensures { result ≡ is_blank line.now }
+{
+    for byte in line {
+        if !is_space(*byte) {
+            return false;
+        }
+    }
+    true
+}
+
+fn is_space(byte: u8) -> bool
+    ensures { result ≡ is_space byte }
+{
+    byte == b' ' || byte == b'\t' || byte == b'\r'
+}

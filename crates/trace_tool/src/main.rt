@@ -1,0 +1,46 @@
+//! Runs scripts of span calls: it reads a settings line and requests, and writes replies and records.
+#![tactic(auto)]
+
+mod answers;
+mod failed;
+mod input;
+mod lines;
+mod script;
+mod sink;
+mod source;
+mod status;
+#[cfg(test)]
+mod tests;
+mod top;
+
+use crate::sink::StdSink;
+use crate::source::StdSource;
+use crate::status::Status;
+use crate::top::top;
+use std::env;
+use std::io::{self, ErrorKind};
+use std::process::ExitCode;
+
+fn main(rt: HostRuntime) -> ExitCode {
+    let status = match words(&rt) {
+        Ok(words) => {
+            let mut source = StdSource::new(rt.stdin());
+            let mut sink = StdSink::new(rt.stdout());
+            top(&rt, rt.alloc(), words.as_slice(), &mut source, &mut sink)
+        }
+        Err(error) if error.kind() == ErrorKind::OutOfMemory => Status::Memory,
+        Err(_) => Status::Usage,
+    };
+    ExitCode::from(status.number())
+}
+
+// The arguments after the program's name.
+fn words(rt: &HostRuntime) -> io::Result<Vec<String>> {
+    let mut args = env::args(rt)?;
+    args.next();
+    let mut words = Vec::new(rt.alloc());
+    for word in args {
+        words.push(word)?;
+    }
+    Ok(words)
+}

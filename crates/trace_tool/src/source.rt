@@ -1,0 +1,89 @@
+//! Sources: where a run's input comes from.
+ghost use Rattle.std.specs.Prelude.{◌≡◌, ℕ, ◌<◌, ◌≤◌, List, [], Option, Some, length, take, IfOk, OnErr};
+ghost use Rattle.std.specs.Io.KnownBytes.{IsAtEnd};
+ghost use Rattle.trace_tool.specs.Streams.{Rises, Takes};
+
+use crate::failed::Failed;
+use std::io::{ErrorKind, Read};
+
+/// Gives bytes, one read after another, and counts its faults.
+pub trait Source {
+    /// The bytes that are left, where they are told.
+    ghost left: { Self → Option (List ℕ) };
+
+    /// How many reads failed.
+    ghost faults: { Self → ℕ };
+
+    /// Reads some bytes to the start of `buf`, and answers how many. None is the end.
+    fn read(&mut self, buf: &mut [u8]) -> Result<usize, Failed>
+        ensures bound { IfOk result (λ n. n ≤ length buf.new) }
+        ensures bytes { IfOk result (λ n. Takes (left self.old) (left self.new) (take n buf.new)) }
+        ensures end { IfOk result (λ n. n ≡ 0 → 0 < length buf.new → IsAtEnd (left self.new)) }
+        ensures kept { OnErr result (Takes (left self.old) (left self.new) []) }
+        ensures count { faults self.old ≤ faults self.new }
+        ensures cause { OnErr result (Rises (faults self.old) (faults self.new)) };
+}
+
+/// A source in memory, which is told and never fails.
+#[derive(Drop)]
+pub struct SureSource<'a> {
+    rest: &'a [u8],
+}
+
+impl<'a> SureSource<'a> {
+    /// A source of these bytes.
+    pub fn new(bytes: &'a [u8]) -> SureSource<'a>
+        ensures { result.rest.now ≡ bytes.now }
+    {
+        SureSource { rest: bytes }
+    }
+}
+
+impl<'a> Source for SureSource<'a> {
+    ghost left = { λ s. Some s.rest.now };
+
+    ghost faults = { λ _. 0 };
+
+    fn read(&mut self, buf: &mut [u8]) -> Result<usize, Failed> {
+        let count = buf.len().min(self.rest.len());
+        let (front, rest) = self.rest.split_at(count);
+        buf[..count].copy_from_slice(front);
+        self.rest = rest;
+        Ok(count)
+    }
+}
+
+/// A source over one of std's readers.
+#[derive(Drop)]
+pub struct StdSource<R> {
+    reader: R,
+    faults: u64,
+}
+
+impl<R: Read> StdSource<R> {
+    /// A source over this reader, before any fault.
+    pub fn new(reader: R) -> StdSource<R>
+        ensures reader { result.reader ≡ reader }
+        ensures faults { result.faults ≡ 0 }
+    {
+        StdSource { reader, faults: 0 }
+    }
+}
+
+impl<R: Read> Source for StdSource<R> {
+    ghost left = { λ s. R.remaining s.reader };
+
+    ghost faults = { λ s. s.faults };
+
+    fn read(&mut self, buf: &mut [u8]) -> Result<usize, Failed> {
+        for _ in 0..u64::MAX {
+            match self.reader.read(buf) {
+                Ok(count) => return Ok(count),
+                Err(error) if error.kind() == ErrorKind::Interrupted => {}
+                Err(_) => break,
+            }
+        }
+        self.faults = self.faults.saturating_add(1);
+        Err(Failed)
+    }
+}
