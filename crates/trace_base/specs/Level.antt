@@ -1,5 +1,5 @@
 -- Levels as numbers: how verbose a level is, and how verbose a filter lets it be.
-use Rattle.std.specs.Prelude.{ℕ, Bool, nat_le}
+use Rattle.std.specs.Prelude.{ℕ, List, Bool, nat_le, codes}
 use Rattle.trace_base.specs.declared.level.Level.{Level}
 use Rattle.trace_base.specs.declared.level.Level.TheVariants as level
 use Rattle.trace_base.specs.declared.level.LevelFilter.{LevelFilter}
@@ -25,3 +25,11 @@ greatest_verbosity filter.TRACE = 5
 -- a level is within a filter if it is no more verbose than the filter allows
 abbrev pub is_within : Level → LevelFilter → Bool
 is_within level filter = nat_le (verbosity level) (greatest_verbosity filter)
+
+-- a level's text, in upper case
+abbrev pub level_text : Level → List ℕ
+level_text level.ERROR = codes "ERROR"
+level_text level.WARN = codes "WARN"
+level_text level.INFO = codes "INFO"
+level_text level.DEBUG = codes "DEBUG"
+level_text level.TRACE = codes "TRACE"

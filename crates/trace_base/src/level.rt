@@ -1,6 +1,6 @@
 //! Levels of callsites, and the filters that levels are held against.
 ghost use Rattle.std.specs.Prelude.{◌≡◌};
-ghost use Rattle.trace_base.specs.Level.{verbosity, greatest_verbosity, is_within};
+ghost use Rattle.trace_base.specs.Level.{verbosity, greatest_verbosity, is_within, level_text};
 
 /// How much a callsite tells, from the most urgent to the most verbose; `tracing_core::Level`.
 #[derive(Clone, Copy, PartialEq, Eq)]
@@ -34,6 +34,21 @@ impl Level {
             Level::INFO => 3,
             Level::DEBUG => 4,
             Level::TRACE => 5,
+        }
+    }
+}
+
+impl Level {
+    /// The level in upper case; `tracing_core::Level::as_str`.
+    pub fn as_str(self) -> &'static str
+        ensures { result.now ≡ level_text self }
+    {
+        match self {
+            Level::ERROR => "ERROR",
+            Level::WARN => "WARN",
+            Level::INFO => "INFO",
+            Level::DEBUG => "DEBUG",
+            Level::TRACE => "TRACE",
         }
     }
 }
@@ -76,5 +91,10 @@ mod tests {
         ] {
             assert_eq!(rt; filter.lets_through(level), wanted);
         }
+    }
+
+    #[test]
+    fn names_levels(rt: HostRuntime) {
+        assert_eq!(rt; Level::WARN.as_str(), "WARN");
     }
 }

@@ -18,13 +18,13 @@ pub record IsLineOf (n : ℕ) (line : Line) : Type 0 where
   pub once : (s : ℕ) → occurrences s line ≤ cond (nat_lt s n) 1 0
 
 -- The line of a span that is made after n others: its own number, and spans that are open.
-record IsNewLine (hs : List (Option Line)) (n : ℕ) (line : Line) : Type 0 where
-  fine : IsLineOf (n + 1) line
-  its_own : occurrences n line ≡ 1
-  others_open : (s : ℕ) → s < n → 0 < occurrences s line → is_open hs s ≡ true
+pub record IsNewLine (hs : List (Option Line)) (n : ℕ) (line : Line) : Type 0 where
+  pub fine : IsLineOf (n + 1) line
+  pub its_own : occurrences n line ≡ 1
+  pub others_open : (s : ℕ) → s < n → 0 < occurrences s line → is_open hs s ≡ true
 
 -- a root's line is one
-root_is_new : (hs : List (Option Line)) (n : ℕ) (line : Line) → line ≡ n ∷ [] → IsNewLine hs n line
+pub root_is_new : (hs : List (Option Line)) (n : ℕ) (line : Line) → line ≡ n ∷ [] → IsNewLine hs n line
 root_is_new hs n line root = subst (IsNewLine hs n) (sym root) (record {
   fine = record { once = λ s. (let one = occurs_cons s n [] in grind (arith, nat_tests, one)) };
   its_own = (let one = occurs_cons n n [] in grind (arith, nat_tests, one));
@@ -40,7 +40,7 @@ pub record Sound (hs : List (Option Line)) (gs : List (Option Guarded)) (n : ℕ
 -- ---- holds
 
 -- with one span more
-grown : (n : ℕ) (line : Line) → IsLineOf n line → IsLineOf (n + 1) line
+pub grown : (n : ℕ) (line : Line) → IsLineOf n line → IsLineOf (n + 1) line
 grown n line fine = record { once = λ s. (let one = fine.once s in grind (arith, nat_tests, one)) }
 
 the_line : (a line : Line) → ◌≡◌ {A = Option Line} (Some a) (Some line) → a ≡ line
@@ -123,11 +123,13 @@ sound settings _ none = record { named = λ k line there. absurd (cc there); kep
 sound settings _ (more h request e before is) =
     let now = sound settings h before in
     let after = by_effect settings h (SoundAfter h)
-    (λ at later. rw (append-nil (made h), append-nil (closed h)) (declined (handles h) (guards h) (length (made h)) (closed h) now))
-    (λ at site line later root. rw (length_push (made h) (record { site = site; line = line; at = at }), append-nil (closed h)) (made_sound (handles h) (guards h) (length (made h)) (closed h) now line (root_is_new (handles h) (length (made h)) line root)))
-    (λ at handle line later there. rw (append-nil (made h), append-nil (closed h)) (entered (handles h) (guards h) (length (made h)) (closed h) now handle line there))
-    (λ at guard guarded later there. rw (append-nil (made h), append-nil (closed h)) (exited (handles h) (guards h) (length (made h)) (closed h) now guard))
-    (λ at handle line later there. rw (append-nil (made h)) (dropped (handles h) (guards h) (length (made h)) (closed h) now handle line there))
+    (λ at lane later. rw (append-nil (made h), append-nil (closed h)) (declined (handles h) (guards h) (length (made h)) (closed h) now))
+    (λ at lane site line later root. rw (length_push (made h) (record { site = site; line = line; at = at }), append-nil (closed h)) (made_sound (handles h) (guards h) (length (made h)) (closed h) now line (root_is_new (handles h) (length (made h)) line root)))
+    (λ at lane handle line later there. rw (append-nil (made h), append-nil (closed h)) (entered (handles h) (guards h) (length (made h)) (closed h) now handle line there))
+    (λ at lane guard guarded later there. rw (append-nil (made h), append-nil (closed h)) (exited (handles h) (guards h) (length (made h)) (closed h) now guard))
+    (λ at lane is_error event s later. rw (append-nil (made h), append-nil (closed h)) now)
+    (λ at lane later. rw (append-nil (made h), append-nil (closed h)) now)
+    (λ at lane handle line later there. rw (append-nil (made h)) (dropped (handles h) (guards h) (length (made h)) (closed h) now handle line there))
     request e is in
     rw (handles_push h e, guards_push h e, made_push h e, closed_push h e) after
 

@@ -1,22 +1,26 @@
 -- What is kept fits the tables after a drop, and gives the record of the span that it closes.
-use Rattle.std.proofs.Common.{◌≡◌, ◌≢◌, ℕ, ◌+◌, ◌-◌, ◌^◌, ◌<◌, ◌≤◌, ◌||◌, List, [], ◌∷◌, ◌++◌, length, Bool, true, false, cond, Option, Some, None, option_map, unwrap_or, map, nat_lt, slice_set, refl, sym, ap, subst, ◌∙◌, arith, inl, inr}
+use Rattle.std.proofs.Common.{◌≡◌, ◌≢◌, ℕ, ◌+◌, ◌-◌, ◌^◌, ◌<◌, ◌≤◌, ◌||◌, ◌&&◌, List, [], ◌∷◌, ◌++◌, length, Bool, true, false, cond, Option, Some, None, option_map, unwrap_or, map, nat_lt, slice_set, refl, sym, ap, subst, ◌∙◌, arith, inl, inr}
 use Rattle.std.specs.Option.{option_map_or}
 use Rattle.std.proofs.lemmas.List.Sums.{sum_by-set}
-use Rattle.std.proofs.lemmas.List.{map-set, get_or-set_same, set-set, append-nil}
+use Rattle.std.proofs.lemmas.List.{map-set, length-set, get_or-set_same, set-set, append-nil}
 use Rattle.std.proofs.lemmas.Bool.{cases_eq, eq-eqb, ne_eqb, lt-ltb, le-ltb}
 use Rattle.otel_base.specs.declared.record.Record.{Record}
 use Rattle.trace_base.specs.declared.callsite.Callsite.{Callsite}
 use Rattle.trace_pipeline.specs.declared.names.Handle.TheVariants.{Enabled}
 use Rattle.trace_pipeline.specs.declared.span.Span.{Span}
 use Rattle.trace_pipeline.specs.History.{Line, Made, Guarded, slot_at, made_of, place_in, newly, holds, is_in, is_open, closed_of}
-use Rattle.trace_pipeline.specs.Ops.{Stamped, Start}
+use Rattle.trace_pipeline.specs.Ops.{Stamped, Start, events}
 use Rattle.trace_pipeline.specs.Content.{content}
-use Rattle.trace_pipeline.specs.Machine.{no_span, span_at, span_started, started_after, span_closed, spans_dropped, started_dropped, records_dropped, record_by, name_at, is_last, IsShort, idle_by}
-use Rattle.trace_pipeline.specs.Stands.{State, Fits, SpansFit, held, IsMade, IsTimed, handle_of, span_by, times_of, is_started}
+use Rattle.trace_pipeline.specs.Machine.{no_span, span_at, span_started, started_after, span_closed, spans_dropped, started_dropped, events_dropped, events_at, records_dropped, record_by, name_at, is_last, closes, IsShort, idle_by}
+use Rattle.trace_pipeline.specs.Stands.{State, Fits, SpansFit, EventsFit, has_error, held, IsMade, IsTimed, handle_of, span_by, times_of, is_started}
 use Rattle.trace_pipeline.proofs.Slots.{named_set, named_within, any_counted}
 use Rattle.trace_pipeline.proofs.Writing.{span_is, spans_written}
 use Rattle.trace_pipeline.proofs.Steps.{started_fit, with_starts}
-use Rattle.trace_pipeline.proofs.Fitting.{later_spans}
+use Rattle.trace_pipeline.proofs.Fitting.{later_spans, quiet, quiet_if}
+use Rattle.otel_base.specs.declared.record.OtelEvent.{OtelEvent}
+use Rattle.otel_base.specs.declared.status.Status.{Status}
+use Rattle.std.proofs.lemmas.List.{get_or-set_other}
+use Rattle.trace_pipeline.proofs.Telling.{status_is}
 
 pub held_set : (hs : List (Option Line)) (handle : ℕ) (line : Line) (t : ℕ) → slot_at hs handle ≡ Some line → held (slice_set hs handle None) t + cond (holds t (Some line)) 1 0 ≡ held hs t
 held_set hs handle line t there =
@@ -45,8 +49,8 @@ module _ (spans : List Span) (started : ℕ) (ms : List Made) (order : List ℕ)
       let e = fit.each s in
       rw (append-nil order)
       (spans_written spans started started ms order order below after os (dropped_ops os at []) last at guards guards s (record (span_at spans s) { holds = (span_at spans s).holds - 1 }) fit within
-      (span_is _ _ _ _ (span_at spans s).times (made_of ms s) (place_in order s) (after s) (dropped_ops os at [] s) (ap (λ (span : Span). span.site) e) (ap (λ (span : Span). span.made) e) (ap (λ (span : Span). span.id) e)
-      (let holds = ap (λ (span : Span). span.holds) e in omega (arith, holds, here)) (ap (λ (span : Span). span.times) e ∙ ap times_of (sym (append-nil (os s)))))
+      (span_is _ _ _ _ (span_at spans s).failed (span_at spans s).times (made_of ms s) (place_in order s) (after s) (dropped_ops os at [] s) (ap (λ (span : Span). span.site) e) (ap (λ (span : Span). span.made) e) (ap (λ (span : Span). span.id) e)
+      (let holds = ap (λ (span : Span). span.holds) e in omega (arith, holds, here)) (ap (λ (span : Span). span.failed) e ∙ ap has_error (sym (append-nil (os s)))) (ap (λ (span : Span). span.times) e ∙ ap times_of (sym (append-nil (os s)))))
       (λ t other. refl) others (λ t other. append-nil (os t))
       fit.starts refl (record { busy_in = (fit.timed s).busy_in; last_in = omega (arith, (fit.timed s).last_in); left_in = (fit.timed s).left_in; entered_in = (fit.timed s).entered_in }) before (omega arith))
 
@@ -61,14 +65,15 @@ module _ (spans : List Span) (started : ℕ) (ms : List Made) (order : List ℕ)
       let e = sym read ∙ starts.each s in
       let written = spans_written (slice_set spans s first) (started_after started (span_at spans s)) (started_after started (span_at spans s)) ms (order ++ fresh) (order ++ fresh) below after
       (with_starts spans started ms order below os last at guards s fit within before early fresh) (dropped_ops os at fresh) at at guards guards s x starts within
-      (span_is _ _ _ _ first.times (made_of ms s) (place_in (order ++ fresh) s) (after s) (dropped_ops os at fresh s) (ap (λ (span : Span). span.site) e) (ap (λ (span : Span). span.made) e) (ap (λ (span : Span). span.id) e) (sym none)
+      (span_is _ _ _ _ first.failed first.times (made_of ms s) (place_in (order ++ fresh) s) (after s) (dropped_ops os at fresh s) (ap (λ (span : Span). span.site) e) (ap (λ (span : Span). span.made) e) (ap (λ (span : Span). span.id) e) (sym none)
+      (ap (λ (span : Span). span.failed) e ∙ ap (λ more. has_error (os s ++ more)) (sym (append-nil (cond (is_in s fresh) (record { at = at; op = Start } ∷ []) []))))
       (ap (λ (span : Span). span.times) e ∙ ap (λ more. times_of (os s ++ more)) (sym (append-nil (cond (is_in s fresh) (record { at = at; op = Start } ∷ []) [])))))
       (λ t other. refl) others (λ t other. ap (λ more. os t ++ more) (append-nil (cond (is_in t fresh) (record { at = at; op = Start } ∷ []) [])))
       starts.starts (ap (λ (span : Span). started_after started (span_at spans s) + cond (is_started span) 1 0) read) (subst (λ (span : Span). IsTimed span.times at guards) read (starts.timed s)) (omega arith) (omega arith) in
       subst (λ xs. SpansFit xs (started_after started (span_at spans s)) ms (order ++ fresh) after (dropped_ops os at fresh) at guards) (set-set spans s first x) written
 
-module _ (k : State) (hs : List (Option Line)) (gs : List (Option Guarded)) (ms : List Made) (order : List ℕ) (os : ℕ → List Stamped) (last at handle : ℕ)
-    (fits : Fits k hs gs ms order os last) (before : last ≤ at) (early : at < 2 ^ 63) (short : length k.spans < 2 ^ 64) where
+module _ (k : State) (hs : List (Option Line)) (gs : List (Option Guarded)) (ms : List Made) (order : List ℕ) (os : ℕ → List Stamped) (es : List ℕ) (last at handle : ℕ)
+    (fits : Fits k hs gs ms order os es last) (before : last ≤ at) (early : at < 2 ^ 63) (short : length k.spans < 2 ^ 64) where
   left : List (Option Line)
   left = slice_set hs handle None
 
@@ -118,21 +123,64 @@ module _ (k : State) (hs : List (Option Line)) (gs : List (Option Guarded)) (ms 
         starts = fit.starts;
         placed = fit.placed;
         timed = fit.timed;
+        unmade = λ t past. append-nil (os t) ∙ fit.unmade t past;
       }
   dropped_line (s ∷ line) made there =
       subst (λ rest. DroppedSpans (s ∷ rest)) (sym made.1) (dropped_one s made.0 (there ∙ ap (λ (rest : Line). Some (s ∷ rest)) made.1))
 
+  and_false : (b : Bool) → (b && false) ≡ false
+  and_false true = refl
+  and_false false = refl
+
+  -- a span that some handle still holds doesn't close
+  still_held : (s : ℕ) (line : Line) → IsMade (length ms) (s ∷ line) → slot_at hs handle ≡ Some (s ∷ line) → 0 < held (slice_set hs handle None) s → closes s k.spans ≡ false
+  still_held s line made there some =
+      let less = one_less s (there ∙ ap (λ (rest : Line). Some (s ∷ rest)) made.1) in
+      let were = holds_are s in
+      ap (λ b. nat_lt s (length k.spans) && b) (le-ltb (span_at k.spans s).holds 2 (omega (arith, less, were, some))) ∙ and_false (nat_lt s (length k.spans))
+
+  -- the events of the spans that some handle still holds stay
+  dropped_events : (line : Line) → IsMade (length ms) line → slot_at hs handle ≡ Some line
+      → EventsFit (events_dropped (handle_of line) k.spans k.events) (length ms) (held (slice_set hs handle None)) (dropped_ops os at (newly order (closed_of (slice_set hs handle None) line)))
+  dropped_events line made there = record {
+    count = by_count line ∙ fits.events_fit.count;
+    each = λ t some. by_line line made there t some ∙ sym (quiet (os t) _ (ap events (append-nil (cond (is_in t (newly order (closed_of (slice_set hs handle None) line))) (record { at = at; op = Start } ∷ []) []))
+        ∙ quiet_if (is_in t (newly order (closed_of (slice_set hs handle None) line))) (record { at = at; op = Start }) refl));
+  }
+    where
+      count_if : (b : Bool) (s : ℕ) → length (cond b (slice_set k.events s []) k.events) ≡ length k.events
+      count_if true s = length-set k.events s []
+      count_if false s = refl
+
+      by_count : (line : Line) → length (events_dropped (handle_of line) k.spans k.events) ≡ length k.events
+      by_count [] = refl
+      by_count (s ∷ line) = count_if (closes s k.spans) s
+
+      other_if : (b : Bool) (s t : ℕ) → t ≢ s → events_at (cond b (slice_set k.events s []) k.events) t ≡ events_at k.events t
+      other_if true s t other = get_or-set_other k.events s t [] [] other
+      other_if false s t other = refl
+
+      by_line : (line : Line) → IsMade (length ms) line → slot_at hs handle ≡ Some line → (t : ℕ) → 0 < held (slice_set hs handle None) t → events_at (events_dropped (handle_of line) k.spans k.events) t ≡ events (os t)
+      by_line [] made there t some = fits.events_fit.each t (let change = held_set hs handle [] t there in omega (arith, change))
+      by_line (s ∷ line) made there t some = elim (cases_eq t s) [
+        | inl same ↦ (let kept = still_held s line made there (subst (λ n. 0 < held (slice_set hs handle None) n) same some) in
+            ap (λ (xs : List (List OtelEvent)). events_at xs t) (ap (λ b. cond b (slice_set k.events s []) k.events) kept)
+            ∙ fits.events_fit.each t (let change = held_set hs handle (s ∷ line) t there in omega (arith, change)))
+        | inr other ↦ other_if (closes s k.spans) s t other ∙ fits.events_fit.each t (let change = held_set hs handle (s ∷ line) t there in omega (arith, change))
+      ]
+
   pub fits_dropped : (line : Line) → slot_at hs handle ≡ Some line
-      → Fits (record k { handles = slice_set k.handles handle None; spans = spans_dropped k.started at (handle_of line) k.spans; started = started_dropped k.started (handle_of line) k.spans; moment = at })
-      (slice_set hs handle None) gs ms (order ++ newly order (closed_of (slice_set hs handle None) line)) (dropped_ops os at (newly order (closed_of (slice_set hs handle None) line))) at
+      → Fits (record k { handles = slice_set k.handles handle None; spans = spans_dropped k.started at (handle_of line) k.spans; started = started_dropped k.started (handle_of line) k.spans; events = events_dropped (handle_of line) k.spans k.events; moment = at })
+      (slice_set hs handle None) gs ms (order ++ newly order (closed_of (slice_set hs handle None) line)) (dropped_ops os at (newly order (closed_of (slice_set hs handle None) line))) es at
   fits_dropped line there = record {
     handle_slots = ap (λ xs. slice_set xs handle None) fits.handle_slots ∙ sym (map-set (option_map handle_of) hs handle None);
-    guard_slots = fits.guard_slots;
-    guard_count = fits.guard_count;
+    guards_fit = fits.guards_fit;
     spans_fit = dropped_line line (fits.named handle line there) there;
+    events_fit = dropped_events line (fits.named handle line there) there;
     latest = refl;
     named = λ n l e. fits.named n l (named_set hs handle n l e);
     kept = fits.kept;
+    lines = fits.lines;
     early = early;
   }
 
@@ -143,7 +191,7 @@ module _ (k : State) (hs : List (Option Line)) (gs : List (Option Guarded)) (ms 
   record_after callsites starts t = content (name_at callsites (made_of ms t).site) (made_of ms t).at (place_in (order ++ starts) t) (dropped_ops os at starts t) at
 
   record_one : (callsites : List Callsite) (s : ℕ) → s < length ms → slot_at hs handle ≡ Some (s ∷ [])
-      → records_dropped callsites k.started at (Enabled s) k.spans ≡ map (record_after callsites (newly order (closed_of (slice_set hs handle None) (s ∷ [])))) (closed_of (slice_set hs handle None) (s ∷ []))
+      → records_dropped callsites k.started at (Enabled s) k.spans k.events ≡ map (record_after callsites (newly order (closed_of (slice_set hs handle None) (s ∷ [])))) (closed_of (slice_set hs handle None) (s ∷ []))
   record_one callsites s within there =
       let open_now = any_counted (holds s) (slice_set hs handle None) in
       let less = one_less s there in
@@ -156,9 +204,14 @@ module _ (k : State) (hs : List (Option Line)) (gs : List (Option Guarded)) (ms 
             let fit = closes_fit k.spans k.started ms order (held hs) (held (slice_set hs handle None)) os last at (length gs) s fits.spans_fit within before early short less (same_others s there) none in
             let mine = sym (get_or-set_same k.spans s (span_closed k.started at (span_at k.spans s)) no_span inside) ∙ fit.each s in
             let site = ap (λ (span : Span). span.site) (fits.spans_fit.each s) in
+            let fresh = newly order (s ∷ []) in
+            let after_close = span_by (made_of ms s) (place_in (order ++ fresh) s) (held (slice_set hs handle None) s) (dropped_ops os at fresh s) in
+            let told = fits.events_fit.each s (omega (arith, less, none)) ∙ sym (quiet (os s) _ (ap events (append-nil (cond (is_in s fresh) (record { at = at; op = Start } ∷ []) [])) ∙ quiet_if (is_in s fresh) (record { at = at; op = Start }) refl)) in
             rw (last_one, shut, lt-ltb s (length k.spans) inside)
-            (ap (λ n. record_by (name_at callsites n) (span_closed k.started at (span_at k.spans s)) at ∷ []) site
-            ∙ ap (λ span. record_by (name_at callsites (made_of ms s).site) span at ∷ []) mine))
+            (ap (λ n. record_by (name_at callsites n) (span_closed k.started at (span_at k.spans s)) (events_at k.events s) at ∷ []) site
+            ∙ ap (λ span. record_by (name_at callsites (made_of ms s).site) span (events_at k.events s) at ∷ []) mine
+            ∙ ap (λ (told : List OtelEvent). record_by (name_at callsites (made_of ms s).site) after_close told at ∷ []) told
+            ∙ ap (λ (v : Status). record (content (name_at callsites (made_of ms s).site) (made_of ms s).at (place_in (order ++ fresh) s) (dropped_ops os at fresh s) at) { status = v } ∷ []) (sym (status_is (dropped_ops os at fresh s)))))
         | inr some ↦
             (let not_last : is_last (span_at k.spans s) ≡ false = le-ltb _ 2 (omega (arith, less, were, some)) in
             let still : is_open (slice_set hs handle None) s ≡ true = open_now ∙ lt-ltb 0 _ (omega (arith, some)) in
@@ -167,14 +220,14 @@ module _ (k : State) (hs : List (Option Line)) (gs : List (Option Guarded)) (ms 
 
   -- the records that the code makes are those of the spans that close
   pub records_after : (callsites : List Callsite) (line : Line) → slot_at hs handle ≡ Some line
-      → records_dropped callsites k.started at (handle_of line) k.spans ≡ map (record_after callsites (newly order (closed_of (slice_set hs handle None) line))) (closed_of (slice_set hs handle None) line)
+      → records_dropped callsites k.started at (handle_of line) k.spans k.events ≡ map (record_after callsites (newly order (closed_of (slice_set hs handle None) line))) (closed_of (slice_set hs handle None) line)
   records_after callsites line there = by_line line (fits.named handle line there) there
     where
       by_line : (line : Line) → IsMade (length ms) line → slot_at hs handle ≡ Some line
-          → records_dropped callsites k.started at (handle_of line) k.spans ≡ map (record_after callsites (newly order (closed_of (slice_set hs handle None) line))) (closed_of (slice_set hs handle None) line)
+          → records_dropped callsites k.started at (handle_of line) k.spans k.events ≡ map (record_after callsites (newly order (closed_of (slice_set hs handle None) line))) (closed_of (slice_set hs handle None) line)
       by_line [] made there = refl
       by_line (s ∷ line) made there =
-          subst (λ (rest : Line). records_dropped callsites k.started at (Enabled s) k.spans ≡ map (record_after callsites (newly order (closed_of (slice_set hs handle None) (s ∷ rest)))) (closed_of (slice_set hs handle None) (s ∷ rest)))
+          subst (λ (rest : Line). records_dropped callsites k.started at (Enabled s) k.spans k.events ≡ map (record_after callsites (newly order (closed_of (slice_set hs handle None) (s ∷ rest)))) (closed_of (slice_set hs handle None) (s ∷ rest)))
           (sym made.1) (record_one callsites s made.0 (there ∙ ap (λ (rest : Line). Some (s ∷ rest)) made.1))
 
   idle_short : (span : Span) → IsTimed span.times at (length gs) → idle_by span < 2 ^ 63

@@ -1,6 +1,7 @@
 pub mod Slots
 pub mod Tables
 pub mod Timing
+pub mod Telling
 pub mod Writing
 pub mod Steps
 pub mod Fitting

@@ -19,11 +19,13 @@ record StartsNewly (h : History) (e : Effect) : Type 0 where
 
 starts_newly : (settings : Settings) (h : History) (request : Request) (e : Effect) → effect_of settings h request ≡ Ok e → StartsNewly h e
 starts_newly settings h = by_effect settings h (StartsNewly h)
-    (λ at later. record { candidates = []; newly_is = refl; closed_among = λ s some. some })
-    (λ at site line later root. record { candidates = []; newly_is = refl; closed_among = λ s some. some })
-    (λ at handle line later there. record { candidates = own line; newly_is = refl; closed_among = λ s some. absurd (omega arith) })
-    (λ at guard guarded later there. record { candidates = []; newly_is = refl; closed_among = λ s some. some })
-    (λ at handle line later there. record { candidates = closed_of (slice_set (handles h) handle None) line; newly_is = refl; closed_among = λ s some. some })
+    (λ at lane later. record { candidates = []; newly_is = refl; closed_among = λ s some. some })
+    (λ at lane site line later root. record { candidates = []; newly_is = refl; closed_among = λ s some. some })
+    (λ at lane handle line later there. record { candidates = own line; newly_is = refl; closed_among = λ s some. absurd (omega arith) })
+    (λ at lane guard guarded later there. record { candidates = []; newly_is = refl; closed_among = λ s some. some })
+    (λ at lane is_error event s later. record { candidates = []; newly_is = refl; closed_among = λ s some. some })
+    (λ at lane later. record { candidates = []; newly_is = refl; closed_among = λ s some. some })
+    (λ at lane handle line later there. record { candidates = closed_of (slice_set (handles h) handle None) line; newly_is = refl; closed_among = λ s some. some })
 
 -- Each span stands there at most once.
 pub starts_once : (settings : Settings) (h : History) (s : ℕ) → IsHistory settings h → occurrences s (started h) ≤ 1

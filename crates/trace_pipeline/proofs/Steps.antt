@@ -7,11 +7,13 @@ use Rattle.std.proofs.lemmas.Bool.Decides.{nat_tests}
 use Rattle.trace_pipeline.specs.declared.span.Span.{Span}
 use Rattle.trace_pipeline.specs.declared.times.Times.{Times}
 use Rattle.trace_pipeline.specs.History.{Made, made_of, place_in, newly, is_in}
-use Rattle.trace_pipeline.specs.Ops.{Stamped, Start, Enter, Exit, on}
-use Rattle.trace_pipeline.specs.Machine.{no_span, span_at, capped, times_at, started_after, span_started, span_entered, span_exited}
-use Rattle.trace_pipeline.specs.Stands.{SpansFit, span_by, times_of, is_started}
+use Rattle.otel_base.specs.declared.record.OtelEvent.{OtelEvent}
+use Rattle.trace_pipeline.specs.Ops.{Stamped, Start, Enter, Exit, Event, is_error_event, on}
+use Rattle.trace_pipeline.specs.Machine.{no_span, span_at, capped, times_at, started_after, span_started, span_entered, span_exited, span_told}
+use Rattle.trace_pipeline.specs.Stands.{SpansFit, span_by, times_of, is_started, has_error}
 use Rattle.trace_pipeline.proofs.Tables.{place_new, place_more}
-use Rattle.trace_pipeline.proofs.Timing.{timed, times_push, times_started, started_in_time, times_entered, entered_in_time, times_exited, exited_in_time, entered_at, exited_at}
+use Rattle.trace_pipeline.proofs.Timing.{timed, times_push, times_started, started_in_time, times_told, times_entered, entered_in_time, times_exited, exited_in_time, entered_at, exited_at}
+use Rattle.trace_pipeline.proofs.Telling.{error_push, or_false}
 use Rattle.trace_pipeline.proofs.Writing.{span_is, spans_written}
 
 -- an op on s alone
@@ -35,6 +37,10 @@ count_below p (x ∷ xs) (suc i) d within fails = let more = sum_by-cons (λ x. 
     at_most_one false = omega arith
 
 module _ (spans : List Span) (started : ℕ) (ms : List Made) (order : List ℕ) (below : ℕ → ℕ) (os : ℕ → List Stamped) (last at guards s : ℕ) (fit : SpansFit spans started ms order below os last guards) (within : s < length ms) (before : last ≤ at) (early : at < 2 ^ 63) where
+  -- an op that is no event of level ERROR leaves the failure as it was
+  failed_more : (op : Stamped) → (span_at spans s).failed ≡ has_error (os s) → is_error_event op.op ≡ false → (span_at spans s).failed ≡ has_error (with_op s op os s)
+  failed_more op same quiet = same ∙ sym (or_false (has_error (os s))) ∙ ap (λ b. has_error (os s) || b) (sym quiet) ∙ sym (error_push (os s) op) ∙ ap has_error (sym (with_op_here s op os))
+
   -- an entry
   pub entered_fit : guards + 1 < 2 ^ 64 → SpansFit (slice_set spans s (span_entered at (span_at spans s))) started ms order below (with_op s (record { at = at; op = Enter }) os) at (guards + 1)
   entered_fit few =
@@ -42,7 +48,7 @@ module _ (spans : List Span) (started : ℕ) (ms : List Made) (order : List ℕ)
       let op : Stamped = record { at = at; op = Enter } in
       let times = times_entered _ last guards at (fit.timed s) before early few ∙ ap (λ (t : Times). timed t op) (ap (λ (span : Span). span.times) e) ∙ sym (times_push (os s) op) ∙ ap times_of (sym (with_op_here s op os)) in
       spans_written spans started started ms order order below below os (with_op s op os) last at guards (guards + 1) s (span_entered at (span_at spans s)) fit within
-      (span_is _ _ _ _ (entered_at (span_at spans s).times at) (made_of ms s) (place_in order s) (below s) (with_op s op os s) (ap (λ (span : Span). span.site) e) (ap (λ (span : Span). span.made) e) (ap (λ (span : Span). span.id) e) (ap (λ (span : Span). span.holds) e) times)
+      (span_is _ _ _ _ (span_at spans s).failed (entered_at (span_at spans s).times at) (made_of ms s) (place_in order s) (below s) (with_op s op os s) (ap (λ (span : Span). span.site) e) (ap (λ (span : Span). span.made) e) (ap (λ (span : Span). span.id) e) (ap (λ (span : Span). span.holds) e) (failed_more op (ap (λ (span : Span). span.failed) e) refl) times)
       (λ t other. refl) (λ t other. refl) (λ t other. with_op_other s op os t other)
       fit.starts refl (entered_in_time _ last guards at (fit.timed s) before early few) before (omega arith)
 
@@ -53,9 +59,21 @@ module _ (spans : List Span) (started : ℕ) (ms : List Made) (order : List ℕ)
       let op : Stamped = record { at = at; op = Exit } in
       let times = times_exited _ last guards at (fit.timed s) before early ∙ ap (λ (t : Times). timed t op) (ap (λ (span : Span). span.times) e) ∙ sym (times_push (os s) op) ∙ ap times_of (sym (with_op_here s op os)) in
       spans_written spans started started ms order order below below os (with_op s op os) last at guards guards s (span_exited at (span_at spans s)) fit within
-      (span_is _ _ _ _ (exited_at (span_at spans s).times at) (made_of ms s) (place_in order s) (below s) (with_op s op os s) (ap (λ (span : Span). span.site) e) (ap (λ (span : Span). span.made) e) (ap (λ (span : Span). span.id) e) (ap (λ (span : Span). span.holds) e) times)
+      (span_is _ _ _ _ (span_at spans s).failed (exited_at (span_at spans s).times at) (made_of ms s) (place_in order s) (below s) (with_op s op os s) (ap (λ (span : Span). span.site) e) (ap (λ (span : Span). span.made) e) (ap (λ (span : Span). span.id) e) (ap (λ (span : Span). span.holds) e) (failed_more op (ap (λ (span : Span). span.failed) e) refl) times)
       (λ t other. refl) (λ t other. refl) (λ t other. with_op_other s op os t other)
       fit.starts refl (exited_in_time _ last guards at (fit.timed s) before early) before (omega arith)
+
+  -- an event
+  pub told_fit : (is_error : Bool) (event : OtelEvent) → SpansFit (slice_set spans s (span_told is_error at (span_at spans s))) started ms order below (with_op s (record { at = at; op = Event is_error event }) os) at guards
+  told_fit is_error event =
+      let e = fit.each s in
+      let op : Stamped = record { at = at; op = Event is_error event } in
+      let times = times_told _ last guards at is_error event (fit.timed s) before early ∙ ap (λ (t : Times). timed t op) (ap (λ (span : Span). span.times) e) ∙ sym (times_push (os s) op) ∙ ap times_of (sym (with_op_here s op os)) in
+      let failed = ap (λ (span : Span). span.failed || is_error) e ∙ sym (error_push (os s) op) ∙ ap has_error (sym (with_op_here s op os)) in
+      spans_written spans started started ms order order below below os (with_op s op os) last at guards guards s (span_told is_error at (span_at spans s)) fit within
+      (span_is _ _ _ _ ((span_at spans s).failed || is_error) (times_at (span_at spans s).times at) (made_of ms s) (place_in order s) (below s) (with_op s op os s) (ap (λ (span : Span). span.site) e) (ap (λ (span : Span). span.made) e) (ap (λ (span : Span). span.id) e) (ap (λ (span : Span). span.holds) e) failed times)
+      (λ t other. refl) (λ t other. refl) (λ t other. with_op_other s op os t other)
+      fit.starts refl (started_in_time _ last guards at (fit.timed s) before early) before (omega arith)
 
   -- ---- a start
 
@@ -78,6 +96,7 @@ module _ (spans : List Span) (started : ℕ) (ms : List Made) (order : List ℕ)
         starts = fit.starts;
         placed = fit.placed;
         timed = λ t. record { busy_in = (fit.timed t).busy_in; last_in = omega (arith, (fit.timed t).last_in); left_in = (fit.timed t).left_in; entered_in = (fit.timed t).entered_in };
+        unmade = λ t past. append-nil (os t) ∙ fit.unmade t past;
       })
 
   first_fit : length spans < 2 ^ 64 → place_in order s ≡ 0 → Starts (newly order (s ∷ []))
@@ -95,7 +114,7 @@ module _ (spans : List Span) (started : ℕ) (ms : List Made) (order : List ℕ)
       subst Starts (sym new) (rw (first, exact)
       (spans_written spans started (started + 1) ms order (order ++ s ∷ []) below below os (with_op s op os) last at guards guards s
       (record (span_at spans s) { id = started + 1; times = times_at (span_at spans s).times at }) fit within
-      (span_is _ _ _ _ (times_at (span_at spans s).times at) (made_of ms s) (place_in (order ++ s ∷ []) s) (below s) (with_op s op os s) (ap (λ (span : Span). span.site) e) (ap (λ (span : Span). span.made) e) (sym place) (ap (λ (span : Span). span.holds) e) times)
+      (span_is _ _ _ _ (span_at spans s).failed (times_at (span_at spans s).times at) (made_of ms s) (place_in (order ++ s ∷ []) s) (below s) (with_op s op os s) (ap (λ (span : Span). span.site) e) (ap (λ (span : Span). span.made) e) (sym place) (ap (λ (span : Span). span.holds) e) (failed_more op (ap (λ (span : Span). span.failed) e) refl) times)
       (λ t other. place_more order s t other) (λ t other. refl) (λ t other. with_op_other s op os t other)
       (ap (λ n. n + 1) fit.starts ∙ sym (length_push order s))
       (grind (arith, nat_tests, idle)) (started_in_time _ last guards at (fit.timed s) before early) before (omega arith)))

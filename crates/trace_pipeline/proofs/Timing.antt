@@ -1,9 +1,10 @@
 -- The times of a span: one op more.
-use Rattle.std.proofs.Common.{◌≡◌, ℕ, ◌+◌, ◌-◌, ◌^◌, ◌<◌, ◌≤◌, List, [], ◌∷◌, ◌++◌, Some, None, fold, refl, arith}
+use Rattle.std.proofs.Common.{◌≡◌, ℕ, ◌+◌, ◌-◌, ◌^◌, ◌<◌, ◌≤◌, List, [], ◌∷◌, ◌++◌, Bool, Some, None, fold, refl, arith}
 use Rattle.std.proofs.lemmas.List.Sums.{fold_push}
 use Rattle.std.proofs.lemmas.Bool.Decides.{nat_tests}
+use Rattle.otel_base.specs.declared.record.OtelEvent.{OtelEvent}
 use Rattle.trace_pipeline.specs.declared.times.Times.{Times}
-use Rattle.trace_pipeline.specs.Ops.{Stamped, Start, Enter, Exit, entered_after, gap, busy_from, exit_by}
+use Rattle.trace_pipeline.specs.Ops.{Stamped, Start, Enter, Exit, Event, entered_after, gap, busy_from, exit_by}
 use Rattle.trace_pipeline.specs.Machine.{capped, times_at}
 use Rattle.trace_pipeline.specs.Stands.{times_of, IsTimed}
 
@@ -37,6 +38,9 @@ busy_below times last guards at fits below = let more = gap_within times.entered
 
 pub times_started : (times : Times) (last guards at : ℕ) → IsTimed times last guards → last ≤ at → at < 2 ^ 63 → times_at times at ≡ timed times (record { at = at; op = Start })
 times_started times last guards at fits below early = rw (busy_fits times last guards at fits below early) refl
+
+pub times_told : (times : Times) (last guards at : ℕ) (is_error : Bool) (event : OtelEvent) → IsTimed times last guards → last ≤ at → at < 2 ^ 63 → times_at times at ≡ timed times (record { at = at; op = Event is_error event })
+times_told times last guards at is_error event fits below early = rw (busy_fits times last guards at fits below early) refl
 
 pub started_in_time : (times : Times) (last guards at : ℕ) → IsTimed times last guards → last ≤ at → at < 2 ^ 63 → IsTimed (times_at times at) at guards
 started_in_time times last guards at fits below early =

@@ -1,5 +1,5 @@
 -- The spans fit the tables after one is added or written.
-use Rattle.std.proofs.Common.{◌≡◌, ◌≢◌, ℕ, zero, suc, ◌+◌, ◌<◌, ◌≤◌, List, [], ◌∷◌, ◌++◌, length, cond, slice_set, refl, sym, ap, subst, ◌∙◌, arith, inl, inr}
+use Rattle.std.proofs.Common.{◌≡◌, ◌≢◌, ℕ, zero, suc, ◌+◌, ◌<◌, ◌≤◌, List, [], ◌∷◌, ◌++◌, length, Bool, false, cond, slice_set, refl, sym, ap, subst, ◌∙◌, arith, inl, inr}
 use Rattle.std.proofs.Common.{get_or}
 use Rattle.std.proofs.lemmas.List.Sums.{sum_by_push, sum_by-set}
 use Rattle.std.proofs.lemmas.List.{length_push, length-set, get_or_push, get_or_past, get_or-set_same, get_or-set_other}
@@ -9,7 +9,7 @@ use Rattle.trace_pipeline.specs.declared.times.Times.{Times}
 use Rattle.trace_pipeline.specs.History.{Made, made_of, place_in}
 use Rattle.trace_pipeline.specs.Ops.{Stamped}
 use Rattle.trace_pipeline.specs.Machine.{no_times, no_span, span_at}
-use Rattle.trace_pipeline.specs.Stands.{SpansFit, IsTimed, span_by, times_of, is_started}
+use Rattle.trace_pipeline.specs.Stands.{SpansFit, IsTimed, span_by, times_of, is_started, has_error}
 
 pub get_push_other : {A : Type 0} (xs : List A) (y d : A) (i : ℕ) → i ≢ length xs → get_or (xs ++ y ∷ []) i d ≡ get_or xs i d
 get_push_other [] y d zero other = absurd (other refl)
@@ -17,12 +17,12 @@ get_push_other [] y d (suc i) other = refl
 get_push_other (x ∷ xs) y d zero other = refl
 get_push_other (x ∷ xs) y d (suc i) other = get_push_other xs y d i (λ e. other (ap suc e))
 
-pub span_is : (site at id n : ℕ) (times : Times) (m : Made) (i k : ℕ) (os : List Stamped) → site ≡ m.site → at ≡ m.at → id ≡ i → n ≡ k → times ≡ times_of os
-    → ◌≡◌ {A = Span} (record { site = site; made = at; id = id; holds = n; times = times }) (span_by m i k os)
-span_is site at id n times m i k os a b c d e = rw (a, b, c, d, e) refl
+pub span_is : (site at id n : ℕ) (failed : Bool) (times : Times) (m : Made) (i k : ℕ) (os : List Stamped) → site ≡ m.site → at ≡ m.at → id ≡ i → n ≡ k → failed ≡ has_error os → times ≡ times_of os
+    → ◌≡◌ {A = Span} (record { site = site; made = at; id = id; holds = n; failed = failed; times = times }) (span_by m i k os)
+span_is site at id n failed times m i k os a b c d e f = rw (a, b, c, d, e, f) refl
 
 abbrev pub new_span : ℕ → ℕ → Span
-new_span site at = record { site = site; made = at; id = 0; holds = 1; times = no_times }
+new_span site at = record { site = site; made = at; id = 0; holds = 1; failed = false; times = no_times }
 
 no_times_fit : (last guards : ℕ) → IsTimed no_times last guards
 no_times_fit last guards = record { busy_in = omega arith; last_in = omega arith; left_in = omega arith; entered_in = omega arith }
@@ -46,6 +46,7 @@ spans_added spans started ms order below after os last guards m fit here others 
     | inl same ↦ subst (λ (span : Span). IsTimed span.times last guards) (sym (get_or_push spans x no_span s (fit.count ∙ sym same))) (no_times_fit last guards)
     | inr other ↦ subst (λ (span : Span). IsTimed span.times last guards) (sym (get_push_other spans x no_span s (λ e. other (e ∙ fit.count)))) (fit.timed s)
   ];
+  unmade = λ s past. fit.unmade s (let n = length_push ms m in omega arith);
 }
   where
     x : Span
@@ -56,10 +57,10 @@ spans_added spans started ms order below after os last guards m fit here others 
         let past = sym (get_or_past spans s no_span (let n = fit.count in omega arith)) ∙ fit.each s in
         let mine = get_or_push ms m (record { site = 0; line = []; at = 0 }) s (sym same) in
         get_or_push spans (new_span m.site m.at) no_span s (fit.count ∙ sym same)
-        ∙ span_is _ _ _ _ _ (made_of (ms ++ m ∷ []) s) (place_in order s) (after s) (os s)
+        ∙ span_is _ _ _ _ _ _ (made_of (ms ++ m ∷ []) s) (place_in order s) (after s) (os s)
         (ap (λ (made : Made). made.site) (sym mine)) (ap (λ (made : Made). made.at) (sym mine)) (ap (λ (span : Span). span.id) past)
         (sym (ap after same ∙ here ∙ ap (λ n. n + 1) (ap below (sym same) ∙ sym (ap (λ (span : Span). span.holds) past))))
-        (ap (λ (span : Span). span.times) past)
+        (ap (λ (span : Span). span.failed) past) (ap (λ (span : Span). span.times) past)
 
 -- A write of one span, where the tables change for it alone.
 pub spans_written : (spans : List Span) (started now : ℕ) (ms : List Made) (order later : List ℕ) (below after : ℕ → ℕ) (os ps : ℕ → List Stamped) (last at guards more s : ℕ) (x : Span)
@@ -82,6 +83,7 @@ spans_written spans started now ms order later below after os ps last at guards 
     | inl same ↦ subst (λ n. IsTimed (span_at (slice_set spans s x) n).times at more) (sym same) (subst (λ (span : Span). IsTimed span.times at more) (sym here) timed)
     | inr other ↦ subst (λ (span : Span). IsTimed span.times at more) (sym (get_or-set_other spans s t x no_span other)) (later_times t)
   ];
+  unmade = λ t past. ops t (λ e. absurd (omega (arith, e))) ∙ fit.unmade t past;
 }
   where
     inside : s < length spans

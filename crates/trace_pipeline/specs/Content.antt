@@ -3,12 +3,11 @@ use Rattle.std.specs.Prelude.{ℕ, List, [], ◌∷◌, ◌++◌, pos, map, code
 use Rattle.std.specs.Option.{option_map_or}
 use Rattle.otel_base.specs.declared.record.Record.{Record}
 use Rattle.otel_base.specs.declared.record.SpanKind.TheVariants.{Internal}
-use Rattle.otel_base.specs.declared.status.Status.TheVariants.{Unset}
 use Rattle.otel_base.specs.declared.value.KeyValue.{KeyValue}
 use Rattle.otel_base.specs.declared.value.OtelValue.TheVariants.{I64}
 use Rattle.trace_pipeline.specs.declared.settings.Settings.{Settings}
 use Rattle.trace_pipeline.specs.History.{History, Effect, closed_in, made, made_of, id_of}
-use Rattle.trace_pipeline.specs.Ops.{Stamped, ops, busy, idle, end_of}
+use Rattle.trace_pipeline.specs.Ops.{Stamped, ops, busy, idle, end_of, events, status}
 
 -- the name of the callsite at a place
 abbrev pub site_name : Settings → ℕ → List ℕ
@@ -30,9 +29,9 @@ content name start id os closed = record {
   start = start;
   end = end_of os closed;
   attributes = closing_attributes start os;
-  events = [];
+  events = events os;
   links = [];
-  status = Unset;
+  status = status os;
 }
 
 -- the record of a span that closes at a moment

@@ -1,12 +1,16 @@
 -- What a request does at a place in a script, or why it is refused, and its reply.
-use Rattle.std.specs.Prelude.{ℕ, ◌-◌, ◌^◌, List, [], ◌∷◌, length, Bool, true, false, ◌||◌, ◌&&◌, nat_lt, if◌then◌else◌, Option, Some, None, is_some, option_and_then, unwrap_or, slice_get, slice_set, Result, Ok, Err, codes, bytes_eq}
+use Rattle.std.specs.Prelude.{ℕ, ◌-◌, ◌^◌, List, [], ◌∷◌, length, Bool, true, false, not, ◌==◌, ◌||◌, ◌&&◌, nat_lt, if◌then◌else◌, Option, Some, None, is_some, option_and_then, unwrap_or, slice_get, slice_set, Result, Ok, Err, codes, bytes_eq}
 use Rattle.std.specs.List.{list_any}
 use Rattle.trace_base.specs.declared.level.LevelFilter.{LevelFilter}
 use Rattle.trace_base.specs.declared.level.LevelFilter.TheVariants as filter
 use Rattle.trace_base.specs.declared.callsite.Callsite.{Callsite}
 use Rattle.trace_base.specs.declared.callsite.Kind.{Kind}
 use Rattle.trace_base.specs.declared.callsite.Kind.TheVariants as kind
-use Rattle.trace_base.specs.Level.{is_within}
+use Rattle.trace_base.specs.declared.level.Level.{Level}
+use Rattle.trace_base.specs.declared.level.Level.TheVariants as level
+use Rattle.trace_base.specs.Level.{is_within, level_text}
+use Rattle.otel_base.specs.declared.record.OtelEvent.{OtelEvent}
+use Rattle.otel_base.specs.declared.value.OtelValue.TheVariants.{Str}
 use Rattle.trace_pipeline.specs.declared.settings.Settings.{Settings}
 use Rattle.trace_pipeline.specs.declared.request.Request.{Request}
 use Rattle.trace_pipeline.specs.declared.request.Call.{Call}
@@ -14,10 +18,10 @@ use Rattle.trace_pipeline.specs.declared.request.Call.TheVariants as call
 use Rattle.trace_pipeline.specs.declared.reply.Reply.{Reply}
 use Rattle.trace_pipeline.specs.declared.reply.Reply.TheVariants as reply
 use Rattle.trace_pipeline.specs.declared.reply.Refusal.{Refusal}
-use Rattle.trace_pipeline.specs.declared.reply.Refusal.TheVariants.{Later, UnknownName}
+use Rattle.trace_pipeline.specs.declared.reply.Refusal.TheVariants.{Later, BadMoment, UnknownName, InUse}
 use Rattle.trace_pipeline.specs.declared.reply.What.{What}
 use Rattle.trace_pipeline.specs.declared.reply.What.TheVariants as what
-use Rattle.trace_pipeline.specs.History.{Line, Did, Makes, Declines, Enters, Exits, Drops, Effect, History, handles, guards, slot_at, moment, made, started, newly, own, closed_of}
+use Rattle.trace_pipeline.specs.History.{Line, Did, Makes, Declines, Enters, Exits, Tells, Ignores, Drops, Effect, History, handles, guards, slot_at, is_borrowed, moment, made, made_of, started, newly, own, closed_of, entries, current}
 
 -- ---- admission
 
@@ -53,56 +57,108 @@ abbrev pub if_span : Callsite → Kind → Option Callsite
 if_span callsite kind.Span = Some callsite
 if_span callsite kind.Event = None
 
+abbrev pub if_event : Callsite → Kind → Option Callsite
+if_event callsite kind.Span = None
+if_event callsite kind.Event = Some callsite
+
 -- the callsite at a place, if it makes spans
 abbrev pub span_site : List Callsite → ℕ → Option Callsite
 span_site callsites site = option_and_then (λ callsite. if_span callsite callsite.kind) (slice_get callsites site)
 
+-- the callsite at a place, if it makes events
+abbrev pub event_site : List Callsite → ℕ → Option Callsite
+event_site callsites site = option_and_then (λ callsite. if_event callsite callsite.kind) (slice_get callsites site)
+
 -- an admitted callsite gives a root and a handle of it, any other a disabled handle
-abbrev pub makes : Settings → History → ℕ → ℕ → Callsite → Effect
-makes settings h at site callsite = record {
+abbrev pub makes : Settings → History → ℕ → ℕ → ℕ → Callsite → Effect
+makes settings h at lane site callsite = record {
   at = at;
+  lane = lane;
   did = (if admits settings callsite then Makes (record { site = site; line = length (made h) ∷ []; at = at }) else Declines);
   starts = [];
 }
 
 -- an entry starts the span, if nothing has started it before
-abbrev pub enters : History → ℕ → ℕ → Line → Effect
-enters h at handle line = record { at = at; did = Enters (record { handle = handle; line = line }); starts = newly (started h) (own line) }
+abbrev pub enters : History → ℕ → ℕ → ℕ → Line → Effect
+enters h at lane handle line = record { at = at; lane = lane; did = Enters (record { handle = handle; line = line }); starts = newly (started h) (own line) }
 
-abbrev pub exits : ℕ → ℕ → Line → Effect
-exits at guard line = record { at = at; did = Exits guard line; starts = [] }
+abbrev pub exits : ℕ → ℕ → ℕ → Line → Effect
+exits at lane guard line = record { at = at; lane = lane; did = Exits guard line; starts = [] }
 
 -- The spans that close are those that no unspent handle holds any more; a close starts a span that hasn't been started.
-abbrev pub drops : History → ℕ → ℕ → Line → Effect
-drops h at handle line =
+abbrev pub drops : History → ℕ → ℕ → ℕ → Line → Effect
+drops h at lane handle line =
     let closing = closed_of (slice_set (handles h) handle None) line in
-    record { at = at; did = Drops handle closing; starts = newly (started h) closing }
+    record { at = at; lane = lane; did = Drops handle closing; starts = newly (started h) closing }
 
-abbrev pub effect_of_call : Settings → History → ℕ → Call → Resolved
-effect_of_call settings h at (call.New site) = named what.Site (span_site settings.callsites site) (λ callsite. Ok (makes settings h at site callsite))
-effect_of_call settings h at (call.Drop handle) = named what.Handle (slot_at (handles h) handle) (λ line. Ok (drops h at handle line))
-effect_of_call settings h at (call.Enter handle) = named what.Handle (slot_at (handles h) handle) (λ line. Ok (enters h at handle line))
-effect_of_call settings h at (call.Exit guard) = named what.Guard (slot_at (guards h) guard) (λ guarded. Ok (exits at guard guarded.line))
+-- a handle that an open guard borrows isn't dropped
+abbrev pub drops_unless : Bool → Effect → Resolved
+drops_unless borrowed effect = if borrowed then Err InUse else Ok effect
 
--- ---- what isn't built yet
+abbrev pub is_error_level : Level → Bool
+is_error_level level.ERROR = true
+is_error_level level.WARN = false
+is_error_level level.INFO = false
+is_error_level level.DEBUG = false
+is_error_level level.TRACE = false
 
--- only an exit is built while some guard is open
+-- what a callsite tells at a moment: its name, its level and its target
+abbrev pub event_of : Callsite → ℕ → OtelEvent
+event_of callsite at = record {
+  name = callsite.name;
+  time = at;
+  attributes = record { key = codes "level"; value = Str (level_text callsite.level) } ∷ record { key = codes "target"; value = Str callsite.target } ∷ [];
+}
+
+-- the line of a span, if there is one
+abbrev pub line_of : History → Option ℕ → Line
+line_of h None = []
+line_of h (Some s) = (made_of (made h) s).line
+
+-- an event goes to the lane's current span, if there is one
+abbrev pub current_line : History → ℕ → Line
+current_line h lane = line_of h (current (entries h lane))
+
+-- an admitted event is told to the lane's current span, any other leaves nothing
+abbrev pub tells : Settings → History → ℕ → ℕ → Callsite → Effect
+tells settings h at lane callsite = record {
+  at = at;
+  lane = lane;
+  did = (if admits settings callsite then Tells (is_error_level callsite.level) (event_of callsite at) (current_line h lane) else Ignores);
+  starts = [];
+}
+
+abbrev pub effect_of_call : Settings → History → ℕ → ℕ → Call → Resolved
+effect_of_call settings h at lane (call.New site) = named what.Site (span_site settings.callsites site) (λ callsite. Ok (makes settings h at lane site callsite))
+effect_of_call settings h at lane (call.Drop handle) = named what.Handle (slot_at (handles h) handle) (λ line. drops_unless (is_borrowed (guards h) handle) (drops h at lane handle line))
+effect_of_call settings h at lane (call.Enter handle) = named what.Handle (slot_at (handles h) handle) (λ line. Ok (enters h at lane handle line))
+effect_of_call settings h at lane (call.Exit guard) = named what.Guard (slot_at (guards h) guard) (λ guarded. Ok (exits at lane guard guarded.line))
+effect_of_call settings h at lane (call.Event site) = named what.Site (event_site settings.callsites site) (λ callsite. Ok (tells settings h at lane callsite))
+
+-- ---- refusals before the names
+
+-- neither a making nor an entry is built while some guard is open
 abbrev pub waits_for_guards : Call → Bool
 waits_for_guards (call.New site) = true
-waits_for_guards (call.Drop handle) = true
+waits_for_guards (call.Drop handle) = false
 waits_for_guards (call.Enter handle) = true
 waits_for_guards (call.Exit guard) = false
+waits_for_guards (call.Event site) = false
 
--- a moment is at most 2 ^ 63 - 1, and not below the one before
+-- only the first lane is built
 abbrev pub is_later : History → Request → Bool
-is_later h request =
-    nat_lt request.at (moment h) || nat_lt (2 ^ 63 - 1) request.at || (waits_for_guards request.call && list_any is_some (guards h))
+is_later h request = not (request.lane == 0) || (waits_for_guards request.call && list_any is_some (guards h))
+
+-- a moment below the one before, or above 2 ^ 63 - 1
+abbrev pub is_bad_moment : ℕ → ℕ → Bool
+is_bad_moment before given = nat_lt given before || nat_lt (2 ^ 63 - 1) given
 
 -- the effect of a request, or the first refusal that applies
 abbrev pub effect_of : Settings → History → Request → Resolved
 effect_of settings h request =
     if is_later h request then Err Later else
-    named what.Lane (slice_get settings.lanes request.lane) (λ lane. effect_of_call settings h request.at request.call)
+    (if is_bad_moment (moment h) request.at then Err (BadMoment (moment h) request.at) else
+    named what.Lane (slice_get settings.lanes request.lane) (λ lane. effect_of_call settings h request.at request.lane request.call))
 
 -- ---- replies
 
@@ -111,6 +167,8 @@ reply_by h (Makes made) = reply.Made true (length (handles h))
 reply_by h Declines = reply.Made false (length (handles h))
 reply_by h (Enters guarded) = reply.Guard (length (guards h))
 reply_by h (Exits guard line) = reply.Done
+reply_by h (Tells is_error event line) = reply.Enabled true
+reply_by h Ignores = reply.Enabled false
 reply_by h (Drops handle closed) = reply.Done
 
 -- the reply to a request that has an effect: the next free number for each name made

@@ -1,5 +1,6 @@
 -- A history: for each request what it did. Spans are named by their numbers in the order of making.
-use Rattle.std.specs.Prelude.{ℕ, ◌+◌, List, [], ◌∷◌, ◌++◌, length, fold, filter, count_by, Bool, false, not, ◌==◌, if◌then◌else◌, Option, Some, None, slice_set}
+use Rattle.std.specs.Prelude.{ℕ, ◌+◌, ◌-◌, List, [], ◌∷◌, ◌++◌, length, fold, filter, count_by, Bool, false, not, ◌==◌, if◌then◌else◌, Option, Some, None, slice_get, slice_set}
+use Rattle.otel_base.specs.declared.record.OtelEvent.{OtelEvent}
 use Rattle.std.specs.List.{flat_map, list_any, slice_index_or, range_with_len}
 
 -- The line of a span: the span, its parent, and so on up. A disabled handle has the empty line.
@@ -25,12 +26,17 @@ pub data Did : Type 0 where
   Declines : Did
   Enters : (guarded : Guarded) → Did
   Exits : (guard : ℕ) → (line : Line) → Did
+  -- told an admitted event to the span of a line, or to none
+  Tells : (is_error : Bool) → (event : OtelEvent) → (line : Line) → Did
+  -- left nothing, since the event's callsite isn't admitted
+  Ignores : Did
   -- spent a handle, which closed these spans, each before its parent
   Drops : (handle : ℕ) → (closed : List ℕ) → Did
 
--- a request's effect: what it did, and the spans that it started, in order
+-- a request's effect: its moment and lane, what it did, and the spans that it started, in order
 pub record Effect : Type 0 where
   pub at : ℕ
+  pub lane : ℕ
   pub did : Did
   pub starts : List ℕ
 
@@ -45,6 +51,8 @@ handles_after slots (Makes made) = slots ++ Some made.line ∷ []
 handles_after slots Declines = slots ++ Some [] ∷ []
 handles_after slots (Enters guarded) = slots
 handles_after slots (Exits guard line) = slots
+handles_after slots (Tells is_error event line) = slots
+handles_after slots Ignores = slots
 handles_after slots (Drops handle closed) = slice_set slots handle None
 
 abbrev pub handles : History → List (Option Line)
@@ -56,6 +64,8 @@ guards_after slots (Makes made) = slots
 guards_after slots Declines = slots
 guards_after slots (Enters guarded) = slots ++ Some guarded ∷ []
 guards_after slots (Exits guard line) = slice_set slots guard None
+guards_after slots (Tells is_error event line) = slots
+guards_after slots Ignores = slots
 guards_after slots (Drops handle closed) = slots
 
 abbrev pub guards : History → List (Option Guarded)
@@ -69,6 +79,15 @@ slot_at slots n = slice_index_or slots n None
 abbrev pub moment : History → ℕ
 moment h = fold (λ last e. e.at) 0 h
 
+-- a guard borrows its handle
+abbrev pub borrows : ℕ → Option Guarded → Bool
+borrows handle None = false
+borrows handle (Some guarded) = guarded.handle == handle
+
+-- a handle is borrowed while a guard that names it is unspent
+abbrev pub is_borrowed : List (Option Guarded) → ℕ → Bool
+is_borrowed slots handle = list_any (borrows handle) slots
+
 -- ---- spans
 
 abbrev pub made_in : Did → List Made
@@ -76,6 +95,8 @@ made_in (Makes made) = made ∷ []
 made_in Declines = []
 made_in (Enters guarded) = []
 made_in (Exits guard line) = []
+made_in (Tells is_error event line) = []
+made_in Ignores = []
 made_in (Drops handle closed) = []
 
 -- the makings, in order: a span's number is its making's place
@@ -106,6 +127,8 @@ closed_in (Makes made) = []
 closed_in Declines = []
 closed_in (Enters guarded) = []
 closed_in (Exits guard line) = []
+closed_in (Tells is_error event line) = []
+closed_in Ignores = []
 closed_in (Drops handle closed) = closed
 
 -- the spans that closed, in order
@@ -140,3 +163,40 @@ newly order (s ∷ ss) = if place_in order s == 0 then s ∷ newly (order ++ s �
 abbrev pub own : Line → List ℕ
 own [] = []
 own (s ∷ line) = s ∷ []
+
+-- ---- lanes
+
+-- a list without the last of its items that are s
+abbrev pub remove_last : ℕ → List ℕ → List ℕ
+remove_last s [] = []
+remove_last s (x ∷ xs) = if is_in s xs then x ∷ remove_last s xs else (if x == s then xs else x ∷ xs)
+
+abbrev pub removed : Line → List ℕ → List ℕ
+removed [] es = es
+removed (s ∷ line) es = remove_last s es
+
+-- an entry of an enabled handle adds its span, an exit takes off the last entry of that span
+abbrev pub entries_by : List ℕ → Did → List ℕ
+entries_by es (Makes made) = es
+entries_by es Declines = es
+entries_by es (Enters guarded) = es ++ own guarded.line
+entries_by es (Exits guard line) = removed line es
+entries_by es (Tells is_error event line) = es
+entries_by es Ignores = es
+entries_by es (Drops handle closed) = es
+
+abbrev pub entries_after : ℕ → List ℕ → Effect → List ℕ
+entries_after lane es e = if e.lane == lane then entries_by es e.did else es
+
+-- the entries of a lane, in order
+abbrev pub entries : History → ℕ → List ℕ
+entries h lane = fold (entries_after lane) [] h
+
+-- the entries that don't repeat: those whose span stands nowhere earlier
+abbrev pub first_entries : List ℕ → List ℕ
+first_entries [] = []
+first_entries (s ∷ es) = s ∷ filter (λ x. not (x == s)) (first_entries es)
+
+-- the current span of a lane: that of the last entry which doesn't repeat
+abbrev pub current : List ℕ → Option ℕ
+current es = slice_get (first_entries es) (length (first_entries es) - 1)

@@ -1,18 +1,32 @@
 -- What the pipeline's code does to what it keeps. Inner definitions: no promise rests on them alone.
-use Rattle.std.specs.Prelude.{ℕ, ◌+◌, ◌-◌, ◌^◌, ◌==◌, ◌&&◌, min, List, [], ◌∷◌, Bool, nat_lt, if◌then◌else◌, Some, None, unwrap_or, length, ◌<◌, slice_get, slice_set, pos, codes}
+use Rattle.std.specs.Prelude.{◌≡◌, ℕ, ◌+◌, ◌-◌, ◌^◌, ◌==◌, ◌&&◌, min, List, [], ◌∷◌, ◌++◌, ◌||◌, Bool, false, nat_lt, if◌then◌else◌, Option, Some, None, unwrap_or, length, ◌<◌, slice_get, slice_set, pos, codes}
 use Rattle.std.specs.Option.{option_map_or}
 use Rattle.otel_base.specs.declared.record.Record.{Record}
+use Rattle.otel_base.specs.declared.record.OtelEvent.{OtelEvent}
 use Rattle.otel_base.specs.declared.record.SpanKind.TheVariants.{Internal}
-use Rattle.otel_base.specs.declared.status.Status.TheVariants.{Unset}
+use Rattle.otel_base.specs.declared.status.Status.TheVariants.{Unset, Error}
 use Rattle.otel_base.specs.declared.value.KeyValue.{KeyValue}
 use Rattle.otel_base.specs.declared.value.OtelValue.TheVariants.{I64}
 use Rattle.trace_base.specs.declared.callsite.Callsite.{Callsite}
 use Rattle.std.specs.List.{slice_index_or}
+use Rattle.trace_pipeline.specs.declared.request.Call.{Call}
+use Rattle.trace_pipeline.specs.declared.request.Call.TheVariants as call
+use Rattle.trace_pipeline.specs.declared.names.Guard.{Guard}
 use Rattle.trace_pipeline.specs.declared.names.Handle.{Handle}
 use Rattle.trace_pipeline.specs.declared.names.Handle.TheVariants.{Disabled, Enabled}
 use Rattle.trace_pipeline.specs.declared.span.Span.{Span}
 use Rattle.trace_pipeline.specs.declared.times.Times.{Times}
 use Rattle.trace_pipeline.specs.Ops.{gap}
+
+-- whether the open guard, if there is one, names the handle
+abbrev pub is_borrowed_by : Option Guard → ℕ → Bool
+is_borrowed_by None handle = false
+is_borrowed_by (Some guard) handle = guard.handle == handle
+
+-- what the open guard's entry stands for
+abbrev pub current_of : Option Guard → Handle
+current_of None = Disabled
+current_of (Some guard) = guard.entered
 
 -- a count stands still at its type's end
 abbrev pub capped : ℕ → ℕ
@@ -26,7 +40,7 @@ abbrev pub times_at : Times → ℕ → Times
 times_at times at = record times { last = at; busy = capped (times.busy + gap times.entered times.last at) }
 
 abbrev pub no_span : Span
-no_span = record { site = 0; made = 0; id = 0; holds = 0; times = no_times }
+no_span = record { site = 0; made = 0; id = 0; holds = 0; failed = false; times = no_times }
 
 abbrev pub span_at : List Span → ℕ → Span
 span_at spans s = slice_index_or spans s no_span
@@ -46,6 +60,9 @@ span_entered at span = record span { times = record (times_at span.times at) { e
 abbrev pub span_exited : ℕ → Span → Span
 span_exited at span = record span { times = record (times_at span.times at) { entered = span.times.entered - 1; left = Some at } }
 
+abbrev pub span_told : Bool → ℕ → Span → Span
+span_told is_error at span = record span { failed = span.failed || is_error; times = times_at span.times at }
+
 -- ---- the list of spans, and the number of starts, after an entry, an exit and a release of what a handle stands for
 
 abbrev pub spans_entered : ℕ → ℕ → Handle → List Span → List Span
@@ -60,6 +77,19 @@ abbrev pub spans_exited : ℕ → Handle → List Span → List Span
 spans_exited at Disabled spans = spans
 spans_exited at (Enabled s) spans = slice_set spans s (span_exited at (span_at spans s))
 
+-- ---- the spans and their events after an event was told to what a handle stands for
+
+abbrev pub spans_told : Bool → ℕ → Handle → List Span → List Span
+spans_told is_error at Disabled spans = spans
+spans_told is_error at (Enabled s) spans = slice_set spans s (span_told is_error at (span_at spans s))
+
+abbrev pub events_at : List (List OtelEvent) → ℕ → List OtelEvent
+events_at events s = slice_index_or events s []
+
+abbrev pub events_told : OtelEvent → Handle → List (List OtelEvent) → List (List OtelEvent)
+events_told event Disabled events = events
+events_told event (Enabled s) events = slice_set events s (events_at events s ++ event ∷ [])
+
 -- a span that its last handle lets go is started, and has no hold any more
 abbrev pub span_closed : ℕ → ℕ → Span → Span
 span_closed started at span = record (span_started started at span) { holds = 0 }
@@ -72,8 +102,8 @@ idle_by span = option_map_or (λ end. end - span.made - span.times.busy) span.ti
 abbrev pub attributes_by : ℕ → ℕ → List KeyValue
 attributes_by busy idle = record { key = codes "busy_ns"; value = I64 (pos busy) } ∷ record { key = codes "idle_ns"; value = I64 (pos idle) } ∷ []
 
-abbrev pub record_by : List ℕ → Span → ℕ → Record
-record_by name span at = record {
+abbrev pub record_by : List ℕ → Span → List OtelEvent → ℕ → Record
+record_by name span events at = record {
   name = name;
   kind = Internal;
   context = record { trace = span.id; span = span.id };
@@ -81,9 +111,9 @@ record_by name span at = record {
   start = span.made;
   end = unwrap_or span.times.left at;
   attributes = attributes_by span.times.busy (idle_by span);
-  events = [];
+  events = events;
   links = [];
-  status = Unset;
+  status = (if span.failed then Error [] else Unset);
 }
 
 abbrev pub name_at : List Callsite → ℕ → List ℕ
@@ -109,10 +139,15 @@ abbrev pub started_dropped : ℕ → Handle → List Span → ℕ
 started_dropped started Disabled spans = started
 started_dropped started (Enabled s) spans = if closes s spans then started_after started (span_at spans s) else started
 
-abbrev pub records_dropped : List Callsite → ℕ → ℕ → Handle → List Span → List Record
-records_dropped callsites started at Disabled spans = []
-records_dropped callsites started at (Enabled s) spans =
-    if closes s spans then record_by (name_at callsites (span_at spans s).site) (span_closed started at (span_at spans s)) at ∷ [] else []
+-- the events of a span that closes are taken
+abbrev pub events_dropped : Handle → List Span → List (List OtelEvent) → List (List OtelEvent)
+events_dropped Disabled spans events = events
+events_dropped (Enabled s) spans events = if closes s spans then slice_set events s [] else events
+
+abbrev pub records_dropped : List Callsite → ℕ → ℕ → Handle → List Span → List (List OtelEvent) → List Record
+records_dropped callsites started at Disabled spans events = []
+records_dropped callsites started at (Enabled s) spans events =
+    if closes s spans then record_by (name_at callsites (span_at spans s).site) (span_closed started at (span_at spans s)) (events_at events s) at ∷ [] else []
 
 -- the times of a record fit its attributes
 abbrev pub IsShort : ℕ → ℕ → Handle → List Span → Type 0
@@ -123,3 +158,11 @@ IsShort started at (Enabled s) spans =
 -- a span with a hold is open
 abbrev pub is_held : Span → Bool
 is_held span = nat_lt 0 span.holds
+
+-- a call that waits for guards comes where none is open
+abbrev pub CanWait : Call → Option Guard → Type 0
+CanWait (call.New site) open_guard = open_guard ≡ None
+CanWait (call.Drop handle) open_guard = Unit {0}
+CanWait (call.Enter handle) open_guard = open_guard ≡ None
+CanWait (call.Exit guard) open_guard = Unit {0}
+CanWait (call.Event site) open_guard = Unit {0}

@@ -1,14 +1,21 @@
 -- The ops of a span, and the times that they give.
-use Rattle.std.specs.Prelude.{ℕ, ◌+◌, ◌-◌, List, [], ◌∷◌, ◌++◌, fold, nat_lt, if◌then◌else◌, Option, Some, None, unwrap_or}
-use Rattle.std.specs.List.{flat_map}
+use Rattle.std.specs.Prelude.{ℕ, ◌+◌, ◌-◌, List, [], ◌∷◌, ◌++◌, length, drop, fold, Bool, true, false, nat_lt, if◌then◌else◌, Option, Some, None, unwrap_or}
+use Rattle.std.specs.List.{flat_map, list_any, before_first}
+use Rattle.std.specs.Ordering.{nat_cmp, match_ordering}
+use Rattle.std.specs.Cmp.Lexicographic.{slice_cmp}
+use Rattle.otel_base.specs.declared.record.OtelEvent.{OtelEvent}
+use Rattle.otel_base.specs.declared.status.Status.{Status}
+use Rattle.otel_base.specs.declared.status.Status.TheVariants.{Unset, Error, Ok}
 use Rattle.std.specs.Option.{option_map_or}
-use Rattle.trace_pipeline.specs.History.{Did, Makes, Declines, Enters, Exits, Drops, Effect, History, Line, is_in, own}
+use Rattle.trace_pipeline.specs.History.{Did, Makes, Declines, Enters, Exits, Tells, Ignores, Drops, Effect, History, Line, is_in, own}
 
 -- what is done to a span after its making
 pub data Op : Type 0 where
   Start : Op
   Enter : Op
   Exit : Op
+  -- an event, which may be of level ERROR
+  Event : (is_error : Bool) → (event : OtelEvent) → Op
 
 -- an op with its moment
 pub record Stamped : Type 0 where
@@ -24,6 +31,8 @@ ops_by s at (Makes made) = []
 ops_by s at Declines = []
 ops_by s at (Enters guarded) = on s guarded.line (record { at = at; op = Enter })
 ops_by s at (Exits guard line) = on s line (record { at = at; op = Exit })
+ops_by s at (Tells is_error event line) = on s line (record { at = at; op = Event is_error event })
+ops_by s at Ignores = []
 ops_by s at (Drops handle closed) = []
 
 -- the start comes before what else the request does to the span
@@ -41,6 +50,7 @@ abbrev pub entered_after : ℕ → Op → ℕ
 entered_after n Start = n
 entered_after n Enter = n + 1
 entered_after n Exit = n - 1
+entered_after n (Event is_error event) = n
 
 -- the time since the op before, if more entries than exits came before
 abbrev pub gap : ℕ → ℕ → ℕ → ℕ
@@ -58,6 +68,7 @@ abbrev pub exit_by : Option ℕ → ℕ → Op → Option ℕ
 exit_by before at Start = before
 exit_by before at Enter = before
 exit_by before at Exit = Some at
+exit_by before at (Event is_error event) = before
 
 -- the moment of the last exit, if there is one
 abbrev pub last_exit : List Stamped → Option ℕ
@@ -70,3 +81,58 @@ end_of os closed = unwrap_or (last_exit os) closed
 -- Idle is the rest from the making to the last exit, 0 where there is none.
 abbrev pub idle : List Stamped → ℕ → ℕ
 idle os start = option_map_or (λ end. end - start - busy os) (last_exit os) 0
+
+-- ---- events and status
+
+abbrev pub is_start : Op → Bool
+is_start Start = true
+is_start Enter = false
+is_start Exit = false
+is_start (Event is_error event) = false
+
+abbrev pub is_error_event : Op → Bool
+is_error_event Start = false
+is_error_event Enter = false
+is_error_event Exit = false
+is_error_event (Event is_error event) = is_error
+
+abbrev pub event_in : Op → List OtelEvent
+event_in Start = []
+event_in Enter = []
+event_in Exit = []
+event_in (Event is_error event) = event ∷ []
+
+-- the events of the ops, in order
+abbrev pub events : List Stamped → List OtelEvent
+events os = flat_map (λ op. event_in op.op) os
+
+-- the ops before the first start, and those from it on
+abbrev pub before_start : List Stamped → List Stamped
+before_start os = before_first (λ op. is_start op.op) os
+
+abbrev pub from_start : List Stamped → List Stamped
+from_start os = drop (length (before_start os)) os
+
+-- the writes of a status: an event of level ERROR writes Error with an empty description
+abbrev pub status_in : Op → List Status
+status_in Start = []
+status_in Enter = []
+status_in Exit = []
+status_in (Event is_error event) = if is_error then Error [] ∷ [] else []
+
+-- Unset is less than Error, which is ordered by its description's bytes, and Ok is greatest.
+abbrev pub greater : Status → Status → Status
+greater Unset now = now
+greater (Error description) Unset = Error description
+greater (Error description) (Error other) = match_ordering (slice_cmp nat_cmp description other) (Error other) (Error description) (Error description)
+greater (Error description) Ok = Ok
+greater Ok now = Ok
+
+-- The status at the start is Error with an empty description if an ERROR event came before it: no other writes are
+-- built that could stand against it.
+abbrev pub status_at_start : List Stamped → Status
+status_at_start os = if list_any (λ op. is_error_event op.op) (before_start os) then Error [] else Unset
+
+-- the status of the ops: the greatest of that at the start and of all later writes
+abbrev pub status : List Stamped → Status
+status os = fold greater (status_at_start os) (flat_map (λ op. status_in op.op) (from_start os))

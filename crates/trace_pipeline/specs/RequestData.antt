@@ -3,7 +3,7 @@ use Rattle.std.specs.Prelude.{ℕ, List, [], ◌∷◌, fold, codes}
 use Rattle.serde_json.specs.Data.{Data, number, string, object, unsigned, Members, no_members, put}
 use Rattle.trace_pipeline.specs.declared.request.Request.{Request}
 use Rattle.trace_pipeline.specs.declared.request.Call.{Call}
-use Rattle.trace_pipeline.specs.declared.request.Call.TheVariants.{New, Drop, Enter, Exit}
+use Rattle.trace_pipeline.specs.declared.request.Call.TheVariants.{New, Drop, Enter, Exit, Event}
 
 -- a call on the first lane at a moment
 abbrev pub first_lane : ℕ → Call → Request
@@ -15,6 +15,7 @@ word_of (New site) = codes "new"
 word_of (Drop handle) = codes "drop"
 word_of (Enter handle) = codes "enter"
 word_of (Exit guard) = codes "exit"
+word_of (Event site) = codes "event"
 
 -- what a call names
 abbrev pub name_of : Call → List ℕ × ℕ
@@ -22,6 +23,7 @@ name_of (New site) = (codes "site", site)
 name_of (Drop handle) = (codes "handle", handle)
 name_of (Enter handle) = (codes "handle", handle)
 name_of (Exit guard) = (codes "guard", guard)
+name_of (Event site) = (codes "site", site)
 
 -- the members of an object, from their names and values
 abbrev pub members : List (List ℕ × Data) → Members

@@ -4,7 +4,7 @@ use Rattle.trace_pipeline.specs.declared.read.request.Verb.{Verb}
 use Rattle.trace_pipeline.specs.declared.read.request.Verb.TheVariants as verb
 use Rattle.trace_pipeline.specs.declared.request.Request.{Request}
 use Rattle.trace_pipeline.specs.declared.request.Call.{Call}
-use Rattle.trace_pipeline.specs.declared.request.Call.TheVariants.{New, Drop, Enter, Exit}
+use Rattle.trace_pipeline.specs.declared.request.Call.TheVariants.{New, Drop, Enter, Exit, Event}
 use Rattle.trace_pipeline.specs.Forms.{Form, ◌>>=◌, give, when, whole, whole_to, text}
 
 -- the words of `do` that are built
@@ -13,7 +13,8 @@ verb_word word =
     if bytes_eq word (codes "new") then Some verb.New else
     (if bytes_eq word (codes "drop") then Some verb.Drop else
     (if bytes_eq word (codes "enter") then Some verb.Enter else
-    (if bytes_eq word (codes "exit") then Some verb.Exit else None)))
+    (if bytes_eq word (codes "exit") then Some verb.Exit else
+    (if bytes_eq word (codes "event") then Some verb.Event else None))))
 
 -- `new` makes a span of a callsite
 unfoldable pub new_form : Form Call
@@ -39,12 +40,19 @@ exit_form = do
   guard ← whole (codes "guard")
   give (Exit guard)
 
+-- `event` tells an event of a callsite
+unfoldable pub event_form : Form Call
+event_form = do
+  site ← whole (codes "site")
+  give (Event site)
+
 -- what a word of `do` goes on with
 abbrev pub call_form : Verb → Form Call
 call_form verb.New = new_form
 call_form verb.Drop = drop_form
 call_form verb.Enter = enter_form
 call_form verb.Exit = exit_form
+call_form verb.Event = event_form
 
 -- the lane is the first one
 unfoldable pub request_form : Form Request

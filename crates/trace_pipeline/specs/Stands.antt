@@ -1,6 +1,8 @@
 -- A pipeline's state stands for settings and the requests so far.
-use Rattle.std.specs.Prelude.{◌≡◌, ℕ, ◌^◌, ◌<◌, ◌≤◌, List, [], ◌∷◌, ◌++◌, length, Ok, Err, ◌≢◌, Option, Some, option_map, unwrap_or, map, fold, count_by, Bool, nat_lt, is_some}
+use Rattle.std.specs.Prelude.{◌≡◌, ℕ, ◌^◌, ◌<◌, ◌≤◌, List, [], ◌∷◌, ◌++◌, length, Ok, Err, ◌≢◌, Option, Some, None, option_map, unwrap_or, map, fold, count_by, Bool, nat_lt, is_some}
+use Rattle.std.specs.List.{list_any}
 use Rattle.otel_base.specs.declared.record.Record.{Record}
+use Rattle.otel_base.specs.declared.record.OtelEvent.{OtelEvent}
 use Rattle.trace_base.specs.declared.level.LevelFilter.{LevelFilter}
 use Rattle.trace_pipeline.specs.declared.settings.Settings.{Settings}
 use Rattle.trace_pipeline.specs.declared.names.Handle.{Handle}
@@ -8,15 +10,15 @@ use Rattle.trace_pipeline.specs.declared.names.Handle.TheVariants.{Disabled, Ena
 use Rattle.trace_pipeline.specs.declared.names.Guard.{Guard}
 use Rattle.trace_pipeline.specs.declared.span.Span.{Span}
 use Rattle.trace_pipeline.specs.declared.times.Times.{Times}
-use Rattle.trace_pipeline.specs.Machine.{span_at}
+use Rattle.trace_pipeline.specs.Machine.{span_at, events_at}
 use Rattle.trace_pipeline.specs.declared.reply.Reply.{Reply}
 use Rattle.trace_pipeline.specs.declared.request.Request.{Request}
 use Rattle.trace_pipeline.specs.declared.reply.Refusal.{Refusal}
 use Rattle.trace_pipeline.specs.declared.reply.Refusal.TheVariants.{Memory}
 use Rattle.trace_pipeline.specs.Effects.{Resolved, in_force, effect_of, reply_to}
 use Rattle.trace_pipeline.specs.Content.{records_of}
-use Rattle.trace_pipeline.specs.History.{Line, Made, Guarded, Effect, History, handles, guards, slot_at, made, made_of, started, place_in, moment, holds}
-use Rattle.trace_pipeline.specs.Ops.{Stamped, ops, entered_after, busy, last_exit}
+use Rattle.trace_pipeline.specs.History.{Line, Made, Guarded, Effect, History, handles, guards, slot_at, made, made_of, started, place_in, moment, holds, own, entries}
+use Rattle.trace_pipeline.specs.Ops.{Stamped, ops, entered_after, busy, last_exit, events, is_error_event}
 
 -- what is kept, but for the finished records
 pub record State : Type 0 where
@@ -24,8 +26,9 @@ pub record State : Type 0 where
   pub in_force : LevelFilter
   pub handles : List (Option Handle)
   pub guards : List (Option Guard)
-  pub open_guards : ℕ
+  pub open_guard : Option Guard
   pub spans : List Span
+  pub events : List (List OtelEvent)
   pub started : ℕ
   pub moment : ℕ
 
@@ -50,9 +53,13 @@ times_of os = record {
   left = last_exit os;
 }
 
+-- whether an event of level ERROR is among the ops
+abbrev pub has_error : List Stamped → Bool
+has_error os = list_any (λ op. is_error_event op.op) os
+
 -- what is kept of a span with a making, an id, a number of handles that hold it, and these ops
 abbrev pub span_by : Made → ℕ → ℕ → List Stamped → Span
-span_by made id below os = record { site = made.site; made = made.at; id = id; holds = below; times = times_of os }
+span_by made id below os = record { site = made.site; made = made.at; id = id; holds = below; failed = has_error os; times = times_of os }
 
 abbrev pub is_started : Span → Bool
 is_started span = nat_lt 0 span.id
@@ -77,28 +84,53 @@ pub record SpansFit (spans : List Span) (started : ℕ) (ms : List Made) (order 
   pub starts : started ≡ length order
   pub placed : count_by is_started spans ≡ started
   pub timed : (s : ℕ) → IsTimed (span_at spans s).times last guards
+  pub unmade : (s : ℕ) → length ms ≤ s → os s ≡ []
+
+-- The events fit the ops of each span that some handle holds.
+pub record EventsFit (told : List (List OtelEvent)) (made : ℕ) (below : ℕ → ℕ) (os : ℕ → List Stamped) : Type 0 where
+  pub count : length told ≡ made
+  pub each : (s : ℕ) → 0 < below s → events_at told s ≡ events (os s)
+
+-- the guard that is open, if there is one
+abbrev pub open_of : List (Option Guarded) → Option Guarded
+open_of [] = None
+open_of (None ∷ slots) = open_of slots
+open_of (Some guarded ∷ slots) = Some guarded
+
+-- the entry that an open guard stands for
+abbrev pub entered_by : Option Guarded → List ℕ
+entered_by None = []
+entered_by (Some guarded) = own guarded.line
+
+-- The guards fit their table, in which at most one is open, and the lane's entries.
+pub record GuardsFit (kept : List (Option Guard)) (open_guard : Option Guard) (gs : List (Option Guarded)) (es : List ℕ) : Type 0 where
+  pub slots : kept ≡ map (option_map guard_of) gs
+  pub only : open_guard ≡ option_map guard_of (open_of gs)
+  pub one : count_by is_some gs ≤ 1
+  pub entered : es ≡ entered_by (open_of gs)
 
 -- how many unspent handles hold a span
 abbrev pub held : List (Option Line) → ℕ → ℕ
 held hs s = count_by (holds s) hs
 
--- What is kept fits the tables of a history: its handles, guards, makings, starts, ops and last moment.
-pub record Fits (k : State) (hs : List (Option Line)) (gs : List (Option Guarded)) (ms : List Made) (order : List ℕ) (os : ℕ → List Stamped) (last : ℕ) : Type 0 where
+-- What is kept fits the tables of a history: its handles, guards, makings, starts, ops, entries and last moment.
+pub record Fits (k : State) (hs : List (Option Line)) (gs : List (Option Guarded)) (ms : List Made) (order : List ℕ) (os : ℕ → List Stamped) (es : List ℕ) (last : ℕ) : Type 0 where
   pub handle_slots : k.handles ≡ map (option_map handle_of) hs
-  pub guard_slots : k.guards ≡ map (option_map guard_of) gs
-  pub guard_count : k.open_guards ≡ count_by is_some gs
+  pub guards_fit : GuardsFit k.guards k.open_guard gs es
   pub spans_fit : SpansFit k.spans k.started ms order (held hs) os last (length gs)
+  pub events_fit : EventsFit k.events (length ms) (held hs) os
   pub latest : k.moment ≡ last
   -- facts of each history that lead here
   pub named : (n : ℕ) (line : Line) → slot_at hs n ≡ Some line → IsMade (length ms) line
   pub kept : (n : ℕ) (guarded : Guarded) → slot_at gs n ≡ Some guarded → IsMade (length ms) guarded.line
+  pub lines : (s : ℕ) → s < length ms → (made_of ms s).line ≡ s ∷ []
   pub early : last < 2 ^ 63
 
 -- the state stands for settings and the effects of the requests so far
 pub record StandsFor (k : State) (settings : Settings) (h : History) : Type 0 where
   pub settings_kept : k.settings ≡ settings
   pub filter_kept : k.in_force ≡ in_force settings
-  pub fits : Fits k (handles h) (guards h) (made h) (started h) (ops h) (moment h)
+  pub fits : Fits k (handles h) (guards h) (made h) (started h) (ops h) (entries h 0) (moment h)
 
 -- A reply is served where the request has an effect: the reply and the new records are the effect's, and the
 -- state stands for one effect more.

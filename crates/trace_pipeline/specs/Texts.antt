@@ -20,6 +20,7 @@ abbrev pub reply_members : Reply → List (List ℕ × Data)
 reply_members (reply.Made enabled handle) = (codes "enabled", boolean enabled) ∷ (codes "handle", whole handle) ∷ []
 reply_members (reply.Guard guard) = (codes "guard", whole guard) ∷ []
 reply_members reply.Done = []
+reply_members (reply.Enabled enabled) = (codes "enabled", boolean enabled) ∷ []
 
 -- a reply, with the number of its request's line
 abbrev pub reply_data : ℕ → Reply → Data
@@ -52,6 +53,8 @@ refused_as name = (codes "refused", string name)
 abbrev pub step_members : Refusal → List (List ℕ × Data)
 step_members refusal.Later = refused_as (codes "Later") ∷ []
 step_members (refusal.UnknownName unknown) = refused_as (codes "UnknownName") ∷ (codes "what", string (what_name unknown)) ∷ []
+step_members (refusal.BadMoment before given) = refused_as (codes "BadMoment") ∷ (codes "before", whole before) ∷ (codes "given", whole given) ∷ []
+step_members refusal.InUse = refused_as (codes "InUse") ∷ []
 step_members refusal.Memory = refused_as (codes "Memory") ∷ []
 
 -- what a refusal line tells of the refusal

@@ -1,5 +1,5 @@
 //! The record of a span that closes.
-ghost use Rattle.std.specs.Prelude.{◌≡◌, ◌^◌, ◌<◌, pos, IfOk};
+ghost use Rattle.std.specs.Prelude.{◌≡◌, ◌^◌, ◌<◌, [], pos, IfOk, if◌then◌else◌};
 ghost use Rattle.trace_pipeline.specs.Machine.{idle_by, attributes_by, record_by, name_at};
 
 use crate::span::Span;
@@ -54,7 +54,19 @@ fn site_name(alloc: Global, callsites: &[Callsite], site: u64) -> Result<Text, M
     }
 }
 
-/// The record of a span that closes at a moment.
+fn status(alloc: Global, failed: bool) -> Status
+    ensures { result ≡ (if failed then Status.Error [] else Status.Unset) }
+{
+    if failed {
+        Status::Error {
+            description: Text::from(String::new(alloc)),
+        }
+    } else {
+        Status::Unset
+    }
+}
+
+/// The record of a span that closes at a moment, without its events.
 pub fn finished_record(
     alloc: Global,
     callsites: &[Callsite],
@@ -62,7 +74,7 @@ pub fn finished_record(
     at: Moment,
 ) -> Result<Record, Memory>
     ensures { IfOk result (λ finished. span.now.times.busy < 2 ^ 63 → idle_by span.now < 2 ^ 63
-        → finished ≡ record_by (name_at callsites.now span.now.site) span.now at) }
+        → finished ≡ record_by (name_at callsites.now span.now.site) span.now [] at) }
 {
     let context = SpanContext {
         trace: u128::from(span.id),
@@ -78,6 +90,6 @@ pub fn finished_record(
         attributes: closing_attributes(alloc, span.times.busy, idle(span))?,
         events: Items::new(alloc),
         links: Items::new(alloc),
-        status: Status::Unset,
+        status: status(alloc, span.failed),
     })
 }

@@ -1,6 +1,7 @@
 //! Scripts of span calls: reading their lines, running their requests, and writing what they give.
 #![tactic(auto)]
 
+mod events;
 mod finish;
 pub mod laws;
 mod names;

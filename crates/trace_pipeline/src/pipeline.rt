@@ -1,10 +1,12 @@
 //! A pipeline runs the requests of a script: it answers each, and gives the records of the spans that it closed.
-ghost use Rattle.std.specs.Prelude.{◌≡◌, ◌≢◌, ◌<◌, ◌≤◌, ◌^◌, ◌-◌, ◌||◌, ◌&&◌, nat_lt, ℕ, option_map, [], ◌∷◌, drop, Some, Ok, Err, IfOk, IfErr, OnErr, MatchOption};
+ghost use Rattle.std.specs.Prelude.{◌==◌, not, false, is_some, None, ◌≡◌, ◌≢◌, ◌<◌, ◌≤◌, ◌^◌, ◌-◌, ◌||◌, ◌&&◌, nat_lt, ℕ, option_map, [], ◌∷◌, drop, Some, Ok, Err, IfOk, IfErr, OnErr, MatchOption};
 ghost use Rattle.trace_pipeline.specs.History.{History, moment, open_spans};
-ghost use Rattle.trace_pipeline.specs.Effects.{effect_of, effect_of_call, is_later, waits_for_guards, span_site};
+ghost use Rattle.trace_pipeline.specs.Effects.{effect_of, effect_of_call, is_later, is_bad_moment, waits_for_guards, span_site, event_site};
+ghost use Rattle.trace_pipeline.specs.Machine.{is_borrowed_by, current_of, CanWait};
 ghost use Rattle.trace_pipeline.specs.declared.settings.Settings.{Settings as SettingsValue};
 ghost use Rattle.trace_pipeline.specs.declared.reply.Refusal.TheVariants.{Memory as NoMemory};
 
+use crate::events::{is_error, make_event};
 use crate::names::{Guard, Handle, guard_at, handle_at, spend};
 use crate::reply::{Refusal, Reply, What};
 use crate::request::{Call, Request};
@@ -51,7 +53,7 @@ pub struct Pipeline {
     in_force: LevelFilter,
     handles: Vec<Option<Handle>>,
     guards: Vec<Option<Guard>>,
-    open_guards: u64,
+    open_guard: Option<Guard>,
     spans: Spans,
     moment: Moment,
     finished: VecDeque<Record>,
@@ -68,8 +70,9 @@ impl Model for Pipeline {
         in_force = p.in_force;
         handles = p.handles.items;
         guards = p.guards.items;
-        open_guards = p.open_guards;
+        open_guard = p.open_guard;
         spans = p.spans.list.items;
+        events = p.spans.events.items;
         started = p.spans.started;
         moment = p.moment;
       };
@@ -91,21 +94,58 @@ fn span_site(callsites: &[Callsite], site: u64) -> Option<&Callsite>
     }
 }
 
-// Only an exit is built while some guard is open.
+/// The callsite at a place, if it makes events.
+fn event_site(callsites: &[Callsite], site: u64) -> Option<&Callsite>
+    ensures { option_map (λ callsite. callsite.now) result ≡ event_site callsites.now site }
+{
+    let callsite = callsites.get(site as usize)?;
+    match callsite.kind {
+        Kind::Span => None,
+        Kind::Event => Some(callsite),
+    }
+}
+
+// Neither a making nor an entry is built while some guard is open.
 fn waits_for_guards(call: &Call) -> bool
     ensures { result ≡ waits_for_guards call.now }
 {
     match call {
-        Call::New { .. } | Call::Drop { .. } | Call::Enter { .. } => true,
-        Call::Exit { .. } => false,
+        Call::New { .. } | Call::Enter { .. } => true,
+        Call::Drop { .. } | Call::Exit { .. } | Call::Event { .. } => false,
     }
 }
 
-// Whether no built form of request can do this, after a last moment and with some guards open.
-fn is_unbuilt(last: Moment, open_guards: u64, at: Moment, call: &Call) -> bool
-    ensures { result ≡ (nat_lt at last || nat_lt (2 ^ 63 - 1) at || (waits_for_guards call.now && nat_lt 0 open_guards)) }
+fn is_bad_moment(before: Moment, given: Moment) -> bool
+    ensures { result ≡ is_bad_moment before given }
 {
-    at < last || at > LAST_MOMENT || (waits_for_guards(call) && open_guards > 0)
+    given < before || given > LAST_MOMENT
+}
+
+// Whether no built form of request can do this while a guard is open or not.
+fn is_unbuilt(lane: u64, open_guard: Option<Guard>, call: &Call) -> bool
+    ensures { result ≡ (not (lane == 0) || (waits_for_guards call.now && is_some open_guard)) }
+{
+    lane != 0 || (waits_for_guards(call) && open_guard.is_some())
+}
+
+// Whether the open guard, if there is one, names the handle.
+fn is_borrowed(open_guard: Option<Guard>, handle: u64) -> bool
+    ensures { result ≡ is_borrowed_by open_guard handle }
+{
+    match open_guard {
+        Some(guard) => guard.handle == handle,
+        None => false,
+    }
+}
+
+// What the open guard's entry stands for.
+fn current(open_guard: Option<Guard>) -> Handle
+    ensures { result ≡ current_of open_guard }
+{
+    match open_guard {
+        Some(guard) => guard.entered,
+        None => Handle::Disabled,
+    }
 }
 
 impl Pipeline {
@@ -123,15 +163,16 @@ impl Pipeline {
             in_force,
             handles: Vec::new(alloc),
             guards: Vec::new(alloc),
-            open_guards: 0,
+            open_guard: None,
             spans: Spans::new(alloc),
             moment: 0,
             finished: VecDeque::new(alloc),
         })
     }
 
-    /// Runs a request. A refused step leaves the pipeline as it was: `Later` where no built form of request can do
-    /// this, `UnknownName` where it names what isn't there, `Memory` freely.
+    /// Runs a request on the first lane. A refused step leaves the pipeline as it was: `Later` where no built form of
+    /// request can do this, `BadMoment` where the moment falls or is above 2^63 - 1, `UnknownName` where it names what
+    /// isn't there, `InUse` where it drops a handle with an open guard, `Memory` freely.
     pub fn step(&mut self, request: Request) -> Result<Reply, Refusal>
         ensures ok { (settings : SettingsValue) (h : History) → StandsFor self.old.state settings h
             → IfOk result (Answered settings h request self.old self.new) }
@@ -140,10 +181,16 @@ impl Pipeline {
         ensures err { OnErr result (self.new ≡ self.old) }
     {
         let Request { at, lane, call } = request;
-        if self.is_later(at, &call) {
+        if self.is_later(lane, &call) {
             return Err(Refusal::Later);
         }
-        if lane as usize >= self.settings.lanes.as_slice().len() {
+        if is_bad_moment(self.moment, at) {
+            return Err(Refusal::BadMoment {
+                before: self.moment,
+                given: at,
+            });
+        }
+        if self.settings.lanes.as_slice().is_empty() {
             return Err(Refusal::UnknownName { what: What::Lane });
         }
         self.call(at, call)
@@ -164,18 +211,20 @@ impl Pipeline {
         self.spans.open()
     }
 
-    fn is_later(&self, at: Moment, call: &Call) -> bool
-        ensures { (settings : SettingsValue) (h : History) (lane : ℕ) → StandsFor self.now.state settings h
+    fn is_later(&self, lane: u64, call: &Call) -> bool
+        ensures refused { (settings : SettingsValue) (h : History) (at : ℕ) → StandsFor self.now.state settings h
             → result ≡ is_later h (record { at = at; lane = lane; call = call.now }) }
+        ensures built { result ≡ false → CanWait call.now self.now.state.open_guard }
     {
-        is_unbuilt(self.moment, self.open_guards, at, call)
+        is_unbuilt(lane, self.open_guard, call)
     }
 
     fn call(&mut self, at: Moment, call: Call) -> Result<Reply, Refusal>
+        requires { CanWait call self.old.state.open_guard }
         ensures ok { (settings : SettingsValue) (h : History) → StandsFor self.old.state settings h → moment h ≤ at → at < 2 ^ 63
-            → IfOk result (Served (effect_of_call settings h at call) settings h self.old self.new) }
+            → IfOk result (Served (effect_of_call settings h at 0 call) settings h self.old self.new) }
         ensures refused { (settings : SettingsValue) (h : History) → StandsFor self.old.state settings h
-            → IfErr result (IsRefusal (effect_of_call settings h at call)) }
+            → IfErr result (IsRefusal (effect_of_call settings h at 0 call)) }
         ensures err { OnErr result (self.new ≡ self.old) }
     {
         match call {
@@ -183,14 +232,15 @@ impl Pipeline {
             Call::Drop { handle } => self.drop_handle(at, handle),
             Call::Enter { handle } => self.enter(at, handle),
             Call::Exit { guard } => self.exit(at, guard),
+            Call::Event { site } => self.tell(at, site),
         }
     }
 
     fn make(&mut self, at: Moment, site: u64) -> Result<Reply, Refusal>
         ensures ok { (settings : SettingsValue) (h : History) → StandsFor self.old.state settings h → moment h ≤ at → at < 2 ^ 63
-            → IfOk result (Served (effect_of_call settings h at (Call.New site)) settings h self.old self.new) }
+            → IfOk result (Served (effect_of_call settings h at 0 (Call.New site)) settings h self.old self.new) }
         ensures refused { (settings : SettingsValue) (h : History) → StandsFor self.old.state settings h
-            → IfErr result (IsRefusal (effect_of_call settings h at (Call.New site))) }
+            → IfErr result (IsRefusal (effect_of_call settings h at 0 (Call.New site))) }
         ensures err { OnErr result (self.new ≡ self.old) }
     {
         let Some(callsite) = span_site(self.settings.callsites.as_slice(), site) else {
@@ -198,7 +248,8 @@ impl Pipeline {
         };
         let handle = self.handles.len() as u64;
         if self.in_force.lets_through(callsite.level) {
-            self.spans.add(&mut self.handles, Span::new(site, at))?;
+            self.spans
+                .add(self.alloc, &mut self.handles, Span::new(site, at))?;
             self.moment = at;
             Ok(Reply::Made {
                 enabled: true,
@@ -216,14 +267,17 @@ impl Pipeline {
 
     fn drop_handle(&mut self, at: Moment, handle: u64) -> Result<Reply, Refusal>
         ensures ok { (settings : SettingsValue) (h : History) → StandsFor self.old.state settings h → moment h ≤ at → at < 2 ^ 63
-            → IfOk result (Served (effect_of_call settings h at (Call.Drop handle)) settings h self.old self.new) }
+            → IfOk result (Served (effect_of_call settings h at 0 (Call.Drop handle)) settings h self.old self.new) }
         ensures refused { (settings : SettingsValue) (h : History) → StandsFor self.old.state settings h
-            → IfErr result (IsRefusal (effect_of_call settings h at (Call.Drop handle))) }
+            → IfErr result (IsRefusal (effect_of_call settings h at 0 (Call.Drop handle))) }
         ensures err { OnErr result (self.new ≡ self.old) }
     {
         let Some(dropped) = handle_at(&self.handles, handle) else {
             return Err(Refusal::UnknownName { what: What::Handle });
         };
+        if is_borrowed(self.open_guard, handle) {
+            return Err(Refusal::InUse);
+        }
         let callsites = self.settings.callsites.as_slice();
         self.spans
             .drop_hold(self.alloc, callsites, &mut self.finished, dropped, at)?;
@@ -233,18 +287,20 @@ impl Pipeline {
     }
 
     fn enter(&mut self, at: Moment, handle: u64) -> Result<Reply, Refusal>
+        requires { self.old.state.open_guard ≡ None }
         ensures ok { (settings : SettingsValue) (h : History) → StandsFor self.old.state settings h → moment h ≤ at → at < 2 ^ 63
-            → IfOk result (Served (effect_of_call settings h at (Call.Enter handle)) settings h self.old self.new) }
+            → IfOk result (Served (effect_of_call settings h at 0 (Call.Enter handle)) settings h self.old self.new) }
         ensures refused { (settings : SettingsValue) (h : History) → StandsFor self.old.state settings h
-            → IfErr result (IsRefusal (effect_of_call settings h at (Call.Enter handle))) }
+            → IfErr result (IsRefusal (effect_of_call settings h at 0 (Call.Enter handle))) }
         ensures err { OnErr result (self.new ≡ self.old) }
     {
         let Some(entered) = handle_at(&self.handles, handle) else {
             return Err(Refusal::UnknownName { what: What::Handle });
         };
         let guard = self.guards.len() as u64;
-        self.guards.push(Some(Guard { handle, entered }))?;
-        self.open_guards = self.open_guards.saturating_add(1);
+        let entry = Guard { handle, entered };
+        self.guards.push(Some(entry))?;
+        self.open_guard = Some(entry);
         self.spans.enter(entered, at);
         self.moment = at;
         Ok(Reply::Guard { guard })
@@ -252,18 +308,46 @@ impl Pipeline {
 
     fn exit(&mut self, at: Moment, guard: u64) -> Result<Reply, Refusal>
         ensures ok { (settings : SettingsValue) (h : History) → StandsFor self.old.state settings h → moment h ≤ at → at < 2 ^ 63
-            → IfOk result (Served (effect_of_call settings h at (Call.Exit guard)) settings h self.old self.new) }
+            → IfOk result (Served (effect_of_call settings h at 0 (Call.Exit guard)) settings h self.old self.new) }
         ensures refused { (settings : SettingsValue) (h : History) → StandsFor self.old.state settings h
-            → IfErr result (IsRefusal (effect_of_call settings h at (Call.Exit guard))) }
+            → IfErr result (IsRefusal (effect_of_call settings h at 0 (Call.Exit guard))) }
         ensures err { OnErr result (self.new ≡ self.old) }
     {
         let Some(spent) = guard_at(&self.guards, guard) else {
             return Err(Refusal::UnknownName { what: What::Guard });
         };
         spend(&mut self.guards, guard);
-        self.open_guards = self.open_guards.saturating_sub(1);
+        self.open_guard = None;
         self.spans.exit(spent.entered, at);
         self.moment = at;
         Ok(Reply::Done)
+    }
+
+    fn tell(&mut self, at: Moment, site: u64) -> Result<Reply, Refusal>
+        ensures ok { (settings : SettingsValue) (h : History) → StandsFor self.old.state settings h → moment h ≤ at → at < 2 ^ 63
+            → IfOk result (Served (effect_of_call settings h at 0 (Call.Event site)) settings h self.old self.new) }
+        ensures refused { (settings : SettingsValue) (h : History) → StandsFor self.old.state settings h
+            → IfErr result (IsRefusal (effect_of_call settings h at 0 (Call.Event site))) }
+        ensures err { OnErr result (self.new ≡ self.old) }
+    {
+        let Some(callsite) = event_site(self.settings.callsites.as_slice(), site) else {
+            return Err(Refusal::UnknownName { what: What::Site });
+        };
+        if !self.in_force.lets_through(callsite.level) {
+            self.moment = at;
+            return Ok(Reply::Enabled { enabled: false });
+        }
+        match current(self.open_guard) {
+            Handle::Enabled { span } => {
+                let event = make_event(self.alloc, callsite, at)?;
+                self.spans.tell(span, is_error(callsite.level), event, at)?;
+                self.moment = at;
+                Ok(Reply::Enabled { enabled: true })
+            }
+            Handle::Disabled => {
+                self.moment = at;
+                Ok(Reply::Enabled { enabled: true })
+            }
+        }
     }
 }

@@ -106,6 +106,7 @@ mod tests {
             Call::Drop { handle } => ("drop", *handle),
             Call::Enter { handle } => ("enter", *handle),
             Call::Exit { guard } => ("exit", *guard),
+            Call::Event { site } => ("event", *site),
         }
     }
 
@@ -127,6 +128,11 @@ mod tests {
                 r#"{"at":18446744073709551615,"lane":0,"do":"exit","guard":7}"#,
                 u64::MAX,
                 ("exit", 7),
+            ),
+            (
+                r#"{"at":15,"do":"event","lane":0,"site":1}"#,
+                15,
+                ("event", 1),
             ),
         ] {
             let request = read_request(rt.alloc(), line.as_bytes())?;

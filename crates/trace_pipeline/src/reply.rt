@@ -7,6 +7,8 @@ pub enum Reply {
     Made { enabled: bool, handle: u64 },
     /// A guard was made.
     Guard { guard: u64 },
+    /// An event, which the gate let through or not.
+    Enabled { enabled: bool },
     /// Nothing was made.
     Done,
 }
@@ -25,8 +27,12 @@ pub enum What {
 pub enum Refusal {
     /// No built form of request can do this yet.
     Later,
+    /// The moment is below that of the request before (0 before the first), or above 2^63 - 1.
+    BadMoment { before: u64, given: u64 },
     /// A lane, site, handle or guard isn't there, is spent, or is of another kind.
     UnknownName { what: What },
+    /// The handle has an open guard.
+    InUse,
     /// No memory was to be had.
     Memory,
 }

@@ -12,6 +12,8 @@ pub enum Call {
     Enter { handle: u64 },
     /// Spends a guard, which exits its span.
     Exit { guard: u64 },
+    /// Tells an event of a callsite to the lane's current span.
+    Event { site: u64 },
 }
 
 /// A call on a lane, which is named by its place, at a moment in nanoseconds.

@@ -1,6 +1,6 @@
 //! The state of one span.
-ghost use Rattle.std.specs.Prelude.{◌≡◌};
-ghost use Rattle.trace_pipeline.specs.Machine.{no_times, started_after, span_started, span_entered, span_exited};
+ghost use Rattle.std.specs.Prelude.{◌≡◌, false};
+ghost use Rattle.trace_pipeline.specs.Machine.{no_times, started_after, span_started, span_entered, span_exited, span_told};
 
 use crate::times::Times;
 use otel_base::record::Moment;
@@ -13,19 +13,22 @@ pub struct Span {
     pub made: Moment,
     pub id: u64,
     pub holds: u64,
+    /// Whether an event of level ERROR was told to it.
+    pub failed: bool,
     pub times: Times,
 }
 
 impl Span {
     /// A span that isn't started, with the hold of its first handle.
     pub fn new(site: u64, made: Moment) -> Span
-        ensures { result ≡ record { site = site; made = made; id = 0; holds = 1; times = no_times } }
+        ensures { result ≡ record { site = site; made = made; id = 0; holds = 1; failed = false; times = no_times } }
     {
         Span {
             site,
             made,
             id: 0,
             holds: 1,
+            failed: false,
             times: Times::new(),
         }
     }
@@ -52,5 +55,13 @@ impl Span {
         ensures { self.new ≡ span_exited at self.old }
     {
         self.times.exit(at);
+    }
+
+    /// Takes note of an event, whose level may be ERROR.
+    pub fn tell(&mut self, is_error: bool, at: Moment)
+        ensures { self.new ≡ span_told is_error at self.old }
+    {
+        self.times.pass(at);
+        self.failed = self.failed || is_error;
     }
 }

@@ -1,53 +1,68 @@
 //! All spans of a pipeline, by their numbers, and what requests do to them.
 ghost use Rattle.std.specs.Prelude.{◌≡◌, ◌++◌, ◌∷◌, ◌^◌, ◌<◌, [], Some, OnOk, OnErr, length, count_by};
 ghost use Rattle.trace_pipeline.specs.declared.names.Handle.TheVariants.{Enabled};
-ghost use Rattle.trace_pipeline.specs.Machine.{spans_entered, started_entered, spans_exited, spans_dropped, started_dropped, records_dropped, IsShort, is_held};
+ghost use Rattle.trace_pipeline.specs.Machine.{spans_entered, started_entered, spans_exited, spans_told, events_told, spans_dropped, started_dropped, events_dropped, records_dropped, IsShort, is_held};
 
+use crate::events::{add_event, take_events};
 use crate::finish::finished_record;
 use crate::names::Handle;
 use crate::span::Span;
+use otel_base::list::Items;
 use otel_base::memory::Memory;
-use otel_base::record::{Moment, Record};
+use otel_base::record::{Moment, OtelEvent, Record};
 use std::alloc::Global;
 use std::collections::VecDeque;
 use trace_base::callsite::Callsite;
 
-/// The spans in the order of making, and how many of them were started.
+/// The spans in the order of making, the events of each, and how many spans were started.
 #[derive(Drop)]
 pub struct Spans {
     pub list: Vec<Span>,
+    pub events: Vec<Items<OtelEvent>>,
     pub started: u64,
 }
 
 impl Spans {
     pub fn new(alloc: Global) -> Spans
         ensures list { result.list.items ≡ [] }
+        ensures events { result.events.items ≡ [] }
         ensures started { result.started ≡ 0 }
     {
         Spans {
             list: Vec::new(alloc),
+            events: Vec::new(alloc),
             started: 0,
         }
     }
 
     /// Adds a span, and a handle of it; without memory for both, neither.
-    pub fn add(&mut self, handles: &mut Vec<Option<Handle>>, span: Span) -> Result<(), Memory>
+    pub fn add(
+        &mut self,
+        alloc: Global,
+        handles: &mut Vec<Option<Handle>>,
+        span: Span,
+    ) -> Result<(), Memory>
         ensures list { OnOk result (self.new.list.items ≡ self.old.list.items ++ span ∷ []) }
+        ensures events { OnOk result (self.new.events.items ≡ self.old.events.items ++ [] ∷ []) }
         ensures handles { OnOk result (handles.new.items ≡ handles.old.items ++ Some (Enabled (length self.old.list.items)) ∷ []) }
         ensures list_stays { OnErr result (self.new.list.items ≡ self.old.list.items) }
+        ensures events_stay { OnErr result (self.new.events.items ≡ self.old.events.items) }
         ensures handles_stay { OnErr result (handles.new.items ≡ handles.old.items) }
         ensures started { self.new.started ≡ self.old.started }
     {
         self.list.reserve(1)?;
+        self.events.reserve(1)?;
         let number = self.list.len() as u64;
         handles.push(Some(Handle::Enabled { span: number }))?;
         self.list.push_reserved(span);
+        self.events.push_reserved(Items::new(alloc));
         Ok(())
     }
 
     /// Enters what a handle stands for; an entry starts a span that isn't started yet.
     pub fn enter(&mut self, handle: Handle, at: Moment)
         ensures list { self.new.list.items ≡ spans_entered self.old.started at handle self.old.list.items }
+        ensures events { self.new.events.items ≡ self.old.events.items }
         ensures started { self.new.started ≡ started_entered self.old.started handle self.old.list.items }
     {
         if let Handle::Enabled { span: number } = handle {
@@ -61,6 +76,7 @@ impl Spans {
     /// Exits what a handle stands for.
     pub fn exit(&mut self, handle: Handle, at: Moment)
         ensures list { self.new.list.items ≡ spans_exited at handle self.old.list.items }
+        ensures events { self.new.events.items ≡ self.old.events.items }
         ensures started { self.new.started ≡ self.old.started }
     {
         if let Handle::Enabled { span: number } = handle {
@@ -68,6 +84,27 @@ impl Spans {
                 span.exit(at);
             }
         }
+    }
+
+    /// Tells an event to a span; without memory for it nothing changes.
+    pub fn tell(
+        &mut self,
+        number: u64,
+        is_error: bool,
+        event: OtelEvent,
+        at: Moment,
+    ) -> Result<(), Memory>
+        ensures list { OnOk result (self.new.list.items ≡ spans_told is_error at (Enabled number) self.old.list.items) }
+        ensures events { OnOk result (self.new.events.items ≡ events_told event (Enabled number) self.old.events.items) }
+        ensures list_stays { OnErr result (self.new.list.items ≡ self.old.list.items) }
+        ensures events_stay { OnErr result (self.new.events.items ≡ self.old.events.items) }
+        ensures started { self.new.started ≡ self.old.started }
+    {
+        add_event(&mut self.events, number, event)?;
+        if let Some(span) = self.list.get_mut(number as usize) {
+            span.tell(is_error, at);
+        }
+        Ok(())
     }
 
     /// Takes the hold of a handle from what it stands for. The last hold closes a span, whose record goes to the
@@ -81,10 +118,12 @@ impl Spans {
         at: Moment,
     ) -> Result<(), Memory>
         ensures list { OnOk result (self.new.list.items ≡ spans_dropped self.old.started at handle self.old.list.items) }
+        ensures events { OnOk result (self.new.events.items ≡ events_dropped handle self.old.list.items self.old.events.items) }
         ensures started { OnOk result (self.new.started ≡ started_dropped self.old.started handle self.old.list.items) }
         ensures finished { OnOk result (IsShort self.old.started at handle self.old.list.items
-            → finished.new.items ≡ finished.old.items ++ records_dropped callsites.now self.old.started at handle self.old.list.items) }
+            → finished.new.items ≡ finished.old.items ++ records_dropped callsites.now self.old.started at handle self.old.list.items self.old.events.items) }
         ensures list_stays { OnErr result (self.new.list.items ≡ self.old.list.items) }
+        ensures events_stay { OnErr result (self.new.events.items ≡ self.old.events.items) }
         ensures started_stays { OnErr result (self.new.started ≡ self.old.started) }
         ensures finished_stay { OnErr result (finished.new.items ≡ finished.old.items) }
     {
@@ -102,7 +141,10 @@ impl Spans {
         let mut started = self.started;
         closing.start(&mut started, at);
         closing.holds = 0;
-        finished.push_back(finished_record(alloc, callsites, &closing, at)?)?;
+        finished.reserve(1)?;
+        let mut record = finished_record(alloc, callsites, &closing, at)?;
+        record.events = take_events(alloc, &mut self.events, number);
+        finished.push_back_reserved(record);
         *span = closing;
         self.started = started;
         Ok(())

@@ -136,6 +136,11 @@ mod tests {
                 "{\"enabled\":false,\"handle\":18446744073709551615,\"reply\":9}\n",
             ),
             (3, Reply::Guard { guard: 0 }, "{\"guard\":0,\"reply\":3}\n"),
+            (
+                5,
+                Reply::Enabled { enabled: true },
+                "{\"enabled\":true,\"reply\":5}\n",
+            ),
             (4, Reply::Done, "{\"reply\":4}\n"),
         ] {
             assert_eq!(rt; reply_line(alloc, line, &reply)?.as_str(), want);
@@ -158,6 +163,21 @@ mod tests {
                     refusal: Refusal::Later,
                 },
                 "{\"line\":4,\"refused\":\"Later\"}\n",
+            ),
+            (
+                Told::Step {
+                    refusal: Refusal::InUse,
+                },
+                "{\"line\":4,\"refused\":\"InUse\"}\n",
+            ),
+            (
+                Told::Step {
+                    refusal: Refusal::BadMoment {
+                        before: 10,
+                        given: 9,
+                    },
+                },
+                "{\"before\":10,\"given\":9,\"line\":4,\"refused\":\"BadMoment\"}\n",
             ),
         ] {
             assert_eq!(rt; refusal_line(alloc, 4, &told)?.as_str(), want);

@@ -100,7 +100,8 @@ fn told_of(refusal: Refusal) -> Result<Told, Memory>
     ensures other { OnOk result (refusal ≢ Refusal.Memory) }
 {
     match refusal {
-        Refusal::Later | Refusal::UnknownName { .. } => Ok(Told::Step { refusal }),
+        Refusal::Later | Refusal::BadMoment { .. } | Refusal::UnknownName { .. } | Refusal::InUse =>
+            Ok(Told::Step { refusal }),
         Refusal::Memory => Err(Memory),
     }
 }

@@ -30,6 +30,14 @@ const SPENT: &str =
 const ENTERED: &str =
     r#"{"attributes":[["busy_ns",20],["idle_ns",10]],"end":30,"events":[],"kind":"internal","links":[],"name":"s","parent":"0000000000000000","record":1,"span":"0000000000000001","start":0,"status":"unset","trace":"00000000000000000000000000000001"}"#;
 
+const ENTER: &str = r#"{"at":10,"do":"enter","handle":0,"lane":0}"#;
+
+const GUARD: &str = r#"{"guard":0,"reply":3}"#;
+
+const EXIT: &str = r#"{"at":30,"do":"exit","guard":0,"lane":0}"#;
+
+const DROP: &str = r#"{"at":50,"do":"drop","handle":0,"lane":0}"#;
+
 const END: &str = r#"{"done":true,"open":0,"records":0}"#;
 
 const ONE_OPEN: &str = r#"{"done":true,"open":1,"records":0}"#;
@@ -165,27 +173,107 @@ fn expect_lines<R: Abort + Threads + Wait + Sync + AllocGlobal>(
 
 #[test]
 fn runs_scripts(rt: HostRuntime) -> Result<(), Fail> {
-    let enter = r#"{"at":10,"do":"enter","handle":0,"lane":0}"#;
-    let exit = r#"{"at":30,"do":"exit","guard":0,"lane":0}"#;
-    let late_drop = r#"{"at":50,"do":"drop","handle":0,"lane":0}"#;
-    let guard = r#"{"guard":0,"reply":3}"#;
     let fourth = r#"{"reply":4}"#;
     let fifth = r#"{"reply":5}"#;
     expect_lines(&rt, &[], &[END], Status::Ok)?;
     expect_lines(&rt, &[NEW], &[MADE, ONE_OPEN], Status::Ok)?;
     expect_lines(
         &rt,
-        &[NEW, enter, exit, late_drop],
-        &[MADE, guard, fourth, fifth, ENTERED, ONE_RECORD],
+        &[NEW, ENTER, EXIT, DROP],
+        &[MADE, GUARD, fourth, fifth, ENTERED, ONE_RECORD],
         Status::Ok,
     )?;
     let declined = r#"{"at":0,"do":"new","lane":0,"site":4}"#;
     let disabled = r#"{"enabled":false,"handle":0,"reply":2}"#;
     expect_lines(
         &rt,
-        &[declined, enter, exit, late_drop],
-        &[disabled, guard, fourth, fifth, END],
+        &[declined, ENTER, EXIT, DROP],
+        &[disabled, GUARD, fourth, fifth, END],
         Status::Ok,
+    )
+}
+
+#[test]
+fn tells_events(rt: HostRuntime) -> Result<(), Fail> {
+    let event = r#"{"at":15,"do":"event","lane":0,"site":1}"#;
+    let fourth = r#"{"enabled":true,"reply":4}"#;
+    let fifth = r#"{"reply":5}"#;
+    let sixth = r#"{"reply":6}"#;
+    let told =
+        r#"{"attributes":[["busy_ns",20],["idle_ns",10]],"end":30,"events":[{"attributes":[["level","INFO"],["target","app"]],"name":"e","time":15}],"kind":"internal","links":[],"name":"s","parent":"0000000000000000","record":1,"span":"0000000000000001","start":0,"status":"unset","trace":"00000000000000000000000000000001"}"#;
+    expect_lines(
+        &rt,
+        &[NEW, ENTER, event, EXIT, DROP],
+        &[MADE, GUARD, fourth, fifth, sixth, told, ONE_RECORD],
+        Status::Ok,
+    )?;
+    let late = r#"{"at":30,"do":"event","lane":0,"site":2}"#;
+    let exited = r#"{"reply":4}"#;
+    let nowhere = r#"{"enabled":true,"reply":5}"#;
+    expect_lines(
+        &rt,
+        &[NEW, ENTER, EXIT, late, DROP],
+        &[MADE, GUARD, exited, nowhere, sixth, ENTERED, ONE_RECORD],
+        Status::Ok,
+    )
+}
+
+#[test]
+fn keeps_events_in_order(rt: HostRuntime) -> Result<(), Fail> {
+    let event = r#"{"at":15,"do":"event","lane":0,"site":1}"#;
+    let fault = r#"{"at":15,"do":"event","lane":0,"site":2}"#;
+    let declined = r#"{"at":15,"do":"event","lane":0,"site":3}"#;
+    let fourth = r#"{"enabled":true,"reply":4}"#;
+    let fifth = r#"{"enabled":true,"reply":5}"#;
+    let unlet = r#"{"enabled":false,"reply":6}"#;
+    let seventh = r#"{"reply":7}"#;
+    let eighth = r#"{"reply":8}"#;
+    let both =
+        r#"{"attributes":[["busy_ns",20],["idle_ns",10]],"end":30,"events":[{"attributes":[["level","ERROR"],["target","app"]],"name":"x","time":15},{"attributes":[["level","INFO"],["target","app"]],"name":"e","time":15}],"kind":"internal","links":[],"name":"s","parent":"0000000000000000","record":1,"span":"0000000000000001","start":0,"status":{"error":""},"trace":"00000000000000000000000000000001"}"#;
+    expect_lines(
+        &rt,
+        &[NEW, ENTER, fault, event, declined, EXIT, DROP],
+        &[
+            MADE, GUARD, fourth, fifth, unlet, seventh, eighth, both, ONE_RECORD,
+        ],
+        Status::Ok,
+    )
+}
+
+#[test]
+fn refuses_steps_under_a_guard(rt: HostRuntime) -> Result<(), Fail> {
+    let enter = r#"{"at":1,"do":"enter","handle":0,"lane":0}"#;
+    let drop = r#"{"at":2,"do":"drop","handle":0,"lane":0}"#;
+    let in_use = r#"{"line":4,"refused":"InUse"}"#;
+    let fallen = r#"{"at":0,"do":"exit","guard":0,"lane":0}"#;
+    let before = r#"{"before":1,"given":0,"line":4,"refused":"BadMoment"}"#;
+    let past = r#"{"at":9223372036854775808,"do":"drop","handle":0,"lane":0}"#;
+    let after = r#"{"before":1,"given":9223372036854775808,"line":4,"refused":"BadMoment"}"#;
+    let cut = r#"{"at":2,"do":"#;
+    let bad = r#"{"line":4,"refused":"BadLine"}"#;
+    let later = r#"{"line":4,"refused":"Later"}"#;
+    for (line, refusal) in [
+        (drop, in_use),
+        (fallen, before),
+        (past, after),
+        (cut, bad),
+        (NEW, later),
+        (ENTER, later),
+    ] {
+        expect_lines(
+            &rt,
+            &[NEW, enter, line],
+            &[MADE, GUARD, refusal],
+            Status::Refused,
+        )?;
+    }
+    let declined = r#"{"at":0,"do":"new","lane":0,"site":4}"#;
+    let disabled = r#"{"enabled":false,"handle":0,"reply":2}"#;
+    expect_lines(
+        &rt,
+        &[declined, enter, drop],
+        &[disabled, GUARD, in_use],
+        Status::Refused,
     )
 }
 
@@ -198,6 +286,8 @@ fn refuses_lines(rt: HostRuntime) -> Result<(), Fail> {
         (r#"{"at":0,"do":"current","lane":0}"#, later),
         (r#"{"at":0,"do":"new","lane":0,"site":1}"#, no_site),
         (r#"{"at":0,"do":"new","lane":0,"site":5}"#, no_site),
+        (r#"{"at":0,"do":"event","lane":0,"site":0}"#, no_site),
+        (r#"{"at":0,"do":"event","lane":0,"site":9}"#, no_site),
         (r#"{"at":0,"do":"new","lane":0,"more":1,"site":0}"#, later),
         (r#"{"at":0.5,"do":"new","lane":0,"site":0}"#, later),
         (r#"{"at":0,"do":"new","#, bad),
@@ -206,11 +296,12 @@ fn refuses_lines(rt: HostRuntime) -> Result<(), Fail> {
         expect_lines(&rt, &[line], &[refusal], Status::Refused)?;
     }
     let drop = r#"{"at":1,"do":"drop","handle":0,"lane":0}"#;
+    let again = r#"{"at":2,"do":"drop","handle":0,"lane":0}"#;
     let third = r#"{"reply":3}"#;
     let spent = r#"{"line":4,"refused":"UnknownName","what":"handle"}"#;
     expect_lines(
         &rt,
-        &[NEW, drop, drop],
+        &[NEW, drop, again],
         &[MADE, third, SPENT, spent],
         Status::Refused,
     )

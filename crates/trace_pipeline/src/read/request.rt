@@ -2,7 +2,7 @@
 ghost use Rattle.std.specs.Prelude.{◌≡◌};
 ghost use Rattle.trace_pipeline.specs.Gives.{Gives};
 ghost use Rattle.trace_pipeline.specs.Left.{left};
-ghost use Rattle.trace_pipeline.specs.RequestForm.{verb_word, new_form, drop_form, enter_form, exit_form, call_form, request_form};
+ghost use Rattle.trace_pipeline.specs.RequestForm.{verb_word, new_form, drop_form, enter_form, exit_form, event_form, call_form, request_form};
 
 use crate::read::LineError;
 use crate::read::object::Object;
@@ -15,6 +15,7 @@ pub(crate) enum Verb {
     Drop,
     Enter,
     Exit,
+    Event,
 }
 
 fn verb_of(word: &str) -> Option<Verb>
@@ -25,6 +26,7 @@ fn verb_of(word: &str) -> Option<Verb>
         "drop" => Some(Verb::Drop),
         "enter" => Some(Verb::Enter),
         "exit" => Some(Verb::Exit),
+        "event" => Some(Verb::Event),
         _ => None,
     }
 }
@@ -61,6 +63,14 @@ fn exit_call(object: &mut Object) -> Result<Call, LineError>
     Ok(Call::Exit { guard })
 }
 
+#[tactic(auto, unfolding(crate::specs::RequestForm::event_form))]
+fn event_call(object: &mut Object) -> Result<Call, LineError>
+    ensures { Gives (λ c. (c, left object.new)) result (event_form (left object.old)) }
+{
+    let site = object.whole("site")?;
+    Ok(Call::Event { site })
+}
+
 fn call(verb: Verb, object: &mut Object) -> Result<Call, LineError>
     ensures { Gives (λ c. (c, left object.new)) result (call_form verb (left object.old)) }
 {
@@ -69,6 +79,7 @@ fn call(verb: Verb, object: &mut Object) -> Result<Call, LineError>
         Verb::Drop => drop_call(object),
         Verb::Enter => enter_call(object),
         Verb::Exit => exit_call(object),
+        Verb::Event => event_call(object),
     }
 }
 

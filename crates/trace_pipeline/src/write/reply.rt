@@ -27,6 +27,10 @@ pub fn write_reply(out: &mut Writer, line: u64, reply: &Reply) -> Result<(), All
             end_reply(out, line)
         }
         Reply::Done => end_reply(out, line),
+        Reply::Enabled { enabled } => {
+            bool_member(out, "enabled", *enabled)?;
+            end_reply(out, line)
+        }
     }
 }
 

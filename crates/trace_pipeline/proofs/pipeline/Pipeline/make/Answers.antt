@@ -10,5 +10,5 @@ returns-in_ok-push-clause-ok c = λ settings h stands before early.
 
 pub returns-in_ok-add-clause-ok : goal.returns-in_ok-add-clause-ok
 returns-in_ok-add-clause-ok c = λ settings h stands before early.
-    rw (c.in_ok-add.ensures.list, c.in_ok-add.ensures.handles, c.in_ok-add.ensures.started, c.new.ensures, c.len-handle.ensures, c.self.inside.handles.ok.0)
+    rw (c.in_ok-add.ensures.list, c.in_ok-add.ensures.events, c.in_ok-add.ensures.handles, c.in_ok-add.ensures.started, c.new.ensures, c.len-handle.ensures, c.self.inside.handles.ok.0)
     (serves_made _ _ c.self.view_is settings h c.args.at stands before early c.args.site c.in-Some.callsite.now (search rules) (search rules))

@@ -1,0 +1,55 @@
+-- The events and the status of a list of ops: one op more, and the status as one test.
+use Rattle.std.proofs.Common.{◌≡◌, List, [], ◌∷◌, ◌++◌, take, drop, Bool, true, false, cond, ◌||◌, fold, refl, sym, ap, ◌∙◌}
+use Rattle.std.specs.List.{flat_map, position_or_len}
+use Rattle.std.proofs.lemmas.List.{flat_map_more, take-append-drop, length-take-le}
+use Rattle.std.proofs.lemmas.List.Folds.{list_any-append}
+use Rattle.std.proofs.lemmas.List.Sums.{prefix_len-le-length}
+use Rattle.otel_base.specs.declared.status.Status.{Status}
+use Rattle.otel_base.specs.declared.status.Status.TheVariants.{Unset, Error}
+use Rattle.trace_pipeline.specs.Ops.{Stamped, Op, Start, Enter, Exit, Event, event_in, events, status_in, status, greater, before_start, from_start, is_start, is_error_event}
+use Rattle.trace_pipeline.specs.Stands.{has_error}
+
+pub events_push : (os : List Stamped) (op : Stamped) → events (os ++ op ∷ []) ≡ events os ++ event_in op.op
+events_push os op = sym (flat_map_more (λ op. event_in op.op) [] os op)
+
+pub or_false : (b : Bool) → (b || false) ≡ b
+or_false true = refl
+or_false false = refl
+
+pub error_push : (os : List Stamped) (op : Stamped) → has_error (os ++ op ∷ []) ≡ (has_error os || is_error_event op.op)
+error_push os op = list_any-append (λ op. is_error_event op.op) os (op ∷ []) ∙ ap (λ b. has_error os || b) (or_false (is_error_event op.op))
+
+-- the status of some ops that may have failed
+abbrev pub failed_status : Bool → Status
+failed_status failed = cond failed (Error []) Unset
+
+one_write : (b failed : Bool) → fold greater (failed_status b) (cond failed (Error [] ∷ []) []) ≡ failed_status (b || failed)
+one_write true true = refl
+one_write true false = refl
+one_write false true = refl
+one_write false false = refl
+
+or_assoc : (a b c : Bool) → ((a || b) || c) ≡ (a || (b || c))
+or_assoc true b c = refl
+or_assoc false b c = refl
+
+later_writes : (b : Bool) (os : List Stamped) → fold greater (failed_status b) (flat_map (λ op. status_in op.op) os) ≡ failed_status (b || has_error os)
+later_writes b [] = ap failed_status (sym (or_false b))
+later_writes b (op ∷ os) = by_op op.op (later_writes b os) (λ failed. later_writes (b || failed) os)
+  where
+    by_op : (what : Op) → fold greater (failed_status b) (flat_map (λ op. status_in op.op) os) ≡ failed_status (b || has_error os)
+        → ((failed : Bool) → fold greater (failed_status (b || failed)) (flat_map (λ op. status_in op.op) os) ≡ failed_status ((b || failed) || has_error os))
+        → fold greater (failed_status b) (status_in what ++ flat_map (λ op. status_in op.op) os) ≡ failed_status (b || (is_error_event what || has_error os))
+    by_op Start same more = same
+    by_op Enter same more = same
+    by_op Exit same more = same
+    by_op (Event true event) same more = ap (λ v. fold greater v (flat_map (λ op. status_in op.op) os)) (one_write b true) ∙ more true ∙ ap failed_status (or_assoc b true (has_error os))
+    by_op (Event false event) same more = same
+
+-- The status is Error with an empty description exactly if an event of level ERROR came.
+pub status_is : (os : List Stamped) → status os ≡ failed_status (has_error os)
+status_is os =
+    let start = position_or_len (λ (op : Stamped). is_start op.op) os in
+    let whole = ap (λ n. take start os ++ drop n os) (length-take-le start os (prefix_len-le-length _ os)) ∙ take-append-drop start os in
+    later_writes (has_error (before_start os)) (from_start os)
+    ∙ ap failed_status (sym (list_any-append (λ op. is_error_event op.op) (before_start os) (from_start os)) ∙ ap has_error whole)
