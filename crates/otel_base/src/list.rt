@@ -5,7 +5,7 @@ use crate::memory::Memory;
 use std::alloc::Global;
 use std::marker::Model;
 
-/// A list: a `Vec` that contracts see as the list of its items.
+/// A list: a `Vec` that contracts see as the list of its items. It stands for the `Vec`s of the OpenTelemetry types.
 #[derive(Clone, Drop)]
 pub struct Items<T> {
     items: Vec<T>,
@@ -45,7 +45,7 @@ impl<T> Items<T> {
 }
 
 impl<T: Drop> Items<T> {
-    /// Adds an item at the end. Without memory for it the list stays as it is.
+    /// Adds an item at the end. `Memory` where there is none for it; the list then stays as it is.
     pub fn push(&mut self, item: T) -> Result<(), Memory>
         ensures ok { OnOk result (self.new ≡ self.old ++ item ∷ []) }
         ensures memory_leaves { OnErr result (self.new ≡ self.old) }

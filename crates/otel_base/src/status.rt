@@ -1,10 +1,13 @@
 //! The status of a span.
 use crate::text::Text;
 
-/// How a span went, from the least to the greatest; `Status` of OpenTelemetry.
+/// How a span went, from the least to the greatest; `opentelemetry::trace::Status`.
 #[derive(Clone, Drop)]
 pub enum Status {
+    /// Nothing was told.
     Unset,
+    /// It failed.
     Error { description: Text },
+    /// It is said to have gone well, and no error changes that.
     Ok,
 }

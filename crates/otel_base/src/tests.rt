@@ -1,5 +1,6 @@
-//! Texts and lists give back what they were made of.
+//! Texts and lists give back what they were made of, and want of memory has a text.
 use crate::list::Items;
+use crate::memory::Memory;
 use crate::text::Text;
 use std::test::Fail;
 
@@ -22,5 +23,12 @@ fn keeps_items_in_order(rt: HostRuntime) -> Result<(), Fail> {
     let mut more = Items::from(items.into_vec());
     more.push(7u8)?;
     assert_eq!(rt; more.as_slice(), [3u8, 5, 7].as_slice());
+    Ok(())
+}
+
+#[test]
+fn tells_want_of_memory(rt: HostRuntime) -> Result<(), Fail> {
+    let told = format!(in rt.alloc(); "{Memory}")?;
+    assert_eq!(rt; told.as_str(), "out of memory");
     Ok(())
 }

@@ -6,7 +6,8 @@ ghost use Rattle.std.specs.Prelude.{bytes_eq};
 
 use std::marker::Model;
 
-/// A text: a `String` that contracts see as the list of its bytes.
+/// A text: a `String` that contracts see as the list of its bytes, which are UTF-8. It stands for
+/// `opentelemetry::StringValue`, `opentelemetry::Key` and the `&str`s of `tracing_core::Metadata`.
 #[derive(Clone, Drop)]
 pub struct Text {
     string: String,

@@ -1,0 +1,3 @@
+pub mod LevelNumbers
+pub mod Quotes
+pub mod Unquoting

@@ -1,5 +1,5 @@
 -- Levels as numbers: how verbose a level is, and how verbose a filter lets it be.
-use Rattle.std.specs.Prelude.{ℕ, List, Bool, nat_le, codes}
+use Rattle.std.specs.Prelude.{ℕ, List, Bool, Option, None, Some, nat_le, codes}
 use Rattle.trace_base.specs.declared.level.Level.{Level}
 use Rattle.trace_base.specs.declared.level.Level.TheVariants as level
 use Rattle.trace_base.specs.declared.level.LevelFilter.{LevelFilter}
@@ -33,3 +33,29 @@ level_text level.WARN = codes "WARN"
 level_text level.INFO = codes "INFO"
 level_text level.DEBUG = codes "DEBUG"
 level_text level.TRACE = codes "TRACE"
+
+-- a filter's text, in lower case
+abbrev pub filter_text : LevelFilter → List ℕ
+filter_text filter.OFF = codes "off"
+filter_text filter.ERROR = codes "error"
+filter_text filter.WARN = codes "warn"
+filter_text filter.INFO = codes "info"
+filter_text filter.DEBUG = codes "debug"
+filter_text filter.TRACE = codes "trace"
+
+-- the filter that lets a level through, and none that is more verbose
+abbrev pub filter_of_level : Level → LevelFilter
+filter_of_level level.ERROR = filter.ERROR
+filter_of_level level.WARN = filter.WARN
+filter_of_level level.INFO = filter.INFO
+filter_of_level level.DEBUG = filter.DEBUG
+filter_of_level level.TRACE = filter.TRACE
+
+-- the most verbose level that a filter lets through
+abbrev pub level_of_filter : LevelFilter → Option Level
+level_of_filter filter.OFF = None
+level_of_filter filter.ERROR = Some level.ERROR
+level_of_filter filter.WARN = Some level.WARN
+level_of_filter filter.INFO = Some level.INFO
+level_of_filter filter.DEBUG = Some level.DEBUG
+level_of_filter filter.TRACE = Some level.TRACE

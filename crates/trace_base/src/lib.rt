@@ -1,5 +1,9 @@
-//! The core of tracing: levels and callsites.
+//! The core of tracing: levels, callsites and quoted texts.
 #![tactic(auto)]
 
 pub mod callsite;
+pub mod laws;
 pub mod level;
+pub mod quote;
+#[cfg(test)]
+mod tests;

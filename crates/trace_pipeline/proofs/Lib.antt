@@ -21,3 +21,4 @@ pub mod Starting
 pub mod Closing
 pub mod Balance
 pub mod Idling
+pub mod Outputs

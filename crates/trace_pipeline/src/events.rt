@@ -23,7 +23,8 @@ pub fn is_error(level: Level) -> bool
     }
 }
 
-/// What a callsite tells at a moment.
+/// What a callsite tells at a moment: its name, and its level and target as attributes, as
+/// `tracing_opentelemetry::OpenTelemetryLayer` does on an event. `Memory` freely.
 pub fn make_event(alloc: Global, callsite: &Callsite, at: Moment) -> Result<OtelEvent, Memory>
     ensures { IfOk result (λ event. event ≡ event_of callsite.now at) }
 {

@@ -66,7 +66,7 @@ fn status(alloc: Global, failed: bool) -> Status
     }
 }
 
-/// The record of a span that closes at a moment, without its events.
+/// The record of a span that closes at a moment, without its events. `Memory` freely.
 pub fn finished_record(
     alloc: Global,
     callsites: &[Callsite],

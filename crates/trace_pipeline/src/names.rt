@@ -2,18 +2,21 @@
 ghost use Rattle.std.specs.Prelude.{◌≡◌, None, slice_set};
 ghost use Rattle.std.specs.List.{slice_index_or};
 
-/// What a handle that isn't spent stands for.
+/// What a handle that isn't spent stands for; a handle is a `tracing::Span`.
 #[derive(Clone, Copy)]
 pub enum Handle {
+    /// Nothing: its callsite wasn't admitted.
     Disabled,
     /// A span, by its number.
     Enabled { span: u64 },
 }
 
-/// What a guard that isn't spent keeps: the number of its handle, and what that stands for.
+/// What a guard that isn't spent keeps; a guard is a `tracing::span::Entered`.
 #[derive(Clone, Copy)]
 pub struct Guard {
+    /// The number of its handle.
     pub handle: u64,
+    /// What that handle stands for.
     pub entered: Handle,
 }
 

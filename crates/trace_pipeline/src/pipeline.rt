@@ -45,7 +45,8 @@ impl<T: Drop> From<AllocFailed<T>> for Refusal {
     }
 }
 
-/// Runs the requests of a script, one after another.
+/// Runs the requests of a script, one after another: a `tracing_subscriber::Registry` with a filter and a
+/// `tracing_opentelemetry::OpenTelemetryLayer` over an exporter that keeps what it gets.
 #[derive(Drop)]
 pub struct Pipeline {
     alloc: Global,
@@ -196,7 +197,8 @@ impl Pipeline {
         self.call(at, call)
     }
 
-    /// The oldest record that hasn't been taken, if there is one.
+    /// The oldest record that hasn't been taken, if there is one: what an `opentelemetry_sdk::trace::SpanExporter`
+    /// would get next.
     pub fn take_record(&mut self) -> Option<Record>
         ensures oldest { MatchOption result (self.old.finished ≡ []) (λ finished. self.old.finished ≡ finished ∷ self.new.finished) }
         ensures rest { self.new ≡ record self.old { finished = drop 1 self.old.finished } }

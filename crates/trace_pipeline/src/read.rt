@@ -50,7 +50,8 @@ impl From<memory::Memory> for LineError {
     }
 }
 
-/// Reads a settings line.
+/// Reads a settings line. `BadLine` where it is no JSON or no object, `Later` where it is an object of another form,
+/// `Memory` freely.
 #[tactic(auto, unfolding(crate::specs::Spelled::settings_spelled))]
 pub fn read_settings(alloc: Global, line: &[u8]) -> Result<Settings, LineError>
     ensures ok { IfOk result (λ settings. settings_spelled line.now ≡ Ok settings) }
@@ -63,7 +64,8 @@ pub fn read_settings(alloc: Global, line: &[u8]) -> Result<Settings, LineError>
     Ok(settings)
 }
 
-/// Reads a request line.
+/// Reads a request line. `BadLine` where it is no JSON or no object, `Later` where it is an object of no form that is
+/// built yet, `Memory` freely.
 #[tactic(auto, unfolding(crate::specs::Spelled::request_spelled))]
 pub fn read_request(alloc: Global, line: &[u8]) -> Result<Request, LineError>
     ensures ok { IfOk result (λ request. request_spelled line.now ≡ Ok request) }

@@ -1,13 +1,13 @@
 //! What requests are answered, and why lines are refused.
 
-/// The answer to a request.
+/// The answer to a request: what the calls of tracing give back.
 #[derive(Clone, Drop)]
 pub enum Reply {
-    /// A handle was made, which is enabled where it has a span.
+    /// A handle was made, which is enabled where it has a span; `tracing::Span`, `is_disabled`.
     Made { enabled: bool, handle: u64 },
-    /// A guard was made.
+    /// A guard was made; `tracing::span::Entered`.
     Guard { guard: u64 },
-    /// An event, which the gate let through or not.
+    /// An event, which the filter let through or not.
     Enabled { enabled: bool },
     /// Nothing was made.
     Done,
@@ -16,9 +16,13 @@ pub enum Reply {
 /// What a request names that isn't there.
 #[derive(Clone, Copy, PartialEq, Eq)]
 pub enum What {
+    /// A lane, by its place.
     Lane,
+    /// A callsite, by its place, of the kind that is called for.
     Site,
+    /// A handle that isn't spent, by its number.
     Handle,
+    /// A guard that isn't spent, by its number.
     Guard,
 }
 
@@ -27,7 +31,7 @@ pub enum What {
 pub enum Refusal {
     /// No built form of request can do this yet.
     Later,
-    /// The moment is below that of the request before (0 before the first), or above 2^63 - 1.
+    /// The moment is below that of the request before (0 before the first), or above 2^63 - 1; both in nanoseconds.
     BadMoment { before: u64, given: u64 },
     /// A lane, site, handle or guard isn't there, is spent, or is of another kind.
     UnknownName { what: What },

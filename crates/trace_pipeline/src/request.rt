@@ -4,22 +4,25 @@ use otel_base::record::Moment;
 /// A call that a script makes. Handles and guards are named by their numbers, callsites by their places.
 #[derive(Clone, Drop)]
 pub enum Call {
-    /// Makes a span of a callsite, and a handle of it.
+    /// Makes a span of a callsite, and a handle of it; `tracing::Span::new`.
     New { site: u64 },
-    /// Spends a handle.
+    /// Spends a handle; the drop of a `tracing::Span`.
     Drop { handle: u64 },
-    /// Enters a handle's span, which makes a guard.
+    /// Enters a handle's span, which makes a guard; `tracing::Span::enter`.
     Enter { handle: u64 },
-    /// Spends a guard, which exits its span.
+    /// Spends a guard, which exits its span; the drop of a `tracing::span::Entered`.
     Exit { guard: u64 },
-    /// Tells an event of a callsite to the lane's current span.
+    /// Tells an event of a callsite to the lane's current span; `tracing::Event::dispatch`.
     Event { site: u64 },
 }
 
-/// A call on a lane, which is named by its place, at a moment in nanoseconds.
+/// A call on a lane at a moment. In the Rust crates a thread and a clock stand for these.
 #[derive(Clone, Drop)]
 pub struct Request {
+    /// When it is made, in nanoseconds.
     pub at: Moment,
+    /// The place of the lane that it is made on.
     pub lane: u64,
+    /// What is called.
     pub call: Call,
 }

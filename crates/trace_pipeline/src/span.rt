@@ -5,16 +5,20 @@ ghost use Rattle.trace_pipeline.specs.Machine.{no_times, started_after, span_sta
 use crate::times::Times;
 use otel_base::record::Moment;
 
-/// What is kept of a span: its callsite's place, its moment of making in nanoseconds, its id (0 before its
-/// start), how many unspent handles hold it, and its times.
+/// What is kept of a span; `tracing_opentelemetry::OtelData`.
 #[derive(Clone, Copy)]
 pub struct Span {
+    /// Its callsite's place.
     pub site: u64,
+    /// When it was made, in nanoseconds.
     pub made: Moment,
+    /// Its id, 0 before its start.
     pub id: u64,
+    /// How many unspent handles hold it.
     pub holds: u64,
     /// Whether an event of level ERROR was told to it.
     pub failed: bool,
+    /// How long it was entered so far.
     pub times: Times,
 }
 
@@ -45,12 +49,14 @@ impl Span {
         }
     }
 
+    /// Enters the span at a moment.
     pub fn enter(&mut self, at: Moment)
         ensures { self.new ≡ span_entered at self.old }
     {
         self.times.enter(at);
     }
 
+    /// Exits the span at a moment.
     pub fn exit(&mut self, at: Moment)
         ensures { self.new ≡ span_exited at self.old }
     {

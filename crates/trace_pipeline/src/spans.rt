@@ -14,15 +14,19 @@ use std::alloc::Global;
 use std::collections::VecDeque;
 use trace_base::callsite::Callsite;
 
-/// The spans in the order of making, the events of each, and how many spans were started.
+/// The spans, by their numbers; `tracing_subscriber::Registry`.
 #[derive(Drop)]
 pub struct Spans {
+    /// The spans in the order of making, closed ones too.
     pub list: Vec<Span>,
+    /// The events that were told to each, none once it is closed.
     pub events: Vec<Items<OtelEvent>>,
+    /// How many spans were started.
     pub started: u64,
 }
 
 impl Spans {
+    /// No spans, which take no memory yet.
     pub fn new(alloc: Global) -> Spans
         ensures list { result.list.items ≡ [] }
         ensures events { result.events.items ≡ [] }
@@ -35,7 +39,7 @@ impl Spans {
         }
     }
 
-    /// Adds a span, and a handle of it; without memory for both, neither.
+    /// Adds a span, and a handle of it. `Memory` where there is none for both; then neither is added.
     pub fn add(
         &mut self,
         alloc: Global,
@@ -86,7 +90,7 @@ impl Spans {
         }
     }
 
-    /// Tells an event to a span; without memory for it nothing changes.
+    /// Tells an event to a span. `Memory` where there is none for it; nothing changes then.
     pub fn tell(
         &mut self,
         number: u64,
@@ -108,7 +112,7 @@ impl Spans {
     }
 
     /// Takes the hold of a handle from what it stands for. The last hold closes a span, whose record goes to the
-    /// finished ones; without memory for it nothing changes.
+    /// finished ones. `Memory` where there is none for the record; nothing changes then.
     pub fn drop_hold(
         &mut self,
         alloc: Global,

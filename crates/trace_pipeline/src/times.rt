@@ -5,7 +5,8 @@ ghost use Rattle.trace_pipeline.specs.Machine.{times_at, capped};
 
 use otel_base::record::Moment;
 
-/// The times of a span after some of its ops, in nanoseconds. A count stands still at its type's end.
+/// The times of a span after some of its ops, in nanoseconds. A count stands still at its type's end. It stands for
+/// what tracing-opentelemetry keeps as `Timings`.
 #[derive(Clone, Copy)]
 pub struct Times {
     /// How many entries are open.
@@ -50,6 +51,7 @@ impl Times {
         self.last = at;
     }
 
+    /// An entry.
     pub fn enter(&mut self, at: Moment)
         ensures { self.new ≡ record (times_at self.old at) { entered = capped (self.old.entered + 1) } }
     {
@@ -57,6 +59,7 @@ impl Times {
         self.entered = self.entered.saturating_add(1);
     }
 
+    /// An exit.
     pub fn exit(&mut self, at: Moment)
         ensures { self.new ≡ record (times_at self.old at) { entered = self.old.entered - 1; left = Some at } }
     {

@@ -1,4 +1,5 @@
-//! Writing lines: replies, records, refusals and the end line, each with its line feed.
+//! Writing lines: replies, records, refusals and the end line, each with its line feed. Each function answers `Memory`
+//! freely, and nothing else; the `append_` forms then drop what they were given. No Rust item stands behind these lines.
 ghost use Rattle.std.specs.Prelude.{◌≡◌, ◌≢◌, ◌++◌, IfOk, string_bytes};
 ghost use Rattle.trace_pipeline.specs.Texts.{reply_text, record_text, refusal_text, end_text};
 ghost use Rattle.trace_pipeline.specs.declared.reply.Refusal.{Refusal};
@@ -15,13 +16,18 @@ mod reply;
 use crate::reply::{Reply, Told};
 use end::write_end;
 use json::Writer;
-use line::{bytes_of, text_of};
+use line::{add_line, text_of};
 use otel_base::memory::Memory;
 use otel_base::record::Record;
 use record::write_record;
 use refusal::write_refusal;
 use reply::write_reply;
 use std::alloc::Global;
+
+// The bytes that most lines need, of records and of others.
+const LONG: usize = 512;
+
+const SHORT: usize = 128;
 
 /// The reply line of the request on a line.
 #[tactic(auto, using(crate::proofs::Written::line_written), unfolding(crate::specs::Texts::reply_text))]
@@ -33,7 +39,7 @@ pub fn reply_line(alloc: Global, line: u64, reply: &Reply) -> Result<String, Mem
     Ok(text_of(out)?)
 }
 
-/// The line of the record with a number.
+/// The line of the record with a number; what an exporter would be given.
 #[tactic(auto, using(crate::proofs::Written::line_written), unfolding(crate::specs::Texts::record_text))]
 pub fn record_line(alloc: Global, number: u64, finished: &Record) -> Result<String, Memory>
     ensures { IfOk result (λ text. string_bytes text ≡ record_text number finished.now) }
@@ -69,9 +75,9 @@ pub fn end_line(alloc: Global, open_spans: u64, records: u64) -> Result<String, 
 pub fn append_reply(before: Vec<u8>, line: u64, reply: &Reply) -> Result<Vec<u8>, Memory>
     ensures { IfOk result (λ out. out.items ≡ before.items ++ reply_text line reply.now) }
 {
-    let mut out = Writer::new(before);
+    let mut out = Writer::new(Vec::with_capacity(*before.allocator(), SHORT)?);
     write_reply(&mut out, line, reply)?;
-    Ok(bytes_of(out)?)
+    Ok(add_line(before, out)?)
 }
 
 /// Adds the record line to what `before` holds, and gives it back.
@@ -79,9 +85,9 @@ pub fn append_reply(before: Vec<u8>, line: u64, reply: &Reply) -> Result<Vec<u8>
 pub fn append_record(before: Vec<u8>, number: u64, finished: &Record) -> Result<Vec<u8>, Memory>
     ensures { IfOk result (λ out. out.items ≡ before.items ++ record_text number finished.now) }
 {
-    let mut out = Writer::new(before);
+    let mut out = Writer::new(Vec::with_capacity(*before.allocator(), LONG)?);
     write_record(&mut out, number, finished)?;
-    Ok(bytes_of(out)?)
+    Ok(add_line(before, out)?)
 }
 
 /// Adds the refusal line to what `before` holds, and gives it back. Want of memory has no such line.
@@ -90,9 +96,9 @@ pub fn append_refusal(before: Vec<u8>, line: u64, told: &Told) -> Result<Vec<u8>
     requires { told.now ≢ Told.Step Refusal.Memory }
     ensures { IfOk result (λ out. out.items ≡ before.items ++ refusal_text line told.now) }
 {
-    let mut out = Writer::new(before);
+    let mut out = Writer::new(Vec::with_capacity(*before.allocator(), SHORT)?);
     write_refusal(&mut out, line, told)?;
-    Ok(bytes_of(out)?)
+    Ok(add_line(before, out)?)
 }
 
 /// Adds the end line to what `before` holds, and gives it back.
@@ -100,9 +106,9 @@ pub fn append_refusal(before: Vec<u8>, line: u64, told: &Told) -> Result<Vec<u8>
 pub fn append_end(before: Vec<u8>, open_spans: u64, records: u64) -> Result<Vec<u8>, Memory>
     ensures { IfOk result (λ out. out.items ≡ before.items ++ end_text open_spans records) }
 {
-    let mut out = Writer::new(before);
+    let mut out = Writer::new(Vec::with_capacity(*before.allocator(), SHORT)?);
     write_end(&mut out, open_spans, records)?;
-    Ok(bytes_of(out)?)
+    Ok(add_line(before, out)?)
 }
 
 #[cfg(test)]

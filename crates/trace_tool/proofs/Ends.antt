@@ -1,5 +1,5 @@
 -- What a run has written at the end of its lines.
-use Rattle.std.proofs.Common.{◌≡◌, ℕ, List, [], ◌++◌, refl, sym, ap, ◌∙◌, append_assoc, ◌+◌}
+use Rattle.std.proofs.Common.{◌≡◌, ℕ, List, [], ◌++◌, refl, sym, ap, ◌∙◌, append_assoc, ◌+◌, inl, inr}
 use Rattle.std.specs.Prelude.{true, false}
 use Rattle.std.proofs.lemmas.List.{append-nil}
 use Rattle.trace_pipeline.specs.declared.settings.Settings.{Settings}
@@ -10,7 +10,7 @@ use Rattle.trace_pipeline.specs.Texts.{refusal_text, end_text}
 use Rattle.trace_pipeline.specs.Stands.{Kept, StandsFor}
 use Rattle.trace_pipeline.specs.Report.{Report, behind, report_on, report_from, report, output}
 use Rattle.trace_tool.specs.Streams.{IsFront}
-use Rattle.trace_tool.specs.Progress.{IsWhole, Between, Stops}
+use Rattle.trace_tool.specs.Progress.{NoFeed, IsWhole, Between, Stops, AnswersWhole}
 
 -- the report with these lines behind those of the bytes
 abbrev pub report_with : List ℕ → List (List ℕ) → Report
@@ -53,3 +53,15 @@ running_front bytes front rest out tail kept records parts whole stops =
     let left : Report = report_on stops.settings stops.midway.history stops.number (lines_of (rest ++ tail)) in
     let all : behind out left ≡ report (bytes ++ tail) = stops.midway.report_is (lines_of (rest ++ tail)) ∙ with_more bytes front rest tail parts whole in
     (left.written, ap (λ (r : Report). r.written) (sym all))
+
+-- ---- what the whole lines are answered
+
+pub blank_whole : (bytes front rest text : List ℕ) (lines : ℕ) → bytes ≡ front ++ rest → IsWhole front → NoFeed rest
+    → ((more : List (List ℕ)) → report_from lines more ≡ report_with front more) → text ≡ [] → AnswersWhole bytes text
+blank_whole bytes front rest text lines parts whole feedless reached none =
+    record { whole = front; rest = rest; parts = parts; is_whole = whole; feedless = feedless; answered = inr (lines + 1, none, sym (reached [] ∙ with_none front)) }
+
+pub running_whole : (bytes front rest out : List ℕ) (kept : Kept) (records : ℕ) → bytes ≡ front ++ rest → IsWhole front → NoFeed rest
+    → Stops kept out records (report_with front) → AnswersWhole bytes out
+running_whole bytes front rest out kept records parts whole feedless stops =
+    record { whole = front; rest = rest; parts = parts; is_whole = whole; feedless = feedless; answered = inl (_, _, sym (stops.midway.report_is [] ∙ with_none front)) }

@@ -1,22 +1,10 @@
 -- Where lines end.
-use Rattle.std.proofs.Common.{◌≡◌, ℕ, List, [], ◌∷◌, ◌++◌, refl, sym, ap, ◌∙◌, take, drop, length, get_or, ◌+◌, ◌-◌, ◌<◌, ◌≤◌, ◌==◌, arith, false, inl, inr, subst}
-use Rattle.std.proofs.lemmas.Bool.{cases_Bool, ne_eqb}
-use Rattle.std.proofs.lemmas.List.{take-append-drop, take_more, drop_more, take_rest, take_all}
+use Rattle.std.proofs.Common.{◌≡◌, ℕ, List, [], ◌∷◌, ◌++◌, refl, sym, ap, ◌∙◌, take, drop, length, get_or, ◌+◌, ◌-◌, ◌<◌, ◌≤◌, ◌==◌, arith, zero, suc, Bool, true, false, inl, inr}
+use Rattle.std.proofs.lemmas.Bool.{cases_Bool}
+use Rattle.std.proofs.lemmas.List.{take-append-drop, take_more, drop_more, take_rest}
+use Rattle.memchr.specs.Find.{Nowhere, Passes, is_byte}
 use Rattle.trace_pipeline.specs.Lines.{onto, lines_of}
-use Rattle.trace_tool.specs.Progress.{IsWhole}
-
--- no byte is a line feed
-abbrev pub NoFeed : List ℕ → Type 0
-NoFeed [] = Unit {0}
-NoFeed (b ∷ bs) = ((b == 10) ≡ false) × NoFeed bs
-
-pub feedless_more : (bs : List ℕ) (b : ℕ) → NoFeed bs → (b ≡ 10 → ⊥) → NoFeed (bs ++ b ∷ [])
-feedless_more [] b none other = (ne_eqb b 10 other, tt)
-feedless_more (c ∷ bs) b none other = (none.0, feedless_more bs b none.1 other)
-
--- the step of a search for a line feed
-pub feedless_on : (bs : List ℕ) (at : ℕ) → at < length bs → NoFeed (take at bs) → (get_or bs at 0 ≡ 10 → ⊥) → NoFeed (take (at + 1) bs)
-feedless_on bs at within none other = rw (take_more bs at 0 within) (feedless_more (take at bs) (get_or bs at 0) none other)
+use Rattle.trace_tool.specs.Progress.{NoFeed, IsWhole}
 
 ended_line : (line rest : List ℕ) → NoFeed line → lines_of (line ++ 10 ∷ rest) ≡ line ∷ lines_of rest
 ended_line [] rest none = refl
@@ -72,5 +60,24 @@ front_whole bytes at some within feed tail =
     let front : take at bytes ≡ take (at - 1) bytes ++ 10 ∷ [] = sym (ap (λ (n : ℕ). take n bytes) back) ∙ last in
     rw front (fed_whole (take (at - 1) bytes) tail)
 
-pub only_taken : (bytes : List ℕ) → 0 < length bytes → NoFeed (take (length bytes) bytes) → lines_of bytes ≡ bytes ∷ []
-only_taken bytes some none = only_line bytes some (subst NoFeed (take_all (length bytes) bytes (omega arith)) none)
+-- ---- where a search found the first line feed, or the last
+
+unpassed : (t : Bool) → (t ≡ true → ⊥) → t ≡ false
+unpassed true none = absurd (none refl)
+unpassed false none = refl
+
+-- no byte before a place is a line feed
+pub feedless_before : (bs : List ℕ) (at : ℕ) → at ≤ length bs → Nowhere (Passes (is_byte 10) bs) 0 at → NoFeed (take at bs)
+feedless_before bs zero within none = tt
+feedless_before [] (suc at) within none = absurd (omega (arith, within))
+feedless_before (b ∷ bs) (suc at) within none =
+    (unpassed (b == 10) (none 0 (omega arith) (omega arith)), feedless_before bs at (omega (arith, within)) (λ k low below. none (suc k) (omega arith) (omega (arith, below))))
+
+-- no byte from a place on is a line feed
+pub feedless_from : (bs : List ℕ) (at : ℕ) → Nowhere (Passes (is_byte 10) bs) at (length bs) → NoFeed (drop at bs)
+feedless_from [] zero none = tt
+feedless_from [] (suc at) none = tt
+feedless_from (b ∷ bs) zero none =
+    (unpassed (b == 10) (none 0 (omega arith) (omega arith)), feedless_from bs zero (λ k low below. none (suc k) (omega arith) (omega (arith, below))))
+feedless_from (b ∷ bs) (suc at) none =
+    feedless_from bs at (λ k low below. none (suc k) (omega (arith, low)) (omega (arith, below)))

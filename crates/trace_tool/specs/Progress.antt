@@ -1,19 +1,26 @@
 -- What a run has come to after some lines.
-use Rattle.std.specs.Prelude.{◌≡◌, ℕ, List, [], ◌∷◌, ◌++◌, length, false, Result, Ok, Err}
+use Rattle.std.specs.Prelude.{◌≡◌, ℕ, List, [], ◌∷◌, ◌++◌, length, ◌==◌, true, false, Result, Ok, Err}
+use Rattle.std.proofs.Common.{◌⊎◌}
 use Rattle.trace_pipeline.specs.declared.settings.Settings.{Settings}
 use Rattle.trace_pipeline.specs.declared.request.Request.{Request}
 use Rattle.trace_pipeline.specs.declared.reply.Reply.{Reply}
 use Rattle.trace_pipeline.specs.declared.reply.Told.{Told}
+use Rattle.trace_pipeline.specs.declared.reply.Told.TheVariants as told
 use Rattle.trace_pipeline.specs.History.{History, Effect, closed}
 use Rattle.trace_pipeline.specs.Stands.{Kept, StandsFor, Answered}
 use Rattle.trace_pipeline.specs.Lines.{lines_of}
 use Rattle.trace_pipeline.specs.Spelled.{request_spelled}
-use Rattle.trace_pipeline.specs.Texts.{refusal_text}
-use Rattle.trace_pipeline.specs.Report.{Report, behind, answer_text, effect_of_line, report_on, report_from}
+use Rattle.trace_pipeline.specs.Texts.{refusal_text, end_text}
+use Rattle.trace_pipeline.specs.Report.{Report, behind, answer_text, effect_of_line, report_on, report_from, report, refused}
 use Rattle.trace_tool.specs.declared.answers.Answer.{Answer}
 use Rattle.trace_tool.specs.declared.answers.Answer.TheVariants as answer
 use Rattle.trace_tool.specs.declared.answers.Progress.{Progress}
 use Rattle.trace_tool.specs.declared.answers.Progress.TheVariants as progress
+
+-- no byte is a line feed
+abbrev pub NoFeed : List ℕ → Type 0
+NoFeed [] = Unit {0}
+NoFeed (b ∷ bs) = ((b == 10) ≡ false) × NoFeed bs
 
 -- Each line of the bytes ends by a line feed, so that what comes after them begins a line.
 abbrev pub IsWhole : List ℕ → Type 0
@@ -68,3 +75,20 @@ abbrev pub Reaches : Progress → (List (List ℕ) → Report) → Type 0
 Reaches (progress.Blank lines) whole = (more : List (List ℕ)) → report_from lines more ≡ whole more
 Reaches (progress.Running pipeline written) whole = Stops pipeline written.text.items written.records whole
 Reaches (progress.Refused text) whole = (more : List (List ℕ)) → record { written = text.items; accepted = false } ≡ whole more
+
+-- ---- the whole lines of an input that breaks off
+
+-- what is written for lines of which none is refused: all but the end line, or nothing where no settings line came
+abbrev pub IsBeforeEnd : List ℕ → Report → Type 0
+IsBeforeEnd text whole =
+    ((spans : ℕ) × (records : ℕ) × (whole ≡ record { written = text ++ end_text spans records; accepted = true }))
+    ⊎ ((line : ℕ) × (text ≡ []) × (whole ≡ refused line told.BadLine))
+
+-- the text answers the lines of the bytes that end by a line feed
+pub record AnswersWhole (bytes text : List ℕ) : Type 0 where
+  pub whole : List ℕ
+  pub rest : List ℕ
+  pub parts : bytes ≡ whole ++ rest
+  pub is_whole : IsWhole whole
+  pub feedless : NoFeed rest
+  pub answered : IsBeforeEnd text (report whole)

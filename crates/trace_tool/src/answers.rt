@@ -7,7 +7,7 @@ ghost use Rattle.trace_pipeline.specs.Report.{record_lines, report_on, report_fr
 ghost use Rattle.trace_pipeline.specs.Stands.{StandsFor};
 ghost use Rattle.trace_pipeline.specs.declared.settings.Settings.{Settings as SettingsValue};
 ghost use Rattle.trace_tool.specs.Streams.{IsFront};
-ghost use Rattle.trace_tool.specs.Progress.{StepsBy, Between, Answers, Reaches};
+ghost use Rattle.trace_tool.specs.Progress.{StepsBy, Between, Answers, Reaches, AnswersWhole};
 
 use crate::lines::{first_line, is_blank, whole_lines};
 use otel_base::memory::Memory;
@@ -18,10 +18,12 @@ use trace_pipeline::reply::{Refusal, Reply, Told};
 use trace_pipeline::settings::Settings;
 use trace_pipeline::write::{append_end, append_record, append_refusal, append_reply};
 
-/// What is written so far, and how many records are among it.
+/// What is written so far.
 #[derive(Drop)]
 pub struct Written {
+    /// The lines, each with its line feed.
     pub text: Vec<u8>,
+    /// How many records are among them.
     pub records: u64,
 }
 
@@ -52,10 +54,12 @@ pub enum Progress {
     },
 }
 
-/// All that is written for an input, and whether a line was refused.
+/// All that is written for an input.
 #[derive(Drop)]
 pub struct Output {
+    /// The lines, each with its line feed.
     pub text: Vec<u8>,
+    /// Whether the last of them is a refusal line.
     pub refused: bool,
 }
 
@@ -209,7 +213,7 @@ fn answer_lines(alloc: Global, bytes: &[u8]) -> Result<Progress, Memory>
     Ok(Progress::Blank { lines })
 }
 
-/// Answers a whole input.
+/// Answers a whole input. `Memory` freely.
 pub fn answer_all(alloc: Global, bytes: &[u8]) -> Result<Output, Memory>
     ensures { IfOk result (λ output. report bytes.now ≡ record { written = output.text.items; accepted = not output.refused }) }
 {
@@ -233,9 +237,11 @@ pub fn answer_all(alloc: Global, bytes: &[u8]) -> Result<Output, Memory>
     }
 }
 
-/// Answers the lines at the front of an input that end by a line feed. What comes after them isn't known.
+/// Answers the lines at the front of an input that end by a line feed. What comes after them isn't known. `Memory`
+/// freely.
 pub fn answer_front(alloc: Global, bytes: &[u8]) -> Result<Output, Memory>
     ensures front { IfOk result (λ text. (tail : List ℕ) → IsFront text.text.items (output (bytes.now ++ tail))) }
+    ensures answered { IfOk result (λ text. text.refused ≡ false → AnswersWhole bytes.now text.text.items) }
     ensures refused { IfOk result (λ text. text.refused ≡ true
         → (tail : List ℕ) → report (bytes.now ++ tail) ≡ record { written = text.text.items; accepted = false }) }
 {

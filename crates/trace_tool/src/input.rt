@@ -28,11 +28,13 @@ pub enum End {
 /// What was read of an input.
 #[derive(Drop)]
 pub struct Input {
+    /// The bytes, one block more than an input may have at the most.
     pub bytes: Vec<u8>,
+    /// How the reading ended.
     pub end: End,
 }
 
-/// Reads the source to its end, to a fault, or until more was read than an input may have.
+/// Reads the source to its end, to a fault, or until more was read than an input may have. `Memory` freely.
 pub fn read_all<R: Source>(alloc: Global, source: &mut R) -> Result<Input, Memory>
     ensures bytes { IfOk result (λ input. Takes (R.left source.old) (R.left source.new) input.bytes.items) }
     ensures whole { IfOk result (λ input. input.end ≡ End.Whole → IsAtEnd (R.left source.new)) }

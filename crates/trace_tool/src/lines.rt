@@ -1,37 +1,32 @@
 //! The lines of some bytes.
 ghost use Rattle.std.specs.Prelude.{◌≡◌, ◌∷◌, ◌++◌, ◌<◌, length, drop};
 ghost use Rattle.trace_pipeline.specs.Lines.{lines_of, is_space, is_blank};
-ghost use Rattle.trace_tool.specs.Progress.{IsWhole};
+ghost use Rattle.trace_tool.specs.Progress.{NoFeed, IsWhole};
+
+use memchr::{memchr, memrchr};
 
 /// The first line, without its line feed, and the bytes after it.
-#[tactic(auto, using(crate::proofs::Feeds::feedless_on, crate::proofs::Feeds::fed_line, crate::proofs::Feeds::only_taken))]
 pub fn first_line(bytes: &[u8]) -> (&[u8], &[u8])
     requires { 0 < length bytes.now }
     ensures lines { lines_of bytes.now ≡ result.0.now ∷ lines_of result.1.now }
     ensures shorter { length result.1.now < length bytes.now }
 {
-    for (at, byte) in bytes.iter().enumerate() {
-        if *byte == b'\n' {
-            return (&bytes[..at], &bytes[at + 1..]);
-        }
+    match memchr(b'\n', bytes) {
+        Some(at) => (&bytes[..at], &bytes[at + 1..]),
+        None => (bytes, &[]),
     }
-    (bytes, &[])
 }
 
 /// The lines at the front that end by a line feed.
-#[tactic(auto, using(crate::proofs::Feeds::front_whole, crate::proofs::Feeds::none_whole))]
 pub fn whole_lines(bytes: &[u8]) -> &[u8]
     ensures front { bytes.now ≡ result.now ++ drop (length result.now) bytes.now }
     ensures whole { IsWhole result.now }
+    ensures feedless { NoFeed (drop (length result.now) bytes.now) }
 {
-    let mut at = bytes.len();
-    while at > 0 {
-        if bytes[at - 1] == b'\n' {
-            return &bytes[..at];
-        }
-        at -= 1;
+    match memrchr(b'\n', bytes) {
+        Some(last) => &bytes[..last + 1],
+        None => &[],
     }
-    &[]
 }
 
 /// Whether the line is left out.

@@ -16,6 +16,7 @@ pub trait Sink {
     ghost faults: { Self → ℕ };
 
     /// Writes some of the piece's first bytes, and answers how many. None of a piece that has some is a fault.
+    /// `Failed` where the write failed; nothing was written then.
     fn write(&mut self, piece: &[u8]) -> Result<usize, Failed>
         ensures bound { IfOk result (λ n. n ≤ length piece.now) }
         ensures bytes { IfOk result (λ n. Puts (holds self.old) (holds self.new) (take n piece.now)) }
@@ -25,7 +26,7 @@ pub trait Sink {
         ensures cause { OnErr result (Rises (faults self.old) (faults self.new)) };
 }
 
-/// Writes the whole piece.
+/// Writes the whole piece. `Failed` where a write failed or took nothing; what was written is then a front of it.
 pub fn write_all<W: Sink>(sink: &mut W, piece: &[u8]) -> Result<(), Failed>
     ensures ok { OnOk result (Puts (W.holds sink.old) (W.holds sink.new) piece.now) }
     ensures err { OnErr result (PutsFront (W.holds sink.old) (W.holds sink.new) piece.now) }
@@ -101,6 +102,13 @@ impl<W: Write> StdSink<W> {
         ensures faults { result.faults ≡ 0 }
     {
         StdSink { writer, faults: 0 }
+    }
+
+    /// The writer.
+    pub fn get_ref(&self) -> &W
+        ensures { result.now ≡ self.now.writer }
+    {
+        &self.writer
     }
 }
 

@@ -14,7 +14,8 @@ pub trait Source {
     /// How many reads failed.
     ghost faults: { Self → ℕ };
 
-    /// Reads some bytes to the start of `buf`, and answers how many. None is the end.
+    /// Reads some bytes to the start of `buf`, and answers how many. None is the end. `Failed` where the read failed;
+    /// nothing was taken then.
     fn read(&mut self, buf: &mut [u8]) -> Result<usize, Failed>
         ensures bound { IfOk result (λ n. n ≤ length buf.new) }
         ensures bytes { IfOk result (λ n. Takes (left self.old) (left self.new) (take n buf.new)) }
@@ -67,6 +68,13 @@ impl<R: Read> StdSource<R> {
         ensures faults { result.faults ≡ 0 }
     {
         StdSource { reader, faults: 0 }
+    }
+
+    /// The reader.
+    pub fn get_ref(&self) -> &R
+        ensures { result.now ≡ self.now.reader }
+    {
+        &self.reader
     }
 }
 

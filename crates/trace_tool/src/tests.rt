@@ -2,8 +2,9 @@
 ghost use Rattle.std.specs.Prelude.{None};
 
 use crate::failed::Failed;
-use crate::sink::{Sink, SureSink};
-use crate::source::{Source, SureSource};
+use crate::input::MAX_INPUT;
+use crate::sink::{Sink, StdSink, SureSink};
+use crate::source::{Source, StdSource, SureSource};
 use crate::status::Status;
 use crate::top::top;
 use std::process::Abort;
@@ -67,26 +68,38 @@ impl<'a> Source for Broken<'a> {
     }
 }
 
-// A source of spaces that has no end.
+// A source that gives so many fillers after its bytes.
 #[derive(Drop)]
-struct Spaces;
+struct Filled<'a> {
+    bytes: SureSource<'a>,
+    filler: u8,
+    fillers: usize,
+}
 
-impl Source for Spaces {
+impl<'a> Source for Filled<'a> {
     ghost left = { λ _. None };
 
     ghost faults = { λ _. 0 };
 
     fn read(&mut self, buf: &mut [u8]) -> Result<usize, Failed> {
-        buf.fill(b' ');
-        Ok(buf.len())
+        match self.bytes.read(buf) {
+            Ok(count) if count > 0 => Ok(count),
+            _ => {
+                let count = buf.len().min(self.fillers);
+                buf[..count].fill(self.filler);
+                self.fillers -= count;
+                Ok(count)
+            }
+        }
     }
 }
 
-// A sink that takes a byte at a time, and nothing once it is full.
+// A sink that takes a byte at a time. Once it is full it takes none, or fails.
 #[derive(Drop)]
 struct Small {
     bytes: SureSink,
     room: usize,
+    fails: bool,
     faults: u64,
 }
 
@@ -96,16 +109,12 @@ impl Sink for Small {
     ghost faults = { λ s. s.faults };
 
     fn write(&mut self, piece: &[u8]) -> Result<usize, Failed> {
-        if self.room == 0 || piece.is_empty() {
-            self.faults = self.faults.saturating_add(1);
-            return Ok(0);
-        }
-        self.room -= 1;
-        if self.bytes.write(&piece[..1]).is_ok() {
+        if self.room > 0 && !piece.is_empty() && self.bytes.write(&piece[..1]).is_ok() {
+            self.room -= 1;
             return Ok(1);
         }
         self.faults = self.faults.saturating_add(1);
-        Err(Failed)
+        if self.fails { Err(Failed) } else { Ok(0) }
     }
 }
 
@@ -347,7 +356,7 @@ fn knows_one_word(rt: HostRuntime) -> Result<(), Fail> {
 }
 
 #[test]
-fn tells_faults(rt: HostRuntime) -> Result<(), Fail> {
+fn tells_faults_of_a_source(rt: HostRuntime) -> Result<(), Fail> {
     let cut = r#"{"at":5,"do":"#;
     let bad = r#"{"line":2,"refused":"BadLine"}"#;
     for (line, answer, status) in [(NEW, MADE, Status::ReadFault), ("7", bad, Status::Refused)] {
@@ -360,17 +369,64 @@ fn tells_faults(rt: HostRuntime) -> Result<(), Fail> {
         assert!(rt; sink.as_slice() == wanted.as_bytes());
         assert_eq!(rt; ended, status);
     }
-    let mut sink = Small {
-        bytes: SureSink::new(rt.alloc()),
-        room: 7,
-        faults: 0,
-    };
-    let ended = run(&rt, &mut SureSource::new(SETTINGS.as_bytes()), &mut sink)?;
-    assert_eq!(rt; ended, Status::WriteFault);
-    assert!(rt; sink.bytes.as_slice() == b"{\"done\"".as_slice());
-    assert_eq!(rt; sink.faults, 1);
+    let bytes = SureSource::new(b"");
     let mut sink = SureSink::new(rt.alloc());
-    assert_eq!(rt; run(&rt, &mut Spaces, &mut sink)?, Status::TooLong);
+    let ended = run(&rt, &mut Broken { bytes, faults: 0 }, &mut sink)?;
+    assert_eq!(rt; ended, Status::ReadFault);
     assert!(rt; sink.as_slice().is_empty());
+    Ok(())
+}
+
+#[test]
+fn tells_faults_of_a_sink(rt: HostRuntime) -> Result<(), Fail> {
+    for (room, fails, wanted, status, faults) in [
+        (0, true, "", Status::WriteFault, 1),
+        (0, false, "", Status::WriteFault, 1),
+        (7, false, "{\"done\"", Status::WriteFault, 1),
+        (7, true, "{\"done\"", Status::WriteFault, 1),
+        (
+            1000,
+            true,
+            "{\"done\":true,\"open\":0,\"records\":0}\n",
+            Status::Ok,
+            0,
+        ),
+    ] {
+        let mut sink = Small {
+            bytes: SureSink::new(rt.alloc()),
+            room,
+            fails,
+            faults: 0,
+        };
+        let ended = run(&rt, &mut SureSource::new(SETTINGS.as_bytes()), &mut sink)?;
+        assert_eq!(rt; ended, status);
+        assert!(rt; sink.bytes.as_slice() == wanted.as_bytes());
+        assert_eq!(rt; sink.faults, faults);
+    }
+    Ok(())
+}
+
+#[test]
+fn tells_a_long_input(rt: HostRuntime) -> Result<(), Fail> {
+    let mut source = Filled {
+        bytes: SureSource::new(b""),
+        filler: b'\n',
+        fillers: MAX_INPUT + 1,
+    };
+    let mut sink = SureSink::new(rt.alloc());
+    assert_eq!(rt; run(&rt, &mut source, &mut sink)?, Status::TooLong);
+    assert!(rt; sink.as_slice().is_empty());
+    Ok(())
+}
+
+#[test]
+fn runs_over_readers_and_writers(rt: HostRuntime) -> Result<(), Fail> {
+    let input = text_of(&rt, &[SETTINGS, NEW])?;
+    let mut source = StdSource::new(input.as_bytes());
+    let mut sink = StdSink::new(Vec::new(rt.alloc()));
+    assert_eq!(rt; run(&rt, &mut source, &mut sink)?, Status::Ok);
+    let wanted = text_of(&rt, &[MADE, ONE_OPEN])?;
+    assert!(rt; sink.get_ref().as_slice() == wanted.as_bytes());
+    assert!(rt; source.get_ref().is_empty());
     Ok(())
 }

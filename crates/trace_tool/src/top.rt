@@ -13,7 +13,8 @@ use std::alloc::Global;
 use std::sync::Wait;
 use std::thread::Threads;
 
-/// Carries out what the words ask for, and answers how it ended. Words that ask for nothing touch neither source nor sink.
+/// Carries out what the words ask for, and answers how it ended. Words that ask for nothing touch neither source nor
+/// sink.
 pub fn top<H: Threads + Wait + Sync, R: Source, W: Sink>(
     _rt: &H,
     alloc: Global,

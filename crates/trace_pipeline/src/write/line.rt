@@ -8,14 +8,17 @@ ghost use Rattle.trace_pipeline.specs.Object.{line_of};
 use json::Writer;
 use std::alloc::AllocError;
 
-/// The line of the value that was written, behind what stood before it.
+/// Adds the line of the value that was written to what stood before. The writer starts on a buffer of its own, since
+/// it fills what it is handed with zeros ahead, the more the more stands there.
 #[tactic(auto, using(crate::proofs::Written::line_added))]
-pub fn bytes_of(out: Writer) -> Result<Vec<u8>, AllocError>
-    ensures { IfOk result (λ bytes. (d : Data) → out.tokens ≡ json_tokens (outline d) → bytes.items ≡ out.before ++ line_of d) }
+pub fn add_line(mut before: Vec<u8>, out: Writer) -> Result<Vec<u8>, AllocError>
+    requires { out.before ≡ [] }
+    ensures { IfOk result (λ bytes. (d : Data) → out.tokens ≡ json_tokens (outline d) → bytes.items ≡ before.items ++ line_of d) }
 {
-    let mut bytes = out.into_inner();
-    bytes.push(b'\n')?;
-    Ok(bytes)
+    let text = out.into_inner();
+    before.extend_from_slice(text.as_slice())?;
+    before.push(b'\n')?;
+    Ok(before)
 }
 
 /// The line of the value that was written, as a text of its own.

@@ -5,6 +5,7 @@ ghost use Rattle.json.specs.Token.{key, string, number, boolean};
 use json::Writer;
 use std::alloc::AllocError;
 
+/// Writes a member whose value is a bool.
 pub fn bool_member(out: &mut Writer, name: &str, value: bool) -> Result<(), AllocError>
     ensures ok { OnOk result (out.new.tokens ≡ out.old.tokens ++ key name.now ∷ boolean value ∷ []) }
     ensures before { out.new.before ≡ out.old.before }
@@ -14,6 +15,7 @@ pub fn bool_member(out: &mut Writer, name: &str, value: bool) -> Result<(), Allo
     Ok(())
 }
 
+/// Writes a member whose value is a whole number.
 pub fn whole_member(out: &mut Writer, name: &str, value: u64) -> Result<(), AllocError>
     ensures ok { OnOk result (out.new.tokens ≡ out.old.tokens ++ key name.now ∷ number (decimal value) ∷ []) }
     ensures before { out.new.before ≡ out.old.before }
@@ -23,6 +25,7 @@ pub fn whole_member(out: &mut Writer, name: &str, value: u64) -> Result<(), Allo
     Ok(())
 }
 
+/// Writes a member whose value is a text.
 pub fn text_member(out: &mut Writer, name: &str, value: &str) -> Result<(), AllocError>
     ensures ok { OnOk result (out.new.tokens ≡ out.old.tokens ++ key name.now ∷ string value.now ∷ []) }
     ensures before { out.new.before ≡ out.old.before }

@@ -1,5 +1,6 @@
 use Rattle.trace_pipeline.proofs.Balance.{closed_and_open}
 use Rattle.trace_pipeline.proofs.Closing.{closed_once, closed_when_ended, only_made_closed}
+use Rattle.trace_pipeline.proofs.Outputs.{as_many_as_closed}
 use Rattle.trace_pipeline.proofs.laws.records.Goals as goal
 
 pub returns-clause-recorded_once : goal.returns-clause-recorded_once
@@ -13,3 +14,6 @@ returns-clause-only_made_recorded c = only_made_closed
 
 pub returns-clause-records_and_open : goal.returns-clause-records_and_open
 returns-clause-records_and_open c = closed_and_open
+
+pub returns-clause-as_many_as_closed : goal.returns-clause-as_many_as_closed
+returns-clause-as_many_as_closed c = as_many_as_closed

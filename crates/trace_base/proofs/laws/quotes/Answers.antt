@@ -1,0 +1,5 @@
+use Rattle.trace_base.proofs.Unquoting.{quoted_apart}
+use Rattle.trace_base.proofs.laws.quotes.Goals as goal
+
+pub returns : goal.returns
+returns c = record { differ = quoted_apart }

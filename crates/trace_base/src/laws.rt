@@ -1,0 +1,22 @@
+//! What holds of every level and of every quoted text.
+ghost use Rattle.std.specs.Prelude.{◌≡◌, List, ℕ, Some};
+ghost use Rattle.trace_base.specs.declared.level.Level.{Level};
+ghost use Rattle.trace_base.specs.declared.level.LevelFilter.{LevelFilter};
+ghost use Rattle.trace_base.specs.declared.level.LevelFilter.TheVariants as filter;
+ghost use Rattle.trace_base.specs.Level.{level_text, filter_text};
+ghost use Rattle.trace_base.specs.LevelWords.{level_of, filter_of};
+ghost use Rattle.trace_base.specs.Quote.{quoted};
+
+use crate::level::STATIC_MAX_LEVEL;
+
+/// What a level or a filter prints reads as itself, and the greatest filter is the static one.
+pub fn levels()
+    ensures level { (level : Level) → level_of (level_text level) ≡ Some level }
+    ensures filter { (f : LevelFilter) → filter_of (filter_text f) ≡ Some f }
+    ensures static_max { STATIC_MAX_LEVEL ≡ filter.TRACE }
+{}
+
+/// Texts that differ have quoted forms that differ.
+pub fn quotes()
+    ensures differ { (x y : List ℕ) → quoted x ≡ quoted y → x ≡ y }
+{}

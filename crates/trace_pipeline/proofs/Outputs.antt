@@ -1,0 +1,67 @@
+-- How the output of a script with one line more begins, and how many records a run gives.
+use Rattle.std.proofs.Common.{◌≡◌, ℕ, List, [], ◌∷◌, ◌++◌, refl, sym, ap, ◌∙◌, append_assoc, length, ◌+◌}
+use Rattle.std.specs.Prelude.{Bool, true, false, if◌then◌else◌, Result, Ok, Err}
+use Rattle.std.proofs.lemmas.List.{length-append, length-map}
+use Rattle.trace_pipeline.specs.declared.settings.Settings.{Settings}
+use Rattle.trace_pipeline.specs.declared.reply.Told.{Told}
+use Rattle.trace_pipeline.specs.History.{History, Effect, closed_in, closed}
+use Rattle.trace_pipeline.specs.Content.{record_of, records_of}
+use Rattle.trace_pipeline.specs.Lines.{is_blank}
+use Rattle.trace_pipeline.specs.Spelled.{settings_spelled}
+use Rattle.trace_pipeline.specs.Report.{Report, behind, answer_text, effect_of_line, following, opening, report_on, report_from}
+use Rattle.trace_pipeline.specs.Laws.{GoesOn, all_records}
+
+-- if the first report accepts, its text is gone on with by that of the second
+abbrev pub Extends : Report → Report → Type 0
+Extends a b = a.accepted ≡ true → GoesOn a.written b.written
+
+either : (b : Bool) (x x2 y y2 : Report) → Extends x x2 → Extends y y2 → Extends (if b then x else y) (if b then x2 else y2)
+either true x x2 y y2 one two accepted = one accepted
+either false x x2 y y2 one two accepted = two accepted
+
+behind_both : (text : List ℕ) (x y : Report) → Extends x y → Extends (behind text x) (behind text y)
+behind_both text x y on accepted =
+    let g : GoesOn x.written y.written = on accepted in
+    record {
+      before = text ++ g.before;
+      spans = g.spans;
+      records = g.records;
+      more = g.more;
+      ended_is = ap (λ (t : List ℕ). text ++ t) g.ended_is ∙ sym (append_assoc text g.before _);
+      new_is = ap (λ (t : List ℕ). text ++ t) g.new_is ∙ sym (append_assoc text g.before g.more);
+    }
+
+followed : (effect : Result Effect Told) (go go2 : Effect → Report) (n : ℕ) → ((e : Effect) → Extends (go e) (go2 e)) → Extends (following effect go n) (following effect go2 n)
+followed (Ok e) go go2 n on accepted = on e accepted
+followed (Err why) go go2 n on accepted = absurd (cc accepted)
+
+opened : (settings : Result Settings Told) (go go2 : Settings → Report) (n : ℕ) → ((s : Settings) → Extends (go s) (go2 s)) → Extends (opening settings go n) (opening settings go2 n)
+opened (Ok s) go go2 n on accepted = on s accepted
+opened (Err why) go go2 n on accepted = absurd (cc accepted)
+
+requests_on : (settings : Settings) (h : History) (n : ℕ) (lines : List (List ℕ)) (line : List ℕ) → Extends (report_on settings h n lines) (report_on settings h n (lines ++ line ∷ []))
+requests_on settings h n [] line accepted = record { before = []; spans = _; records = _; more = _; ended_is = refl; new_is = refl }
+requests_on settings h n (text ∷ lines) line accepted =
+    either (is_blank text) _ _ _ _ (requests_on settings h (n + 1) lines line)
+    (followed (effect_of_line settings h text) _ _ (n + 1) (λ e.
+    behind_both (answer_text settings h (n + 1) e) (report_on settings (h ++ e ∷ []) (n + 1) lines) (report_on settings (h ++ e ∷ []) (n + 1) (lines ++ line ∷ [])) (requests_on settings (h ++ e ∷ []) (n + 1) lines line))) accepted
+
+lines_on : (n : ℕ) (lines : List (List ℕ)) (line : List ℕ) → Extends (report_from n lines) (report_from n (lines ++ line ∷ []))
+lines_on n [] line accepted = absurd (cc accepted)
+lines_on n (text ∷ lines) line accepted =
+    either (is_blank text) _ _ _ _ (lines_on (n + 1) lines line)
+    (opened (settings_spelled text) _ _ (n + 1) (λ settings. requests_on settings [] (n + 1) lines line)) accepted
+
+pub goes_on : (lines : List (List ℕ)) (line : List ℕ) → (report_from 0 lines).accepted ≡ true → GoesOn (report_from 0 lines).written (report_from 0 (lines ++ line ∷ [])).written
+goes_on lines line = lines_on 0 lines line
+
+records_after : (settings : Settings) (h es : History) → length (all_records settings h es) ≡ length (closed es)
+records_after settings h [] = refl
+records_after settings h (e ∷ es) =
+    length-append (records_of settings h e) (all_records settings (h ++ e ∷ []) es)
+    ∙ ap (λ (k : ℕ). k + length (all_records settings (h ++ e ∷ []) es)) (length-map (closed_in e.did) (record_of settings (h ++ e ∷ []) e.at))
+    ∙ ap (λ (k : ℕ). length (closed_in e.did) + k) (records_after settings (h ++ e ∷ []) es)
+    ∙ sym (length-append (closed_in e.did) (closed es))
+
+pub as_many_as_closed : (settings : Settings) (h : History) → length (all_records settings [] h) ≡ length (closed h)
+as_many_as_closed settings h = records_after settings [] h
