@@ -1,0 +1,9 @@
+pub mod Ids
+pub mod RecorderIds
+pub mod Tracer
+pub mod Recorder
+pub mod Noop
+pub mod Counts
+pub mod Stack
+pub mod Changes
+pub mod EnterErrors
