@@ -16,11 +16,13 @@ all_filters = filter.OFF ∷ filter.ERROR ∷ filter.WARN ∷ filter.INFO ∷ fi
 unfoldable pub filter_of_word : List ℕ → Option LevelFilter
 filter_of_word text = find (λ f. str_eq_ignore_ascii_case (filter_text f) text) all_filters
 
--- the number that one decimal digit or more writes, behind a plus or not
-unfoldable pub decimal_value : List ℕ → Option ℕ
-decimal_value text =
-    let digits = without_leading_plus text in
-    if nat_lt 0 (length digits) && all_ascii_digits digits then Some (digits_value 10 digits) else None
+-- the number that one decimal digit or more writes
+unfoldable pub digits_number : List ℕ → Option ℕ
+digits_number digits = if nat_lt 0 (length digits) && all_ascii_digits digits then Some (digits_value 10 digits) else None
+
+-- the same, behind a plus or not
+abbrev pub decimal_value : List ℕ → Option ℕ
+decimal_value text = digits_number (without_leading_plus text)
 
 -- the filter that allows just this verbosity
 unfoldable pub filter_of_number : ℕ → Option LevelFilter

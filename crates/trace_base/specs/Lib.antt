@@ -1,3 +1,4 @@
+pub mod Field
 pub mod Level
 pub mod LevelWords
 pub mod Quote

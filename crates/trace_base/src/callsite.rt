@@ -1,7 +1,11 @@
 //! Callsites: the places in a program that make spans and events.
+ghost use Rattle.std.specs.Prelude.{◌≡◌};
+ghost use Rattle.trace_base.specs.Field.{place_of};
+
 use crate::level::Level;
 use otel_base::list::Items;
 use otel_base::text::Text;
+use std::marker::Model;
 
 /// What a callsite makes; `tracing_core::metadata::Kind`.
 #[derive(Clone, Copy, PartialEq, Eq)]
@@ -31,4 +35,49 @@ pub struct Callsite {
     pub line: Option<u32>,
     /// The names of its fields, in order; `tracing_core::field::FieldSet`.
     pub fields: Items<Text>,
+}
+
+impl Callsite {
+    /// The first place of the name among the fields, and none exactly where no field has it;
+    /// `tracing_core::field::FieldSet::field`.
+    pub fn field(&self, name: &str) -> Option<usize>
+        ensures { result ≡ place_of name.now self.now }
+    {
+        self.fields
+            .as_slice()
+            .iter()
+            .position(|field| field.as_str() == name)
+    }
+}
+
+/// The name of a callsite in a world, which contracts see as its number; `tracing_core::callsite::Identifier`.
+#[derive(Clone, Copy, Debug, PartialEq, Eq)]
+pub struct SiteId {
+    number: u64,
+}
+
+impl Model for SiteId {
+    ghost use Rattle.std.specs.Prelude.{ℕ};
+
+    ghost Value = { ℕ };
+
+    ghost view = { λ s. s.number };
+
+    ghost inverse = { λ n. record { number = n } };
+}
+
+impl SiteId {
+    /// The name of the callsite at this place of a world.
+    pub(crate) fn at(number: u64) -> SiteId
+        ensures { result ≡ number }
+    {
+        SiteId { number }
+    }
+
+    /// The place of the callsite in its world, from 0 in the order in which callsites came to it.
+    pub fn number(&self) -> u64
+        ensures { result ≡ self.now }
+    {
+        self.number
+    }
 }

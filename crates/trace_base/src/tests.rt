@@ -1,7 +1,9 @@
-//! Levels and quoted texts at concrete values.
+//! Levels, quoted texts and, in a file of their own, fields at concrete values.
 use crate::level::{Level, LevelFilter, STATIC_MAX_LEVEL};
 use crate::quote::quote;
 use std::test::Fail;
+
+mod fields;
 
 const LEVELS: [Level; 5] = [
     Level::ERROR,
