@@ -20,6 +20,19 @@ fn gives_texts_back(rt: HostRuntime) -> Result<(), Fail> {
 }
 
 #[test]
+fn orders_texts_by_bytes(rt: HostRuntime) -> Result<(), Fail> {
+    let alloc = rt.alloc();
+    let mut before = Text::from(String::new(alloc));
+    for later in ["B", "a", "ab", "b", "\u{e9}"] {
+        let text = Text::from(String::from_str(alloc, later)?);
+        assert!(rt; before < text);
+        assert!(rt; text > before);
+        before = text;
+    }
+    Ok(())
+}
+
+#[test]
 fn keeps_items_in_order(rt: HostRuntime) -> Result<(), Fail> {
     let mut items = Items::new(rt.alloc());
     items.push(3u8)?;

@@ -9,7 +9,7 @@ use Rattle.std.proofs.lemmas.Bool.{lt-ltb, ltb-true, cases_lt}
 use Rattle.std.proofs.lemmas.Grind.{common_steps}
 use Rattle.trace_base.specs.LevelWords.{digits_number, decimal_value, filter_of_number}
 
-digits_pass : (ds : List ℕ) → AllDigits 10 ds → all_ascii_digits ds ≡ true
+pub digits_pass : (ds : List ℕ) → AllDigits 10 ds → all_ascii_digits ds ≡ true
 digits_pass [] h = refl
 digits_pass (d ∷ ds) h = grind (arith, common_steps, h.0, digits_pass ds h.1)
 
@@ -54,7 +54,7 @@ no_byte_read text h =
     elim (number_of_numeral ds) [
       | inl none ↦ rw none refl
       | inr some ↦ rw some.1 (elim (cases_lt (digits_value 10 ds) 256) [
-          | inl fits ↦ absurd (h (some.0, fits))
-          | inr past ↦ past_all (digits_value 10 ds) past
-        ])
+        | inl fits ↦ absurd (h (some.0, fits))
+        | inr past ↦ past_all (digits_value 10 ds) past
+      ])
     ]
