@@ -1,0 +1,7 @@
+use Rattle.std.proofs.Common.{◌≡◌, drop, take}
+use Rattle.env_directives.specs.Cuts.{cut}
+use Rattle.env_directives.proofs.Cutting.{behind_front}
+use Rattle.env_directives.proofs.env.cut.cut.Given as goal
+
+abbrev pub invariant-loop-at : goal.invariant-loop-at
+invariant-loop-at l = cut l.stops l.text ≡ behind_front (take l.at l.text) (cut l.stops (drop l.at l.text))

@@ -1,0 +1,5 @@
+use Rattle.env_directives.proofs.Behind.{no_bracket}
+use Rattle.env_directives.proofs.env.directive.parse.read_close.Goals as goal
+
+pub returns-in-None : goal.returns-in-None
+returns-in-None c = no_bracket c.args.directive c.args.rest.now c.in-None.ensures.cases

@@ -1,0 +1,51 @@
+use Rattle.std.proofs.Common.{◌≡◌, List, ℕ, Bor, Some, codes, sym, ◌∙◌, rules}
+use Rattle.std.proofs.lemmas.Result.{err_from_is_err_and}
+use Rattle.env_directives.specs.Cuts.{cut}
+use Rattle.env_directives.specs.Values.{IsTextField}
+use Rattle.env_directives.proofs.FieldsCut.{shape_left, empty_left, text_left, last_left, more_left, earlier_more, text_shorter, answers_fault}
+use Rattle.env_directives.specs.declared.env.field.Match.{Match}
+use Rattle.env_directives.proofs.env.directive.parse.read_fields.Goals as goal
+
+pub returns-in_default : goal.returns-in_default
+returns-in_default c =
+    shape_left c.args.patterns c.args.text.now c.fields.text.now _ _ c.fields.fields c.fields.invariant.same c.cut-pieces.ensures.front
+    c.cut-pieces.ensures.rest (sym c.in_default.is ∙ c.cut-pieces.ensures.stop)
+
+pub returns-then-is_empty : goal.returns-then-is_empty
+returns-then-is_empty c =
+    empty_left c.args.patterns c.args.text.now c.fields.text.now _ _ c.fields.fields c.fields.invariant.same c.cut-pieces.ensures.front
+    c.cut-pieces.ensures.rest c.in-Some.stop (sym c.in-Some.is ∙ c.cut-pieces.ensures.stop) (sym c.if-is_empty.true ∙ c.is_empty.ensures)
+
+pub returns-in_err-parse : goal.returns-in_err-parse
+returns-in_err-parse c =
+    let p = err_from_is_err_and c.from_residual.result c.from_residual.ensures.1 in
+    let stopped : Some c.in-Some.stop ≡ (cut (codes ",}") c.fields.text.now).stop = sym c.in-Some.is ∙ c.cut-pieces.ensures.stop in
+    let parts = c.fields.invariant.earlier in
+    let view : List Match × Bor (List ℕ) → List Match × List ℕ = λ r. (r.0, r.1.now) in
+    rw (p.1, p.2) (answers_fault view c.args.patterns (IsTextField c.cut-pieces.result.front.now) _ _ c.in_err-parse.field-0.0 c.in_err-parse.ensures.err
+    (text_left c.args.patterns c.args.text.now c.fields.text.now _ _ c.fields.fields c.fields.invariant.same c.cut-pieces.ensures.front
+    c.cut-pieces.ensures.rest c.in-Some.stop stopped (sym c.if-is_empty.false ∙ c.is_empty.ensures) parts.0 parts.1 parts.2))
+
+pub returns-then-stop-eq125 : goal.returns-then-stop-eq125
+returns-then-stop-eq125 c =
+    rw c.in_ok-push.ensures.ok (last_left c.args.patterns c.args.text.now c.fields.text.now _ _ c.fields.fields c.fields.invariant.same c.cut-pieces.ensures.front
+    c.cut-pieces.ensures.rest c.in-Some.stop (sym c.in-Some.is ∙ c.cut-pieces.ensures.stop) (sym c.if-is_empty.false ∙ c.is_empty.ensures)
+    c.in_ok-parse.field-0 c.in_ok-parse.ensures.ok c.if-stop-eq125.true)
+
+pub fields-smaller : goal.fields-smaller
+fields-smaller c =
+    text_shorter c.args.patterns c.args.text.now c.fields.text.now _ _ c.fields.fields c.fields.invariant.same c.cut-pieces.ensures.front
+    c.cut-pieces.ensures.rest c.in-Some.stop (sym c.in-Some.is ∙ c.cut-pieces.ensures.stop) (sym c.if-is_empty.false ∙ c.is_empty.ensures)
+
+pub fields-preserved : goal.fields-preserved
+fields-preserved c = record {
+  is_text = search rules;
+  same =
+      rw c.in_ok-push.ensures.ok (more_left c.args.patterns c.args.text.now c.fields.text.now _ _ c.fields.fields c.fields.invariant.same c.cut-pieces.ensures.front
+      c.cut-pieces.ensures.rest c.in-Some.stop (sym c.in-Some.is ∙ c.cut-pieces.ensures.stop) (sym c.if-is_empty.false ∙ c.is_empty.ensures)
+      c.in_ok-parse.field-0 c.in_ok-parse.ensures.ok c.if-stop-eq125.false);
+  earlier =
+      earlier_more c.args.patterns c.args.text.now c.fields.text.now _ _ c.fields.fields c.fields.invariant.same c.cut-pieces.ensures.front
+      c.cut-pieces.ensures.rest c.in-Some.stop (sym c.in-Some.is ∙ c.cut-pieces.ensures.stop) (sym c.if-is_empty.false ∙ c.is_empty.ensures)
+      c.if-stop-eq125.false c.fields.invariant.earlier;
+}

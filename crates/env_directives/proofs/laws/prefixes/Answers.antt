@@ -1,0 +1,5 @@
+use Rattle.env_directives.proofs.Prefixes.{decides}
+use Rattle.env_directives.proofs.laws.prefixes.Goals as goal
+
+pub returns : goal.returns
+returns c = decides

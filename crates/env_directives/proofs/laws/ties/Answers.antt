@@ -1,0 +1,5 @@
+use Rattle.env_directives.proofs.Ties.{directive_tie, tied_directives}
+use Rattle.env_directives.proofs.laws.ties.Goals as goal
+
+pub returns : goal.returns
+returns c = λ a b. (directive_tie a b, tied_directives a b)

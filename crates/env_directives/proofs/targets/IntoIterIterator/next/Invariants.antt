@@ -1,0 +1,9 @@
+use Rattle.std.specs.Prelude.{◌≡◌, length}
+use Rattle.env_directives.specs.Targets.{pairs}
+use Rattle.env_directives.proofs.targets.IntoIterIterator.next.Given as goal
+
+abbrev pub invariant-loop-first : goal.invariant-loop-first
+invariant-loop-first l = pairs l.self-inside.rest ≡ l.fn.self
+
+abbrev pub decreases-loop-first : goal.decreases-loop-first
+decreases-loop-first l = length l.self-inside.rest

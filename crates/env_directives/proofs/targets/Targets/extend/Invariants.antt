@@ -1,0 +1,10 @@
+use Rattle.std.specs.Prelude.{map}
+use Rattle.std.specs.Vec.Iter.{into_iter_items}
+use Rattle.env_directives.specs.StaticOrder.{most_specific_first}
+use Rattle.env_directives.specs.Targets.{pair_directive}
+use Rattle.env_directives.proofs.Adding.{Adding}
+use Rattle.env_directives.proofs.targets.Targets.extend.Given as goal
+
+abbrev pub invariant-loop-target : goal.invariant-loop-target
+invariant-loop-target l =
+    Adding most_specific_first (λ d. d.level) (map pair_directive l.fn.pairs.items) l.fn.self l.self-inside.set (map pair_directive (into_iter_items l.target-iterator))

@@ -1,0 +1,8 @@
+use Rattle.std.specs.Prelude.{◌≡◌, ℕ, List}
+use Rattle.env_directives.specs.Targets.{targets_of}
+use Rattle.env_directives.proofs.Pieces.{Gives}
+use Rattle.env_directives.proofs.StaticReading.{read_on}
+use Rattle.env_directives.proofs.targets.Targets.from_str.Given as goal
+
+abbrev pub invariant-loop-piece : goal.invariant-loop-piece
+invariant-loop-piece l = (left : List (List ℕ)) × Gives l.piece-iterator left × (targets_of l.text ≡ read_on left l.set)

@@ -1,0 +1,58 @@
+//! What holds of every text of a directive, and of whole lists of directives, whatever the sets do step by step. Each
+//! law is a function that does nothing.
+ghost use Rattle.std.specs.Prelude.{◌≡◌, Bool, List, ℕ, false, ◌↔◌, ◌<◌, IfSome, slice_index};
+ghost use Rattle.std.specs.Str.{IsUtf8, trim};
+ghost use Rattle.std.specs.declared.cmp.Ordering.TheVariants.{Equal};
+ghost use Rattle.env_directives.specs.Choice.{admits_target, lets_through, longest_prefix};
+ghost use Rattle.env_directives.specs.DirectiveOrder.{directive_cmp, SameButLevel};
+ghost use Rattle.env_directives.specs.Faults.{HasNoLevel, HasEmptyField};
+ghost use Rattle.env_directives.specs.Forms.{IsDirective};
+ghost use Rattle.env_directives.specs.Meeting.{Meets, plain_text};
+ghost use Rattle.env_directives.specs.Printed.{directive_text, HasNoMinusZero};
+ghost use Rattle.env_directives.specs.Table.{Table, IsTableOf, empty_table, with_all_added};
+ghost use Rattle.env_directives.specs.Targets.{all_added};
+ghost use Rattle.env_directives.specs.declared.directive.StaticDirective.{StaticDirective};
+ghost use Rattle.env_directives.specs.declared.env.directive.Directive.{Directive};
+ghost use Rattle.env_directives.specs.declared.env.field.ValueMatch.{ValueMatch};
+ghost use Rattle.trace_base.specs.declared.field.Value.{Value};
+ghost use Rattle.trace_base.specs.declared.level.Level.{Level};
+
+use crate::directive::Match;
+
+/// A text is that of one directive at most; and a text with a fault is no directive's, and has no other fault.
+pub fn readings()
+    ensures directive { (patterns : Bool) (text : List ℕ) (d e : Directive) → IsDirective patterns text d → IsDirective patterns text e → d ≡ e }
+    ensures level { (patterns : Bool) (text : List ℕ) (d : Directive) → IsDirective patterns text d → HasNoLevel text → ⊥ }
+    ensures field { (patterns : Bool) (text : List ℕ) (d : Directive) → IsDirective patterns text d → HasEmptyField text → ⊥ }
+    ensures fault { (text : List ℕ) → HasNoLevel text → HasEmptyField text → ⊥ }
+{}
+
+/// What a directive prints that was read without patterns is read as that directive again, its level included, unless
+/// a value was read as minus zero. Each text of a program is UTF-8, what is printed included.
+pub fn printing()
+    ensures again { (text : List ℕ) (d : Directive) → IsUtf8 text → IsUtf8 (directive_text d) → IsDirective false (trim text) d
+        → HasNoMinusZero d.fields → IsDirective false (trim (directive_text d)) d }
+{}
+
+/// Directives that are added in turn make one table: in order, of each class of equal ones the last that was added, and
+/// the greatest level of all. No other table is that of the same directives.
+pub fn tables<T: Ord + Match>()
+    ensures kept { (ds : List T) → IsTableOf T.cmp T.level_of ds (with_all_added T.cmp T.level_of ds empty_table) }
+    ensures one { (ds : List T) (s t : Table T) → IsTableOf T.cmp T.level_of ds s → IsTableOf T.cmp T.level_of ds t → s.directives ≡ t.directives }
+{}
+
+/// The longest of the added targets that begin a target decides on it, the default where there is none.
+pub fn prefixes()
+    ensures { (ds : List StaticDirective) (target : List ℕ) (level : Level)
+        → admits_target (all_added ds empty_table).directives target level ≡ lets_through level (longest_prefix ds target) }
+{}
+
+/// A value whose text is bytes meets what is asked, or doesn't: it doesn't hang on what a pattern was compiled to.
+pub fn meetings()
+    ensures { (asked : ValueMatch) (value : Value) (one other : Bool) → IfSome (plain_text value) (λ text. (k : ℕ) → slice_index text k < 256) → Meets asked value one → Meets asked value other → one ≡ other }
+{}
+
+/// Two directives are equal by the order exactly where they differ in their level at most.
+pub fn ties()
+    ensures { (a b : Directive) → directive_cmp a b ≡ Equal ↔ SameButLevel a b }
+{}
