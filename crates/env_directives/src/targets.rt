@@ -269,13 +269,13 @@ impl Model for IntoIter {
 }
 
 impl Iterator for IntoIter {
-    type Item = (String, LevelFilter);
+    type Item = (Text, LevelFilter);
 
-    ghost next_gives = { YieldsFirstBy (λ pair. (string_bytes pair.0, pair.1)) (λ it. it) };
+    ghost next_gives = { YieldsFirstBy (λ pair. pair) (λ it. it) };
 
     ghost remaining = { item_count (λ it. it) };
 
-    fn next(&mut self) -> Option<(String, LevelFilter)> {
+    fn next(&mut self) -> Option<(Text, LevelFilter)> {
         while let Some(first) = self.rest.next() {
             let StaticDirective {
                 target,
@@ -283,7 +283,7 @@ impl Iterator for IntoIter {
                 level,
             } = first;
             if let Some(target) = target {
-                return Some((target.into_string(), level));
+                return Some((target, level));
             }
         }
         None

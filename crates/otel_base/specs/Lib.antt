@@ -1,3 +1,5 @@
+pub mod Words
+pub mod Statuses
 pub mod Ids
 pub mod RecorderIds
 pub mod Tracer

@@ -1,7 +1,6 @@
 //! Contexts: the ids by which a span is known outside, and what a lane carries on to new spans.
-ghost use Rattle.std.specs.Prelude.{◌≡◌, ◌↔◌, ◌<◌, None, IsTrue};
-ghost use Rattle.otel_base.specs.Ids.{ids_of};
-ghost use Rattle.otel_base.specs.RecorderIds.{parent_id as id_of_parent};
+ghost use Rattle.std.specs.Prelude.{◌≡◌, None};
+ghost use Rattle.otel_base.specs.Ids.{ids_of, is_valid as valid_ids, parent_id as id_of_parent};
 
 /// The ids of a span, by which other spans and exporters name it; `opentelemetry::trace::SpanContext`,
 /// without flags and trace state. An id of 0 is no id.
@@ -16,7 +15,7 @@ pub struct SpanContext {
 impl SpanContext {
     /// Whether it names a span: neither id is 0.
     pub fn is_valid(&self) -> bool
-        ensures { IsTrue result ↔ (0 < self.now.trace) × (0 < self.now.span) }
+        ensures { result ≡ valid_ids self.now }
     {
         self.trace != 0 && self.span != 0
     }

@@ -43,6 +43,28 @@ pub struct Link {
     pub attributes: Items<KeyValue>,
 }
 
+/// A span before it has ids: a `Record` without them, whose part may not be told yet;
+/// `opentelemetry::trace::SpanBuilder`.
+#[derive(Clone, Drop)]
+pub struct SpanBuilder {
+    /// The name of its callsite, or that which it was given.
+    pub name: Text,
+    /// The part that it plays, if that was told.
+    pub kind: Option<SpanKind>,
+    /// When it was made, in nanoseconds.
+    pub start: Moment,
+    /// When it was exited last, or when it closed if it was never entered, in nanoseconds.
+    pub end: Moment,
+    /// What is told of it, in order.
+    pub attributes: Items<KeyValue>,
+    /// The events that were told to it, in order.
+    pub events: Items<OtelEvent>,
+    /// Its links to other spans, in order.
+    pub links: Items<Link>,
+    /// How it goes.
+    pub status: Status,
+}
+
 /// A finished span; `opentelemetry_sdk::trace::SpanData`.
 #[derive(Clone, Drop)]
 pub struct Record {

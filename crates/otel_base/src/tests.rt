@@ -5,6 +5,7 @@ use crate::list::Items;
 use crate::memory::Memory;
 use crate::stack::ContextStack;
 use crate::text::Text;
+use crate::word::Word;
 use std::test::Fail;
 
 mod tracers;
@@ -15,7 +16,10 @@ fn gives_texts_back(rt: HostRuntime) -> Result<(), Fail> {
     let same = text.clone()?;
     assert!(rt; text == same);
     assert_eq!(rt; text.as_str(), "span");
-    assert_eq!(rt; text.into_string().as_str(), "span");
+    assert_eq!(rt; text.into_string()?.as_str(), "span");
+    let fixed = Text::fixed(rt.alloc(), Word::Level);
+    assert!(rt; fixed < same);
+    assert_eq!(rt; fixed.into_string()?.as_str(), "level");
     Ok(())
 }
 

@@ -1,5 +1,6 @@
 //! Texts that contracts see as the list of their bytes.
-ghost use Rattle.std.specs.Prelude.{◌≡◌, List, ℕ, string_bytes};
+ghost use Rattle.std.specs.Prelude.{◌≡◌, List, ℕ, string_bytes, IfOk};
+ghost use Rattle.otel_base.specs.Words.{word_text};
 ghost use Rattle.std.proofs.Common.{rules};
 ghost use Rattle.std.specs.Cmp.Rules.{comparing};
 ghost use Rattle.std.specs.Prelude.{bytes_eq};
@@ -7,37 +8,61 @@ ghost use Rattle.std.specs.Ordering.{nat_cmp, as_partial_cmp};
 ghost use Rattle.std.specs.Cmp.{partial_order_from_own_ties};
 ghost use Rattle.std.specs.Cmp.Lexicographic.{slice_cmp};
 
+use crate::memory::Memory;
+use crate::word::Word;
+use std::alloc::Global;
 use std::cmp::Ordering;
 use std::marker::Model;
 
-/// A text: a `String` that contracts see as the list of its bytes, which are UTF-8. It stands for
-/// `opentelemetry::StringValue`, `opentelemetry::Key` and the `&str`s of `tracing_core::Metadata`.
+/// A text that contracts see as the list of its bytes, which are UTF-8: a `String`, or a fixed word, which takes no
+/// memory. It stands for `opentelemetry::StringValue`, `opentelemetry::Key` and the `&str`s of
+/// `tracing_core::Metadata`.
 #[derive(Clone, Drop)]
 pub struct Text {
+    // Empty where the text is a word. As an enum the two would be told apart wherever a text goes out of scope.
     string: String,
+    word: Option<Word>,
 }
 
 impl Model for Text {
     ghost use Rattle.std.specs.Prelude.{List, ℕ, string_bytes};
+    ghost use Rattle.otel_base.specs.Words.{text_bytes};
 
     ghost Value = { List ℕ };
 
-    ghost view = { λ t. string_bytes t.string };
+    ghost view = { λ t. text_bytes (string_bytes t.string) t.word };
 }
 
 impl Text {
+    /// A fixed key or word. It takes no memory.
+    pub fn fixed(alloc: Global, word: Word) -> Text
+        ensures { result ≡ word_text word }
+    {
+        Text {
+            string: String::new(alloc),
+            word: Some(word),
+        }
+    }
+
     /// The text as a `&str`, without a copy.
     pub fn as_str(&self) -> &str
         ensures { result.now ≡ self.now }
     {
-        self.string.as_str()
+        match self.word {
+            Some(word) => word.as_str(),
+            None => self.string.as_str(),
+        }
     }
 
-    /// The `String` that the text was made of, without a copy.
-    pub fn into_string(self) -> String
-        ensures { string_bytes result ≡ self }
+    /// The `String` that the text was made of, without a copy, or one with the bytes of its word; `Memory` where there
+    /// is none for that.
+    pub fn into_string(self) -> Result<String, Memory>
+        ensures { IfOk result (λ s. string_bytes s ≡ self) }
     {
-        self.string
+        match self.word {
+            Some(word) => Ok(String::from_str(*self.string.allocator(), word.as_str())?),
+            None => Ok(self.string),
+        }
     }
 }
 
@@ -45,7 +70,7 @@ impl From<String> for Text {
     ghost from_gives = { λ s t. t ≡ string_bytes s };
 
     fn from(string: String) -> Text {
-        Text { string }
+        Text { string, word: None }
     }
 }
 
@@ -55,7 +80,7 @@ impl PartialEq for Text {
     ghost laws = { Prim.search (comparing, rules) };
 
     fn eq(&self, other: &Text) -> bool {
-        self.string == other.string
+        self.as_str() == other.as_str()
     }
 }
 
@@ -74,7 +99,7 @@ impl Ord for Text {
     ghost matches_eq = { Prim.search (comparing, rules) };
 
     fn cmp(&self, other: &Text) -> Ordering {
-        self.string.cmp(&other.string)
+        self.as_str().cmp(&other.as_str())
     }
 }
 

@@ -7,9 +7,11 @@ ghost use Rattle.std.specs.Cmp.{partial_order_from_own_ties};
 ghost use Rattle.std.specs.Cmp.Rules.{comparing};
 ghost use Rattle.std.specs.Option.{option_and_then};
 ghost use Rattle.std.proofs.Common.{rules};
+ghost use Rattle.otel_base.specs.Words.{word_text};
 ghost use Rattle.trace_base.specs.Level.{verbosity, greatest_verbosity, is_within, level_text, filter_text, filter_of_level, level_of_filter};
 ghost use Rattle.trace_base.specs.LevelWords.{all_filters, filter_of_word, filter_of_number, decimal_value, named_filter, filter_of, level_of, IsReadAs};
 
+use otel_base::word::Word;
 use std::cmp::Ordering;
 use std::error::Error;
 use std::str::FromStr;
@@ -21,21 +23,32 @@ pub const STATIC_MAX_LEVEL: LevelFilter = LevelFilter::TRACE;
 /// How much a callsite tells, from the most urgent to the most verbose; `tracing_core::Level`.
 #[derive(Clone, Copy, Debug, PartialEq, Eq)]
 pub enum Level {
+    /// Something went wrong.
     ERROR,
+    /// Something may go wrong.
     WARN,
+    /// What a user wants to know.
     INFO,
+    /// What helps to find a fault.
     DEBUG,
+    /// Each step.
     TRACE,
 }
 
 /// The most verbose level that is let through, or none at all; `tracing_core::LevelFilter`.
 #[derive(Clone, Copy, Debug, PartialEq, Eq)]
 pub enum LevelFilter {
+    /// No level is let through.
     OFF,
+    /// `ERROR` alone is.
     ERROR,
+    /// `WARN` and `ERROR` are.
     WARN,
+    /// `INFO`, `WARN` and `ERROR` are.
     INFO,
+    /// All but `TRACE` are.
     DEBUG,
+    /// Every level is.
     TRACE,
 }
 
@@ -59,12 +72,19 @@ impl Level {
     pub fn as_str(self) -> &'static str
         ensures { result.now ≡ level_text self }
     {
+        self.word().as_str()
+    }
+
+    /// The level in upper case, as a word that takes no memory in records.
+    pub fn word(self) -> Word
+        ensures { word_text result ≡ level_text self }
+    {
         match self {
-            Level::ERROR => "ERROR",
-            Level::WARN => "WARN",
-            Level::INFO => "INFO",
-            Level::DEBUG => "DEBUG",
-            Level::TRACE => "TRACE",
+            Level::ERROR => Word::AtError,
+            Level::WARN => Word::AtWarn,
+            Level::INFO => Word::AtInfo,
+            Level::DEBUG => Word::AtDebug,
+            Level::TRACE => Word::AtTrace,
         }
     }
 }

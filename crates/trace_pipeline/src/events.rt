@@ -8,6 +8,7 @@ use otel_base::memory::Memory;
 use otel_base::record::{Moment, OtelEvent};
 use otel_base::text::Text;
 use otel_base::value::{KeyValue, OtelValue};
+use otel_base::word::Word;
 use std::alloc::Global;
 use std::mem;
 use trace_base::callsite::Callsite;
@@ -30,11 +31,11 @@ pub fn make_event(alloc: Global, callsite: &Callsite, at: Moment) -> Result<Otel
 {
     let mut attributes = Items::new(alloc);
     attributes.push(KeyValue {
-        key: Text::from(String::from_str(alloc, "level")?),
-        value: OtelValue::Str(Text::from(String::from_str(alloc, callsite.level.as_str())?)),
+        key: Text::fixed(alloc, Word::Level),
+        value: OtelValue::Str(Text::fixed(alloc, callsite.level.word())),
     })?;
     attributes.push(KeyValue {
-        key: Text::from(String::from_str(alloc, "target")?),
+        key: Text::fixed(alloc, Word::Target),
         value: OtelValue::Str(callsite.target.clone()?),
     })?;
     Ok(OtelEvent {

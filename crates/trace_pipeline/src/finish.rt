@@ -10,6 +10,7 @@ use otel_base::record::{Moment, Record, SpanKind};
 use otel_base::status::Status;
 use otel_base::text::Text;
 use otel_base::value::{KeyValue, OtelValue};
+use otel_base::word::Word;
 use std::alloc::Global;
 use trace_base::callsite::Callsite;
 
@@ -35,11 +36,11 @@ fn closing_attributes(alloc: Global, busy: u64, idle: u64) -> Result<Items<KeyVa
 {
     let mut attributes = Items::new(alloc);
     attributes.push(KeyValue {
-        key: Text::from(String::from_str(alloc, "busy_ns")?),
+        key: Text::fixed(alloc, Word::Busy),
         value: nanoseconds(busy),
     })?;
     attributes.push(KeyValue {
-        key: Text::from(String::from_str(alloc, "idle_ns")?),
+        key: Text::fixed(alloc, Word::Idle),
         value: nanoseconds(idle),
     })?;
     Ok(attributes)

@@ -1,0 +1,31 @@
+-- The fixed keys and words of records.
+use Rattle.std.specs.Prelude.{ℕ, List, Option, None, Some, codes}
+use Rattle.otel_base.specs.declared.word.Word.{Word}
+use Rattle.otel_base.specs.declared.word.Word.TheVariants as words
+
+-- the bytes of a word
+abbrev pub word_text : Word → List ℕ
+word_text words.Busy = codes "busy_ns"
+word_text words.Idle = codes "idle_ns"
+word_text words.EventCount = codes "otel.tracing_event_count"
+word_text words.Level = codes "level"
+word_text words.Target = codes "target"
+word_text words.FilePath = codes "code.file.path"
+word_text words.ModuleName = codes "code.module.name"
+word_text words.LineNumber = codes "code.line.number"
+word_text words.ThreadId = codes "thread.id"
+word_text words.ThreadName = codes "thread.name"
+word_text words.Exception = codes "exception"
+word_text words.ExceptionMessage = codes "exception.message"
+word_text words.ExceptionStacktrace = codes "exception.stacktrace"
+word_text words.Error = codes "error"
+word_text words.AtError = codes "ERROR"
+word_text words.AtWarn = codes "WARN"
+word_text words.AtInfo = codes "INFO"
+word_text words.AtDebug = codes "DEBUG"
+word_text words.AtTrace = codes "TRACE"
+
+-- the bytes of a text: those of its word if it is one, else its own
+abbrev pub text_bytes : (own : List ℕ) → Option Word → List ℕ
+text_bytes own None = own
+text_bytes own (Some word) = word_text word
