@@ -1,3 +1,5 @@
+pub mod Caching
+pub mod Entering
 pub mod LevelNumbers
 pub mod Quotes
 pub mod Unquoting

@@ -1,4 +1,14 @@
+pub mod Calls
+pub mod Conditions
+pub mod Contexts
+pub mod Default
 pub mod Field
+pub mod Gate
+pub mod Hooks
+pub mod Ids
+pub mod Lending
 pub mod Level
 pub mod LevelWords
+pub mod Nothing
 pub mod Quote
+pub mod Spans

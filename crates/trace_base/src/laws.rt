@@ -1,5 +1,6 @@
-//! What holds of every level and of every quoted text.
-ghost use Rattle.std.specs.Prelude.{◌≡◌, List, ℕ, Some};
+//! What holds of every level, every quoted text and every world.
+ghost use Rattle.std.specs.Prelude.{◌≡◌, Bool, List, ℕ, Option, Some};
+ghost use Rattle.trace_base.specs.Gate.{Worlds, Admits, AdmitsFresh, IsFresh};
 ghost use Rattle.trace_base.specs.declared.level.Level.{Level};
 ghost use Rattle.trace_base.specs.declared.level.LevelFilter.{LevelFilter};
 ghost use Rattle.trace_base.specs.declared.level.LevelFilter.TheVariants as filter;
@@ -8,6 +9,7 @@ ghost use Rattle.trace_base.specs.LevelWords.{level_of, filter_of};
 ghost use Rattle.trace_base.specs.Quote.{quoted};
 
 use crate::level::STATIC_MAX_LEVEL;
+use crate::subscriber::Subscriber;
 
 /// What a level or a filter prints reads as itself, and the greatest filter is the static one.
 pub fn levels()
@@ -19,4 +21,10 @@ pub fn levels()
 /// Texts that differ have quoted forms that differ.
 pub fn quotes()
     ensures differ { (x y : List ℕ) → quoted x ≡ quoted y → x ≡ y }
+{}
+
+/// Where the cached interests are those of the filters in place, a callsite is admitted by the subscriber's own
+/// answers.
+pub fn fresh<S: Subscriber>()
+    ensures { (world : Worlds S) (lane site : ℕ) (dispatch : Option ℕ) (answer : Bool) → Admits S.hint S.enables world lane site dispatch answer → IsFresh S.interest world → AdmitsFresh S.interest S.hint S.enables world lane site dispatch answer }
 {}

@@ -1,0 +1,47 @@
+-- The contexts that something keeps attached to lanes.
+use Rattle.std.specs.Prelude.{◌≡◌, ℕ, ◌+◌, ◌≤◌, ◌==◌, if◌then◌else◌, Bool, true, false, length, count_by}
+use Rattle.trace_base.specs.declared.lane.Lane.{Lane}
+use Rattle.trace_base.specs.Calls.{SubscriberCall, NewSpan, Records, Follows, Event, Enter, Exit, CloneSpan, TryClose}
+
+-- how many live contexts of a lane have the number of an attach: one or none
+abbrev pub attached_as : ℕ → Lane → ℕ
+attached_as number lane = count_by (λ item. item.0 == number) lane.contexts.live
+
+-- the same, of the lane with an id
+abbrev pub attached_on : ℕ → ℕ → Lane → ℕ
+attached_on id number lane = if lane.id == id then attached_as number lane else 0
+
+-- as many contexts are live as may be
+abbrev pub IsFull : Lane → Type 0
+IsFull lane = length lane.contexts.live ≡ 65534
+
+-- all that is kept attached to a lane, by lane and number, is still attached there
+abbrev pub AreAttached : (ℕ → ℕ → ℕ) → Lane → Type 0
+AreAttached kept lane = (number : ℕ) → kept lane.id number ≤ attached_as number lane
+
+-- what was attached or detached between two moments of a lane is what is kept more or less
+abbrev pub KeepsAttached : (ℕ → ℕ → ℕ) → Lane → Lane → (ℕ → ℕ → ℕ) → Type 0
+KeepsAttached kept before later now = (lane number : ℕ) → now lane number + attached_on lane number before ≡ kept lane number + attached_on lane number later
+
+-- the lane has the same id, name and default; and where nothing can be attached the same contexts and room
+pub record KeepsLane (attaches : Bool) (before later : Lane) : Type 0 where
+  pub id : later.id ≡ before.id
+  pub name : later.name ≡ before.name
+  pub default : later.default ≡ before.default
+  pub as_it_is : attaches ≡ false → later ≡ before
+
+-- the same, and the same contexts too: only their room may have grown
+pub record KeepsLive (attaches : Bool) (before later : Lane) : Type 0 where
+  pub keeps : KeepsLane attaches before later
+  pub live : later.contexts.live ≡ before.contexts.live
+
+-- what a call makes of lanes and of what is kept attached
+abbrev pub Lanes : Bool → (ℕ → ℕ → ℕ) → SubscriberCall → (ℕ → ℕ → ℕ) → Type 0
+Lanes attaches kept (Enter id at before later) now = KeepsLane attaches before later × KeepsAttached kept before later now
+Lanes attaches kept (Exit id at before later) now = KeepsLane attaches before later × KeepsAttached kept before later now
+Lanes attaches kept (NewSpan lane at place site callsite values) now = now ≡ kept
+Lanes attaches kept (Records id at callsite values) now = now ≡ kept
+Lanes attaches kept (Follows id from at) now = now ≡ kept
+Lanes attaches kept (Event lane at place site callsite values) now = now ≡ kept
+Lanes attaches kept (CloneSpan id) now = now ≡ kept
+Lanes attaches kept (TryClose id at) now = now ≡ kept
