@@ -4,7 +4,7 @@ use Rattle.std.specs.List.{list_any}
 use Rattle.trace_base.specs.declared.span.Parent.{Parent}
 use Rattle.trace_base.specs.declared.span.Parent.TheVariants as parent
 
--- a span: how many holds it has, its parent and its callsite
+-- a span: how many holds it has, its parent and its callsite's site
 pub record Span : Type 0 where
   pub holds : ℕ
   pub parent : Option ℕ
@@ -15,12 +15,12 @@ pub record Entries : Type 0 where
   pub lane : ℕ
   pub ids : List ℕ
 
--- all spans that were made, and the lanes that something was entered on
+-- all spans that were made, by id, and the lanes that something was entered on
 pub record Spans : Type 0 where
   pub made : List Span
   pub lanes : List Entries
 
--- what stands past the spans that were made
+-- what stands for a span that closed, and past those that were made
 abbrev pub no_span : Span
 no_span = record { holds = 0; parent = None; site = 0 }
 
@@ -91,12 +91,16 @@ place_on ids parent.Root = None
 place_on ids parent.Current = current_of ids
 place_on ids (parent.Of id) = Some id
 
+-- a span with one hold less; of one that closes nothing is kept
+abbrev pub less_held : Span → Span
+less_held span = if span.holds == 1 then no_span else record span { holds = span.holds - 1 }
+
 -- the spans with one hold more, or less, of one of them
 abbrev pub held : List Span → ℕ → List Span
 held made id = slice_set made id (record (span_at made id) { holds = (span_at made id).holds + 1 })
 
 abbrev pub released : List Span → ℕ → List Span
-released made id = slice_set made id (record (span_at made id) { holds = (span_at made id).holds - 1 })
+released made id = slice_set made id (less_held (span_at made id))
 
 -- the same of the parent of a new span, if it has one
 abbrev pub held_by_child : List Span → Option ℕ → List Span
