@@ -1,0 +1,129 @@
+-- A lane's entries by the place where it stands.
+use Rattle.std.proofs.Common.{◌≡◌, ℕ, zero, suc, ◌+◌, ◌-◌, ◌<◌, ◌≤◌, ◌≢◌, List, [], ◌∷◌, ◌++◌, length, Bool, true, false, cond, count_by, sum_by, get_or, set, Option, Some, None, refl, sym, ap, subst, ◌∙◌, arith, inl, inr, ◌⊎◌}
+use Rattle.std.specs.Prelude.{if◌then◌else◌, ◌==◌, ◌||◌, slice_index_or}
+use Rattle.std.specs.List.{list_any, remove}
+use Rattle.std.proofs.lemmas.Bool.{eqb-true, eqb-false, eq-eqb, ne_eqb, cases_eq, cases_Bool, cond-true, cond-false, or_cases, or_parts, true≢false}
+use Rattle.std.proofs.lemmas.List.{get_or_default}
+use Rattle.trace_base.specs.Spans.{Entries, entries_on, with_entries, is_in, times_in, first_entries, has_entry, without_last, current_from, current_of}
+use Rattle.trace_base.proofs.Entering.{count_cons, counted_if_any, any_if_counted}
+use Rattle.span_registry.specs.Registering.{StandsAt, no_lane, OneEach, has_lane}
+
+pub entries_at : (es : List Entries) (lane at : ℕ) → at < length es → (get_or es at no_lane).lane ≡ lane → ((k : ℕ) → k < at → (get_or es k no_lane).lane ≡ lane → ⊥) → entries_on lane es ≡ (get_or es at no_lane).ids
+entries_at [] lane at within is before = absurd (omega (arith, within))
+entries_at (e ∷ es) lane zero within is before = cond-true {A = List ℕ} (e.lane == lane) _ _ (eq-eqb e.lane lane is)
+entries_at (e ∷ es) lane (suc at) within is before =
+    cond-false {A = List ℕ} (e.lane == lane) _ _ (ne_eqb e.lane lane (before 0 (omega arith)))
+    ∙ entries_at es lane at (omega (arith, within)) is (λ k below. before (suc k) (omega (arith, below)))
+
+pub with_at : (es : List Entries) (lane at : ℕ) (ids : List ℕ) → at < length es → (get_or es at no_lane).lane ≡ lane → ((k : ℕ) → k < at → (get_or es k no_lane).lane ≡ lane → ⊥)
+    → with_entries lane ids es ≡ set es at (record { lane = lane; ids = ids })
+with_at [] lane at ids within is before = absurd (omega (arith, within))
+with_at (e ∷ es) lane zero ids within is before = cond-true {A = List Entries} (e.lane == lane) _ _ (eq-eqb e.lane lane is)
+with_at (e ∷ es) lane (suc at) ids within is before =
+    cond-false {A = List Entries} (e.lane == lane) _ _ (ne_eqb e.lane lane (before 0 (omega arith)))
+    ∙ ap (λ (xs : List Entries). e ∷ xs) (with_at es lane at ids (omega (arith, within)) is (λ k below. before (suc k) (omega (arith, below))))
+
+pub entries_none : (es : List Entries) (lane : ℕ) → ((k : ℕ) → k < length es → (get_or es k no_lane).lane ≡ lane → ⊥) → entries_on lane es ≡ []
+entries_none [] lane none = refl
+entries_none (e ∷ es) lane none =
+    cond-false {A = List ℕ} (e.lane == lane) _ _ (ne_eqb e.lane lane (none 0 (omega arith))) ∙ entries_none es lane (λ k below. none (suc k) (omega (arith, below)))
+
+pub with_none : (es : List Entries) (lane : ℕ) (ids : List ℕ) → ((k : ℕ) → k < length es → (get_or es k no_lane).lane ≡ lane → ⊥) → with_entries lane ids es ≡ es ++ record { lane = lane; ids = ids } ∷ []
+with_none [] lane ids none = refl
+with_none (e ∷ es) lane ids none =
+    cond-false {A = List Entries} (e.lane == lane) _ _ (ne_eqb e.lane lane (none 0 (omega arith)))
+    ∙ ap (λ (xs : List Entries). e ∷ xs) (with_none es lane ids (λ k below. none (suc k) (omega (arith, below))))
+
+pub in_at : (xs : List ℕ) (id at : ℕ) → at < length xs → get_or xs at 0 ≡ id → is_in id xs ≡ true
+in_at [] id at within is = absurd (omega (arith, within))
+in_at (x ∷ xs) id zero within is = ap (λ b. b || is_in id xs) (eq-eqb x id is)
+in_at (x ∷ xs) id (suc at) within is = elim (cases_Bool (x == id)) [
+  | inl here ↦ ap (λ b. b || is_in id xs) here
+  | inr not ↦ ap (λ b. b || is_in id xs) not ∙ in_at xs id at (omega (arith, within)) is
+]
+
+pub none_in : (xs : List ℕ) (id : ℕ) → ((k : ℕ) → k < length xs → get_or xs k 0 ≡ id → ⊥) → is_in id xs ≡ true → ⊥
+none_in [] id none some = true≢false (sym some)
+none_in (x ∷ xs) id none some = elim (or_cases (x == id) (is_in id xs) some) [
+  | inl here ↦ none 0 (omega arith) (eqb-true x id here)
+  | inr there ↦ none_in xs id (λ k within. none (suc k) (omega (arith, within))) there
+]
+
+-- the last place of a span, and the list without it
+pub remove_is_last : (xs : List ℕ) (id at : ℕ) → at < length xs → get_or xs at 0 ≡ id → ((k : ℕ) → at < k → k < length xs → get_or xs k 0 ≡ id → ⊥) → remove xs at ≡ without_last (λ x. x == id) xs
+remove_is_last [] id at within is last = absurd (omega (arith, within))
+remove_is_last (x ∷ xs) id zero within is last =
+    let none : is_in id xs ≡ false = elim (cases_Bool (is_in id xs)) [ inl some ↦ absurd (none_in xs id (λ k within. last (suc k) (omega arith) (omega (arith, within))) some) | inr not ↦ not ] in
+    sym (cond-false {A = List ℕ} (is_in id xs) _ _ none ∙ cond-true {A = List ℕ} (x == id) _ _ (eq-eqb x id is))
+remove_is_last (x ∷ xs) id (suc at) within is last =
+    let some = in_at xs id at (omega (arith, within)) is in
+    ap (λ (ys : List ℕ). x ∷ ys) (remove_is_last xs id at (omega (arith, within)) is (λ k after below. last (suc k) (omega (arith, after)) (omega (arith, below))))
+    ∙ sym (cond-true {A = List ℕ} (is_in id xs) _ _ some)
+
+-- the current span is entered, and what is entered has a first entry
+pub current_in : (before : List ℕ) (now : Option ℕ) (ids : List ℕ) (p : ℕ) → current_from before now ids ≡ Some p → (now ≡ Some p) ⊎ (is_in p ids ≡ true)
+current_in before now [] p is = inl is
+current_in before now (s ∷ ids) p is =
+    let next = if is_in s before then now else Some s in
+    elim (current_in (before ++ s ∷ []) next ids p is) [
+      | inl here ↦ elim (cases_Bool (is_in s before)) [
+        | inl again ↦ inl (sym (cond-true {A = Option ℕ} (is_in s before) now (Some s) again) ∙ here)
+        | inr new ↦ (
+            let e : Some s ≡ Some p = sym (cond-false {A = Option ℕ} (is_in s before) now (Some s) new) ∙ here in
+            inr (ap (λ b. b || is_in p ids) (eq-eqb s p (cc e))))
+      ]
+      | inr later ↦ inr (elim (cases_Bool (s == p)) [
+        | inl here ↦ ap (λ b. b || is_in p ids) here
+        | inr not ↦ ap (λ b. b || is_in p ids) not ∙ later
+      ])
+    ]
+
+pub first_if_in : (es : List Entries) (lane id : ℕ) → is_in id (entries_on lane es) ≡ true → 0 < first_entries es id
+first_if_in [] lane id some = absurd (true≢false (sym some))
+first_if_in (e ∷ es) lane id some =
+    let count = count_cons (has_entry id) e es in
+    elim (cases_Bool (e.lane == lane)) [
+      | inl here ↦ (
+          let one = cond-true {A = ℕ} (has_entry id e) 1 0 (ap (is_in id) (sym (cond-true {A = List ℕ} (e.lane == lane) e.ids (entries_on lane es) here)) ∙ some) in
+          omega (arith, count, one))
+      | inr not ↦ (
+          let rest = first_if_in es lane id (ap (is_in id) (sym (cond-false {A = List ℕ} (e.lane == lane) e.ids (entries_on lane es) not)) ∙ some) in
+          omega (arith, count, rest))
+    ]
+
+-- the lanes with a change of what stands at the place of one
+pub set_entries : (lanes : List Entries) (lane at : ℕ) (seen : Entries) (f : List ℕ → List ℕ) (ids : List ℕ) → StandsAt lanes lane at → seen ≡ get_or lanes at seen → ids ≡ f seen.ids
+    → ◌≡◌ {A = List Entries} (set lanes at (record { lane = seen.lane; ids = ids })) (with_entries lane (f (entries_on lane lanes)) lanes)
+set_entries lanes lane at seen f ids stands is change =
+    let read : seen ≡ get_or lanes at no_lane = is ∙ get_or_default lanes at seen no_lane stands.within in
+    let there : seen.ids ≡ entries_on lane lanes = ap (λ (e : Entries). e.ids) read ∙ sym (entries_at lanes lane at stands.within stands.is stands.before) in
+    let same : seen.lane ≡ lane = ap (λ (e : Entries). e.lane) read ∙ stands.is in
+    ap (λ (l : ℕ). let e : Entries = record { lane = l; ids = ids } in set lanes at e) same
+    ∙ ap (λ (xs : List ℕ). let e : Entries = record { lane = lane; ids = xs } in set lanes at e) (change ∙ ap f there)
+    ∙ sym (with_at lanes lane at (f (entries_on lane lanes)) stands.within stands.is stands.before)
+
+pub seen_entries : (lanes : List Entries) (lane at : ℕ) (seen : Entries) → StandsAt lanes lane at → seen ≡ get_or lanes at seen → seen.ids ≡ entries_on lane lanes
+seen_entries lanes lane at seen stands is =
+    ap (λ (e : Entries). e.ids) (is ∙ get_or_default lanes at seen no_lane stands.within) ∙ sym (entries_at lanes lane at stands.within stands.is stands.before)
+
+-- each lane still has one row
+or_none : (a b : Bool) → a ≡ false → b ≡ false → (a || b) ≡ false
+or_none a b e f = ap (λ c. c || b) e ∙ f
+
+has_none : (lane l : ℕ) (ids : List ℕ) (es : List Entries) → has_lane l es ≡ false → (lane ≡ l → ⊥) → has_lane l (with_entries lane ids es) ≡ false
+has_none lane l ids [] none other = or_none (lane == l) false (ne_eqb lane l other) refl
+has_none lane l ids (e ∷ es) none other =
+    let parts = or_parts (e.lane == l) (has_lane l es) none in
+    elim (cases_Bool (e.lane == lane)) [
+      | inl same ↦ ap (has_lane l) (cond-true {A = List Entries} (e.lane == lane) (record { lane = lane; ids = ids } ∷ es) (e ∷ with_entries lane ids es) same) ∙ or_none (lane == l) (has_lane l es) (ne_eqb lane l other) parts.1
+      | inr differs ↦ ap (has_lane l) (cond-false {A = List Entries} (e.lane == lane) (record { lane = lane; ids = ids } ∷ es) (e ∷ with_entries lane ids es) differs) ∙ or_none (e.lane == l) (has_lane l (with_entries lane ids es)) parts.0 (has_none lane l ids es parts.1 other)
+    ]
+
+pub one_with : (lane : ℕ) (ids : List ℕ) (es : List Entries) → OneEach es → OneEach (with_entries lane ids es)
+one_with lane ids [] one = (refl, tt)
+one_with lane ids (e ∷ es) one =
+    elim (cases_Bool (e.lane == lane)) [
+      | inl same ↦ subst OneEach (sym (cond-true {A = List Entries} (e.lane == lane) (record { lane = lane; ids = ids } ∷ es) (e ∷ with_entries lane ids es) same)) (ap (λ (l : ℕ). has_lane l es) (sym (eqb-true e.lane lane same)) ∙ one.0, one.1)
+      | inr differs ↦ subst OneEach (sym (cond-false {A = List Entries} (e.lane == lane) (record { lane = lane; ids = ids } ∷ es) (e ∷ with_entries lane ids es) differs))
+          (has_none lane e.lane ids es one.0 (λ x. true≢false (sym (eq-eqb e.lane lane (sym x)) ∙ differs)), one_with lane ids es one.1)
+    ]

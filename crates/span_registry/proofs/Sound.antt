@@ -1,0 +1,384 @@
+-- The spans stay sound at each call.
+use Rattle.std.proofs.Common.{◌≡◌, ℕ, zero, suc, ◌+◌, ◌-◌, ◌<◌, ◌≤◌, ◌≢◌, List, [], ◌∷◌, ◌++◌, length, Bool, true, false, cond, count_by, sum_by, get_or, set, ◌^◌, Option, Some, None, Result, Ok, Err, refl, sym, ap, subst, ◌∙◌, arith, inl, inr, ◌⊎◌}
+use Rattle.std.specs.Prelude.{if◌then◌else◌, ◌==◌, ◌||◌, IfSome, OnOk, OnErr, slice_index_or}
+use Rattle.std.specs.List.{list_any}
+use Rattle.std.proofs.lemmas.Bool.{eqb-true, eqb-false, eq-eqb, ne_eqb, cases_eq, cases_Bool, cases_lt, cond-true, cond-false, or_cases, or_right, true≢false}
+use Rattle.std.proofs.lemmas.List.{length-set, length-append, length_push, get_or-set_same, get_or-set_other, get_or_past, get_or_push, get_or_append_left, set-append_left}
+use Rattle.std.proofs.lemmas.List.Folds.{list_any-append}
+use Rattle.std.proofs.lemmas.List.Sums.{sum_by-set, get_or-le-sum_by}
+use Rattle.trace_base.specs.declared.span.Parent.{Parent}
+use Rattle.trace_base.specs.declared.span.Parent.TheVariants as place
+use Rattle.trace_base.specs.Spans.{Span, Entries, Spans, no_span, span_at, entries_on, with_entries, is_in, times_in, first_entries, has_entry, is_child_of, is_open_child, open_children, bound_holds, without_last, held, less_held, released, held_by_child, current_from, current_of, place_on, next_of}
+use Rattle.trace_base.specs.Calls.{with_span, entered, exited}
+use Rattle.trace_base.specs.Conditions.{IsLive, IsLivePlace, HasOwnHold, MayExit}
+use Rattle.span_registry.specs.Registering.{IsSound, OneEach}
+use Rattle.trace_base.proofs.Entering.{count_cons, count_push, counted_if_any, any_if_counted, none_counted, count_without_last, sum_with, made_if_held, length_held, no_entries}
+use Rattle.trace_base.specs.Hooks.{Seen}
+use Rattle.span_registry.specs.Both.{InStep, KnowsNone}
+use Rattle.span_registry.specs.Stepping.{in_step_start}
+use Rattle.span_registry.proofs.Lanes.{current_in, first_if_in, one_with}
+
+-- a span written
+children_set : (made : List Span) (id : ℕ) (now : Span) (q : ℕ) → id < length made → open_children (set made id now) q + cond {A = ℕ} (is_open_child q (span_at made id)) 1 0 ≡ open_children made q + cond {A = ℕ} (is_open_child q now) 1 0
+children_set made id now q within = sum_by-set (λ s. cond (is_open_child q s) 1 0) made id now no_span within
+
+same_child : (s t : Span) (q : ℕ) → t.parent ≡ s.parent → 0 < s.holds → 0 < t.holds → is_open_child q t ≡ is_open_child q s
+same_child s t q parent live now =
+    cond-false {A = Bool} (0 == t.holds) false (is_child_of q t.parent) (ne_eqb 0 t.holds (λ e. omega (arith, e, now)))
+    ∙ ap (is_child_of q) parent
+    ∙ sym (cond-false {A = Bool} (0 == s.holds) false (is_child_of q s.parent) (ne_eqb 0 s.holds (λ e. omega (arith, e, live))))
+
+pub keeps_children : (made : List Span) (id : ℕ) (now : Span) → id < length made → now.parent ≡ (span_at made id).parent → 0 < (span_at made id).holds → 0 < now.holds → (q : ℕ) → open_children (set made id now) q ≡ open_children made q
+keeps_children made id now within parent live still q =
+    let write = children_set made id now q within in
+    let same = ap (λ b. cond {A = ℕ} b 1 0) (same_child (span_at made id) now q parent live still) in
+    omega (arith, write, same)
+
+-- a span with one hold less
+less_last : (s : Span) → s.holds ≡ 1 → less_held s ≡ no_span
+less_last s last = cond-true {A = Span} (s.holds == 1) no_span (record s { holds = s.holds - 1 }) (eq-eqb s.holds 1 last)
+
+less_more : (s : Span) → (s.holds ≡ 1 → ⊥) → less_held s ≡ record s { holds = s.holds - 1 }
+less_more s more = cond-false {A = Span} (s.holds == 1) no_span (record s { holds = s.holds - 1 }) (ne_eqb s.holds 1 more)
+
+pub less_holds : (s : Span) → (less_held s).holds ≡ s.holds - 1
+less_holds s = elim (cases_eq s.holds 1) [
+  | inl last ↦ (let e = ap (λ (t : Span). t.holds) (less_last s last) in omega (arith, e, last))
+  | inr more ↦ ap (λ (t : Span). t.holds) (less_more s more)
+]
+
+less_under : (s : Span) (p : ℕ) → (less_held s).parent ≡ Some p → s.parent ≡ Some p
+less_under s p is = elim (cases_eq s.holds 1) [
+  | inl last ↦ (let no : None ≡ Some p = sym (ap (λ (t : Span). t.parent) (less_last s last)) ∙ is in absurd (cc no))
+  | inr more ↦ sym (ap (λ (t : Span). t.parent) (less_more s more)) ∙ is
+]
+
+keeps_older : (made : List Span) (id : ℕ) (now : Span) → id < length made → ((p : ℕ) → now.parent ≡ Some p → (span_at made id).parent ≡ Some p) → ((q p : ℕ) → (span_at made q).parent ≡ Some p → p < q) → (q p : ℕ) → (span_at (set made id now) q).parent ≡ Some p → p < q
+keeps_older made id now within under older q p is =
+    elim (cases_eq q id) [
+      | inl here ↦ (
+          let written = ap (λ (k : ℕ). span_at (set made id now) k) here ∙ get_or-set_same made id now no_span within in
+          older q p (ap (λ (k : ℕ). (span_at made k).parent) here ∙ under p (sym (ap (λ (s : Span). s.parent) written) ∙ is)))
+      | inr other ↦ older q p (ap (λ (s : Span). s.parent) (sym (get_or-set_other made id q now no_span other)) ∙ is)
+    ]
+
+pub holds_set : (made : List Span) (id : ℕ) (now : Span) → id < length made → (q : ℕ) → q ≡ id → (span_at (set made id now) q).holds ≡ now.holds
+holds_set made id now within q here = ap (λ (k : ℕ). (span_at (set made id now) k).holds) here ∙ ap (λ (s : Span). s.holds) (get_or-set_same made id now no_span within)
+
+pub holds_other : (made : List Span) (id : ℕ) (now : Span) (q : ℕ) → (q ≡ id → ⊥) → (span_at (set made id now) q).holds ≡ (span_at made q).holds
+holds_other made id now q other = ap (λ (s : Span). s.holds) (get_or-set_other made id q now no_span other)
+
+pub sound_held : (spans : Spans) (id : ℕ) → IsSound spans → IsLive spans.made id → IsSound (record spans { made = held spans.made id })
+sound_held spans id sound live =
+    let within = made_if_held spans.made id live in
+    let now : Span = record (span_at spans.made id) { holds = (span_at spans.made id).holds + 1 } in
+    record {
+      bound = λ q. (
+          let children = keeps_children spans.made id now within refl live (omega arith) q in
+          let before = sound.bound q in
+          elim (cases_eq q id) [
+            | inl here ↦ (
+                let h = holds_set spans.made id now within q here in
+                let g = ap (λ (k : ℕ). (span_at spans.made k).holds) here in
+                omega (arith, children, before, h, g))
+            | inr other ↦ (let h = holds_other spans.made id now q other in omega (arith, children, before, h))
+          ]);
+      older = keeps_older spans.made id now within (λ p is. is) sound.older;
+      one_row = sound.one_row;
+    }
+
+-- one hold less, where another than those of entries and children was left
+pub sound_released : (spans : Spans) (id : ℕ) → IsSound spans → HasOwnHold spans id → IsSound (record spans { made = released spans.made id })
+sound_released spans id sound own =
+    let within = made_if_held spans.made id (omega (arith, own)) in
+    let was = span_at spans.made id in
+    let now : Span = less_held was in
+    let fewer_holds = less_holds was in
+    record {
+      bound = λ q. (
+          let write = children_set spans.made id now q within in
+          let fewer : cond {A = ℕ} (is_open_child q now) 1 0 ≤ cond {A = ℕ} (is_open_child q was) 1 0 = elim (cases_eq was.holds 1) [
+            | inl last ↦ (let a = ap (λ (s : Span). cond {A = ℕ} (is_open_child q s) 1 0) (less_last was last) in omega (arith, a))
+            | inr more ↦ (
+                let same = same_child was now q (ap (λ (s : Span). s.parent) (less_more was more)) (omega (arith, own)) (omega (arith, own, more, fewer_holds)) in
+                let a = ap (λ b. cond {A = ℕ} b 1 0) same in omega (arith, a))
+          ] in
+          let before = sound.bound q in
+          elim (cases_eq q id) [
+            | inl here ↦ (
+                let h = holds_set spans.made id now within q here in
+                let g = ap (λ (k : ℕ). bound_holds spans k) here in
+                omega (arith, write, fewer, own, h, g, fewer_holds))
+            | inr other ↦ (let h = holds_other spans.made id now q other in omega (arith, write, fewer, before, h))
+          ]);
+      older = keeps_older spans.made id now within (less_under was) sound.older;
+      one_row = sound.one_row;
+    }
+
+-- first entries after the entries of a lane change
+pub first_with : (lanes : List Entries) (lane q : ℕ) (ids : List ℕ) → first_entries (with_entries lane ids lanes) q + cond {A = ℕ} (is_in q (entries_on lane lanes)) 1 0 ≡ first_entries lanes q + cond {A = ℕ} (is_in q ids) 1 0
+first_with lanes lane q ids = sum_with (λ xs. cond (is_in q xs) 1 0) lane ids lanes refl
+
+in_push : (ids : List ℕ) (id q : ℕ) → is_in q (ids ++ id ∷ []) ≡ (is_in q ids || (id == q || false))
+in_push ids id q = list_any-append (λ x. x == q) ids (id ∷ [])
+
+pub in_push_other : (ids : List ℕ) (id q : ℕ) → (q ≡ id → ⊥) → is_in q (ids ++ id ∷ []) ≡ is_in q ids
+in_push_other ids id q other =
+    in_push ids id q ∙ ap (λ b. is_in q ids || (b || false)) (ne_eqb id q (λ e. other (sym e))) ∙ elim (cases_Bool (is_in q ids)) [ inl t ↦ ap (λ b. b || false) t ∙ sym t | inr f ↦ ap (λ b. b || false) f ∙ sym f ]
+
+pub in_push_same : (ids : List ℕ) (id : ℕ) → is_in id (ids ++ id ∷ []) ≡ true
+in_push_same ids id = in_push ids id id ∙ ap (λ b. is_in id ids || (b || false)) (eq-eqb id id refl) ∙ or_right (is_in id ids) true refl
+
+pub sound_entered : (spans : Spans) (id lane : ℕ) → IsSound spans → IsLive spans.made id → IsSound (entered spans id lane)
+sound_entered spans id lane sound live =
+    let ids = entries_on lane spans.lanes in
+    let made_here = sound_held spans id sound live in
+    let rows = one_with lane (ids ++ id ∷ []) spans.lanes sound.one_row in
+    elim (cases_Bool (is_in id ids)) [
+      | inl again ↦ (
+          let same : (entered spans id lane).made ≡ spans.made = cond-true {A = List Span} (is_in id ids) spans.made (held spans.made id) again in
+          record {
+            bound = λ q. (
+                let first = first_with spans.lanes lane q (ids ++ id ∷ []) in
+                let stays : is_in q (ids ++ id ∷ []) ≡ is_in q ids = elim (cases_eq q id) [
+                  | inl here ↦ ap (λ (k : ℕ). is_in k (ids ++ id ∷ [])) here ∙ in_push_same ids id ∙ sym again ∙ ap (λ (k : ℕ). is_in k ids) (sym here)
+                  | inr other ↦ in_push_other ids id q other
+                ] in
+                let e = ap (λ b. cond {A = ℕ} b 1 0) stays in
+                let m = ap (λ (xs : List Span). open_children xs q) same in
+                let h = ap (λ (xs : List Span). (span_at xs q).holds) same in
+                let before = sound.bound q in
+                omega (arith, first, e, m, h, before));
+            older = λ q p is. sound.older q p (ap (λ (xs : List Span). (span_at xs q).parent) (sym same) ∙ is);
+            one_row = rows;
+          })
+      | inr new ↦ (
+          let same : (entered spans id lane).made ≡ held spans.made id = cond-false {A = List Span} (is_in id ids) spans.made (held spans.made id) new in
+          let within = made_if_held spans.made id live in
+          let now : Span = record (span_at spans.made id) { holds = (span_at spans.made id).holds + 1 } in
+          record {
+            bound = λ q. (
+                let first = first_with spans.lanes lane q (ids ++ id ∷ []) in
+                let m = ap (λ (xs : List Span). open_children xs q) same in
+                let h = ap (λ (xs : List Span). (span_at xs q).holds) same in
+                let children = keeps_children spans.made id now within refl live (omega arith) q in
+                let before = sound.bound q in
+                elim (cases_eq q id) [
+                  | inl here ↦ (
+                      let a = cond-true {A = ℕ} (is_in q (ids ++ id ∷ [])) 1 0 (ap (λ (k : ℕ). is_in k (ids ++ id ∷ [])) here ∙ in_push_same ids id) in
+                      let b = cond-false {A = ℕ} (is_in q ids) 1 0 (ap (λ (k : ℕ). is_in k ids) here ∙ new) in
+                      let g = holds_set spans.made id now within q here in
+                      let w = ap (λ (k : ℕ). (span_at spans.made k).holds) here in
+                      omega (arith, first, m, h, children, before, a, b, g, w))
+                  | inr other ↦ (
+                      let e = ap (λ b. cond {A = ℕ} b 1 0) (in_push_other ids id q other) in
+                      let g = holds_other spans.made id now q other in
+                      omega (arith, first, m, h, children, before, e, g))
+                ]);
+            older = λ q p is. made_here.older q p (ap (λ (xs : List Span). (span_at xs q).parent) (sym same) ∙ is);
+            one_row = rows;
+          })
+    ]
+
+-- whether a span is among some entries, by how often
+pub in_by_times : (xs ys : List ℕ) (q : ℕ) → times_in q xs ≡ times_in q ys → is_in q xs ≡ is_in q ys
+in_by_times xs ys q e = elim (cases_Bool (is_in q xs)) [
+  | inl some ↦ some ∙ sym (any_if_counted (λ x. x == q) ys (let c = counted_if_any (λ x. x == q) xs some in omega (arith, c, e)))
+  | inr none ↦ none ∙ sym (elim (cases_Bool (is_in q ys)) [
+    | inl some ↦ absurd (let c = counted_if_any (λ x. x == q) ys some in let d = none_counted (λ x. x == q) xs none in omega (arith, c, d, e))
+    | inr not ↦ not
+  ])
+]
+
+pub times_without : (xs : List ℕ) (id q : ℕ) → 0 < times_in id xs → times_in q (without_last (λ x. x == id) xs) + cond {A = ℕ} (id == q) 1 0 ≡ times_in q xs
+times_without xs id q some = count_without_last (λ x. x == id) (λ x. x == q) (id == q) xs (λ x is. ap (λ (y : ℕ). y == q) (eqb-true x id is)) (any_if_counted (λ x. x == id) xs some)
+
+pub exit_live : (spans : Spans) (id lane : ℕ) → IsSound spans → MayExit spans id lane → IsLive spans.made id
+exit_live spans id lane sound may =
+    let first = first_if_in spans.lanes lane id (any_if_counted (λ x. x == id) (entries_on lane spans.lanes) may.0) in
+    let b = sound.bound id in
+    omega (arith, first, b)
+
+pub sound_exited : (spans : Spans) (id lane : ℕ) → IsSound spans → MayExit spans id lane → IsSound (exited spans id lane)
+sound_exited spans id lane sound may =
+    let ids = entries_on lane spans.lanes in
+    let rest = without_last (λ x. x == id) ids in
+    let live : 0 < (span_at spans.made id).holds = (
+    let first = first_if_in spans.lanes lane id (any_if_counted (λ x. x == id) ids may.0) in
+    let b = sound.bound id in omega (arith, first, b)) in
+    let within = made_if_held spans.made id live in
+    let others : (q : ℕ) → (q ≡ id → ⊥) → is_in q rest ≡ is_in q ids = λ q other. (
+    let t = times_without ids id q may.0 in
+    let z = cond-false {A = ℕ} (id == q) 1 0 (ne_eqb id q (λ e. other (sym e))) in
+    in_by_times rest ids q (omega (arith, t, z))) in
+    let itself = times_without ids id id may.0 in
+    let counts = cond-true {A = ℕ} (id == id) 1 0 (eq-eqb id id refl) in
+    let there = any_if_counted (λ x. x == id) ids may.0 in
+    let rows = one_with lane rest spans.lanes sound.one_row in
+    elim (cases_Bool (times_in id ids == 1)) [
+      | inl last ↦ (
+          let only = eqb-true (times_in id ids) 1 last in
+          let same : (exited spans id lane).made ≡ released spans.made id = cond-true {A = List Span} (times_in id ids == 1) (released spans.made id) spans.made last in
+          let now : Span = less_held (span_at spans.made id) in
+          let more = may.1 only in
+          let fewer = less_holds (span_at spans.made id) in
+          let parent = ap (λ (s : Span). s.parent) (less_more (span_at spans.made id) (λ e. omega (arith, e, more))) in
+          let gone : is_in id rest ≡ false = elim (cases_Bool (is_in id rest)) [
+            | inl some ↦ absurd (let c = counted_if_any (λ x. x == id) rest some in omega (arith, c, itself, counts, only))
+            | inr not ↦ not
+          ] in
+          record {
+            bound = λ q. (
+                let first = first_with spans.lanes lane q rest in
+                let m = ap (λ (xs : List Span). open_children xs q) same in
+                let h = ap (λ (xs : List Span). (span_at xs q).holds) same in
+                let children = keeps_children spans.made id now within parent live (omega (arith, more, fewer)) q in
+                let before = sound.bound q in
+                elim (cases_eq q id) [
+                  | inl here ↦ (
+                      let a = cond-false {A = ℕ} (is_in q rest) 1 0 (ap (λ (k : ℕ). is_in k rest) here ∙ gone) in
+                      let b = cond-true {A = ℕ} (is_in q ids) 1 0 (ap (λ (k : ℕ). is_in k ids) here ∙ there) in
+                      let g = holds_set spans.made id now within q here in
+                      let w = ap (λ (k : ℕ). (span_at spans.made k).holds) here in
+                      omega (arith, first, m, h, children, before, a, b, g, w, fewer))
+                  | inr other ↦ (
+                      let e = ap (λ b. cond {A = ℕ} b 1 0) (others q other) in
+                      let g = holds_other spans.made id now q other in
+                      omega (arith, first, m, h, children, before, e, g))
+                ]);
+            older = λ q p is. keeps_older spans.made id now within (less_under (span_at spans.made id)) sound.older q p (ap (λ (xs : List Span). (span_at xs q).parent) (sym same) ∙ is);
+            one_row = rows;
+          })
+      | inr again ↦ (
+          let same : (exited spans id lane).made ≡ spans.made = cond-false {A = List Span} (times_in id ids == 1) (released spans.made id) spans.made again in
+          let several = eqb-false (times_in id ids) 1 again in
+          record {
+            bound = λ q. (
+                let first = first_with spans.lanes lane q rest in
+                let stays : is_in q rest ≡ is_in q ids = elim (cases_eq q id) [
+                  | inl here ↦ ap (λ (k : ℕ). is_in k rest) here ∙ any_if_counted (λ x. x == id) rest (omega (arith, itself, counts, several, may.0)) ∙ sym there ∙ ap (λ (k : ℕ). is_in k ids) (sym here)
+                  | inr other ↦ others q other
+                ] in
+                let e = ap (λ b. cond {A = ℕ} b 1 0) stays in
+                let m = ap (λ (xs : List Span). open_children xs q) same in
+                let h = ap (λ (xs : List Span). (span_at xs q).holds) same in
+                let before = sound.bound q in
+                omega (arith, first, e, m, h, before));
+            older = λ q p is. sound.older q p (ap (λ (xs : List Span). (span_at xs q).parent) (sym same) ∙ is);
+            one_row = rows;
+          })
+    ]
+
+-- a span made, where its parent has room for its hold
+at_push : (made : List Span) (new : Span) (q : ℕ) → (span_at made q).holds ≤ (span_at (made ++ new ∷ []) q).holds
+at_push made new q =
+    elim (cases_lt q (length made)) [
+      | inl within ↦ (let e = ap (λ (s : Span). s.holds) (get_or_append_left made (new ∷ []) no_span q within) in omega (arith, e))
+      | inr past ↦ (let e = ap (λ (s : Span). s.holds) (get_or_past made q no_span past) in omega (arith, e))
+    ]
+
+older_push : (made : List Span) (new : Span) → ((q p : ℕ) → (span_at made q).parent ≡ Some p → p < q) → ((p : ℕ) → new.parent ≡ Some p → p < length made) → (q p : ℕ) → (span_at (made ++ new ∷ []) q).parent ≡ Some p → p < q
+older_push made new older under q p is =
+    elim (cases_lt q (length made)) [
+      | inl within ↦ older q p (ap (λ (s : Span). s.parent) (sym (get_or_append_left made (new ∷ []) no_span q within)) ∙ is)
+      | inr past ↦ elim (cases_eq (length made) q) [
+        | inl here ↦ (let below = under p (ap (λ (s : Span). s.parent) (sym (get_or_push made new no_span q here)) ∙ is) in omega (arith, below, here))
+        | inr beyond ↦ (
+            let none = ap (λ (s : Span). s.parent) (get_or_past (made ++ new ∷ []) q no_span (omega (arith, length_push made new, past, beyond))) in
+            let no : None ≡ Some p = sym none ∙ is in absurd (cc no))
+      ]
+    ]
+
+pub sound_push : (spans : Spans) (new : Span) → ((q : ℕ) → bound_holds spans q + cond {A = ℕ} (is_open_child q new) 1 0 ≤ (span_at spans.made q).holds) → ((q p : ℕ) → (span_at spans.made q).parent ≡ Some p → p < q)
+    → ((p : ℕ) → new.parent ≡ Some p → p < length spans.made) → OneEach spans.lanes → IsSound (record spans { made = spans.made ++ new ∷ [] })
+sound_push spans new room older under rows = record {
+  bound = λ q. (
+      let children = count_push (is_open_child q) spans.made new in
+      let r = room q in
+      let h = at_push spans.made new q in
+      omega (arith, children, r, h));
+  older = older_push spans.made new older under;
+  one_row = rows;
+}
+
+pub sound_new : (spans : Spans) (above : Option ℕ) (site : ℕ) → IsSound spans → IfSome above (λ p. IsLive spans.made p) → IsSound (with_span spans above site)
+sound_new spans None site sound live = sound_push spans (record { holds = 1; parent = None; site = site }) (λ q. let b = sound.bound q in omega (arith, b)) sound.older (λ p e. absurd (cc e)) sound.one_row
+sound_new spans (Some p) site sound live =
+    let within = made_if_held spans.made p live in
+    let now : Span = record (span_at spans.made p) { holds = (span_at spans.made p).holds + 1 } in
+    let new : Span = record { holds = 1; parent = Some p; site = site } in
+    let parent_held = sound_held spans p sound live in
+    sound_push (record spans { made = held spans.made p }) new
+    (λ q. (
+    let children = keeps_children spans.made p now within refl live (omega arith) q in
+    let before = sound.bound q in
+    elim (cases_eq q p) [
+      | inl here ↦ (
+          let h = holds_set spans.made p now within q here in
+          let w = ap (λ (k : ℕ). (span_at spans.made k).holds) here in
+          let c = cond-true {A = ℕ} (p == q) 1 0 (eq-eqb p q (sym here)) in
+          omega (arith, children, before, h, w, c))
+      | inr other ↦ (
+          let h = holds_other spans.made p now q other in
+          let c = cond-false {A = ℕ} (p == q) 1 0 (ne_eqb p q (λ e. other (sym e))) in
+          omega (arith, children, before, h, c))
+    ]))
+    parent_held.older
+    (λ r e. (let same : p ≡ r = cc e in let l = length-set spans.made p now in omega (arith, same, within, l))) sound.one_row
+
+-- a place names a span that was made and is live
+if_some : (o : Option ℕ) (P : ℕ → Type 0) → ((p : ℕ) → o ≡ Some p → P p) → IfSome o P
+if_some None P f = tt
+if_some (Some p) P f = f p refl
+
+pub current_live : (spans : Spans) (lane p : ℕ) → IsSound spans → current_of (entries_on lane spans.lanes) ≡ Some p → IsLive spans.made p
+current_live spans lane p sound is =
+    elim (current_in [] None (entries_on lane spans.lanes) p is) [
+      | inl none ↦ absurd (cc none)
+      | inr there ↦ (let first = first_if_in spans.lanes lane p there in let b = sound.bound p in omega (arith, first, b))
+    ]
+
+pub place_live : (spans : Spans) (lane : ℕ) (parent : Parent) → IsSound spans → IsLivePlace spans.made parent → IfSome (place_on (entries_on lane spans.lanes) parent) (λ p. IsLive spans.made p)
+place_live spans lane place.Root sound live = tt
+place_live spans lane place.Current sound live = if_some (current_of (entries_on lane spans.lanes)) (λ p. IsLive spans.made p) (λ p is. current_live spans lane p sound is)
+place_live spans lane (place.Of id) sound live = live
+
+pub place_made : (made : List Span) (o : Option ℕ) → IfSome o (λ p. IsLive made p) → IfSome o (λ p. p < length made)
+place_made made None live = tt
+place_made made (Some p) live = made_if_held made p live
+
+-- the next span to be released has a hold of its own
+pub next_own : (spans : Spans) (id : ℕ) → IsSound spans → HasOwnHold spans id → IfSome (next_of spans.made id) (λ p. (p < id) × HasOwnHold (record spans { made = released spans.made id }) p)
+next_own spans id sound own =
+    let was = span_at spans.made id in
+    let P : ℕ → Type 0 = λ p. (p < id) × HasOwnHold (record spans { made = released spans.made id }) p in
+    elim (cases_Bool (was.holds == 1)) [
+      | inr more ↦ subst (λ (o : Option ℕ). IfSome o P) (sym (cond-false {A = Option ℕ} (was.holds == 1) was.parent None more)) tt
+      | inl last ↦ subst (λ (o : Option ℕ). IfSome o P) (sym (cond-true {A = Option ℕ} (was.holds == 1) was.parent None last)) (if_some was.parent P (λ p is.
+          let only = eqb-true was.holds 1 last in
+          let below = sound.older id p is in
+          let within = made_if_held spans.made id (omega (arith, only)) in
+          let now : Span = less_held was in
+          let write = children_set spans.made id now p within in
+          let was_child : is_open_child p was ≡ true = cond-false {A = Bool} (0 == was.holds) false (is_child_of p was.parent) (ne_eqb 0 was.holds (λ e. omega (arith, e, only))) ∙ ap (is_child_of p) is ∙ eq-eqb p p refl in
+          let isnt : is_open_child p now ≡ false = ap (is_open_child p) (less_last was only) in
+          let a = cond-true {A = ℕ} (is_open_child p was) 1 0 was_child in
+          let b = cond-false {A = ℕ} (is_open_child p now) 1 0 isnt in
+          let h = holds_other spans.made id now p (λ e. omega (arith, e, below)) in
+          let before = sound.bound p in
+          (below, omega (arith, write, a, b, h, before))))
+    ]
+
+-- what holds after an Ok and after an Err
+pub either_way : {T E A : Type 0} (P : A → Type 0) (result : Result T E) (now x y : A) → OnOk result (now ≡ x) → OnErr result (now ≡ y) → P x → P y → P now
+either_way P (Ok v) now x y ok err px py = subst P (sym ok) px
+either_way P (Err e) now x y ok err px py = subst P (sym err) py
+
+-- a layer that knows nothing is in step
+pub sound_in_step : (spans : Spans) (seen : Seen) → IsSound spans → KnowsNone seen → InStep spans seen
+sound_in_step spans seen sound fresh =
+    in_step_start spans seen fresh
+    (λ lane id past.
+    let none = ap (λ (s : Span). s.holds) (get_or_past spans.made id no_span past) in
+    let bound = sound.bound id in
+    no_entries spans.lanes id lane (omega (arith, none, bound)))

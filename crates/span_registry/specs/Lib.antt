@@ -1,0 +1,5 @@
+pub mod Both
+pub mod Layering
+pub mod Lending
+pub mod Registering
+pub mod Stepping
