@@ -1,19 +1,19 @@
 -- What is kept fits the tables after a drop, and gives the record of the span that it closes.
-use Rattle.std.proofs.Common.{◌≡◌, ◌≢◌, ℕ, ◌+◌, ◌-◌, ◌^◌, ◌<◌, ◌≤◌, ◌||◌, ◌&&◌, List, [], ◌∷◌, ◌++◌, length, Bool, true, false, cond, Option, Some, None, option_map, unwrap_or, map, nat_lt, slice_set, refl, sym, ap, subst, ◌∙◌, arith, inl, inr}
+use Rattle.std.proofs.Common.{◌≡◌, ◌≢◌, ℕ, ◌+◌, ◌-◌, ◌^◌, ◌<◌, ◌≤◌, ◌||◌, ◌&&◌, List, [], ◌∷◌, ◌++◌, length, Bool, true, false, cond, Option, Some, None, unwrap_or, map, nat_lt, slice_set, refl, sym, ap, subst, ◌∙◌, arith, inl, inr}
 use Rattle.std.specs.Option.{option_map_or}
 use Rattle.std.proofs.lemmas.List.Sums.{sum_by-set}
-use Rattle.std.proofs.lemmas.List.{map-set, length-set, get_or-set_same, set-set, append-nil}
+use Rattle.std.proofs.lemmas.List.{length-set, get_or-set_same, set-set, append-nil}
 use Rattle.std.proofs.lemmas.Bool.{cases_eq, eq-eqb, ne_eqb, lt-ltb, le-ltb}
 use Rattle.otel_base.specs.declared.record.Record.{Record}
 use Rattle.trace_base.specs.declared.callsite.Callsite.{Callsite}
 use Rattle.trace_pipeline.specs.declared.names.Handle.TheVariants.{Enabled}
 use Rattle.trace_pipeline.specs.declared.span.Span.{Span}
-use Rattle.trace_pipeline.specs.History.{Line, Made, Guarded, slot_at, made_of, place_in, newly, holds, is_in, is_open, closed_of}
-use Rattle.trace_pipeline.specs.Ops.{Stamped, Start, events}
+use Rattle.trace_pipeline.specs.History.{Line, Start, Made, Guarded, slot_at, made_of, place_in, newly, holds, is_in, is_open, closed_of}
+use Rattle.trace_pipeline.specs.Ops.{Stamped, events}
 use Rattle.trace_pipeline.specs.Content.{content}
 use Rattle.trace_pipeline.specs.Machine.{no_span, span_at, span_started, started_after, span_closed, spans_dropped, started_dropped, events_dropped, events_at, records_dropped, record_by, name_at, is_last, closes, IsShort, idle_by}
 use Rattle.trace_pipeline.specs.Stands.{State, Fits, SpansFit, EventsFit, has_error, held, IsMade, IsTimed, handle_of, span_by, times_of, is_started}
-use Rattle.trace_pipeline.proofs.Slots.{named_set, named_within, any_counted}
+use Rattle.trace_pipeline.proofs.Slots.{named_within, any_counted}
 use Rattle.trace_pipeline.proofs.Writing.{span_is, spans_written}
 use Rattle.trace_pipeline.proofs.Steps.{started_fit, with_starts}
 use Rattle.trace_pipeline.proofs.Fitting.{later_spans, quiet, quiet_if}
@@ -113,7 +113,7 @@ module _ (k : State) (hs : List (Option Line)) (gs : List (Option Guarded)) (ms 
             (stays_fit k.spans k.started ms order (held hs) (held (slice_set hs handle None)) os last at (length gs) s fits.spans_fit within before early short less (same_others s there)))
       ]
 
-  dropped_line : (line : Line) → IsMade (length ms) line → slot_at hs handle ≡ Some line → DroppedSpans line
+  pub dropped_line : (line : Line) → IsMade (length ms) line → slot_at hs handle ≡ Some line → DroppedSpans line
   dropped_line [] made there =
       let fit = later_spans k.spans k.started ms order (held hs) os last at (length gs) fits.spans_fit before in
       rw (append-nil order) record {
@@ -140,7 +140,7 @@ module _ (k : State) (hs : List (Option Line)) (gs : List (Option Guarded)) (ms 
       ap (λ b. nat_lt s (length k.spans) && b) (le-ltb (span_at k.spans s).holds 2 (omega (arith, less, were, some))) ∙ and_false (nat_lt s (length k.spans))
 
   -- the events of the spans that some handle still holds stay
-  dropped_events : (line : Line) → IsMade (length ms) line → slot_at hs handle ≡ Some line
+  pub dropped_events : (line : Line) → IsMade (length ms) line → slot_at hs handle ≡ Some line
       → EventsFit (events_dropped (handle_of line) k.spans k.events) (length ms) (held (slice_set hs handle None)) (dropped_ops os at (newly order (closed_of (slice_set hs handle None) line)))
   dropped_events line made there = record {
     count = by_count line ∙ fits.events_fit.count;
@@ -168,21 +168,6 @@ module _ (k : State) (hs : List (Option Line)) (gs : List (Option Guarded)) (ms 
             ∙ fits.events_fit.each t (let change = held_set hs handle (s ∷ line) t there in omega (arith, change)))
         | inr other ↦ other_if (closes s k.spans) s t other ∙ fits.events_fit.each t (let change = held_set hs handle (s ∷ line) t there in omega (arith, change))
       ]
-
-  pub fits_dropped : (line : Line) → slot_at hs handle ≡ Some line
-      → Fits (record k { handles = slice_set k.handles handle None; spans = spans_dropped k.started at (handle_of line) k.spans; started = started_dropped k.started (handle_of line) k.spans; events = events_dropped (handle_of line) k.spans k.events; moment = at })
-      (slice_set hs handle None) gs ms (order ++ newly order (closed_of (slice_set hs handle None) line)) (dropped_ops os at (newly order (closed_of (slice_set hs handle None) line))) es at
-  fits_dropped line there = record {
-    handle_slots = ap (λ xs. slice_set xs handle None) fits.handle_slots ∙ sym (map-set (option_map handle_of) hs handle None);
-    guards_fit = fits.guards_fit;
-    spans_fit = dropped_line line (fits.named handle line there) there;
-    events_fit = dropped_events line (fits.named handle line there) there;
-    latest = refl;
-    named = λ n l e. fits.named n l (named_set hs handle n l e);
-    kept = fits.kept;
-    lines = fits.lines;
-    early = early;
-  }
 
   -- ---- the record
 

@@ -1,22 +1,155 @@
--- What holds of an effect of each kind holds of the effect of each request.
-use Rattle.std.proofs.Common.{◌≡◌, ℕ, ◌≤◌, slice_get, [], ◌∷◌, ◌++◌, length, Bool, true, false, cond, Option, Some, None, Ok, Err, refl, sym, subst}
-use Rattle.std.proofs.lemmas.List.{flat_map_more}
+-- What holds of the effect of each request, whatever its kind.
+use Rattle.std.proofs.Common.{◌≡◌, ℕ, ◌<◌, ◌≤◌, slice_get, List, [], ◌∷◌, length, not, Bool, true, false, cond, Option, Some, None, option_map, slice_set, Ok, Err, refl, subst, ◌∙◌, arith}
+use Rattle.std.specs.Option.{option_to_list}
+use Rattle.std.specs.List.{filter_map}
+use Rattle.trace_base.specs.declared.callsite.Callsite.{Callsite}
 use Rattle.trace_pipeline.specs.declared.settings.Settings.{Settings}
 use Rattle.trace_pipeline.specs.declared.request.Request.{Request}
 use Rattle.trace_pipeline.specs.declared.request.Call.{Call}
-use Rattle.trace_pipeline.specs.declared.request.Call.TheVariants.{New, Drop, Enter, Exit, Event}
+use Rattle.trace_pipeline.specs.declared.request.Call.TheVariants.{New, Clone, Drop, Enter, Exit, Event}
+use Rattle.trace_pipeline.specs.declared.reply.Reply.{Reply}
 use Rattle.trace_pipeline.specs.declared.reply.Refusal.{Refusal}
 use Rattle.trace_pipeline.specs.declared.reply.Refusal.TheVariants.{Later, BadMoment, InUse}
 use Rattle.trace_pipeline.specs.declared.reply.What.{What}
 use Rattle.trace_pipeline.specs.declared.reply.What.TheVariants as what
-use Rattle.trace_pipeline.specs.History.{Line, Guarded, Makes, Declines, Tells, Ignores, Effect, History, handles, guards, slot_at, is_borrowed, moment, made, closed, closed_in, entries, current}
-use Rattle.trace_pipeline.specs.Effects.{Resolved, named, admits, span_site, event_site, enters, exits, drops, event_of, is_error_level, line_of, current_line, is_later, is_bad_moment, effect_of, effect_of_call}
-use Rattle.otel_base.specs.declared.record.OtelEvent.{OtelEvent}
-use Rattle.trace_base.specs.declared.callsite.Callsite.{Callsite}
+use Rattle.trace_pipeline.specs.History.{Line, Made, Guarded, Effect, History, quiet, with_new, handles, guards, slot_at, is_borrowed, holds, is_open, moment, made, made_of, started, newly, own, closed_of, entries, current}
+use Rattle.trace_pipeline.specs.Ops.{done_to}
+use Rattle.trace_pipeline.specs.Effects.{Resolved, named, admits, span_site, event_site, makes_root, declines, clones, enters, exits, drops, tells_to, line_of, current_line, is_later, is_bad_moment, effect_of, effect_of_call}
+use Rattle.trace_pipeline.specs.Laws.{occurrences}
+use Rattle.trace_pipeline.proofs.Occurring.{is_in_counted, occurs_filter, own_among, own_ops}
 use Rattle.trace_pipeline.proofs.Refusing.{in_order}
+use Rattle.trace_pipeline.proofs.Slots.{any_at, named_within}
+use Rattle.std.proofs.lemmas.Bool.{lt-ltb}
 
-pub closed_push : (h : History) (e : Effect) → closed (h ++ e ∷ []) ≡ closed h ++ closed_in e.did
-closed_push h e = sym (flat_map_more (λ e. closed_in e.did) [] h e)
+-- a line that a history tells of
+pub data IsKnown (h : History) : Line → Type 0 where
+  no_line : IsKnown h []
+  of_handle : (k : ℕ) (line : Line) → slot_at (handles h) k ≡ Some line → IsKnown h line
+  of_guard : (k : ℕ) (guarded : Guarded) → slot_at (guards h) k ≡ Some guarded → IsKnown h guarded.line
+  of_span : (s : ℕ) → IsKnown h (made_of (made h) s).line
+
+-- no known line has the span
+abbrev pub IsUnknown : History → ℕ → Type 0
+IsUnknown h s = (line : Line) → IsKnown h line → occurrences s line ≡ 0
+
+-- A new handle and a new span: neither, a handle more of a line whose spans are open, or a root and a handle of it.
+pub data Names (h : History) (at : ℕ) : Option Line → Option Made → Type 0 where
+  no_name : Names h at None None
+  another : (line : Line) → IsKnown h line → ((s : ℕ) → 0 < occurrences s line → is_open (handles h) s ≡ true) → Names h at (Some line) None
+  new_root : (site : ℕ) → Names h at (Some (length (made h) ∷ [])) (Some (record { site = site; line = length (made h) ∷ []; at = at }))
+
+-- A spent handle and the spans that close: none, or those of its line that are open no more.
+pub data Spends (slots : List (Option Line)) : Option ℕ → List ℕ → Type 0 where
+  no_spending : Spends slots None []
+  one_spent : (k : ℕ) (line : Line) → slot_at slots k ≡ Some line → Spends slots (Some k) (closed_of (slice_set slots k None) line)
+
+-- what is started: those of some spans that haven't been, and what closes is among them
+pub record StartsNewly (h : History) (starts closes : List ℕ) : Type 0 where
+  pub candidates : List ℕ
+  pub newly_is : starts ≡ newly (started h) candidates
+  pub closed_among : (s : ℕ) → 0 < occurrences s closes → 0 < occurrences s candidates
+  pub spared : (s : ℕ) → IsUnknown h s → occurrences s candidates ≡ 0
+
+pub record IsStep (h : History) (e : Effect) : Type 0 where
+  pub later : moment h ≤ e.at
+  pub names : Names h e.at e.new_handle e.made
+  pub spends : Spends (with_new (handles h) (option_map Some e.new_handle)) e.spent_handle e.closes
+  pub guard_line : (guarded : Guarded) → e.new_guard ≡ Some guarded → IsKnown h guarded.line
+  pub starts : StartsNewly h e.starts e.closes
+  pub ops_spared : (s : ℕ) → IsUnknown h s → filter_map (done_to s e.at) e.ops ≡ []
+
+-- ---- each kind of request
+
+no_guard : (h : History) (guarded : Guarded) → ◌≡◌ {A = Option Guarded} None (Some guarded) → IsKnown h guarded.line
+no_guard h guarded is = absurd (cc is)
+
+no_starts : (h : History) → StartsNewly h [] []
+no_starts h = record { candidates = []; newly_is = refl; closed_among = λ s some. some; spared = λ s unknown. refl }
+
+module _ (h : History) (at lane : ℕ) (later : moment h ≤ at) where
+  pub quiet_step : (answer : Reply) → IsStep h (quiet at lane answer)
+  quiet_step answer = record { later = later; names = no_name; spends = no_spending; guard_line = no_guard h; starts = no_starts h; ops_spared = λ s unknown. refl }
+
+  pub declined : IsStep h (declines h at lane)
+  declined = record { later = later; names = another [] no_line (λ s some. absurd (omega (arith, some))); spends = no_spending; guard_line = no_guard h; starts = no_starts h; ops_spared = λ s unknown. refl }
+
+  pub made_root : (site : ℕ) → IsStep h (makes_root h at lane site)
+  made_root site = record { later = later; names = new_root site; spends = no_spending; guard_line = no_guard h; starts = no_starts h; ops_spared = λ s unknown. refl }
+
+  pub cloned : (handle : ℕ) (line : Line) → slot_at (handles h) handle ≡ Some line → IsStep h (clones h at lane line)
+  cloned handle line there = record {
+    later = later;
+    names = another line (of_handle handle line there) (λ s some. any_at (holds s) (handles h) handle None (Some line) (named_within (handles h) handle line there) there (is_in_counted s line ∙ lt-ltb 0 _ some));
+    spends = no_spending;
+    guard_line = no_guard h;
+    starts = no_starts h;
+    ops_spared = λ s unknown. refl;
+  }
+
+  pub entered : (handle : ℕ) (line : Line) → slot_at (handles h) handle ≡ Some line → IsStep h (enters h at lane handle line)
+  entered handle line there = record {
+    later = later;
+    names = no_name;
+    spends = no_spending;
+    guard_line = λ guarded is. subst (λ (g : Guarded). IsKnown h g.line) (the_guard guarded is) (of_handle handle line there);
+    starts = record {
+      candidates = option_to_list (own line);
+      newly_is = refl;
+      closed_among = λ s some. absurd (omega (arith, some));
+      spared = λ s unknown. (let none = unknown line (of_handle handle line there) in let of_own = own_among s line in omega (arith, none, of_own));
+    };
+    ops_spared = λ s unknown. own_ops s at line _ (unknown line (of_handle handle line there));
+  }
+    where
+      the_guard : (guarded : Guarded) → ◌≡◌ {A = Option Guarded} (Some (record { handle = handle; line = line })) (Some guarded) → record { handle = handle; line = line } ≡ guarded
+      the_guard guarded is = cc is
+
+  pub exited : (guard : ℕ) (guarded : Guarded) → slot_at (guards h) guard ≡ Some guarded → IsStep h (exits at lane guard guarded.line)
+  exited guard guarded there = record {
+    later = later;
+    names = no_name;
+    spends = no_spending;
+    guard_line = no_guard h;
+    starts = no_starts h;
+    ops_spared = λ s unknown. own_ops s at guarded.line _ (unknown guarded.line (of_guard guard guarded there));
+  }
+
+  pub dropped : (handle : ℕ) (line : Line) → slot_at (handles h) handle ≡ Some line → IsStep h (drops h at lane handle line)
+  dropped handle line there = record {
+    later = later;
+    names = no_name;
+    spends = one_spent handle line there;
+    guard_line = no_guard h;
+    starts = record {
+      candidates = closed_of (slice_set (handles h) handle None) line;
+      newly_is = refl;
+      closed_among = λ s some. some;
+      spared = λ s unknown.
+          (let none = unknown line (of_handle handle line there) in
+          let of_line = occurs_filter (λ t. not (is_open (slice_set (handles h) handle None) t)) s line in grind (arith, none, of_line));
+    };
+    ops_spared = λ s unknown. refl;
+  }
+
+  known_line : (o : Option ℕ) → IsKnown h (line_of h o)
+  known_line None = no_line
+  known_line (Some s) = of_span s
+
+  pub told : (callsite : Callsite) → IsStep h (tells_to at lane callsite (current_line h lane))
+  told callsite = record {
+    later = later;
+    names = no_name;
+    spends = no_spending;
+    guard_line = no_guard h;
+    starts = no_starts h;
+    ops_spared = λ s unknown. own_ops s at (current_line h lane) _ (unknown (current_line h lane) (known_line (current (entries h lane))));
+  }
+
+  -- ---- where a test chooses
+
+  if_both : (b : Bool) (x y : Effect) → IsStep h x → IsStep h y → IsStep h (cond b x y)
+  if_both true x y one two = one
+  if_both false x y one two = two
 
 -- an effect comes from no refusal
 unrefused : (b : Bool) (refusal : Refusal) (rest : Resolved) (e : Effect) → cond b (Err refusal) rest ≡ Ok e → (b ≡ false) × (rest ≡ Ok e)
@@ -35,45 +168,30 @@ not_below before given passed = (in_order before given passed).0
 the_effect : (a e : Effect) → ◌≡◌ {A = Resolved} (Ok a) (Ok e) → a ≡ e
 the_effect a e is = cc is
 
-module _ (settings : Settings) (h : History) (P : Effect → Type 0)
-    (declined : (at lane : ℕ) → moment h ≤ at → P (record { at = at; lane = lane; did = Declines; starts = [] }))
-    -- each span is a root
-    (made_root : (at lane site : ℕ) (line : Line) → moment h ≤ at → line ≡ length (made h) ∷ [] → P (record { at = at; lane = lane; did = Makes (record { site = site; line = line; at = at }); starts = [] }))
-    (entered : (at lane handle : ℕ) (line : Line) → moment h ≤ at → slot_at (handles h) handle ≡ Some line → P (enters h at lane handle line))
-    (exited : (at lane guard : ℕ) (guarded : Guarded) → moment h ≤ at → slot_at (guards h) guard ≡ Some guarded → P (exits at lane guard guarded.line))
-    (told : (at lane : ℕ) (is_error : Bool) (event : OtelEvent) (s : Option ℕ) → moment h ≤ at → P (record { at = at; lane = lane; did = Tells is_error event (line_of h s); starts = [] }))
-    (ignored : (at lane : ℕ) → moment h ≤ at → P (record { at = at; lane = lane; did = Ignores; starts = [] }))
-    (dropped : (at lane handle : ℕ) (line : Line) → moment h ≤ at → slot_at (handles h) handle ≡ Some line → P (drops h at lane handle line)) where
-  by_admitted : (at lane site : ℕ) (admitted : Bool) → moment h ≤ at
-      → P (record { at = at; lane = lane; did = cond admitted (Makes (record { site = site; line = length (made h) ∷ []; at = at })) Declines; starts = [] })
-  by_admitted at lane site true later = made_root at lane site _ later refl
-  by_admitted at lane site false later = declined at lane later
-
-  by_told : (at lane : ℕ) (callsite : Callsite) (admitted : Bool) → moment h ≤ at
-      → P (record { at = at; lane = lane; did = cond admitted (Tells (is_error_level callsite.level) (event_of callsite at) (current_line h lane)) Ignores; starts = [] })
-  by_told at lane callsite true later = told at lane (is_error_level callsite.level) (event_of callsite at) (current (entries h lane)) later
-  by_told at lane callsite false later = ignored at lane later
-
-  by_call : (at lane : ℕ) (call : Call) (e : Effect) → moment h ≤ at → effect_of_call settings h at lane call ≡ Ok e → P e
+module _ (settings : Settings) (h : History) where
+  by_call : (at lane : ℕ) (call : Call) (e : Effect) → moment h ≤ at → effect_of_call settings h at lane call ≡ Ok e → IsStep h e
   by_call at lane (New site) e later is =
       let there = found what.Site (span_site settings.callsites site) _ e is in
-      subst P (the_effect _ e there.2) (by_admitted at lane site (admits settings there.0) later)
+      subst (IsStep h) (the_effect _ e there.2) (if_both h at lane later (admits settings there.0) _ _ (made_root h at lane later site) (declined h at lane later))
+  by_call at lane (Clone handle) e later is =
+      let there = found what.Handle (slot_at (handles h) handle) _ e is in
+      subst (IsStep h) (the_effect _ e there.2) (cloned h at lane later handle there.0 there.1)
   by_call at lane (Drop handle) e later is =
       let there = found what.Handle (slot_at (handles h) handle) _ e is in
       let free = unrefused (is_borrowed (guards h) handle) InUse (Ok (drops h at lane handle there.0)) e there.2 in
-      subst P (the_effect _ e free.1) (dropped at lane handle there.0 later there.1)
+      subst (IsStep h) (the_effect _ e free.1) (dropped h at lane later handle there.0 there.1)
   by_call at lane (Enter handle) e later is =
       let there = found what.Handle (slot_at (handles h) handle) _ e is in
-      subst P (the_effect _ e there.2) (entered at lane handle there.0 later there.1)
+      subst (IsStep h) (the_effect _ e there.2) (entered h at lane later handle there.0 there.1)
   by_call at lane (Exit guard) e later is =
       let there = found what.Guard (slot_at (guards h) guard) _ e is in
-      subst P (the_effect _ e there.2) (exited at lane guard there.0 later there.1)
+      subst (IsStep h) (the_effect _ e there.2) (exited h at lane later guard there.0 there.1)
   by_call at lane (Event site) e later is =
       let there = found what.Site (event_site settings.callsites site) _ e is in
-      subst P (the_effect _ e there.2) (by_told at lane there.0 (admits settings there.0) later)
+      subst (IsStep h) (the_effect _ e there.2) (if_both h at lane later (admits settings there.0) _ _ (told h at lane later there.0) (quiet_step h at lane later _))
 
-  pub by_effect : (request : Request) (e : Effect) → effect_of settings h request ≡ Ok e → P e
-  by_effect request e is =
+  pub step_of : (request : Request) (e : Effect) → effect_of settings h request ≡ Ok e → IsStep h e
+  step_of request e is =
       let by_name = named what.Lane (slice_get settings.lanes request.lane) (λ lane. effect_of_call settings h request.at request.lane request.call) in
       let built = unrefused (is_later h request) Later (cond (is_bad_moment (moment h) request.at) (Err (BadMoment (moment h) request.at)) by_name) e is in
       let passed = unrefused (is_bad_moment (moment h) request.at) (BadMoment (moment h) request.at) by_name e built.1 in

@@ -6,6 +6,7 @@ pub mod Writing
 pub mod Steps
 pub mod Fitting
 pub mod Dropping
+pub mod Cloning
 pub mod Serving
 pub mod Refusing
 pub mod Counting
@@ -17,6 +18,7 @@ pub mod Hex
 pub mod Written
 pub mod Occurring
 pub mod Effecting
+pub mod Standing
 pub mod Starting
 pub mod Closing
 pub mod Balance

@@ -4,7 +4,11 @@ use Rattle.std.proofs.lemmas.List.Sums.{sum_by-cons, sum_by-append}
 use Rattle.std.proofs.lemmas.List.{append_assoc, append-nil}
 use Rattle.std.proofs.lemmas.Bool.{cases_eq, cases_Bool, eq-eqb, ne_eqb}
 use Rattle.std.proofs.lemmas.Bool.Decides.{nat_tests}
-use Rattle.trace_pipeline.specs.History.{Line, place_in, newly, is_in, own}
+use Rattle.trace_pipeline.specs.History.{Line, Op, place_in, newly, is_in, own}
+use Rattle.trace_pipeline.specs.Ops.{done_to}
+use Rattle.trace_pipeline.specs.Effects.{on}
+use Rattle.std.specs.Option.{option_to_list}
+use Rattle.std.specs.List.{filter_map}
 use Rattle.trace_pipeline.specs.Laws.{occurrences}
 use Rattle.trace_pipeline.proofs.Slots.{any_counted}
 
@@ -101,8 +105,16 @@ newly_all order (x ∷ xs) s some =
           ]))
     ]
 
-pub own_among : (s : ℕ) (line : Line) → occurrences s (own line) ≤ occurrences s line
+pub own_among : (s : ℕ) (line : Line) → occurrences s (option_to_list (own line)) ≤ occurrences s line
 own_among s [] = omega arith
 own_among s (x ∷ line) =
     let all = occurs_cons s x line in
     let one = occurs_cons s x [] in omega (arith, all, one)
+
+-- a span that a line hasn't has no op by it
+pub own_ops : (s at : ℕ) (line : Line) (op : Op) → occurrences s line ≡ 0 → filter_map (done_to s at) (on line op) ≡ []
+own_ops s at [] op none = refl
+own_ops s at (x ∷ line) op none =
+    let all = occurs_cons s x line in
+    let other = ne_eqb x s (λ same. absurd (grind (arith, nat_tests, all, none, same))) in
+    rw other refl

@@ -4,7 +4,7 @@ use Rattle.std.specs.Prelude.{Bool, true, false, if◌then◌else◌, Result, Ok
 use Rattle.std.proofs.lemmas.List.{length-append, length-map}
 use Rattle.trace_pipeline.specs.declared.settings.Settings.{Settings}
 use Rattle.trace_pipeline.specs.declared.reply.Told.{Told}
-use Rattle.trace_pipeline.specs.History.{History, Effect, closed_in, closed}
+use Rattle.trace_pipeline.specs.History.{History, Effect, closed}
 use Rattle.trace_pipeline.specs.Content.{record_of, records_of}
 use Rattle.trace_pipeline.specs.Lines.{is_blank}
 use Rattle.trace_pipeline.specs.Spelled.{settings_spelled}
@@ -59,9 +59,9 @@ records_after : (settings : Settings) (h es : History) → length (all_records s
 records_after settings h [] = refl
 records_after settings h (e ∷ es) =
     length-append (records_of settings h e) (all_records settings (h ++ e ∷ []) es)
-    ∙ ap (λ (k : ℕ). k + length (all_records settings (h ++ e ∷ []) es)) (length-map (closed_in e.did) (record_of settings (h ++ e ∷ []) e.at))
-    ∙ ap (λ (k : ℕ). length (closed_in e.did) + k) (records_after settings (h ++ e ∷ []) es)
-    ∙ sym (length-append (closed_in e.did) (closed es))
+    ∙ ap (λ (k : ℕ). k + length (all_records settings (h ++ e ∷ []) es)) (length-map e.closes (record_of settings (h ++ e ∷ []) e.at))
+    ∙ ap (λ (k : ℕ). length e.closes + k) (records_after settings (h ++ e ∷ []) es)
+    ∙ sym (length-append e.closes (closed es))
 
 pub as_many_as_closed : (settings : Settings) (h : History) → length (all_records settings [] h) ≡ length (closed h)
 as_many_as_closed settings h = records_after settings [] h

@@ -56,6 +56,7 @@ none_kept (Some g) e = absurd (cc e)
 -- what isn't refused as unbuilt and waits for guards comes where none is open
 pub can_wait : (c : Call) (lane : ℕ) (open_guard : Option Guard) → (not (lane == 0) || (waits_for_guards c && is_some open_guard)) ≡ false → CanWait c open_guard
 can_wait (call.New site) lane open_guard built = none_kept open_guard (or_parts _ _ built).1
+can_wait (call.Clone handle) lane open_guard built = tt
 can_wait (call.Drop handle) lane open_guard built = tt
 can_wait (call.Enter handle) lane open_guard built = none_kept open_guard (or_parts _ _ built).1
 can_wait (call.Exit guard) lane open_guard built = tt

@@ -1,5 +1,5 @@
 -- Lists of slots, of which some are spent, and counts over them.
-use Rattle.std.proofs.Common.{◌≡◌, ℕ, zero, suc, ◌<◌, ◌≤◌, List, [], ◌∷◌, ◌++◌, length, Bool, true, false, cond, ◌||◌, Option, Some, None, nat_lt, count_by, refl, arith, slice_set, inl, inr}
+use Rattle.std.proofs.Common.{◌≡◌, ℕ, zero, suc, ◌<◌, ◌≤◌, List, [], ◌∷◌, ◌++◌, length, Bool, true, false, cond, ◌||◌, Option, Some, None, nat_lt, count_by, get_or, refl, ap, ◌∙◌, arith, slice_set, inl, inr}
 use Rattle.std.specs.List.{list_any}
 use Rattle.std.proofs.lemmas.List.Sums.{sum_by-cons}
 use Rattle.std.proofs.lemmas.Bool.{cases_Bool}
@@ -37,6 +37,16 @@ any_counted p (x ∷ xs) =
     let more = sum_by-cons (λ x. cond (p x) 1 0) x xs in
     let rest = any_counted p xs in
     elim (cases_Bool (p x)) [ inl passes ↦ grind (arith, nat_tests, more, rest, passes) | inr fails ↦ grind (arith, nat_tests, more, rest, fails) ]
+
+-- what one element passes, some element does
+pub any_at : {A : Type 0} (p : A → Bool) (xs : List A) (n : ℕ) (d x : A) → n < length xs → get_or xs n d ≡ x → p x ≡ true → list_any p xs ≡ true
+any_at p [] n d x within there passes = absurd (omega (arith, within))
+any_at p (y ∷ xs) zero d x within there passes = ap (λ y. p y || list_any p xs) there ∙ ap (λ b. b || list_any p xs) passes
+any_at p (y ∷ xs) (suc n) d x within there passes = ap (λ b. p y || b) (any_at p xs n d x (omega (arith, within)) there passes) ∙ or_true (p y)
+  where
+    or_true : (b : Bool) → (b || true) ≡ true
+    or_true true = refl
+    or_true false = refl
 
 -- ---- guards, of which at most one is open
 

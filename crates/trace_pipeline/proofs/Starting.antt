@@ -1,46 +1,28 @@
 -- Laws of the order of starts.
-use Rattle.std.proofs.Common.{◌≡◌, ◌≢◌, ℕ, ◌<◌, ◌≤◌, List, [], ◌++◌, true, slice_set, None, Ok, inl, inr, refl, arith}
+use Rattle.std.proofs.Common.{◌≡◌, ◌≢◌, ℕ, ◌<◌, ◌≤◌, ◌++◌, true, inl, inr, arith}
 use Rattle.std.proofs.lemmas.Bool.{cases_lt}
 use Rattle.std.proofs.lemmas.Bool.Decides.{nat_tests}
 use Rattle.trace_pipeline.specs.declared.settings.Settings.{Settings}
-use Rattle.trace_pipeline.specs.declared.request.Request.{Request}
-use Rattle.trace_pipeline.specs.History.{Effect, History, handles, started, closed, closed_in, closed_of, newly, own, is_in, id_of}
-use Rattle.trace_pipeline.specs.Effects.{effect_of}
+use Rattle.trace_pipeline.specs.History.{History, started, closed, newly, is_in, id_of}
 use Rattle.trace_pipeline.specs.Laws.{IsHistory, none, more, occurrences}
-use Rattle.trace_pipeline.proofs.Tables.{started_push}
+use Rattle.trace_pipeline.proofs.Tables.{started_push, closed_push}
 use Rattle.trace_pipeline.proofs.Occurring.{occurs_append, is_in_counted, placed_counted, newly_once, newly_all}
-use Rattle.trace_pipeline.proofs.Effecting.{closed_push, by_effect}
-
--- What an effect starts are those of some spans that haven't been started, and what it closes is among these.
-record StartsNewly (h : History) (e : Effect) : Type 0 where
-  candidates : List ℕ
-  newly_is : e.starts ≡ newly (started h) candidates
-  closed_among : (s : ℕ) → 0 < occurrences s (closed_in e.did) → 0 < occurrences s candidates
-
-starts_newly : (settings : Settings) (h : History) (request : Request) (e : Effect) → effect_of settings h request ≡ Ok e → StartsNewly h e
-starts_newly settings h = by_effect settings h (StartsNewly h)
-    (λ at lane later. record { candidates = []; newly_is = refl; closed_among = λ s some. some })
-    (λ at lane site line later root. record { candidates = []; newly_is = refl; closed_among = λ s some. some })
-    (λ at lane handle line later there. record { candidates = own line; newly_is = refl; closed_among = λ s some. absurd (omega arith) })
-    (λ at lane guard guarded later there. record { candidates = []; newly_is = refl; closed_among = λ s some. some })
-    (λ at lane is_error event s later. record { candidates = []; newly_is = refl; closed_among = λ s some. some })
-    (λ at lane later. record { candidates = []; newly_is = refl; closed_among = λ s some. some })
-    (λ at lane handle line later there. record { candidates = closed_of (slice_set (handles h) handle None) line; newly_is = refl; closed_among = λ s some. some })
+use Rattle.trace_pipeline.proofs.Effecting.{step_of}
 
 -- Each span stands there at most once.
 pub starts_once : (settings : Settings) (h : History) (s : ℕ) → IsHistory settings h → occurrences s (started h) ≤ 1
 starts_once settings _ s none = omega arith
 starts_once settings _ s (more h request e before is) =
-    let step = starts_newly settings h request e is in
+    let step = (step_of settings h request e is).starts in
     rw (started_push h e, step.newly_is) (newly_once (started h) step.candidates s (starts_once settings h s before))
 
 -- What is closed is started.
 closed_started : (settings : Settings) (h : History) (s : ℕ) → IsHistory settings h → 0 < occurrences s (closed h) → 0 < occurrences s (started h)
 closed_started settings _ s none some = some
 closed_started settings _ s (more h request e before is) some =
-    let step = starts_newly settings h request e is in
-    let all = occurs_append s (closed h) (closed_in e.did) in
-    let some_now : 0 < occurrences s (closed h ++ closed_in e.did) = rw (closed_push h e) at some in
+    let step = (step_of settings h request e is).starts in
+    let all = occurs_append s (closed h) e.closes in
+    let some_now : 0 < occurrences s (closed h ++ e.closes) = rw (closed_push h e) at some in
     rw (started_push h e, step.newly_is) (elim (cases_lt 0 (occurrences s (closed h))) [
       | inl old ↦
           (let had = closed_started settings h s before old in

@@ -1,30 +1,36 @@
 -- The spans fit the tables after a span is started, entered or exited.
-use Rattle.std.proofs.Common.{◌≡◌, ◌≢◌, ℕ, zero, suc, ◌+◌, ◌^◌, ◌<◌, ◌≤◌, ◌||◌, List, [], ◌∷◌, ◌++◌, length, Bool, true, false, cond, count_by, nat_lt, slice_set, get_or, refl, sym, ap, subst, ◌∙◌, arith, inl, inr}
+use Rattle.std.proofs.Common.{◌≡◌, ◌≢◌, ℕ, zero, suc, ◌+◌, ◌^◌, ◌<◌, ◌≤◌, ◌||◌, List, [], ◌∷◌, ◌++◌, length, Bool, true, false, cond, Some, None, count_by, nat_lt, slice_set, get_or, refl, sym, ap, subst, ◌∙◌, arith, inl, inr}
 use Rattle.std.proofs.lemmas.List.Sums.{sum_by-cons, count_by-le-length}
 use Rattle.std.proofs.lemmas.List.{append-nil, length_push, set-get_or}
 use Rattle.std.proofs.lemmas.Bool.{cases_eq, eq-eqb, ne_eqb}
 use Rattle.std.proofs.lemmas.Bool.Decides.{nat_tests}
 use Rattle.trace_pipeline.specs.declared.span.Span.{Span}
 use Rattle.trace_pipeline.specs.declared.times.Times.{Times}
-use Rattle.trace_pipeline.specs.History.{Made, made_of, place_in, newly, is_in}
+use Rattle.trace_pipeline.specs.History.{Line, Start, Enter, Exit, Event, Made, made_of, place_in, newly, is_in}
 use Rattle.otel_base.specs.declared.record.OtelEvent.{OtelEvent}
-use Rattle.trace_pipeline.specs.Ops.{Stamped, Start, Enter, Exit, Event, is_error_event, on}
+use Rattle.trace_pipeline.specs.Ops.{Stamped, done_to, is_error_event}
+use Rattle.trace_pipeline.specs.Effects.{on}
+use Rattle.std.specs.List.{filter_map, cons_option}
 use Rattle.trace_pipeline.specs.Machine.{no_span, span_at, capped, times_at, started_after, span_started, span_entered, span_exited, span_told}
-use Rattle.trace_pipeline.specs.Stands.{SpansFit, span_by, times_of, is_started, has_error}
+use Rattle.trace_pipeline.specs.Stands.{SpansFit, IsTimed, span_by, times_of, is_started, has_error}
 use Rattle.trace_pipeline.proofs.Tables.{place_new, place_more}
 use Rattle.trace_pipeline.proofs.Timing.{timed, times_push, times_started, started_in_time, times_told, times_entered, entered_in_time, times_exited, exited_in_time, entered_at, exited_at}
 use Rattle.trace_pipeline.proofs.Telling.{error_push, or_false}
 use Rattle.trace_pipeline.proofs.Writing.{span_is, spans_written}
 
+-- an op on a line's own span, as one on t
+abbrev pub on_line : ℕ → Line → Stamped → List Stamped
+on_line t line op = filter_map (done_to t op.at) (on line op.op)
+
 -- an op on s alone
 abbrev pub with_op : ℕ → Stamped → (ℕ → List Stamped) → ℕ → List Stamped
-with_op s op os t = os t ++ on t (s ∷ []) op
+with_op s op os t = os t ++ on_line t (s ∷ []) op
 
 pub with_op_here : (s : ℕ) (op : Stamped) (os : ℕ → List Stamped) → with_op s op os s ≡ os s ++ op ∷ []
-with_op_here s op os = ap (λ b. os s ++ cond (b || false) (op ∷ []) []) (eq-eqb s s refl)
+with_op_here s op os = ap (λ b. os s ++ cons_option (cond b (Some op) None) []) (eq-eqb s s refl)
 
 pub with_op_other : (s : ℕ) (op : Stamped) (os : ℕ → List Stamped) (t : ℕ) → t ≢ s → with_op s op os t ≡ os t
-with_op_other s op os t other = ap (λ b. os t ++ cond (b || false) (op ∷ []) []) (ne_eqb s t (λ e. other (sym e))) ∙ append-nil (os t)
+with_op_other s op os t other = ap (λ b. os t ++ cons_option (cond b (Some op) None) []) (ne_eqb s t (λ e. other (sym e))) ∙ append-nil (os t)
 
 -- fewer pass than there are, where one doesn't
 pub count_below : {A : Type 0} (p : A → Bool) (xs : List A) (i : ℕ) (d : A) → i < length xs → p (get_or xs i d) ≡ false → count_by p xs < length xs
@@ -41,39 +47,29 @@ module _ (spans : List Span) (started : ℕ) (ms : List Made) (order : List ℕ)
   failed_more : (op : Stamped) → (span_at spans s).failed ≡ has_error (os s) → is_error_event op.op ≡ false → (span_at spans s).failed ≡ has_error (with_op s op os s)
   failed_more op same quiet = same ∙ sym (or_false (has_error (os s))) ∙ ap (λ b. has_error (os s) || b) (sym quiet) ∙ sym (error_push (os s) op) ∙ ap has_error (sym (with_op_here s op os))
 
-  -- an entry
+  -- One op more, whatever it is: what is kept of the span has the times of one op more, and whether it has failed.
+  op_fit : (op : Stamped) (failed : Bool) (times : Times) (more : ℕ) → failed ≡ ((span_at spans s).failed || is_error_event op.op) → times ≡ timed (span_at spans s).times op → IsTimed times at more → guards ≤ more
+      → SpansFit (slice_set spans s (record (span_at spans s) { failed = failed; times = times })) started ms order below (with_op s op os) at more
+  op_fit op failed times more failed_is times_are in_time below_more =
+      let e = fit.each s in
+      let all_times = times_are ∙ ap (λ (t : Times). timed t op) (ap (λ (span : Span). span.times) e) ∙ sym (times_push (os s) op) ∙ ap times_of (sym (with_op_here s op os)) in
+      let all_failed = failed_is ∙ ap (λ (span : Span). span.failed || is_error_event op.op) e ∙ sym (error_push (os s) op) ∙ ap has_error (sym (with_op_here s op os)) in
+      spans_written spans started started ms order order below below os (with_op s op os) last at guards more s (record (span_at spans s) { failed = failed; times = times }) fit within
+      (span_is _ _ _ _ failed times (made_of ms s) (place_in order s) (below s) (with_op s op os s) (ap (λ (span : Span). span.site) e) (ap (λ (span : Span). span.made) e) (ap (λ (span : Span). span.id) e) (ap (λ (span : Span). span.holds) e) all_failed all_times)
+      (λ t other. refl) (λ t other. refl) (λ t other. with_op_other s op os t other)
+      fit.starts refl in_time before below_more
+
   pub entered_fit : guards + 1 < 2 ^ 64 → SpansFit (slice_set spans s (span_entered at (span_at spans s))) started ms order below (with_op s (record { at = at; op = Enter }) os) at (guards + 1)
-  entered_fit few =
-      let e = fit.each s in
-      let op : Stamped = record { at = at; op = Enter } in
-      let times = times_entered _ last guards at (fit.timed s) before early few ∙ ap (λ (t : Times). timed t op) (ap (λ (span : Span). span.times) e) ∙ sym (times_push (os s) op) ∙ ap times_of (sym (with_op_here s op os)) in
-      spans_written spans started started ms order order below below os (with_op s op os) last at guards (guards + 1) s (span_entered at (span_at spans s)) fit within
-      (span_is _ _ _ _ (span_at spans s).failed (entered_at (span_at spans s).times at) (made_of ms s) (place_in order s) (below s) (with_op s op os s) (ap (λ (span : Span). span.site) e) (ap (λ (span : Span). span.made) e) (ap (λ (span : Span). span.id) e) (ap (λ (span : Span). span.holds) e) (failed_more op (ap (λ (span : Span). span.failed) e) refl) times)
-      (λ t other. refl) (λ t other. refl) (λ t other. with_op_other s op os t other)
-      fit.starts refl (entered_in_time _ last guards at (fit.timed s) before early few) before (omega arith)
+  entered_fit few = op_fit (record { at = at; op = Enter }) (span_at spans s).failed (entered_at (span_at spans s).times at) (guards + 1) (sym (or_false (span_at spans s).failed))
+      (times_entered _ last guards at (fit.timed s) before early few) (entered_in_time _ last guards at (fit.timed s) before early few) (omega arith)
 
-  -- an exit
   pub exited_fit : SpansFit (slice_set spans s (span_exited at (span_at spans s))) started ms order below (with_op s (record { at = at; op = Exit }) os) at guards
-  exited_fit =
-      let e = fit.each s in
-      let op : Stamped = record { at = at; op = Exit } in
-      let times = times_exited _ last guards at (fit.timed s) before early ∙ ap (λ (t : Times). timed t op) (ap (λ (span : Span). span.times) e) ∙ sym (times_push (os s) op) ∙ ap times_of (sym (with_op_here s op os)) in
-      spans_written spans started started ms order order below below os (with_op s op os) last at guards guards s (span_exited at (span_at spans s)) fit within
-      (span_is _ _ _ _ (span_at spans s).failed (exited_at (span_at spans s).times at) (made_of ms s) (place_in order s) (below s) (with_op s op os s) (ap (λ (span : Span). span.site) e) (ap (λ (span : Span). span.made) e) (ap (λ (span : Span). span.id) e) (ap (λ (span : Span). span.holds) e) (failed_more op (ap (λ (span : Span). span.failed) e) refl) times)
-      (λ t other. refl) (λ t other. refl) (λ t other. with_op_other s op os t other)
-      fit.starts refl (exited_in_time _ last guards at (fit.timed s) before early) before (omega arith)
+  exited_fit = op_fit (record { at = at; op = Exit }) (span_at spans s).failed (exited_at (span_at spans s).times at) guards (sym (or_false (span_at spans s).failed))
+      (times_exited _ last guards at (fit.timed s) before early) (exited_in_time _ last guards at (fit.timed s) before early) (omega arith)
 
-  -- an event
   pub told_fit : (is_error : Bool) (event : OtelEvent) → SpansFit (slice_set spans s (span_told is_error at (span_at spans s))) started ms order below (with_op s (record { at = at; op = Event is_error event }) os) at guards
-  told_fit is_error event =
-      let e = fit.each s in
-      let op : Stamped = record { at = at; op = Event is_error event } in
-      let times = times_told _ last guards at is_error event (fit.timed s) before early ∙ ap (λ (t : Times). timed t op) (ap (λ (span : Span). span.times) e) ∙ sym (times_push (os s) op) ∙ ap times_of (sym (with_op_here s op os)) in
-      let failed = ap (λ (span : Span). span.failed || is_error) e ∙ sym (error_push (os s) op) ∙ ap has_error (sym (with_op_here s op os)) in
-      spans_written spans started started ms order order below below os (with_op s op os) last at guards guards s (span_told is_error at (span_at spans s)) fit within
-      (span_is _ _ _ _ ((span_at spans s).failed || is_error) (times_at (span_at spans s).times at) (made_of ms s) (place_in order s) (below s) (with_op s op os s) (ap (λ (span : Span). span.site) e) (ap (λ (span : Span). span.made) e) (ap (λ (span : Span). span.id) e) (ap (λ (span : Span). span.holds) e) failed times)
-      (λ t other. refl) (λ t other. refl) (λ t other. with_op_other s op os t other)
-      fit.starts refl (started_in_time _ last guards at (fit.timed s) before early) before (omega arith)
+  told_fit is_error event = op_fit (record { at = at; op = Event is_error event }) ((span_at spans s).failed || is_error) (times_at (span_at spans s).times at) guards refl
+      (times_told _ last guards at is_error event (fit.timed s) before early) (started_in_time _ last guards at (fit.timed s) before early) (omega arith)
 
   -- ---- a start
 
@@ -83,6 +79,12 @@ module _ (spans : List Span) (started : ℕ) (ms : List Made) (order : List ℕ)
 
   abbrev Starts : List ℕ → Type 0
   Starts fresh = SpansFit (slice_set spans s (span_started started at (span_at spans s))) (started_after started (span_at spans s)) ms (order ++ fresh) below (with_starts fresh) at guards
+
+  start_here : with_starts (s ∷ []) s ≡ os s ++ record { at = at; op = Start } ∷ []
+  start_here = ap (λ b. os s ++ cond (b || false) (record { at = at; op = Start } ∷ []) []) (eq-eqb s s refl)
+
+  start_other : (t : ℕ) → t ≢ s → with_starts (s ∷ []) t ≡ os t
+  start_other t other = ap (λ b. os t ++ cond (b || false) (record { at = at; op = Start } ∷ []) []) (ne_eqb s t (λ e. other (sym e))) ∙ append-nil (os t)
 
   again_fit : place_in order s ≢ 0 → Starts (newly order (s ∷ []))
   again_fit placed =
@@ -109,13 +111,13 @@ module _ (spans : List Span) (started : ℕ) (ms : List Made) (order : List ℕ)
       let waits : is_started (span_at spans s) ≡ false = ap (nat_lt 0) idle in
       let room : started + 1 < 2 ^ 64 = (let fewer = count_below is_started spans s no_span (let n = fit.count in omega arith) waits in let count = fit.placed in omega arith) in
       let exact : capped (started + 1) ≡ started + 1 = omega arith in
-      let times = times_started _ last guards at (fit.timed s) before early ∙ ap (λ (t : Times). timed t op) (ap (λ (span : Span). span.times) e) ∙ sym (times_push (os s) op) ∙ ap times_of (sym (with_op_here s op os)) in
+      let times = times_started _ last guards at (fit.timed s) before early ∙ ap (λ (t : Times). timed t op) (ap (λ (span : Span). span.times) e) ∙ sym (times_push (os s) op) ∙ ap times_of (sym start_here) in
       let place = place_new order s fresh ∙ ap (λ n. n + 1) (sym fit.starts) in
       subst Starts (sym new) (rw (first, exact)
-      (spans_written spans started (started + 1) ms order (order ++ s ∷ []) below below os (with_op s op os) last at guards guards s
+      (spans_written spans started (started + 1) ms order (order ++ s ∷ []) below below os (with_starts (s ∷ [])) last at guards guards s
       (record (span_at spans s) { id = started + 1; times = times_at (span_at spans s).times at }) fit within
-      (span_is _ _ _ _ (span_at spans s).failed (times_at (span_at spans s).times at) (made_of ms s) (place_in (order ++ s ∷ []) s) (below s) (with_op s op os s) (ap (λ (span : Span). span.site) e) (ap (λ (span : Span). span.made) e) (sym place) (ap (λ (span : Span). span.holds) e) (failed_more op (ap (λ (span : Span). span.failed) e) refl) times)
-      (λ t other. place_more order s t other) (λ t other. refl) (λ t other. with_op_other s op os t other)
+      (span_is _ _ _ _ (span_at spans s).failed (times_at (span_at spans s).times at) (made_of ms s) (place_in (order ++ s ∷ []) s) (below s) (with_starts (s ∷ []) s) (ap (λ (span : Span). span.site) e) (ap (λ (span : Span). span.made) e) (sym place) (ap (λ (span : Span). span.holds) e) (failed_more op (ap (λ (span : Span). span.failed) e) refl ∙ ap has_error (with_op_here s op os ∙ sym start_here)) times)
+      (λ t other. place_more order s t other) (λ t other. refl) (λ t other. start_other t other)
       (ap (λ n. n + 1) fit.starts ∙ sym (length_push order s))
       (grind (arith, nat_tests, idle)) (started_in_time _ last guards at (fit.timed s) before early) before (omega arith)))
 

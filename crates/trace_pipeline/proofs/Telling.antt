@@ -6,7 +6,7 @@ use Rattle.std.proofs.lemmas.List.Folds.{list_any-append}
 use Rattle.std.proofs.lemmas.List.Sums.{prefix_len-le-length}
 use Rattle.otel_base.specs.declared.status.Status.{Status}
 use Rattle.otel_base.specs.declared.status.Status.TheVariants.{Unset, Error}
-use Rattle.trace_pipeline.specs.Ops.{Stamped, Op, Start, Enter, Exit, Event, event_in, events, status_in, status, greater, before_start, from_start, is_start, is_error_event}
+use Rattle.trace_pipeline.specs.Ops.{Stamped, event_in, events, status_in, status, greater, before_start, from_start, is_start, is_error_event}
 use Rattle.trace_pipeline.specs.Stands.{has_error}
 
 pub events_push : (os : List Stamped) (op : Stamped) → events (os ++ op ∷ []) ≡ events os ++ event_in op.op
@@ -35,16 +35,13 @@ or_assoc false b c = refl
 
 later_writes : (b : Bool) (os : List Stamped) → fold greater (failed_status b) (flat_map (λ op. status_in op.op) os) ≡ failed_status (b || has_error os)
 later_writes b [] = ap failed_status (sym (or_false b))
-later_writes b (op ∷ os) = by_op op.op (later_writes b os) (λ failed. later_writes (b || failed) os)
+later_writes b (op ∷ os) = by_error op.op.is_error (later_writes b os) (later_writes (b || true) os)
   where
-    by_op : (what : Op) → fold greater (failed_status b) (flat_map (λ op. status_in op.op) os) ≡ failed_status (b || has_error os)
-        → ((failed : Bool) → fold greater (failed_status (b || failed)) (flat_map (λ op. status_in op.op) os) ≡ failed_status ((b || failed) || has_error os))
-        → fold greater (failed_status b) (status_in what ++ flat_map (λ op. status_in op.op) os) ≡ failed_status (b || (is_error_event what || has_error os))
-    by_op Start same more = same
-    by_op Enter same more = same
-    by_op Exit same more = same
-    by_op (Event true event) same more = ap (λ v. fold greater v (flat_map (λ op. status_in op.op) os)) (one_write b true) ∙ more true ∙ ap failed_status (or_assoc b true (has_error os))
-    by_op (Event false event) same more = same
+    by_error : (failed : Bool) → fold greater (failed_status b) (flat_map (λ op. status_in op.op) os) ≡ failed_status (b || has_error os)
+        → fold greater (failed_status (b || true)) (flat_map (λ op. status_in op.op) os) ≡ failed_status ((b || true) || has_error os)
+        → fold greater (failed_status b) (cond failed (Error [] ∷ []) [] ++ flat_map (λ op. status_in op.op) os) ≡ failed_status (b || (failed || has_error os))
+    by_error true same more = ap (λ v. fold greater v (flat_map (λ op. status_in op.op) os)) (one_write b true) ∙ more ∙ ap failed_status (or_assoc b true (has_error os))
+    by_error false same more = same
 
 -- The status is Error with an empty description exactly if an event of level ERROR came.
 pub status_is : (os : List Stamped) → status os ≡ failed_status (has_error os)

@@ -4,7 +4,8 @@ use Rattle.std.proofs.lemmas.List.Sums.{fold_push}
 use Rattle.std.proofs.lemmas.Bool.Decides.{nat_tests}
 use Rattle.otel_base.specs.declared.record.OtelEvent.{OtelEvent}
 use Rattle.trace_pipeline.specs.declared.times.Times.{Times}
-use Rattle.trace_pipeline.specs.Ops.{Stamped, Start, Enter, Exit, Event, entered_after, gap, busy_from, exit_by}
+use Rattle.trace_pipeline.specs.History.{Start, Enter, Exit, Event}
+use Rattle.trace_pipeline.specs.Ops.{Stamped, entered_after, gap, busy_from, exit_by}
 use Rattle.trace_pipeline.specs.Machine.{capped, times_at}
 use Rattle.trace_pipeline.specs.Stands.{times_of, IsTimed}
 

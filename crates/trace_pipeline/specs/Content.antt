@@ -6,7 +6,7 @@ use Rattle.otel_base.specs.declared.record.SpanKind.TheVariants.{Internal}
 use Rattle.otel_base.specs.declared.value.KeyValue.{KeyValue}
 use Rattle.otel_base.specs.declared.value.OtelValue.TheVariants.{I64}
 use Rattle.trace_pipeline.specs.declared.settings.Settings.{Settings}
-use Rattle.trace_pipeline.specs.History.{History, Effect, closed_in, made, made_of, id_of}
+use Rattle.trace_pipeline.specs.History.{History, Effect, made, made_of, id_of}
 use Rattle.trace_pipeline.specs.Ops.{Stamped, ops, busy, idle, end_of, events, status}
 
 -- the name of the callsite at a place
@@ -40,4 +40,4 @@ record_of settings h at s = content (site_name settings (made_of (made h) s).sit
 
 -- the records of the spans that an effect closes, with that effect's own ops
 abbrev pub records_of : Settings → History → Effect → List Record
-records_of settings h e = map (record_of settings (h ++ e ∷ []) e.at) (closed_in e.did)
+records_of settings h e = map (record_of settings (h ++ e ∷ []) e.at) e.closes

@@ -1,6 +1,7 @@
--- What a request does at a place in a script, or why it is refused, and its reply.
-use Rattle.std.specs.Prelude.{ℕ, ◌-◌, ◌^◌, List, [], ◌∷◌, length, Bool, true, false, not, ◌==◌, ◌||◌, ◌&&◌, nat_lt, if◌then◌else◌, Option, Some, None, is_some, option_and_then, unwrap_or, slice_get, slice_set, Result, Ok, Err, codes, bytes_eq}
+-- What a request does at a place in a script, or why it is refused.
+use Rattle.std.specs.Prelude.{ℕ, ◌-◌, ◌^◌, List, [], ◌∷◌, length, Bool, true, false, not, ◌==◌, ◌||◌, ◌&&◌, nat_lt, if◌then◌else◌, Option, Some, None, is_some, option_map, option_and_then, unwrap_or, slice_get, slice_set, Result, Ok, Err, codes, bytes_eq}
 use Rattle.std.specs.List.{list_any}
+use Rattle.std.specs.Option.{option_to_list}
 use Rattle.trace_base.specs.declared.level.LevelFilter.{LevelFilter}
 use Rattle.trace_base.specs.declared.level.LevelFilter.TheVariants as filter
 use Rattle.trace_base.specs.declared.callsite.Callsite.{Callsite}
@@ -15,13 +16,12 @@ use Rattle.trace_pipeline.specs.declared.settings.Settings.{Settings}
 use Rattle.trace_pipeline.specs.declared.request.Request.{Request}
 use Rattle.trace_pipeline.specs.declared.request.Call.{Call}
 use Rattle.trace_pipeline.specs.declared.request.Call.TheVariants as call
-use Rattle.trace_pipeline.specs.declared.reply.Reply.{Reply}
 use Rattle.trace_pipeline.specs.declared.reply.Reply.TheVariants as reply
 use Rattle.trace_pipeline.specs.declared.reply.Refusal.{Refusal}
 use Rattle.trace_pipeline.specs.declared.reply.Refusal.TheVariants.{Later, BadMoment, UnknownName, InUse}
 use Rattle.trace_pipeline.specs.declared.reply.What.{What}
 use Rattle.trace_pipeline.specs.declared.reply.What.TheVariants as what
-use Rattle.trace_pipeline.specs.History.{Line, Did, Makes, Declines, Enters, Exits, Tells, Ignores, Drops, Effect, History, handles, guards, slot_at, is_borrowed, moment, made, made_of, started, newly, own, closed_of, entries, current}
+use Rattle.trace_pipeline.specs.History.{Line, Op, Enter, Exit, Event, Done, Effect, quiet, History, handles, guards, slot_at, is_borrowed, moment, made, made_of, started, newly, own, closed_of, entries, current}
 
 -- ---- admission
 
@@ -69,27 +69,45 @@ span_site callsites site = option_and_then (λ callsite. if_span callsite callsi
 abbrev pub event_site : List Callsite → ℕ → Option Callsite
 event_site callsites site = option_and_then (λ callsite. if_event callsite callsite.kind) (slice_get callsites site)
 
+-- an op on a line's own span, if it has one
+abbrev pub on : Line → Op → List Done
+on line op = option_to_list (option_map (λ s. record { span = s; op = op }) (own line))
+
+-- a disabled handle
+abbrev pub declines : History → ℕ → ℕ → Effect
+declines h at lane = record (quiet at lane (reply.Made false (length (handles h)))) { new_handle = Some [] }
+
+-- a root and a handle of it
+abbrev pub makes_root : History → ℕ → ℕ → ℕ → Effect
+makes_root h at lane site =
+    let line : Line = length (made h) ∷ [] in
+    record (quiet at lane (reply.Made true (length (handles h)))) { new_handle = Some line; made = Some (record { site = site; line = line; at = at }) }
+
 -- an admitted callsite gives a root and a handle of it, any other a disabled handle
 abbrev pub makes : Settings → History → ℕ → ℕ → ℕ → Callsite → Effect
-makes settings h at lane site callsite = record {
-  at = at;
-  lane = lane;
-  did = (if admits settings callsite then Makes (record { site = site; line = length (made h) ∷ []; at = at }) else Declines);
-  starts = [];
-}
+makes settings h at lane site callsite = if admits settings callsite then makes_root h at lane site else declines h at lane
+
+-- another handle of a line: enabled if the line has a span
+abbrev pub clones : History → ℕ → ℕ → Line → Effect
+clones h at lane line = record (quiet at lane (reply.Made (is_some (own line)) (length (handles h)))) { new_handle = Some line }
 
 -- an entry starts the span, if nothing has started it before
 abbrev pub enters : History → ℕ → ℕ → ℕ → Line → Effect
-enters h at lane handle line = record { at = at; lane = lane; did = Enters (record { handle = handle; line = line }); starts = newly (started h) (own line) }
+enters h at lane handle line = record (quiet at lane (reply.Guard (length (guards h)))) {
+  new_guard = Some (record { handle = handle; line = line });
+  starts = newly (started h) (option_to_list (own line));
+  ops = on line Enter;
+  entry = own line;
+}
 
 abbrev pub exits : ℕ → ℕ → ℕ → Line → Effect
-exits at lane guard line = record { at = at; lane = lane; did = Exits guard line; starts = [] }
+exits at lane guard line = record (quiet at lane reply.Done) { spent_guard = Some guard; ops = on line Exit; exit = own line }
 
 -- The spans that close are those that no unspent handle holds any more; a close starts a span that hasn't been started.
 abbrev pub drops : History → ℕ → ℕ → ℕ → Line → Effect
 drops h at lane handle line =
     let closing = closed_of (slice_set (handles h) handle None) line in
-    record { at = at; lane = lane; did = Drops handle closing; starts = newly (started h) closing }
+    record (quiet at lane reply.Done) { spent_handle = Some handle; starts = newly (started h) closing; closes = closing }
 
 -- a handle that an open guard borrows isn't dropped
 abbrev pub drops_unless : Bool → Effect → Resolved
@@ -119,17 +137,17 @@ line_of h (Some s) = (made_of (made h) s).line
 abbrev pub current_line : History → ℕ → Line
 current_line h lane = line_of h (current (entries h lane))
 
+-- an event that is told to the span of a line, or to none
+abbrev pub tells_to : ℕ → ℕ → Callsite → Line → Effect
+tells_to at lane callsite line = record (quiet at lane (reply.Enabled true)) { ops = on line (Event (is_error_level callsite.level) (event_of callsite at)) }
+
 -- an admitted event is told to the lane's current span, any other leaves nothing
 abbrev pub tells : Settings → History → ℕ → ℕ → Callsite → Effect
-tells settings h at lane callsite = record {
-  at = at;
-  lane = lane;
-  did = (if admits settings callsite then Tells (is_error_level callsite.level) (event_of callsite at) (current_line h lane) else Ignores);
-  starts = [];
-}
+tells settings h at lane callsite = if admits settings callsite then tells_to at lane callsite (current_line h lane) else quiet at lane (reply.Enabled false)
 
 abbrev pub effect_of_call : Settings → History → ℕ → ℕ → Call → Resolved
 effect_of_call settings h at lane (call.New site) = named what.Site (span_site settings.callsites site) (λ callsite. Ok (makes settings h at lane site callsite))
+effect_of_call settings h at lane (call.Clone handle) = named what.Handle (slot_at (handles h) handle) (λ line. Ok (clones h at lane line))
 effect_of_call settings h at lane (call.Drop handle) = named what.Handle (slot_at (handles h) handle) (λ line. drops_unless (is_borrowed (guards h) handle) (drops h at lane handle line))
 effect_of_call settings h at lane (call.Enter handle) = named what.Handle (slot_at (handles h) handle) (λ line. Ok (enters h at lane handle line))
 effect_of_call settings h at lane (call.Exit guard) = named what.Guard (slot_at (guards h) guard) (λ guarded. Ok (exits at lane guard guarded.line))
@@ -140,6 +158,7 @@ effect_of_call settings h at lane (call.Event site) = named what.Site (event_sit
 -- neither a making nor an entry is built while some guard is open
 abbrev pub waits_for_guards : Call → Bool
 waits_for_guards (call.New site) = true
+waits_for_guards (call.Clone handle) = false
 waits_for_guards (call.Drop handle) = false
 waits_for_guards (call.Enter handle) = true
 waits_for_guards (call.Exit guard) = false
@@ -159,18 +178,3 @@ effect_of settings h request =
     if is_later h request then Err Later else
     (if is_bad_moment (moment h) request.at then Err (BadMoment (moment h) request.at) else
     named what.Lane (slice_get settings.lanes request.lane) (λ lane. effect_of_call settings h request.at request.lane request.call))
-
--- ---- replies
-
-abbrev pub reply_by : History → Did → Reply
-reply_by h (Makes made) = reply.Made true (length (handles h))
-reply_by h Declines = reply.Made false (length (handles h))
-reply_by h (Enters guarded) = reply.Guard (length (guards h))
-reply_by h (Exits guard line) = reply.Done
-reply_by h (Tells is_error event line) = reply.Enabled true
-reply_by h Ignores = reply.Enabled false
-reply_by h (Drops handle closed) = reply.Done
-
--- the reply to a request that has an effect: the next free number for each name made
-abbrev pub reply_to : History → Effect → Reply
-reply_to h e = reply_by h e.did

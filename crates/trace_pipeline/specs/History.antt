@@ -1,7 +1,9 @@
 -- A history: for each request what it did. Spans are named by their numbers in the order of making.
-use Rattle.std.specs.Prelude.{ℕ, ◌+◌, ◌-◌, List, [], ◌∷◌, ◌++◌, length, fold, filter, count_by, Bool, false, not, ◌==◌, if◌then◌else◌, Option, Some, None, slice_get, slice_set}
+use Rattle.std.specs.Prelude.{ℕ, ◌+◌, ◌-◌, List, [], ◌∷◌, ◌++◌, length, fold, filter, count_by, Bool, true, false, not, ◌==◌, if◌then◌else◌, Option, Some, None, option_map, slice_get, slice_set}
 use Rattle.otel_base.specs.declared.record.OtelEvent.{OtelEvent}
-use Rattle.std.specs.List.{flat_map, list_any, slice_index_or, range_with_len}
+use Rattle.std.specs.List.{flat_map, filter_map, list_any, slice_index_or, range_with_len}
+use Rattle.std.specs.Option.{option_map_or}
+use Rattle.trace_pipeline.specs.declared.reply.Reply.{Reply}
 
 -- The line of a span: the span, its parent, and so on up. A disabled handle has the empty line.
 abbrev pub Line : Type 0
@@ -18,58 +20,103 @@ pub record Guarded : Type 0 where
   pub handle : ℕ
   pub line : Line
 
--- what a request did
-pub data Did : Type 0 where
-  -- made a span, and a handle of it
-  Makes : (made : Made) → Did
-  -- made a disabled handle, since the callsite isn't admitted
-  Declines : Did
-  Enters : (guarded : Guarded) → Did
-  Exits : (guard : ℕ) → (line : Line) → Did
-  -- told an admitted event to the span of a line, or to none
-  Tells : (is_error : Bool) → (event : OtelEvent) → (line : Line) → Did
-  -- left nothing, since the event's callsite isn't admitted
-  Ignores : Did
-  -- spent a handle, which closed these spans, each before its parent
-  Drops : (handle : ℕ) → (closed : List ℕ) → Did
+-- What is done to a span after its making: whether it starts, enters or exits it, and what it tells.
+pub record Op : Type 0 where
+  pub starts : Bool
+  pub enters : Bool
+  pub exits : Bool
+  -- whether it is of level ERROR
+  pub is_error : Bool
+  pub event : Option OtelEvent
 
--- a request's effect: its moment and lane, what it did, and the spans that it started, in order
+-- what does nothing
+abbrev pub still : Op
+still = record { starts = false; enters = false; exits = false; is_error = false; event = None }
+
+abbrev pub Start : Op
+Start = record still { starts = true }
+
+abbrev pub Enter : Op
+Enter = record still { enters = true }
+
+abbrev pub Exit : Op
+Exit = record still { exits = true }
+
+-- an event, which may be of level ERROR
+abbrev pub Event : Bool → OtelEvent → Op
+Event is_error event = record still { is_error = is_error; event = Some event }
+
+-- an op on a span
+pub record Done : Type 0 where
+  pub span : ℕ
+  pub op : Op
+
+-- A request's effect: its moment and lane, what it changed, and its reply.
 pub record Effect : Type 0 where
   pub at : ℕ
   pub lane : ℕ
-  pub did : Did
+  -- the line of the handle that it made, and the handle that it spent
+  pub new_handle : Option Line
+  pub spent_handle : Option ℕ
+  -- what the guard that it made keeps, and the guard that it spent
+  pub new_guard : Option Guarded
+  pub spent_guard : Option ℕ
+  -- the span that it made
+  pub made : Option Made
+  -- the spans that it started, in order
   pub starts : List ℕ
+  -- what else it did to spans, in order
+  pub ops : List Done
+  -- the spans that it closed, each before its parent
+  pub closes : List ℕ
+  -- the entry that it added to its lane, and the one that it took off
+  pub entry : Option ℕ
+  pub exit : Option ℕ
+  pub reply : Reply
+
+-- what changes nothing
+abbrev pub quiet : ℕ → ℕ → Reply → Effect
+quiet at lane answer = record {
+  at = at;
+  lane = lane;
+  new_handle = None;
+  spent_handle = None;
+  new_guard = None;
+  spent_guard = None;
+  made = None;
+  starts = [];
+  ops = [];
+  closes = [];
+  entry = None;
+  exit = None;
+  reply = answer;
+}
 
 abbrev pub History : Type 0
 History = List Effect
 
 -- ---- names
 
--- The handles in the order of making: each the line of what it names, none once it is spent.
-abbrev pub handles_after : List (Option Line) → Did → List (Option Line)
-handles_after slots (Makes made) = slots ++ Some made.line ∷ []
-handles_after slots Declines = slots ++ Some [] ∷ []
-handles_after slots (Enters guarded) = slots
-handles_after slots (Exits guard line) = slots
-handles_after slots (Tells is_error event line) = slots
-handles_after slots Ignores = slots
-handles_after slots (Drops handle closed) = slice_set slots handle None
+-- a list with one more item, if there is one
+abbrev pub with_new : {A : Type 0} → List A → Option A → List A
+with_new xs None = xs
+with_new xs (Some x) = xs ++ x ∷ []
 
+-- names without one that is spent, if there is one
+abbrev pub without : {A : Type 0} → List (Option A) → Option ℕ → List (Option A)
+without slots None = slots
+without slots (Some n) = slice_set slots n None
+
+abbrev pub slots_after : {A : Type 0} → List (Option A) → Option A → Option ℕ → List (Option A)
+slots_after slots new spent = without (with_new slots (option_map Some new)) spent
+
+-- The handles in the order of making: each the line of what it names, none once it is spent.
 abbrev pub handles : History → List (Option Line)
-handles h = fold (λ slots e. handles_after slots e.did) [] h
+handles h = fold (λ slots e. slots_after slots e.new_handle e.spent_handle) [] h
 
 -- The guards in the order of making: each what it keeps, none once it is spent.
-abbrev pub guards_after : List (Option Guarded) → Did → List (Option Guarded)
-guards_after slots (Makes made) = slots
-guards_after slots Declines = slots
-guards_after slots (Enters guarded) = slots ++ Some guarded ∷ []
-guards_after slots (Exits guard line) = slice_set slots guard None
-guards_after slots (Tells is_error event line) = slots
-guards_after slots Ignores = slots
-guards_after slots (Drops handle closed) = slots
-
 abbrev pub guards : History → List (Option Guarded)
-guards h = fold (λ slots e. guards_after slots e.did) [] h
+guards h = fold (λ slots e. slots_after slots e.new_guard e.spent_guard) [] h
 
 -- what stands at a number, none past the end
 abbrev pub slot_at : {A : Type 0} → List (Option A) → ℕ → Option A
@@ -90,18 +137,9 @@ is_borrowed slots handle = list_any (borrows handle) slots
 
 -- ---- spans
 
-abbrev pub made_in : Did → List Made
-made_in (Makes made) = made ∷ []
-made_in Declines = []
-made_in (Enters guarded) = []
-made_in (Exits guard line) = []
-made_in (Tells is_error event line) = []
-made_in Ignores = []
-made_in (Drops handle closed) = []
-
 -- the makings, in order: a span's number is its making's place
 abbrev pub made : History → List Made
-made h = flat_map (λ e. made_in e.did) h
+made h = filter_map (λ e. e.made) h
 
 abbrev pub made_of : List Made → ℕ → Made
 made_of makings s = slice_index_or makings s (record { site = 0; line = []; at = 0 })
@@ -122,18 +160,9 @@ is_open slots s = list_any (holds s) slots
 abbrev pub closed_of : List (Option Line) → Line → List ℕ
 closed_of slots line = filter (λ s. not (is_open slots s)) line
 
-abbrev pub closed_in : Did → List ℕ
-closed_in (Makes made) = []
-closed_in Declines = []
-closed_in (Enters guarded) = []
-closed_in (Exits guard line) = []
-closed_in (Tells is_error event line) = []
-closed_in Ignores = []
-closed_in (Drops handle closed) = closed
-
 -- the spans that closed, in order
 abbrev pub closed : History → List ℕ
-closed h = flat_map (λ e. closed_in e.did) h
+closed h = flat_map (λ e. e.closes) h
 
 -- how many spans are open
 abbrev pub open_spans : History → ℕ
@@ -159,10 +188,9 @@ abbrev pub newly : List ℕ → List ℕ → List ℕ
 newly order [] = []
 newly order (s ∷ ss) = if place_in order s == 0 then s ∷ newly (order ++ s ∷ []) ss else newly order ss
 
--- a line's own span: its first
-abbrev pub own : Line → List ℕ
-own [] = []
-own (s ∷ line) = s ∷ []
+-- a line's own span, if it has one: its first
+abbrev pub own : Line → Option ℕ
+own line = slice_get line 0
 
 -- ---- lanes
 
@@ -171,22 +199,12 @@ abbrev pub remove_last : ℕ → List ℕ → List ℕ
 remove_last s [] = []
 remove_last s (x ∷ xs) = if is_in s xs then x ∷ remove_last s xs else (if x == s then xs else x ∷ xs)
 
-abbrev pub removed : Line → List ℕ → List ℕ
-removed [] es = es
-removed (s ∷ line) es = remove_last s es
-
--- an entry of an enabled handle adds its span, an exit takes off the last entry of that span
-abbrev pub entries_by : List ℕ → Did → List ℕ
-entries_by es (Makes made) = es
-entries_by es Declines = es
-entries_by es (Enters guarded) = es ++ own guarded.line
-entries_by es (Exits guard line) = removed line es
-entries_by es (Tells is_error event line) = es
-entries_by es Ignores = es
-entries_by es (Drops handle closed) = es
+-- entries with a new one, if there is one, and without the last one of a span that is exited
+abbrev pub entries_by : List ℕ → Option ℕ → Option ℕ → List ℕ
+entries_by es entry exit = option_map_or (λ s. remove_last s (with_new es entry)) exit (with_new es entry)
 
 abbrev pub entries_after : ℕ → List ℕ → Effect → List ℕ
-entries_after lane es e = if e.lane == lane then entries_by es e.did else es
+entries_after lane es e = if e.lane == lane then entries_by es e.entry e.exit else es
 
 -- the entries of a lane, in order
 abbrev pub entries : History → ℕ → List ℕ

@@ -1,5 +1,5 @@
 -- What the pipeline's code does to what it keeps. Inner definitions: no promise rests on them alone.
-use Rattle.std.specs.Prelude.{◌≡◌, ℕ, ◌+◌, ◌-◌, ◌^◌, ◌==◌, ◌&&◌, min, List, [], ◌∷◌, ◌++◌, ◌||◌, Bool, false, nat_lt, if◌then◌else◌, Option, Some, None, unwrap_or, length, ◌<◌, slice_get, slice_set, pos, codes}
+use Rattle.std.specs.Prelude.{◌≡◌, ℕ, ◌+◌, ◌-◌, ◌^◌, ◌==◌, ◌&&◌, min, List, [], ◌∷◌, ◌++◌, ◌||◌, Bool, true, false, nat_lt, if◌then◌else◌, Option, Some, None, unwrap_or, length, ◌<◌, slice_get, slice_set, pos, codes}
 use Rattle.std.specs.Option.{option_map_or}
 use Rattle.otel_base.specs.declared.record.Record.{Record}
 use Rattle.otel_base.specs.declared.record.OtelEvent.{OtelEvent}
@@ -76,6 +76,18 @@ started_entered started (Enabled s) spans = if nat_lt s (length spans) then star
 abbrev pub spans_exited : ℕ → Handle → List Span → List Span
 spans_exited at Disabled spans = spans
 spans_exited at (Enabled s) spans = slice_set spans s (span_exited at (span_at spans s))
+
+-- one handle more holds what a handle stands for
+abbrev pub span_held : Span → Span
+span_held span = record span { holds = capped (span.holds + 1) }
+
+abbrev pub spans_held : Handle → List Span → List Span
+spans_held Disabled spans = spans
+spans_held (Enabled s) spans = slice_set spans s (span_held (span_at spans s))
+
+abbrev pub is_enabled : Handle → Bool
+is_enabled Disabled = false
+is_enabled (Enabled s) = true
 
 -- ---- the spans and their events after an event was told to what a handle stands for
 
@@ -162,6 +174,7 @@ is_held span = nat_lt 0 span.holds
 -- a call that waits for guards comes where none is open
 abbrev pub CanWait : Call → Option Guard → Type 0
 CanWait (call.New site) open_guard = open_guard ≡ None
+CanWait (call.Clone handle) open_guard = Unit {0}
 CanWait (call.Drop handle) open_guard = Unit {0}
 CanWait (call.Enter handle) open_guard = open_guard ≡ None
 CanWait (call.Exit guard) open_guard = Unit {0}

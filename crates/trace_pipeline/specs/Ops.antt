@@ -1,43 +1,26 @@
 -- The ops of a span, and the times that they give.
-use Rattle.std.specs.Prelude.{ℕ, ◌+◌, ◌-◌, List, [], ◌∷◌, ◌++◌, length, drop, fold, Bool, true, false, nat_lt, if◌then◌else◌, Option, Some, None, unwrap_or}
-use Rattle.std.specs.List.{flat_map, list_any, before_first}
+use Rattle.std.specs.Prelude.{ℕ, ◌+◌, ◌-◌, List, [], ◌∷◌, ◌++◌, length, drop, fold, Bool, nat_lt, ◌==◌, if◌then◌else◌, Option, Some, None, unwrap_or}
+use Rattle.std.specs.List.{flat_map, filter_map, list_any, before_first}
 use Rattle.std.specs.Ordering.{nat_cmp, match_ordering}
 use Rattle.std.specs.Cmp.Lexicographic.{slice_cmp}
 use Rattle.otel_base.specs.declared.record.OtelEvent.{OtelEvent}
 use Rattle.otel_base.specs.declared.status.Status.{Status}
 use Rattle.otel_base.specs.declared.status.Status.TheVariants.{Unset, Error, Ok}
-use Rattle.std.specs.Option.{option_map_or}
-use Rattle.trace_pipeline.specs.History.{Did, Makes, Declines, Enters, Exits, Tells, Ignores, Drops, Effect, History, Line, is_in, own}
-
--- what is done to a span after its making
-pub data Op : Type 0 where
-  Start : Op
-  Enter : Op
-  Exit : Op
-  -- an event, which may be of level ERROR
-  Event : (is_error : Bool) → (event : OtelEvent) → Op
+use Rattle.std.specs.Option.{option_map_or, option_to_list}
+use Rattle.trace_pipeline.specs.History.{Op, Start, Done, Effect, History, is_in}
 
 -- an op with its moment
 pub record Stamped : Type 0 where
   pub at : ℕ
   pub op : Op
 
--- an op on the line's own span is one on s if the line begins with s
-abbrev pub on : ℕ → Line → Stamped → List Stamped
-on s line op = if is_in s (own line) then op ∷ [] else []
-
-abbrev pub ops_by : ℕ → ℕ → Did → List Stamped
-ops_by s at (Makes made) = []
-ops_by s at Declines = []
-ops_by s at (Enters guarded) = on s guarded.line (record { at = at; op = Enter })
-ops_by s at (Exits guard line) = on s line (record { at = at; op = Exit })
-ops_by s at (Tells is_error event line) = on s line (record { at = at; op = Event is_error event })
-ops_by s at Ignores = []
-ops_by s at (Drops handle closed) = []
+-- what was done, with its moment, if it was done to s
+abbrev pub done_to : ℕ → ℕ → Done → Option Stamped
+done_to s at done = if done.span == s then Some (record { at = at; op = done.op }) else None
 
 -- the start comes before what else the request does to the span
 abbrev pub ops_in : ℕ → Effect → List Stamped
-ops_in s e = (if is_in s e.starts then record { at = e.at; op = Start } ∷ [] else []) ++ ops_by s e.at e.did
+ops_in s e = (if is_in s e.starts then record { at = e.at; op = Start } ∷ [] else []) ++ filter_map (done_to s e.at) e.ops
 
 -- the ops of a span, in order
 abbrev pub ops : History → ℕ → List Stamped
@@ -47,10 +30,7 @@ ops h s = flat_map (ops_in s) h
 
 -- how many entries are open after an op
 abbrev pub entered_after : ℕ → Op → ℕ
-entered_after n Start = n
-entered_after n Enter = n + 1
-entered_after n Exit = n - 1
-entered_after n (Event is_error event) = n
+entered_after n op = if op.exits then n - 1 else (if op.enters then n + 1 else n)
 
 -- the time since the op before, if more entries than exits came before
 abbrev pub gap : ℕ → ℕ → ℕ → ℕ
@@ -65,10 +45,7 @@ abbrev pub busy : List Stamped → ℕ
 busy os = busy_from 0 0 os
 
 abbrev pub exit_by : Option ℕ → ℕ → Op → Option ℕ
-exit_by before at Start = before
-exit_by before at Enter = before
-exit_by before at Exit = Some at
-exit_by before at (Event is_error event) = before
+exit_by before at op = if op.exits then Some at else before
 
 -- the moment of the last exit, if there is one
 abbrev pub last_exit : List Stamped → Option ℕ
@@ -85,22 +62,13 @@ idle os start = option_map_or (λ end. end - start - busy os) (last_exit os) 0
 -- ---- events and status
 
 abbrev pub is_start : Op → Bool
-is_start Start = true
-is_start Enter = false
-is_start Exit = false
-is_start (Event is_error event) = false
+is_start op = op.starts
 
 abbrev pub is_error_event : Op → Bool
-is_error_event Start = false
-is_error_event Enter = false
-is_error_event Exit = false
-is_error_event (Event is_error event) = is_error
+is_error_event op = op.is_error
 
 abbrev pub event_in : Op → List OtelEvent
-event_in Start = []
-event_in Enter = []
-event_in Exit = []
-event_in (Event is_error event) = event ∷ []
+event_in op = option_to_list op.event
 
 -- the events of the ops, in order
 abbrev pub events : List Stamped → List OtelEvent
@@ -115,10 +83,7 @@ from_start os = drop (length (before_start os)) os
 
 -- the writes of a status: an event of level ERROR writes Error with an empty description
 abbrev pub status_in : Op → List Status
-status_in Start = []
-status_in Enter = []
-status_in Exit = []
-status_in (Event is_error event) = if is_error then Error [] ∷ [] else []
+status_in op = if op.is_error then Error [] ∷ [] else []
 
 -- Unset is less than Error, which is ordered by its description's bytes, and Ok is greatest.
 abbrev pub greater : Status → Status → Status

@@ -6,7 +6,7 @@ use Rattle.trace_pipeline.specs.declared.reply.Told.{Told}
 use Rattle.trace_pipeline.specs.declared.reply.Told.TheVariants as told
 use Rattle.trace_pipeline.specs.declared.request.Request.{Request}
 use Rattle.trace_pipeline.specs.History.{History, Effect, closed, open_spans}
-use Rattle.trace_pipeline.specs.Effects.{Resolved, effect_of, reply_to}
+use Rattle.trace_pipeline.specs.Effects.{Resolved, effect_of}
 use Rattle.trace_pipeline.specs.Content.{records_of}
 use Rattle.trace_pipeline.specs.Lines.{lines_of, is_blank}
 use Rattle.trace_pipeline.specs.Spelled.{settings_spelled, request_spelled}
@@ -32,7 +32,7 @@ record_lines number (finished ∷ more) = record_text number finished ++ record_
 
 -- what is written for the request on a line: its reply, and the records of the spans that it closed
 abbrev pub answer_text : Settings → History → ℕ → Effect → List ℕ
-answer_text settings h line effect = reply_text line (reply_to h effect) ++ record_lines (length (closed h) + 1) (records_of settings h effect)
+answer_text settings h line effect = reply_text line effect.reply ++ record_lines (length (closed h) + 1) (records_of settings h effect)
 
 -- why the step is refused, as the line's refusal
 abbrev pub told_step : Resolved → Result Effect Told

@@ -3,7 +3,7 @@ use Rattle.std.specs.Prelude.{ℕ, List, [], ◌∷◌, fold, codes}
 use Rattle.serde_json.specs.Data.{Data, number, string, object, unsigned, Members, no_members, put}
 use Rattle.trace_pipeline.specs.declared.request.Request.{Request}
 use Rattle.trace_pipeline.specs.declared.request.Call.{Call}
-use Rattle.trace_pipeline.specs.declared.request.Call.TheVariants.{New, Drop, Enter, Exit, Event}
+use Rattle.trace_pipeline.specs.declared.request.Call.TheVariants.{New, Clone, Drop, Enter, Exit, Event}
 
 -- a call on the first lane at a moment
 abbrev pub first_lane : ℕ → Call → Request
@@ -12,6 +12,7 @@ first_lane at call = record { at = at; lane = 0; call = call }
 -- the word of `do`
 abbrev pub word_of : Call → List ℕ
 word_of (New site) = codes "new"
+word_of (Clone handle) = codes "clone"
 word_of (Drop handle) = codes "drop"
 word_of (Enter handle) = codes "enter"
 word_of (Exit guard) = codes "exit"
@@ -20,6 +21,7 @@ word_of (Event site) = codes "event"
 -- what a call names
 abbrev pub name_of : Call → List ℕ × ℕ
 name_of (New site) = (codes "site", site)
+name_of (Clone handle) = (codes "handle", handle)
 name_of (Drop handle) = (codes "handle", handle)
 name_of (Enter handle) = (codes "handle", handle)
 name_of (Exit guard) = (codes "guard", guard)

@@ -4,23 +4,30 @@ use Rattle.trace_pipeline.specs.declared.read.request.Verb.{Verb}
 use Rattle.trace_pipeline.specs.declared.read.request.Verb.TheVariants as verb
 use Rattle.trace_pipeline.specs.declared.request.Request.{Request}
 use Rattle.trace_pipeline.specs.declared.request.Call.{Call}
-use Rattle.trace_pipeline.specs.declared.request.Call.TheVariants.{New, Drop, Enter, Exit, Event}
+use Rattle.trace_pipeline.specs.declared.request.Call.TheVariants.{New, Clone, Drop, Enter, Exit, Event}
 use Rattle.trace_pipeline.specs.Forms.{Form, ◌>>=◌, give, when, whole, whole_to, text}
 
 -- the words of `do` that are built
 abbrev pub verb_word : List ℕ → Option Verb
 verb_word word =
     if bytes_eq word (codes "new") then Some verb.New else
+    (if bytes_eq word (codes "clone") then Some verb.Clone else
     (if bytes_eq word (codes "drop") then Some verb.Drop else
     (if bytes_eq word (codes "enter") then Some verb.Enter else
     (if bytes_eq word (codes "exit") then Some verb.Exit else
-    (if bytes_eq word (codes "event") then Some verb.Event else None))))
+    (if bytes_eq word (codes "event") then Some verb.Event else None)))))
 
 -- `new` makes a span of a callsite
 unfoldable pub new_form : Form Call
 new_form = do
   site ← whole (codes "site")
   give (New site)
+
+-- `clone` makes a handle of what a handle stands for
+unfoldable pub clone_form : Form Call
+clone_form = do
+  handle ← whole (codes "handle")
+  give (Clone handle)
 
 -- `drop` spends a handle
 unfoldable pub drop_form : Form Call
@@ -49,6 +56,7 @@ event_form = do
 -- what a word of `do` goes on with
 abbrev pub call_form : Verb → Form Call
 call_form verb.New = new_form
+call_form verb.Clone = clone_form
 call_form verb.Drop = drop_form
 call_form verb.Enter = enter_form
 call_form verb.Exit = exit_form

@@ -1,6 +1,7 @@
 -- A pipeline's state stands for settings and the requests so far.
 use Rattle.std.specs.Prelude.{◌≡◌, ℕ, ◌^◌, ◌<◌, ◌≤◌, List, [], ◌∷◌, ◌++◌, length, Ok, Err, ◌≢◌, Option, Some, None, option_map, unwrap_or, map, fold, count_by, Bool, nat_lt, is_some}
 use Rattle.std.specs.List.{list_any}
+use Rattle.std.specs.Option.{option_to_list}
 use Rattle.otel_base.specs.declared.record.Record.{Record}
 use Rattle.otel_base.specs.declared.record.OtelEvent.{OtelEvent}
 use Rattle.trace_base.specs.declared.level.LevelFilter.{LevelFilter}
@@ -15,7 +16,7 @@ use Rattle.trace_pipeline.specs.declared.reply.Reply.{Reply}
 use Rattle.trace_pipeline.specs.declared.request.Request.{Request}
 use Rattle.trace_pipeline.specs.declared.reply.Refusal.{Refusal}
 use Rattle.trace_pipeline.specs.declared.reply.Refusal.TheVariants.{Memory}
-use Rattle.trace_pipeline.specs.Effects.{Resolved, in_force, effect_of, reply_to}
+use Rattle.trace_pipeline.specs.Effects.{Resolved, in_force, effect_of}
 use Rattle.trace_pipeline.specs.Content.{records_of}
 use Rattle.trace_pipeline.specs.History.{Line, Made, Guarded, Effect, History, handles, guards, slot_at, made, made_of, started, place_in, moment, holds, own, entries}
 use Rattle.trace_pipeline.specs.Ops.{Stamped, ops, entered_after, busy, last_exit, events, is_error_event}
@@ -100,7 +101,7 @@ open_of (Some guarded ∷ slots) = Some guarded
 -- the entry that an open guard stands for
 abbrev pub entered_by : Option Guarded → List ℕ
 entered_by None = []
-entered_by (Some guarded) = own guarded.line
+entered_by (Some guarded) = option_to_list (own guarded.line)
 
 -- The guards fit their table, in which at most one is open, and the lane's entries.
 pub record GuardsFit (kept : List (Option Guard)) (open_guard : Option Guard) (gs : List (Option Guarded)) (es : List ℕ) : Type 0 where
@@ -137,7 +138,7 @@ pub record StandsFor (k : State) (settings : Settings) (h : History) : Type 0 wh
 pub record Served (resolved : Resolved) (settings : Settings) (h : History) (old new : Kept) (reply : Reply) : Type 0 where
   pub effect : Effect
   pub is : resolved ≡ Ok effect
-  pub reply_is : reply ≡ reply_to h effect
+  pub reply_is : reply ≡ effect.reply
   pub records : new.finished ≡ old.finished ++ records_of settings h effect
   pub stands : StandsFor new.state settings (h ++ effect ∷ [])
 

@@ -1,6 +1,7 @@
 //! What the names in requests stand for.
 ghost use Rattle.std.specs.Prelude.{◌≡◌, None, slice_set};
 ghost use Rattle.std.specs.List.{slice_index_or};
+ghost use Rattle.trace_pipeline.specs.Machine.{is_enabled};
 
 /// What a handle that isn't spent stands for; a handle is a `tracing::Span`.
 #[derive(Clone, Copy)]
@@ -18,6 +19,16 @@ pub struct Guard {
     pub handle: u64,
     /// What that handle stands for.
     pub entered: Handle,
+}
+
+/// Whether a handle stands for a span.
+pub fn is_enabled(handle: Handle) -> bool
+    ensures { result ≡ is_enabled handle }
+{
+    match handle {
+        Handle::Disabled => false,
+        Handle::Enabled { .. } => true,
+    }
 }
 
 /// What the handle with a number stands for, if it is there and isn't spent.

@@ -7,7 +7,7 @@ ghost use Rattle.trace_pipeline.specs.declared.settings.Settings.{Settings as Se
 ghost use Rattle.trace_pipeline.specs.declared.reply.Refusal.TheVariants.{Memory as NoMemory};
 
 use crate::events::{is_error, make_event};
-use crate::names::{Guard, Handle, guard_at, handle_at, spend};
+use crate::names::{Guard, Handle, guard_at, handle_at, is_enabled, spend};
 use crate::reply::{Refusal, Reply, What};
 use crate::request::{Call, Request};
 use crate::settings::Settings;
@@ -112,7 +112,7 @@ fn waits_for_guards(call: &Call) -> bool
 {
     match call {
         Call::New { .. } | Call::Enter { .. } => true,
-        Call::Drop { .. } | Call::Exit { .. } | Call::Event { .. } => false,
+        Call::Clone { .. } | Call::Drop { .. } | Call::Exit { .. } | Call::Event { .. } => false,
     }
 }
 
@@ -231,6 +231,7 @@ impl Pipeline {
     {
         match call {
             Call::New { site } => self.make(at, site),
+            Call::Clone { handle } => self.clone_handle(at, handle),
             Call::Drop { handle } => self.drop_handle(at, handle),
             Call::Enter { handle } => self.enter(at, handle),
             Call::Exit { guard } => self.exit(at, guard),
@@ -265,6 +266,26 @@ impl Pipeline {
                 handle,
             })
         }
+    }
+
+    fn clone_handle(&mut self, at: Moment, handle: u64) -> Result<Reply, Refusal>
+        ensures ok { (settings : SettingsValue) (h : History) → StandsFor self.old.state settings h → moment h ≤ at → at < 2 ^ 63
+            → IfOk result (Served (effect_of_call settings h at 0 (Call.Clone handle)) settings h self.old self.new) }
+        ensures refused { (settings : SettingsValue) (h : History) → StandsFor self.old.state settings h
+            → IfErr result (IsRefusal (effect_of_call settings h at 0 (Call.Clone handle))) }
+        ensures err { OnErr result (self.new ≡ self.old) }
+    {
+        let Some(cloned) = handle_at(&self.handles, handle) else {
+            return Err(Refusal::UnknownName { what: What::Handle });
+        };
+        let number = self.handles.len() as u64;
+        self.handles.push(Some(cloned))?;
+        self.spans.hold(cloned);
+        self.moment = at;
+        Ok(Reply::Made {
+            enabled: is_enabled(cloned),
+            handle: number,
+        })
     }
 
     fn drop_handle(&mut self, at: Moment, handle: u64) -> Result<Reply, Refusal>

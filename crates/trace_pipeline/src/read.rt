@@ -105,6 +105,7 @@ mod tests {
     fn parts(call: &Call) -> (&'static str, u64) {
         match call {
             Call::New { site } => ("new", *site),
+            Call::Clone { handle } => ("clone", *handle),
             Call::Drop { handle } => ("drop", *handle),
             Call::Enter { handle } => ("enter", *handle),
             Call::Exit { guard } => ("exit", *guard),
@@ -116,6 +117,11 @@ mod tests {
     fn reads_requests(rt: HostRuntime) -> Result<(), Fail> {
         for (line, at, call) in [
             (r#"{"at":2,"lane":0,"do":"new","site":4}"#, 2, ("new", 4)),
+            (
+                r#"{"at":3,"do":"clone","handle":2,"lane":0}"#,
+                3,
+                ("clone", 2),
+            ),
             (
                 r#"{"lane":0,"do":"drop","handle":1,"at":3}"#,
                 3,

@@ -6,6 +6,8 @@ use otel_base::record::Moment;
 pub enum Call {
     /// Makes a span of a callsite, and a handle of it; `tracing::Span::new`.
     New { site: u64 },
+    /// Makes a handle of what a handle stands for; `Clone` of a `tracing::Span`.
+    Clone { handle: u64 },
     /// Spends a handle; the drop of a `tracing::Span`.
     Drop { handle: u64 },
     /// Enters a handle's span, which makes a guard; `tracing::Span::enter`.

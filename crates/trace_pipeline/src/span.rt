@@ -1,6 +1,6 @@
 //! The state of one span.
 ghost use Rattle.std.specs.Prelude.{◌≡◌, false};
-ghost use Rattle.trace_pipeline.specs.Machine.{no_times, started_after, span_started, span_entered, span_exited, span_told};
+ghost use Rattle.trace_pipeline.specs.Machine.{no_times, started_after, span_started, span_entered, span_exited, span_told, span_held};
 
 use crate::times::Times;
 use otel_base::record::Moment;
@@ -54,6 +54,13 @@ impl Span {
         ensures { self.new ≡ span_entered at self.old }
     {
         self.times.enter(at);
+    }
+
+    /// Takes note of one handle more that holds it.
+    pub fn hold(&mut self)
+        ensures { self.new ≡ span_held self.old }
+    {
+        self.holds = self.holds.saturating_add(1);
     }
 
     /// Exits the span at a moment.

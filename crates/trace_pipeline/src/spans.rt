@@ -1,7 +1,7 @@
 //! All spans of a pipeline, by their numbers, and what requests do to them.
 ghost use Rattle.std.specs.Prelude.{◌≡◌, ◌++◌, ◌∷◌, ◌^◌, ◌<◌, [], Some, OnOk, OnErr, length, count_by};
 ghost use Rattle.trace_pipeline.specs.declared.names.Handle.TheVariants.{Enabled};
-ghost use Rattle.trace_pipeline.specs.Machine.{spans_entered, started_entered, spans_exited, spans_told, events_told, spans_dropped, started_dropped, events_dropped, records_dropped, IsShort, is_held};
+ghost use Rattle.trace_pipeline.specs.Machine.{spans_entered, started_entered, spans_exited, spans_held, spans_told, events_told, spans_dropped, started_dropped, events_dropped, records_dropped, IsShort, is_held};
 
 use crate::events::{add_event, take_events};
 use crate::finish::finished_record;
@@ -73,6 +73,19 @@ impl Spans {
             if let Some(span) = self.list.get_mut(number as usize) {
                 span.start(&mut self.started, at);
                 span.enter(at);
+            }
+        }
+    }
+
+    /// Takes note of one handle more of what a handle stands for.
+    pub fn hold(&mut self, handle: Handle)
+        ensures list { self.new.list.items ≡ spans_held handle self.old.list.items }
+        ensures events { self.new.events.items ≡ self.old.events.items }
+        ensures started { self.new.started ≡ self.old.started }
+    {
+        if let Handle::Enabled { span: number } = handle {
+            if let Some(span) = self.list.get_mut(number as usize) {
+                span.hold();
             }
         }
     }

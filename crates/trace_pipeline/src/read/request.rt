@@ -2,7 +2,7 @@
 ghost use Rattle.std.specs.Prelude.{◌≡◌};
 ghost use Rattle.trace_pipeline.specs.Gives.{Gives};
 ghost use Rattle.trace_pipeline.specs.Left.{left};
-ghost use Rattle.trace_pipeline.specs.RequestForm.{verb_word, new_form, drop_form, enter_form, exit_form, event_form, call_form, request_form};
+ghost use Rattle.trace_pipeline.specs.RequestForm.{verb_word, new_form, clone_form, drop_form, enter_form, exit_form, event_form, call_form, request_form};
 
 use crate::read::LineError;
 use crate::read::object::Object;
@@ -12,6 +12,7 @@ use crate::request::{Call, Request};
 #[derive(Clone, Copy)]
 pub(crate) enum Verb {
     New,
+    Clone,
     Drop,
     Enter,
     Exit,
@@ -23,6 +24,7 @@ fn verb_of(word: &str) -> Option<Verb>
 {
     match word {
         "new" => Some(Verb::New),
+        "clone" => Some(Verb::Clone),
         "drop" => Some(Verb::Drop),
         "enter" => Some(Verb::Enter),
         "exit" => Some(Verb::Exit),
@@ -37,6 +39,14 @@ fn new_call(object: &mut Object) -> Result<Call, LineError>
 {
     let site = object.whole("site")?;
     Ok(Call::New { site })
+}
+
+#[tactic(auto, unfolding(crate::specs::RequestForm::clone_form))]
+fn clone_call(object: &mut Object) -> Result<Call, LineError>
+    ensures { Gives (λ c. (c, left object.new)) result (clone_form (left object.old)) }
+{
+    let handle = object.whole("handle")?;
+    Ok(Call::Clone { handle })
 }
 
 #[tactic(auto, unfolding(crate::specs::RequestForm::drop_form))]
@@ -76,6 +86,7 @@ fn call(verb: Verb, object: &mut Object) -> Result<Call, LineError>
 {
     match verb {
         Verb::New => new_call(object),
+        Verb::Clone => clone_call(object),
         Verb::Drop => drop_call(object),
         Verb::Enter => enter_call(object),
         Verb::Exit => exit_call(object),

@@ -1,0 +1,139 @@
+-- One effect more: what stands for a history stands for it with the effect, whatever its kind.
+use Rattle.std.proofs.Common.{◌≡◌, ℕ, ◌+◌, ◌^◌, ◌<◌, List, [], ◌∷◌, ◌++◌, length, cond, Option, Some, None, option_map, map, slice_set, refl, sym, ap, subst, ◌∙◌, arith, inl, inr}
+use Rattle.std.proofs.lemmas.List.{map_push, map-set, length_push, get_or_push}
+use Rattle.std.proofs.lemmas.Bool.{cases_eq, cases_lt, eq-eqb}
+use Rattle.std.proofs.lemmas.List.{get_or_past}
+use Rattle.trace_pipeline.specs.declared.settings.Settings.{Settings}
+use Rattle.trace_pipeline.specs.History.{Line, Made, Guarded, Effect, History, with_new, without, slots_after, handles, guards, slot_at, made, made_of, place_in, started, entries, entries_by, entries_after}
+use Rattle.trace_pipeline.specs.Ops.{Stamped, ops, ops_in, events}
+use Rattle.trace_pipeline.specs.Stands.{State, Fits, SpansFit, EventsFit, GuardsFit, StandsFor, IsMade, handle_of, held, span_by}
+use Rattle.trace_pipeline.proofs.Slots.{named_push, named_set}
+use Rattle.trace_pipeline.proofs.Tables.{handles_push, guards_push, made_push, started_push, entries_push, moment_push, ops_push}
+use Rattle.trace_pipeline.proofs.Writing.{get_push_other}
+use Rattle.trace_pipeline.proofs.Effecting.{IsKnown, no_line, of_handle, of_guard, of_span, Names, no_name, another, new_root, IsStep}
+
+-- a name more and a name less, seen by a view
+slots_map : {A B : Type 0} (f : A → B) (xs : List (Option A)) (new : Option A) (spent : Option ℕ) → slots_after (map (option_map f) xs) (option_map f new) spent ≡ map (option_map f) (slots_after xs new spent)
+slots_map f xs new spent = without_map (with_new xs (option_map Some new)) (with_new (map (option_map f) xs) (option_map Some (option_map f new))) (new_map new) spent
+  where
+    new_map : (new : Option _) → with_new (map (option_map f) xs) (option_map Some (option_map f new)) ≡ map (option_map f) (with_new xs (option_map Some new))
+    new_map None = refl
+    new_map (Some x) = sym (map_push (option_map f) xs (Some x))
+
+    without_map : (ys : List (Option _)) (zs : List (Option _)) → zs ≡ map (option_map f) ys → (spent : Option ℕ) → without zs spent ≡ map (option_map f) (without ys spent)
+    without_map ys zs same None = same
+    without_map ys zs same (Some n) = ap (λ xs. slice_set xs n None) same ∙ sym (map-set (option_map f) ys n None)
+
+still_named : {A : Type 0} (slots : List (Option A)) (spent : Option ℕ) (n : ℕ) (x : A) → slot_at (without slots spent) n ≡ Some x → slot_at slots n ≡ Some x
+still_named slots None n x there = there
+still_named slots (Some k) n x there = named_set slots k n x there
+
+made_more : (n : ℕ) (line : Line) → IsMade n line → IsMade (n + 1) line
+made_more n [] h = h
+made_more n (s ∷ line) h = (omega (arith, h.0), h.1)
+
+-- the lines that were of made spans still are
+grows : (ms : List Made) (m : Option Made) (line : Line) → IsMade (length ms) line → IsMade (length (with_new ms m)) line
+grows ms None line is = is
+grows ms (Some m) line is = subst (λ n. IsMade n line) (sym (length_push ms m)) (made_more (length ms) line is)
+
+the_line : (a line : Line) → ◌≡◌ {A = Option Line} (Some a) (Some line) → a ≡ line
+the_line a line is = cc is
+
+module _ (k : State) (settings : Settings) (h : History) (stands : StandsFor k settings h) where
+  -- a known line is of a made span
+  pub known_made : (line : Line) → IsKnown h line → IsMade (length (made h)) line
+  known_made _ no_line = tt
+  known_made _ (of_handle n line there) = stands.fits.named n line there
+  known_made _ (of_guard n guarded there) = stands.fits.kept n guarded there
+  known_made _ (of_span s) = elim (cases_lt s (length (made h))) [
+    | inl below ↦ subst (IsMade (length (made h))) (sym (stands.fits.lines s below)) (below, refl)
+    | inr above ↦ subst (IsMade (length (made h))) (sym (ap (λ (m : Made). m.line) (get_or_past (made h) s (record { site = 0; line = []; at = 0 }) above))) tt
+  ]
+
+  names_made : (at : ℕ) (o : Option Line) (m : Option Made) → Names h at o m → (n : ℕ) (line : Line) → slot_at (with_new (handles h) (option_map Some o)) n ≡ Some line → IsMade (length (with_new (made h) m)) line
+  names_made at _ _ no_name n line there = stands.fits.named n line there
+  names_made at _ _ (another new known opened) n line there =
+      named_push (IsMade (length (made h))) (handles h) (Some new) stands.fits.named (λ line is. subst (IsMade (length (made h))) (the_line new line is) (known_made new known)) n line there
+  names_made at _ _ (new_root site) n line there =
+      let m : Made = record { site = site; line = length (made h) ∷ []; at = at } in
+      named_push (IsMade (length (made h ++ m ∷ []))) (handles h) (Some (length (made h) ∷ []))
+      (λ n line e. grows (made h) (Some m) line (stands.fits.named n line e))
+      (λ line is. subst (IsMade (length (made h ++ m ∷ []))) (the_line (length (made h) ∷ []) line is) (let n = length_push (made h) m in omega arith, refl)) n line there
+
+  guards_made : (new : Option Guarded) → ((g : Guarded) → new ≡ Some g → IsKnown h g.line) → (n : ℕ) (g : Guarded) → slot_at (with_new (guards h) (option_map Some new)) n ≡ Some g → IsMade (length (made h)) g.line
+  guards_made None known n g there = stands.fits.kept n g there
+  guards_made (Some new) known n g there = named_push (λ (g : Guarded). IsMade (length (made h)) g.line) (guards h) (Some new) stands.fits.kept (λ g is. known_made g.line (known g (ap_some g is))) n g there
+    where
+      ap_some : (g : Guarded) → ◌≡◌ {A = Option Guarded} (Some new) (Some g) → ◌≡◌ {A = Option Guarded} (Some new) (Some g)
+      ap_some g is = is
+
+  lines_made : (at : ℕ) (o : Option Line) (m : Option Made) → Names h at o m → (s : ℕ) → s < length (with_new (made h) m) → (made_of (with_new (made h) m) s).line ≡ s ∷ []
+  lines_made at _ _ no_name s within = stands.fits.lines s within
+  lines_made at _ _ (another new known opened) s within = stands.fits.lines s within
+  lines_made at _ _ (new_root site) s within =
+      let m : Made = record { site = site; line = length (made h) ∷ []; at = at } in
+      elim (cases_eq s (length (made h))) [
+        | inl same ↦ ap (λ (m : Made). m.line) (get_or_push (made h) m (record { site = 0; line = []; at = 0 }) s (sym same)) ∙ ap (λ n. n ∷ []) (sym same)
+        | inr other ↦ ap (λ (m : Made). m.line) (get_push_other (made h) m _ s other) ∙ stands.fits.lines s (let n = length_push (made h) m in omega (arith, other, within, n))
+      ]
+
+  module _ (next : State) (e : Effect) (step : IsStep h e) (first : e.lane ≡ 0) (early : e.at < 2 ^ 63) where
+    -- what the spans, the events and the guards fit after the effect
+    abbrev pub SpansFitAfter : Type 0
+    SpansFitAfter = SpansFit next.spans next.started (with_new (made h) e.made) (started h ++ e.starts) (held (slots_after (handles h) e.new_handle e.spent_handle)) (λ s. ops h s ++ ops_in s e) e.at
+        (length (slots_after (guards h) e.new_guard e.spent_guard))
+
+    abbrev pub EventsFitAfter : Type 0
+    EventsFitAfter = EventsFit next.events (length (with_new (made h) e.made)) (held (slots_after (handles h) e.new_handle e.spent_handle)) (λ s. ops h s ++ ops_in s e)
+
+    abbrev pub GuardsFitAfter : Type 0
+    GuardsFitAfter = GuardsFit next.guards next.open_guard (slots_after (guards h) e.new_guard e.spent_guard) (entries_by (entries h 0) e.entry e.exit)
+
+    fits_step : next.handles ≡ slots_after k.handles (option_map handle_of e.new_handle) e.spent_handle → next.moment ≡ e.at → GuardsFitAfter → SpansFitAfter → EventsFitAfter
+        → Fits next (slots_after (handles h) e.new_handle e.spent_handle) (slots_after (guards h) e.new_guard e.spent_guard) (with_new (made h) e.made) (started h ++ e.starts) (λ s. ops h s ++ ops_in s e) (entries_by (entries h 0) e.entry e.exit) e.at
+    fits_step names_are moment_is guards_are spans_are events_are = record {
+      handle_slots = names_are ∙ ap (λ xs. slots_after xs (option_map handle_of e.new_handle) e.spent_handle) stands.fits.handle_slots ∙ slots_map handle_of (handles h) e.new_handle e.spent_handle;
+      guards_fit = guards_are;
+      spans_fit = spans_are;
+      events_fit = events_are;
+      latest = moment_is;
+      named = λ n line there. names_made e.at e.new_handle e.made step.names n line (still_named (with_new (handles h) (option_map Some e.new_handle)) e.spent_handle n line there);
+      kept = λ n g there. grows (made h) e.made g.line (guards_made e.new_guard step.guard_line n g (still_named (with_new (guards h) (option_map Some e.new_guard)) e.spent_guard n g there));
+      lines = lines_made e.at e.new_handle e.made step.names;
+      early = early;
+    }
+
+    -- the tables may give each span's ops in another way
+    fits_same : (hs : List (Option Line)) (gs : List (Option Guarded)) (ms : List Made) (order : List ℕ) (os ps : ℕ → List Stamped) (es : List ℕ) (last : ℕ) → ((s : ℕ) → os s ≡ ps s) → Fits next hs gs ms order os es last → Fits next hs gs ms order ps es last
+    fits_same hs gs ms order os ps es last same fits = record {
+      handle_slots = fits.handle_slots;
+      guards_fit = fits.guards_fit;
+      spans_fit = record {
+        count = fits.spans_fit.count;
+        each = λ s. fits.spans_fit.each s ∙ ap (span_by (made_of ms s) (place_in order s) (held hs s)) (same s);
+        starts = fits.spans_fit.starts;
+        placed = fits.spans_fit.placed;
+        timed = fits.spans_fit.timed;
+        unmade = λ s past. sym (same s) ∙ fits.spans_fit.unmade s past;
+      };
+      events_fit = record { count = fits.events_fit.count; each = λ s held. fits.events_fit.each s held ∙ ap events (same s) };
+      latest = fits.latest;
+      named = fits.named;
+      kept = fits.kept;
+      lines = fits.lines;
+      early = fits.early;
+    }
+
+    in_lane : entries_after 0 (entries h 0) e ≡ entries_by (entries h 0) e.entry e.exit
+    in_lane = ap (λ b. cond b (entries_by (entries h 0) e.entry e.exit) (entries h 0)) (eq-eqb e.lane 0 first)
+
+    -- What is kept stands for one effect more, if its names are those that the effect leaves, and its guards, spans and events fit.
+    pub stands_step : next.settings ≡ k.settings → next.in_force ≡ k.in_force → next.handles ≡ slots_after k.handles (option_map handle_of e.new_handle) e.spent_handle → next.moment ≡ e.at
+        → GuardsFitAfter → SpansFitAfter → EventsFitAfter → StandsFor next settings (h ++ e ∷ [])
+    stands_step same force names_are moment_is guards_are spans_are events_are = record {
+      settings_kept = same ∙ stands.settings_kept;
+      filter_kept = force ∙ stands.filter_kept;
+      fits = rw (handles_push h e, guards_push h e, made_push h e, started_push h e, entries_push h e ∙ in_lane, moment_push h e)
+          (fits_same _ _ _ _ (λ s. ops h s ++ ops_in s e) (ops (h ++ e ∷ [])) _ _ (λ s. sym (ops_push h e s)) (fits_step names_are moment_is guards_are spans_are events_are));
+    }
