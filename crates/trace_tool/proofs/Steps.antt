@@ -11,8 +11,8 @@ use Rattle.trace_pipeline.specs.declared.reply.Reply.{Reply}
 use Rattle.trace_pipeline.specs.declared.reply.Refusal.{Refusal}
 use Rattle.trace_pipeline.specs.declared.reply.Told.{Told}
 use Rattle.trace_pipeline.specs.declared.reply.Told.TheVariants as told
-use Rattle.trace_pipeline.specs.History.{History, Effect, closed, closed_in}
-use Rattle.trace_pipeline.specs.Effects.{effect_of, reply_to}
+use Rattle.trace_pipeline.specs.History.{History, Effect, closed}
+use Rattle.trace_pipeline.specs.Effects.{effect_of}
 use Rattle.trace_pipeline.specs.Content.{record_of, records_of}
 use Rattle.trace_pipeline.specs.Lines.{is_blank}
 use Rattle.trace_pipeline.specs.Spelled.{settings_spelled, request_spelled}
@@ -41,8 +41,8 @@ stepped settings h text request effect is does = rw (is, does) refl
 
 closed_more : (settings : Settings) (h : History) (e : Effect) → length (closed (h ++ e ∷ [])) ≡ length (closed h) + length (records_of settings h e)
 closed_more settings h e =
-    let parts : closed (h ++ e ∷ []) ≡ closed h ++ (closed_in e.did ++ []) = flat_map-append (λ (x : Effect). closed_in x.did) h (e ∷ []) in
-    rw (parts, append-nil (closed_in e.did), length-append (closed h) (closed_in e.did), length-map (closed_in e.did) (record_of settings (h ++ e ∷ []) e.at)) refl
+    let parts : closed (h ++ e ∷ []) ≡ closed h ++ (e.closes ++ []) = flat_map-append (λ (x : Effect). x.closes) h (e ∷ []) in
+    rw (parts, append-nil e.closes, length-append (closed h) e.closes, length-map e.closes (record_of settings (h ++ e ∷ []) e.at)) refl
 
 -- a request that is answered
 pub answered : (settings : Settings) (h : History) (text old mid new : List ℕ) (line records counted : ℕ) (before after kept : Kept) (reply : Reply)
@@ -58,8 +58,8 @@ answered settings h text old mid new line records counted before after kept repl
       written = recorded
           ∙ ap (λ (m : List ℕ). m ++ record_lines (records + 1) after.finished) (replied ∙ ap (λ (r : Reply). old ++ reply_text line r) a.reply_is)
           ∙ append_assoc old _ _
-          ∙ ap (λ (f : List Record). old ++ (reply_text line (reply_to h a.effect) ++ record_lines (records + 1) f)) finished
-          ∙ ap (λ (n : ℕ). old ++ (reply_text line (reply_to h a.effect) ++ record_lines (n + 1) (records_of settings h a.effect))) between.counted;
+          ∙ ap (λ (f : List Record). old ++ (reply_text line a.effect.reply ++ record_lines (records + 1) f)) finished
+          ∙ ap (λ (n : ℕ). old ++ (reply_text line a.effect.reply ++ record_lines (n + 1) (records_of settings h a.effect))) between.counted;
       between = record {
         stands = subst (λ (k : State). StandsFor k settings (h ++ a.effect ∷ [])) (sym state) a.stands;
         taken = taken;
