@@ -8,9 +8,10 @@ use Rattle.otel_base.specs.declared.record.Record.{Record}
 use Rattle.trace_base.specs.declared.callsite.Callsite.{Callsite}
 use Rattle.trace_pipeline.specs.declared.names.Handle.TheVariants.{Enabled}
 use Rattle.trace_pipeline.specs.declared.span.Span.{Span}
-use Rattle.trace_pipeline.specs.History.{Line, Start, Made, Guarded, slot_at, made_of, place_in, newly, holds, is_in, is_open, closed_of}
+use Rattle.trace_pipeline.specs.History.{Line, Start, Made, slot_at, made_of, place_in, newly, holds, is_in, is_open, closed_of}
 use Rattle.trace_pipeline.specs.Ops.{Stamped, events}
 use Rattle.trace_pipeline.specs.Content.{content}
+use Rattle.trace_pipeline.specs.Tables.{Tables}
 use Rattle.trace_pipeline.specs.Machine.{no_span, span_at, span_started, started_after, span_closed, spans_dropped, started_dropped, events_dropped, events_at, records_dropped, record_by, name_at, is_last, closes, IsShort, idle_by}
 use Rattle.trace_pipeline.specs.Stands.{State, Fits, SpansFit, EventsFit, has_error, held, IsMade, IsTimed, handle_of, span_by, times_of, is_started}
 use Rattle.trace_pipeline.proofs.Slots.{named_within, any_counted}
@@ -72,58 +73,58 @@ module _ (spans : List Span) (started : ℕ) (ms : List Made) (order : List ℕ)
       starts.starts (ap (λ (span : Span). started_after started (span_at spans s) + cond (is_started span) 1 0) read) (subst (λ (span : Span). IsTimed span.times at guards) read (starts.timed s)) (omega arith) (omega arith) in
       subst (λ xs. SpansFit xs (started_after started (span_at spans s)) ms (order ++ fresh) after (dropped_ops os at fresh) at guards) (set-set spans s first x) written
 
-module _ (k : State) (hs : List (Option Line)) (gs : List (Option Guarded)) (ms : List Made) (order : List ℕ) (os : ℕ → List Stamped) (es : List ℕ) (last at handle : ℕ)
-    (fits : Fits k hs gs ms order os es last) (before : last ≤ at) (early : at < 2 ^ 63) (short : length k.spans < 2 ^ 64) where
+module _ (k : State) (now : Tables) (at handle : ℕ)
+    (fits : Fits k now) (before : now.moment ≤ at) (early : at < 2 ^ 63) (short : length k.spans < 2 ^ 64) where
   left : List (Option Line)
-  left = slice_set hs handle None
+  left = slice_set now.handles handle None
 
   -- what the spans fit after the drop of a line's handle
   abbrev DroppedSpans : Line → Type 0
-  DroppedSpans line = SpansFit (spans_dropped k.started at (handle_of line) k.spans) (started_dropped k.started (handle_of line) k.spans) ms (order ++ newly order (closed_of (slice_set hs handle None) line))
-      (held (slice_set hs handle None)) (dropped_ops os at (newly order (closed_of (slice_set hs handle None) line))) at (length gs)
+  DroppedSpans line = SpansFit (spans_dropped k.started at (handle_of line) k.spans) (started_dropped k.started (handle_of line) k.spans) now.made (now.started ++ newly now.started (closed_of (slice_set now.handles handle None) line))
+      (held (slice_set now.handles handle None)) (dropped_ops now.ops at (newly now.started (closed_of (slice_set now.handles handle None) line))) at (length now.guards)
 
-  one_less : (s : ℕ) → slot_at hs handle ≡ Some (s ∷ []) → held (slice_set hs handle None) s + 1 ≡ held hs s
-  one_less s there = ap (λ b. held (slice_set hs handle None) s + cond (b || false) 1 0) (sym (eq-eqb s s refl)) ∙ held_set hs handle (s ∷ []) s there
+  one_less : (s : ℕ) → slot_at now.handles handle ≡ Some (s ∷ []) → held (slice_set now.handles handle None) s + 1 ≡ held now.handles s
+  one_less s there = ap (λ b. held (slice_set now.handles handle None) s + cond (b || false) 1 0) (sym (eq-eqb s s refl)) ∙ held_set now.handles handle (s ∷ []) s there
 
-  same_others : (s : ℕ) → slot_at hs handle ≡ Some (s ∷ []) → (t : ℕ) → t ≢ s → held (slice_set hs handle None) t ≡ held hs t
+  same_others : (s : ℕ) → slot_at now.handles handle ≡ Some (s ∷ []) → (t : ℕ) → t ≢ s → held (slice_set now.handles handle None) t ≡ held now.handles t
   same_others s there t other =
-      let change = held_set hs handle (s ∷ []) t there in
+      let change = held_set now.handles handle (s ∷ []) t there in
       let none = ap (λ b. cond {A = ℕ} (b || false) 1 0) (ne_eqb s t (λ e. other (sym e))) in
       omega (arith, change, none)
 
-  holds_are : (s : ℕ) → (span_at k.spans s).holds ≡ held hs s
+  holds_are : (s : ℕ) → (span_at k.spans s).holds ≡ held now.handles s
   holds_are s = ap (λ (span : Span). span.holds) (fits.spans_fit.each s)
 
-  dropped_one : (s : ℕ) → s < length ms → slot_at hs handle ≡ Some (s ∷ []) → DroppedSpans (s ∷ [])
+  dropped_one : (s : ℕ) → s < length now.made → slot_at now.handles handle ≡ Some (s ∷ []) → DroppedSpans (s ∷ [])
   dropped_one s within there =
-      let open_now = any_counted (holds s) (slice_set hs handle None) in
+      let open_now = any_counted (holds s) (slice_set now.handles handle None) in
       let less = one_less s there in
       let were = holds_are s in
       let inside : s < length k.spans = (let n = fits.spans_fit.count in omega arith) in
-      elim (cases_eq (held (slice_set hs handle None) s) 0) [
+      elim (cases_eq (held (slice_set now.handles handle None) s) 0) [
         | inl none ↦
             (let last_one : is_last (span_at k.spans s) ≡ true = lt-ltb _ 2 (omega (arith, less, were, none)) in
-            let shut : is_open (slice_set hs handle None) s ≡ false = open_now ∙ ap (nat_lt 0) none in
+            let shut : is_open (slice_set now.handles handle None) s ≡ false = open_now ∙ ap (nat_lt 0) none in
             rw (last_one, shut, lt-ltb s (length k.spans) inside)
-            (closes_fit k.spans k.started ms order (held hs) (held (slice_set hs handle None)) os last at (length gs) s fits.spans_fit within before early short less (same_others s there) none))
+            (closes_fit k.spans k.started now.made now.started (held now.handles) (held (slice_set now.handles handle None)) now.ops now.moment at (length now.guards) s fits.spans_fit within before early short less (same_others s there) none))
         | inr some ↦
             (let not_last : is_last (span_at k.spans s) ≡ false = le-ltb _ 2 (omega (arith, less, were, some)) in
-            let still : is_open (slice_set hs handle None) s ≡ true = open_now ∙ lt-ltb 0 _ (omega (arith, some)) in
+            let still : is_open (slice_set now.handles handle None) s ≡ true = open_now ∙ lt-ltb 0 _ (omega (arith, some)) in
             rw (not_last, still, lt-ltb s (length k.spans) inside)
-            (stays_fit k.spans k.started ms order (held hs) (held (slice_set hs handle None)) os last at (length gs) s fits.spans_fit within before early short less (same_others s there)))
+            (stays_fit k.spans k.started now.made now.started (held now.handles) (held (slice_set now.handles handle None)) now.ops now.moment at (length now.guards) s fits.spans_fit within before early short less (same_others s there)))
       ]
 
-  pub dropped_line : (line : Line) → IsMade (length ms) line → slot_at hs handle ≡ Some line → DroppedSpans line
+  pub dropped_line : (line : Line) → IsMade (length now.made) line → slot_at now.handles handle ≡ Some line → DroppedSpans line
   dropped_line [] made there =
-      let fit = later_spans k.spans k.started ms order (held hs) os last at (length gs) fits.spans_fit before in
-      rw (append-nil order) record {
+      let fit = later_spans k.spans k.started now.made now.started (held now.handles) now.ops now.moment at (length now.guards) fits.spans_fit before in
+      rw (append-nil now.started) record {
         count = fit.count;
-        each = λ t. fit.each t ∙ ap (λ n. span_by (made_of ms t) (place_in order t) n (os t)) (let change = held_set hs handle [] t there in omega (arith, change))
-            ∙ ap (span_by (made_of ms t) (place_in order t) (held (slice_set hs handle None) t)) (sym (append-nil (os t)));
+        each = λ t. fit.each t ∙ ap (λ n. span_by (made_of now.made t) (place_in now.started t) n (now.ops t)) (let change = held_set now.handles handle [] t there in omega (arith, change))
+            ∙ ap (span_by (made_of now.made t) (place_in now.started t) (held (slice_set now.handles handle None) t)) (sym (append-nil (now.ops t)));
         starts = fit.starts;
         placed = fit.placed;
         timed = fit.timed;
-        unmade = λ t past. append-nil (os t) ∙ fit.unmade t past;
+        unmade = λ t past. append-nil (now.ops t) ∙ fit.unmade t past;
       }
   dropped_line (s ∷ line) made there =
       subst (λ rest. DroppedSpans (s ∷ rest)) (sym made.1) (dropped_one s made.0 (there ∙ ap (λ (rest : Line). Some (s ∷ rest)) made.1))
@@ -133,19 +134,19 @@ module _ (k : State) (hs : List (Option Line)) (gs : List (Option Guarded)) (ms 
   and_false false = refl
 
   -- a span that some handle still holds doesn't close
-  still_held : (s : ℕ) (line : Line) → IsMade (length ms) (s ∷ line) → slot_at hs handle ≡ Some (s ∷ line) → 0 < held (slice_set hs handle None) s → closes s k.spans ≡ false
+  still_held : (s : ℕ) (line : Line) → IsMade (length now.made) (s ∷ line) → slot_at now.handles handle ≡ Some (s ∷ line) → 0 < held (slice_set now.handles handle None) s → closes s k.spans ≡ false
   still_held s line made there some =
       let less = one_less s (there ∙ ap (λ (rest : Line). Some (s ∷ rest)) made.1) in
       let were = holds_are s in
       ap (λ b. nat_lt s (length k.spans) && b) (le-ltb (span_at k.spans s).holds 2 (omega (arith, less, were, some))) ∙ and_false (nat_lt s (length k.spans))
 
   -- the events of the spans that some handle still holds stay
-  pub dropped_events : (line : Line) → IsMade (length ms) line → slot_at hs handle ≡ Some line
-      → EventsFit (events_dropped (handle_of line) k.spans k.events) (length ms) (held (slice_set hs handle None)) (dropped_ops os at (newly order (closed_of (slice_set hs handle None) line)))
+  pub dropped_events : (line : Line) → IsMade (length now.made) line → slot_at now.handles handle ≡ Some line
+      → EventsFit (events_dropped (handle_of line) k.spans k.events) (length now.made) (held (slice_set now.handles handle None)) (dropped_ops now.ops at (newly now.started (closed_of (slice_set now.handles handle None) line)))
   dropped_events line made there = record {
     count = by_count line ∙ fits.events_fit.count;
-    each = λ t some. by_line line made there t some ∙ sym (quiet (os t) _ (ap events (append-nil (cond (is_in t (newly order (closed_of (slice_set hs handle None) line))) (record { at = at; op = Start } ∷ []) []))
-        ∙ quiet_if (is_in t (newly order (closed_of (slice_set hs handle None) line))) (record { at = at; op = Start }) refl));
+    each = λ t some. by_line line made there t some ∙ sym (quiet (now.ops t) _ (ap events (append-nil (cond (is_in t (newly now.started (closed_of (slice_set now.handles handle None) line))) (record { at = at; op = Start } ∷ []) []))
+        ∙ quiet_if (is_in t (newly now.started (closed_of (slice_set now.handles handle None) line))) (record { at = at; op = Start }) refl));
   }
     where
       count_if : (b : Bool) (s : ℕ) → length (cond b (slice_set k.events s []) k.events) ≡ length k.events
@@ -160,62 +161,62 @@ module _ (k : State) (hs : List (Option Line)) (gs : List (Option Guarded)) (ms 
       other_if true s t other = get_or-set_other k.events s t [] [] other
       other_if false s t other = refl
 
-      by_line : (line : Line) → IsMade (length ms) line → slot_at hs handle ≡ Some line → (t : ℕ) → 0 < held (slice_set hs handle None) t → events_at (events_dropped (handle_of line) k.spans k.events) t ≡ events (os t)
-      by_line [] made there t some = fits.events_fit.each t (let change = held_set hs handle [] t there in omega (arith, change))
+      by_line : (line : Line) → IsMade (length now.made) line → slot_at now.handles handle ≡ Some line → (t : ℕ) → 0 < held (slice_set now.handles handle None) t → events_at (events_dropped (handle_of line) k.spans k.events) t ≡ events (now.ops t)
+      by_line [] made there t some = fits.events_fit.each t (let change = held_set now.handles handle [] t there in omega (arith, change))
       by_line (s ∷ line) made there t some = elim (cases_eq t s) [
-        | inl same ↦ (let kept = still_held s line made there (subst (λ n. 0 < held (slice_set hs handle None) n) same some) in
+        | inl same ↦ (let kept = still_held s line made there (subst (λ n. 0 < held (slice_set now.handles handle None) n) same some) in
             ap (λ (xs : List (List OtelEvent)). events_at xs t) (ap (λ b. cond b (slice_set k.events s []) k.events) kept)
-            ∙ fits.events_fit.each t (let change = held_set hs handle (s ∷ line) t there in omega (arith, change)))
-        | inr other ↦ other_if (closes s k.spans) s t other ∙ fits.events_fit.each t (let change = held_set hs handle (s ∷ line) t there in omega (arith, change))
+            ∙ fits.events_fit.each t (let change = held_set now.handles handle (s ∷ line) t there in omega (arith, change)))
+        | inr other ↦ other_if (closes s k.spans) s t other ∙ fits.events_fit.each t (let change = held_set now.handles handle (s ∷ line) t there in omega (arith, change))
       ]
 
   -- ---- the record
 
   -- the record of a span by the tables after the drop
   abbrev record_after : List Callsite → List ℕ → ℕ → Record
-  record_after callsites starts t = content (name_at callsites (made_of ms t).site) (made_of ms t).at (place_in (order ++ starts) t) (dropped_ops os at starts t) at
+  record_after callsites starts t = content (name_at callsites (made_of now.made t).site) (made_of now.made t).at (place_in (now.started ++ starts) t) (dropped_ops now.ops at starts t) at
 
-  record_one : (callsites : List Callsite) (s : ℕ) → s < length ms → slot_at hs handle ≡ Some (s ∷ [])
-      → records_dropped callsites k.started at (Enabled s) k.spans k.events ≡ map (record_after callsites (newly order (closed_of (slice_set hs handle None) (s ∷ [])))) (closed_of (slice_set hs handle None) (s ∷ []))
+  record_one : (callsites : List Callsite) (s : ℕ) → s < length now.made → slot_at now.handles handle ≡ Some (s ∷ [])
+      → records_dropped callsites k.started at (Enabled s) k.spans k.events ≡ map (record_after callsites (newly now.started (closed_of (slice_set now.handles handle None) (s ∷ [])))) (closed_of (slice_set now.handles handle None) (s ∷ []))
   record_one callsites s within there =
-      let open_now = any_counted (holds s) (slice_set hs handle None) in
+      let open_now = any_counted (holds s) (slice_set now.handles handle None) in
       let less = one_less s there in
       let were = holds_are s in
       let inside : s < length k.spans = (let n = fits.spans_fit.count in omega arith) in
-      elim (cases_eq (held (slice_set hs handle None) s) 0) [
+      elim (cases_eq (held (slice_set now.handles handle None) s) 0) [
         | inl none ↦
             (let last_one : is_last (span_at k.spans s) ≡ true = lt-ltb _ 2 (omega (arith, less, were, none)) in
-            let shut : is_open (slice_set hs handle None) s ≡ false = open_now ∙ ap (nat_lt 0) none in
-            let fit = closes_fit k.spans k.started ms order (held hs) (held (slice_set hs handle None)) os last at (length gs) s fits.spans_fit within before early short less (same_others s there) none in
+            let shut : is_open (slice_set now.handles handle None) s ≡ false = open_now ∙ ap (nat_lt 0) none in
+            let fit = closes_fit k.spans k.started now.made now.started (held now.handles) (held (slice_set now.handles handle None)) now.ops now.moment at (length now.guards) s fits.spans_fit within before early short less (same_others s there) none in
             let mine = sym (get_or-set_same k.spans s (span_closed k.started at (span_at k.spans s)) no_span inside) ∙ fit.each s in
             let site = ap (λ (span : Span). span.site) (fits.spans_fit.each s) in
-            let fresh = newly order (s ∷ []) in
-            let after_close = span_by (made_of ms s) (place_in (order ++ fresh) s) (held (slice_set hs handle None) s) (dropped_ops os at fresh s) in
-            let told = fits.events_fit.each s (omega (arith, less, none)) ∙ sym (quiet (os s) _ (ap events (append-nil (cond (is_in s fresh) (record { at = at; op = Start } ∷ []) [])) ∙ quiet_if (is_in s fresh) (record { at = at; op = Start }) refl)) in
+            let fresh = newly now.started (s ∷ []) in
+            let after_close = span_by (made_of now.made s) (place_in (now.started ++ fresh) s) (held (slice_set now.handles handle None) s) (dropped_ops now.ops at fresh s) in
+            let told = fits.events_fit.each s (omega (arith, less, none)) ∙ sym (quiet (now.ops s) _ (ap events (append-nil (cond (is_in s fresh) (record { at = at; op = Start } ∷ []) [])) ∙ quiet_if (is_in s fresh) (record { at = at; op = Start }) refl)) in
             rw (last_one, shut, lt-ltb s (length k.spans) inside)
             (ap (λ n. record_by (name_at callsites n) (span_closed k.started at (span_at k.spans s)) (events_at k.events s) at ∷ []) site
-            ∙ ap (λ span. record_by (name_at callsites (made_of ms s).site) span (events_at k.events s) at ∷ []) mine
-            ∙ ap (λ (told : List OtelEvent). record_by (name_at callsites (made_of ms s).site) after_close told at ∷ []) told
-            ∙ ap (λ (v : Status). record (content (name_at callsites (made_of ms s).site) (made_of ms s).at (place_in (order ++ fresh) s) (dropped_ops os at fresh s) at) { status = v } ∷ []) (sym (status_is (dropped_ops os at fresh s)))))
+            ∙ ap (λ span. record_by (name_at callsites (made_of now.made s).site) span (events_at k.events s) at ∷ []) mine
+            ∙ ap (λ (told : List OtelEvent). record_by (name_at callsites (made_of now.made s).site) after_close told at ∷ []) told
+            ∙ ap (λ (v : Status). record (content (name_at callsites (made_of now.made s).site) (made_of now.made s).at (place_in (now.started ++ fresh) s) (dropped_ops now.ops at fresh s) at) { status = v } ∷ []) (sym (status_is (dropped_ops now.ops at fresh s)))))
         | inr some ↦
             (let not_last : is_last (span_at k.spans s) ≡ false = le-ltb _ 2 (omega (arith, less, were, some)) in
-            let still : is_open (slice_set hs handle None) s ≡ true = open_now ∙ lt-ltb 0 _ (omega (arith, some)) in
+            let still : is_open (slice_set now.handles handle None) s ≡ true = open_now ∙ lt-ltb 0 _ (omega (arith, some)) in
             rw (not_last, still, lt-ltb s (length k.spans) inside) refl)
       ]
 
   -- the records that the code makes are those of the spans that close
-  pub records_after : (callsites : List Callsite) (line : Line) → slot_at hs handle ≡ Some line
-      → records_dropped callsites k.started at (handle_of line) k.spans k.events ≡ map (record_after callsites (newly order (closed_of (slice_set hs handle None) line))) (closed_of (slice_set hs handle None) line)
+  pub records_after : (callsites : List Callsite) (line : Line) → slot_at now.handles handle ≡ Some line
+      → records_dropped callsites k.started at (handle_of line) k.spans k.events ≡ map (record_after callsites (newly now.started (closed_of (slice_set now.handles handle None) line))) (closed_of (slice_set now.handles handle None) line)
   records_after callsites line there = by_line line (fits.named handle line there) there
     where
-      by_line : (line : Line) → IsMade (length ms) line → slot_at hs handle ≡ Some line
-          → records_dropped callsites k.started at (handle_of line) k.spans k.events ≡ map (record_after callsites (newly order (closed_of (slice_set hs handle None) line))) (closed_of (slice_set hs handle None) line)
+      by_line : (line : Line) → IsMade (length now.made) line → slot_at now.handles handle ≡ Some line
+          → records_dropped callsites k.started at (handle_of line) k.spans k.events ≡ map (record_after callsites (newly now.started (closed_of (slice_set now.handles handle None) line))) (closed_of (slice_set now.handles handle None) line)
       by_line [] made there = refl
       by_line (s ∷ line) made there =
-          subst (λ (rest : Line). records_dropped callsites k.started at (Enabled s) k.spans k.events ≡ map (record_after callsites (newly order (closed_of (slice_set hs handle None) (s ∷ rest)))) (closed_of (slice_set hs handle None) (s ∷ rest)))
+          subst (λ (rest : Line). records_dropped callsites k.started at (Enabled s) k.spans k.events ≡ map (record_after callsites (newly now.started (closed_of (slice_set now.handles handle None) (s ∷ rest)))) (closed_of (slice_set now.handles handle None) (s ∷ rest)))
           (sym made.1) (record_one callsites s made.0 (there ∙ ap (λ (rest : Line). Some (s ∷ rest)) made.1))
 
-  idle_short : (span : Span) → IsTimed span.times at (length gs) → idle_by span < 2 ^ 63
+  idle_short : (span : Span) → IsTimed span.times at (length now.guards) → idle_by span < 2 ^ 63
   idle_short span timed = by_left span.made span.times.busy span.times.left (omega (arith, timed.left_in, timed.last_in))
     where
       by_left : (made busy : ℕ) (left : Option ℕ) → unwrap_or left 0 < 2 ^ 63 → option_map_or (λ end. end - made - busy) left 0 < 2 ^ 63
@@ -223,14 +224,14 @@ module _ (k : State) (hs : List (Option Line)) (gs : List (Option Guarded)) (ms 
       by_left made busy (Some end) below = omega arith
 
   -- the times of a record fit its attributes
-  pub short_times : (line : Line) → slot_at hs handle ≡ Some line → IsShort k.started at (handle_of line) k.spans
+  pub short_times : (line : Line) → slot_at now.handles handle ≡ Some line → IsShort k.started at (handle_of line) k.spans
   short_times line there = by_line line (fits.named handle line there)
     where
-      by_line : (line : Line) → IsMade (length ms) line → IsShort k.started at (handle_of line) k.spans
+      by_line : (line : Line) → IsMade (length now.made) line → IsShort k.started at (handle_of line) k.spans
       by_line [] made = tt
       by_line (s ∷ line) made =
           let first = span_started k.started at (span_at k.spans s) in
-          let starts = started_fit k.spans k.started ms order (held hs) os last at (length gs) s fits.spans_fit made.0 before early short in
+          let starts = started_fit k.spans k.started now.made now.started (held now.handles) now.ops now.moment at (length now.guards) s fits.spans_fit made.0 before early short in
           let inside : s < length k.spans = (let n = fits.spans_fit.count in omega (arith, made.0)) in
-          let timed = subst (λ (span : Span). IsTimed span.times at (length gs)) (get_or-set_same k.spans s first no_span inside) (starts.timed s) in
+          let timed = subst (λ (span : Span). IsTimed span.times at (length now.guards)) (get_or-set_same k.spans s first no_span inside) (starts.timed s) in
           (omega (arith, timed.busy_in, timed.last_in), idle_short (span_closed k.started at (span_at k.spans s)) timed)

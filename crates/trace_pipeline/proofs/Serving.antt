@@ -11,6 +11,7 @@ use Rattle.trace_pipeline.specs.declared.request.Call.TheVariants as call
 use Rattle.trace_pipeline.specs.declared.reply.Reply.{Reply}
 use Rattle.trace_pipeline.specs.declared.reply.Reply.TheVariants as reply
 use Rattle.trace_pipeline.specs.Content.{records_of}
+use Rattle.trace_pipeline.specs.Tables.{tables}
 use Rattle.trace_pipeline.specs.declared.reply.Refusal.TheVariants.{InUse}
 use Rattle.trace_pipeline.specs.declared.names.Guard.{Guard}
 use Rattle.trace_pipeline.specs.declared.names.Handle.{Handle}
@@ -172,9 +173,15 @@ module _ (kept old : Kept) (same : kept ≡ old) (settings : Settings) (h : Hist
   pub serves_declined : (site : ℕ) (callsite : Callsite) → span_site kept.state.settings.callsites site ≡ Some callsite → is_within callsite.level kept.state.in_force ≡ false
       → Served (effect_of_call settings h at 0 (call.New site)) settings h old (with_handle kept at Disabled) (reply.Made false (length kept.state.handles))
   serves_declined site callsite found refused = serves _ (declines h at 0) _ _ (rw (span_there site callsite found, let_through callsite false refused) refl) (ap (reply.Made false) (handle_count kept.state settings h here)) no_records
-      (stands_step kept.state settings h here _ (declines h at 0) (declines_step h at 0 before) refl early refl refl refl refl here.fits.guards_fit
-      (quiet_spans _ (held_disabled (handles h)))
-      (unchanged_events kept.state.events (length (made h)) (held (handles h)) _ (ops h) here.fits.events_fit (λ s some. let same = held_disabled (handles h) s in omega (arith, same, some))))
+      (stands_step kept.state settings h here _ (declines h at 0) (declines_step h at 0 before) early record {
+        settings_stay = refl;
+        filter_stays = refl;
+        handles_are = refl;
+        moment_is = refl;
+        guards_are = here.fits.guards_fit;
+        spans_are = quiet_spans _ (held_disabled (handles h));
+        events_are = unchanged_events kept.state.events (length (made h)) (held (handles h)) _ (ops h) here.fits.events_fit (λ s some. let same = held_disabled (handles h) s in omega (arith, same, some));
+      })
 
   pub serves_cloned : (handle : ℕ) (d : Handle) → slot_at kept.state.handles handle ≡ Some d → length kept.state.handles + 1 < 2 ^ 64
       → Served (effect_of_call settings h at 0 (call.Clone handle)) settings h old (with_handle kept at d) (reply.Made (is_enabled d) (length kept.state.handles))
@@ -183,16 +190,28 @@ module _ (kept old : Kept) (same : kept ≡ old) (settings : Settings) (h : Hist
       let count = handle_count kept.state settings h here in
       subst (λ (d : Handle). Served (effect_of_call settings h at 0 (call.Clone handle)) settings h old (with_handle kept at d) (reply.Made (is_enabled d) (length kept.state.handles))) (sym found.is)
       (serves _ (clones h at 0 found.line) _ _ (rw found.there refl) (ap (reply.Made (is_enabled (handle_of found.line))) count ∙ ap (λ b. reply.Made b (length (handles h))) (enabled_line found.line)) no_records
-      (stands_step kept.state settings h here _ (clones h at 0 found.line) (clones_step h at 0 before handle found.line found.there) refl early refl refl refl refl here.fits.guards_fit
-      (cloned_spans kept.state.spans kept.state.started (made h) (started h) (handles h) (ops h) (moment h) at (length (guards h)) found.line (here.fits.named handle found.line found.there) here.fits.spans_fit before (omega (arith, count, few)))
-      (cloned_events kept.state.events (length (made h)) (handles h) (ops h) handle found.line found.there here.fits.events_fit)))
+      (stands_step kept.state settings h here _ (clones h at 0 found.line) (clones_step h at 0 before handle found.line found.there) early record {
+        settings_stay = refl;
+        filter_stays = refl;
+        handles_are = refl;
+        moment_is = refl;
+        guards_are = here.fits.guards_fit;
+        spans_are = cloned_spans kept.state.spans kept.state.started (made h) (started h) (handles h) (ops h) (moment h) at (length (guards h)) found.line (here.fits.named handle found.line found.there) here.fits.spans_fit before (omega (arith, count, few));
+        events_are = cloned_events kept.state.events (length (made h)) (handles h) (ops h) handle found.line found.there here.fits.events_fit;
+      }))
 
   pub serves_made : (site : ℕ) (callsite : Callsite) → span_site kept.state.settings.callsites site ≡ Some callsite → is_within callsite.level kept.state.in_force ≡ true
       → Served (effect_of_call settings h at 0 (call.New site)) settings h old (with_span kept at site) (reply.Made true (length kept.state.handles))
   serves_made site callsite found admitted = serves _ (makes_root h at 0 site) _ _ (rw (span_there site callsite found, let_through callsite true admitted) refl) (ap (reply.Made true) (handle_count kept.state settings h here)) no_records
-      (stands_step kept.state settings h here _ (makes_root h at 0 site) (makes_step h at 0 before site) refl early refl refl (ap (λ n. kept.state.handles ++ Some (Enabled n) ∷ []) here.fits.spans_fit.count) refl here.fits.guards_fit
-      (made_spans kept.state.spans kept.state.started (made h) (started h) (handles h) (ops h) (moment h) at (length (guards h)) _ here.fits.spans_fit before)
-      (made_events kept.state.events (made h) (handles h) (ops h) _ here.fits.spans_fit.unmade here.fits.events_fit))
+      (stands_step kept.state settings h here _ (makes_root h at 0 site) (makes_step h at 0 before site) early record {
+        settings_stay = refl;
+        filter_stays = refl;
+        handles_are = ap (λ n. kept.state.handles ++ Some (Enabled n) ∷ []) here.fits.spans_fit.count;
+        moment_is = refl;
+        guards_are = here.fits.guards_fit;
+        spans_are = made_spans kept.state.spans kept.state.started (made h) (started h) (handles h) (ops h) (moment h) at (length (guards h)) _ here.fits.spans_fit before;
+        events_are = made_events kept.state.events (made h) (handles h) (ops h) _ here.fits.spans_fit.unmade here.fits.events_fit;
+      })
 
   -- the open guard speaks for all
   pub unborrowed : (handle : ℕ) → is_borrowed_by kept.state.open_guard handle ≡ false → is_borrowed (guards h) handle ≡ false
@@ -206,11 +225,16 @@ module _ (kept old : Kept) (same : kept ≡ old) (settings : Settings) (h : Hist
       let count = guards_count kept.state settings h here in
       subst (λ (d : Handle). Served (effect_of_call settings h at 0 (call.Enter handle)) settings h old (with_entry kept at handle d) (reply.Guard (length kept.state.guards))) (sym found.is)
       (serves _ (enters h at 0 handle found.line) _ _ (rw found.there refl) (ap reply.Guard count) no_records
-      (stands_step kept.state settings h here _ (enters h at 0 handle found.line) (enters_step h at 0 before handle found.line found.there) refl early refl refl refl refl
-      (entered_guards kept.state.guards kept.state.open_guard (guards h) (entries h 0) (record { handle = handle; line = found.line }) here.fits.guards_fit none)
-      (rw (length_push (guards h) (Some (record { handle = handle; line = found.line })))
-      (entered_line kept.state.spans kept.state.started (made h) (started h) (held (handles h)) (ops h) (moment h) at (length (guards h)) found.line (here.fits.named handle found.line found.there) here.fits.spans_fit before early (omega (arith, count, few)) short))
-      (quiet_ops kept.state.events (length (made h)) (held (handles h)) (ops h) at (newly (started h) (option_to_list (own found.line))) found.line (record { at = at; op = Enter }) refl here.fits.events_fit)))
+      (stands_step kept.state settings h here _ (enters h at 0 handle found.line) (enters_step h at 0 before handle found.line found.there) early record {
+        settings_stay = refl;
+        filter_stays = refl;
+        handles_are = refl;
+        moment_is = refl;
+        guards_are = entered_guards kept.state.guards kept.state.open_guard (guards h) (entries h 0) (record { handle = handle; line = found.line }) here.fits.guards_fit none;
+        spans_are = rw (length_push (guards h) (Some (record { handle = handle; line = found.line })))
+            (entered_line kept.state.spans kept.state.started (made h) (started h) (held (handles h)) (ops h) (moment h) at (length (guards h)) found.line (here.fits.named handle found.line found.there) here.fits.spans_fit before early (omega (arith, count, few)) short);
+        events_are = quiet_ops kept.state.events (length (made h)) (held (handles h)) (ops h) at (newly (started h) (option_to_list (own found.line))) found.line (record { at = at; op = Enter }) refl here.fits.events_fit;
+      }))
 
   pub serves_exited : (guard : ℕ) (g : Guard) → slot_at kept.state.guards guard ≡ Some g
       → Served (effect_of_call settings h at 0 (call.Exit guard)) settings h old (with_exit kept at guard g.entered) reply.Done
@@ -219,11 +243,16 @@ module _ (kept old : Kept) (same : kept ≡ old) (settings : Settings) (h : Hist
       let line = found.guarded.line in
       subst (λ (g : Guard). Served (effect_of_call settings h at 0 (call.Exit guard)) settings h old (with_exit kept at guard g.entered) reply.Done) (sym found.is)
       (serves _ (exits at 0 guard line) _ _ (rw found.there refl) refl no_records
-      (stands_step kept.state settings h here _ (exits at 0 guard line) (exits_step h at 0 before guard found.guarded found.there) refl early refl refl refl refl
-      (exited_guards kept.state.guards kept.state.open_guard (guards h) (entries h 0) guard found.guarded here.fits.guards_fit found.there)
-      (rw (append-nil (started h), length-set (guards h) guard None)
-      (exited_line kept.state.spans kept.state.started (made h) (started h) (held (handles h)) (ops h) (moment h) at (length (guards h)) line (here.fits.kept guard found.guarded found.there) here.fits.spans_fit before early))
-      (quiet_ops kept.state.events (length (made h)) (held (handles h)) (ops h) at [] line (record { at = at; op = Exit }) refl here.fits.events_fit)))
+      (stands_step kept.state settings h here _ (exits at 0 guard line) (exits_step h at 0 before guard found.guarded found.there) early record {
+        settings_stay = refl;
+        filter_stays = refl;
+        handles_are = refl;
+        moment_is = refl;
+        guards_are = exited_guards kept.state.guards kept.state.open_guard (guards h) (entries h 0) guard found.guarded here.fits.guards_fit found.there;
+        spans_are = rw (append-nil (started h), length-set (guards h) guard None)
+            (exited_line kept.state.spans kept.state.started (made h) (started h) (held (handles h)) (ops h) (moment h) at (length (guards h)) line (here.fits.kept guard found.guarded found.there) here.fits.spans_fit before early);
+        events_are = quiet_ops kept.state.events (length (made h)) (held (handles h)) (ops h) at [] line (record { at = at; op = Exit }) refl here.fits.events_fit;
+      }))
 
   pub serves_dropped : (handle : ℕ) (d : Handle) (finished : List Record) → slot_at kept.state.handles handle ≡ Some d → is_borrowed_by kept.state.open_guard handle ≡ false → length kept.state.spans < 2 ^ 64
       → (IsShort kept.state.started at d kept.state.spans → finished ≡ kept.finished ++ records_dropped kept.state.settings.callsites kept.state.started at d kept.state.spans kept.state.events)
@@ -232,18 +261,24 @@ module _ (kept old : Kept) (same : kept ≡ old) (settings : Settings) (h : Hist
       let found = line_there handle d there in
       let line = found.line in
       let e = drops h at 0 handle line in
-      let times = short_times kept.state (handles h) (guards h) (made h) (started h) (ops h) (entries h 0) (moment h) at handle here.fits before early short line found.there in
+      let times = short_times kept.state (tables h) at handle here.fits before early short line found.there in
       let all = records (subst (λ (d : Handle). IsShort kept.state.started at d kept.state.spans) (sym found.is) times)
       ∙ ap (λ (d : Handle). kept.finished ++ records_dropped kept.state.settings.callsites kept.state.started at d kept.state.spans kept.state.events) found.is
       ∙ ap (λ (s : Settings). kept.finished ++ records_dropped s.callsites kept.state.started at (handle_of line) kept.state.spans kept.state.events) here.settings_kept
       ∙ ap (λ more. kept.finished ++ more)
-      (records_after kept.state (handles h) (guards h) (made h) (started h) (ops h) (entries h 0) (moment h) at handle here.fits before early short settings.callsites line found.there
+      (records_after kept.state (tables h) at handle here.fits before early short settings.callsites line found.there
       ∙ map_same _ _ _ (λ s. rw (made_push h e, started_push h e, ops_push h e s) refl)) in
       subst (λ (d : Handle). Served (effect_of_call settings h at 0 (call.Drop handle)) settings h old (without_handle kept at handle d finished) reply.Done) (sym found.is)
       (serves _ e _ _ (rw (found.there, unborrowed handle free) refl) refl all
-      (stands_step kept.state settings h here _ e (drops_step h at 0 before handle line found.there) refl early refl refl refl refl here.fits.guards_fit
-      (dropped_line kept.state (handles h) (guards h) (made h) (started h) (ops h) (entries h 0) (moment h) at handle here.fits before early short line (here.fits.named handle line found.there) found.there)
-      (dropped_events kept.state (handles h) (guards h) (made h) (started h) (ops h) (entries h 0) (moment h) at handle here.fits before early short line (here.fits.named handle line found.there) found.there)))
+      (stands_step kept.state settings h here _ e (drops_step h at 0 before handle line found.there) early record {
+        settings_stay = refl;
+        filter_stays = refl;
+        handles_are = refl;
+        moment_is = refl;
+        guards_are = here.fits.guards_fit;
+        spans_are = dropped_line kept.state (tables h) at handle here.fits before early short line (here.fits.named handle line found.there) found.there;
+        events_are = dropped_events kept.state (tables h) at handle here.fits before early short line (here.fits.named handle line found.there) found.there;
+      }))
 
   now_current : (handle_of (current_line h 0) ≡ current_of kept.state.open_guard) × IsMade (length (made h)) (current_line h 0)
   now_current =
@@ -260,19 +295,31 @@ module _ (kept old : Kept) (same : kept ≡ old) (settings : Settings) (h : Hist
       let e = tells_to at 0 callsite line in
       subst (λ (d : Handle). Served (effect_of_call settings h at 0 (call.Event site)) settings h old (with_event kept at callsite d) (reply.Enabled true)) now_current.0
       (serves _ e _ _ (rw (event_there site callsite found, let_through callsite true admitted) refl) refl no_records
-      (stands_step kept.state settings h here _ e (tells_step h at 0 before callsite) refl early refl refl refl refl here.fits.guards_fit
-      (rw (append-nil (started h))
-      (told_line kept.state.spans kept.state.started (made h) (started h) (held (handles h)) (ops h) (moment h) at (length (guards h)) (is_error_level callsite.level) (event_of callsite at) line now_current.1 here.fits.spans_fit before early))
-      (told_events kept.state.events (length (made h)) (held (handles h)) (ops h) at (is_error_level callsite.level) (event_of callsite at) line now_current.1 here.fits.events_fit)))
+      (stands_step kept.state settings h here _ e (tells_step h at 0 before callsite) early record {
+        settings_stay = refl;
+        filter_stays = refl;
+        handles_are = refl;
+        moment_is = refl;
+        guards_are = here.fits.guards_fit;
+        spans_are = rw (append-nil (started h))
+            (told_line kept.state.spans kept.state.started (made h) (started h) (held (handles h)) (ops h) (moment h) at (length (guards h)) (is_error_level callsite.level) (event_of callsite at) line now_current.1 here.fits.spans_fit before early);
+        events_are = told_events kept.state.events (length (made h)) (held (handles h)) (ops h) at (is_error_level callsite.level) (event_of callsite at) line now_current.1 here.fits.events_fit;
+      }))
 
   pub serves_ignored : (site : ℕ) (callsite : Callsite) → event_site kept.state.settings.callsites site ≡ Some callsite → is_within callsite.level kept.state.in_force ≡ false
       → Served (effect_of_call settings h at 0 (call.Event site)) settings h old (passed kept at) (reply.Enabled false)
   serves_ignored site callsite found refused =
       let e = quiet at 0 (reply.Enabled false) in
       serves _ e _ _ (rw (event_there site callsite found, let_through callsite false refused) refl) refl no_records
-      (stands_step kept.state settings h here _ e (quiet_step h at 0 before (reply.Enabled false)) refl early refl refl refl refl here.fits.guards_fit
-      (quiet_spans (held (handles h)) (λ s. refl))
-      (unchanged_events kept.state.events (length (made h)) (held (handles h)) (held (handles h)) (ops h) here.fits.events_fit (λ s some. some)))
+      (stands_step kept.state settings h here _ e (quiet_step h at 0 before (reply.Enabled false)) early record {
+        settings_stay = refl;
+        filter_stays = refl;
+        handles_are = refl;
+        moment_is = refl;
+        guards_are = here.fits.guards_fit;
+        spans_are = quiet_spans (held (handles h)) (λ s. refl);
+        events_are = unchanged_events kept.state.events (length (made h)) (held (handles h)) (held (handles h)) (ops h) here.fits.events_fit (λ s some. some);
+      })
 
 -- a handle that the open guard names isn't dropped
 pub in_use : (kept old : Kept) → kept ≡ old → (settings : Settings) (h : History) (at : ℕ) → StandsFor old.state settings h → (handle : ℕ) (d : Handle) → slot_at kept.state.handles handle ≡ Some d → is_borrowed_by kept.state.open_guard handle ≡ true

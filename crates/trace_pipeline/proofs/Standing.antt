@@ -1,14 +1,14 @@
 -- One effect more: what stands for a history stands for it with the effect, whatever its kind.
-use Rattle.std.proofs.Common.{◌≡◌, ℕ, ◌+◌, ◌^◌, ◌<◌, List, [], ◌∷◌, ◌++◌, length, cond, Option, Some, None, option_map, map, slice_set, refl, sym, ap, subst, ◌∙◌, arith, inl, inr}
+use Rattle.std.proofs.Common.{◌≡◌, ℕ, ◌+◌, ◌^◌, ◌<◌, List, [], ◌∷◌, ◌++◌, length, Option, Some, None, option_map, map, slice_set, refl, sym, ap, subst, ◌∙◌, arith, inl, inr}
 use Rattle.std.proofs.lemmas.List.{map_push, map-set, length_push, get_or_push}
-use Rattle.std.proofs.lemmas.Bool.{cases_eq, cases_lt, eq-eqb}
+use Rattle.std.proofs.lemmas.Bool.{cases_eq, cases_lt}
 use Rattle.std.proofs.lemmas.List.{get_or_past}
 use Rattle.trace_pipeline.specs.declared.settings.Settings.{Settings}
-use Rattle.trace_pipeline.specs.History.{Line, Made, Guarded, Effect, History, with_new, without, slots_after, handles, guards, slot_at, made, made_of, place_in, started, entries, entries_by, entries_after}
-use Rattle.trace_pipeline.specs.Ops.{Stamped, ops, ops_in, events}
-use Rattle.trace_pipeline.specs.Stands.{State, Fits, SpansFit, EventsFit, GuardsFit, StandsFor, IsMade, handle_of, held, span_by}
+use Rattle.trace_pipeline.specs.History.{Line, Made, Guarded, Effect, History, with_new, without, slots_after, handles, guards, slot_at, made, made_of}
+use Rattle.trace_pipeline.specs.Stands.{State, Fits, SpansFit, EventsFit, GuardsFit, StandsFor, IsMade, handle_of, held}
 use Rattle.trace_pipeline.proofs.Slots.{named_push, named_set}
-use Rattle.trace_pipeline.proofs.Tables.{handles_push, guards_push, made_push, started_push, entries_push, moment_push, ops_push}
+use Rattle.trace_pipeline.specs.Tables.{tables, after}
+use Rattle.trace_pipeline.proofs.Tables.{tables_push}
 use Rattle.trace_pipeline.proofs.Writing.{get_push_other}
 use Rattle.trace_pipeline.proofs.Effecting.{IsKnown, no_line, of_handle, of_guard, of_span, Names, no_name, another, new_root, IsStep}
 
@@ -39,6 +39,16 @@ grows ms (Some m) line is = subst (λ n. IsMade n line) (sym (length_push ms m))
 
 the_line : (a line : Line) → ◌≡◌ {A = Option Line} (Some a) (Some line) → a ≡ line
 the_line a line is = cc is
+
+-- what an effect leaves: the settings and the filter, its handles and its moment, and guards, spans and events that fit
+pub record Leaves (k : State) (h : History) (e : Effect) (next : State) : Type 0 where
+  pub settings_stay : next.settings ≡ k.settings
+  pub filter_stays : next.in_force ≡ k.in_force
+  pub handles_are : next.handles ≡ slots_after k.handles (option_map handle_of e.new_handle) e.spent_handle
+  pub moment_is : next.moment ≡ e.at
+  pub guards_are : GuardsFit next.guards next.open_guard (after (tables h) e).guards ((after (tables h) e).entries 0)
+  pub spans_are : SpansFit next.spans next.started (after (tables h) e).made (after (tables h) e).started (held (after (tables h) e).handles) (after (tables h) e).ops e.at (length (after (tables h) e).guards)
+  pub events_are : EventsFit next.events (length (after (tables h) e).made) (held (after (tables h) e).handles) (after (tables h) e).ops
 
 module _ (k : State) (settings : Settings) (h : History) (stands : StandsFor k settings h) where
   -- a known line is of a made span
@@ -78,62 +88,20 @@ module _ (k : State) (settings : Settings) (h : History) (stands : StandsFor k s
         | inr other ↦ ap (λ (m : Made). m.line) (get_push_other (made h) m _ s other) ∙ stands.fits.lines s (let n = length_push (made h) m in omega (arith, other, within, n))
       ]
 
-  module _ (next : State) (e : Effect) (step : IsStep h e) (first : e.lane ≡ 0) (early : e.at < 2 ^ 63) where
-    -- what the spans, the events and the guards fit after the effect
-    abbrev pub SpansFitAfter : Type 0
-    SpansFitAfter = SpansFit next.spans next.started (with_new (made h) e.made) (started h ++ e.starts) (held (slots_after (handles h) e.new_handle e.spent_handle)) (λ s. ops h s ++ ops_in s e) e.at
-        (length (slots_after (guards h) e.new_guard e.spent_guard))
-
-    abbrev pub EventsFitAfter : Type 0
-    EventsFitAfter = EventsFit next.events (length (with_new (made h) e.made)) (held (slots_after (handles h) e.new_handle e.spent_handle)) (λ s. ops h s ++ ops_in s e)
-
-    abbrev pub GuardsFitAfter : Type 0
-    GuardsFitAfter = GuardsFit next.guards next.open_guard (slots_after (guards h) e.new_guard e.spent_guard) (entries_by (entries h 0) e.entry e.exit)
-
-    fits_step : next.handles ≡ slots_after k.handles (option_map handle_of e.new_handle) e.spent_handle → next.moment ≡ e.at → GuardsFitAfter → SpansFitAfter → EventsFitAfter
-        → Fits next (slots_after (handles h) e.new_handle e.spent_handle) (slots_after (guards h) e.new_guard e.spent_guard) (with_new (made h) e.made) (started h ++ e.starts) (λ s. ops h s ++ ops_in s e) (entries_by (entries h 0) e.entry e.exit) e.at
-    fits_step names_are moment_is guards_are spans_are events_are = record {
-      handle_slots = names_are ∙ ap (λ xs. slots_after xs (option_map handle_of e.new_handle) e.spent_handle) stands.fits.handle_slots ∙ slots_map handle_of (handles h) e.new_handle e.spent_handle;
-      guards_fit = guards_are;
-      spans_fit = spans_are;
-      events_fit = events_are;
-      latest = moment_is;
+  -- What is kept stands for one effect more, if it is what the effect leaves.
+  pub stands_step : (next : State) (e : Effect) → IsStep h e → e.at < 2 ^ 63 → Leaves k h e next → StandsFor next settings (h ++ e ∷ [])
+  stands_step next e step early leaves = record {
+    settings_kept = leaves.settings_stay ∙ stands.settings_kept;
+    filter_kept = leaves.filter_stays ∙ stands.filter_kept;
+    fits = subst (Fits next) (sym (tables_push h e)) record {
+      handle_slots = leaves.handles_are ∙ ap (λ xs. slots_after xs (option_map handle_of e.new_handle) e.spent_handle) stands.fits.handle_slots ∙ slots_map handle_of (handles h) e.new_handle e.spent_handle;
+      guards_fit = leaves.guards_are;
+      spans_fit = leaves.spans_are;
+      events_fit = leaves.events_are;
+      latest = leaves.moment_is;
       named = λ n line there. names_made e.at e.new_handle e.made step.names n line (still_named (with_new (handles h) (option_map Some e.new_handle)) e.spent_handle n line there);
       kept = λ n g there. grows (made h) e.made g.line (guards_made e.new_guard step.guard_line n g (still_named (with_new (guards h) (option_map Some e.new_guard)) e.spent_guard n g there));
       lines = lines_made e.at e.new_handle e.made step.names;
       early = early;
-    }
-
-    -- the tables may give each span's ops in another way
-    fits_same : (hs : List (Option Line)) (gs : List (Option Guarded)) (ms : List Made) (order : List ℕ) (os ps : ℕ → List Stamped) (es : List ℕ) (last : ℕ) → ((s : ℕ) → os s ≡ ps s) → Fits next hs gs ms order os es last → Fits next hs gs ms order ps es last
-    fits_same hs gs ms order os ps es last same fits = record {
-      handle_slots = fits.handle_slots;
-      guards_fit = fits.guards_fit;
-      spans_fit = record {
-        count = fits.spans_fit.count;
-        each = λ s. fits.spans_fit.each s ∙ ap (span_by (made_of ms s) (place_in order s) (held hs s)) (same s);
-        starts = fits.spans_fit.starts;
-        placed = fits.spans_fit.placed;
-        timed = fits.spans_fit.timed;
-        unmade = λ s past. sym (same s) ∙ fits.spans_fit.unmade s past;
-      };
-      events_fit = record { count = fits.events_fit.count; each = λ s held. fits.events_fit.each s held ∙ ap events (same s) };
-      latest = fits.latest;
-      named = fits.named;
-      kept = fits.kept;
-      lines = fits.lines;
-      early = fits.early;
-    }
-
-    in_lane : entries_after 0 (entries h 0) e ≡ entries_by (entries h 0) e.entry e.exit
-    in_lane = ap (λ b. cond b (entries_by (entries h 0) e.entry e.exit) (entries h 0)) (eq-eqb e.lane 0 first)
-
-    -- What is kept stands for one effect more, if its names are those that the effect leaves, and its guards, spans and events fit.
-    pub stands_step : next.settings ≡ k.settings → next.in_force ≡ k.in_force → next.handles ≡ slots_after k.handles (option_map handle_of e.new_handle) e.spent_handle → next.moment ≡ e.at
-        → GuardsFitAfter → SpansFitAfter → EventsFitAfter → StandsFor next settings (h ++ e ∷ [])
-    stands_step same force names_are moment_is guards_are spans_are events_are = record {
-      settings_kept = same ∙ stands.settings_kept;
-      filter_kept = force ∙ stands.filter_kept;
-      fits = rw (handles_push h e, guards_push h e, made_push h e, started_push h e, entries_push h e ∙ in_lane, moment_push h e)
-          (fits_same _ _ _ _ (λ s. ops h s ++ ops_in s e) (ops (h ++ e ∷ [])) _ _ (λ s. sym (ops_push h e s)) (fits_step names_are moment_is guards_are spans_are events_are));
-    }
+    };
+  }

@@ -10,6 +10,7 @@ pub mod Spelled
 pub mod History
 pub mod Effects
 pub mod Ops
+pub mod Tables
 pub mod Content
 pub mod Hex
 pub mod Object

@@ -18,8 +18,9 @@ use Rattle.trace_pipeline.specs.declared.reply.Refusal.{Refusal}
 use Rattle.trace_pipeline.specs.declared.reply.Refusal.TheVariants.{Memory}
 use Rattle.trace_pipeline.specs.Effects.{Resolved, in_force, effect_of}
 use Rattle.trace_pipeline.specs.Content.{records_of}
-use Rattle.trace_pipeline.specs.History.{Line, Made, Guarded, Effect, History, handles, guards, slot_at, made, made_of, started, place_in, moment, holds, own, entries}
-use Rattle.trace_pipeline.specs.Ops.{Stamped, ops, entered_after, busy, last_exit, events, is_error_event}
+use Rattle.trace_pipeline.specs.Tables.{Tables, tables}
+use Rattle.trace_pipeline.specs.History.{Line, Made, Guarded, Effect, History, slot_at, made_of, place_in, holds, own}
+use Rattle.trace_pipeline.specs.Ops.{Stamped, entered_after, busy, last_exit, events, is_error_event}
 
 -- what is kept, but for the finished records
 pub record State : Type 0 where
@@ -114,24 +115,24 @@ pub record GuardsFit (kept : List (Option Guard)) (open_guard : Option Guard) (g
 abbrev pub held : List (Option Line) → ℕ → ℕ
 held hs s = count_by (holds s) hs
 
--- What is kept fits the tables of a history: its handles, guards, makings, starts, ops, entries and last moment.
-pub record Fits (k : State) (hs : List (Option Line)) (gs : List (Option Guarded)) (ms : List Made) (order : List ℕ) (os : ℕ → List Stamped) (es : List ℕ) (last : ℕ) : Type 0 where
-  pub handle_slots : k.handles ≡ map (option_map handle_of) hs
-  pub guards_fit : GuardsFit k.guards k.open_guard gs es
-  pub spans_fit : SpansFit k.spans k.started ms order (held hs) os last (length gs)
-  pub events_fit : EventsFit k.events (length ms) (held hs) os
-  pub latest : k.moment ≡ last
+-- What is kept fits the tables of a history.
+pub record Fits (k : State) (t : Tables) : Type 0 where
+  pub handle_slots : k.handles ≡ map (option_map handle_of) t.handles
+  pub guards_fit : GuardsFit k.guards k.open_guard t.guards (t.entries 0)
+  pub spans_fit : SpansFit k.spans k.started t.made t.started (held t.handles) t.ops t.moment (length t.guards)
+  pub events_fit : EventsFit k.events (length t.made) (held t.handles) t.ops
+  pub latest : k.moment ≡ t.moment
   -- facts of each history that lead here
-  pub named : (n : ℕ) (line : Line) → slot_at hs n ≡ Some line → IsMade (length ms) line
-  pub kept : (n : ℕ) (guarded : Guarded) → slot_at gs n ≡ Some guarded → IsMade (length ms) guarded.line
-  pub lines : (s : ℕ) → s < length ms → (made_of ms s).line ≡ s ∷ []
-  pub early : last < 2 ^ 63
+  pub named : (n : ℕ) (line : Line) → slot_at t.handles n ≡ Some line → IsMade (length t.made) line
+  pub kept : (n : ℕ) (guarded : Guarded) → slot_at t.guards n ≡ Some guarded → IsMade (length t.made) guarded.line
+  pub lines : (s : ℕ) → s < length t.made → (made_of t.made s).line ≡ s ∷ []
+  pub early : t.moment < 2 ^ 63
 
 -- the state stands for settings and the effects of the requests so far
 pub record StandsFor (k : State) (settings : Settings) (h : History) : Type 0 where
   pub settings_kept : k.settings ≡ settings
   pub filter_kept : k.in_force ≡ in_force settings
-  pub fits : Fits k (handles h) (guards h) (made h) (started h) (ops h) (entries h 0) (moment h)
+  pub fits : Fits k (tables h)
 
 -- A reply is served where the request has an effect: the reply and the new records are the effect's, and the
 -- state stands for one effect more.
