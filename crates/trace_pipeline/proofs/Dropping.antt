@@ -6,6 +6,7 @@ use Rattle.std.proofs.lemmas.List.{length-set, get_or-set_same, set-set, append-
 use Rattle.std.proofs.lemmas.Bool.{cases_eq, eq-eqb, ne_eqb, lt-ltb, le-ltb}
 use Rattle.otel_base.specs.declared.record.Record.{Record}
 use Rattle.trace_base.specs.declared.callsite.Callsite.{Callsite}
+use Rattle.trace_pipeline.specs.declared.request.TheConstants.{LAST_MOMENT}
 use Rattle.trace_pipeline.specs.declared.names.Handle.TheVariants.{Enabled}
 use Rattle.trace_pipeline.specs.declared.span.Span.{Span}
 use Rattle.trace_pipeline.specs.History.{Line, Start, Made, slot_at, made_of, place_in, newly, holds, is_in, is_open, closed_of}
@@ -35,7 +36,7 @@ dropped_ops os at starts t = os t ++ (cond (is_in t starts) (record { at = at; o
 
 -- The spans after a drop of a span's handle, in the terms of the tables.
 module _ (spans : List Span) (started : ℕ) (ms : List Made) (order : List ℕ) (below after : ℕ → ℕ) (os : ℕ → List Stamped) (last at guards s : ℕ)
-    (fit : SpansFit spans started ms order below os last guards) (within : s < length ms) (before : last ≤ at) (early : at < 2 ^ 63) (short : length spans < 2 ^ 64)
+    (fit : SpansFit spans started ms order below os last guards) (within : s < length ms) (before : last ≤ at) (early : at ≤ LAST_MOMENT) (short : length spans < 2 ^ 64)
     (here : after s + 1 ≡ below s) (others : (t : ℕ) → t ≢ s → after t ≡ below t) where
   inside : s < length spans
   inside = let n = fit.count in omega arith
@@ -74,7 +75,7 @@ module _ (spans : List Span) (started : ℕ) (ms : List Made) (order : List ℕ)
       subst (λ xs. SpansFit xs (started_after started (span_at spans s)) ms (order ++ fresh) after (dropped_ops os at fresh) at guards) (set-set spans s first x) written
 
 module _ (k : State) (now : Tables) (at handle : ℕ)
-    (fits : Fits k now) (before : now.moment ≤ at) (early : at < 2 ^ 63) (short : length k.spans < 2 ^ 64) where
+    (fits : Fits k now) (before : now.moment ≤ at) (early : at ≤ LAST_MOMENT) (short : length k.spans < 2 ^ 64) where
   left : List (Option Line)
   left = slice_set now.handles handle None
 
@@ -216,10 +217,10 @@ module _ (k : State) (now : Tables) (at handle : ℕ)
           subst (λ (rest : Line). records_dropped callsites k.started at (Enabled s) k.spans k.events ≡ map (record_after callsites (newly now.started (closed_of (slice_set now.handles handle None) (s ∷ rest)))) (closed_of (slice_set now.handles handle None) (s ∷ rest)))
           (sym made.1) (record_one callsites s made.0 (there ∙ ap (λ (rest : Line). Some (s ∷ rest)) made.1))
 
-  idle_short : (span : Span) → IsTimed span.times at (length now.guards) → idle_by span < 2 ^ 63
+  idle_short : (span : Span) → IsTimed span.times at (length now.guards) → idle_by span ≤ LAST_MOMENT
   idle_short span timed = by_left span.made span.times.busy span.times.left (omega (arith, timed.left_in, timed.last_in))
     where
-      by_left : (made busy : ℕ) (left : Option ℕ) → unwrap_or left 0 < 2 ^ 63 → option_map_or (λ end. end - made - busy) left 0 < 2 ^ 63
+      by_left : (made busy : ℕ) (left : Option ℕ) → unwrap_or left 0 ≤ LAST_MOMENT → option_map_or (λ end. end - made - busy) left 0 ≤ LAST_MOMENT
       by_left made busy None below = omega arith
       by_left made busy (Some end) below = omega arith
 

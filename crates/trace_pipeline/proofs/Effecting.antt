@@ -101,7 +101,7 @@ module _ (h : History) (at lane : ℕ) (later : moment h ≤ at) where
     ops_spared = λ s unknown. own_ops s at line _ (unknown line (of_handle handle line there));
   }
     where
-      the_guard : (guarded : Guarded) → ◌≡◌ {A = Option Guarded} (Some (record { handle = handle; line = line })) (Some guarded) → record { handle = handle; line = line } ≡ guarded
+      the_guard : (guarded : Guarded) → ◌≡◌ {A = Option Guarded} (Some (record { handle = handle; lane = lane; line = line })) (Some guarded) → record { handle = handle; lane = lane; line = line } ≡ guarded
       the_guard guarded is = cc is
 
   pub exited : (guard : ℕ) (guarded : Guarded) → slot_at (guards h) guard ≡ Some guarded → IsStep h (exits at lane guard guarded.line)
@@ -172,7 +172,7 @@ module _ (settings : Settings) (h : History) where
   by_call : (at lane : ℕ) (call : Call) (e : Effect) → moment h ≤ at → effect_of_call settings h at lane call ≡ Ok e → IsStep h e
   by_call at lane (New site) e later is =
       let there = found what.Site (span_site settings.callsites site) _ e is in
-      subst (IsStep h) (the_effect _ e there.2) (if_both h at lane later (admits settings there.0) _ _ (made_root h at lane later site) (declined h at lane later))
+      subst (IsStep h) (the_effect _ e there.2) (if_both h at lane later (admits settings h lane there.0) _ _ (made_root h at lane later site) (declined h at lane later))
   by_call at lane (Clone handle) e later is =
       let there = found what.Handle (slot_at (handles h) handle) _ e is in
       subst (IsStep h) (the_effect _ e there.2) (cloned h at lane later handle there.0 there.1)
@@ -188,7 +188,7 @@ module _ (settings : Settings) (h : History) where
       subst (IsStep h) (the_effect _ e there.2) (exited h at lane later guard there.0 there.1)
   by_call at lane (Event site) e later is =
       let there = found what.Site (event_site settings.callsites site) _ e is in
-      subst (IsStep h) (the_effect _ e there.2) (if_both h at lane later (admits settings there.0) _ _ (told h at lane later there.0) (quiet_step h at lane later _))
+      subst (IsStep h) (the_effect _ e there.2) (if_both h at lane later (admits settings h lane there.0) _ _ (told h at lane later there.0) (quiet_step h at lane later _))
 
   pub step_of : (request : Request) (e : Effect) → effect_of settings h request ≡ Ok e → IsStep h e
   step_of request e is =

@@ -3,6 +3,7 @@ use Rattle.std.proofs.Common.{◌≡◌, ◌≢◌, ℕ, ◌+◌, ◌^◌, ◌<�
 use Rattle.std.proofs.lemmas.List.Sums.{sum_by_push, sum_by-set}
 use Rattle.std.proofs.lemmas.List.{map_push, map-set, length_push, length-set, get_or_push, get_or-set_same, get_or-set_other, append-nil}
 use Rattle.std.proofs.lemmas.Bool.{cases_eq, eq-eqb, ne_eqb}
+use Rattle.trace_pipeline.specs.declared.request.TheConstants.{LAST_MOMENT}
 use Rattle.trace_pipeline.specs.declared.names.Guard.{Guard}
 use Rattle.trace_pipeline.specs.declared.span.Span.{Span}
 use Rattle.trace_pipeline.specs.History.{Line, Start, Enter, Exit, Event, Made, Guarded, with_new, slot_at, made_of, place_in, newly, holds, is_in, own, entries_by}
@@ -110,7 +111,7 @@ more_guards spans started ms order below os last guards fit = record {
 }
 
 pub exited_line : (spans : List Span) (started : ℕ) (ms : List Made) (order : List ℕ) (below : ℕ → ℕ) (os : ℕ → List Stamped) (last at guards : ℕ) (line : Line) → IsMade (length ms) line
-    → SpansFit spans started ms order below os last guards → last ≤ at → at < 2 ^ 63
+    → SpansFit spans started ms order below os last guards → last ≤ at → at ≤ LAST_MOMENT
     → SpansFit (spans_exited at (handle_of line) spans) started ms order below (λ t. os t ++ on_line t line (record { at = at; op = Exit })) at guards
 exited_line spans started ms order below os last at guards [] made fit before early =
     same_ops spans started ms order below os (λ t. os t ++ []) at guards (λ t. sym (append-nil (os t))) (later_spans spans started ms order below os last at guards fit before)
@@ -156,7 +157,7 @@ exited_guards kept open_guard gs es guard guarded fit there = record {
     taken_off (s ∷ line) = ap (λ b. cond b [] (s ∷ [])) (eq-eqb s s refl)
 
 pub entered_line : (spans : List Span) (started : ℕ) (ms : List Made) (order : List ℕ) (below : ℕ → ℕ) (os : ℕ → List Stamped) (last at guards : ℕ) (line : Line) → IsMade (length ms) line
-    → SpansFit spans started ms order below os last guards → last ≤ at → at < 2 ^ 63 → guards + 1 < 2 ^ 64 → length spans < 2 ^ 64
+    → SpansFit spans started ms order below os last guards → last ≤ at → at ≤ LAST_MOMENT → guards + 1 < 2 ^ 64 → length spans < 2 ^ 64
     → SpansFit (spans_entered started at (handle_of line) spans) (started_entered started (handle_of line) spans) ms (order ++ newly order (option_to_list (own line))) below
     (λ t. os t ++ (cond (is_in t (newly order (option_to_list (own line)))) (record { at = at; op = Start } ∷ []) [] ++ on_line t line (record { at = at; op = Enter }))) at (guards + 1)
 entered_line spans started ms order below os last at guards [] made fit before early few short =
@@ -195,7 +196,7 @@ quiet_ops told made below os at starts line op none =
 -- ---- events
 
 pub told_line : (spans : List Span) (started : ℕ) (ms : List Made) (order : List ℕ) (below : ℕ → ℕ) (os : ℕ → List Stamped) (last at guards : ℕ) (is_error : Bool) (event : OtelEvent) (line : Line) → IsMade (length ms) line
-    → SpansFit spans started ms order below os last guards → last ≤ at → at < 2 ^ 63
+    → SpansFit spans started ms order below os last guards → last ≤ at → at ≤ LAST_MOMENT
     → SpansFit (spans_told is_error at (handle_of line) spans) started ms order below (λ t. os t ++ on_line t line (record { at = at; op = Event is_error event })) at guards
 told_line spans started ms order below os last at guards is_error event [] made fit before early =
     same_ops spans started ms order below os (λ t. os t ++ []) at guards (λ t. sym (append-nil (os t))) (later_spans spans started ms order below os last at guards fit before)

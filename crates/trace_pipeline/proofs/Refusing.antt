@@ -1,8 +1,9 @@
 -- The refusals that come before what a call names, and what they leave to it.
-use Rattle.std.proofs.Common.{◌≡◌, ℕ, ◌-◌, ◌^◌, ◌<◌, ◌≤◌, ◌==◌, ◌||◌, ◌&&◌, not, true, false, length, Option, Some, None, is_some, Err, nat_lt, refl, sym, ap, ◌∙◌, arith}
+use Rattle.std.proofs.Common.{◌≡◌, ℕ, ◌<◌, ◌≤◌, ◌==◌, ◌||◌, ◌&&◌, not, true, false, length, Option, Some, None, is_some, Err, nat_lt, refl, sym, ap, ◌∙◌, arith}
 use Rattle.std.proofs.lemmas.Bool.{or_parts, ltb-false, not-false, eqb-true}
 use Rattle.std.proofs.lemmas.Option.{slice_get_past, slice_get-get_or}
 use Rattle.std.specs.List.{list_any}
+use Rattle.trace_pipeline.specs.declared.request.TheConstants.{LAST_MOMENT}
 use Rattle.trace_pipeline.specs.declared.settings.Settings.{Settings}
 use Rattle.trace_pipeline.specs.declared.request.Request.{Request}
 use Rattle.trace_pipeline.specs.declared.request.Call.{Call}
@@ -36,10 +37,10 @@ goes_on settings h request built good some =
     let first = first_lane h request built in
     rw (built, good, slice_get-get_or settings.lanes request.lane (0, None) (omega (arith, first)), first) refl
 
-pub in_order : (before given : ℕ) → is_bad_moment before given ≡ false → (before ≤ given) × (given < 2 ^ 63)
+pub in_order : (before given : ℕ) → is_bad_moment before given ≡ false → (before ≤ given) × (given ≤ LAST_MOMENT)
 in_order before given good =
     let times = or_parts (nat_lt given before) _ good in
-    (ltb-false _ _ times.0, let last = ltb-false (2 ^ 63 - 1) given times.1 in omega (arith, last))
+    (ltb-false _ _ times.0, let last = ltb-false LAST_MOMENT given times.1 in omega (arith, last))
 
 some_map : (o : Option Guarded) → is_some (option_map guard_of o) ≡ is_some o
 some_map None = refl

@@ -6,6 +6,7 @@ use Rattle.std.specs.Option.{option_to_list}
 use Rattle.otel_base.specs.declared.record.Record.{Record}
 use Rattle.trace_base.specs.declared.callsite.Callsite.{Callsite}
 use Rattle.trace_base.specs.Level.{is_within}
+use Rattle.trace_pipeline.specs.declared.request.TheConstants.{LAST_MOMENT}
 use Rattle.trace_pipeline.specs.declared.settings.Settings.{Settings}
 use Rattle.trace_pipeline.specs.declared.request.Call.TheVariants as call
 use Rattle.trace_pipeline.specs.declared.reply.Reply.{Reply}
@@ -142,7 +143,7 @@ without_handle kept at handle d finished = record {
 
 -- ---- each kind of request
 
-module _ (kept old : Kept) (same : kept ≡ old) (settings : Settings) (h : History) (at : ℕ) (stands : StandsFor old.state settings h) (before : moment h ≤ at) (early : at < 2 ^ 63) where
+module _ (kept old : Kept) (same : kept ≡ old) (settings : Settings) (h : History) (at : ℕ) (stands : StandsFor old.state settings h) (before : moment h ≤ at) (early : at ≤ LAST_MOMENT) where
   here : StandsFor kept.state settings h
   here = subst (λ (k : Kept). StandsFor k.state settings h) (sym same) stands
 
@@ -160,7 +161,7 @@ module _ (kept old : Kept) (same : kept ≡ old) (settings : Settings) (h : Hist
   event_there : (site : ℕ) (callsite : Callsite) → event_site kept.state.settings.callsites site ≡ Some callsite → event_site settings.callsites site ≡ Some callsite
   event_there site callsite found = ap (λ (s : Settings). event_site s.callsites site) (sym here.settings_kept) ∙ found
 
-  let_through : (callsite : Callsite) (b : Bool) → is_within callsite.level kept.state.in_force ≡ b → admits settings callsite ≡ b
+  let_through : (callsite : Callsite) (b : Bool) → is_within callsite.level kept.state.in_force ≡ b → admits settings h 0 callsite ≡ b
   let_through callsite b is = ap (is_within callsite.level) (sym here.filter_kept) ∙ is
 
   line_there : (handle : ℕ) (d : Handle) → slot_at kept.state.handles handle ≡ Some d → FoundLine (handles h) handle d
@@ -230,8 +231,8 @@ module _ (kept old : Kept) (same : kept ≡ old) (settings : Settings) (h : Hist
         filter_stays = refl;
         handles_are = refl;
         moment_is = refl;
-        guards_are = entered_guards kept.state.guards kept.state.open_guard (guards h) (entries h 0) (record { handle = handle; line = found.line }) here.fits.guards_fit none;
-        spans_are = rw (length_push (guards h) (Some (record { handle = handle; line = found.line })))
+        guards_are = entered_guards kept.state.guards kept.state.open_guard (guards h) (entries h 0) (record { handle = handle; lane = 0; line = found.line }) here.fits.guards_fit none;
+        spans_are = rw (length_push (guards h) (Some (record { handle = handle; lane = 0; line = found.line })))
             (entered_line kept.state.spans kept.state.started (made h) (started h) (held (handles h)) (ops h) (moment h) at (length (guards h)) found.line (here.fits.named handle found.line found.there) here.fits.spans_fit before early (omega (arith, count, few)) short);
         events_are = quiet_ops kept.state.events (length (made h)) (held (handles h)) (ops h) at (newly (started h) (option_to_list (own found.line))) found.line (record { at = at; op = Enter }) refl here.fits.events_fit;
       }))

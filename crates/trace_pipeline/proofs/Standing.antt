@@ -1,8 +1,9 @@
 -- One effect more: what stands for a history stands for it with the effect, whatever its kind.
-use Rattle.std.proofs.Common.{◌≡◌, ℕ, ◌+◌, ◌^◌, ◌<◌, List, [], ◌∷◌, ◌++◌, length, Option, Some, None, option_map, map, slice_set, refl, sym, ap, subst, ◌∙◌, arith, inl, inr}
+use Rattle.std.proofs.Common.{◌≡◌, ℕ, ◌+◌, ◌<◌, ◌≤◌, List, [], ◌∷◌, ◌++◌, length, Option, Some, None, option_map, map, slice_set, refl, sym, ap, subst, ◌∙◌, arith, inl, inr}
 use Rattle.std.proofs.lemmas.List.{map_push, map-set, length_push, get_or_push}
 use Rattle.std.proofs.lemmas.Bool.{cases_eq, cases_lt}
 use Rattle.std.proofs.lemmas.List.{get_or_past}
+use Rattle.trace_pipeline.specs.declared.request.TheConstants.{LAST_MOMENT}
 use Rattle.trace_pipeline.specs.declared.settings.Settings.{Settings}
 use Rattle.trace_pipeline.specs.History.{Line, Made, Guarded, Effect, History, with_new, without, slots_after, handles, guards, slot_at, made, made_of}
 use Rattle.trace_pipeline.specs.Stands.{State, Fits, SpansFit, EventsFit, GuardsFit, StandsFor, IsMade, handle_of, held}
@@ -89,7 +90,7 @@ module _ (k : State) (settings : Settings) (h : History) (stands : StandsFor k s
       ]
 
   -- What is kept stands for one effect more, if it is what the effect leaves.
-  pub stands_step : (next : State) (e : Effect) → IsStep h e → e.at < 2 ^ 63 → Leaves k h e next → StandsFor next settings (h ++ e ∷ [])
+  pub stands_step : (next : State) (e : Effect) → IsStep h e → e.at ≤ LAST_MOMENT → Leaves k h e next → StandsFor next settings (h ++ e ∷ [])
   stands_step next e step early leaves = record {
     settings_kept = leaves.settings_stay ∙ stands.settings_kept;
     filter_kept = leaves.filter_stays ∙ stands.filter_kept;

@@ -4,6 +4,7 @@ use Rattle.std.proofs.lemmas.List.Sums.{sum_by-cons, count_by-le-length}
 use Rattle.std.proofs.lemmas.List.{append-nil, length_push, set-get_or}
 use Rattle.std.proofs.lemmas.Bool.{cases_eq, eq-eqb, ne_eqb}
 use Rattle.std.proofs.lemmas.Bool.Decides.{nat_tests}
+use Rattle.trace_pipeline.specs.declared.request.TheConstants.{LAST_MOMENT}
 use Rattle.trace_pipeline.specs.declared.span.Span.{Span}
 use Rattle.trace_pipeline.specs.declared.times.Times.{Times}
 use Rattle.trace_pipeline.specs.History.{Line, Start, Enter, Exit, Event, Made, made_of, place_in, newly, is_in}
@@ -42,7 +43,7 @@ count_below p (x ∷ xs) (suc i) d within fails = let more = sum_by-cons (λ x. 
     at_most_one true = omega arith
     at_most_one false = omega arith
 
-module _ (spans : List Span) (started : ℕ) (ms : List Made) (order : List ℕ) (below : ℕ → ℕ) (os : ℕ → List Stamped) (last at guards s : ℕ) (fit : SpansFit spans started ms order below os last guards) (within : s < length ms) (before : last ≤ at) (early : at < 2 ^ 63) where
+module _ (spans : List Span) (started : ℕ) (ms : List Made) (order : List ℕ) (below : ℕ → ℕ) (os : ℕ → List Stamped) (last at guards s : ℕ) (fit : SpansFit spans started ms order below os last guards) (within : s < length ms) (before : last ≤ at) (early : at ≤ LAST_MOMENT) where
   -- an op that is no event of level ERROR leaves the failure as it was
   failed_more : (op : Stamped) → (span_at spans s).failed ≡ has_error (os s) → is_error_event op.op ≡ false → (span_at spans s).failed ≡ has_error (with_op s op os s)
   failed_more op same quiet = same ∙ sym (or_false (has_error (os s))) ∙ ap (λ b. has_error (os s) || b) (sym quiet) ∙ sym (error_push (os s) op) ∙ ap has_error (sym (with_op_here s op os))

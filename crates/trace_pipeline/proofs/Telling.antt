@@ -1,12 +1,11 @@
 -- The events and the status of a list of ops: one op more, and the status as one test.
-use Rattle.std.proofs.Common.{◌≡◌, List, [], ◌∷◌, ◌++◌, take, drop, Bool, true, false, cond, ◌||◌, fold, refl, sym, ap, ◌∙◌}
-use Rattle.std.specs.List.{flat_map, position_or_len}
-use Rattle.std.proofs.lemmas.List.{flat_map_more, take-append-drop, length-take-le}
+use Rattle.std.proofs.Common.{◌≡◌, List, [], ◌∷◌, ◌++◌, Bool, true, false, cond, ◌||◌, fold, refl, sym, ap, ◌∙◌}
+use Rattle.std.specs.List.{flat_map}
+use Rattle.std.proofs.lemmas.List.{flat_map_more}
 use Rattle.std.proofs.lemmas.List.Folds.{list_any-append}
-use Rattle.std.proofs.lemmas.List.Sums.{prefix_len-le-length}
 use Rattle.otel_base.specs.declared.status.Status.{Status}
 use Rattle.otel_base.specs.declared.status.Status.TheVariants.{Unset, Error}
-use Rattle.trace_pipeline.specs.Ops.{Stamped, event_in, events, status_in, status, greater, before_start, from_start, is_start, is_error_event}
+use Rattle.trace_pipeline.specs.Ops.{Stamped, event_in, events, status_in, status, greater, is_error_event}
 use Rattle.trace_pipeline.specs.Stands.{has_error}
 
 pub events_push : (os : List Stamped) (op : Stamped) → events (os ++ op ∷ []) ≡ events os ++ event_in op.op
@@ -45,8 +44,4 @@ later_writes b (op ∷ os) = by_error op.op.is_error (later_writes b os) (later_
 
 -- The status is Error with an empty description exactly if an event of level ERROR came.
 pub status_is : (os : List Stamped) → status os ≡ failed_status (has_error os)
-status_is os =
-    let start = position_or_len (λ (op : Stamped). is_start op.op) os in
-    let whole = ap (λ n. take start os ++ drop n os) (length-take-le start os (prefix_len-le-length _ os)) ∙ take-append-drop start os in
-    later_writes (has_error (before_start os)) (from_start os)
-    ∙ ap failed_status (sym (list_any-append (λ op. is_error_event op.op) (before_start os) (from_start os)) ∙ ap has_error whole)
+status_is os = later_writes false os

@@ -3,6 +3,7 @@ use Rattle.std.proofs.Common.{◌≡◌, ℕ, ◌+◌, ◌-◌, ◌^◌, ◌<◌
 use Rattle.std.proofs.lemmas.List.Sums.{fold_push}
 use Rattle.std.proofs.lemmas.Bool.Decides.{nat_tests}
 use Rattle.otel_base.specs.declared.record.OtelEvent.{OtelEvent}
+use Rattle.trace_pipeline.specs.declared.request.TheConstants.{LAST_MOMENT}
 use Rattle.trace_pipeline.specs.declared.times.Times.{Times}
 use Rattle.trace_pipeline.specs.History.{Start, Enter, Exit, Event}
 use Rattle.trace_pipeline.specs.Ops.{Stamped, entered_after, gap, busy_from, exit_by}
@@ -29,7 +30,7 @@ gap_within : (n last at : ℕ) → last ≤ at → last + gap n last at ≤ at
 gap_within n last at below = grind (arith, nat_tests, below)
 
 -- the code's count of busy time doesn't reach its type's end
-pub busy_fits : (times : Times) (last guards at : ℕ) → IsTimed times last guards → last ≤ at → at < 2 ^ 63 → capped (times.busy + gap times.entered times.last at) ≡ times.busy + gap times.entered times.last at
+pub busy_fits : (times : Times) (last guards at : ℕ) → IsTimed times last guards → last ≤ at → at ≤ LAST_MOMENT → capped (times.busy + gap times.entered times.last at) ≡ times.busy + gap times.entered times.last at
 busy_fits times last guards at fits below early = let more = gap_within times.entered times.last at (omega (arith, fits.last_in)) in omega (arith, fits.busy_in)
 
 pub busy_below : (times : Times) (last guards at : ℕ) → IsTimed times last guards → last ≤ at → times.busy + gap times.entered times.last at ≤ at
@@ -37,13 +38,13 @@ busy_below times last guards at fits below = let more = gap_within times.entered
 
 -- ---- the code's times are those of one op more, and they are in time
 
-pub times_started : (times : Times) (last guards at : ℕ) → IsTimed times last guards → last ≤ at → at < 2 ^ 63 → times_at times at ≡ timed times (record { at = at; op = Start })
+pub times_started : (times : Times) (last guards at : ℕ) → IsTimed times last guards → last ≤ at → at ≤ LAST_MOMENT → times_at times at ≡ timed times (record { at = at; op = Start })
 times_started times last guards at fits below early = rw (busy_fits times last guards at fits below early) refl
 
-pub times_told : (times : Times) (last guards at : ℕ) (is_error : Bool) (event : OtelEvent) → IsTimed times last guards → last ≤ at → at < 2 ^ 63 → times_at times at ≡ timed times (record { at = at; op = Event is_error event })
+pub times_told : (times : Times) (last guards at : ℕ) (is_error : Bool) (event : OtelEvent) → IsTimed times last guards → last ≤ at → at ≤ LAST_MOMENT → times_at times at ≡ timed times (record { at = at; op = Event is_error event })
 times_told times last guards at is_error event fits below early = rw (busy_fits times last guards at fits below early) refl
 
-pub started_in_time : (times : Times) (last guards at : ℕ) → IsTimed times last guards → last ≤ at → at < 2 ^ 63 → IsTimed (times_at times at) at guards
+pub started_in_time : (times : Times) (last guards at : ℕ) → IsTimed times last guards → last ≤ at → at ≤ LAST_MOMENT → IsTimed (times_at times at) at guards
 started_in_time times last guards at fits below early =
     let same = busy_fits times last guards at fits below early in
     record { busy_in = omega (arith, same, busy_below times last guards at fits below); last_in = omega arith; left_in = omega (arith, fits.left_in, fits.last_in); entered_in = fits.entered_in }
@@ -51,12 +52,12 @@ started_in_time times last guards at fits below early =
 abbrev pub entered_at : Times → ℕ → Times
 entered_at times at = record (times_at times at) { entered = capped (times.entered + 1) }
 
-pub times_entered : (times : Times) (last guards at : ℕ) → IsTimed times last guards → last ≤ at → at < 2 ^ 63 → guards + 1 < 2 ^ 64 → entered_at times at ≡ timed times (record { at = at; op = Enter })
+pub times_entered : (times : Times) (last guards at : ℕ) → IsTimed times last guards → last ≤ at → at ≤ LAST_MOMENT → guards + 1 < 2 ^ 64 → entered_at times at ≡ timed times (record { at = at; op = Enter })
 times_entered times last guards at fits below early few =
     let more : capped (times.entered + 1) ≡ times.entered + 1 = omega (arith, fits.entered_in) in
     rw (busy_fits times last guards at fits below early, more) refl
 
-pub entered_in_time : (times : Times) (last guards at : ℕ) → IsTimed times last guards → last ≤ at → at < 2 ^ 63 → guards + 1 < 2 ^ 64 → IsTimed (entered_at times at) at (guards + 1)
+pub entered_in_time : (times : Times) (last guards at : ℕ) → IsTimed times last guards → last ≤ at → at ≤ LAST_MOMENT → guards + 1 < 2 ^ 64 → IsTimed (entered_at times at) at (guards + 1)
 entered_in_time times last guards at fits below early few =
     let same = busy_fits times last guards at fits below early in
     record { busy_in = omega (arith, same, busy_below times last guards at fits below); last_in = omega arith; left_in = omega (arith, fits.left_in, fits.last_in); entered_in = omega (arith, fits.entered_in) }
@@ -64,10 +65,10 @@ entered_in_time times last guards at fits below early few =
 abbrev pub exited_at : Times → ℕ → Times
 exited_at times at = record (times_at times at) { entered = times.entered - 1; left = Some at }
 
-pub times_exited : (times : Times) (last guards at : ℕ) → IsTimed times last guards → last ≤ at → at < 2 ^ 63 → exited_at times at ≡ timed times (record { at = at; op = Exit })
+pub times_exited : (times : Times) (last guards at : ℕ) → IsTimed times last guards → last ≤ at → at ≤ LAST_MOMENT → exited_at times at ≡ timed times (record { at = at; op = Exit })
 times_exited times last guards at fits below early = rw (busy_fits times last guards at fits below early) refl
 
-pub exited_in_time : (times : Times) (last guards at : ℕ) → IsTimed times last guards → last ≤ at → at < 2 ^ 63 → IsTimed (exited_at times at) at guards
+pub exited_in_time : (times : Times) (last guards at : ℕ) → IsTimed times last guards → last ≤ at → at ≤ LAST_MOMENT → IsTimed (exited_at times at) at guards
 exited_in_time times last guards at fits below early =
     let same = busy_fits times last guards at fits below early in
     record { busy_in = omega (arith, same, busy_below times last guards at fits below); last_in = omega arith; left_in = omega arith; entered_in = omega (arith, fits.entered_in) }

@@ -1,5 +1,5 @@
 -- What a request does at a place in a script, or why it is refused.
-use Rattle.std.specs.Prelude.{ℕ, ◌-◌, ◌^◌, List, [], ◌∷◌, length, Bool, true, false, not, ◌==◌, ◌||◌, ◌&&◌, nat_lt, if◌then◌else◌, Option, Some, None, is_some, option_map, option_and_then, unwrap_or, slice_get, slice_set, Result, Ok, Err, codes, bytes_eq}
+use Rattle.std.specs.Prelude.{ℕ, List, [], ◌∷◌, length, Bool, true, false, not, ◌==◌, ◌||◌, ◌&&◌, nat_lt, if◌then◌else◌, Option, Some, None, is_some, option_map, option_and_then, unwrap_or, slice_get, slice_set, Result, Ok, Err, codes, bytes_eq}
 use Rattle.std.specs.List.{list_any}
 use Rattle.std.specs.Option.{option_to_list}
 use Rattle.trace_base.specs.declared.level.LevelFilter.{LevelFilter}
@@ -15,6 +15,7 @@ use Rattle.otel_base.specs.declared.value.OtelValue.TheVariants.{Str}
 use Rattle.trace_pipeline.specs.declared.settings.Settings.{Settings}
 use Rattle.trace_pipeline.specs.declared.request.Request.{Request}
 use Rattle.trace_pipeline.specs.declared.request.Call.{Call}
+use Rattle.trace_pipeline.specs.declared.request.TheConstants.{LAST_MOMENT}
 use Rattle.trace_pipeline.specs.declared.request.Call.TheVariants as call
 use Rattle.trace_pipeline.specs.declared.reply.Reply.TheVariants as reply
 use Rattle.trace_pipeline.specs.declared.reply.Refusal.{Refusal}
@@ -39,9 +40,10 @@ filter_word word =
 abbrev pub in_force : Settings → LevelFilter
 in_force settings = unwrap_or (filter_word settings.filter) filter.OFF
 
--- the gate admits a callsite whose level is within the filter in force
-abbrev pub admits : Settings → Callsite → Bool
-admits settings callsite = is_within callsite.level (in_force settings)
+-- The gate admits a callsite whose level is within the filter in force. The filters that are built ask neither for what
+-- came before nor for the lane.
+abbrev pub admits : Settings → History → ℕ → Callsite → Bool
+admits settings h lane callsite = is_within callsite.level (in_force settings)
 
 -- ---- effects
 
@@ -85,7 +87,7 @@ makes_root h at lane site =
 
 -- an admitted callsite gives a root and a handle of it, any other a disabled handle
 abbrev pub makes : Settings → History → ℕ → ℕ → ℕ → Callsite → Effect
-makes settings h at lane site callsite = if admits settings callsite then makes_root h at lane site else declines h at lane
+makes settings h at lane site callsite = if admits settings h lane callsite then makes_root h at lane site else declines h at lane
 
 -- another handle of a line: enabled if the line has a span
 abbrev pub clones : History → ℕ → ℕ → Line → Effect
@@ -94,7 +96,7 @@ clones h at lane line = record (quiet at lane (reply.Made (is_some (own line)) (
 -- an entry starts the span, if nothing has started it before
 abbrev pub enters : History → ℕ → ℕ → ℕ → Line → Effect
 enters h at lane handle line = record (quiet at lane (reply.Guard (length (guards h)))) {
-  new_guard = Some (record { handle = handle; line = line });
+  new_guard = Some (record { handle = handle; lane = lane; line = line });
   starts = newly (started h) (option_to_list (own line));
   ops = on line Enter;
   entry = own line;
@@ -143,7 +145,7 @@ tells_to at lane callsite line = record (quiet at lane (reply.Enabled true)) { o
 
 -- an admitted event is told to the lane's current span, any other leaves nothing
 abbrev pub tells : Settings → History → ℕ → ℕ → Callsite → Effect
-tells settings h at lane callsite = if admits settings callsite then tells_to at lane callsite (current_line h lane) else quiet at lane (reply.Enabled false)
+tells settings h at lane callsite = if admits settings h lane callsite then tells_to at lane callsite (current_line h lane) else quiet at lane (reply.Enabled false)
 
 abbrev pub effect_of_call : Settings → History → ℕ → ℕ → Call → Resolved
 effect_of_call settings h at lane (call.New site) = named what.Site (span_site settings.callsites site) (λ callsite. Ok (makes settings h at lane site callsite))
@@ -168,9 +170,9 @@ waits_for_guards (call.Event site) = false
 abbrev pub is_later : History → Request → Bool
 is_later h request = not (request.lane == 0) || (waits_for_guards request.call && list_any is_some (guards h))
 
--- a moment below the one before, or above 2 ^ 63 - 1
+-- a moment below the one before, or above the last one
 abbrev pub is_bad_moment : ℕ → ℕ → Bool
-is_bad_moment before given = nat_lt given before || nat_lt (2 ^ 63 - 1) given
+is_bad_moment before given = nat_lt given before || nat_lt LAST_MOMENT given
 
 -- the effect of a request, or the first refusal that applies
 abbrev pub effect_of : Settings → History → Request → Resolved

@@ -15,9 +15,10 @@ pub record Made : Type 0 where
   pub line : Line
   pub at : ℕ
 
--- what a guard keeps: its handle, and the line that the handle had
+-- what a guard keeps: its handle, the lane that it was made on, and the line that the handle had
 pub record Guarded : Type 0 where
   pub handle : ℕ
+  pub lane : ℕ
   pub line : Line
 
 -- What is done to a span after its making: whether it starts, enters or exits it, and what it tells.

@@ -1,5 +1,5 @@
 -- What the pipeline's code does to what it keeps. Inner definitions: no promise rests on them alone.
-use Rattle.std.specs.Prelude.{◌≡◌, ℕ, ◌+◌, ◌-◌, ◌^◌, ◌==◌, ◌&&◌, min, List, [], ◌∷◌, ◌++◌, ◌||◌, Bool, true, false, nat_lt, if◌then◌else◌, Option, Some, None, unwrap_or, length, ◌<◌, slice_get, slice_set, pos, codes}
+use Rattle.std.specs.Prelude.{◌≡◌, ℕ, ◌+◌, ◌-◌, ◌^◌, ◌==◌, ◌&&◌, min, List, [], ◌∷◌, ◌++◌, ◌||◌, Bool, true, false, nat_lt, if◌then◌else◌, Option, Some, None, unwrap_or, length, ◌≤◌, slice_get, slice_set, pos, codes}
 use Rattle.std.specs.Option.{option_map_or}
 use Rattle.otel_base.specs.declared.record.Record.{Record}
 use Rattle.otel_base.specs.declared.record.OtelEvent.{OtelEvent}
@@ -9,6 +9,7 @@ use Rattle.otel_base.specs.declared.value.KeyValue.{KeyValue}
 use Rattle.otel_base.specs.declared.value.OtelValue.TheVariants.{I64}
 use Rattle.trace_base.specs.declared.callsite.Callsite.{Callsite}
 use Rattle.std.specs.List.{slice_index_or}
+use Rattle.trace_pipeline.specs.declared.request.TheConstants.{LAST_MOMENT}
 use Rattle.trace_pipeline.specs.declared.request.Call.{Call}
 use Rattle.trace_pipeline.specs.declared.request.Call.TheVariants as call
 use Rattle.trace_pipeline.specs.declared.names.Guard.{Guard}
@@ -165,7 +166,7 @@ records_dropped callsites started at (Enabled s) spans events =
 abbrev pub IsShort : ℕ → ℕ → Handle → List Span → Type 0
 IsShort started at Disabled spans = Unit {0}
 IsShort started at (Enabled s) spans =
-    ((span_closed started at (span_at spans s)).times.busy < 2 ^ 63) × (idle_by (span_closed started at (span_at spans s)) < 2 ^ 63)
+    ((span_closed started at (span_at spans s)).times.busy ≤ LAST_MOMENT) × (idle_by (span_closed started at (span_at spans s)) ≤ LAST_MOMENT)
 
 -- a span with a hold is open
 abbrev pub is_held : Span → Bool

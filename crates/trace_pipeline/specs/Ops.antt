@@ -1,6 +1,6 @@
 -- The ops of a span, and the times that they give.
-use Rattle.std.specs.Prelude.{ℕ, ◌+◌, ◌-◌, List, [], ◌∷◌, ◌++◌, length, drop, fold, Bool, nat_lt, ◌==◌, if◌then◌else◌, Option, Some, None, unwrap_or}
-use Rattle.std.specs.List.{flat_map, filter_map, list_any, before_first}
+use Rattle.std.specs.Prelude.{ℕ, ◌+◌, ◌-◌, List, [], ◌∷◌, ◌++◌, fold, Bool, nat_lt, ◌==◌, if◌then◌else◌, Option, Some, None, unwrap_or}
+use Rattle.std.specs.List.{flat_map, filter_map}
 use Rattle.std.specs.Ordering.{nat_cmp, match_ordering}
 use Rattle.std.specs.Cmp.Lexicographic.{slice_cmp}
 use Rattle.otel_base.specs.declared.record.OtelEvent.{OtelEvent}
@@ -61,9 +61,6 @@ idle os start = option_map_or (λ end. end - start - busy os) (last_exit os) 0
 
 -- ---- events and status
 
-abbrev pub is_start : Op → Bool
-is_start op = op.starts
-
 abbrev pub is_error_event : Op → Bool
 is_error_event op = op.is_error
 
@@ -73,13 +70,6 @@ event_in op = option_to_list op.event
 -- the events of the ops, in order
 abbrev pub events : List Stamped → List OtelEvent
 events os = flat_map (λ op. event_in op.op) os
-
--- the ops before the first start, and those from it on
-abbrev pub before_start : List Stamped → List Stamped
-before_start os = before_first (λ op. is_start op.op) os
-
-abbrev pub from_start : List Stamped → List Stamped
-from_start os = drop (length (before_start os)) os
 
 -- the writes of a status: an event of level ERROR writes Error with an empty description
 abbrev pub status_in : Op → List Status
@@ -93,11 +83,6 @@ greater (Error description) (Error other) = match_ordering (slice_cmp nat_cmp de
 greater (Error description) Ok = Ok
 greater Ok now = Ok
 
--- The status at the start is Error with an empty description if an ERROR event came before it: no other writes are
--- built that could stand against it.
-abbrev pub status_at_start : List Stamped → Status
-status_at_start os = if list_any (λ op. is_error_event op.op) (before_start os) then Error [] else Unset
-
--- the status of the ops: the greatest of that at the start and of all later writes
+-- the status of the ops: the greatest of all its writes
 abbrev pub status : List Stamped → Status
-status os = fold greater (status_at_start os) (flat_map (λ op. status_in op.op) (from_start os))
+status os = fold greater Unset (flat_map (λ op. status_in op.op) os)

@@ -1,5 +1,5 @@
 -- A pipeline's state stands for settings and the requests so far.
-use Rattle.std.specs.Prelude.{◌≡◌, ℕ, ◌^◌, ◌<◌, ◌≤◌, List, [], ◌∷◌, ◌++◌, length, Ok, Err, ◌≢◌, Option, Some, None, option_map, unwrap_or, map, fold, count_by, Bool, nat_lt, is_some}
+use Rattle.std.specs.Prelude.{◌≡◌, ℕ, ◌<◌, ◌≤◌, List, [], ◌∷◌, ◌++◌, length, Result, Ok, Err, IfOk, IfErr, ◌≢◌, Option, Some, None, option_map, unwrap_or, map, fold, count_by, Bool, nat_lt, is_some}
 use Rattle.std.specs.List.{list_any}
 use Rattle.std.specs.Option.{option_to_list}
 use Rattle.otel_base.specs.declared.record.Record.{Record}
@@ -14,12 +14,14 @@ use Rattle.trace_pipeline.specs.declared.times.Times.{Times}
 use Rattle.trace_pipeline.specs.Machine.{span_at, events_at}
 use Rattle.trace_pipeline.specs.declared.reply.Reply.{Reply}
 use Rattle.trace_pipeline.specs.declared.request.Request.{Request}
+use Rattle.trace_pipeline.specs.declared.request.Call.{Call}
+use Rattle.trace_pipeline.specs.declared.request.TheConstants.{LAST_MOMENT}
 use Rattle.trace_pipeline.specs.declared.reply.Refusal.{Refusal}
 use Rattle.trace_pipeline.specs.declared.reply.Refusal.TheVariants.{Memory}
-use Rattle.trace_pipeline.specs.Effects.{Resolved, in_force, effect_of}
+use Rattle.trace_pipeline.specs.Effects.{Resolved, in_force, effect_of, effect_of_call}
 use Rattle.trace_pipeline.specs.Content.{records_of}
 use Rattle.trace_pipeline.specs.Tables.{Tables, tables}
-use Rattle.trace_pipeline.specs.History.{Line, Made, Guarded, Effect, History, slot_at, made_of, place_in, holds, own}
+use Rattle.trace_pipeline.specs.History.{Line, Made, Guarded, Effect, History, moment, slot_at, made_of, place_in, holds, own}
 use Rattle.trace_pipeline.specs.Ops.{Stamped, entered_after, busy, last_exit, events, is_error_event}
 
 -- what is kept, but for the finished records
@@ -126,7 +128,7 @@ pub record Fits (k : State) (t : Tables) : Type 0 where
   pub named : (n : ℕ) (line : Line) → slot_at t.handles n ≡ Some line → IsMade (length t.made) line
   pub kept : (n : ℕ) (guarded : Guarded) → slot_at t.guards n ≡ Some guarded → IsMade (length t.made) guarded.line
   pub lines : (s : ℕ) → s < length t.made → (made_of t.made s).line ≡ s ∷ []
-  pub early : t.moment < 2 ^ 63
+  pub early : t.moment ≤ LAST_MOMENT
 
 -- the state stands for settings and the effects of the requests so far
 pub record StandsFor (k : State) (settings : Settings) (h : History) : Type 0 where
@@ -143,10 +145,19 @@ pub record Served (resolved : Resolved) (settings : Settings) (h : History) (old
   pub records : new.finished ≡ old.finished ++ records_of settings h effect
   pub stands : StandsFor new.state settings (h ++ effect ∷ [])
 
--- a step's reply is served by the effect of its request
-abbrev pub Answered : Settings → History → Request → Kept → Kept → Reply → Type 0
-Answered settings h request old new reply = Served (effect_of settings h request) settings h old new reply
-
 -- A refusal other than of memory is the one that was resolved.
 abbrev pub IsRefusal : Resolved → Refusal → Type 0
 IsRefusal resolved refusal = refusal ≢ Memory → resolved ≡ Err refusal
+
+-- A call on the first lane is served: an Ok at a moment in order comes with the reply, the records and the state of its effect.
+abbrev pub Serves : Kept → ℕ → Call → Result Reply Refusal → Kept → Type 0
+Serves old at call result new = (settings : Settings) (h : History) → StandsFor old.state settings h → moment h ≤ at → at ≤ LAST_MOMENT
+    → IfOk result (Served (effect_of_call settings h at 0 call) settings h old new)
+
+-- A call on the first lane is refused as it was resolved, or for want of memory.
+abbrev pub Refuses : Kept → ℕ → Call → Result Reply Refusal → Type 0
+Refuses old at call result = (settings : Settings) (h : History) → StandsFor old.state settings h → IfErr result (IsRefusal (effect_of_call settings h at 0 call))
+
+-- a step's reply is served by the effect of its request
+abbrev pub Answered : Settings → History → Request → Kept → Kept → Reply → Type 0
+Answered settings h request old new reply = Served (effect_of settings h request) settings h old new reply

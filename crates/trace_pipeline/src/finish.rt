@@ -1,5 +1,6 @@
 //! The record of a span that closes.
-ghost use Rattle.std.specs.Prelude.{◌≡◌, ◌^◌, ◌<◌, [], pos, IfOk, if◌then◌else◌};
+ghost use Rattle.std.specs.Prelude.{◌≡◌, ◌≤◌, [], pos, IfOk, if◌then◌else◌};
+ghost use Rattle.trace_pipeline.specs.declared.request.TheConstants.{LAST_MOMENT};
 ghost use Rattle.trace_pipeline.specs.Machine.{idle_by, attributes_by, record_by, name_at};
 
 use crate::span::Span;
@@ -15,7 +16,7 @@ use std::alloc::Global;
 use trace_base::callsite::Callsite;
 
 fn nanoseconds(n: u64) -> OtelValue
-    ensures { n < 2 ^ 63 → result ≡ OtelValue.I64 (pos n) }
+    ensures { n ≤ LAST_MOMENT → result ≡ OtelValue.I64 (pos n) }
 {
     OtelValue::I64(i64::try_from(n).unwrap_or(i64::MAX))
 }
@@ -32,7 +33,7 @@ fn idle(span: &Span) -> u64
 }
 
 fn closing_attributes(alloc: Global, busy: u64, idle: u64) -> Result<Items<KeyValue>, Memory>
-    ensures { IfOk result (λ attributes. busy < 2 ^ 63 → idle < 2 ^ 63 → attributes ≡ attributes_by busy idle) }
+    ensures { IfOk result (λ attributes. busy ≤ LAST_MOMENT → idle ≤ LAST_MOMENT → attributes ≡ attributes_by busy idle) }
 {
     let mut attributes = Items::new(alloc);
     attributes.push(KeyValue {
@@ -74,7 +75,7 @@ pub fn finished_record(
     span: &Span,
     at: Moment,
 ) -> Result<Record, Memory>
-    ensures { IfOk result (λ finished. span.now.times.busy < 2 ^ 63 → idle_by span.now < 2 ^ 63
+    ensures { IfOk result (λ finished. span.now.times.busy ≤ LAST_MOMENT → idle_by span.now ≤ LAST_MOMENT
         → finished ≡ record_by (name_at callsites.now span.now.site) span.now [] at) }
 {
     let context = SpanContext {

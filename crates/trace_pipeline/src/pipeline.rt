@@ -1,7 +1,7 @@
 //! A pipeline runs the requests of a script: it answers each, and gives the records of the spans that it closed.
 ghost use Rattle.std.specs.Prelude.{◌==◌, not, false, is_some, None, ◌≡◌, ◌≢◌, ◌<◌, ◌≤◌, ◌^◌, ◌-◌, ◌||◌, ◌&&◌, nat_lt, ℕ, option_map, [], ◌∷◌, drop, Some, Ok, Err, IfOk, IfErr, OnErr, MatchOption};
-ghost use Rattle.trace_pipeline.specs.History.{History, moment, open_spans};
-ghost use Rattle.trace_pipeline.specs.Effects.{effect_of, effect_of_call, is_later, is_bad_moment, waits_for_guards, span_site, event_site};
+ghost use Rattle.trace_pipeline.specs.History.{History, open_spans};
+ghost use Rattle.trace_pipeline.specs.Effects.{effect_of, is_later, is_bad_moment, waits_for_guards, span_site, event_site};
 ghost use Rattle.trace_pipeline.specs.Machine.{is_borrowed_by, current_of, CanWait};
 ghost use Rattle.trace_pipeline.specs.declared.settings.Settings.{Settings as SettingsValue};
 ghost use Rattle.trace_pipeline.specs.declared.reply.Refusal.TheVariants.{Memory as NoMemory};
@@ -9,7 +9,7 @@ ghost use Rattle.trace_pipeline.specs.declared.reply.Refusal.TheVariants.{Memory
 use crate::events::{is_error, make_event};
 use crate::names::{Guard, Handle, guard_at, handle_at, is_enabled, spend};
 use crate::reply::{Refusal, Reply, What};
-use crate::request::{Call, Request};
+use crate::request::{Call, LAST_MOMENT, Request};
 use crate::settings::Settings;
 use crate::span::Span;
 use crate::spans::Spans;
@@ -81,9 +81,6 @@ impl Model for Pipeline {
     } };
 }
 
-// The greatest moment: 2^63 - 1.
-const LAST_MOMENT: Moment = 9_223_372_036_854_775_807;
-
 /// The callsite at a place, if it makes spans.
 fn span_site(callsites: &[Callsite], site: u64) -> Option<&Callsite>
     ensures { option_map (λ callsite. callsite.now) result ≡ span_site callsites.now site }
@@ -150,7 +147,7 @@ fn current(open_guard: Option<Guard>) -> Handle
 }
 
 impl Pipeline {
-    ghost use Rattle.trace_pipeline.specs.Stands.{StandsFor, Served, Answered, IsRefusal};
+    ghost use Rattle.trace_pipeline.specs.Stands.{StandsFor, Serves, Refuses, Answered, IsRefusal};
 
     /// A pipeline for the settings, before any request. It answers `Memory` alone, and that freely.
     pub fn open(alloc: Global, settings: Settings) -> Result<Pipeline, OpenError>
@@ -223,10 +220,8 @@ impl Pipeline {
 
     fn call(&mut self, at: Moment, call: Call) -> Result<Reply, Refusal>
         requires { CanWait call self.old.state.open_guard }
-        ensures ok { (settings : SettingsValue) (h : History) → StandsFor self.old.state settings h → moment h ≤ at → at < 2 ^ 63
-            → IfOk result (Served (effect_of_call settings h at 0 call) settings h self.old self.new) }
-        ensures refused { (settings : SettingsValue) (h : History) → StandsFor self.old.state settings h
-            → IfErr result (IsRefusal (effect_of_call settings h at 0 call)) }
+        ensures ok { Serves self.old at call result self.new }
+        ensures refused { Refuses self.old at call result }
         ensures err { OnErr result (self.new ≡ self.old) }
     {
         match call {
@@ -240,10 +235,8 @@ impl Pipeline {
     }
 
     fn make(&mut self, at: Moment, site: u64) -> Result<Reply, Refusal>
-        ensures ok { (settings : SettingsValue) (h : History) → StandsFor self.old.state settings h → moment h ≤ at → at < 2 ^ 63
-            → IfOk result (Served (effect_of_call settings h at 0 (Call.New site)) settings h self.old self.new) }
-        ensures refused { (settings : SettingsValue) (h : History) → StandsFor self.old.state settings h
-            → IfErr result (IsRefusal (effect_of_call settings h at 0 (Call.New site))) }
+        ensures ok { Serves self.old at (Call.New site) result self.new }
+        ensures refused { Refuses self.old at (Call.New site) result }
         ensures err { OnErr result (self.new ≡ self.old) }
     {
         let Some(callsite) = span_site(self.settings.callsites.as_slice(), site) else {
@@ -269,10 +262,8 @@ impl Pipeline {
     }
 
     fn clone_handle(&mut self, at: Moment, handle: u64) -> Result<Reply, Refusal>
-        ensures ok { (settings : SettingsValue) (h : History) → StandsFor self.old.state settings h → moment h ≤ at → at < 2 ^ 63
-            → IfOk result (Served (effect_of_call settings h at 0 (Call.Clone handle)) settings h self.old self.new) }
-        ensures refused { (settings : SettingsValue) (h : History) → StandsFor self.old.state settings h
-            → IfErr result (IsRefusal (effect_of_call settings h at 0 (Call.Clone handle))) }
+        ensures ok { Serves self.old at (Call.Clone handle) result self.new }
+        ensures refused { Refuses self.old at (Call.Clone handle) result }
         ensures err { OnErr result (self.new ≡ self.old) }
     {
         let Some(cloned) = handle_at(&self.handles, handle) else {
@@ -289,10 +280,8 @@ impl Pipeline {
     }
 
     fn drop_handle(&mut self, at: Moment, handle: u64) -> Result<Reply, Refusal>
-        ensures ok { (settings : SettingsValue) (h : History) → StandsFor self.old.state settings h → moment h ≤ at → at < 2 ^ 63
-            → IfOk result (Served (effect_of_call settings h at 0 (Call.Drop handle)) settings h self.old self.new) }
-        ensures refused { (settings : SettingsValue) (h : History) → StandsFor self.old.state settings h
-            → IfErr result (IsRefusal (effect_of_call settings h at 0 (Call.Drop handle))) }
+        ensures ok { Serves self.old at (Call.Drop handle) result self.new }
+        ensures refused { Refuses self.old at (Call.Drop handle) result }
         ensures err { OnErr result (self.new ≡ self.old) }
     {
         let Some(dropped) = handle_at(&self.handles, handle) else {
@@ -311,10 +300,8 @@ impl Pipeline {
 
     fn enter(&mut self, at: Moment, handle: u64) -> Result<Reply, Refusal>
         requires { self.old.state.open_guard ≡ None }
-        ensures ok { (settings : SettingsValue) (h : History) → StandsFor self.old.state settings h → moment h ≤ at → at < 2 ^ 63
-            → IfOk result (Served (effect_of_call settings h at 0 (Call.Enter handle)) settings h self.old self.new) }
-        ensures refused { (settings : SettingsValue) (h : History) → StandsFor self.old.state settings h
-            → IfErr result (IsRefusal (effect_of_call settings h at 0 (Call.Enter handle))) }
+        ensures ok { Serves self.old at (Call.Enter handle) result self.new }
+        ensures refused { Refuses self.old at (Call.Enter handle) result }
         ensures err { OnErr result (self.new ≡ self.old) }
     {
         let Some(entered) = handle_at(&self.handles, handle) else {
@@ -330,10 +317,8 @@ impl Pipeline {
     }
 
     fn exit(&mut self, at: Moment, guard: u64) -> Result<Reply, Refusal>
-        ensures ok { (settings : SettingsValue) (h : History) → StandsFor self.old.state settings h → moment h ≤ at → at < 2 ^ 63
-            → IfOk result (Served (effect_of_call settings h at 0 (Call.Exit guard)) settings h self.old self.new) }
-        ensures refused { (settings : SettingsValue) (h : History) → StandsFor self.old.state settings h
-            → IfErr result (IsRefusal (effect_of_call settings h at 0 (Call.Exit guard))) }
+        ensures ok { Serves self.old at (Call.Exit guard) result self.new }
+        ensures refused { Refuses self.old at (Call.Exit guard) result }
         ensures err { OnErr result (self.new ≡ self.old) }
     {
         let Some(spent) = guard_at(&self.guards, guard) else {
@@ -347,10 +332,8 @@ impl Pipeline {
     }
 
     fn tell(&mut self, at: Moment, site: u64) -> Result<Reply, Refusal>
-        ensures ok { (settings : SettingsValue) (h : History) → StandsFor self.old.state settings h → moment h ≤ at → at < 2 ^ 63
-            → IfOk result (Served (effect_of_call settings h at 0 (Call.Event site)) settings h self.old self.new) }
-        ensures refused { (settings : SettingsValue) (h : History) → StandsFor self.old.state settings h
-            → IfErr result (IsRefusal (effect_of_call settings h at 0 (Call.Event site))) }
+        ensures ok { Serves self.old at (Call.Event site) result self.new }
+        ensures refused { Refuses self.old at (Call.Event site) result }
         ensures err { OnErr result (self.new ≡ self.old) }
     {
         let Some(callsite) = event_site(self.settings.callsites.as_slice(), site) else {

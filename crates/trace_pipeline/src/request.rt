@@ -1,6 +1,9 @@
 //! Requests: calls on spans, each with its lane and its moment.
 use otel_base::record::Moment;
 
+/// The greatest moment that a request may have, in nanoseconds: 2^63 - 1.
+pub const LAST_MOMENT: Moment = 9_223_372_036_854_775_807;
+
 /// A call that a script makes. Handles and guards are named by their numbers, callsites by their places.
 #[derive(Clone, Drop)]
 pub enum Call {
