@@ -26,7 +26,7 @@ cloned_one spans started ms order hs os last at guards s within fit before few =
     (spans_written spans started started ms order order (held hs) (held (hs ++ Some (s ∷ []) ∷ [])) os os last last guards guards s (span_held (span_at spans s)) fit within
     (span_is _ _ _ _ (span_at spans s).failed (span_at spans s).times (made_of ms s) (place_in order s) (held (hs ++ Some (s ∷ []) ∷ []) s) (os s) (ap (λ (span : Span). span.site) e) (ap (λ (span : Span). span.made) e) (ap (λ (span : Span). span.id) e)
     (let holds_are = ap (λ (span : Span). span.holds) e in omega (arith, holds_are, one, few_held, few)) (ap (λ (span : Span). span.failed) e) (ap (λ (span : Span). span.times) e))
-    (λ t other. refl) (held_other hs s) (λ t other. refl) fit.starts refl (fit.timed s) (omega arith) (omega arith)) before (λ t. refl)
+    (fit.begun s) (λ t other. refl) (held_other hs s) (λ t other. refl) fit.starts refl (fit.timed s) (omega arith) (omega arith)) before (λ t. refl)
 
 pub cloned_spans : (spans : List Span) (started : ℕ) (ms : List Made) (order : List ℕ) (hs : List (Option Line)) (os : ℕ → List Stamped) (last at guards : ℕ) (line : Line) → IsMade (length ms) line
     → SpansFit spans started ms order (held hs) os last guards → last ≤ at → length hs + 1 < 2 ^ 64

@@ -4,7 +4,7 @@ use Rattle.std.proofs.lemmas.List.{append-nil, length_push, get_or_push}
 use Rattle.std.proofs.lemmas.Bool.{cases_eq, cases_lt}
 use Rattle.std.proofs.lemmas.Bool.Decides.{nat_tests}
 use Rattle.trace_pipeline.specs.declared.settings.Settings.{Settings}
-use Rattle.trace_pipeline.specs.History.{Line, Made, Guarded, History, with_new, without, slots_after, handles, guards, slot_at, made, made_of, closed, closed_of, holds, is_in, is_open}
+use Rattle.trace_pipeline.specs.History.{Line, Made, Guarded, History, with_new, without, slots_after, handles, guards, slot_at, made, no_making, no_context, made_of, closed, closed_of, holds, is_in, is_open}
 use Rattle.trace_pipeline.proofs.Fitting.{held_push}
 use Rattle.trace_pipeline.proofs.Dropping.{held_set}
 use Rattle.trace_pipeline.specs.Laws.{IsHistory, none, more, occurrences}
@@ -78,8 +78,8 @@ module _ (hs : List (Option Line)) (gs : List (Option Guarded)) (ms : List Made)
   -- the lines with a new span's
   new_lines : (m : Made) → IsNewLine hs (length ms) m.line → (s : ℕ) → IsLineOf (length ms + 1) (made_of (ms ++ m ∷ []) s).line
   new_lines m new s = elim (cases_eq s (length ms)) [
-    | inl here ↦ subst (λ (m : Made). IsLineOf (length ms + 1) m.line) (sym (get_or_push ms m (record { site = 0; line = []; at = 0 }) s (sym here))) new.fine
-    | inr other ↦ subst (λ (m : Made). IsLineOf (length ms + 1) m.line) (sym (get_push_other ms m (record { site = 0; line = []; at = 0 }) s other)) (grown (length ms) _ (sound.lines s))
+    | inl here ↦ subst (λ (m : Made). IsLineOf (length ms + 1) m.line) (sym (get_or_push ms m no_making s (sym here))) new.fine
+    | inr other ↦ subst (λ (m : Made). IsLineOf (length ms + 1) m.line) (sym (get_push_other ms m no_making s other)) (grown (length ms) _ (sound.lines s))
   ]
 
   -- a span more, and a handle of it
@@ -156,7 +156,7 @@ sound_names : (h : History) (at : ℕ) (gs : List (Option Guarded)) (o : Option 
 sound_names h at gs _ _ before now no_name = now
 sound_names h at gs _ _ before now (another line known opened) = more_names (handles h) gs (made h) (closed h) now line (known_line h (closed h) before line known) opened
 sound_names h at gs _ _ before now (new_root site) =
-    more_spans (handles h) gs (made h) (closed h) now (record { site = site; line = length (made h) ∷ []; at = at }) (root_is_new (handles h) (length (made h)) (length (made h) ∷ []) refl)
+    more_spans (handles h) gs (made h) (closed h) now (record { site = site; line = length (made h) ∷ []; at = at; context = no_context }) (root_is_new (handles h) (length (made h)) (length (made h) ∷ []) refl)
 
 sound_spent : (hs : List (Option Line)) (gs : List (Option Guarded)) (ms : List Made) (cs : List ℕ) (o : Option ℕ) (closes : List ℕ) → Sound hs gs ms cs → Spends hs o closes → Sound (without hs o) gs ms (cs ++ closes)
 sound_spent hs gs ms cs _ _ now no_spending = rw (append-nil cs) now

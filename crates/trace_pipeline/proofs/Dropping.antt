@@ -5,24 +5,30 @@ use Rattle.std.proofs.lemmas.List.Sums.{sum_by-set}
 use Rattle.std.proofs.lemmas.List.{length-set, get_or-set_same, set-set, append-nil}
 use Rattle.std.proofs.lemmas.Bool.{cases_eq, eq-eqb, ne_eqb, lt-ltb, le-ltb}
 use Rattle.otel_base.specs.declared.record.Record.{Record}
-use Rattle.trace_base.specs.declared.callsite.Callsite.{Callsite}
 use Rattle.trace_pipeline.specs.declared.request.TheConstants.{LAST_MOMENT}
 use Rattle.trace_pipeline.specs.declared.names.Handle.TheVariants.{Enabled}
 use Rattle.trace_pipeline.specs.declared.span.Span.{Span}
-use Rattle.trace_pipeline.specs.History.{Line, Start, Made, slot_at, made_of, place_in, newly, holds, is_in, is_open, closed_of}
-use Rattle.trace_pipeline.specs.Ops.{Stamped, events}
+use Rattle.trace_pipeline.specs.History.{Line, Made, no_context, slot_at, made_of, place_in, newly, holds, is_open, closed_of}
+use Rattle.trace_pipeline.specs.declared.settings.Settings.{Settings}
+use Rattle.otel_base.specs.declared.context.Context.{Context}
+use Rattle.otel_base.specs.declared.context.SpanContext.{SpanContext}
+use Rattle.otel_base.specs.Ids.{ids_of, ids_or_zeros}
+use Rattle.otel_base.specs.RecorderIds.{parent_id}
+use Rattle.trace_pipeline.proofs.StartsLemmas.{start_ops, quiet_starts}
+use Rattle.std.proofs.Common.{zero, suc, slice_get}
+use Rattle.trace_pipeline.specs.Ops.{Stamped, start_ids, events}
 use Rattle.trace_pipeline.specs.Content.{content}
 use Rattle.trace_pipeline.specs.Tables.{Tables}
 use Rattle.trace_pipeline.specs.Machine.{no_span, span_at, span_started, started_after, span_closed, spans_dropped, started_dropped, events_dropped, events_at, records_dropped, record_by, name_at, is_last, closes, IsShort, idle_by}
-use Rattle.trace_pipeline.specs.Stands.{State, Fits, SpansFit, EventsFit, has_error, held, IsMade, IsTimed, handle_of, span_by, times_of, is_started}
+use Rattle.trace_pipeline.specs.Stands.{State, Fits, SpansFit, EventsFit, has_error, held, IsMade, IsTimed, handle_of, span_by, times_of, is_started, starts_at}
 use Rattle.trace_pipeline.proofs.Slots.{named_within, any_counted}
 use Rattle.trace_pipeline.proofs.Writing.{span_is, spans_written}
 use Rattle.trace_pipeline.proofs.Steps.{started_fit, with_starts}
-use Rattle.trace_pipeline.proofs.Fitting.{later_spans, quiet, quiet_if}
+use Rattle.trace_pipeline.proofs.Fitting.{later_spans, quiet}
 use Rattle.otel_base.specs.declared.record.OtelEvent.{OtelEvent}
 use Rattle.otel_base.specs.declared.status.Status.{Status}
 use Rattle.std.proofs.lemmas.List.{get_or-set_other}
-use Rattle.trace_pipeline.proofs.Telling.{status_is}
+use Rattle.trace_pipeline.proofs.Telling.{status_is, failed_status}
 
 pub held_set : (hs : List (Option Line)) (handle : ℕ) (line : Line) (t : ℕ) → slot_at hs handle ≡ Some line → held (slice_set hs handle None) t + cond (holds t (Some line)) 1 0 ≡ held hs t
 held_set hs handle line t there =
@@ -30,9 +36,9 @@ held_set hs handle line t there =
     let mine = ap (λ slot. cond {A = ℕ} (holds t slot) 1 0) there in
     omega (arith, change, mine)
 
--- a drop's ops, in the form of the effect's
-abbrev pub dropped_ops : (ℕ → List Stamped) → ℕ → List ℕ → ℕ → List Stamped
-dropped_ops os at starts t = os t ++ (cond (is_in t starts) (record { at = at; op = Start } ∷ []) [] ++ [])
+-- the ops with those of a drop, which are its starts
+abbrev pub dropped_ops : List Made → List ℕ → (ℕ → List Stamped) → ℕ → List ℕ → ℕ → List Stamped
+dropped_ops ms order os at fresh t = os t ++ start_ops ms (length order + 1) at fresh t
 
 -- The spans after a drop of a span's handle, in the terms of the tables.
 module _ (spans : List Span) (started : ℕ) (ms : List Made) (order : List ℕ) (below after : ℕ → ℕ) (os : ℕ → List Stamped) (last at guards s : ℕ)
@@ -43,16 +49,17 @@ module _ (spans : List Span) (started : ℕ) (ms : List Made) (order : List ℕ)
 
   abbrev Dropped : Bool → List ℕ → Type 0
   Dropped last_hold starts = SpansFit (slice_set spans s (cond last_hold (span_closed started at (span_at spans s)) (record (span_at spans s) { holds = (span_at spans s).holds - 1 })))
-      (cond last_hold (started_after started (span_at spans s)) started) ms (order ++ starts) after (dropped_ops os at starts) at guards
+      (cond last_hold (started_after started (span_at spans s)) started) ms (order ++ starts) after (dropped_ops ms order os at starts) at guards
 
   -- a hold that isn't the last
   stays_fit : Dropped false []
   stays_fit =
       let e = fit.each s in
       rw (append-nil order)
-      (spans_written spans started started ms order order below after os (dropped_ops os at []) last at guards guards s (record (span_at spans s) { holds = (span_at spans s).holds - 1 }) fit within
-      (span_is _ _ _ _ (span_at spans s).failed (span_at spans s).times (made_of ms s) (place_in order s) (after s) (dropped_ops os at [] s) (ap (λ (span : Span). span.site) e) (ap (λ (span : Span). span.made) e) (ap (λ (span : Span). span.id) e)
+      (spans_written spans started started ms order order below after os (dropped_ops ms order os at []) last at guards guards s (record (span_at spans s) { holds = (span_at spans s).holds - 1 }) fit within
+      (span_is _ _ _ _ (span_at spans s).failed (span_at spans s).times (made_of ms s) (place_in order s) (after s) (dropped_ops ms order os at [] s) (ap (λ (span : Span). span.site) e) (ap (λ (span : Span). span.made) e) (ap (λ (span : Span). span.id) e)
       (let holds = ap (λ (span : Span). span.holds) e in omega (arith, holds, here)) (ap (λ (span : Span). span.failed) e ∙ ap has_error (sym (append-nil (os s)))) (ap (λ (span : Span). span.times) e ∙ ap times_of (sym (append-nil (os s)))))
+      (ap start_ids (append-nil (os s)) ∙ fit.begun s)
       (λ t other. refl) others (λ t other. append-nil (os t))
       fit.starts refl (record { busy_in = (fit.timed s).busy_in; last_in = omega (arith, (fit.timed s).last_in); left_in = (fit.timed s).left_in; entered_in = (fit.timed s).entered_in }) before (omega arith))
 
@@ -66,13 +73,12 @@ module _ (spans : List Span) (started : ℕ) (ms : List Made) (order : List ℕ)
       let read = get_or-set_same spans s first no_span inside in
       let e = sym read ∙ starts.each s in
       let written = spans_written (slice_set spans s first) (started_after started (span_at spans s)) (started_after started (span_at spans s)) ms (order ++ fresh) (order ++ fresh) below after
-      (with_starts spans started ms order below os last at guards s fit within before early fresh) (dropped_ops os at fresh) at at guards guards s x starts within
-      (span_is _ _ _ _ first.failed first.times (made_of ms s) (place_in (order ++ fresh) s) (after s) (dropped_ops os at fresh s) (ap (λ (span : Span). span.site) e) (ap (λ (span : Span). span.made) e) (ap (λ (span : Span). span.id) e) (sym none)
-      (ap (λ (span : Span). span.failed) e ∙ ap (λ more. has_error (os s ++ more)) (sym (append-nil (cond (is_in s fresh) (record { at = at; op = Start } ∷ []) []))))
-      (ap (λ (span : Span). span.times) e ∙ ap (λ more. times_of (os s ++ more)) (sym (append-nil (cond (is_in s fresh) (record { at = at; op = Start } ∷ []) [])))))
-      (λ t other. refl) others (λ t other. ap (λ more. os t ++ more) (append-nil (cond (is_in t fresh) (record { at = at; op = Start } ∷ []) [])))
+      (with_starts spans started ms order below os last at guards s fit within before early fresh) (dropped_ops ms order os at fresh) at at guards guards s x starts within
+      (span_is _ _ _ _ first.failed first.times (made_of ms s) (place_in (order ++ fresh) s) (after s) (dropped_ops ms order os at fresh s) (ap (λ (span : Span). span.site) e) (ap (λ (span : Span). span.made) e) (ap (λ (span : Span). span.id) e) (sym none)
+      (ap (λ (span : Span). span.failed) e) (ap (λ (span : Span). span.times) e)) (starts.begun s)
+      (λ t other. refl) others (λ t other. refl)
       starts.starts (ap (λ (span : Span). started_after started (span_at spans s) + cond (is_started span) 1 0) read) (subst (λ (span : Span). IsTimed span.times at guards) read (starts.timed s)) (omega arith) (omega arith) in
-      subst (λ xs. SpansFit xs (started_after started (span_at spans s)) ms (order ++ fresh) after (dropped_ops os at fresh) at guards) (set-set spans s first x) written
+      subst (λ xs. SpansFit xs (started_after started (span_at spans s)) ms (order ++ fresh) after (dropped_ops ms order os at fresh) at guards) (set-set spans s first x) written
 
 module _ (k : State) (now : Tables) (at handle : ℕ)
     (fits : Fits k now) (before : now.moment ≤ at) (early : at ≤ LAST_MOMENT) (short : length k.spans < 2 ^ 64) where
@@ -82,7 +88,7 @@ module _ (k : State) (now : Tables) (at handle : ℕ)
   -- what the spans fit after the drop of a line's handle
   abbrev DroppedSpans : Line → Type 0
   DroppedSpans line = SpansFit (spans_dropped k.started at (handle_of line) k.spans) (started_dropped k.started (handle_of line) k.spans) now.made (now.started ++ newly now.started (closed_of (slice_set now.handles handle None) line))
-      (held (slice_set now.handles handle None)) (dropped_ops now.ops at (newly now.started (closed_of (slice_set now.handles handle None) line))) at (length now.guards)
+      (held (slice_set now.handles handle None)) (dropped_ops now.made now.started now.ops at (newly now.started (closed_of (slice_set now.handles handle None) line))) at (length now.guards)
 
   one_less : (s : ℕ) → slot_at now.handles handle ≡ Some (s ∷ []) → held (slice_set now.handles handle None) s + 1 ≡ held now.handles s
   one_less s there = ap (λ b. held (slice_set now.handles handle None) s + cond (b || false) 1 0) (sym (eq-eqb s s refl)) ∙ held_set now.handles handle (s ∷ []) s there
@@ -123,6 +129,7 @@ module _ (k : State) (now : Tables) (at handle : ℕ)
         each = λ t. fit.each t ∙ ap (λ n. span_by (made_of now.made t) (place_in now.started t) n (now.ops t)) (let change = held_set now.handles handle [] t there in omega (arith, change))
             ∙ ap (span_by (made_of now.made t) (place_in now.started t) (held (slice_set now.handles handle None) t)) (sym (append-nil (now.ops t)));
         starts = fit.starts;
+        begun = λ t. ap start_ids (append-nil (now.ops t)) ∙ fit.begun t;
         placed = fit.placed;
         timed = fit.timed;
         unmade = λ t past. append-nil (now.ops t) ∙ fit.unmade t past;
@@ -143,11 +150,10 @@ module _ (k : State) (now : Tables) (at handle : ℕ)
 
   -- the events of the spans that some handle still holds stay
   pub dropped_events : (line : Line) → IsMade (length now.made) line → slot_at now.handles handle ≡ Some line
-      → EventsFit (events_dropped (handle_of line) k.spans k.events) (length now.made) (held (slice_set now.handles handle None)) (dropped_ops now.ops at (newly now.started (closed_of (slice_set now.handles handle None) line)))
+      → EventsFit (events_dropped (handle_of line) k.spans k.events) (length now.made) (held (slice_set now.handles handle None)) (dropped_ops now.made now.started now.ops at (newly now.started (closed_of (slice_set now.handles handle None) line)))
   dropped_events line made there = record {
     count = by_count line ∙ fits.events_fit.count;
-    each = λ t some. by_line line made there t some ∙ sym (quiet (now.ops t) _ (ap events (append-nil (cond (is_in t (newly now.started (closed_of (slice_set now.handles handle None) line))) (record { at = at; op = Start } ∷ []) []))
-        ∙ quiet_if (is_in t (newly now.started (closed_of (slice_set now.handles handle None) line))) (record { at = at; op = Start }) refl));
+    each = λ t some. by_line line made there t some ∙ sym (quiet (now.ops t) _ (quiet_starts now.made (length now.started + 1) at (newly now.started (closed_of (slice_set now.handles handle None) line)) t));
   }
     where
       count_if : (b : Bool) (s : ℕ) → length (cond b (slice_set k.events s []) k.events) ≡ length k.events
@@ -173,13 +179,18 @@ module _ (k : State) (now : Tables) (at handle : ℕ)
 
   -- ---- the record
 
-  -- the record of a span by the tables after the drop
-  abbrev record_after : List Callsite → List ℕ → ℕ → Record
-  record_after callsites starts t = content (name_at callsites (made_of now.made t).site) (made_of now.made t).at (place_in (now.started ++ starts) t) (dropped_ops now.ops at starts t) at
+  -- without a context at making a span's own ids are its place
+  own_by_place : (place : ℕ) → ids_or_zeros (slice_get (starts_at place no_context) 0) ≡ record { trace = place; span = place }
+  own_by_place zero = refl
+  own_by_place (suc n) = ap (λ b. ids_or_zeros (slice_get (cond b [] (record { trace = suc n; span = suc n } ∷ [])) 0)) (ne_eqb (suc n) 0 (λ e. absurd (omega (arith, e))))
 
-  record_one : (callsites : List Callsite) (s : ℕ) → s < length now.made → slot_at now.handles handle ≡ Some (s ∷ [])
-      → records_dropped callsites k.started at (Enabled s) k.spans k.events ≡ map (record_after callsites (newly now.started (closed_of (slice_set now.handles handle None) (s ∷ [])))) (closed_of (slice_set now.handles handle None) (s ∷ []))
-  record_one callsites s within there =
+  -- the record of a span by the tables after the drop
+  abbrev record_after : Settings → List ℕ → ℕ → Record
+  record_after settings fresh t = content settings (made_of now.made t) (dropped_ops now.made now.started now.ops at fresh t) at
+
+  record_one : (settings : Settings) (s : ℕ) → s < length now.made → slot_at now.handles handle ≡ Some (s ∷ [])
+      → records_dropped settings.callsites k.started at (Enabled s) k.spans k.events ≡ map (record_after settings (newly now.started (closed_of (slice_set now.handles handle None) (s ∷ [])))) (closed_of (slice_set now.handles handle None) (s ∷ []))
+  record_one settings s within there =
       let open_now = any_counted (holds s) (slice_set now.handles handle None) in
       let less = one_less s there in
       let were = holds_are s in
@@ -192,13 +203,17 @@ module _ (k : State) (now : Tables) (at handle : ℕ)
             let mine = sym (get_or-set_same k.spans s (span_closed k.started at (span_at k.spans s)) no_span inside) ∙ fit.each s in
             let site = ap (λ (span : Span). span.site) (fits.spans_fit.each s) in
             let fresh = newly now.started (s ∷ []) in
-            let after_close = span_by (made_of now.made s) (place_in (now.started ++ fresh) s) (held (slice_set now.handles handle None) s) (dropped_ops now.ops at fresh s) in
-            let told = fits.events_fit.each s (omega (arith, less, none)) ∙ sym (quiet (now.ops s) _ (ap events (append-nil (cond (is_in s fresh) (record { at = at; op = Start } ∷ []) [])) ∙ quiet_if (is_in s fresh) (record { at = at; op = Start }) refl)) in
+            let after_close = span_by (made_of now.made s) (place_in (now.started ++ fresh) s) (held (slice_set now.handles handle None) s) (dropped_ops now.made now.started now.ops at fresh s) in
+            let told = fits.events_fit.each s (omega (arith, less, none)) ∙ sym (quiet (now.ops s) _ (quiet_starts now.made (length now.started + 1) at fresh s)) in
+            let finished = content settings (made_of now.made s) (dropped_ops now.made now.started now.ops at fresh s) at in
+            let own_ids_are = ap (λ (ids : List SpanContext). ids_or_zeros (slice_get ids 0)) (fit.begun s ∙ ap (starts_at (place_in (now.started ++ fresh) s)) (fits.contexts s)) ∙ own_by_place (place_in (now.started ++ fresh) s) in
             rw (last_one, shut, lt-ltb s (length k.spans) inside)
-            (ap (λ n. record_by (name_at callsites n) (span_closed k.started at (span_at k.spans s)) (events_at k.events s) at ∷ []) site
-            ∙ ap (λ span. record_by (name_at callsites (made_of now.made s).site) span (events_at k.events s) at ∷ []) mine
-            ∙ ap (λ (told : List OtelEvent). record_by (name_at callsites (made_of now.made s).site) after_close told at ∷ []) told
-            ∙ ap (λ (v : Status). record (content (name_at callsites (made_of now.made s).site) (made_of now.made s).at (place_in (now.started ++ fresh) s) (dropped_ops now.ops at fresh s) at) { status = v } ∷ []) (sym (status_is (dropped_ops now.ops at fresh s)))))
+            (ap (λ n. record_by (name_at settings.callsites n) (span_closed k.started at (span_at k.spans s)) (events_at k.events s) at ∷ []) site
+            ∙ ap (λ span. record_by (name_at settings.callsites (made_of now.made s).site) span (events_at k.events s) at ∷ []) mine
+            ∙ ap (λ (told : List OtelEvent). record_by (name_at settings.callsites (made_of now.made s).site) after_close told at ∷ []) told
+            ∙ ap (λ (ids : SpanContext). record finished { context = ids; parent = 0; status = failed_status (has_error (dropped_ops now.made now.started now.ops at fresh s)) } ∷ []) (sym own_ids_are)
+            ∙ ap (λ (p : ℕ). record finished { parent = p; status = failed_status (has_error (dropped_ops now.made now.started now.ops at fresh s)) } ∷ []) (sym (ap (λ (c : Context). parent_id (ids_of c)) (fits.contexts s)))
+            ∙ ap (λ (v : Status). record finished { status = v } ∷ []) (sym (status_is (dropped_ops now.made now.started now.ops at fresh s)))))
         | inr some ↦
             (let not_last : is_last (span_at k.spans s) ≡ false = le-ltb _ 2 (omega (arith, less, were, some)) in
             let still : is_open (slice_set now.handles handle None) s ≡ true = open_now ∙ lt-ltb 0 _ (omega (arith, some)) in
@@ -206,16 +221,16 @@ module _ (k : State) (now : Tables) (at handle : ℕ)
       ]
 
   -- the records that the code makes are those of the spans that close
-  pub records_after : (callsites : List Callsite) (line : Line) → slot_at now.handles handle ≡ Some line
-      → records_dropped callsites k.started at (handle_of line) k.spans k.events ≡ map (record_after callsites (newly now.started (closed_of (slice_set now.handles handle None) line))) (closed_of (slice_set now.handles handle None) line)
-  records_after callsites line there = by_line line (fits.named handle line there) there
+  pub records_after : (settings : Settings) (line : Line) → slot_at now.handles handle ≡ Some line
+      → records_dropped settings.callsites k.started at (handle_of line) k.spans k.events ≡ map (record_after settings (newly now.started (closed_of (slice_set now.handles handle None) line))) (closed_of (slice_set now.handles handle None) line)
+  records_after settings line there = by_line line (fits.named handle line there) there
     where
       by_line : (line : Line) → IsMade (length now.made) line → slot_at now.handles handle ≡ Some line
-          → records_dropped callsites k.started at (handle_of line) k.spans k.events ≡ map (record_after callsites (newly now.started (closed_of (slice_set now.handles handle None) line))) (closed_of (slice_set now.handles handle None) line)
+          → records_dropped settings.callsites k.started at (handle_of line) k.spans k.events ≡ map (record_after settings (newly now.started (closed_of (slice_set now.handles handle None) line))) (closed_of (slice_set now.handles handle None) line)
       by_line [] made there = refl
       by_line (s ∷ line) made there =
-          subst (λ (rest : Line). records_dropped callsites k.started at (Enabled s) k.spans k.events ≡ map (record_after callsites (newly now.started (closed_of (slice_set now.handles handle None) (s ∷ rest)))) (closed_of (slice_set now.handles handle None) (s ∷ rest)))
-          (sym made.1) (record_one callsites s made.0 (there ∙ ap (λ (rest : Line). Some (s ∷ rest)) made.1))
+          subst (λ (rest : Line). records_dropped settings.callsites k.started at (Enabled s) k.spans k.events ≡ map (record_after settings (newly now.started (closed_of (slice_set now.handles handle None) (s ∷ rest)))) (closed_of (slice_set now.handles handle None) (s ∷ rest)))
+          (sym made.1) (record_one settings s made.0 (there ∙ ap (λ (rest : Line). Some (s ∷ rest)) made.1))
 
   idle_short : (span : Span) → IsTimed span.times at (length now.guards) → idle_by span ≤ LAST_MOMENT
   idle_short span timed = by_left span.made span.times.busy span.times.left (omega (arith, timed.left_in, timed.last_in))

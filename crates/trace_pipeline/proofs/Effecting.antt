@@ -12,7 +12,7 @@ use Rattle.trace_pipeline.specs.declared.reply.Refusal.{Refusal}
 use Rattle.trace_pipeline.specs.declared.reply.Refusal.TheVariants.{Later, BadMoment, InUse}
 use Rattle.trace_pipeline.specs.declared.reply.What.{What}
 use Rattle.trace_pipeline.specs.declared.reply.What.TheVariants as what
-use Rattle.trace_pipeline.specs.History.{Line, Made, Guarded, Effect, History, quiet, with_new, handles, guards, slot_at, is_borrowed, holds, is_open, moment, made, made_of, started, newly, own, closed_of, entries, current}
+use Rattle.trace_pipeline.specs.History.{Line, Made, Guarded, Begun, no_context, Effect, History, quiet, with_new, handles, guards, slot_at, is_borrowed, holds, is_open, moment, made, made_of, starting, own, closed_of, entries, current}
 use Rattle.trace_pipeline.specs.Ops.{done_to}
 use Rattle.trace_pipeline.specs.Effects.{Resolved, named, admits, span_site, event_site, makes_root, declines, clones, enters, exits, drops, tells_to, line_of, current_line, is_later, is_bad_moment, effect_of, effect_of_call}
 use Rattle.trace_pipeline.specs.Laws.{occurrences}
@@ -36,7 +36,7 @@ IsUnknown h s = (line : Line) → IsKnown h line → occurrences s line ≡ 0
 pub data Names (h : History) (at : ℕ) : Option Line → Option Made → Type 0 where
   no_name : Names h at None None
   another : (line : Line) → IsKnown h line → ((s : ℕ) → 0 < occurrences s line → is_open (handles h) s ≡ true) → Names h at (Some line) None
-  new_root : (site : ℕ) → Names h at (Some (length (made h) ∷ [])) (Some (record { site = site; line = length (made h) ∷ []; at = at }))
+  new_root : (site : ℕ) → Names h at (Some (length (made h) ∷ [])) (Some (record { site = site; line = length (made h) ∷ []; at = at; context = no_context }))
 
 -- A spent handle and the spans that close: none, or those of its line that are open no more.
 pub data Spends (slots : List (Option Line)) : Option ℕ → List ℕ → Type 0 where
@@ -44,9 +44,9 @@ pub data Spends (slots : List (Option Line)) : Option ℕ → List ℕ → Type 
   one_spent : (k : ℕ) (line : Line) → slot_at slots k ≡ Some line → Spends slots (Some k) (closed_of (slice_set slots k None) line)
 
 -- what is started: those of some spans that haven't been, and what closes is among them
-pub record StartsNewly (h : History) (starts closes : List ℕ) : Type 0 where
+pub record StartsNewly (h : History) (starts : List Begun) (closes : List ℕ) : Type 0 where
   pub candidates : List ℕ
-  pub newly_is : starts ≡ newly (started h) candidates
+  pub starts_are : starts ≡ starting h candidates
   pub closed_among : (s : ℕ) → 0 < occurrences s closes → 0 < occurrences s candidates
   pub spared : (s : ℕ) → IsUnknown h s → occurrences s candidates ≡ 0
 
@@ -64,7 +64,7 @@ no_guard : (h : History) (guarded : Guarded) → ◌≡◌ {A = Option Guarded} 
 no_guard h guarded is = absurd (cc is)
 
 no_starts : (h : History) → StartsNewly h [] []
-no_starts h = record { candidates = []; newly_is = refl; closed_among = λ s some. some; spared = λ s unknown. refl }
+no_starts h = record { candidates = []; starts_are = refl; closed_among = λ s some. some; spared = λ s unknown. refl }
 
 module _ (h : History) (at lane : ℕ) (later : moment h ≤ at) where
   pub quiet_step : (answer : Reply) → IsStep h (quiet at lane answer)
@@ -94,7 +94,7 @@ module _ (h : History) (at lane : ℕ) (later : moment h ≤ at) where
     guard_line = λ guarded is. subst (λ (g : Guarded). IsKnown h g.line) (the_guard guarded is) (of_handle handle line there);
     starts = record {
       candidates = option_to_list (own line);
-      newly_is = refl;
+      starts_are = refl;
       closed_among = λ s some. absurd (omega (arith, some));
       spared = λ s unknown. (let none = unknown line (of_handle handle line there) in let of_own = own_among s line in omega (arith, none, of_own));
     };
@@ -122,7 +122,7 @@ module _ (h : History) (at lane : ℕ) (later : moment h ≤ at) where
     guard_line = no_guard h;
     starts = record {
       candidates = closed_of (slice_set (handles h) handle None) line;
-      newly_is = refl;
+      starts_are = refl;
       closed_among = λ s some. some;
       spared = λ s unknown.
           (let none = unknown line (of_handle handle line there) in

@@ -6,10 +6,15 @@ use Rattle.std.proofs.lemmas.Bool.{cases_eq, eq-eqb, ne_eqb}
 use Rattle.trace_pipeline.specs.declared.request.TheConstants.{LAST_MOMENT}
 use Rattle.trace_pipeline.specs.declared.names.Guard.{Guard}
 use Rattle.trace_pipeline.specs.declared.span.Span.{Span}
-use Rattle.trace_pipeline.specs.History.{Line, Start, Enter, Exit, Event, Made, Guarded, with_new, slot_at, made_of, place_in, newly, holds, is_in, own, entries_by}
+use Rattle.trace_pipeline.specs.History.{Line, enter_op, exit_op, event_op, Op, Made, Guarded, with_new, slot_at, made_of, place_in, newly, begun, holds, own, entries_by}
+use Rattle.trace_pipeline.specs.Effects.{on}
+use Rattle.std.specs.List.{filter_map}
+use Rattle.std.proofs.Common.{map}
+use Rattle.std.proofs.lemmas.List.Elements.{filter_map-append}
+use Rattle.trace_pipeline.proofs.StartsLemmas.{start_ops, quiet_starts}
 use Rattle.std.specs.Option.{option_to_list}
 use Rattle.std.specs.List.{cons_option}
-use Rattle.trace_pipeline.specs.Ops.{Stamped, events, event_in}
+use Rattle.trace_pipeline.specs.Ops.{Stamped, done_to, start_done, start_ids, events, event_in}
 use Rattle.trace_pipeline.specs.Machine.{no_span, span_at, span_started, span_entered, started_after, spans_entered, started_entered, spans_exited, spans_told, events_told, events_at}
 use Rattle.trace_pipeline.specs.Stands.{SpansFit, EventsFit, GuardsFit, open_of, entered_by, held, IsMade, handle_of, guard_of, span_by}
 use Rattle.trace_pipeline.proofs.Slots.{named_within, none_open, open_push, open_is, open_spent}
@@ -27,6 +32,7 @@ later_spans spans started ms order below os last at guards fit before = record {
   count = fit.count;
   each = fit.each;
   starts = fit.starts;
+  begun = fit.begun;
   placed = fit.placed;
   timed = λ s. record { busy_in = (fit.timed s).busy_in; last_in = omega (arith, (fit.timed s).last_in); left_in = (fit.timed s).left_in; entered_in = (fit.timed s).entered_in };
   unmade = fit.unmade;
@@ -44,6 +50,7 @@ unchanged_spans spans started ms order below after os last at guards fit before 
   count = fit.count;
   each = λ s. fit.each s ∙ ap (λ n. span_by (made_of ms s) (place_in order s) n (os s)) (sym (same s)) ∙ ap (span_by (made_of ms s) (place_in order s) (after s)) (sym (append-nil (os s)));
   starts = fit.starts;
+  begun = λ s. ap start_ids (append-nil (os s)) ∙ fit.begun s;
   placed = fit.placed;
   timed = (later_spans spans started ms order below os last at guards fit before).timed;
   unmade = λ s past. append-nil (os s) ∙ fit.unmade s past;
@@ -94,6 +101,7 @@ same_ops spans started ms order below os ps last guards same fit = record {
   count = fit.count;
   each = λ t. fit.each t ∙ ap (span_by (made_of ms t) (place_in order t) (below t)) (same t);
   starts = fit.starts;
+  begun = λ t. ap start_ids (sym (same t)) ∙ fit.begun t;
   placed = fit.placed;
   timed = fit.timed;
   unmade = λ t past. sym (same t) ∙ fit.unmade t past;
@@ -105,6 +113,7 @@ more_guards spans started ms order below os last guards fit = record {
   count = fit.count;
   each = fit.each;
   starts = fit.starts;
+  begun = fit.begun;
   placed = fit.placed;
   timed = λ s. record { busy_in = (fit.timed s).busy_in; last_in = (fit.timed s).last_in; left_in = (fit.timed s).left_in; entered_in = omega (arith, (fit.timed s).entered_in) };
   unmade = fit.unmade;
@@ -112,7 +121,7 @@ more_guards spans started ms order below os last guards fit = record {
 
 pub exited_line : (spans : List Span) (started : ℕ) (ms : List Made) (order : List ℕ) (below : ℕ → ℕ) (os : ℕ → List Stamped) (last at guards : ℕ) (line : Line) → IsMade (length ms) line
     → SpansFit spans started ms order below os last guards → last ≤ at → at ≤ LAST_MOMENT
-    → SpansFit (spans_exited at (handle_of line) spans) started ms order below (λ t. os t ++ on_line t line (record { at = at; op = Exit })) at guards
+    → SpansFit (spans_exited at (handle_of line) spans) started ms order below (λ t. os t ++ on_line t line (record { at = at; op = exit_op })) at guards
 exited_line spans started ms order below os last at guards [] made fit before early =
     same_ops spans started ms order below os (λ t. os t ++ []) at guards (λ t. sym (append-nil (os t))) (later_spans spans started ms order below os last at guards fit before)
 exited_line spans started ms order below os last at guards (s ∷ line) made fit before early = exited_fit spans started ms order below os last at guards s fit made.0 before early
@@ -123,10 +132,6 @@ same_events told made below os ps same fit = record { count = fit.count; each = 
 
 pub quiet : (os more : List Stamped) → events more ≡ [] → events (os ++ more) ≡ events os
 quiet os more none = flat_map-append (λ op. event_in op.op) os more ∙ ap (λ (xs : List OtelEvent). events os ++ xs) none ∙ append-nil (events os)
-
-pub quiet_if : (b : Bool) (op : Stamped) → event_in op.op ≡ [] → events (cond b (op ∷ []) []) ≡ []
-quiet_if true op none = append-nil (event_in op.op) ∙ none
-quiet_if false op none = refl
 
 pub quiet_on : (t : ℕ) (line : Line) (op : Stamped) → event_in op.op ≡ [] → events (on_line t line op) ≡ []
 quiet_on t [] op none = refl
@@ -159,7 +164,7 @@ exited_guards kept open_guard gs es guard guarded fit there = record {
 pub entered_line : (spans : List Span) (started : ℕ) (ms : List Made) (order : List ℕ) (below : ℕ → ℕ) (os : ℕ → List Stamped) (last at guards : ℕ) (line : Line) → IsMade (length ms) line
     → SpansFit spans started ms order below os last guards → last ≤ at → at ≤ LAST_MOMENT → guards + 1 < 2 ^ 64 → length spans < 2 ^ 64
     → SpansFit (spans_entered started at (handle_of line) spans) (started_entered started (handle_of line) spans) ms (order ++ newly order (option_to_list (own line))) below
-    (λ t. os t ++ (cond (is_in t (newly order (option_to_list (own line)))) (record { at = at; op = Start } ∷ []) [] ++ on_line t line (record { at = at; op = Enter }))) at (guards + 1)
+    (λ t. os t ++ filter_map (done_to t at) (map start_done (begun ms (length order + 1) (newly order (option_to_list (own line)))) ++ on line enter_op)) at (guards + 1)
 entered_line spans started ms order below os last at guards [] made fit before early few short =
     rw (append-nil order) (same_ops spans started ms order below os (λ t. os t ++ []) at (guards + 1) (λ t. sym (append-nil (os t)))
     (more_guards spans started ms order below os at guards (later_spans spans started ms order below os last at guards fit before)))
@@ -170,8 +175,9 @@ entered_line spans started ms order below os last at guards (s ∷ line) made fi
     let enters = entered_fit (slice_set spans s first) (started_after started (span_at spans s)) ms (order ++ newly order (s ∷ [])) below _ at at guards s starts made.0 (omega arith) early few in
     let one_write = ap (λ x. slice_set (slice_set spans s first) s (span_entered at x)) (get_or-set_same spans s first no_span inside) ∙ set-set spans s first (span_entered at first) in
     rw (lt-ltb s (length spans) inside, ← one_write)
-    (same_ops _ _ _ _ _ _ (λ t. os t ++ (cond (is_in t (newly order (s ∷ []))) (record { at = at; op = Start } ∷ []) [] ++ on_line t (s ∷ line) (record { at = at; op = Enter }))) _ _
-    (λ t. append_assoc (os t) (cond (is_in t (newly order (s ∷ []))) (record { at = at; op = Start } ∷ []) []) (on_line t (s ∷ []) (record { at = at; op = Enter }))) enters)
+    (same_ops _ _ _ _ _ _ (λ t. os t ++ filter_map (done_to t at) (map start_done (begun ms (length order + 1) (newly order (s ∷ []))) ++ on (s ∷ line) enter_op)) _ _
+    (λ t. append_assoc (os t) (start_ops ms (length order + 1) at (newly order (s ∷ [])) t) (on_line t (s ∷ []) (record { at = at; op = enter_op }))
+    ∙ ap (λ (more : List Stamped). os t ++ more) (sym (filter_map-append (done_to t at) (map start_done (begun ms (length order + 1) (newly order (s ∷ [])))) (on (s ∷ line) enter_op)))) enters)
 
 -- a guard was made, where none was open
 pub entered_guards : (kept : List (Option Guard)) (open_guard : Option Guard) (gs : List (Option Guarded)) (es : List ℕ) (guarded : Guarded) → GuardsFit kept open_guard gs es → open_of gs ≡ None
@@ -188,22 +194,23 @@ entered_guards kept open_guard gs es guarded fit shut = record {
     alone (Some s) = refl
 
 -- a start and an op that is no event
-pub quiet_ops : (told : List (List OtelEvent)) (made : ℕ) (below : ℕ → ℕ) (os : ℕ → List Stamped) (at : ℕ) (starts : List ℕ) (line : Line) (op : Stamped) → event_in op.op ≡ []
-    → EventsFit told made below os → EventsFit told made below (λ t. os t ++ (cond (is_in t starts) (record { at = at; op = Start } ∷ []) [] ++ on_line t line op))
-quiet_ops told made below os at starts line op none =
-    same_events told made below os _ (λ t. quiet (os t) _ (quiet (cond (is_in t starts) (record { at = at; op = Start } ∷ []) []) _ (quiet_on t line op none) ∙ quiet_if (is_in t starts) (record { at = at; op = Start }) refl))
+pub quiet_ops : (told : List (List OtelEvent)) (made : ℕ) (below : ℕ → ℕ) (os : ℕ → List Stamped) (ms : List Made) (k at : ℕ) (fresh : List ℕ) (line : Line) (op : Op) → event_in op ≡ []
+    → EventsFit told made below os → EventsFit told made below (λ t. os t ++ filter_map (done_to t at) (map start_done (begun ms k fresh) ++ on line op))
+quiet_ops told made below os ms k at fresh line op none =
+    same_events told made below os _ (λ t. quiet (os t) _ (ap events (filter_map-append (done_to t at) (map start_done (begun ms k fresh)) (on line op))
+    ∙ quiet (start_ops ms k at fresh t) _ (quiet_on t line (record { at = at; op = op }) none) ∙ quiet_starts ms k at fresh t))
 
 -- ---- events
 
 pub told_line : (spans : List Span) (started : ℕ) (ms : List Made) (order : List ℕ) (below : ℕ → ℕ) (os : ℕ → List Stamped) (last at guards : ℕ) (is_error : Bool) (event : OtelEvent) (line : Line) → IsMade (length ms) line
     → SpansFit spans started ms order below os last guards → last ≤ at → at ≤ LAST_MOMENT
-    → SpansFit (spans_told is_error at (handle_of line) spans) started ms order below (λ t. os t ++ on_line t line (record { at = at; op = Event is_error event })) at guards
+    → SpansFit (spans_told is_error at (handle_of line) spans) started ms order below (λ t. os t ++ on_line t line (record { at = at; op = event_op is_error event })) at guards
 told_line spans started ms order below os last at guards is_error event [] made fit before early =
     same_ops spans started ms order below os (λ t. os t ++ []) at guards (λ t. sym (append-nil (os t))) (later_spans spans started ms order below os last at guards fit before)
 told_line spans started ms order below os last at guards is_error event (s ∷ line) made fit before early = told_fit spans started ms order below os last at guards s fit made.0 before early is_error event
 
 pub told_events : (told : List (List OtelEvent)) (made : ℕ) (below : ℕ → ℕ) (os : ℕ → List Stamped) (at : ℕ) (is_error : Bool) (event : OtelEvent) (line : Line) → IsMade made line
-    → EventsFit told made below os → EventsFit (events_told event (handle_of line) told) made below (λ t. os t ++ on_line t line (record { at = at; op = Event is_error event }))
+    → EventsFit told made below os → EventsFit (events_told event (handle_of line) told) made below (λ t. os t ++ on_line t line (record { at = at; op = event_op is_error event }))
 told_events told made below os at is_error event [] there fit = same_events told made below os (λ t. os t ++ []) (λ t. ap events (append-nil (os t))) fit
 told_events told made below os at is_error event (s ∷ line) there fit = record {
   count = length-set told s _ ∙ fit.count;
@@ -217,4 +224,4 @@ told_events told made below os at is_error event (s ∷ line) there fit = record
 }
   where
     op : Stamped
-    op = record { at = at; op = Event is_error event }
+    op = record { at = at; op = event_op is_error event }

@@ -1,5 +1,5 @@
 -- Busy time and idle time add up to the time from a span's making to its last exit.
-use Rattle.std.proofs.Common.{◌≡◌, ℕ, ◌+◌, ◌-◌, ◌<◌, ◌≤◌, List, [], ◌∷◌, ◌++◌, length, Bool, true, false, cond, nat_lt, Option, Some, None, ◌==◌, Ok, refl, sym, ap, subst, ◌∙◌, arith, inl, inr}
+use Rattle.std.proofs.Common.{◌≡◌, ℕ, ◌+◌, ◌-◌, ◌<◌, ◌≤◌, List, [], ◌∷◌, ◌++◌, length, Bool, true, false, cond, Option, Some, None, ◌==◌, Ok, refl, sym, ap, subst, ◌∙◌, arith, inl, inr}
 use Rattle.std.specs.Option.{option_map_or}
 use Rattle.std.specs.List.{filter_map, cons_option}
 use Rattle.std.proofs.lemmas.List.{append-nil, append_assoc, length_push, get_or_push}
@@ -8,14 +8,17 @@ use Rattle.std.proofs.lemmas.Bool.Decides.{nat_tests}
 use Rattle.trace_pipeline.specs.declared.settings.Settings.{Settings}
 use Rattle.trace_pipeline.specs.declared.request.Request.{Request}
 use Rattle.trace_pipeline.specs.declared.times.Times.{Times}
-use Rattle.trace_pipeline.specs.History.{Line, Made, Op, Start, Done, Effect, History, with_new, moment, made, made_of, started, closed, newly, is_in}
-use Rattle.trace_pipeline.specs.Ops.{Stamped, done_to, ops, ops_in, gap, busy, idle, last_exit}
+use Rattle.trace_pipeline.specs.History.{Line, Made, Op, Done, Begun, Effect, History, no_making, no_context, with_new, moment, made, made_of, started, closed, newly}
+use Rattle.trace_pipeline.specs.Ops.{Stamped, done_to, start_done, ops, ops_in, gap, busy, idle, last_exit}
 use Rattle.trace_pipeline.specs.Effects.{effect_of}
 use Rattle.trace_pipeline.specs.Stands.{times_of}
-use Rattle.trace_pipeline.specs.Laws.{IsHistory, none, more, occurrences, made_at, open_entries}
+use Rattle.trace_pipeline.specs.Laws.{IsHistory, none, more, made_at, open_entries}
 use Rattle.trace_pipeline.proofs.Tables.{moment_push, made_push, ops_push}
 use Rattle.trace_pipeline.proofs.Timing.{timed, times_push}
-use Rattle.trace_pipeline.proofs.Occurring.{is_in_counted, newly_among}
+use Rattle.trace_pipeline.proofs.Occurring.{newly_among}
+use Rattle.trace_pipeline.proofs.StartsLemmas.{unstarted}
+use Rattle.std.proofs.lemmas.List.Elements.{filter_map-append}
+use Rattle.std.proofs.Common.{map}
 use Rattle.trace_pipeline.proofs.Effecting.{IsUnknown, Names, no_name, another, new_root, step_of}
 use Rattle.trace_pipeline.proofs.Closing.{known_line, sound}
 use Rattle.trace_pipeline.proofs.Writing.{get_push_other}
@@ -66,10 +69,6 @@ module _ (start at : ℕ) (times : Times) (spent : IsSpent start at times) where
 
 module _ (start at : ℕ) where
   -- the ops of one effect
-  some_op : (os : List Stamped) (op : Op) (is : Bool) → IsSpent start at (times_of os) → IsSpent start at (times_of (os ++ cond is (record { at = at; op = op } ∷ []) []))
-  some_op os op true spent = subst (IsSpent start at) (sym (times_push os (record { at = at; op = op }))) (op_spent start at (times_of os) spent op)
-  some_op os op false spent = subst (λ (more : List Stamped). IsSpent start at (times_of more)) (sym (append-nil os)) spent
-
   done_spent : (os : List Stamped) (s : ℕ) (ds : List Done) → IsSpent start at (times_of os) → IsSpent start at (times_of (os ++ filter_map (done_to s at) ds))
   done_spent os s [] spent = subst (λ (more : List Stamped). IsSpent start at (times_of more)) (sym (append-nil os)) spent
   done_spent os s (d ∷ ds) spent = by_test (d.span == s) (done_spent os s ds spent) (done_spent (os ++ record { at = at; op = d.op } ∷ []) s ds (subst (IsSpent start at) (sym (times_push os _)) (op_spent start at (times_of os) spent d.op)))
@@ -79,12 +78,6 @@ module _ (start at : ℕ) where
       by_test true rest one = subst (λ (more : List Stamped). IsSpent start at (times_of more)) (append_assoc os (record { at = at; op = d.op } ∷ []) (filter_map (done_to s at) ds)) one
       by_test false rest one = rest
 
-effect_spent : (start : ℕ) (os : List Stamped) (s : ℕ) (e : Effect) → IsSpent start e.at (times_of os) → IsSpent start e.at (times_of (os ++ ops_in s e))
-effect_spent start os s e spent =
-    subst (λ (more : List Stamped). IsSpent start e.at (times_of more))
-    (append_assoc os (cond (is_in s e.starts) (record { at = e.at; op = Start } ∷ []) []) (filter_map (done_to s e.at) e.ops))
-    (done_spent start e.at (os ++ cond (is_in s e.starts) (record { at = e.at; op = Start } ∷ []) []) s e.ops (some_op start e.at os Start (is_in s e.starts) spent))
-
 -- ---- what each request does
 
 -- a new span is made at the effect's moment
@@ -92,9 +85,9 @@ made_now : (h : History) (at : ℕ) (o : Option Line) (m : Option Made) → Name
 made_now h at _ _ no_name s above within = absurd (omega (arith, above, within))
 made_now h at _ _ (another line known opened) s above within = absurd (omega (arith, above, within))
 made_now h at _ _ (new_root site) s above within =
-    let new : Made = record { site = site; line = length (made h) ∷ []; at = at } in
+    let new : Made = record { site = site; line = length (made h) ∷ []; at = at; context = no_context } in
     let count = length_push (made h) new in
-    ap (λ (m : Made). m.at) (get_or_push (made h) new (record { site = 0; line = []; at = 0 }) s (omega (arith, count)))
+    ap (λ (m : Made). m.at) (get_or_push (made h) new no_making s (omega (arith, count)))
 
 as_many : (ms : List Made) (o : Option Made) → length ms ≤ length (with_new ms o)
 as_many ms None = omega arith
@@ -105,9 +98,6 @@ made_before : (ms : List Made) (o : Option Made) (s : ℕ) → s < length ms →
 made_before ms None s old = refl
 made_before ms (Some m) s old = get_push_other ms m _ s (λ same. absurd (omega (arith, old, same)))
 
-absent : (s : ℕ) (xs : List ℕ) → occurrences s xs ≡ 0 → is_in s xs ≡ false
-absent s xs zero_times = is_in_counted s xs ∙ ap (nat_lt 0) zero_times
-
 -- a span that isn't made stands in no known line
 unknown : (settings : Settings) (h : History) (s : ℕ) → IsHistory settings h → length (made h) ≤ s → IsUnknown h s
 unknown settings h s legal above line known =
@@ -117,9 +107,12 @@ unknown settings h s legal above line known =
 spares_unmade : (settings : Settings) (h : History) (request : Request) (e : Effect) (s : ℕ) → IsHistory settings h → effect_of settings h request ≡ Ok e → length (made h) ≤ s → ops_in s e ≡ []
 spares_unmade settings h request e s legal is above =
     let step = step_of settings h request e is in
-    let none = step.starts.spared s (unknown settings h s legal above) in
+    let missing = unknown settings h s legal above in
+    let none = step.starts.spared s missing in
     let new = newly_among (started h) step.starts.candidates s in
-    rw (step.starts.newly_is, absent s (newly (started h) step.starts.candidates) (omega (arith, none, new)), step.ops_spared s (unknown settings h s legal above)) refl
+    filter_map-append (done_to s e.at) (map start_done e.starts) e.ops
+    ∙ ap (λ (bs : List Begun). filter_map (done_to s e.at) (map start_done bs) ++ filter_map (done_to s e.at) e.ops) step.starts.starts_are
+    ∙ rw (unstarted (made h) (length (started h) + 1) e.at (newly (started h) step.starts.candidates) s (omega (arith, none, new)), step.ops_spared s missing) refl
 
 -- so it has no ops
 no_ops : (settings : Settings) (h : History) (s : ℕ) → IsHistory settings h → length (made h) ≤ s → ops h s ≡ []
@@ -143,7 +136,7 @@ times_spent settings _ s (more h request e before is) within =
       | inl old ↦ spent_as (made_at (h ++ e ∷ []) s) (made_at h s) (moment (h ++ e ∷ [])) e.at (ops (h ++ e ∷ []) s) (ops h s ++ ops_in s e)
           (here ∙ ap (λ (m : Made). m.at) (made_before (made h) e.made s old))
           (moment_push h e) (ops_push h e s)
-          (effect_spent (made_at h s) (ops h s) s e (later_spent (made_at h s) (moment h) e.at (times_of (ops h s)) (times_spent settings h s before old) (step_of settings h request e is).later))
+          (done_spent (made_at h s) e.at (ops h s) s (map start_done e.starts ++ e.ops) (later_spent (made_at h s) (moment h) e.at (times_of (ops h s)) (times_spent settings h s before old) (step_of settings h request e is).later))
       | inr new ↦ spent_as (made_at (h ++ e ∷ []) s) e.at (moment (h ++ e ∷ [])) e.at (ops (h ++ e ∷ []) s) []
           (here ∙ made_now h e.at e.new_handle e.made (step_of settings h request e is).names s new (subst (λ (ms : List Made). s < length ms) (made_push h e) within))
           (moment_push h e)

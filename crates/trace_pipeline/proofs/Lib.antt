@@ -3,6 +3,7 @@ pub mod Tables
 pub mod Timing
 pub mod Telling
 pub mod Writing
+pub mod StartsLemmas
 pub mod Steps
 pub mod Fitting
 pub mod Dropping

@@ -17,18 +17,20 @@ use Rattle.trace_pipeline.specs.declared.reply.Refusal.TheVariants.{InUse}
 use Rattle.trace_pipeline.specs.declared.names.Guard.{Guard}
 use Rattle.trace_pipeline.specs.declared.names.Handle.{Handle}
 use Rattle.trace_pipeline.specs.declared.names.Handle.TheVariants.{Disabled, Enabled}
-use Rattle.trace_pipeline.specs.History.{Line, Guarded, Effect, quiet, History, handles, guards, slot_at, is_borrowed, made, made_of, started, newly, moment, entries, own, current, Enter, Exit}
-use Rattle.trace_pipeline.specs.Ops.{ops}
+use Rattle.trace_pipeline.specs.History.{Line, Guarded, Done, Effect, quiet, History, handles, guards, slot_at, is_borrowed, made, made_of, started, newly, moment, entries, own, current, enter_op, exit_op}
+use Rattle.trace_pipeline.specs.Ops.{ops, events, done_to, start_done}
+use Rattle.std.specs.List.{filter_map}
 use Rattle.trace_pipeline.specs.Effects.{Resolved, effect_of_call, span_site, event_site, admits, makes_root, declines, clones, enters, exits, drops, tells_to, event_of, is_error_level, current_line, line_of}
 use Rattle.trace_pipeline.specs.Machine.{spans_held, is_enabled, spans_entered, started_entered, spans_exited, spans_told, events_told, spans_dropped, started_dropped, events_dropped, records_dropped, IsShort, is_borrowed_by, current_of}
 use Rattle.trace_pipeline.proofs.Slots.{borrowed_by}
 use Rattle.trace_pipeline.specs.Stands.{State, Kept, SpansFit, StandsFor, Served, held, IsMade, open_of, entered_by, handle_of, guard_of}
-use Rattle.trace_pipeline.proofs.Tables.{made_push, started_push, ops_push}
+use Rattle.trace_pipeline.proofs.Tables.{made_push, ops_push}
+use Rattle.trace_pipeline.proofs.StartsLemmas.{begun_spans}
 use Rattle.trace_pipeline.proofs.Standing.{stands_step}
 use Rattle.trace_pipeline.proofs.Cloning.{cloned_spans, cloned_events, enabled_line}
 use Rattle.trace_pipeline.proofs.Effecting.{quiet_step, declined as declines_step, made_root as makes_step, cloned as clones_step, entered as enters_step, exited as exits_step, dropped as drops_step, told as tells_step}
 use Rattle.trace_pipeline.proofs.Writing.{new_span}
-use Rattle.trace_pipeline.proofs.Fitting.{unchanged_spans, unchanged_events, held_disabled, made_spans, made_events, entered_guards, entered_line, exited_guards, exited_line, quiet_ops, told_line, told_events}
+use Rattle.trace_pipeline.proofs.Fitting.{unchanged_spans, unchanged_events, held_disabled, made_spans, made_events, entered_guards, entered_line, exited_guards, exited_line, quiet_ops, same_ops, same_events, told_line, told_events}
 use Rattle.trace_pipeline.proofs.Dropping.{dropped_line, dropped_events, records_after, short_times}
 
 map_same : {A B : Type 0} (f g : A → B) (xs : List A) → ((x : A) → f x ≡ g x) → map f xs ≡ map g xs
@@ -232,9 +234,9 @@ module _ (kept old : Kept) (same : kept ≡ old) (settings : Settings) (h : Hist
         handles_are = refl;
         moment_is = refl;
         guards_are = entered_guards kept.state.guards kept.state.open_guard (guards h) (entries h 0) (record { handle = handle; lane = 0; line = found.line }) here.fits.guards_fit none;
-        spans_are = rw (length_push (guards h) (Some (record { handle = handle; lane = 0; line = found.line })))
+        spans_are = rw (length_push (guards h) (Some (record { handle = handle; lane = 0; line = found.line })), begun_spans (made h) (length (started h) + 1) (newly (started h) (option_to_list (own found.line))))
             (entered_line kept.state.spans kept.state.started (made h) (started h) (held (handles h)) (ops h) (moment h) at (length (guards h)) found.line (here.fits.named handle found.line found.there) here.fits.spans_fit before early (omega (arith, count, few)) short);
-        events_are = quiet_ops kept.state.events (length (made h)) (held (handles h)) (ops h) at (newly (started h) (option_to_list (own found.line))) found.line (record { at = at; op = Enter }) refl here.fits.events_fit;
+        events_are = quiet_ops kept.state.events (length (made h)) (held (handles h)) (ops h) (made h) (length (started h) + 1) at (newly (started h) (option_to_list (own found.line))) found.line enter_op refl here.fits.events_fit;
       }))
 
   pub serves_exited : (guard : ℕ) (g : Guard) → slot_at kept.state.guards guard ≡ Some g
@@ -252,7 +254,7 @@ module _ (kept old : Kept) (same : kept ≡ old) (settings : Settings) (h : Hist
         guards_are = exited_guards kept.state.guards kept.state.open_guard (guards h) (entries h 0) guard found.guarded here.fits.guards_fit found.there;
         spans_are = rw (append-nil (started h), length-set (guards h) guard None)
             (exited_line kept.state.spans kept.state.started (made h) (started h) (held (handles h)) (ops h) (moment h) at (length (guards h)) line (here.fits.kept guard found.guarded found.there) here.fits.spans_fit before early);
-        events_are = quiet_ops kept.state.events (length (made h)) (held (handles h)) (ops h) at [] line (record { at = at; op = Exit }) refl here.fits.events_fit;
+        events_are = quiet_ops kept.state.events (length (made h)) (held (handles h)) (ops h) (made h) 0 at [] line exit_op refl here.fits.events_fit;
       }))
 
   pub serves_dropped : (handle : ℕ) (d : Handle) (finished : List Record) → slot_at kept.state.handles handle ≡ Some d → is_borrowed_by kept.state.open_guard handle ≡ false → length kept.state.spans < 2 ^ 64
@@ -267,8 +269,8 @@ module _ (kept old : Kept) (same : kept ≡ old) (settings : Settings) (h : Hist
       ∙ ap (λ (d : Handle). kept.finished ++ records_dropped kept.state.settings.callsites kept.state.started at d kept.state.spans kept.state.events) found.is
       ∙ ap (λ (s : Settings). kept.finished ++ records_dropped s.callsites kept.state.started at (handle_of line) kept.state.spans kept.state.events) here.settings_kept
       ∙ ap (λ more. kept.finished ++ more)
-      (records_after kept.state (tables h) at handle here.fits before early short settings.callsites line found.there
-      ∙ map_same _ _ _ (λ s. rw (made_push h e, started_push h e, ops_push h e s) refl)) in
+      (records_after kept.state (tables h) at handle here.fits before early short settings line found.there
+      ∙ map_same _ _ _ (λ s. rw (made_push h e, ops_push h e s, append-nil (map start_done e.starts)) refl)) in
       subst (λ (d : Handle). Served (effect_of_call settings h at 0 (call.Drop handle)) settings h old (without_handle kept at handle d finished) reply.Done) (sym found.is)
       (serves _ e _ _ (rw (found.there, unborrowed handle free) refl) refl all
       (stands_step kept.state settings h here _ e (drops_step h at 0 before handle line found.there) early record {
@@ -277,8 +279,12 @@ module _ (kept old : Kept) (same : kept ≡ old) (settings : Settings) (h : Hist
         handles_are = refl;
         moment_is = refl;
         guards_are = here.fits.guards_fit;
-        spans_are = dropped_line kept.state (tables h) at handle here.fits before early short line (here.fits.named handle line found.there) found.there;
-        events_are = dropped_events kept.state (tables h) at handle here.fits before early short line (here.fits.named handle line found.there) found.there;
+        spans_are = rw (begun_spans (made h) (length (started h) + 1) (newly (started h) e.closes)) (same_ops _ _ _ _ _ _ _ _ _
+            (λ t. ap (λ (ds : List Done). ops h t ++ filter_map (done_to t at) ds) (sym (append-nil (map start_done e.starts))))
+            (dropped_line kept.state (tables h) at handle here.fits before early short line (here.fits.named handle line found.there) found.there));
+        events_are = same_events _ _ _ _ _
+            (λ t. ap (λ (ds : List Done). events (ops h t ++ filter_map (done_to t at) ds)) (append-nil (map start_done e.starts)))
+            (dropped_events kept.state (tables h) at handle here.fits before early short line (here.fits.named handle line found.there) found.there);
       }))
 
   now_current : (handle_of (current_line h 0) ≡ current_of kept.state.open_guard) × IsMade (length (made h)) (current_line h 0)

@@ -5,7 +5,7 @@ use Rattle.std.proofs.lemmas.Bool.{cases_eq, cases_lt}
 use Rattle.std.proofs.lemmas.List.{get_or_past}
 use Rattle.trace_pipeline.specs.declared.request.TheConstants.{LAST_MOMENT}
 use Rattle.trace_pipeline.specs.declared.settings.Settings.{Settings}
-use Rattle.trace_pipeline.specs.History.{Line, Made, Guarded, Effect, History, with_new, without, slots_after, handles, guards, slot_at, made, made_of}
+use Rattle.trace_pipeline.specs.History.{Line, Made, Guarded, Effect, History, with_new, without, slots_after, handles, guards, slot_at, made, no_making, no_context, made_of}
 use Rattle.trace_pipeline.specs.Stands.{State, Fits, SpansFit, EventsFit, GuardsFit, StandsFor, IsMade, handle_of, held}
 use Rattle.trace_pipeline.proofs.Slots.{named_push, named_set}
 use Rattle.trace_pipeline.specs.Tables.{tables, after}
@@ -59,7 +59,7 @@ module _ (k : State) (settings : Settings) (h : History) (stands : StandsFor k s
   known_made _ (of_guard n guarded there) = stands.fits.kept n guarded there
   known_made _ (of_span s) = elim (cases_lt s (length (made h))) [
     | inl below ↦ subst (IsMade (length (made h))) (sym (stands.fits.lines s below)) (below, refl)
-    | inr above ↦ subst (IsMade (length (made h))) (sym (ap (λ (m : Made). m.line) (get_or_past (made h) s (record { site = 0; line = []; at = 0 }) above))) tt
+    | inr above ↦ subst (IsMade (length (made h))) (sym (ap (λ (m : Made). m.line) (get_or_past (made h) s no_making above))) tt
   ]
 
   names_made : (at : ℕ) (o : Option Line) (m : Option Made) → Names h at o m → (n : ℕ) (line : Line) → slot_at (with_new (handles h) (option_map Some o)) n ≡ Some line → IsMade (length (with_new (made h) m)) line
@@ -67,7 +67,7 @@ module _ (k : State) (settings : Settings) (h : History) (stands : StandsFor k s
   names_made at _ _ (another new known opened) n line there =
       named_push (IsMade (length (made h))) (handles h) (Some new) stands.fits.named (λ line is. subst (IsMade (length (made h))) (the_line new line is) (known_made new known)) n line there
   names_made at _ _ (new_root site) n line there =
-      let m : Made = record { site = site; line = length (made h) ∷ []; at = at } in
+      let m : Made = record { site = site; line = length (made h) ∷ []; at = at; context = no_context } in
       named_push (IsMade (length (made h ++ m ∷ []))) (handles h) (Some (length (made h) ∷ []))
       (λ n line e. grows (made h) (Some m) line (stands.fits.named n line e))
       (λ line is. subst (IsMade (length (made h ++ m ∷ []))) (the_line (length (made h) ∷ []) line is) (let n = length_push (made h) m in omega arith, refl)) n line there
@@ -83,10 +83,20 @@ module _ (k : State) (settings : Settings) (h : History) (stands : StandsFor k s
   lines_made at _ _ no_name s within = stands.fits.lines s within
   lines_made at _ _ (another new known opened) s within = stands.fits.lines s within
   lines_made at _ _ (new_root site) s within =
-      let m : Made = record { site = site; line = length (made h) ∷ []; at = at } in
+      let m : Made = record { site = site; line = length (made h) ∷ []; at = at; context = no_context } in
       elim (cases_eq s (length (made h))) [
-        | inl same ↦ ap (λ (m : Made). m.line) (get_or_push (made h) m (record { site = 0; line = []; at = 0 }) s (sym same)) ∙ ap (λ n. n ∷ []) (sym same)
+        | inl same ↦ ap (λ (m : Made). m.line) (get_or_push (made h) m no_making s (sym same)) ∙ ap (λ n. n ∷ []) (sym same)
         | inr other ↦ ap (λ (m : Made). m.line) (get_push_other (made h) m _ s other) ∙ stands.fits.lines s (let n = length_push (made h) m in omega (arith, other, within, n))
+      ]
+
+  contexts_made : (at : ℕ) (o : Option Line) (m : Option Made) → Names h at o m → (s : ℕ) → (made_of (with_new (made h) m) s).context ≡ no_context
+  contexts_made at _ _ no_name s = stands.fits.contexts s
+  contexts_made at _ _ (another new known opened) s = stands.fits.contexts s
+  contexts_made at _ _ (new_root site) s =
+      let m : Made = record { site = site; line = length (made h) ∷ []; at = at; context = no_context } in
+      elim (cases_eq s (length (made h))) [
+        | inl same ↦ ap (λ (m : Made). m.context) (get_or_push (made h) m no_making s (sym same))
+        | inr other ↦ ap (λ (m : Made). m.context) (get_push_other (made h) m _ s other) ∙ stands.fits.contexts s
       ]
 
   -- What is kept stands for one effect more, if it is what the effect leaves.
@@ -103,6 +113,7 @@ module _ (k : State) (settings : Settings) (h : History) (stands : StandsFor k s
       named = λ n line there. names_made e.at e.new_handle e.made step.names n line (still_named (with_new (handles h) (option_map Some e.new_handle)) e.spent_handle n line there);
       kept = λ n g there. grows (made h) e.made g.line (guards_made e.new_guard step.guard_line n g (still_named (with_new (guards h) (option_map Some e.new_guard)) e.spent_guard n g there));
       lines = lines_made e.at e.new_handle e.made step.names;
+      contexts = contexts_made e.at e.new_handle e.made step.names;
       early = early;
     };
   }

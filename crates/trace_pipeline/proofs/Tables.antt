@@ -6,7 +6,7 @@ use Rattle.std.proofs.lemmas.List.Elements.{filter_map-append}
 use Rattle.std.specs.List.{cons_option}
 use Rattle.std.proofs.lemmas.Bool.{cases_eq}
 use Rattle.std.proofs.lemmas.Bool.Decides.{nat_tests}
-use Rattle.trace_pipeline.specs.History.{Made, Effect, History, with_new, slots_after, handles, guards, made, started, closed, moment, place_in, entries, entries_after}
+use Rattle.trace_pipeline.specs.History.{Made, Effect, History, with_new, slots_after, handles, guards, made, started, started_by, closed, moment, place_in, entries, entries_after}
 use Rattle.trace_pipeline.specs.Ops.{Stamped, ops, ops_in}
 use Rattle.trace_pipeline.specs.Tables.{tables, after}
 use Rattle.std.proofs.Math.Path.{fun_ext}
@@ -30,8 +30,8 @@ made_push h e = filter_map-append (λ (e : Effect). e.made) h (e ∷ []) ∙ by_
     by_made None = append-nil (made h)
     by_made (Some m) = refl
 
-pub started_push : (h : History) (e : Effect) → started (h ++ e ∷ []) ≡ started h ++ e.starts
-started_push h e = sym (flat_map_more (λ e. e.starts) [] h e)
+pub started_push : (h : History) (e : Effect) → started (h ++ e ∷ []) ≡ started h ++ started_by e
+started_push h e = sym (flat_map_more started_by [] h e)
 
 pub closed_push : (h : History) (e : Effect) → closed (h ++ e ∷ []) ≡ closed h ++ e.closes
 closed_push h e = sym (flat_map_more (λ e. e.closes) [] h e)

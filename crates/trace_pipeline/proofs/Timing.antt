@@ -5,7 +5,8 @@ use Rattle.std.proofs.lemmas.Bool.Decides.{nat_tests}
 use Rattle.otel_base.specs.declared.record.OtelEvent.{OtelEvent}
 use Rattle.trace_pipeline.specs.declared.request.TheConstants.{LAST_MOMENT}
 use Rattle.trace_pipeline.specs.declared.times.Times.{Times}
-use Rattle.trace_pipeline.specs.History.{Start, Enter, Exit, Event}
+use Rattle.trace_pipeline.specs.History.{start_op, enter_op, exit_op, event_op}
+use Rattle.otel_base.specs.declared.context.SpanContext.{SpanContext}
 use Rattle.trace_pipeline.specs.Ops.{Stamped, entered_after, gap, busy_from, exit_by}
 use Rattle.trace_pipeline.specs.Machine.{capped, times_at}
 use Rattle.trace_pipeline.specs.Stands.{times_of, IsTimed}
@@ -38,10 +39,10 @@ busy_below times last guards at fits below = let more = gap_within times.entered
 
 -- ---- the code's times are those of one op more, and they are in time
 
-pub times_started : (times : Times) (last guards at : ℕ) → IsTimed times last guards → last ≤ at → at ≤ LAST_MOMENT → times_at times at ≡ timed times (record { at = at; op = Start })
-times_started times last guards at fits below early = rw (busy_fits times last guards at fits below early) refl
+pub times_started : (times : Times) (last guards at : ℕ) (ids : SpanContext) → IsTimed times last guards → last ≤ at → at ≤ LAST_MOMENT → times_at times at ≡ timed times (record { at = at; op = start_op ids })
+times_started times last guards at ids fits below early = rw (busy_fits times last guards at fits below early) refl
 
-pub times_told : (times : Times) (last guards at : ℕ) (is_error : Bool) (event : OtelEvent) → IsTimed times last guards → last ≤ at → at ≤ LAST_MOMENT → times_at times at ≡ timed times (record { at = at; op = Event is_error event })
+pub times_told : (times : Times) (last guards at : ℕ) (is_error : Bool) (event : OtelEvent) → IsTimed times last guards → last ≤ at → at ≤ LAST_MOMENT → times_at times at ≡ timed times (record { at = at; op = event_op is_error event })
 times_told times last guards at is_error event fits below early = rw (busy_fits times last guards at fits below early) refl
 
 pub started_in_time : (times : Times) (last guards at : ℕ) → IsTimed times last guards → last ≤ at → at ≤ LAST_MOMENT → IsTimed (times_at times at) at guards
@@ -52,7 +53,7 @@ started_in_time times last guards at fits below early =
 abbrev pub entered_at : Times → ℕ → Times
 entered_at times at = record (times_at times at) { entered = capped (times.entered + 1) }
 
-pub times_entered : (times : Times) (last guards at : ℕ) → IsTimed times last guards → last ≤ at → at ≤ LAST_MOMENT → guards + 1 < 2 ^ 64 → entered_at times at ≡ timed times (record { at = at; op = Enter })
+pub times_entered : (times : Times) (last guards at : ℕ) → IsTimed times last guards → last ≤ at → at ≤ LAST_MOMENT → guards + 1 < 2 ^ 64 → entered_at times at ≡ timed times (record { at = at; op = enter_op })
 times_entered times last guards at fits below early few =
     let more : capped (times.entered + 1) ≡ times.entered + 1 = omega (arith, fits.entered_in) in
     rw (busy_fits times last guards at fits below early, more) refl
@@ -65,7 +66,7 @@ entered_in_time times last guards at fits below early few =
 abbrev pub exited_at : Times → ℕ → Times
 exited_at times at = record (times_at times at) { entered = times.entered - 1; left = Some at }
 
-pub times_exited : (times : Times) (last guards at : ℕ) → IsTimed times last guards → last ≤ at → at ≤ LAST_MOMENT → exited_at times at ≡ timed times (record { at = at; op = Exit })
+pub times_exited : (times : Times) (last guards at : ℕ) → IsTimed times last guards → last ≤ at → at ≤ LAST_MOMENT → exited_at times at ≡ timed times (record { at = at; op = exit_op })
 times_exited times last guards at fits below early = rw (busy_fits times last guards at fits below early) refl
 
 pub exited_in_time : (times : Times) (last guards at : ℕ) → IsTimed times last guards → last ≤ at → at ≤ LAST_MOMENT → IsTimed (exited_at times at) at guards

@@ -6,10 +6,10 @@ use Rattle.std.proofs.lemmas.List.{length_push, length-set, get_or_push, get_or_
 use Rattle.std.proofs.lemmas.Bool.{cases_eq}
 use Rattle.trace_pipeline.specs.declared.span.Span.{Span}
 use Rattle.trace_pipeline.specs.declared.times.Times.{Times}
-use Rattle.trace_pipeline.specs.History.{Made, made_of, place_in}
-use Rattle.trace_pipeline.specs.Ops.{Stamped}
+use Rattle.trace_pipeline.specs.History.{Made, no_making, made_of, place_in}
+use Rattle.trace_pipeline.specs.Ops.{Stamped, start_ids}
 use Rattle.trace_pipeline.specs.Machine.{no_times, no_span, span_at}
-use Rattle.trace_pipeline.specs.Stands.{SpansFit, IsTimed, span_by, times_of, is_started, has_error}
+use Rattle.trace_pipeline.specs.Stands.{SpansFit, IsTimed, span_by, times_of, is_started, starts_at, has_error}
 
 pub get_push_other : {A : Type 0} (xs : List A) (y d : A) (i : ℕ) → i ≢ length xs → get_or (xs ++ y ∷ []) i d ≡ get_or xs i d
 get_push_other [] y d zero other = absurd (other refl)
@@ -41,6 +41,10 @@ spans_added spans started ms order below after os last guards m fit here others 
         ∙ ap (λ n. span_by (made_of (ms ++ m ∷ []) s) (place_in order s) n (os s)) (sym (others s other))
   ];
   starts = fit.starts;
+  begun = λ s. elim (cases_eq s (length ms)) [
+    | inl same ↦ fit.begun s ∙ ap (λ n. starts_at n (made_of ms s).context) (unplaced s same) ∙ sym (ap (λ n. starts_at n (made_of (ms ++ m ∷ []) s).context) (unplaced s same))
+    | inr other ↦ fit.begun s ∙ ap (λ (made : Made). starts_at (place_in order s) made.context) (sym (get_push_other ms m _ s other))
+  ];
   placed = sum_by_push (λ span. cond (is_started span) 1 0) spans x ∙ (let kept = fit.placed in omega arith);
   timed = λ s. elim (cases_eq s (length ms)) [
     | inl same ↦ subst (λ (span : Span). IsTimed span.times last guards) (sym (get_or_push spans x no_span s (fit.count ∙ sym same))) (no_times_fit last guards)
@@ -52,10 +56,13 @@ spans_added spans started ms order below after os last guards m fit here others 
     x : Span
     x = new_span m.site m.at
 
+    unplaced : (s : ℕ) → s ≡ length ms → place_in order s ≡ 0
+    unplaced s same = sym (ap (λ (span : Span). span.id) (sym (get_or_past spans s no_span (let n = fit.count in omega arith)) ∙ fit.each s))
+
     at_end : (s : ℕ) → s ≡ length ms → span_at (spans ++ new_span m.site m.at ∷ []) s ≡ span_by (made_of (ms ++ m ∷ []) s) (place_in order s) (after s) (os s)
     at_end s same =
         let past = sym (get_or_past spans s no_span (let n = fit.count in omega arith)) ∙ fit.each s in
-        let mine = get_or_push ms m (record { site = 0; line = []; at = 0 }) s (sym same) in
+        let mine = get_or_push ms m no_making s (sym same) in
         get_or_push spans (new_span m.site m.at) no_span s (fit.count ∙ sym same)
         ∙ span_is _ _ _ _ _ _ (made_of (ms ++ m ∷ []) s) (place_in order s) (after s) (os s)
         (ap (λ (made : Made). made.site) (sym mine)) (ap (λ (made : Made). made.at) (sym mine)) (ap (λ (span : Span). span.id) past)
@@ -65,12 +72,12 @@ spans_added spans started ms order below after os last guards m fit here others 
 -- A write of one span, where the tables change for it alone.
 pub spans_written : (spans : List Span) (started now : ℕ) (ms : List Made) (order later : List ℕ) (below after : ℕ → ℕ) (os ps : ℕ → List Stamped) (last at guards more s : ℕ) (x : Span)
     → SpansFit spans started ms order below os last guards → s < length ms
-    → x ≡ span_by (made_of ms s) (place_in later s) (after s) (ps s)
+    → x ≡ span_by (made_of ms s) (place_in later s) (after s) (ps s) → start_ids (ps s) ≡ starts_at (place_in later s) (made_of ms s).context
     → ((t : ℕ) → t ≢ s → place_in later t ≡ place_in order t) → ((t : ℕ) → t ≢ s → after t ≡ below t) → ((t : ℕ) → t ≢ s → ps t ≡ os t)
     → now ≡ length later → now + cond (is_started (span_at spans s)) 1 0 ≡ started + cond (is_started x) 1 0
     → IsTimed x.times at more → last ≤ at → guards ≤ more
     → SpansFit (slice_set spans s x) now ms later after ps at more
-spans_written spans started now ms order later below after os ps last at guards more s x fit within is places holds ops starts placed timed below_at below_more = record {
+spans_written spans started now ms order later below after os ps last at guards more s x fit within is begun places holds ops starts placed timed below_at below_more = record {
   count = length-set spans s x ∙ fit.count;
   each = λ t. elim (cases_eq t s) [
     | inl same ↦ subst (λ n. span_at (slice_set spans s x) n ≡ span_by (made_of ms n) (place_in later n) (after n) (ps n)) (sym same) (here ∙ is)
@@ -78,6 +85,10 @@ spans_written spans started now ms order later below after os ps last at guards 
         ∙ rw (places t other, holds t other, ops t other) refl
   ];
   starts = starts;
+  begun = λ t. elim (cases_eq t s) [
+    | inl same ↦ subst (λ n. start_ids (ps n) ≡ starts_at (place_in later n) (made_of ms n).context) (sym same) begun
+    | inr other ↦ ap start_ids (ops t other) ∙ fit.begun t ∙ ap (λ n. starts_at n (made_of ms t).context) (sym (places t other))
+  ];
   placed = let change = sum_by-set (λ span. cond (is_started span) 1 0) spans s x no_span inside in let before = fit.placed in omega (arith, change, placed);
   timed = λ t. elim (cases_eq t s) [
     | inl same ↦ subst (λ n. IsTimed (span_at (slice_set spans s x) n).times at more) (sym same) (subst (λ (span : Span). IsTimed span.times at more) (sym here) timed)

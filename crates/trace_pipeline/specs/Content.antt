@@ -6,8 +6,10 @@ use Rattle.otel_base.specs.declared.record.SpanKind.TheVariants.{Internal}
 use Rattle.otel_base.specs.declared.value.KeyValue.{KeyValue}
 use Rattle.otel_base.specs.declared.value.OtelValue.TheVariants.{I64}
 use Rattle.trace_pipeline.specs.declared.settings.Settings.{Settings}
-use Rattle.trace_pipeline.specs.History.{History, Effect, made, made_of, id_of}
-use Rattle.trace_pipeline.specs.Ops.{Stamped, ops, busy, idle, end_of, events, status}
+use Rattle.trace_pipeline.specs.History.{History, Made, Effect, made, made_of}
+use Rattle.otel_base.specs.Ids.{ids_of}
+use Rattle.otel_base.specs.RecorderIds.{parent_id}
+use Rattle.trace_pipeline.specs.Ops.{Stamped, ops, own_ids, busy, idle, end_of, events, status}
 
 -- the name of the callsite at a place
 abbrev pub site_name : Settings → ℕ → List ℕ
@@ -18,17 +20,16 @@ abbrev pub closing_attributes : ℕ → List Stamped → List KeyValue
 closing_attributes start os =
     record { key = codes "busy_ns"; value = I64 (pos (busy os)) } ∷ record { key = codes "idle_ns"; value = I64 (pos (idle os start)) } ∷ []
 
--- The record of a root with a name, which was made at a moment, got an id, had these ops and closed at a moment.
--- A root's trace id is its own id.
-abbrev pub content : List ℕ → ℕ → ℕ → List Stamped → ℕ → Record
-content name start id os closed = record {
-  name = name;
+-- The record of a making, the ops of its span and the moment at which that closed.
+abbrev pub content : Settings → Made → List Stamped → ℕ → Record
+content settings making os closed = record {
+  name = site_name settings making.site;
   kind = Internal;
-  context = record { trace = id; span = id };
-  parent = 0;
-  start = start;
+  context = own_ids os;
+  parent = parent_id (ids_of making.context);
+  start = making.at;
   end = end_of os closed;
-  attributes = closing_attributes start os;
+  attributes = closing_attributes making.at os;
   events = events os;
   links = [];
   status = status os;
@@ -36,7 +37,7 @@ content name start id os closed = record {
 
 -- the record of a span that closes at a moment
 abbrev pub record_of : Settings → History → ℕ → ℕ → Record
-record_of settings h at s = content (site_name settings (made_of (made h) s).site) (made_of (made h) s).at (id_of h s) (ops h s) at
+record_of settings h at s = content settings (made_of (made h) s) (ops h s) at
 
 -- the records of the spans that an effect closes, with that effect's own ops
 abbrev pub records_of : Settings → History → Effect → List Record

@@ -22,7 +22,7 @@ use Rattle.trace_pipeline.specs.declared.reply.Refusal.{Refusal}
 use Rattle.trace_pipeline.specs.declared.reply.Refusal.TheVariants.{Later, BadMoment, UnknownName, InUse}
 use Rattle.trace_pipeline.specs.declared.reply.What.{What}
 use Rattle.trace_pipeline.specs.declared.reply.What.TheVariants as what
-use Rattle.trace_pipeline.specs.History.{Line, Op, Enter, Exit, Event, Done, Effect, quiet, History, handles, guards, slot_at, is_borrowed, moment, made, made_of, started, newly, own, closed_of, entries, current}
+use Rattle.trace_pipeline.specs.History.{Line, Op, enter_op, exit_op, event_op, Done, Effect, quiet, History, handles, guards, slot_at, is_borrowed, moment, made, made_of, no_context, starting, own, closed_of, entries, current}
 
 -- ---- admission
 
@@ -83,7 +83,7 @@ declines h at lane = record (quiet at lane (reply.Made false (length (handles h)
 abbrev pub makes_root : History → ℕ → ℕ → ℕ → Effect
 makes_root h at lane site =
     let line : Line = length (made h) ∷ [] in
-    record (quiet at lane (reply.Made true (length (handles h)))) { new_handle = Some line; made = Some (record { site = site; line = line; at = at }) }
+    record (quiet at lane (reply.Made true (length (handles h)))) { new_handle = Some line; made = Some (record { site = site; line = line; at = at; context = no_context }) }
 
 -- an admitted callsite gives a root and a handle of it, any other a disabled handle
 abbrev pub makes : Settings → History → ℕ → ℕ → ℕ → Callsite → Effect
@@ -97,19 +97,19 @@ clones h at lane line = record (quiet at lane (reply.Made (is_some (own line)) (
 abbrev pub enters : History → ℕ → ℕ → ℕ → Line → Effect
 enters h at lane handle line = record (quiet at lane (reply.Guard (length (guards h)))) {
   new_guard = Some (record { handle = handle; lane = lane; line = line });
-  starts = newly (started h) (option_to_list (own line));
-  ops = on line Enter;
+  starts = starting h (option_to_list (own line));
+  ops = on line enter_op;
   entry = own line;
 }
 
 abbrev pub exits : ℕ → ℕ → ℕ → Line → Effect
-exits at lane guard line = record (quiet at lane reply.Done) { spent_guard = Some guard; ops = on line Exit; exit = own line }
+exits at lane guard line = record (quiet at lane reply.Done) { spent_guard = Some guard; ops = on line exit_op; exit = own line }
 
 -- The spans that close are those that no unspent handle holds any more; a close starts a span that hasn't been started.
 abbrev pub drops : History → ℕ → ℕ → ℕ → Line → Effect
 drops h at lane handle line =
     let closing = closed_of (slice_set (handles h) handle None) line in
-    record (quiet at lane reply.Done) { spent_handle = Some handle; starts = newly (started h) closing; closes = closing }
+    record (quiet at lane reply.Done) { spent_handle = Some handle; starts = starting h closing; closes = closing }
 
 -- a handle that an open guard borrows isn't dropped
 abbrev pub drops_unless : Bool → Effect → Resolved
@@ -141,7 +141,7 @@ current_line h lane = line_of h (current (entries h lane))
 
 -- an event that is told to the span of a line, or to none
 abbrev pub tells_to : ℕ → ℕ → Callsite → Line → Effect
-tells_to at lane callsite line = record (quiet at lane (reply.Enabled true)) { ops = on line (Event (is_error_level callsite.level) (event_of callsite at)) }
+tells_to at lane callsite line = record (quiet at lane (reply.Enabled true)) { ops = on line (event_op (is_error_level callsite.level) (event_of callsite at)) }
 
 -- an admitted event is told to the lane's current span, any other leaves nothing
 abbrev pub tells : Settings → History → ℕ → ℕ → Callsite → Effect

@@ -1,19 +1,31 @@
 -- A history: for each request what it did. Spans are named by their numbers in the order of making.
-use Rattle.std.specs.Prelude.{ℕ, ◌+◌, ◌-◌, List, [], ◌∷◌, ◌++◌, length, fold, filter, count_by, Bool, true, false, not, ◌==◌, if◌then◌else◌, Option, Some, None, option_map, slice_get, slice_set}
+use Rattle.std.specs.Prelude.{ℕ, ◌+◌, ◌-◌, List, [], ◌∷◌, ◌++◌, length, fold, map, filter, count_by, Bool, true, false, not, ◌==◌, if◌then◌else◌, Option, Some, None, option_map, slice_get, slice_set}
 use Rattle.otel_base.specs.declared.record.OtelEvent.{OtelEvent}
 use Rattle.std.specs.List.{flat_map, filter_map, list_any, slice_index_or, range_with_len}
 use Rattle.std.specs.Option.{option_map_or}
 use Rattle.trace_pipeline.specs.declared.reply.Reply.{Reply}
+use Rattle.otel_base.specs.declared.context.Context.{Context}
+use Rattle.otel_base.specs.declared.context.SpanContext.{SpanContext}
+use Rattle.otel_base.specs.Ids.{ids_of}
+use Rattle.otel_base.specs.RecorderIds.{recorder_ids}
 
 -- The line of a span: the span, its parent, and so on up. A disabled handle has the empty line.
 abbrev pub Line : Type 0
 Line = List ℕ
 
--- what a making made: a span of a callsite, which is told by its place
+-- the empty context
+abbrev pub no_context : Context
+no_context = record { span = None }
+
+-- what a making made: a span of a callsite, which is told by its place, at a moment and in a context
 pub record Made : Type 0 where
   pub site : ℕ
   pub line : Line
   pub at : ℕ
+  pub context : Context
+
+abbrev pub no_making : Made
+no_making = record { site = 0; line = []; at = 0; context = no_context }
 
 -- what a guard keeps: its handle, the lane that it was made on, and the line that the handle had
 pub record Guarded : Type 0 where
@@ -23,7 +35,8 @@ pub record Guarded : Type 0 where
 
 -- What is done to a span after its making: whether it starts, enters or exits it, and what it tells.
 pub record Op : Type 0 where
-  pub starts : Bool
+  -- the span's own ids, if it starts the span
+  pub start : Option SpanContext
   pub enters : Bool
   pub exits : Bool
   -- whether it is of level ERROR
@@ -32,25 +45,31 @@ pub record Op : Type 0 where
 
 -- what does nothing
 abbrev pub still : Op
-still = record { starts = false; enters = false; exits = false; is_error = false; event = None }
+still = record { start = None; enters = false; exits = false; is_error = false; event = None }
 
-abbrev pub Start : Op
-Start = record still { starts = true }
+-- a start with the span's own ids
+abbrev pub start_op : SpanContext → Op
+start_op ids = record still { start = Some ids }
 
-abbrev pub Enter : Op
-Enter = record still { enters = true }
+abbrev pub enter_op : Op
+enter_op = record still { enters = true }
 
-abbrev pub Exit : Op
-Exit = record still { exits = true }
+abbrev pub exit_op : Op
+exit_op = record still { exits = true }
 
 -- an event, which may be of level ERROR
-abbrev pub Event : Bool → OtelEvent → Op
-Event is_error event = record still { is_error = is_error; event = Some event }
+abbrev pub event_op : Bool → OtelEvent → Op
+event_op is_error event = record still { is_error = is_error; event = Some event }
 
 -- an op on a span
 pub record Done : Type 0 where
   pub span : ℕ
   pub op : Op
+
+-- a span that starts, and its own ids
+pub record Begun : Type 0 where
+  pub span : ℕ
+  pub ids : SpanContext
 
 -- A request's effect: its moment and lane, what it changed, and its reply.
 pub record Effect : Type 0 where
@@ -65,7 +84,7 @@ pub record Effect : Type 0 where
   -- the span that it made
   pub made : Option Made
   -- the spans that it started, in order
-  pub starts : List ℕ
+  pub starts : List Begun
   -- what else it did to spans, in order
   pub ops : List Done
   -- the spans that it closed, each before its parent
@@ -143,7 +162,7 @@ abbrev pub made : History → List Made
 made h = filter_map (λ e. e.made) h
 
 abbrev pub made_of : List Made → ℕ → Made
-made_of makings s = slice_index_or makings s (record { site = 0; line = []; at = 0 })
+made_of makings s = slice_index_or makings s no_making
 
 abbrev pub is_in : ℕ → Line → Bool
 is_in s line = list_any (λ x. x == s) line
@@ -171,9 +190,13 @@ open_spans h = count_by (is_open (handles h)) (range_with_len 0 (length (made h)
 
 -- ---- starts and ids
 
+-- the spans that a request starts, in order
+abbrev pub started_by : Effect → List ℕ
+started_by e = map (λ begun. begun.span) e.starts
+
 -- the spans in the order of their starts
 abbrev pub started : History → List ℕ
-started h = flat_map (λ e. e.starts) h
+started h = flat_map started_by h
 
 -- The place of a span in an order, from 1, and 0 if it stands nowhere.
 abbrev pub place_in : List ℕ → ℕ → ℕ
@@ -188,6 +211,16 @@ id_of h s = place_in (started h) s
 abbrev pub newly : List ℕ → List ℕ → List ℕ
 newly order [] = []
 newly order (s ∷ ss) = if place_in order s == 0 then s ∷ newly (order ++ s ∷ []) ss else newly order ss
+
+-- Spans that start, the first as the k-th: each gets the ids that a recorder gives it under its context at making.
+abbrev pub begun : List Made → ℕ → List ℕ → List Begun
+begun makings k [] = []
+begun makings k (s ∷ ss) =
+    record { span = s; ids = recorder_ids k (ids_of (made_of makings s).context) } ∷ begun makings (k + 1) ss
+
+-- the starts of those of the spans that haven't been started
+abbrev pub starting : History → List ℕ → List Begun
+starting h spans = begun (made h) (length (started h) + 1) (newly (started h) spans)
 
 -- a line's own span, if it has one: its first
 abbrev pub own : Line → Option ℕ

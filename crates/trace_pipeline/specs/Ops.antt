@@ -1,5 +1,5 @@
 -- The ops of a span, and the times that they give.
-use Rattle.std.specs.Prelude.{ℕ, ◌+◌, ◌-◌, List, [], ◌∷◌, ◌++◌, fold, Bool, nat_lt, ◌==◌, if◌then◌else◌, Option, Some, None, unwrap_or}
+use Rattle.std.specs.Prelude.{ℕ, ◌+◌, ◌-◌, List, [], ◌∷◌, ◌++◌, fold, map, slice_get, Bool, nat_lt, ◌==◌, if◌then◌else◌, Option, Some, None, unwrap_or}
 use Rattle.std.specs.List.{flat_map, filter_map}
 use Rattle.std.specs.Ordering.{nat_cmp, match_ordering}
 use Rattle.std.specs.Cmp.Lexicographic.{slice_cmp}
@@ -7,7 +7,9 @@ use Rattle.otel_base.specs.declared.record.OtelEvent.{OtelEvent}
 use Rattle.otel_base.specs.declared.status.Status.{Status}
 use Rattle.otel_base.specs.declared.status.Status.TheVariants.{Unset, Error, Ok}
 use Rattle.std.specs.Option.{option_map_or, option_to_list}
-use Rattle.trace_pipeline.specs.History.{Op, Start, Done, Effect, History, is_in}
+use Rattle.trace_pipeline.specs.History.{Op, start_op, Begun, Done, Effect, History}
+use Rattle.otel_base.specs.declared.context.SpanContext.{SpanContext}
+use Rattle.otel_base.specs.Ids.{ids_or_zeros}
 
 -- an op with its moment
 pub record Stamped : Type 0 where
@@ -18,13 +20,26 @@ pub record Stamped : Type 0 where
 abbrev pub done_to : ℕ → ℕ → Done → Option Stamped
 done_to s at done = if done.span == s then Some (record { at = at; op = done.op }) else None
 
--- the start comes before what else the request does to the span
+abbrev pub start_done : Begun → Done
+start_done begun = record { span = begun.span; op = start_op begun.ids }
+
+-- what a request does to s: its start comes before all else
 abbrev pub ops_in : ℕ → Effect → List Stamped
-ops_in s e = (if is_in s e.starts then record { at = e.at; op = Start } ∷ [] else []) ++ filter_map (done_to s e.at) e.ops
+ops_in s e = filter_map (done_to s e.at) (map start_done e.starts ++ e.ops)
 
 -- the ops of a span, in order
 abbrev pub ops : History → ℕ → List Stamped
 ops h s = flat_map (ops_in s) h
+
+-- ---- the start
+
+-- the ids of the starts among the ops
+abbrev pub start_ids : List Stamped → List SpanContext
+start_ids os = filter_map (λ op. op.op.start) os
+
+-- the span's own ids: those of its first start, both 0 where it has none
+abbrev pub own_ids : List Stamped → SpanContext
+own_ids os = ids_or_zeros (slice_get (start_ids os) 0)
 
 -- ---- times
 

@@ -1,5 +1,5 @@
 -- A pipeline's state stands for settings and the requests so far.
-use Rattle.std.specs.Prelude.{◌≡◌, ℕ, ◌<◌, ◌≤◌, List, [], ◌∷◌, ◌++◌, length, Result, Ok, Err, IfOk, IfErr, ◌≢◌, Option, Some, None, option_map, unwrap_or, map, fold, count_by, Bool, nat_lt, is_some}
+use Rattle.std.specs.Prelude.{◌≡◌, ℕ, ◌<◌, ◌≤◌, List, [], ◌∷◌, ◌++◌, length, Result, Ok, Err, IfOk, IfErr, ◌≢◌, Option, Some, None, option_map, unwrap_or, map, fold, count_by, Bool, nat_lt, ◌==◌, if◌then◌else◌, is_some}
 use Rattle.std.specs.List.{list_any}
 use Rattle.std.specs.Option.{option_to_list}
 use Rattle.otel_base.specs.declared.record.Record.{Record}
@@ -20,9 +20,13 @@ use Rattle.trace_pipeline.specs.declared.reply.Refusal.{Refusal}
 use Rattle.trace_pipeline.specs.declared.reply.Refusal.TheVariants.{Memory}
 use Rattle.trace_pipeline.specs.Effects.{Resolved, in_force, effect_of, effect_of_call}
 use Rattle.trace_pipeline.specs.Content.{records_of}
+use Rattle.otel_base.specs.declared.context.Context.{Context}
+use Rattle.otel_base.specs.declared.context.SpanContext.{SpanContext}
+use Rattle.otel_base.specs.Ids.{ids_of}
+use Rattle.otel_base.specs.RecorderIds.{recorder_ids}
 use Rattle.trace_pipeline.specs.Tables.{Tables, tables}
-use Rattle.trace_pipeline.specs.History.{Line, Made, Guarded, Effect, History, moment, slot_at, made_of, place_in, holds, own}
-use Rattle.trace_pipeline.specs.Ops.{Stamped, entered_after, busy, last_exit, events, is_error_event}
+use Rattle.trace_pipeline.specs.History.{Line, Made, Guarded, Effect, History, no_context, moment, slot_at, made_of, place_in, holds, own}
+use Rattle.trace_pipeline.specs.Ops.{Stamped, start_ids, entered_after, busy, last_exit, events, is_error_event}
 
 -- what is kept, but for the finished records
 pub record State : Type 0 where
@@ -80,12 +84,17 @@ pub record IsTimed (times : Times) (last guards : ℕ) : Type 0 where
   pub left_in : unwrap_or times.left 0 ≤ times.last
   pub entered_in : times.entered ≤ guards
 
+-- The ids of a span's starts by its place in their order: none where it has none, else those of that place.
+abbrev pub starts_at : ℕ → Context → List SpanContext
+starts_at place context = if place == 0 then [] else recorder_ids place (ids_of context) ∷ []
+
 -- The spans fit the makings, the order of the starts, the numbers of holds and the ops: for each number, past the
 -- end too, what is kept of a span is what these give.
 pub record SpansFit (spans : List Span) (started : ℕ) (ms : List Made) (order : List ℕ) (below : ℕ → ℕ) (os : ℕ → List Stamped) (last guards : ℕ) : Type 0 where
   pub count : length spans ≡ length ms
   pub each : (s : ℕ) → span_at spans s ≡ span_by (made_of ms s) (place_in order s) (below s) (os s)
   pub starts : started ≡ length order
+  pub begun : (s : ℕ) → start_ids (os s) ≡ starts_at (place_in order s) (made_of ms s).context
   pub placed : count_by is_started spans ≡ started
   pub timed : (s : ℕ) → IsTimed (span_at spans s).times last guards
   pub unmade : (s : ℕ) → length ms ≤ s → os s ≡ []
@@ -128,6 +137,7 @@ pub record Fits (k : State) (t : Tables) : Type 0 where
   pub named : (n : ℕ) (line : Line) → slot_at t.handles n ≡ Some line → IsMade (length t.made) line
   pub kept : (n : ℕ) (guarded : Guarded) → slot_at t.guards n ≡ Some guarded → IsMade (length t.made) guarded.line
   pub lines : (s : ℕ) → s < length t.made → (made_of t.made s).line ≡ s ∷ []
+  pub contexts : (s : ℕ) → (made_of t.made s).context ≡ no_context
   pub early : t.moment ≤ LAST_MOMENT
 
 -- the state stands for settings and the effects of the requests so far

@@ -1,6 +1,6 @@
 -- The tables of a history, and what each gains by one effect more.
 use Rattle.std.specs.Prelude.{ℕ, List, ◌++◌, Option}
-use Rattle.trace_pipeline.specs.History.{Line, Made, Guarded, Effect, History, with_new, slots_after, handles, guards, made, started, closed, entries, entries_after, moment}
+use Rattle.trace_pipeline.specs.History.{Line, Made, Guarded, Effect, History, with_new, slots_after, handles, guards, made, started, started_by, closed, entries, entries_after, moment}
 use Rattle.trace_pipeline.specs.Ops.{Stamped, ops, ops_in}
 
 -- The tables are those of History and Ops; entries go by lane, ops by span.
@@ -32,7 +32,7 @@ after t e = record {
   handles = slots_after t.handles e.new_handle e.spent_handle;
   guards = slots_after t.guards e.new_guard e.spent_guard;
   made = with_new t.made e.made;
-  started = t.started ++ e.starts;
+  started = t.started ++ started_by e;
   closed = t.closed ++ e.closes;
   entries = λ lane. entries_after lane (t.entries lane) e;
   ops = λ s. t.ops s ++ ops_in s e;
