@@ -6,7 +6,7 @@ use Rattle.std.proofs.lemmas.Bool.{cases_lt}
 use Rattle.std.proofs.lemmas.Bool.Decides.{nat_tests}
 use Rattle.trace_pipeline.proofs.Counting.{range_more}
 use Rattle.trace_pipeline.specs.declared.settings.Settings.{Settings}
-use Rattle.trace_pipeline.specs.History.{Line, History, handles, made, closed, is_open, open_spans}
+use Rattle.trace_pipeline.specs.History.{Scope, History, handles, made, closed, is_open, open_spans}
 use Rattle.trace_pipeline.specs.Laws.{IsHistory, occurrences}
 use Rattle.trace_pipeline.proofs.Occurring.{occurs_cons}
 use Rattle.trace_pipeline.proofs.Closing.{sound}
@@ -42,7 +42,7 @@ among_all (x ∷ xs) n others =
       | inr above ↦ absurd (let all = occurs_cons x x xs in let none = others x above in grind (arith, nat_tests, all, none))
     ]
 
-module _ (hs : List (Option Line)) (n : ℕ) (cs : List ℕ) (ended : (s : ℕ) → occurrences s cs ≡ cond (nat_lt s n && not (is_open hs s)) 1 0) where
+module _ (hs : List (Option Scope)) (n : ℕ) (cs : List ℕ) (ended : (s : ℕ) → occurrences s cs ≡ cond (nat_lt s n && not (is_open hs s)) 1 0) where
   either : (m : ℕ) → m ≤ n → among cs m + count_by (is_open hs) (range_with_len 0 m) ≡ m
   either zero within = refl
   either (suc m) within =

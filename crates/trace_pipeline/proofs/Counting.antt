@@ -7,8 +7,8 @@ use Rattle.std.proofs.lemmas.List.FromFn.{map-range_with_len_more}
 use Rattle.trace_pipeline.specs.declared.span.Span.{Span}
 use Rattle.trace_pipeline.specs.declared.settings.Settings.{Settings}
 use Rattle.trace_pipeline.specs.History.{History, handles, holds, is_open, open_spans}
-use Rattle.trace_pipeline.specs.Machine.{no_span, is_held}
-use Rattle.trace_pipeline.specs.Stands.{State, StandsFor}
+use Rattle.trace_pipeline.specs.Bodies.{no_span, is_held}
+use Rattle.trace_pipeline.specs.Fits.{State, StandsFor}
 use Rattle.trace_pipeline.proofs.Slots.{any_counted}
 
 pub range_more : (n : ℕ) → range_with_len 0 (suc n) ≡ range_with_len 0 n ++ n ∷ []

@@ -6,9 +6,9 @@ use Rattle.std.proofs.lemmas.List.{length-set, get_or-set_same, set-set, append-
 use Rattle.std.proofs.lemmas.Bool.{cases_eq, eq-eqb, ne_eqb, lt-ltb, le-ltb}
 use Rattle.otel_base.specs.declared.record.Record.{Record}
 use Rattle.trace_pipeline.specs.declared.request.TheConstants.{LAST_MOMENT}
-use Rattle.trace_pipeline.specs.declared.names.Handle.TheVariants.{Enabled}
+use Rattle.trace_pipeline.specs.declared.handles.Handle.TheVariants.{Enabled}
 use Rattle.trace_pipeline.specs.declared.span.Span.{Span}
-use Rattle.trace_pipeline.specs.History.{Line, Made, no_context, slot_at, made_of, place_in, newly, holds, is_open, closed_of}
+use Rattle.trace_pipeline.specs.History.{Scope, Made, no_context, slot_at, made_of, place_in, newly, holds, is_open, closed_of}
 use Rattle.trace_pipeline.specs.declared.settings.Settings.{Settings}
 use Rattle.otel_base.specs.declared.context.Context.{Context}
 use Rattle.otel_base.specs.declared.context.SpanContext.{SpanContext}
@@ -19,8 +19,8 @@ use Rattle.std.proofs.Common.{zero, suc, slice_get}
 use Rattle.trace_pipeline.specs.Ops.{Stamped, start_ids, events}
 use Rattle.trace_pipeline.specs.Content.{content}
 use Rattle.trace_pipeline.specs.Tables.{Tables}
-use Rattle.trace_pipeline.specs.Machine.{no_span, span_at, span_started, started_after, span_closed, spans_dropped, started_dropped, events_dropped, events_at, records_dropped, record_by, name_at, is_last, closes, IsShort, idle_by}
-use Rattle.trace_pipeline.specs.Stands.{State, Fits, SpansFit, EventsFit, has_error, held, IsMade, IsTimed, handle_of, span_by, times_of, is_started, starts_at}
+use Rattle.trace_pipeline.specs.Bodies.{no_span, span_at, span_started, started_after, span_closed, spans_dropped, started_dropped, events_dropped, events_at, records_dropped, record_by, name_at, is_last, closes, IsShort, idle_by}
+use Rattle.trace_pipeline.specs.Fits.{State, Fits, SpansFit, EventsFit, has_error, held, IsMade, IsTimed, handle_of, span_by, times_of, is_started, starts_at}
 use Rattle.trace_pipeline.proofs.Slots.{named_within, any_counted}
 use Rattle.trace_pipeline.proofs.Writing.{span_is, spans_written}
 use Rattle.trace_pipeline.proofs.Steps.{started_fit, with_starts}
@@ -30,9 +30,9 @@ use Rattle.otel_base.specs.declared.status.Status.{Status}
 use Rattle.std.proofs.lemmas.List.{get_or-set_other}
 use Rattle.trace_pipeline.proofs.Telling.{status_is, failed_status}
 
-pub held_set : (hs : List (Option Line)) (handle : ℕ) (line : Line) (t : ℕ) → slot_at hs handle ≡ Some line → held (slice_set hs handle None) t + cond (holds t (Some line)) 1 0 ≡ held hs t
-held_set hs handle line t there =
-    let change = sum_by-set (λ slot. cond (holds t slot) 1 0) hs handle None None (named_within hs handle line there) in
+pub held_set : (hs : List (Option Scope)) (handle : ℕ) (scope : Scope) (t : ℕ) → slot_at hs handle ≡ Some scope → held (slice_set hs handle None) t + cond (holds t (Some scope)) 1 0 ≡ held hs t
+held_set hs handle scope t there =
+    let change = sum_by-set (λ slot. cond (holds t slot) 1 0) hs handle None None (named_within hs handle scope there) in
     let mine = ap (λ slot. cond {A = ℕ} (holds t slot) 1 0) there in
     omega (arith, change, mine)
 
@@ -61,7 +61,7 @@ module _ (spans : List Span) (started : ℕ) (ms : List Made) (order : List ℕ)
       (let holds = ap (λ (span : Span). span.holds) e in omega (arith, holds, here)) (ap (λ (span : Span). span.failed) e ∙ ap has_error (sym (append-nil (os s)))) (ap (λ (span : Span). span.times) e ∙ ap times_of (sym (append-nil (os s)))))
       (ap start_ids (append-nil (os s)) ∙ fit.begun s)
       (λ t other. refl) others (λ t other. append-nil (os t))
-      fit.starts refl (record { busy_in = (fit.timed s).busy_in; last_in = omega (arith, (fit.timed s).last_in); left_in = (fit.timed s).left_in; entered_in = (fit.timed s).entered_in }) before (omega arith))
+      fit.starts refl (record { busy_in = (fit.timed s).busy_in; last_in = omega (arith, (fit.timed s).last_in); exit_in = (fit.timed s).exit_in; entered_in = (fit.timed s).entered_in }) before (omega arith))
 
   -- the last hold
   closes_fit : after s ≡ 0 → Dropped true (newly order (s ∷ []))
@@ -82,13 +82,10 @@ module _ (spans : List Span) (started : ℕ) (ms : List Made) (order : List ℕ)
 
 module _ (k : State) (now : Tables) (at handle : ℕ)
     (fits : Fits k now) (before : now.moment ≤ at) (early : at ≤ LAST_MOMENT) (short : length k.spans < 2 ^ 64) where
-  left : List (Option Line)
-  left = slice_set now.handles handle None
-
-  -- what the spans fit after the drop of a line's handle
-  abbrev DroppedSpans : Line → Type 0
-  DroppedSpans line = SpansFit (spans_dropped k.started at (handle_of line) k.spans) (started_dropped k.started (handle_of line) k.spans) now.made (now.started ++ newly now.started (closed_of (slice_set now.handles handle None) line))
-      (held (slice_set now.handles handle None)) (dropped_ops now.made now.started now.ops at (newly now.started (closed_of (slice_set now.handles handle None) line))) at (length now.guards)
+  -- what the spans fit after the drop of a scope's handle
+  abbrev DroppedSpans : Scope → Type 0
+  DroppedSpans scope = SpansFit (spans_dropped k.started at (handle_of scope) k.spans) (started_dropped k.started (handle_of scope) k.spans) now.made (now.started ++ newly now.started (closed_of (slice_set now.handles handle None) scope))
+      (held (slice_set now.handles handle None)) (dropped_ops now.made now.started now.ops at (newly now.started (closed_of (slice_set now.handles handle None) scope))) at (length now.guards)
 
   one_less : (s : ℕ) → slot_at now.handles handle ≡ Some (s ∷ []) → held (slice_set now.handles handle None) s + 1 ≡ held now.handles s
   one_less s there = ap (λ b. held (slice_set now.handles handle None) s + cond (b || false) 1 0) (sym (eq-eqb s s refl)) ∙ held_set now.handles handle (s ∷ []) s there
@@ -121,8 +118,8 @@ module _ (k : State) (now : Tables) (at handle : ℕ)
             (stays_fit k.spans k.started now.made now.started (held now.handles) (held (slice_set now.handles handle None)) now.ops now.moment at (length now.guards) s fits.spans_fit within before early short less (same_others s there)))
       ]
 
-  pub dropped_line : (line : Line) → IsMade (length now.made) line → slot_at now.handles handle ≡ Some line → DroppedSpans line
-  dropped_line [] made there =
+  pub dropped_scope : (scope : Scope) → IsMade (length now.made) scope → slot_at now.handles handle ≡ Some scope → DroppedSpans scope
+  dropped_scope [] made there =
       let fit = later_spans k.spans k.started now.made now.started (held now.handles) now.ops now.moment at (length now.guards) fits.spans_fit before in
       rw (append-nil now.started) record {
         count = fit.count;
@@ -134,47 +131,47 @@ module _ (k : State) (now : Tables) (at handle : ℕ)
         timed = fit.timed;
         unmade = λ t past. append-nil (now.ops t) ∙ fit.unmade t past;
       }
-  dropped_line (s ∷ line) made there =
-      subst (λ rest. DroppedSpans (s ∷ rest)) (sym made.1) (dropped_one s made.0 (there ∙ ap (λ (rest : Line). Some (s ∷ rest)) made.1))
+  dropped_scope (s ∷ scope) made there =
+      subst (λ rest. DroppedSpans (s ∷ rest)) (sym made.1) (dropped_one s made.0 (there ∙ ap (λ (rest : Scope). Some (s ∷ rest)) made.1))
 
   and_false : (b : Bool) → (b && false) ≡ false
   and_false true = refl
   and_false false = refl
 
   -- a span that some handle still holds doesn't close
-  still_held : (s : ℕ) (line : Line) → IsMade (length now.made) (s ∷ line) → slot_at now.handles handle ≡ Some (s ∷ line) → 0 < held (slice_set now.handles handle None) s → closes s k.spans ≡ false
-  still_held s line made there some =
-      let less = one_less s (there ∙ ap (λ (rest : Line). Some (s ∷ rest)) made.1) in
+  still_held : (s : ℕ) (scope : Scope) → IsMade (length now.made) (s ∷ scope) → slot_at now.handles handle ≡ Some (s ∷ scope) → 0 < held (slice_set now.handles handle None) s → closes s k.spans ≡ false
+  still_held s scope made there some =
+      let less = one_less s (there ∙ ap (λ (rest : Scope). Some (s ∷ rest)) made.1) in
       let were = holds_are s in
       ap (λ b. nat_lt s (length k.spans) && b) (le-ltb (span_at k.spans s).holds 2 (omega (arith, less, were, some))) ∙ and_false (nat_lt s (length k.spans))
 
   -- the events of the spans that some handle still holds stay
-  pub dropped_events : (line : Line) → IsMade (length now.made) line → slot_at now.handles handle ≡ Some line
-      → EventsFit (events_dropped (handle_of line) k.spans k.events) (length now.made) (held (slice_set now.handles handle None)) (dropped_ops now.made now.started now.ops at (newly now.started (closed_of (slice_set now.handles handle None) line)))
-  dropped_events line made there = record {
-    count = by_count line ∙ fits.events_fit.count;
-    each = λ t some. by_line line made there t some ∙ sym (quiet (now.ops t) _ (quiet_starts now.made (length now.started + 1) at (newly now.started (closed_of (slice_set now.handles handle None) line)) t));
+  pub dropped_events : (scope : Scope) → IsMade (length now.made) scope → slot_at now.handles handle ≡ Some scope
+      → EventsFit (events_dropped (handle_of scope) k.spans k.events) (length now.made) (held (slice_set now.handles handle None)) (dropped_ops now.made now.started now.ops at (newly now.started (closed_of (slice_set now.handles handle None) scope)))
+  dropped_events scope made there = record {
+    count = by_count scope ∙ fits.events_fit.count;
+    each = λ t some. by_scope scope made there t some ∙ sym (quiet (now.ops t) _ (quiet_starts now.made (length now.started + 1) at (newly now.started (closed_of (slice_set now.handles handle None) scope)) t));
   }
     where
       count_if : (b : Bool) (s : ℕ) → length (cond b (slice_set k.events s []) k.events) ≡ length k.events
       count_if true s = length-set k.events s []
       count_if false s = refl
 
-      by_count : (line : Line) → length (events_dropped (handle_of line) k.spans k.events) ≡ length k.events
+      by_count : (scope : Scope) → length (events_dropped (handle_of scope) k.spans k.events) ≡ length k.events
       by_count [] = refl
-      by_count (s ∷ line) = count_if (closes s k.spans) s
+      by_count (s ∷ scope) = count_if (closes s k.spans) s
 
       other_if : (b : Bool) (s t : ℕ) → t ≢ s → events_at (cond b (slice_set k.events s []) k.events) t ≡ events_at k.events t
       other_if true s t other = get_or-set_other k.events s t [] [] other
       other_if false s t other = refl
 
-      by_line : (line : Line) → IsMade (length now.made) line → slot_at now.handles handle ≡ Some line → (t : ℕ) → 0 < held (slice_set now.handles handle None) t → events_at (events_dropped (handle_of line) k.spans k.events) t ≡ events (now.ops t)
-      by_line [] made there t some = fits.events_fit.each t (let change = held_set now.handles handle [] t there in omega (arith, change))
-      by_line (s ∷ line) made there t some = elim (cases_eq t s) [
-        | inl same ↦ (let kept = still_held s line made there (subst (λ n. 0 < held (slice_set now.handles handle None) n) same some) in
+      by_scope : (scope : Scope) → IsMade (length now.made) scope → slot_at now.handles handle ≡ Some scope → (t : ℕ) → 0 < held (slice_set now.handles handle None) t → events_at (events_dropped (handle_of scope) k.spans k.events) t ≡ events (now.ops t)
+      by_scope [] made there t some = fits.events_fit.each t (let change = held_set now.handles handle [] t there in omega (arith, change))
+      by_scope (s ∷ scope) made there t some = elim (cases_eq t s) [
+        | inl same ↦ (let kept = still_held s scope made there (subst (λ n. 0 < held (slice_set now.handles handle None) n) same some) in
             ap (λ (xs : List (List OtelEvent)). events_at xs t) (ap (λ b. cond b (slice_set k.events s []) k.events) kept)
-            ∙ fits.events_fit.each t (let change = held_set now.handles handle (s ∷ line) t there in omega (arith, change)))
-        | inr other ↦ other_if (closes s k.spans) s t other ∙ fits.events_fit.each t (let change = held_set now.handles handle (s ∷ line) t there in omega (arith, change))
+            ∙ fits.events_fit.each t (let change = held_set now.handles handle (s ∷ scope) t there in omega (arith, change)))
+        | inr other ↦ other_if (closes s k.spans) s t other ∙ fits.events_fit.each t (let change = held_set now.handles handle (s ∷ scope) t there in omega (arith, change))
       ]
 
   -- ---- the record
@@ -204,13 +201,13 @@ module _ (k : State) (now : Tables) (at handle : ℕ)
             let site = ap (λ (span : Span). span.site) (fits.spans_fit.each s) in
             let fresh = newly now.started (s ∷ []) in
             let after_close = span_by (made_of now.made s) (place_in (now.started ++ fresh) s) (held (slice_set now.handles handle None) s) (dropped_ops now.made now.started now.ops at fresh s) in
-            let told = fits.events_fit.each s (omega (arith, less, none)) ∙ sym (quiet (now.ops s) _ (quiet_starts now.made (length now.started + 1) at fresh s)) in
+            let recorded = fits.events_fit.each s (omega (arith, less, none)) ∙ sym (quiet (now.ops s) _ (quiet_starts now.made (length now.started + 1) at fresh s)) in
             let finished = content settings (made_of now.made s) (dropped_ops now.made now.started now.ops at fresh s) at in
             let own_ids_are = ap (λ (ids : List SpanContext). ids_or_zeros (slice_get ids 0)) (fit.begun s ∙ ap (starts_at (place_in (now.started ++ fresh) s)) (fits.contexts s)) ∙ own_by_place (place_in (now.started ++ fresh) s) in
             rw (last_one, shut, lt-ltb s (length k.spans) inside)
             (ap (λ n. record_by (name_at settings.callsites n) (span_closed k.started at (span_at k.spans s)) (events_at k.events s) at ∷ []) site
             ∙ ap (λ span. record_by (name_at settings.callsites (made_of now.made s).site) span (events_at k.events s) at ∷ []) mine
-            ∙ ap (λ (told : List OtelEvent). record_by (name_at settings.callsites (made_of now.made s).site) after_close told at ∷ []) told
+            ∙ ap (λ (recorded : List OtelEvent). record_by (name_at settings.callsites (made_of now.made s).site) after_close recorded at ∷ []) recorded
             ∙ ap (λ (ids : SpanContext). record finished { context = ids; parent = 0; status = failed_status (has_error (dropped_ops now.made now.started now.ops at fresh s)) } ∷ []) (sym own_ids_are)
             ∙ ap (λ (p : ℕ). record finished { parent = p; status = failed_status (has_error (dropped_ops now.made now.started now.ops at fresh s)) } ∷ []) (sym (ap (λ (c : Context). parent_id (ids_of c)) (fits.contexts s)))
             ∙ ap (λ (v : Status). record finished { status = v } ∷ []) (sym (status_is (dropped_ops now.made now.started now.ops at fresh s)))))
@@ -221,31 +218,31 @@ module _ (k : State) (now : Tables) (at handle : ℕ)
       ]
 
   -- the records that the code makes are those of the spans that close
-  pub records_after : (settings : Settings) (line : Line) → slot_at now.handles handle ≡ Some line
-      → records_dropped settings.callsites k.started at (handle_of line) k.spans k.events ≡ map (record_after settings (newly now.started (closed_of (slice_set now.handles handle None) line))) (closed_of (slice_set now.handles handle None) line)
-  records_after settings line there = by_line line (fits.named handle line there) there
+  pub records_after : (settings : Settings) (scope : Scope) → slot_at now.handles handle ≡ Some scope
+      → records_dropped settings.callsites k.started at (handle_of scope) k.spans k.events ≡ map (record_after settings (newly now.started (closed_of (slice_set now.handles handle None) scope))) (closed_of (slice_set now.handles handle None) scope)
+  records_after settings scope there = by_scope scope (fits.named handle scope there) there
     where
-      by_line : (line : Line) → IsMade (length now.made) line → slot_at now.handles handle ≡ Some line
-          → records_dropped settings.callsites k.started at (handle_of line) k.spans k.events ≡ map (record_after settings (newly now.started (closed_of (slice_set now.handles handle None) line))) (closed_of (slice_set now.handles handle None) line)
-      by_line [] made there = refl
-      by_line (s ∷ line) made there =
-          subst (λ (rest : Line). records_dropped settings.callsites k.started at (Enabled s) k.spans k.events ≡ map (record_after settings (newly now.started (closed_of (slice_set now.handles handle None) (s ∷ rest)))) (closed_of (slice_set now.handles handle None) (s ∷ rest)))
-          (sym made.1) (record_one settings s made.0 (there ∙ ap (λ (rest : Line). Some (s ∷ rest)) made.1))
+      by_scope : (scope : Scope) → IsMade (length now.made) scope → slot_at now.handles handle ≡ Some scope
+          → records_dropped settings.callsites k.started at (handle_of scope) k.spans k.events ≡ map (record_after settings (newly now.started (closed_of (slice_set now.handles handle None) scope))) (closed_of (slice_set now.handles handle None) scope)
+      by_scope [] made there = refl
+      by_scope (s ∷ scope) made there =
+          subst (λ (rest : Scope). records_dropped settings.callsites k.started at (Enabled s) k.spans k.events ≡ map (record_after settings (newly now.started (closed_of (slice_set now.handles handle None) (s ∷ rest)))) (closed_of (slice_set now.handles handle None) (s ∷ rest)))
+          (sym made.1) (record_one settings s made.0 (there ∙ ap (λ (rest : Scope). Some (s ∷ rest)) made.1))
 
   idle_short : (span : Span) → IsTimed span.times at (length now.guards) → idle_by span ≤ LAST_MOMENT
-  idle_short span timed = by_left span.made span.times.busy span.times.left (omega (arith, timed.left_in, timed.last_in))
+  idle_short span timed = by_exit span.made span.times.busy span.times.last_exit (omega (arith, timed.exit_in, timed.last_in))
     where
-      by_left : (made busy : ℕ) (left : Option ℕ) → unwrap_or left 0 ≤ LAST_MOMENT → option_map_or (λ end. end - made - busy) left 0 ≤ LAST_MOMENT
-      by_left made busy None below = omega arith
-      by_left made busy (Some end) below = omega arith
+      by_exit : (made busy : ℕ) (exit : Option ℕ) → unwrap_or exit 0 ≤ LAST_MOMENT → option_map_or (λ end. end - made - busy) exit 0 ≤ LAST_MOMENT
+      by_exit made busy None below = omega arith
+      by_exit made busy (Some end) below = omega arith
 
   -- the times of a record fit its attributes
-  pub short_times : (line : Line) → slot_at now.handles handle ≡ Some line → IsShort k.started at (handle_of line) k.spans
-  short_times line there = by_line line (fits.named handle line there)
+  pub short_times : (scope : Scope) → slot_at now.handles handle ≡ Some scope → IsShort k.started at (handle_of scope) k.spans
+  short_times scope there = by_scope scope (fits.named handle scope there)
     where
-      by_line : (line : Line) → IsMade (length now.made) line → IsShort k.started at (handle_of line) k.spans
-      by_line [] made = tt
-      by_line (s ∷ line) made =
+      by_scope : (scope : Scope) → IsMade (length now.made) scope → IsShort k.started at (handle_of scope) k.spans
+      by_scope [] made = tt
+      by_scope (s ∷ scope) made =
           let first = span_started k.started at (span_at k.spans s) in
           let starts = started_fit k.spans k.started now.made now.started (held now.handles) now.ops now.moment at (length now.guards) s fits.spans_fit made.0 before early short in
           let inside : s < length k.spans = (let n = fits.spans_fit.count in omega (arith, made.0)) in

@@ -12,36 +12,36 @@ use Rattle.trace_pipeline.specs.declared.reply.Refusal.{Refusal}
 use Rattle.trace_pipeline.specs.declared.reply.Refusal.TheVariants.{Later, BadMoment, InUse}
 use Rattle.trace_pipeline.specs.declared.reply.What.{What}
 use Rattle.trace_pipeline.specs.declared.reply.What.TheVariants as what
-use Rattle.trace_pipeline.specs.History.{Line, Made, Guarded, Begun, no_context, Effect, History, quiet, with_new, handles, guards, slot_at, is_borrowed, holds, is_open, moment, made, made_of, starting, own, closed_of, entries, current}
+use Rattle.trace_pipeline.specs.History.{Scope, Made, Guarded, Begun, no_context, Effect, History, quiet, with_new, handles, guards, slot_at, is_borrowed, holds, is_open, moment, made, made_of, starting, own, closed_of, entries, current}
 use Rattle.trace_pipeline.specs.Ops.{done_to}
-use Rattle.trace_pipeline.specs.Effects.{Resolved, named, admits, span_site, event_site, makes_root, declines, clones, enters, exits, drops, tells_to, line_of, current_line, is_later, is_bad_moment, effect_of, effect_of_call}
+use Rattle.trace_pipeline.specs.Effects.{Resolved, named, admits, span_site, event_site, makes_root, declines, clones, enters, exits, drops, adds_event_to, scope_of, current_scope, is_later, is_bad_moment, effect_of, effect_of_call}
 use Rattle.trace_pipeline.specs.Laws.{occurrences}
 use Rattle.trace_pipeline.proofs.Occurring.{is_in_counted, occurs_filter, own_among, own_ops}
 use Rattle.trace_pipeline.proofs.Refusing.{in_order}
 use Rattle.trace_pipeline.proofs.Slots.{any_at, named_within}
 use Rattle.std.proofs.lemmas.Bool.{lt-ltb}
 
--- a line that a history tells of
-pub data IsKnown (h : History) : Line → Type 0 where
-  no_line : IsKnown h []
-  of_handle : (k : ℕ) (line : Line) → slot_at (handles h) k ≡ Some line → IsKnown h line
-  of_guard : (k : ℕ) (guarded : Guarded) → slot_at (guards h) k ≡ Some guarded → IsKnown h guarded.line
-  of_span : (s : ℕ) → IsKnown h (made_of (made h) s).line
+-- a scope that a history adds_event of
+pub data IsKnown (h : History) : Scope → Type 0 where
+  no_scope : IsKnown h []
+  of_handle : (k : ℕ) (scope : Scope) → slot_at (handles h) k ≡ Some scope → IsKnown h scope
+  of_guard : (k : ℕ) (guarded : Guarded) → slot_at (guards h) k ≡ Some guarded → IsKnown h guarded.scope
+  of_span : (s : ℕ) → IsKnown h (made_of (made h) s).scope
 
--- no known line has the span
+-- no known scope has the span
 abbrev pub IsUnknown : History → ℕ → Type 0
-IsUnknown h s = (line : Line) → IsKnown h line → occurrences s line ≡ 0
+IsUnknown h s = (scope : Scope) → IsKnown h scope → occurrences s scope ≡ 0
 
--- A new handle and a new span: neither, a handle more of a line whose spans are open, or a root and a handle of it.
-pub data Names (h : History) (at : ℕ) : Option Line → Option Made → Type 0 where
+-- A new handle and a new span: neither, a handle more of a scope whose spans are open, or a root and a handle of it.
+pub data Names (h : History) (at : ℕ) : Option Scope → Option Made → Type 0 where
   no_name : Names h at None None
-  another : (line : Line) → IsKnown h line → ((s : ℕ) → 0 < occurrences s line → is_open (handles h) s ≡ true) → Names h at (Some line) None
-  new_root : (site : ℕ) → Names h at (Some (length (made h) ∷ [])) (Some (record { site = site; line = length (made h) ∷ []; at = at; context = no_context }))
+  another : (scope : Scope) → IsKnown h scope → ((s : ℕ) → 0 < occurrences s scope → is_open (handles h) s ≡ true) → Names h at (Some scope) None
+  new_root : (site : ℕ) → Names h at (Some (length (made h) ∷ [])) (Some (record { site = site; scope = length (made h) ∷ []; at = at; context = no_context }))
 
--- A spent handle and the spans that close: none, or those of its line that are open no more.
-pub data Spends (slots : List (Option Line)) : Option ℕ → List ℕ → Type 0 where
+-- A spent handle and the spans that close: none, or those of its scope that are open no more.
+pub data Spends (slots : List (Option Scope)) : Option ℕ → List ℕ → Type 0 where
   no_spending : Spends slots None []
-  one_spent : (k : ℕ) (line : Line) → slot_at slots k ≡ Some line → Spends slots (Some k) (closed_of (slice_set slots k None) line)
+  one_spent : (k : ℕ) (scope : Scope) → slot_at slots k ≡ Some scope → Spends slots (Some k) (closed_of (slice_set slots k None) scope)
 
 -- what is started: those of some spans that haven't been, and what closes is among them
 pub record StartsNewly (h : History) (starts : List Begun) (closes : List ℕ) : Type 0 where
@@ -54,13 +54,13 @@ pub record IsStep (h : History) (e : Effect) : Type 0 where
   pub later : moment h ≤ e.at
   pub names : Names h e.at e.new_handle e.made
   pub spends : Spends (with_new (handles h) (option_map Some e.new_handle)) e.spent_handle e.closes
-  pub guard_line : (guarded : Guarded) → e.new_guard ≡ Some guarded → IsKnown h guarded.line
+  pub guard_scope : (guarded : Guarded) → e.new_guard ≡ Some guarded → IsKnown h guarded.scope
   pub starts : StartsNewly h e.starts e.closes
   pub ops_spared : (s : ℕ) → IsUnknown h s → filter_map (done_to s e.at) e.ops ≡ []
 
 -- ---- each kind of request
 
-no_guard : (h : History) (guarded : Guarded) → ◌≡◌ {A = Option Guarded} None (Some guarded) → IsKnown h guarded.line
+no_guard : (h : History) (guarded : Guarded) → ◌≡◌ {A = Option Guarded} None (Some guarded) → IsKnown h guarded.scope
 no_guard h guarded is = absurd (cc is)
 
 no_starts : (h : History) → StartsNewly h [] []
@@ -68,81 +68,81 @@ no_starts h = record { candidates = []; starts_are = refl; closed_among = λ s s
 
 module _ (h : History) (at lane : ℕ) (later : moment h ≤ at) where
   pub quiet_step : (answer : Reply) → IsStep h (quiet at lane answer)
-  quiet_step answer = record { later = later; names = no_name; spends = no_spending; guard_line = no_guard h; starts = no_starts h; ops_spared = λ s unknown. refl }
+  quiet_step answer = record { later = later; names = no_name; spends = no_spending; guard_scope = no_guard h; starts = no_starts h; ops_spared = λ s unknown. refl }
 
   pub declined : IsStep h (declines h at lane)
-  declined = record { later = later; names = another [] no_line (λ s some. absurd (omega (arith, some))); spends = no_spending; guard_line = no_guard h; starts = no_starts h; ops_spared = λ s unknown. refl }
+  declined = record { later = later; names = another [] no_scope (λ s some. absurd (omega (arith, some))); spends = no_spending; guard_scope = no_guard h; starts = no_starts h; ops_spared = λ s unknown. refl }
 
   pub made_root : (site : ℕ) → IsStep h (makes_root h at lane site)
-  made_root site = record { later = later; names = new_root site; spends = no_spending; guard_line = no_guard h; starts = no_starts h; ops_spared = λ s unknown. refl }
+  made_root site = record { later = later; names = new_root site; spends = no_spending; guard_scope = no_guard h; starts = no_starts h; ops_spared = λ s unknown. refl }
 
-  pub cloned : (handle : ℕ) (line : Line) → slot_at (handles h) handle ≡ Some line → IsStep h (clones h at lane line)
-  cloned handle line there = record {
+  pub cloned : (handle : ℕ) (scope : Scope) → slot_at (handles h) handle ≡ Some scope → IsStep h (clones h at lane scope)
+  cloned handle scope there = record {
     later = later;
-    names = another line (of_handle handle line there) (λ s some. any_at (holds s) (handles h) handle None (Some line) (named_within (handles h) handle line there) there (is_in_counted s line ∙ lt-ltb 0 _ some));
+    names = another scope (of_handle handle scope there) (λ s some. any_at (holds s) (handles h) handle None (Some scope) (named_within (handles h) handle scope there) there (is_in_counted s scope ∙ lt-ltb 0 _ some));
     spends = no_spending;
-    guard_line = no_guard h;
+    guard_scope = no_guard h;
     starts = no_starts h;
     ops_spared = λ s unknown. refl;
   }
 
-  pub entered : (handle : ℕ) (line : Line) → slot_at (handles h) handle ≡ Some line → IsStep h (enters h at lane handle line)
-  entered handle line there = record {
+  pub entered : (handle : ℕ) (scope : Scope) → slot_at (handles h) handle ≡ Some scope → IsStep h (enters h at lane handle scope)
+  entered handle scope there = record {
     later = later;
     names = no_name;
     spends = no_spending;
-    guard_line = λ guarded is. subst (λ (g : Guarded). IsKnown h g.line) (the_guard guarded is) (of_handle handle line there);
+    guard_scope = λ guarded is. subst (λ (g : Guarded). IsKnown h g.scope) (the_guard guarded is) (of_handle handle scope there);
     starts = record {
-      candidates = option_to_list (own line);
+      candidates = option_to_list (own scope);
       starts_are = refl;
       closed_among = λ s some. absurd (omega (arith, some));
-      spared = λ s unknown. (let none = unknown line (of_handle handle line there) in let of_own = own_among s line in omega (arith, none, of_own));
+      spared = λ s unknown. (let none = unknown scope (of_handle handle scope there) in let of_own = own_among s scope in omega (arith, none, of_own));
     };
-    ops_spared = λ s unknown. own_ops s at line _ (unknown line (of_handle handle line there));
+    ops_spared = λ s unknown. own_ops s at scope _ (unknown scope (of_handle handle scope there));
   }
     where
-      the_guard : (guarded : Guarded) → ◌≡◌ {A = Option Guarded} (Some (record { handle = handle; lane = lane; line = line })) (Some guarded) → record { handle = handle; lane = lane; line = line } ≡ guarded
+      the_guard : (guarded : Guarded) → ◌≡◌ {A = Option Guarded} (Some (record { handle = handle; lane = lane; scope = scope })) (Some guarded) → record { handle = handle; lane = lane; scope = scope } ≡ guarded
       the_guard guarded is = cc is
 
-  pub exited : (guard : ℕ) (guarded : Guarded) → slot_at (guards h) guard ≡ Some guarded → IsStep h (exits at lane guard guarded.line)
+  pub exited : (guard : ℕ) (guarded : Guarded) → slot_at (guards h) guard ≡ Some guarded → IsStep h (exits at lane guard guarded.scope)
   exited guard guarded there = record {
     later = later;
     names = no_name;
     spends = no_spending;
-    guard_line = no_guard h;
+    guard_scope = no_guard h;
     starts = no_starts h;
-    ops_spared = λ s unknown. own_ops s at guarded.line _ (unknown guarded.line (of_guard guard guarded there));
+    ops_spared = λ s unknown. own_ops s at guarded.scope _ (unknown guarded.scope (of_guard guard guarded there));
   }
 
-  pub dropped : (handle : ℕ) (line : Line) → slot_at (handles h) handle ≡ Some line → IsStep h (drops h at lane handle line)
-  dropped handle line there = record {
+  pub dropped : (handle : ℕ) (scope : Scope) → slot_at (handles h) handle ≡ Some scope → IsStep h (drops h at lane handle scope)
+  dropped handle scope there = record {
     later = later;
     names = no_name;
-    spends = one_spent handle line there;
-    guard_line = no_guard h;
+    spends = one_spent handle scope there;
+    guard_scope = no_guard h;
     starts = record {
-      candidates = closed_of (slice_set (handles h) handle None) line;
+      candidates = closed_of (slice_set (handles h) handle None) scope;
       starts_are = refl;
       closed_among = λ s some. some;
       spared = λ s unknown.
-          (let none = unknown line (of_handle handle line there) in
-          let of_line = occurs_filter (λ t. not (is_open (slice_set (handles h) handle None) t)) s line in grind (arith, none, of_line));
+          (let none = unknown scope (of_handle handle scope there) in
+          let of_scope = occurs_filter (λ t. not (is_open (slice_set (handles h) handle None) t)) s scope in grind (arith, none, of_scope));
     };
     ops_spared = λ s unknown. refl;
   }
 
-  known_line : (o : Option ℕ) → IsKnown h (line_of h o)
-  known_line None = no_line
-  known_line (Some s) = of_span s
+  known_scope : (o : Option ℕ) → IsKnown h (scope_of h o)
+  known_scope None = no_scope
+  known_scope (Some s) = of_span s
 
-  pub told : (callsite : Callsite) → IsStep h (tells_to at lane callsite (current_line h lane))
-  told callsite = record {
+  pub recorded : (callsite : Callsite) → IsStep h (adds_event_to at lane callsite (current_scope h lane))
+  recorded callsite = record {
     later = later;
     names = no_name;
     spends = no_spending;
-    guard_line = no_guard h;
+    guard_scope = no_guard h;
     starts = no_starts h;
-    ops_spared = λ s unknown. own_ops s at (current_line h lane) _ (unknown (current_line h lane) (known_line (current (entries h lane))));
+    ops_spared = λ s unknown. own_ops s at (current_scope h lane) _ (unknown (current_scope h lane) (known_scope (current (entries h lane))));
   }
 
   -- ---- where a test chooses
@@ -188,7 +188,7 @@ module _ (settings : Settings) (h : History) where
       subst (IsStep h) (the_effect _ e there.2) (exited h at lane later guard there.0 there.1)
   by_call at lane (Event site) e later is =
       let there = found what.Site (event_site settings.callsites site) _ e is in
-      subst (IsStep h) (the_effect _ e there.2) (if_both h at lane later (admits settings h lane there.0) _ _ (told h at lane later there.0) (quiet_step h at lane later _))
+      subst (IsStep h) (the_effect _ e there.2) (if_both h at lane later (admits settings h lane there.0) _ _ (recorded h at lane later there.0) (quiet_step h at lane later _))
 
   pub step_of : (request : Request) (e : Effect) → effect_of settings h request ≡ Ok e → IsStep h e
   step_of request e is =

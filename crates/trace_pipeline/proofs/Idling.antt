@@ -7,11 +7,11 @@ use Rattle.std.proofs.lemmas.Bool.{cases_lt}
 use Rattle.std.proofs.lemmas.Bool.Decides.{nat_tests}
 use Rattle.trace_pipeline.specs.declared.settings.Settings.{Settings}
 use Rattle.trace_pipeline.specs.declared.request.Request.{Request}
-use Rattle.trace_pipeline.specs.declared.times.Times.{Times}
-use Rattle.trace_pipeline.specs.History.{Line, Made, Op, Done, Begun, Effect, History, no_making, no_context, with_new, moment, made, made_of, started, closed, newly}
+use Rattle.trace_pipeline.specs.declared.timings.Timings.{Timings}
+use Rattle.trace_pipeline.specs.History.{Scope, Made, Op, Done, Begun, Effect, History, no_making, no_context, with_new, moment, made, made_of, started, closed, newly}
 use Rattle.trace_pipeline.specs.Ops.{Stamped, done_to, start_done, ops, ops_in, gap, busy, idle, last_exit}
 use Rattle.trace_pipeline.specs.Effects.{effect_of}
-use Rattle.trace_pipeline.specs.Stands.{times_of}
+use Rattle.trace_pipeline.specs.Fits.{times_of}
 use Rattle.trace_pipeline.specs.Laws.{IsHistory, none, more, made_at, open_entries}
 use Rattle.trace_pipeline.proofs.Tables.{moment_push, made_push, ops_push}
 use Rattle.trace_pipeline.proofs.Timing.{timed, times_push}
@@ -20,22 +20,22 @@ use Rattle.trace_pipeline.proofs.StartsLemmas.{unstarted}
 use Rattle.std.proofs.lemmas.List.Elements.{filter_map-append}
 use Rattle.std.proofs.Common.{map}
 use Rattle.trace_pipeline.proofs.Effecting.{IsUnknown, Names, no_name, another, new_root, step_of}
-use Rattle.trace_pipeline.proofs.Closing.{known_line, sound}
+use Rattle.trace_pipeline.proofs.Closing.{known_scope, sound}
 use Rattle.trace_pipeline.proofs.Writing.{get_push_other}
 
 -- Of a span made at `start`, the busy time fits between that and now, and up to the last op where some entry is open,
 -- and up to the last exit where none is.
-record IsSpent (start now : ℕ) (times : Times) : Type 0 where
+record IsSpent (start now : ℕ) (times : Timings) : Type 0 where
   last_in : times.last ≤ now
   busy_in : start + times.busy ≤ now
   entered_in : 0 < times.entered → start + times.busy ≤ times.last
-  left_in : (end : ℕ) → times.entered ≡ 0 → times.left ≡ Some end → start + times.busy ≤ end
+  exit_in : (end : ℕ) → times.entered ≡ 0 → times.last_exit ≡ Some end → start + times.busy ≤ end
 
 -- time goes on
-later_spent : (start now at : ℕ) (times : Times) → IsSpent start now times → now ≤ at → IsSpent start at times
-later_spent start now at times spent later = record { last_in = omega (arith, spent.last_in); busy_in = omega (arith, spent.busy_in); entered_in = spent.entered_in; left_in = spent.left_in }
+later_spent : (start now at : ℕ) (times : Timings) → IsSpent start now times → now ≤ at → IsSpent start at times
+later_spent start now at times spent later = record { last_in = omega (arith, spent.last_in); busy_in = omega (arith, spent.busy_in); entered_in = spent.entered_in; exit_in = spent.exit_in }
 
-module _ (start at : ℕ) (times : Times) (spent : IsSpent start at times) where
+module _ (start at : ℕ) (times : Timings) (spent : IsSpent start at times) where
   -- one op more
   busy_by : start + (times.busy + gap times.entered times.last at) ≤ at
   busy_by =
@@ -56,15 +56,15 @@ module _ (start at : ℕ) (times : Times) (spent : IsSpent start at times) where
         entered = cond exits (times.entered - 1) (cond enters (times.entered + 1) times.entered);
         last = at;
         busy = times.busy + gap times.entered times.last at;
-        left = cond exits (Some at) times.left;
+        last_exit = cond exits (Some at) times.last_exit;
       })
-      by_turn true enters = record { last_in = omega arith; busy_in = busy_by; entered_in = λ some. busy_by; left_in = λ end free is. (let same = the_end end is in let bound = busy_by in omega (arith, same, bound)) }
-      by_turn false true = record { last_in = omega arith; busy_in = busy_by; entered_in = λ some. busy_by; left_in = λ end free is. absurd (omega (arith, free)) }
+      by_turn true enters = record { last_in = omega arith; busy_in = busy_by; entered_in = λ some. busy_by; exit_in = λ end free is. (let same = the_end end is in let bound = busy_by in omega (arith, same, bound)) }
+      by_turn false true = record { last_in = omega arith; busy_in = busy_by; entered_in = λ some. busy_by; exit_in = λ end free is. absurd (omega (arith, free)) }
       by_turn false false = record {
         last_in = omega arith;
         busy_in = busy_by;
         entered_in = λ some. busy_by;
-        left_in = λ end free is. (let bound = spent.left_in end free is in grind (arith, nat_tests, free, bound));
+        exit_in = λ end free is. (let bound = spent.exit_in end free is in grind (arith, nat_tests, free, bound));
       }
 
 module _ (start at : ℕ) where
@@ -81,11 +81,11 @@ module _ (start at : ℕ) where
 -- ---- what each request does
 
 -- a new span is made at the effect's moment
-made_now : (h : History) (at : ℕ) (o : Option Line) (m : Option Made) → Names h at o m → (s : ℕ) → length (made h) ≤ s → s < length (with_new (made h) m) → (made_of (with_new (made h) m) s).at ≡ at
+made_now : (h : History) (at : ℕ) (o : Option Scope) (m : Option Made) → Names h at o m → (s : ℕ) → length (made h) ≤ s → s < length (with_new (made h) m) → (made_of (with_new (made h) m) s).at ≡ at
 made_now h at _ _ no_name s above within = absurd (omega (arith, above, within))
-made_now h at _ _ (another line known opened) s above within = absurd (omega (arith, above, within))
+made_now h at _ _ (another scope known opened) s above within = absurd (omega (arith, above, within))
 made_now h at _ _ (new_root site) s above within =
-    let new : Made = record { site = site; line = length (made h) ∷ []; at = at; context = no_context } in
+    let new : Made = record { site = site; scope = length (made h) ∷ []; at = at; context = no_context } in
     let count = length_push (made h) new in
     ap (λ (m : Made). m.at) (get_or_push (made h) new no_making s (omega (arith, count)))
 
@@ -98,10 +98,10 @@ made_before : (ms : List Made) (o : Option Made) (s : ℕ) → s < length ms →
 made_before ms None s old = refl
 made_before ms (Some m) s old = get_push_other ms m _ s (λ same. absurd (omega (arith, old, same)))
 
--- a span that isn't made stands in no known line
+-- a span that isn't made stands in no known scope
 unknown : (settings : Settings) (h : History) (s : ℕ) → IsHistory settings h → length (made h) ≤ s → IsUnknown h s
-unknown settings h s legal above line known =
-    let once = (known_line h (closed h) (sound settings h legal) line known).once s in grind (arith, nat_tests, once, above)
+unknown settings h s legal above scope known =
+    let once = (known_scope h (closed h) (sound settings h legal) scope known).once s in grind (arith, nat_tests, once, above)
 
 -- nothing is done to a span that isn't made
 spares_unmade : (settings : Settings) (h : History) (request : Request) (e : Effect) (s : ℕ) → IsHistory settings h → effect_of settings h request ≡ Ok e → length (made h) ≤ s → ops_in s e ≡ []
@@ -141,11 +141,11 @@ times_spent settings _ s (more h request e before is) within =
           (here ∙ made_now h e.at e.new_handle e.made (step_of settings h request e is).names s new (subst (λ (ms : List Made). s < length ms) (made_push h e) within))
           (moment_push h e)
           (ops_push h e s ∙ rw (no_ops settings h s before new, spares_unmade settings h request e s before is new) refl)
-          (record { last_in = omega arith; busy_in = omega arith; entered_in = λ some. absurd (omega (arith, some)); left_in = λ end free left. absurd (cc left) })
+          (record { last_in = omega arith; busy_in = omega arith; entered_in = λ some. absurd (omega (arith, some)); exit_in = λ end free exited. absurd (cc exited) })
     ]
 
 pub busy_and_idle : (settings : Settings) (h : History) (s end : ℕ) → IsHistory settings h → s < length (made h) → open_entries (ops h s) ≡ 0 → last_exit (ops h s) ≡ Some end
     → busy (ops h s) + idle (ops h s) (made_at h s) ≡ end - made_at h s
-busy_and_idle settings h s end legal within free left =
-    let bound = (times_spent settings h s legal within).left_in end free left in
-    ap (λ (o : Option ℕ). busy (ops h s) + option_map_or (λ end. end - made_at h s - busy (ops h s)) o 0) left ∙ omega (arith, bound)
+busy_and_idle settings h s end legal within free exited =
+    let bound = (times_spent settings h s legal within).exit_in end free exited in
+    ap (λ (o : Option ℕ). busy (ops h s) + option_map_or (λ end. end - made_at h s - busy (ops h s)) o 0) exited ∙ omega (arith, bound)

@@ -4,7 +4,7 @@ use Rattle.std.proofs.lemmas.List.Sums.{sum_by-cons, sum_by-append}
 use Rattle.std.proofs.lemmas.List.{append_assoc, append-nil}
 use Rattle.std.proofs.lemmas.Bool.{cases_eq, cases_Bool, eq-eqb, ne_eqb}
 use Rattle.std.proofs.lemmas.Bool.Decides.{nat_tests}
-use Rattle.trace_pipeline.specs.History.{Line, Op, place_in, newly, is_in, own}
+use Rattle.trace_pipeline.specs.History.{Scope, Op, place_in, newly, is_in, own}
 use Rattle.trace_pipeline.specs.Ops.{done_to}
 use Rattle.trace_pipeline.specs.Effects.{on}
 use Rattle.std.specs.Option.{option_to_list}
@@ -105,16 +105,16 @@ newly_all order (x ∷ xs) s some =
           ]))
     ]
 
-pub own_among : (s : ℕ) (line : Line) → occurrences s (option_to_list (own line)) ≤ occurrences s line
+pub own_among : (s : ℕ) (scope : Scope) → occurrences s (option_to_list (own scope)) ≤ occurrences s scope
 own_among s [] = omega arith
-own_among s (x ∷ line) =
-    let all = occurs_cons s x line in
+own_among s (x ∷ scope) =
+    let all = occurs_cons s x scope in
     let one = occurs_cons s x [] in omega (arith, all, one)
 
--- a span that a line hasn't has no op by it
-pub own_ops : (s at : ℕ) (line : Line) (op : Op) → occurrences s line ≡ 0 → filter_map (done_to s at) (on line op) ≡ []
+-- a span that a scope hasn't has no op by it
+pub own_ops : (s at : ℕ) (scope : Scope) (op : Op) → occurrences s scope ≡ 0 → filter_map (done_to s at) (on scope op) ≡ []
 own_ops s at [] op none = refl
-own_ops s at (x ∷ line) op none =
-    let all = occurs_cons s x line in
+own_ops s at (x ∷ scope) op none =
+    let all = occurs_cons s x scope in
     let other = ne_eqb x s (λ same. absurd (grind (arith, nat_tests, all, none, same))) in
     rw other refl

@@ -11,10 +11,10 @@ use Rattle.trace_pipeline.specs.declared.reply.Refusal.TheVariants.{Later, BadMo
 use Rattle.trace_pipeline.specs.declared.reply.What.TheVariants as what
 use Rattle.trace_pipeline.specs.History.{History, moment, guards}
 use Rattle.trace_pipeline.specs.declared.request.Call.TheVariants as call
-use Rattle.trace_pipeline.specs.declared.names.Guard.{Guard}
+use Rattle.trace_pipeline.specs.declared.handles.Guard.{Guard}
 use Rattle.trace_pipeline.specs.History.{Guarded}
-use Rattle.trace_pipeline.specs.Machine.{CanWait}
-use Rattle.trace_pipeline.specs.Stands.{State, StandsFor, open_of, guard_of}
+use Rattle.trace_pipeline.specs.Bodies.{CanWait}
+use Rattle.trace_pipeline.specs.Fits.{State, StandsFor, open_of, guard_of}
 use Rattle.trace_pipeline.proofs.Slots.{any_open}
 use Rattle.std.proofs.Common.{option_map}
 use Rattle.trace_pipeline.specs.Effects.{effect_of, effect_of_call, is_later, is_bad_moment, waits_for_guards}

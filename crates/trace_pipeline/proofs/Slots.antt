@@ -6,8 +6,8 @@ use Rattle.std.proofs.lemmas.Bool.{cases_Bool}
 use Rattle.std.proofs.lemmas.Bool.Decides.{nat_tests}
 use Rattle.std.proofs.Common.{is_some, ◌==◌, option_map}
 use Rattle.trace_pipeline.specs.History.{Guarded, slot_at, borrows}
-use Rattle.trace_pipeline.specs.Machine.{is_borrowed_by}
-use Rattle.trace_pipeline.specs.Stands.{open_of, guard_of}
+use Rattle.trace_pipeline.specs.Bodies.{is_borrowed_by}
+use Rattle.trace_pipeline.specs.Fits.{open_of, guard_of}
 
 -- what holds of each name that isn't spent holds after one more, if it holds of that
 pub named_push : {A : Type 0} (P : A → Type 0) (slots : List (Option A)) (o : Option A) → ((n : ℕ) (x : A) → slot_at slots n ≡ Some x → P x) → ((x : A) → o ≡ Some x → P x) → (n : ℕ) (x : A) → slot_at (slots ++ o ∷ []) n ≡ Some x → P x

@@ -5,13 +5,13 @@ use Rattle.std.proofs.lemmas.Bool.{cases_eq, cases_lt}
 use Rattle.std.proofs.lemmas.List.{get_or_past}
 use Rattle.trace_pipeline.specs.declared.request.TheConstants.{LAST_MOMENT}
 use Rattle.trace_pipeline.specs.declared.settings.Settings.{Settings}
-use Rattle.trace_pipeline.specs.History.{Line, Made, Guarded, Effect, History, with_new, without, slots_after, handles, guards, slot_at, made, no_making, no_context, made_of}
-use Rattle.trace_pipeline.specs.Stands.{State, Fits, SpansFit, EventsFit, GuardsFit, StandsFor, IsMade, handle_of, held}
+use Rattle.trace_pipeline.specs.History.{Scope, Made, Guarded, Effect, History, with_new, without, slots_after, handles, guards, slot_at, made, no_making, no_context, made_of}
+use Rattle.trace_pipeline.specs.Fits.{State, Fits, SpansFit, EventsFit, GuardsFit, StandsFor, IsMade, handle_of, held}
 use Rattle.trace_pipeline.proofs.Slots.{named_push, named_set}
 use Rattle.trace_pipeline.specs.Tables.{tables, after}
 use Rattle.trace_pipeline.proofs.Tables.{tables_push}
 use Rattle.trace_pipeline.proofs.Writing.{get_push_other}
-use Rattle.trace_pipeline.proofs.Effecting.{IsKnown, no_line, of_handle, of_guard, of_span, Names, no_name, another, new_root, IsStep}
+use Rattle.trace_pipeline.proofs.Effecting.{IsKnown, no_scope, of_handle, of_guard, of_span, Names, no_name, another, new_root, IsStep}
 
 -- a name more and a name less, seen by a view
 slots_map : {A B : Type 0} (f : A → B) (xs : List (Option A)) (new : Option A) (spent : Option ℕ) → slots_after (map (option_map f) xs) (option_map f new) spent ≡ map (option_map f) (slots_after xs new spent)
@@ -29,17 +29,17 @@ still_named : {A : Type 0} (slots : List (Option A)) (spent : Option ℕ) (n : �
 still_named slots None n x there = there
 still_named slots (Some k) n x there = named_set slots k n x there
 
-made_more : (n : ℕ) (line : Line) → IsMade n line → IsMade (n + 1) line
+made_more : (n : ℕ) (scope : Scope) → IsMade n scope → IsMade (n + 1) scope
 made_more n [] h = h
-made_more n (s ∷ line) h = (omega (arith, h.0), h.1)
+made_more n (s ∷ scope) h = (omega (arith, h.0), h.1)
 
--- the lines that were of made spans still are
-grows : (ms : List Made) (m : Option Made) (line : Line) → IsMade (length ms) line → IsMade (length (with_new ms m)) line
-grows ms None line is = is
-grows ms (Some m) line is = subst (λ n. IsMade n line) (sym (length_push ms m)) (made_more (length ms) line is)
+-- the scopes that were of made spans still are
+grows : (ms : List Made) (m : Option Made) (scope : Scope) → IsMade (length ms) scope → IsMade (length (with_new ms m)) scope
+grows ms None scope is = is
+grows ms (Some m) scope is = subst (λ n. IsMade n scope) (sym (length_push ms m)) (made_more (length ms) scope is)
 
-the_line : (a line : Line) → ◌≡◌ {A = Option Line} (Some a) (Some line) → a ≡ line
-the_line a line is = cc is
+the_scope : (a scope : Scope) → ◌≡◌ {A = Option Scope} (Some a) (Some scope) → a ≡ scope
+the_scope a scope is = cc is
 
 -- what an effect leaves: the settings and the filter, its handles and its moment, and guards, spans and events that fit
 pub record Leaves (k : State) (h : History) (e : Effect) (next : State) : Type 0 where
@@ -52,48 +52,48 @@ pub record Leaves (k : State) (h : History) (e : Effect) (next : State) : Type 0
   pub events_are : EventsFit next.events (length (after (tables h) e).made) (held (after (tables h) e).handles) (after (tables h) e).ops
 
 module _ (k : State) (settings : Settings) (h : History) (stands : StandsFor k settings h) where
-  -- a known line is of a made span
-  pub known_made : (line : Line) → IsKnown h line → IsMade (length (made h)) line
-  known_made _ no_line = tt
-  known_made _ (of_handle n line there) = stands.fits.named n line there
+  -- a known scope is of a made span
+  pub known_made : (scope : Scope) → IsKnown h scope → IsMade (length (made h)) scope
+  known_made _ no_scope = tt
+  known_made _ (of_handle n scope there) = stands.fits.named n scope there
   known_made _ (of_guard n guarded there) = stands.fits.kept n guarded there
   known_made _ (of_span s) = elim (cases_lt s (length (made h))) [
-    | inl below ↦ subst (IsMade (length (made h))) (sym (stands.fits.lines s below)) (below, refl)
-    | inr above ↦ subst (IsMade (length (made h))) (sym (ap (λ (m : Made). m.line) (get_or_past (made h) s no_making above))) tt
+    | inl below ↦ subst (IsMade (length (made h))) (sym (stands.fits.scopes s below)) (below, refl)
+    | inr above ↦ subst (IsMade (length (made h))) (sym (ap (λ (m : Made). m.scope) (get_or_past (made h) s no_making above))) tt
   ]
 
-  names_made : (at : ℕ) (o : Option Line) (m : Option Made) → Names h at o m → (n : ℕ) (line : Line) → slot_at (with_new (handles h) (option_map Some o)) n ≡ Some line → IsMade (length (with_new (made h) m)) line
-  names_made at _ _ no_name n line there = stands.fits.named n line there
-  names_made at _ _ (another new known opened) n line there =
-      named_push (IsMade (length (made h))) (handles h) (Some new) stands.fits.named (λ line is. subst (IsMade (length (made h))) (the_line new line is) (known_made new known)) n line there
-  names_made at _ _ (new_root site) n line there =
-      let m : Made = record { site = site; line = length (made h) ∷ []; at = at; context = no_context } in
+  names_made : (at : ℕ) (o : Option Scope) (m : Option Made) → Names h at o m → (n : ℕ) (scope : Scope) → slot_at (with_new (handles h) (option_map Some o)) n ≡ Some scope → IsMade (length (with_new (made h) m)) scope
+  names_made at _ _ no_name n scope there = stands.fits.named n scope there
+  names_made at _ _ (another new known opened) n scope there =
+      named_push (IsMade (length (made h))) (handles h) (Some new) stands.fits.named (λ scope is. subst (IsMade (length (made h))) (the_scope new scope is) (known_made new known)) n scope there
+  names_made at _ _ (new_root site) n scope there =
+      let m : Made = record { site = site; scope = length (made h) ∷ []; at = at; context = no_context } in
       named_push (IsMade (length (made h ++ m ∷ []))) (handles h) (Some (length (made h) ∷ []))
-      (λ n line e. grows (made h) (Some m) line (stands.fits.named n line e))
-      (λ line is. subst (IsMade (length (made h ++ m ∷ []))) (the_line (length (made h) ∷ []) line is) (let n = length_push (made h) m in omega arith, refl)) n line there
+      (λ n scope e. grows (made h) (Some m) scope (stands.fits.named n scope e))
+      (λ scope is. subst (IsMade (length (made h ++ m ∷ []))) (the_scope (length (made h) ∷ []) scope is) (let n = length_push (made h) m in omega arith, refl)) n scope there
 
-  guards_made : (new : Option Guarded) → ((g : Guarded) → new ≡ Some g → IsKnown h g.line) → (n : ℕ) (g : Guarded) → slot_at (with_new (guards h) (option_map Some new)) n ≡ Some g → IsMade (length (made h)) g.line
+  guards_made : (new : Option Guarded) → ((g : Guarded) → new ≡ Some g → IsKnown h g.scope) → (n : ℕ) (g : Guarded) → slot_at (with_new (guards h) (option_map Some new)) n ≡ Some g → IsMade (length (made h)) g.scope
   guards_made None known n g there = stands.fits.kept n g there
-  guards_made (Some new) known n g there = named_push (λ (g : Guarded). IsMade (length (made h)) g.line) (guards h) (Some new) stands.fits.kept (λ g is. known_made g.line (known g (ap_some g is))) n g there
+  guards_made (Some new) known n g there = named_push (λ (g : Guarded). IsMade (length (made h)) g.scope) (guards h) (Some new) stands.fits.kept (λ g is. known_made g.scope (known g (ap_some g is))) n g there
     where
       ap_some : (g : Guarded) → ◌≡◌ {A = Option Guarded} (Some new) (Some g) → ◌≡◌ {A = Option Guarded} (Some new) (Some g)
       ap_some g is = is
 
-  lines_made : (at : ℕ) (o : Option Line) (m : Option Made) → Names h at o m → (s : ℕ) → s < length (with_new (made h) m) → (made_of (with_new (made h) m) s).line ≡ s ∷ []
-  lines_made at _ _ no_name s within = stands.fits.lines s within
-  lines_made at _ _ (another new known opened) s within = stands.fits.lines s within
-  lines_made at _ _ (new_root site) s within =
-      let m : Made = record { site = site; line = length (made h) ∷ []; at = at; context = no_context } in
+  scopes_made : (at : ℕ) (o : Option Scope) (m : Option Made) → Names h at o m → (s : ℕ) → s < length (with_new (made h) m) → (made_of (with_new (made h) m) s).scope ≡ s ∷ []
+  scopes_made at _ _ no_name s within = stands.fits.scopes s within
+  scopes_made at _ _ (another new known opened) s within = stands.fits.scopes s within
+  scopes_made at _ _ (new_root site) s within =
+      let m : Made = record { site = site; scope = length (made h) ∷ []; at = at; context = no_context } in
       elim (cases_eq s (length (made h))) [
-        | inl same ↦ ap (λ (m : Made). m.line) (get_or_push (made h) m no_making s (sym same)) ∙ ap (λ n. n ∷ []) (sym same)
-        | inr other ↦ ap (λ (m : Made). m.line) (get_push_other (made h) m _ s other) ∙ stands.fits.lines s (let n = length_push (made h) m in omega (arith, other, within, n))
+        | inl same ↦ ap (λ (m : Made). m.scope) (get_or_push (made h) m no_making s (sym same)) ∙ ap (λ n. n ∷ []) (sym same)
+        | inr other ↦ ap (λ (m : Made). m.scope) (get_push_other (made h) m _ s other) ∙ stands.fits.scopes s (let n = length_push (made h) m in omega (arith, other, within, n))
       ]
 
-  contexts_made : (at : ℕ) (o : Option Line) (m : Option Made) → Names h at o m → (s : ℕ) → (made_of (with_new (made h) m) s).context ≡ no_context
+  contexts_made : (at : ℕ) (o : Option Scope) (m : Option Made) → Names h at o m → (s : ℕ) → (made_of (with_new (made h) m) s).context ≡ no_context
   contexts_made at _ _ no_name s = stands.fits.contexts s
   contexts_made at _ _ (another new known opened) s = stands.fits.contexts s
   contexts_made at _ _ (new_root site) s =
-      let m : Made = record { site = site; line = length (made h) ∷ []; at = at; context = no_context } in
+      let m : Made = record { site = site; scope = length (made h) ∷ []; at = at; context = no_context } in
       elim (cases_eq s (length (made h))) [
         | inl same ↦ ap (λ (m : Made). m.context) (get_or_push (made h) m no_making s (sym same))
         | inr other ↦ ap (λ (m : Made). m.context) (get_push_other (made h) m _ s other) ∙ stands.fits.contexts s
@@ -110,9 +110,9 @@ module _ (k : State) (settings : Settings) (h : History) (stands : StandsFor k s
       spans_fit = leaves.spans_are;
       events_fit = leaves.events_are;
       latest = leaves.moment_is;
-      named = λ n line there. names_made e.at e.new_handle e.made step.names n line (still_named (with_new (handles h) (option_map Some e.new_handle)) e.spent_handle n line there);
-      kept = λ n g there. grows (made h) e.made g.line (guards_made e.new_guard step.guard_line n g (still_named (with_new (guards h) (option_map Some e.new_guard)) e.spent_guard n g there));
-      lines = lines_made e.at e.new_handle e.made step.names;
+      named = λ n scope there. names_made e.at e.new_handle e.made step.names n scope (still_named (with_new (handles h) (option_map Some e.new_handle)) e.spent_handle n scope there);
+      kept = λ n g there. grows (made h) e.made g.scope (guards_made e.new_guard step.guard_scope n g (still_named (with_new (guards h) (option_map Some e.new_guard)) e.spent_guard n g there));
+      scopes = scopes_made e.at e.new_handle e.made step.names;
       contexts = contexts_made e.at e.new_handle e.made step.names;
       early = early;
     };

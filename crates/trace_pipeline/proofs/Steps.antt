@@ -6,8 +6,8 @@ use Rattle.std.proofs.lemmas.Bool.{cases_eq, eq-eqb, ne_eqb}
 use Rattle.std.proofs.lemmas.Bool.Decides.{nat_tests}
 use Rattle.trace_pipeline.specs.declared.request.TheConstants.{LAST_MOMENT}
 use Rattle.trace_pipeline.specs.declared.span.Span.{Span}
-use Rattle.trace_pipeline.specs.declared.times.Times.{Times}
-use Rattle.trace_pipeline.specs.History.{Line, enter_op, exit_op, event_op, Made, made_of, place_in, newly}
+use Rattle.trace_pipeline.specs.declared.timings.Timings.{Timings}
+use Rattle.trace_pipeline.specs.History.{Scope, enter_op, exit_op, event_op, Made, made_of, place_in, newly}
 use Rattle.otel_base.specs.declared.context.SpanContext.{SpanContext}
 use Rattle.otel_base.specs.Ids.{ids_of}
 use Rattle.otel_base.specs.RecorderIds.{recorder_ids}
@@ -17,20 +17,20 @@ use Rattle.otel_base.specs.declared.record.OtelEvent.{OtelEvent}
 use Rattle.trace_pipeline.specs.Ops.{Stamped, done_to, start_ids, is_error_event}
 use Rattle.trace_pipeline.specs.Effects.{on}
 use Rattle.std.specs.List.{filter_map, cons_option}
-use Rattle.trace_pipeline.specs.Machine.{no_span, span_at, capped, times_at, started_after, span_started, span_entered, span_exited, span_told}
-use Rattle.trace_pipeline.specs.Stands.{SpansFit, IsTimed, span_by, times_of, is_started, starts_at, has_error}
+use Rattle.trace_pipeline.specs.Bodies.{no_span, span_at, capped, times_at, started_after, span_started, span_entered, span_exited, span_recorded}
+use Rattle.trace_pipeline.specs.Fits.{SpansFit, IsTimed, span_by, times_of, is_started, starts_at, has_error}
 use Rattle.trace_pipeline.proofs.Tables.{place_new, place_more}
-use Rattle.trace_pipeline.proofs.Timing.{timed, times_push, times_started, started_in_time, times_told, times_entered, entered_in_time, times_exited, exited_in_time, entered_at, exited_at}
+use Rattle.trace_pipeline.proofs.Timing.{timed, times_push, times_started, started_in_time, times_recorded, times_entered, entered_in_time, times_exited, exited_in_time, entered_at, exited_at}
 use Rattle.trace_pipeline.proofs.Telling.{error_push, or_false}
 use Rattle.trace_pipeline.proofs.Writing.{span_is, spans_written}
 
--- an op on a line's own span, as one on t
-abbrev pub on_line : ℕ → Line → Stamped → List Stamped
-on_line t line op = filter_map (done_to t op.at) (on line op.op)
+-- an op on a scope's own span, as one on t
+abbrev pub on_scope : ℕ → Scope → Stamped → List Stamped
+on_scope t scope op = filter_map (done_to t op.at) (on scope op.op)
 
 -- an op on s alone
 abbrev pub with_op : ℕ → Stamped → (ℕ → List Stamped) → ℕ → List Stamped
-with_op s op os t = os t ++ on_line t (s ∷ []) op
+with_op s op os t = os t ++ on_scope t (s ∷ []) op
 
 pub with_op_here : (s : ℕ) (op : Stamped) (os : ℕ → List Stamped) → with_op s op os s ≡ os s ++ op ∷ []
 with_op_here s op os = ap (λ b. os s ++ cons_option (cond b (Some op) None) []) (eq-eqb s s refl)
@@ -54,11 +54,11 @@ module _ (spans : List Span) (started : ℕ) (ms : List Made) (order : List ℕ)
   failed_more op same quiet = same ∙ sym (or_false (has_error (os s))) ∙ ap (λ b. has_error (os s) || b) (sym quiet) ∙ sym (error_push (os s) op) ∙ ap has_error (sym (with_op_here s op os))
 
   -- One op more, whatever it is: what is kept of the span has the times of one op more, and whether it has failed.
-  op_fit : (op : Stamped) (failed : Bool) (times : Times) (more : ℕ) → op.op.start ≡ None → failed ≡ ((span_at spans s).failed || is_error_event op.op) → times ≡ timed (span_at spans s).times op → IsTimed times at more → guards ≤ more
+  op_fit : (op : Stamped) (failed : Bool) (times : Timings) (more : ℕ) → op.op.start ≡ None → failed ≡ ((span_at spans s).failed || is_error_event op.op) → times ≡ timed (span_at spans s).times op → IsTimed times at more → guards ≤ more
       → SpansFit (slice_set spans s (record (span_at spans s) { failed = failed; times = times })) started ms order below (with_op s op os) at more
   op_fit op failed times more no_start failed_is times_are in_time below_more =
       let e = fit.each s in
-      let all_times = times_are ∙ ap (λ (t : Times). timed t op) (ap (λ (span : Span). span.times) e) ∙ sym (times_push (os s) op) ∙ ap times_of (sym (with_op_here s op os)) in
+      let all_times = times_are ∙ ap (λ (t : Timings). timed t op) (ap (λ (span : Span). span.times) e) ∙ sym (times_push (os s) op) ∙ ap times_of (sym (with_op_here s op os)) in
       let all_failed = failed_is ∙ ap (λ (span : Span). span.failed || is_error_event op.op) e ∙ sym (error_push (os s) op) ∙ ap has_error (sym (with_op_here s op os)) in
       spans_written spans started started ms order order below below os (with_op s op os) last at guards more s (record (span_at spans s) { failed = failed; times = times }) fit within
       (span_is _ _ _ _ failed times (made_of ms s) (place_in order s) (below s) (with_op s op os s) (ap (λ (span : Span). span.site) e) (ap (λ (span : Span). span.made) e) (ap (λ (span : Span). span.id) e) (ap (λ (span : Span). span.holds) e) all_failed all_times)
@@ -74,9 +74,9 @@ module _ (spans : List Span) (started : ℕ) (ms : List Made) (order : List ℕ)
   exited_fit = op_fit (record { at = at; op = exit_op }) (span_at spans s).failed (exited_at (span_at spans s).times at) guards refl (sym (or_false (span_at spans s).failed))
       (times_exited _ last guards at (fit.timed s) before early) (exited_in_time _ last guards at (fit.timed s) before early) (omega arith)
 
-  pub told_fit : (is_error : Bool) (event : OtelEvent) → SpansFit (slice_set spans s (span_told is_error at (span_at spans s))) started ms order below (with_op s (record { at = at; op = event_op is_error event }) os) at guards
-  told_fit is_error event = op_fit (record { at = at; op = event_op is_error event }) ((span_at spans s).failed || is_error) (times_at (span_at spans s).times at) guards refl refl
-      (times_told _ last guards at is_error event (fit.timed s) before early) (started_in_time _ last guards at (fit.timed s) before early) (omega arith)
+  pub recorded_fit : (is_error : Bool) (event : OtelEvent) → SpansFit (slice_set spans s (span_recorded is_error at (span_at spans s))) started ms order below (with_op s (record { at = at; op = event_op is_error event }) os) at guards
+  recorded_fit is_error event = op_fit (record { at = at; op = event_op is_error event }) ((span_at spans s).failed || is_error) (times_at (span_at spans s).times at) guards refl refl
+      (times_recorded _ last guards at is_error event (fit.timed s) before early) (started_in_time _ last guards at (fit.timed s) before early) (omega arith)
 
   -- ---- a start
 
@@ -108,7 +108,7 @@ module _ (spans : List Span) (started : ℕ) (ms : List Made) (order : List ℕ)
         starts = fit.starts;
         begun = λ t. ap start_ids (append-nil (os t)) ∙ fit.begun t;
         placed = fit.placed;
-        timed = λ t. record { busy_in = (fit.timed t).busy_in; last_in = omega (arith, (fit.timed t).last_in); left_in = (fit.timed t).left_in; entered_in = (fit.timed t).entered_in };
+        timed = λ t. record { busy_in = (fit.timed t).busy_in; last_in = omega (arith, (fit.timed t).last_in); exit_in = (fit.timed t).exit_in; entered_in = (fit.timed t).entered_in };
         unmade = λ t past. append-nil (os t) ∙ fit.unmade t past;
       })
 
@@ -122,7 +122,7 @@ module _ (spans : List Span) (started : ℕ) (ms : List Made) (order : List ℕ)
       let waits : is_started (span_at spans s) ≡ false = ap (nat_lt 0) idle in
       let room : started + 1 < 2 ^ 64 = (let fewer = count_below is_started spans s no_span (let n = fit.count in omega arith) waits in let count = fit.placed in omega arith) in
       let exact : capped (started + 1) ≡ started + 1 = omega arith in
-      let times = times_started _ last guards at (recorder_ids (length order + 1) (ids_of (made_of ms s).context)) (fit.timed s) before early ∙ ap (λ (t : Times). timed t op) (ap (λ (span : Span). span.times) e) ∙ sym (times_push (os s) op) ∙ ap times_of (sym start_here) in
+      let times = times_started _ last guards at (recorder_ids (length order + 1) (ids_of (made_of ms s).context)) (fit.timed s) before early ∙ ap (λ (t : Timings). timed t op) (ap (λ (span : Span). span.times) e) ∙ sym (times_push (os s) op) ∙ ap times_of (sym start_here) in
       let place = place_new order s fresh ∙ ap (λ n. n + 1) (sym fit.starts) in
       let context = (made_of ms s).context in
       let unstarted_yet = fit.begun s ∙ ap (λ n. starts_at n context) fresh in

@@ -6,7 +6,7 @@ use Rattle.std.proofs.lemmas.List.Folds.{list_any-append}
 use Rattle.otel_base.specs.declared.status.Status.{Status}
 use Rattle.otel_base.specs.declared.status.Status.TheVariants.{Unset, Error}
 use Rattle.trace_pipeline.specs.Ops.{Stamped, event_in, events, status_in, status, greater, is_error_event}
-use Rattle.trace_pipeline.specs.Stands.{has_error}
+use Rattle.trace_pipeline.specs.Fits.{has_error}
 
 pub events_push : (os : List Stamped) (op : Stamped) → events (os ++ op ∷ []) ≡ events os ++ event_in op.op
 events_push os op = sym (flat_map_more (λ op. event_in op.op) [] os op)

@@ -5,11 +5,11 @@ use Rattle.std.proofs.lemmas.List.Sums.{sum_by_push, sum_by-set}
 use Rattle.std.proofs.lemmas.List.{length_push, length-set, get_or_push, get_or_past, get_or-set_same, get_or-set_other}
 use Rattle.std.proofs.lemmas.Bool.{cases_eq}
 use Rattle.trace_pipeline.specs.declared.span.Span.{Span}
-use Rattle.trace_pipeline.specs.declared.times.Times.{Times}
+use Rattle.trace_pipeline.specs.declared.timings.Timings.{Timings}
 use Rattle.trace_pipeline.specs.History.{Made, no_making, made_of, place_in}
 use Rattle.trace_pipeline.specs.Ops.{Stamped, start_ids}
-use Rattle.trace_pipeline.specs.Machine.{no_times, no_span, span_at}
-use Rattle.trace_pipeline.specs.Stands.{SpansFit, IsTimed, span_by, times_of, is_started, starts_at, has_error}
+use Rattle.trace_pipeline.specs.Bodies.{no_times, no_span, span_at}
+use Rattle.trace_pipeline.specs.Fits.{SpansFit, IsTimed, span_by, times_of, is_started, starts_at, has_error}
 
 pub get_push_other : {A : Type 0} (xs : List A) (y d : A) (i : ℕ) → i ≢ length xs → get_or (xs ++ y ∷ []) i d ≡ get_or xs i d
 get_push_other [] y d zero other = absurd (other refl)
@@ -17,7 +17,7 @@ get_push_other [] y d (suc i) other = refl
 get_push_other (x ∷ xs) y d zero other = refl
 get_push_other (x ∷ xs) y d (suc i) other = get_push_other xs y d i (λ e. other (ap suc e))
 
-pub span_is : (site at id n : ℕ) (failed : Bool) (times : Times) (m : Made) (i k : ℕ) (os : List Stamped) → site ≡ m.site → at ≡ m.at → id ≡ i → n ≡ k → failed ≡ has_error os → times ≡ times_of os
+pub span_is : (site at id n : ℕ) (failed : Bool) (times : Timings) (m : Made) (i k : ℕ) (os : List Stamped) → site ≡ m.site → at ≡ m.at → id ≡ i → n ≡ k → failed ≡ has_error os → times ≡ times_of os
     → ◌≡◌ {A = Span} (record { site = site; made = at; id = id; holds = n; failed = failed; times = times }) (span_by m i k os)
 span_is site at id n failed times m i k os a b c d e f = rw (a, b, c, d, e, f) refl
 
@@ -25,7 +25,7 @@ abbrev pub new_span : ℕ → ℕ → Span
 new_span site at = record { site = site; made = at; id = 0; holds = 1; failed = false; times = no_times }
 
 no_times_fit : (last guards : ℕ) → IsTimed no_times last guards
-no_times_fit last guards = record { busy_in = omega arith; last_in = omega arith; left_in = omega arith; entered_in = omega arith }
+no_times_fit last guards = record { busy_in = omega arith; last_in = omega arith; exit_in = omega arith; entered_in = omega arith }
 
 -- A new span: nothing has started, held or been done to its number before.
 pub spans_added : (spans : List Span) (started : ℕ) (ms : List Made) (order : List ℕ) (below after : ℕ → ℕ) (os : ℕ → List Stamped) (last guards : ℕ) (m : Made)
@@ -104,4 +104,4 @@ spans_written spans started now ms order later below after os ps last at guards 
     here = get_or-set_same spans s x no_span inside
 
     later_times : (t : ℕ) → IsTimed (span_at spans t).times at more
-    later_times t = record { busy_in = (fit.timed t).busy_in; last_in = omega (arith, (fit.timed t).last_in); left_in = (fit.timed t).left_in; entered_in = omega (arith, (fit.timed t).entered_in) }
+    later_times t = record { busy_in = (fit.timed t).busy_in; last_in = omega (arith, (fit.timed t).last_in); exit_in = (fit.timed t).exit_in; entered_in = omega (arith, (fit.timed t).entered_in) }

@@ -22,7 +22,7 @@ use Rattle.trace_pipeline.specs.declared.reply.Refusal.{Refusal}
 use Rattle.trace_pipeline.specs.declared.reply.Refusal.TheVariants.{Later, BadMoment, UnknownName, InUse}
 use Rattle.trace_pipeline.specs.declared.reply.What.{What}
 use Rattle.trace_pipeline.specs.declared.reply.What.TheVariants as what
-use Rattle.trace_pipeline.specs.History.{Line, Op, enter_op, exit_op, event_op, Done, Effect, quiet, History, handles, guards, slot_at, is_borrowed, moment, made, made_of, no_context, starting, own, closed_of, entries, current}
+use Rattle.trace_pipeline.specs.History.{Scope, Op, enter_op, exit_op, event_op, Done, Effect, quiet, History, handles, guards, slot_at, is_borrowed, moment, made, made_of, no_context, starting, own, closed_of, entries, current}
 
 -- ---- admission
 
@@ -71,9 +71,9 @@ span_site callsites site = option_and_then (λ callsite. if_span callsite callsi
 abbrev pub event_site : List Callsite → ℕ → Option Callsite
 event_site callsites site = option_and_then (λ callsite. if_event callsite callsite.kind) (slice_get callsites site)
 
--- an op on a line's own span, if it has one
-abbrev pub on : Line → Op → List Done
-on line op = option_to_list (option_map (λ s. record { span = s; op = op }) (own line))
+-- an op on a scope's own span, if it has one
+abbrev pub on : Scope → Op → List Done
+on scope op = option_to_list (option_map (λ s. record { span = s; op = op }) (own scope))
 
 -- a disabled handle
 abbrev pub declines : History → ℕ → ℕ → Effect
@@ -82,33 +82,33 @@ declines h at lane = record (quiet at lane (reply.Made false (length (handles h)
 -- a root and a handle of it
 abbrev pub makes_root : History → ℕ → ℕ → ℕ → Effect
 makes_root h at lane site =
-    let line : Line = length (made h) ∷ [] in
-    record (quiet at lane (reply.Made true (length (handles h)))) { new_handle = Some line; made = Some (record { site = site; line = line; at = at; context = no_context }) }
+    let scope : Scope = length (made h) ∷ [] in
+    record (quiet at lane (reply.Made true (length (handles h)))) { new_handle = Some scope; made = Some (record { site = site; scope = scope; at = at; context = no_context }) }
 
 -- an admitted callsite gives a root and a handle of it, any other a disabled handle
 abbrev pub makes : Settings → History → ℕ → ℕ → ℕ → Callsite → Effect
 makes settings h at lane site callsite = if admits settings h lane callsite then makes_root h at lane site else declines h at lane
 
--- another handle of a line: enabled if the line has a span
-abbrev pub clones : History → ℕ → ℕ → Line → Effect
-clones h at lane line = record (quiet at lane (reply.Made (is_some (own line)) (length (handles h)))) { new_handle = Some line }
+-- another handle of a scope: enabled if the scope has a span
+abbrev pub clones : History → ℕ → ℕ → Scope → Effect
+clones h at lane scope = record (quiet at lane (reply.Made (is_some (own scope)) (length (handles h)))) { new_handle = Some scope }
 
 -- an entry starts the span, if nothing has started it before
-abbrev pub enters : History → ℕ → ℕ → ℕ → Line → Effect
-enters h at lane handle line = record (quiet at lane (reply.Guard (length (guards h)))) {
-  new_guard = Some (record { handle = handle; lane = lane; line = line });
-  starts = starting h (option_to_list (own line));
-  ops = on line enter_op;
-  entry = own line;
+abbrev pub enters : History → ℕ → ℕ → ℕ → Scope → Effect
+enters h at lane handle scope = record (quiet at lane (reply.Guard (length (guards h)))) {
+  new_guard = Some (record { handle = handle; lane = lane; scope = scope });
+  starts = starting h (option_to_list (own scope));
+  ops = on scope enter_op;
+  entry = own scope;
 }
 
-abbrev pub exits : ℕ → ℕ → ℕ → Line → Effect
-exits at lane guard line = record (quiet at lane reply.Done) { spent_guard = Some guard; ops = on line exit_op; exit = own line }
+abbrev pub exits : ℕ → ℕ → ℕ → Scope → Effect
+exits at lane guard scope = record (quiet at lane reply.Done) { spent_guard = Some guard; ops = on scope exit_op; exit = own scope }
 
 -- The spans that close are those that no unspent handle holds any more; a close starts a span that hasn't been started.
-abbrev pub drops : History → ℕ → ℕ → ℕ → Line → Effect
-drops h at lane handle line =
-    let closing = closed_of (slice_set (handles h) handle None) line in
+abbrev pub drops : History → ℕ → ℕ → ℕ → Scope → Effect
+drops h at lane handle scope =
+    let closing = closed_of (slice_set (handles h) handle None) scope in
     record (quiet at lane reply.Done) { spent_handle = Some handle; starts = starting h closing; closes = closing }
 
 -- a handle that an open guard borrows isn't dropped
@@ -122,7 +122,7 @@ is_error_level level.INFO = false
 is_error_level level.DEBUG = false
 is_error_level level.TRACE = false
 
--- what a callsite tells at a moment: its name, its level and its target
+-- the event of a callsite at a moment: its name, and its level and its target as attributes
 abbrev pub event_of : Callsite → ℕ → OtelEvent
 event_of callsite at = record {
   name = callsite.name;
@@ -130,30 +130,30 @@ event_of callsite at = record {
   attributes = record { key = codes "level"; value = Str (level_text callsite.level) } ∷ record { key = codes "target"; value = Str callsite.target } ∷ [];
 }
 
--- the line of a span, if there is one
-abbrev pub line_of : History → Option ℕ → Line
-line_of h None = []
-line_of h (Some s) = (made_of (made h) s).line
+-- the scope of a span, if there is one
+abbrev pub scope_of : History → Option ℕ → Scope
+scope_of h None = []
+scope_of h (Some s) = (made_of (made h) s).scope
 
 -- an event goes to the lane's current span, if there is one
-abbrev pub current_line : History → ℕ → Line
-current_line h lane = line_of h (current (entries h lane))
+abbrev pub current_scope : History → ℕ → Scope
+current_scope h lane = scope_of h (current (entries h lane))
 
--- an event that is told to the span of a line, or to none
-abbrev pub tells_to : ℕ → ℕ → Callsite → Line → Effect
-tells_to at lane callsite line = record (quiet at lane (reply.Enabled true)) { ops = on line (event_op (is_error_level callsite.level) (event_of callsite at)) }
+-- an event that is recorded on the span of a scope, or on none
+abbrev pub adds_event_to : ℕ → ℕ → Callsite → Scope → Effect
+adds_event_to at lane callsite scope = record (quiet at lane (reply.Enabled true)) { ops = on scope (event_op (is_error_level callsite.level) (event_of callsite at)) }
 
--- an admitted event is told to the lane's current span, any other leaves nothing
-abbrev pub tells : Settings → History → ℕ → ℕ → Callsite → Effect
-tells settings h at lane callsite = if admits settings h lane callsite then tells_to at lane callsite (current_line h lane) else quiet at lane (reply.Enabled false)
+-- an admitted event is recorded on the lane's current span, any other leaves nothing
+abbrev pub adds_event : Settings → History → ℕ → ℕ → Callsite → Effect
+adds_event settings h at lane callsite = if admits settings h lane callsite then adds_event_to at lane callsite (current_scope h lane) else quiet at lane (reply.Enabled false)
 
 abbrev pub effect_of_call : Settings → History → ℕ → ℕ → Call → Resolved
 effect_of_call settings h at lane (call.New site) = named what.Site (span_site settings.callsites site) (λ callsite. Ok (makes settings h at lane site callsite))
-effect_of_call settings h at lane (call.Clone handle) = named what.Handle (slot_at (handles h) handle) (λ line. Ok (clones h at lane line))
-effect_of_call settings h at lane (call.Drop handle) = named what.Handle (slot_at (handles h) handle) (λ line. drops_unless (is_borrowed (guards h) handle) (drops h at lane handle line))
-effect_of_call settings h at lane (call.Enter handle) = named what.Handle (slot_at (handles h) handle) (λ line. Ok (enters h at lane handle line))
-effect_of_call settings h at lane (call.Exit guard) = named what.Guard (slot_at (guards h) guard) (λ guarded. Ok (exits at lane guard guarded.line))
-effect_of_call settings h at lane (call.Event site) = named what.Site (event_site settings.callsites site) (λ callsite. Ok (tells settings h at lane callsite))
+effect_of_call settings h at lane (call.Clone handle) = named what.Handle (slot_at (handles h) handle) (λ scope. Ok (clones h at lane scope))
+effect_of_call settings h at lane (call.Drop handle) = named what.Handle (slot_at (handles h) handle) (λ scope. drops_unless (is_borrowed (guards h) handle) (drops h at lane handle scope))
+effect_of_call settings h at lane (call.Enter handle) = named what.Handle (slot_at (handles h) handle) (λ scope. Ok (enters h at lane handle scope))
+effect_of_call settings h at lane (call.Exit guard) = named what.Guard (slot_at (guards h) guard) (λ guarded. Ok (exits at lane guard guarded.scope))
+effect_of_call settings h at lane (call.Event site) = named what.Site (event_site settings.callsites site) (λ callsite. Ok (adds_event settings h at lane callsite))
 
 -- ---- refusals before the names
 

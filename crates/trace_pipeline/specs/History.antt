@@ -9,31 +9,31 @@ use Rattle.otel_base.specs.declared.context.SpanContext.{SpanContext}
 use Rattle.otel_base.specs.Ids.{ids_of}
 use Rattle.otel_base.specs.RecorderIds.{recorder_ids}
 
--- The line of a span: the span, its parent, and so on up. A disabled handle has the empty line.
-abbrev pub Line : Type 0
-Line = List ℕ
+-- The scope of a span: the span, its parent, and so on up. A disabled handle has the empty scope.
+abbrev pub Scope : Type 0
+Scope = List ℕ
 
 -- the empty context
 abbrev pub no_context : Context
 no_context = record { span = None }
 
--- what a making made: a span of a callsite, which is told by its place, at a moment and in a context
+-- what a making made: a span of a callsite, which is named by its place, at a moment and in a context
 pub record Made : Type 0 where
   pub site : ℕ
-  pub line : Line
+  pub scope : Scope
   pub at : ℕ
   pub context : Context
 
 abbrev pub no_making : Made
-no_making = record { site = 0; line = []; at = 0; context = no_context }
+no_making = record { site = 0; scope = []; at = 0; context = no_context }
 
--- what a guard keeps: its handle, the lane that it was made on, and the line that the handle had
+-- what a guard keeps: its handle, the lane that it was made on, and the scope that the handle had
 pub record Guarded : Type 0 where
   pub handle : ℕ
   pub lane : ℕ
-  pub line : Line
+  pub scope : Scope
 
--- What is done to a span after its making: whether it starts, enters or exits it, and what it tells.
+-- What is done to a span after its making: whether it starts, enters or exits it, and the event that it records.
 pub record Op : Type 0 where
   -- the span's own ids, if it starts the span
   pub start : Option SpanContext
@@ -75,8 +75,8 @@ pub record Begun : Type 0 where
 pub record Effect : Type 0 where
   pub at : ℕ
   pub lane : ℕ
-  -- the line of the handle that it made, and the handle that it spent
-  pub new_handle : Option Line
+  -- the scope of the handle that it made, and the handle that it spent
+  pub new_handle : Option Scope
   pub spent_handle : Option ℕ
   -- what the guard that it made keeps, and the guard that it spent
   pub new_guard : Option Guarded
@@ -130,8 +130,8 @@ without slots (Some n) = slice_set slots n None
 abbrev pub slots_after : {A : Type 0} → List (Option A) → Option A → Option ℕ → List (Option A)
 slots_after slots new spent = without (with_new slots (option_map Some new)) spent
 
--- The handles in the order of making: each the line of what it names, none once it is spent.
-abbrev pub handles : History → List (Option Line)
+-- The handles in the order of making: each the scope of what it names, none once it is spent.
+abbrev pub handles : History → List (Option Scope)
 handles h = fold (λ slots e. slots_after slots e.new_handle e.spent_handle) [] h
 
 -- The guards in the order of making: each what it keeps, none once it is spent.
@@ -164,21 +164,21 @@ made h = filter_map (λ e. e.made) h
 abbrev pub made_of : List Made → ℕ → Made
 made_of makings s = slice_index_or makings s no_making
 
-abbrev pub is_in : ℕ → Line → Bool
-is_in s line = list_any (λ x. x == s) line
+abbrev pub is_in : ℕ → Scope → Bool
+is_in s scope = list_any (λ x. x == s) scope
 
 -- an unspent handle holds the span that it names and each span above it
-abbrev pub holds : ℕ → Option Line → Bool
+abbrev pub holds : ℕ → Option Scope → Bool
 holds s None = false
-holds s (Some line) = is_in s line
+holds s (Some scope) = is_in s scope
 
 -- a span is open if some unspent handle names it or one of its descendants
-abbrev pub is_open : List (Option Line) → ℕ → Bool
+abbrev pub is_open : List (Option Scope) → ℕ → Bool
 is_open slots s = list_any (holds s) slots
 
--- the spans of a line that are open no more, each before its parent
-abbrev pub closed_of : List (Option Line) → Line → List ℕ
-closed_of slots line = filter (λ s. not (is_open slots s)) line
+-- the spans of a scope that are open no more, each before its parent
+abbrev pub closed_of : List (Option Scope) → Scope → List ℕ
+closed_of slots scope = filter (λ s. not (is_open slots s)) scope
 
 -- the spans that closed, in order
 abbrev pub closed : History → List ℕ
@@ -222,9 +222,9 @@ begun makings k (s ∷ ss) =
 abbrev pub starting : History → List ℕ → List Begun
 starting h spans = begun (made h) (length (started h) + 1) (newly (started h) spans)
 
--- a line's own span, if it has one: its first
-abbrev pub own : Line → Option ℕ
-own line = slice_get line 0
+-- a scope's own span, if it has one: its first
+abbrev pub own : Scope → Option ℕ
+own scope = slice_get scope 0
 
 -- ---- lanes
 

@@ -17,6 +17,6 @@ pub mod Object
 pub mod RecordData
 pub mod Texts
 pub mod Report
-pub mod Machine
-pub mod Stands
+pub mod Bodies
+pub mod Fits
 pub mod Laws

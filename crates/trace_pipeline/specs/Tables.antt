@@ -1,11 +1,11 @@
 -- The tables of a history, and what each gains by one effect more.
 use Rattle.std.specs.Prelude.{ℕ, List, ◌++◌, Option}
-use Rattle.trace_pipeline.specs.History.{Line, Made, Guarded, Effect, History, with_new, slots_after, handles, guards, made, started, started_by, closed, entries, entries_after, moment}
+use Rattle.trace_pipeline.specs.History.{Scope, Made, Guarded, Effect, History, with_new, slots_after, handles, guards, made, started, started_by, closed, entries, entries_after, moment}
 use Rattle.trace_pipeline.specs.Ops.{Stamped, ops, ops_in}
 
 -- The tables are those of History and Ops; entries go by lane, ops by span.
 pub record Tables : Type 0 where
-  pub handles : List (Option Line)
+  pub handles : List (Option Scope)
   pub guards : List (Option Guarded)
   pub made : List Made
   pub started : List ℕ

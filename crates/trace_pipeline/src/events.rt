@@ -1,7 +1,7 @@
 //! Events, and the lists of them that are kept for the spans.
 ghost use Rattle.std.specs.Prelude.{◌≡◌, ◌++◌, ◌∷◌, [], IfOk, OnOk, OnErr, slice_set};
 ghost use Rattle.trace_pipeline.specs.Effects.{event_of, is_error_level};
-ghost use Rattle.trace_pipeline.specs.Machine.{events_at};
+ghost use Rattle.trace_pipeline.specs.Bodies.{events_at};
 
 use otel_base::list::Items;
 use otel_base::memory::Memory;
@@ -24,7 +24,7 @@ pub fn is_error(level: Level) -> bool
     }
 }
 
-/// What a callsite tells at a moment: its name, and its level and target as attributes, as
+/// The event of a callsite at a moment: its name, and its level and target as attributes, as
 /// `tracing_opentelemetry::OpenTelemetryLayer` does on an event. `Memory` freely.
 pub fn make_event(alloc: Global, callsite: &Callsite, at: Moment) -> Result<OtelEvent, Memory>
     ensures { IfOk result (λ event. event ≡ event_of callsite.now at) }
@@ -54,8 +54,8 @@ pub fn add_event(
     ensures ok { OnOk result (events.new.items ≡ slice_set events.old.items number (events_at events.old.items number ++ event ∷ [])) }
     ensures memory_leaves { OnErr result (events.new.items ≡ events.old.items) }
 {
-    if let Some(told) = events.get_mut(number as usize) {
-        told.push(event)?;
+    if let Some(recorded) = events.get_mut(number as usize) {
+        recorded.push(event)?;
     }
     Ok(())
 }
@@ -70,7 +70,7 @@ pub fn take_events(
     ensures left { events.new.items ≡ slice_set events.old.items number [] }
 {
     match events.get_mut(number as usize) {
-        Some(told) => mem::replace(told, Items::new(alloc)),
+        Some(recorded) => mem::replace(recorded, Items::new(alloc)),
         None => Items::new(alloc),
     }
 }

@@ -1,7 +1,7 @@
 //! The record of a span that closes.
 ghost use Rattle.std.specs.Prelude.{◌≡◌, ◌≤◌, [], pos, IfOk, if◌then◌else◌};
 ghost use Rattle.trace_pipeline.specs.declared.request.TheConstants.{LAST_MOMENT};
-ghost use Rattle.trace_pipeline.specs.Machine.{idle_by, attributes_by, record_by, name_at};
+ghost use Rattle.trace_pipeline.specs.Bodies.{idle_by, attributes_by, record_by, name_at};
 
 use crate::span::Span;
 use otel_base::context::SpanContext;
@@ -24,7 +24,7 @@ fn nanoseconds(n: u64) -> OtelValue
 fn idle(span: &Span) -> u64
     ensures { result ≡ idle_by span.now }
 {
-    match span.times.left {
+    match span.times.last_exit {
         Some(end) => end
             .saturating_sub(span.made)
             .saturating_sub(span.times.busy),
@@ -88,7 +88,7 @@ pub fn finished_record(
         context,
         parent: 0,
         start: span.made,
-        end: span.times.left.unwrap_or(at),
+        end: span.times.last_exit.unwrap_or(at),
         attributes: closing_attributes(alloc, span.times.busy, idle(span))?,
         events: Items::new(alloc),
         links: Items::new(alloc),

@@ -3,8 +3,9 @@
 
 mod events;
 mod finish;
+mod handles;
 pub mod laws;
-mod names;
+mod level_words;
 pub mod pipeline;
 pub mod read;
 pub mod reply;
@@ -12,6 +13,5 @@ pub mod request;
 pub mod settings;
 mod span;
 mod spans;
-mod times;
-mod words;
+mod timings;
 pub mod write;

@@ -2,18 +2,18 @@
 ghost use Rattle.std.specs.Prelude.{◌==◌, not, false, is_some, None, ◌≡◌, ◌≢◌, ◌<◌, ◌≤◌, ◌^◌, ◌-◌, ◌||◌, ◌&&◌, nat_lt, ℕ, option_map, [], ◌∷◌, drop, Some, Ok, Err, IfOk, IfErr, OnErr, MatchOption};
 ghost use Rattle.trace_pipeline.specs.History.{History, open_spans};
 ghost use Rattle.trace_pipeline.specs.Effects.{effect_of, is_later, is_bad_moment, waits_for_guards, span_site, event_site};
-ghost use Rattle.trace_pipeline.specs.Machine.{is_borrowed_by, current_of, CanWait};
+ghost use Rattle.trace_pipeline.specs.Bodies.{is_borrowed_by, current_of, CanWait};
 ghost use Rattle.trace_pipeline.specs.declared.settings.Settings.{Settings as SettingsValue};
 ghost use Rattle.trace_pipeline.specs.declared.reply.Refusal.TheVariants.{Memory as NoMemory};
 
 use crate::events::{is_error, make_event};
-use crate::names::{Guard, Handle, guard_at, handle_at, is_enabled, spend};
+use crate::handles::{Guard, Handle, guard_at, handle_at, is_enabled, spend};
+use crate::level_words::filter_of;
 use crate::reply::{Refusal, Reply, What};
 use crate::request::{Call, LAST_MOMENT, Request};
 use crate::settings::Settings;
 use crate::span::Span;
 use crate::spans::Spans;
-use crate::words::filter_of;
 use otel_base::memory::Memory;
 use otel_base::record::{Moment, Record};
 use std::alloc::{AllocFailed, Global};
@@ -61,7 +61,7 @@ pub struct Pipeline {
 }
 
 impl Model for Pipeline {
-    ghost use Rattle.trace_pipeline.specs.Stands.{Kept};
+    ghost use Rattle.trace_pipeline.specs.Fits.{Kept};
 
     ghost Value = { Kept };
 
@@ -147,7 +147,7 @@ fn current(open_guard: Option<Guard>) -> Handle
 }
 
 impl Pipeline {
-    ghost use Rattle.trace_pipeline.specs.Stands.{StandsFor, Serves, Refuses, Answered, IsRefusal};
+    ghost use Rattle.trace_pipeline.specs.Fits.{StandsFor, Serves, Refuses, Answered, IsRefusal};
 
     /// A pipeline for the settings, before any request. It answers `Memory` alone, and that freely.
     pub fn open(alloc: Global, settings: Settings) -> Result<Pipeline, OpenError>
@@ -230,7 +230,7 @@ impl Pipeline {
             Call::Drop { handle } => self.drop_handle(at, handle),
             Call::Enter { handle } => self.enter(at, handle),
             Call::Exit { guard } => self.exit(at, guard),
-            Call::Event { site } => self.tell(at, site),
+            Call::Event { site } => self.event(at, site),
         }
     }
 
@@ -331,7 +331,7 @@ impl Pipeline {
         Ok(Reply::Done)
     }
 
-    fn tell(&mut self, at: Moment, site: u64) -> Result<Reply, Refusal>
+    fn event(&mut self, at: Moment, site: u64) -> Result<Reply, Refusal>
         ensures ok { Serves self.old at (Call.Event site) result self.new }
         ensures refused { Refuses self.old at (Call.Event site) result }
         ensures err { OnErr result (self.new ≡ self.old) }
@@ -346,7 +346,8 @@ impl Pipeline {
         match current(self.open_guard) {
             Handle::Enabled { span } => {
                 let event = make_event(self.alloc, callsite, at)?;
-                self.spans.tell(span, is_error(callsite.level), event, at)?;
+                self.spans
+                    .record_event(span, is_error(callsite.level), event, at)?;
                 self.moment = at;
                 Ok(Reply::Enabled { enabled: true })
             }

@@ -17,7 +17,7 @@ pub enum Call {
     Enter { handle: u64 },
     /// Spends a guard, which exits its span; the drop of a `tracing::span::Entered`.
     Exit { guard: u64 },
-    /// Tells an event of a callsite to the lane's current span; `tracing::Event::dispatch`.
+    /// Records an event of a callsite on the lane's current span; `tracing::Event::dispatch`.
     Event { site: u64 },
 }
 

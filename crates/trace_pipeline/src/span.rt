@@ -1,8 +1,8 @@
 //! The state of one span.
 ghost use Rattle.std.specs.Prelude.{◌≡◌, false};
-ghost use Rattle.trace_pipeline.specs.Machine.{no_times, started_after, span_started, span_entered, span_exited, span_told, span_held};
+ghost use Rattle.trace_pipeline.specs.Bodies.{no_times, started_after, span_started, span_entered, span_exited, span_recorded, span_held};
 
-use crate::times::Times;
+use crate::timings::Timings;
 use otel_base::record::Moment;
 
 /// What is kept of a span; `tracing_opentelemetry::OtelData`.
@@ -16,10 +16,10 @@ pub struct Span {
     pub id: u64,
     /// How many unspent handles hold it.
     pub holds: u64,
-    /// Whether an event of level ERROR was told to it.
+    /// Whether an event of level ERROR was recorded on it.
     pub failed: bool,
     /// How long it was entered so far.
-    pub times: Times,
+    pub times: Timings,
 }
 
 impl Span {
@@ -33,7 +33,7 @@ impl Span {
             id: 0,
             holds: 1,
             failed: false,
-            times: Times::new(),
+            times: Timings::new(),
         }
     }
 
@@ -71,8 +71,8 @@ impl Span {
     }
 
     /// Takes note of an event, whose level may be ERROR.
-    pub fn tell(&mut self, is_error: bool, at: Moment)
-        ensures { self.new ≡ span_told is_error at self.old }
+    pub fn record_event(&mut self, is_error: bool, at: Moment)
+        ensures { self.new ≡ span_recorded is_error at self.old }
     {
         self.times.pass(at);
         self.failed = self.failed || is_error;

@@ -1,11 +1,11 @@
 //! All spans of a pipeline, by their numbers, and what requests do to them.
 ghost use Rattle.std.specs.Prelude.{◌≡◌, ◌++◌, ◌∷◌, ◌^◌, ◌<◌, [], Some, OnOk, OnErr, length, count_by};
-ghost use Rattle.trace_pipeline.specs.declared.names.Handle.TheVariants.{Enabled};
-ghost use Rattle.trace_pipeline.specs.Machine.{spans_entered, started_entered, spans_exited, spans_held, spans_told, events_told, spans_dropped, started_dropped, events_dropped, records_dropped, IsShort, is_held};
+ghost use Rattle.trace_pipeline.specs.declared.handles.Handle.TheVariants.{Enabled};
+ghost use Rattle.trace_pipeline.specs.Bodies.{spans_entered, started_entered, spans_exited, spans_held, spans_recorded, events_recorded, spans_dropped, started_dropped, events_dropped, records_dropped, IsShort, is_held};
 
 use crate::events::{add_event, take_events};
 use crate::finish::finished_record;
-use crate::names::Handle;
+use crate::handles::Handle;
 use crate::span::Span;
 use otel_base::list::Items;
 use otel_base::memory::Memory;
@@ -19,7 +19,7 @@ use trace_base::callsite::Callsite;
 pub struct Spans {
     /// The spans in the order of making, closed ones too.
     pub list: Vec<Span>,
-    /// The events that were told to each, none once it is closed.
+    /// The events that were recorded on each, none once it is closed.
     pub events: Vec<Items<OtelEvent>>,
     /// How many spans were started.
     pub started: u64,
@@ -103,23 +103,23 @@ impl Spans {
         }
     }
 
-    /// Tells an event to a span. `Memory` where there is none for it; nothing changes then.
-    pub fn tell(
+    /// Records an event on a span. `Memory` where there is none for it; nothing changes then.
+    pub fn record_event(
         &mut self,
         number: u64,
         is_error: bool,
         event: OtelEvent,
         at: Moment,
     ) -> Result<(), Memory>
-        ensures list { OnOk result (self.new.list.items ≡ spans_told is_error at (Enabled number) self.old.list.items) }
-        ensures events { OnOk result (self.new.events.items ≡ events_told event (Enabled number) self.old.events.items) }
+        ensures list { OnOk result (self.new.list.items ≡ spans_recorded is_error at (Enabled number) self.old.list.items) }
+        ensures events { OnOk result (self.new.events.items ≡ events_recorded event (Enabled number) self.old.events.items) }
         ensures list_stays { OnErr result (self.new.list.items ≡ self.old.list.items) }
         ensures events_stay { OnErr result (self.new.events.items ≡ self.old.events.items) }
         ensures started { self.new.started ≡ self.old.started }
     {
         add_event(&mut self.events, number, event)?;
         if let Some(span) = self.list.get_mut(number as usize) {
-            span.tell(is_error, at);
+            span.record_event(is_error, at);
         }
         Ok(())
     }

@@ -7,10 +7,10 @@ ghost use Rattle.trace_pipeline.specs.Left.{left};
 ghost use Rattle.trace_pipeline.specs.Forms.{each, object_of, provided};
 ghost use Rattle.trace_pipeline.specs.SettingsForm.{Lane, lane_form, callsite_form, layer_form, settings_form, ids, all_differ};
 
+use crate::level_words::{filter_of, kind_of, level_of};
 use crate::read::LineError;
 use crate::read::object::{Object, text_of};
 use crate::settings::Settings;
-use crate::words::{filter_of, kind_of, level_of};
 use otel_base::list::Items;
 use otel_base::text::Text;
 use serde_json::Value as Json;

@@ -1,7 +1,7 @@
 -- What the drop left stands for its effect, and the finished records are those of the spans that it closed.
 use Rattle.std.proofs.Common.{◌++◌, ◌∙◌, List, ap, sym, arith, rules}
 use Rattle.trace_base.specs.declared.callsite.Callsite.{Callsite}
-use Rattle.trace_pipeline.specs.Machine.{records_dropped}
+use Rattle.trace_pipeline.specs.Bodies.{records_dropped}
 use Rattle.trace_pipeline.proofs.Serving.{serves_dropped, in_use}
 use Rattle.trace_pipeline.proofs.pipeline.Pipeline.drop_handle.Goals as goal
 

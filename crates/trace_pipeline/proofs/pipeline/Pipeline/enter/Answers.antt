@@ -1,6 +1,6 @@
 -- What the entry left stands for its effect.
 use Rattle.std.proofs.Common.{◌∙◌, ap, arith, rules}
-use Rattle.trace_pipeline.specs.Stands.{Kept}
+use Rattle.trace_pipeline.specs.Fits.{Kept}
 use Rattle.trace_pipeline.proofs.Serving.{serves_entered}
 use Rattle.trace_pipeline.proofs.pipeline.Pipeline.enter.Goals as goal
 

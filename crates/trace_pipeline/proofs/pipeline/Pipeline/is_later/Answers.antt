@@ -1,8 +1,8 @@
 -- The code's open guard is that of the history.
 use Rattle.std.proofs.Common.{◌||◌, ◌&&◌, ◌==◌, not, Bool, Option, ap, ◌∙◌, sym, is_some}
-use Rattle.trace_pipeline.specs.declared.names.Guard.{Guard}
+use Rattle.trace_pipeline.specs.declared.handles.Guard.{Guard}
 use Rattle.trace_pipeline.specs.Effects.{waits_for_guards}
-use Rattle.trace_pipeline.specs.Stands.{Kept}
+use Rattle.trace_pipeline.specs.Fits.{Kept}
 use Rattle.trace_pipeline.proofs.Refusing.{open_kept, can_wait}
 use Rattle.trace_pipeline.proofs.pipeline.Pipeline.is_later.Goals as goal
 

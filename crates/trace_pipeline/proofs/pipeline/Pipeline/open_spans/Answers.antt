@@ -1,7 +1,7 @@
 -- The spans with a hold are those that are open.
 use Rattle.std.proofs.Common.{◌∙◌, ap, count_by}
-use Rattle.trace_pipeline.specs.Machine.{is_held}
-use Rattle.trace_pipeline.specs.Stands.{Kept}
+use Rattle.trace_pipeline.specs.Bodies.{is_held}
+use Rattle.trace_pipeline.specs.Fits.{Kept}
 use Rattle.trace_pipeline.proofs.Counting.{open_counted}
 use Rattle.trace_pipeline.proofs.pipeline.Pipeline.open_spans.Goals as goal
 

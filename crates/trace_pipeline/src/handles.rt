@@ -1,7 +1,7 @@
 //! What the names in requests stand for.
 ghost use Rattle.std.specs.Prelude.{◌≡◌, None, slice_set};
 ghost use Rattle.std.specs.List.{slice_index_or};
-ghost use Rattle.trace_pipeline.specs.Machine.{is_enabled};
+ghost use Rattle.trace_pipeline.specs.Bodies.{is_enabled};
 
 /// What a handle that isn't spent stands for; a handle is a `tracing::Span`.
 #[derive(Clone, Copy)]

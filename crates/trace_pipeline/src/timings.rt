@@ -1,14 +1,14 @@
 //! How long a span was entered.
 ghost use Rattle.std.specs.Prelude.{◌≡◌, ◌+◌, ◌-◌, Some};
 ghost use Rattle.trace_pipeline.specs.Ops.{gap};
-ghost use Rattle.trace_pipeline.specs.Machine.{times_at, capped};
+ghost use Rattle.trace_pipeline.specs.Bodies.{times_at, capped};
 
 use otel_base::record::Moment;
 
 /// The times of a span after some of its ops, in nanoseconds. A count stands still at its type's end. It stands for
 /// what tracing-opentelemetry keeps as `Timings`.
 #[derive(Clone, Copy)]
-pub struct Times {
+pub struct Timings {
     /// How many entries are open.
     pub entered: u64,
     /// The moment of the last op, 0 before the first.
@@ -16,19 +16,19 @@ pub struct Times {
     /// How long it was entered, up to the last op.
     pub busy: u64,
     /// The moment of the last exit.
-    pub left: Option<Moment>,
+    pub last_exit: Option<Moment>,
 }
 
-impl Times {
+impl Timings {
     /// The times before any op.
-    pub fn new() -> Times
-        ensures { result ≡ record { entered = 0; last = 0; busy = 0; left = None } }
+    pub fn new() -> Timings
+        ensures { result ≡ record { entered = 0; last = 0; busy = 0; last_exit = None } }
     {
-        Times {
+        Timings {
             entered: 0,
             last: 0,
             busy: 0,
-            left: None,
+            last_exit: None,
         }
     }
 
@@ -61,10 +61,10 @@ impl Times {
 
     /// An exit.
     pub fn exit(&mut self, at: Moment)
-        ensures { self.new ≡ record (times_at self.old at) { entered = self.old.entered - 1; left = Some at } }
+        ensures { self.new ≡ record (times_at self.old at) { entered = self.old.entered - 1; last_exit = Some at } }
     {
         self.pass(at);
         self.entered = self.entered.saturating_sub(1);
-        self.left = Some(at);
+        self.last_exit = Some(at);
     }
 }

@@ -12,11 +12,11 @@ use Rattle.std.specs.List.{slice_index_or}
 use Rattle.trace_pipeline.specs.declared.request.TheConstants.{LAST_MOMENT}
 use Rattle.trace_pipeline.specs.declared.request.Call.{Call}
 use Rattle.trace_pipeline.specs.declared.request.Call.TheVariants as call
-use Rattle.trace_pipeline.specs.declared.names.Guard.{Guard}
-use Rattle.trace_pipeline.specs.declared.names.Handle.{Handle}
-use Rattle.trace_pipeline.specs.declared.names.Handle.TheVariants.{Disabled, Enabled}
+use Rattle.trace_pipeline.specs.declared.handles.Guard.{Guard}
+use Rattle.trace_pipeline.specs.declared.handles.Handle.{Handle}
+use Rattle.trace_pipeline.specs.declared.handles.Handle.TheVariants.{Disabled, Enabled}
 use Rattle.trace_pipeline.specs.declared.span.Span.{Span}
-use Rattle.trace_pipeline.specs.declared.times.Times.{Times}
+use Rattle.trace_pipeline.specs.declared.timings.Timings.{Timings}
 use Rattle.trace_pipeline.specs.Ops.{gap}
 
 -- whether the open guard, if there is one, names the handle
@@ -33,11 +33,11 @@ current_of (Some guard) = guard.entered
 abbrev pub capped : ℕ → ℕ
 capped n = min n (2 ^ 64 - 1)
 
-abbrev pub no_times : Times
-no_times = record { entered = 0; last = 0; busy = 0; left = None }
+abbrev pub no_times : Timings
+no_times = record { entered = 0; last = 0; busy = 0; last_exit = None }
 
 -- the times up to a moment
-abbrev pub times_at : Times → ℕ → Times
+abbrev pub times_at : Timings → ℕ → Timings
 times_at times at = record times { last = at; busy = capped (times.busy + gap times.entered times.last at) }
 
 abbrev pub no_span : Span
@@ -59,10 +59,10 @@ abbrev pub span_entered : ℕ → Span → Span
 span_entered at span = record span { times = record (times_at span.times at) { entered = capped (span.times.entered + 1) } }
 
 abbrev pub span_exited : ℕ → Span → Span
-span_exited at span = record span { times = record (times_at span.times at) { entered = span.times.entered - 1; left = Some at } }
+span_exited at span = record span { times = record (times_at span.times at) { entered = span.times.entered - 1; last_exit = Some at } }
 
-abbrev pub span_told : Bool → ℕ → Span → Span
-span_told is_error at span = record span { failed = span.failed || is_error; times = times_at span.times at }
+abbrev pub span_recorded : Bool → ℕ → Span → Span
+span_recorded is_error at span = record span { failed = span.failed || is_error; times = times_at span.times at }
 
 -- ---- the list of spans, and the number of starts, after an entry, an exit and a release of what a handle stands for
 
@@ -90,18 +90,18 @@ abbrev pub is_enabled : Handle → Bool
 is_enabled Disabled = false
 is_enabled (Enabled s) = true
 
--- ---- the spans and their events after an event was told to what a handle stands for
+-- ---- the spans and their events after an event was recorded on what a handle stands for
 
-abbrev pub spans_told : Bool → ℕ → Handle → List Span → List Span
-spans_told is_error at Disabled spans = spans
-spans_told is_error at (Enabled s) spans = slice_set spans s (span_told is_error at (span_at spans s))
+abbrev pub spans_recorded : Bool → ℕ → Handle → List Span → List Span
+spans_recorded is_error at Disabled spans = spans
+spans_recorded is_error at (Enabled s) spans = slice_set spans s (span_recorded is_error at (span_at spans s))
 
 abbrev pub events_at : List (List OtelEvent) → ℕ → List OtelEvent
 events_at events s = slice_index_or events s []
 
-abbrev pub events_told : OtelEvent → Handle → List (List OtelEvent) → List (List OtelEvent)
-events_told event Disabled events = events
-events_told event (Enabled s) events = slice_set events s (events_at events s ++ event ∷ [])
+abbrev pub events_recorded : OtelEvent → Handle → List (List OtelEvent) → List (List OtelEvent)
+events_recorded event Disabled events = events
+events_recorded event (Enabled s) events = slice_set events s (events_at events s ++ event ∷ [])
 
 -- a span that its last handle lets go is started, and has no hold any more
 abbrev pub span_closed : ℕ → ℕ → Span → Span
@@ -110,7 +110,7 @@ span_closed started at span = record (span_started started at span) { holds = 0 
 -- ---- the record of a span that closes
 
 abbrev pub idle_by : Span → ℕ
-idle_by span = option_map_or (λ end. end - span.made - span.times.busy) span.times.left 0
+idle_by span = option_map_or (λ end. end - span.made - span.times.busy) span.times.last_exit 0
 
 abbrev pub attributes_by : ℕ → ℕ → List KeyValue
 attributes_by busy idle = record { key = codes "busy_ns"; value = I64 (pos busy) } ∷ record { key = codes "idle_ns"; value = I64 (pos idle) } ∷ []
@@ -122,7 +122,7 @@ record_by name span events at = record {
   context = record { trace = span.id; span = span.id };
   parent = 0;
   start = span.made;
-  end = unwrap_or span.times.left at;
+  end = unwrap_or span.times.last_exit at;
   attributes = attributes_by span.times.busy (idle_by span);
   events = events;
   links = [];

@@ -6,12 +6,12 @@ use Rattle.otel_base.specs.declared.record.Record.{Record}
 use Rattle.otel_base.specs.declared.record.OtelEvent.{OtelEvent}
 use Rattle.trace_base.specs.declared.level.LevelFilter.{LevelFilter}
 use Rattle.trace_pipeline.specs.declared.settings.Settings.{Settings}
-use Rattle.trace_pipeline.specs.declared.names.Handle.{Handle}
-use Rattle.trace_pipeline.specs.declared.names.Handle.TheVariants.{Disabled, Enabled}
-use Rattle.trace_pipeline.specs.declared.names.Guard.{Guard}
+use Rattle.trace_pipeline.specs.declared.handles.Handle.{Handle}
+use Rattle.trace_pipeline.specs.declared.handles.Handle.TheVariants.{Disabled, Enabled}
+use Rattle.trace_pipeline.specs.declared.handles.Guard.{Guard}
 use Rattle.trace_pipeline.specs.declared.span.Span.{Span}
-use Rattle.trace_pipeline.specs.declared.times.Times.{Times}
-use Rattle.trace_pipeline.specs.Machine.{span_at, events_at}
+use Rattle.trace_pipeline.specs.declared.timings.Timings.{Timings}
+use Rattle.trace_pipeline.specs.Bodies.{span_at, events_at}
 use Rattle.trace_pipeline.specs.declared.reply.Reply.{Reply}
 use Rattle.trace_pipeline.specs.declared.request.Request.{Request}
 use Rattle.trace_pipeline.specs.declared.request.Call.{Call}
@@ -25,7 +25,7 @@ use Rattle.otel_base.specs.declared.context.SpanContext.{SpanContext}
 use Rattle.otel_base.specs.Ids.{ids_of}
 use Rattle.otel_base.specs.RecorderIds.{recorder_ids}
 use Rattle.trace_pipeline.specs.Tables.{Tables, tables}
-use Rattle.trace_pipeline.specs.History.{Line, Made, Guarded, Effect, History, no_context, moment, slot_at, made_of, place_in, holds, own}
+use Rattle.trace_pipeline.specs.History.{Scope, Made, Guarded, Effect, History, no_context, moment, slot_at, made_of, place_in, holds, own}
 use Rattle.trace_pipeline.specs.Ops.{Stamped, start_ids, entered_after, busy, last_exit, events, is_error_event}
 
 -- what is kept, but for the finished records
@@ -45,20 +45,20 @@ pub record Kept : Type 0 where
   pub state : State
   pub finished : List Record
 
-abbrev pub handle_of : Line → Handle
+abbrev pub handle_of : Scope → Handle
 handle_of [] = Disabled
-handle_of (s ∷ line) = Enabled s
+handle_of (s ∷ scope) = Enabled s
 
 abbrev pub guard_of : Guarded → Guard
-guard_of guarded = record { handle = guarded.handle; entered = handle_of guarded.line }
+guard_of guarded = record { handle = guarded.handle; entered = handle_of guarded.scope }
 
 -- the times after some ops
-abbrev pub times_of : List Stamped → Times
+abbrev pub times_of : List Stamped → Timings
 times_of os = record {
   entered = fold (λ n op. entered_after n op.op) 0 os;
   last = fold (λ last op. op.at) 0 os;
   busy = busy os;
-  left = last_exit os;
+  last_exit = last_exit os;
 }
 
 -- whether an event of level ERROR is among the ops
@@ -72,16 +72,16 @@ span_by made id below os = record { site = made.site; made = made.at; id = id; h
 abbrev pub is_started : Span → Bool
 is_started span = nat_lt 0 span.id
 
--- The line of a disabled handle is empty, that of an enabled one is a span that has been made.
-abbrev pub IsMade : ℕ → Line → Type 0
+-- The scope of a disabled handle is empty, that of an enabled one is a span that has been made.
+abbrev pub IsMade : ℕ → Scope → Type 0
 IsMade n [] = Unit {0}
-IsMade n (s ∷ line) = (s < n) × (line ≡ [])
+IsMade n (s ∷ scope) = (s < n) × (scope ≡ [])
 
 -- No time is later than the last moment, and no more entries are open than guards were made.
-pub record IsTimed (times : Times) (last guards : ℕ) : Type 0 where
+pub record IsTimed (times : Timings) (last guards : ℕ) : Type 0 where
   pub busy_in : times.busy ≤ times.last
   pub last_in : times.last ≤ last
-  pub left_in : unwrap_or times.left 0 ≤ times.last
+  pub exit_in : unwrap_or times.last_exit 0 ≤ times.last
   pub entered_in : times.entered ≤ guards
 
 -- The ids of a span's starts by its place in their order: none where it has none, else those of that place.
@@ -100,9 +100,9 @@ pub record SpansFit (spans : List Span) (started : ℕ) (ms : List Made) (order 
   pub unmade : (s : ℕ) → length ms ≤ s → os s ≡ []
 
 -- The events fit the ops of each span that some handle holds.
-pub record EventsFit (told : List (List OtelEvent)) (made : ℕ) (below : ℕ → ℕ) (os : ℕ → List Stamped) : Type 0 where
-  pub count : length told ≡ made
-  pub each : (s : ℕ) → 0 < below s → events_at told s ≡ events (os s)
+pub record EventsFit (kept : List (List OtelEvent)) (made : ℕ) (below : ℕ → ℕ) (os : ℕ → List Stamped) : Type 0 where
+  pub count : length kept ≡ made
+  pub each : (s : ℕ) → 0 < below s → events_at kept s ≡ events (os s)
 
 -- the guard that is open, if there is one
 abbrev pub open_of : List (Option Guarded) → Option Guarded
@@ -113,7 +113,7 @@ open_of (Some guarded ∷ slots) = Some guarded
 -- the entry that an open guard stands for
 abbrev pub entered_by : Option Guarded → List ℕ
 entered_by None = []
-entered_by (Some guarded) = option_to_list (own guarded.line)
+entered_by (Some guarded) = option_to_list (own guarded.scope)
 
 -- The guards fit their table, in which at most one is open, and the lane's entries.
 pub record GuardsFit (kept : List (Option Guard)) (open_guard : Option Guard) (gs : List (Option Guarded)) (es : List ℕ) : Type 0 where
@@ -123,7 +123,7 @@ pub record GuardsFit (kept : List (Option Guard)) (open_guard : Option Guard) (g
   pub entered : es ≡ entered_by (open_of gs)
 
 -- how many unspent handles hold a span
-abbrev pub held : List (Option Line) → ℕ → ℕ
+abbrev pub held : List (Option Scope) → ℕ → ℕ
 held hs s = count_by (holds s) hs
 
 -- What is kept fits the tables of a history.
@@ -134,9 +134,9 @@ pub record Fits (k : State) (t : Tables) : Type 0 where
   pub events_fit : EventsFit k.events (length t.made) (held t.handles) t.ops
   pub latest : k.moment ≡ t.moment
   -- facts of each history that lead here
-  pub named : (n : ℕ) (line : Line) → slot_at t.handles n ≡ Some line → IsMade (length t.made) line
-  pub kept : (n : ℕ) (guarded : Guarded) → slot_at t.guards n ≡ Some guarded → IsMade (length t.made) guarded.line
-  pub lines : (s : ℕ) → s < length t.made → (made_of t.made s).line ≡ s ∷ []
+  pub named : (n : ℕ) (scope : Scope) → slot_at t.handles n ≡ Some scope → IsMade (length t.made) scope
+  pub kept : (n : ℕ) (guarded : Guarded) → slot_at t.guards n ≡ Some guarded → IsMade (length t.made) guarded.scope
+  pub scopes : (s : ℕ) → s < length t.made → (made_of t.made s).scope ≡ s ∷ []
   pub contexts : (s : ℕ) → (made_of t.made s).context ≡ no_context
   pub early : t.moment ≤ LAST_MOMENT
 
