@@ -7,7 +7,7 @@ use Rattle.trace_pipeline.specs.declared.reply.Told.TheVariants as told
 use Rattle.trace_pipeline.specs.History.{History, open_spans}
 use Rattle.trace_pipeline.specs.Lines.{lines_of}
 use Rattle.trace_pipeline.specs.Texts.{refusal_text, end_text}
-use Rattle.trace_pipeline.specs.Stands.{Kept, StandsFor}
+use Rattle.trace_pipeline.specs.Fits.{Kept, StandsFor}
 use Rattle.trace_pipeline.specs.Report.{Report, behind, report_on, report_from, report, output}
 use Rattle.trace_tool.specs.Streams.{IsFront}
 use Rattle.trace_tool.specs.Progress.{NoFeed, IsWhole, Between, Stops, AnswersWhole}

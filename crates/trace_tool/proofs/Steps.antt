@@ -17,7 +17,7 @@ use Rattle.trace_pipeline.specs.Content.{record_of, records_of}
 use Rattle.trace_pipeline.specs.Lines.{is_blank}
 use Rattle.trace_pipeline.specs.Spelled.{settings_spelled, request_spelled}
 use Rattle.trace_pipeline.specs.Texts.{reply_text}
-use Rattle.trace_pipeline.specs.Stands.{State, Kept, StandsFor, Answered}
+use Rattle.trace_pipeline.specs.Fits.{State, Kept, StandsFor, Answered}
 use Rattle.trace_pipeline.specs.Report.{Report, behind, effect_of_line, effect_of_request, answer_text, record_lines, report_on, report_from}
 use Rattle.trace_tool.specs.declared.answers.Progress.{Progress}
 use Rattle.trace_tool.specs.declared.answers.Progress.TheVariants as progress

@@ -7,7 +7,7 @@ use Rattle.trace_pipeline.specs.declared.reply.Reply.{Reply}
 use Rattle.trace_pipeline.specs.declared.reply.Told.{Told}
 use Rattle.trace_pipeline.specs.declared.reply.Told.TheVariants as told
 use Rattle.trace_pipeline.specs.History.{History, Effect, closed}
-use Rattle.trace_pipeline.specs.Stands.{Kept, StandsFor, Answered}
+use Rattle.trace_pipeline.specs.Fits.{Kept, StandsFor, Answered}
 use Rattle.trace_pipeline.specs.Lines.{lines_of}
 use Rattle.trace_pipeline.specs.Spelled.{request_spelled}
 use Rattle.trace_pipeline.specs.Texts.{refusal_text, end_text}

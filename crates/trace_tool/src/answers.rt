@@ -4,7 +4,7 @@ ghost use Rattle.trace_pipeline.specs.History.{History};
 ghost use Rattle.trace_pipeline.specs.Lines.{lines_of};
 ghost use Rattle.trace_pipeline.specs.Spelled.{settings_spelled};
 ghost use Rattle.trace_pipeline.specs.Report.{record_lines, report_on, report_from, report, output};
-ghost use Rattle.trace_pipeline.specs.Stands.{StandsFor};
+ghost use Rattle.trace_pipeline.specs.Fits.{StandsFor};
 ghost use Rattle.trace_pipeline.specs.declared.settings.Settings.{Settings as SettingsValue};
 ghost use Rattle.trace_tool.specs.Streams.{IsFront};
 ghost use Rattle.trace_tool.specs.Progress.{StepsBy, Between, Answers, Reaches, AnswersWhole};
