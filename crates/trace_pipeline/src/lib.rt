@@ -1,6 +1,7 @@
 //! Scripts of span calls: reading their lines, running their requests, and writing what they give.
 #![tactic(auto)]
 
+mod calls;
 mod events;
 mod finish;
 mod handles;

@@ -1,25 +1,22 @@
 //! A pipeline runs the requests of a script: it answers each, and gives the records of the spans that it closed.
-ghost use Rattle.std.specs.Prelude.{◌==◌, not, false, is_some, None, ◌≡◌, ◌≢◌, ◌<◌, ◌≤◌, ◌^◌, ◌-◌, ◌||◌, ◌&&◌, nat_lt, ℕ, option_map, [], ◌∷◌, drop, Some, Ok, Err, IfOk, IfErr, OnErr, MatchOption};
+ghost use Rattle.std.specs.Prelude.{◌==◌, not, false, is_some, ◌≡◌, ◌||◌, ◌&&◌, ℕ, [], ◌∷◌, drop, IfOk, IfErr, OnErr, MatchOption};
 ghost use Rattle.trace_pipeline.specs.History.{History, open_spans};
-ghost use Rattle.trace_pipeline.specs.Effects.{effect_of, is_later, is_bad_moment, waits_for_guards, span_site, event_site};
-ghost use Rattle.trace_pipeline.specs.Bodies.{is_borrowed_by, current_of, CanWait};
+ghost use Rattle.trace_pipeline.specs.Effects.{effect_of, is_later, is_bad_moment, waits_for_guards};
+ghost use Rattle.trace_pipeline.specs.Bodies.{CanWait};
 ghost use Rattle.trace_pipeline.specs.declared.settings.Settings.{Settings as SettingsValue};
 ghost use Rattle.trace_pipeline.specs.declared.reply.Refusal.TheVariants.{Memory as NoMemory};
 
-use crate::events::{is_error, make_event};
-use crate::handles::{Guard, Handle, guard_at, handle_at, is_enabled, spend};
+use crate::handles::{Guard, Handle};
 use crate::level_words::filter_of;
 use crate::reply::{Refusal, Reply, What};
 use crate::request::{Call, LAST_MOMENT, Request};
 use crate::settings::Settings;
-use crate::span::Span;
 use crate::spans::Spans;
 use otel_base::memory::Memory;
 use otel_base::record::{Moment, Record};
 use std::alloc::{AllocFailed, Global};
 use std::collections::VecDeque;
 use std::marker::Model;
-use trace_base::callsite::{Callsite, Kind};
 use trace_base::level::LevelFilter;
 
 /// Why a pipeline can't be opened.
@@ -49,15 +46,15 @@ impl<T: Drop> From<AllocFailed<T>> for Refusal {
 /// `tracing_opentelemetry::OpenTelemetryLayer` over an exporter that keeps what it gets.
 #[derive(Drop)]
 pub struct Pipeline {
-    alloc: Global,
-    settings: Settings,
-    in_force: LevelFilter,
-    handles: Vec<Option<Handle>>,
-    guards: Vec<Option<Guard>>,
-    open_guard: Option<Guard>,
-    spans: Spans,
-    moment: Moment,
-    finished: VecDeque<Record>,
+    pub(crate) alloc: Global,
+    pub(crate) settings: Settings,
+    pub(crate) in_force: LevelFilter,
+    pub(crate) handles: Vec<Option<Handle>>,
+    pub(crate) guards: Vec<Option<Guard>>,
+    pub(crate) open_guard: Option<Guard>,
+    pub(crate) spans: Spans,
+    pub(crate) moment: Moment,
+    pub(crate) finished: VecDeque<Record>,
 }
 
 impl Model for Pipeline {
@@ -81,28 +78,6 @@ impl Model for Pipeline {
     } };
 }
 
-/// The callsite at a place, if it makes spans.
-fn span_site(callsites: &[Callsite], site: u64) -> Option<&Callsite>
-    ensures { option_map (λ callsite. callsite.now) result ≡ span_site callsites.now site }
-{
-    let callsite = callsites.get(site as usize)?;
-    match callsite.kind {
-        Kind::Span => Some(callsite),
-        Kind::Event => None,
-    }
-}
-
-/// The callsite at a place, if it makes events.
-fn event_site(callsites: &[Callsite], site: u64) -> Option<&Callsite>
-    ensures { option_map (λ callsite. callsite.now) result ≡ event_site callsites.now site }
-{
-    let callsite = callsites.get(site as usize)?;
-    match callsite.kind {
-        Kind::Span => None,
-        Kind::Event => Some(callsite),
-    }
-}
-
 // Neither a making nor an entry is built while some guard is open.
 fn waits_for_guards(call: &Call) -> bool
     ensures { result ≡ waits_for_guards call.now }
@@ -124,26 +99,6 @@ fn is_unbuilt(lane: u64, open_guard: Option<Guard>, call: &Call) -> bool
     ensures { result ≡ (not (lane == 0) || (waits_for_guards call.now && is_some open_guard)) }
 {
     lane != 0 || (waits_for_guards(call) && open_guard.is_some())
-}
-
-// Whether the open guard, if there is one, names the handle.
-fn is_borrowed(open_guard: Option<Guard>, handle: u64) -> bool
-    ensures { result ≡ is_borrowed_by open_guard handle }
-{
-    match open_guard {
-        Some(guard) => guard.handle == handle,
-        None => false,
-    }
-}
-
-// What the open guard's entry stands for.
-fn current(open_guard: Option<Guard>) -> Handle
-    ensures { result ≡ current_of open_guard }
-{
-    match open_guard {
-        Some(guard) => guard.entered,
-        None => Handle::Disabled,
-    }
 }
 
 impl Pipeline {
@@ -231,130 +186,6 @@ impl Pipeline {
             Call::Enter { handle } => self.enter(at, handle),
             Call::Exit { guard } => self.exit(at, guard),
             Call::Event { site } => self.event(at, site),
-        }
-    }
-
-    fn make(&mut self, at: Moment, site: u64) -> Result<Reply, Refusal>
-        ensures ok { Serves self.old at (Call.New site) result self.new }
-        ensures refused { Refuses self.old at (Call.New site) result }
-        ensures err { OnErr result (self.new ≡ self.old) }
-    {
-        let Some(callsite) = span_site(self.settings.callsites.as_slice(), site) else {
-            return Err(Refusal::UnknownName { what: What::Site });
-        };
-        let handle = self.handles.len() as u64;
-        if self.in_force.lets_through(callsite.level) {
-            self.spans
-                .add(self.alloc, &mut self.handles, Span::new(site, at))?;
-            self.moment = at;
-            Ok(Reply::Made {
-                enabled: true,
-                handle,
-            })
-        } else {
-            self.handles.push(Some(Handle::Disabled))?;
-            self.moment = at;
-            Ok(Reply::Made {
-                enabled: false,
-                handle,
-            })
-        }
-    }
-
-    fn clone_handle(&mut self, at: Moment, handle: u64) -> Result<Reply, Refusal>
-        ensures ok { Serves self.old at (Call.Clone handle) result self.new }
-        ensures refused { Refuses self.old at (Call.Clone handle) result }
-        ensures err { OnErr result (self.new ≡ self.old) }
-    {
-        let Some(cloned) = handle_at(&self.handles, handle) else {
-            return Err(Refusal::UnknownName { what: What::Handle });
-        };
-        let number = self.handles.len() as u64;
-        self.handles.push(Some(cloned))?;
-        self.spans.hold(cloned);
-        self.moment = at;
-        Ok(Reply::Made {
-            enabled: is_enabled(cloned),
-            handle: number,
-        })
-    }
-
-    fn drop_handle(&mut self, at: Moment, handle: u64) -> Result<Reply, Refusal>
-        ensures ok { Serves self.old at (Call.Drop handle) result self.new }
-        ensures refused { Refuses self.old at (Call.Drop handle) result }
-        ensures err { OnErr result (self.new ≡ self.old) }
-    {
-        let Some(dropped) = handle_at(&self.handles, handle) else {
-            return Err(Refusal::UnknownName { what: What::Handle });
-        };
-        if is_borrowed(self.open_guard, handle) {
-            return Err(Refusal::InUse);
-        }
-        let callsites = self.settings.callsites.as_slice();
-        self.spans
-            .drop_hold(self.alloc, callsites, &mut self.finished, dropped, at)?;
-        spend(&mut self.handles, handle);
-        self.moment = at;
-        Ok(Reply::Done)
-    }
-
-    fn enter(&mut self, at: Moment, handle: u64) -> Result<Reply, Refusal>
-        requires { self.old.state.open_guard ≡ None }
-        ensures ok { Serves self.old at (Call.Enter handle) result self.new }
-        ensures refused { Refuses self.old at (Call.Enter handle) result }
-        ensures err { OnErr result (self.new ≡ self.old) }
-    {
-        let Some(entered) = handle_at(&self.handles, handle) else {
-            return Err(Refusal::UnknownName { what: What::Handle });
-        };
-        let guard = self.guards.len() as u64;
-        let entry = Guard { handle, entered };
-        self.guards.push(Some(entry))?;
-        self.open_guard = Some(entry);
-        self.spans.enter(entered, at);
-        self.moment = at;
-        Ok(Reply::Guard { guard })
-    }
-
-    fn exit(&mut self, at: Moment, guard: u64) -> Result<Reply, Refusal>
-        ensures ok { Serves self.old at (Call.Exit guard) result self.new }
-        ensures refused { Refuses self.old at (Call.Exit guard) result }
-        ensures err { OnErr result (self.new ≡ self.old) }
-    {
-        let Some(spent) = guard_at(&self.guards, guard) else {
-            return Err(Refusal::UnknownName { what: What::Guard });
-        };
-        spend(&mut self.guards, guard);
-        self.open_guard = None;
-        self.spans.exit(spent.entered, at);
-        self.moment = at;
-        Ok(Reply::Done)
-    }
-
-    fn event(&mut self, at: Moment, site: u64) -> Result<Reply, Refusal>
-        ensures ok { Serves self.old at (Call.Event site) result self.new }
-        ensures refused { Refuses self.old at (Call.Event site) result }
-        ensures err { OnErr result (self.new ≡ self.old) }
-    {
-        let Some(callsite) = event_site(self.settings.callsites.as_slice(), site) else {
-            return Err(Refusal::UnknownName { what: What::Site });
-        };
-        if !self.in_force.lets_through(callsite.level) {
-            self.moment = at;
-            return Ok(Reply::Enabled { enabled: false });
-        }
-        match current(self.open_guard) {
-            Handle::Enabled { span } => {
-                let event = make_event(self.alloc, callsite, at)?;
-                self.spans
-                    .record_event(span, is_error(callsite.level), event, at)?;
-                self.moment = at;
-                Ok(Reply::Enabled { enabled: true })
-            }
-            Handle::Disabled => {
-                self.moment = at;
-                Ok(Reply::Enabled { enabled: true })
-            }
         }
     }
 }
