@@ -14,7 +14,11 @@ use Rattle.trace_pipeline.specs.declared.reply.What.{What}
 use Rattle.trace_pipeline.specs.declared.reply.What.TheVariants as what
 use Rattle.trace_pipeline.specs.History.{Scope, Made, Guarded, Begun, no_context, Effect, History, quiet, with_new, handles, guards, slot_at, is_borrowed, holds, is_open, moment, made, made_of, starting, own, closed_of, entries, current}
 use Rattle.trace_pipeline.specs.Ops.{done_to}
-use Rattle.trace_pipeline.specs.Effects.{Resolved, named, admits, span_site, event_site, makes_root, declines, clones, enters, exits, drops, adds_event_to, scope_of, current_scope, is_later, is_bad_moment, effect_of, effect_of_call}
+use Rattle.trace_pipeline.specs.Effects.{Resolved, named, is_later, is_bad_moment, effect_of, effect_of_call}
+use Rattle.trace_pipeline.specs.Admission.{admits}
+use Rattle.trace_pipeline.specs.Spans.{span_site, makes_root, declines, clones, drops}
+use Rattle.trace_pipeline.specs.Events.{event_site, adds_event_to, scope_of, current_scope}
+use Rattle.trace_pipeline.specs.Entries.{enters, exits}
 use Rattle.trace_pipeline.specs.Laws.{occurrences}
 use Rattle.trace_pipeline.proofs.Occurring.{is_in_counted, occurs_filter, own_among, own_ops}
 use Rattle.trace_pipeline.proofs.Refusing.{in_order}

@@ -7,7 +7,7 @@ use Rattle.trace_pipeline.specs.declared.request.TheConstants.{LAST_MOMENT}
 use Rattle.trace_pipeline.specs.declared.handles.Guard.{Guard}
 use Rattle.trace_pipeline.specs.declared.span.Span.{Span}
 use Rattle.trace_pipeline.specs.History.{Scope, enter_op, exit_op, event_op, Op, Made, Guarded, with_new, slot_at, made_of, place_in, newly, begun, holds, own, entries_by}
-use Rattle.trace_pipeline.specs.Effects.{on}
+use Rattle.trace_pipeline.specs.History.{on}
 use Rattle.std.specs.List.{filter_map}
 use Rattle.std.proofs.Common.{map}
 use Rattle.std.proofs.lemmas.List.Elements.{filter_map-append}

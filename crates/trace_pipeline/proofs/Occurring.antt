@@ -6,7 +6,7 @@ use Rattle.std.proofs.lemmas.Bool.{cases_eq, cases_Bool, eq-eqb, ne_eqb}
 use Rattle.std.proofs.lemmas.Bool.Decides.{nat_tests}
 use Rattle.trace_pipeline.specs.History.{Scope, Op, place_in, newly, is_in, own}
 use Rattle.trace_pipeline.specs.Ops.{done_to}
-use Rattle.trace_pipeline.specs.Effects.{on}
+use Rattle.trace_pipeline.specs.History.{on}
 use Rattle.std.specs.Option.{option_to_list}
 use Rattle.std.specs.List.{filter_map}
 use Rattle.trace_pipeline.specs.Laws.{occurrences}

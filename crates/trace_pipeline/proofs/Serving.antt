@@ -20,7 +20,11 @@ use Rattle.trace_pipeline.specs.declared.handles.Handle.TheVariants.{Disabled, E
 use Rattle.trace_pipeline.specs.History.{Scope, Guarded, Done, Effect, quiet, History, handles, guards, slot_at, is_borrowed, made, made_of, started, newly, moment, entries, own, current, enter_op, exit_op}
 use Rattle.trace_pipeline.specs.Ops.{ops, events, done_to, start_done}
 use Rattle.std.specs.List.{filter_map}
-use Rattle.trace_pipeline.specs.Effects.{Resolved, effect_of_call, span_site, event_site, admits, makes_root, declines, clones, enters, exits, drops, adds_event_to, event_of, is_error_level, current_scope, scope_of}
+use Rattle.trace_pipeline.specs.Effects.{Resolved, effect_of_call}
+use Rattle.trace_pipeline.specs.Spans.{span_site, makes_root, declines, clones, drops}
+use Rattle.trace_pipeline.specs.Events.{event_site, adds_event_to, event_of, is_error_level, current_scope, scope_of}
+use Rattle.trace_pipeline.specs.Admission.{admits}
+use Rattle.trace_pipeline.specs.Entries.{enters, exits}
 use Rattle.trace_pipeline.specs.Bodies.{spans_held, is_enabled, spans_entered, started_entered, spans_exited, spans_recorded, events_recorded, spans_dropped, started_dropped, events_dropped, records_dropped, IsShort, is_borrowed_by, current_of}
 use Rattle.trace_pipeline.proofs.Slots.{borrowed_by}
 use Rattle.trace_pipeline.specs.Fits.{State, Kept, SpansFit, StandsFor, Served, held, IsMade, open_of, entered_by, handle_of, guard_of}

@@ -15,7 +15,7 @@ use Rattle.trace_pipeline.proofs.StartsLemmas.{start_ops, start_at, ids_push}
 use Rattle.std.proofs.Common.{Option}
 use Rattle.otel_base.specs.declared.record.OtelEvent.{OtelEvent}
 use Rattle.trace_pipeline.specs.Ops.{Stamped, done_to, start_ids, is_error_event}
-use Rattle.trace_pipeline.specs.Effects.{on}
+use Rattle.trace_pipeline.specs.History.{on}
 use Rattle.std.specs.List.{filter_map, cons_option}
 use Rattle.trace_pipeline.specs.Bodies.{no_span, span_at, capped, times_at, started_after, span_started, span_entered, span_exited, span_recorded}
 use Rattle.trace_pipeline.specs.Fits.{SpansFit, IsTimed, span_by, times_of, is_started, starts_at, has_error}

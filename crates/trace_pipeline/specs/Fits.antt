@@ -18,7 +18,8 @@ use Rattle.trace_pipeline.specs.declared.request.Call.{Call}
 use Rattle.trace_pipeline.specs.declared.request.TheConstants.{LAST_MOMENT}
 use Rattle.trace_pipeline.specs.declared.reply.Refusal.{Refusal}
 use Rattle.trace_pipeline.specs.declared.reply.Refusal.TheVariants.{Memory}
-use Rattle.trace_pipeline.specs.Effects.{Resolved, in_force, effect_of, effect_of_call}
+use Rattle.trace_pipeline.specs.Effects.{Resolved, effect_of, effect_of_call}
+use Rattle.trace_pipeline.specs.Admission.{in_force}
 use Rattle.trace_pipeline.specs.Content.{records_of}
 use Rattle.otel_base.specs.declared.context.Context.{Context}
 use Rattle.otel_base.specs.declared.context.SpanContext.{SpanContext}

@@ -2,7 +2,7 @@
 use Rattle.std.specs.Prelude.{ℕ, ◌+◌, ◌-◌, List, [], ◌∷◌, ◌++◌, length, fold, map, filter, count_by, Bool, true, false, not, ◌==◌, if◌then◌else◌, Option, Some, None, option_map, slice_get, slice_set}
 use Rattle.otel_base.specs.declared.record.OtelEvent.{OtelEvent}
 use Rattle.std.specs.List.{flat_map, filter_map, list_any, slice_index_or, range_with_len}
-use Rattle.std.specs.Option.{option_map_or}
+use Rattle.std.specs.Option.{option_map_or, option_to_list}
 use Rattle.trace_pipeline.specs.declared.reply.Reply.{Reply}
 use Rattle.otel_base.specs.declared.context.Context.{Context}
 use Rattle.otel_base.specs.declared.context.SpanContext.{SpanContext}
@@ -225,6 +225,10 @@ starting h spans = begun (made h) (length (started h) + 1) (newly (started h) sp
 -- a scope's own span, if it has one: its first
 abbrev pub own : Scope → Option ℕ
 own scope = slice_get scope 0
+
+-- an op on a scope's own span, if it has one
+abbrev pub on : Scope → Op → List Done
+on scope op = option_to_list (option_map (λ s. record { span = s; op = op }) (own scope))
 
 -- ---- lanes
 

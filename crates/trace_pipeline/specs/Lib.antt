@@ -8,6 +8,10 @@ pub mod RequestForm
 pub mod RequestData
 pub mod Spelled
 pub mod History
+pub mod Admission
+pub mod Spans
+pub mod Entries
+pub mod Events
 pub mod Effects
 pub mod Ops
 pub mod Tables

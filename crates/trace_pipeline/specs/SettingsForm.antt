@@ -4,7 +4,7 @@ use Rattle.std.specs.List.{list_any}
 use Rattle.serde_json.specs.Find.{as_str}
 use Rattle.trace_base.specs.declared.callsite.Callsite.{Callsite}
 use Rattle.trace_pipeline.specs.declared.settings.Settings.{Settings}
-use Rattle.trace_pipeline.specs.Effects.{filter_word}
+use Rattle.trace_pipeline.specs.Admission.{filter_word}
 use Rattle.trace_pipeline.specs.Forms.{Form, ◌>>=◌, give, when, provided, whole_to, text, flag, optional_text, optional_u32, array, each, object_of, member}
 use Rattle.trace_pipeline.specs.Words.{level_word, kind_word}
 

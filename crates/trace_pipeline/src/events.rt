@@ -1,6 +1,6 @@
 //! Events, and the lists of them that are kept for the spans.
 ghost use Rattle.std.specs.Prelude.{◌≡◌, ◌++◌, ◌∷◌, [], IfOk, OnOk, OnErr, slice_set};
-ghost use Rattle.trace_pipeline.specs.Effects.{event_of, is_error_level};
+ghost use Rattle.trace_pipeline.specs.Events.{event_of, is_error_level};
 ghost use Rattle.trace_pipeline.specs.Bodies.{events_at};
 
 use otel_base::list::Items;

@@ -1,6 +1,6 @@
 //! Recording events on the current span.
 ghost use Rattle.std.specs.Prelude.{◌≡◌, option_map, OnErr};
-ghost use Rattle.trace_pipeline.specs.Effects.{event_site};
+ghost use Rattle.trace_pipeline.specs.Events.{event_site};
 ghost use Rattle.trace_pipeline.specs.Bodies.{current_of};
 ghost use Rattle.trace_pipeline.specs.declared.request.Call.{Call};
 

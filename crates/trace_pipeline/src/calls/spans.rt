@@ -1,6 +1,6 @@
 //! Making spans, and handles of them, and dropping these.
 ghost use Rattle.std.specs.Prelude.{◌≡◌, option_map, OnErr};
-ghost use Rattle.trace_pipeline.specs.Effects.{span_site};
+ghost use Rattle.trace_pipeline.specs.Spans.{span_site};
 ghost use Rattle.trace_pipeline.specs.Bodies.{is_borrowed_by};
 ghost use Rattle.trace_pipeline.specs.declared.request.Call.{Call};
 
