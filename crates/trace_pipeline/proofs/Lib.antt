@@ -1,27 +1,9 @@
-pub mod Slots
-pub mod Tables
-pub mod Timing
-pub mod Telling
-pub mod Writing
-pub mod StartsLemmas
-pub mod Steps
-pub mod Fitting
-pub mod Dropping
-pub mod Cloning
-pub mod Serving
-pub mod Refusing
-pub mod Counting
+-- How a step answers.
+pub mod step
+-- Reading and writing.
 pub mod LineValue
 pub mod Members
 pub mod Distinct
 pub mod Items
 pub mod Hex
 pub mod Written
-pub mod Occurring
-pub mod Effecting
-pub mod Standing
-pub mod Starting
-pub mod Closing
-pub mod Balance
-pub mod Idling
-pub mod Outputs

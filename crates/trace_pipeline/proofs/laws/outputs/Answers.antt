@@ -1,4 +1,4 @@
-use Rattle.trace_pipeline.proofs.Outputs.{goes_on}
+use Rattle.trace_pipeline.proofs.laws.OutputsLaws.{goes_on}
 use Rattle.trace_pipeline.proofs.laws.outputs.Goals as goal
 
 pub returns : goal.returns

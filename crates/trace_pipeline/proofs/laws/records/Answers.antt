@@ -1,6 +1,6 @@
-use Rattle.trace_pipeline.proofs.Balance.{closed_and_open}
-use Rattle.trace_pipeline.proofs.Closing.{closed_once, closed_when_ended, only_made_closed}
-use Rattle.trace_pipeline.proofs.Outputs.{as_many_as_closed}
+use Rattle.trace_pipeline.proofs.laws.BalanceLaws.{closed_and_open}
+use Rattle.trace_pipeline.proofs.laws.ClosesLaws.{closed_once, closed_when_ended, only_made_closed}
+use Rattle.trace_pipeline.proofs.laws.OutputsLaws.{as_many_as_closed}
 use Rattle.trace_pipeline.proofs.laws.records.Goals as goal
 
 pub returns-clause-recorded_once : goal.returns-clause-recorded_once

@@ -1,5 +1,5 @@
-use Rattle.trace_pipeline.proofs.Occurring.{one_place}
-use Rattle.trace_pipeline.proofs.Starting.{starts_once, closed_have_ids}
+use Rattle.trace_pipeline.proofs.step.OccurrencesLemmas.{one_place}
+use Rattle.trace_pipeline.proofs.laws.StartsLaws.{starts_once, closed_have_ids}
 use Rattle.trace_pipeline.proofs.laws.starts.Goals as goal
 
 pub returns-clause-starts_once : goal.returns-clause-starts_once

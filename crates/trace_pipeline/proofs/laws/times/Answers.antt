@@ -1,4 +1,4 @@
-use Rattle.trace_pipeline.proofs.Idling.{busy_and_idle}
+use Rattle.trace_pipeline.proofs.laws.TimesLaws.{busy_and_idle}
 use Rattle.trace_pipeline.proofs.laws.times.Goals as goal
 
 pub returns : goal.returns

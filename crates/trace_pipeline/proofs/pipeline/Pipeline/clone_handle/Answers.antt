@@ -1,6 +1,6 @@
 -- What the clone left stands for its effect.
 use Rattle.std.proofs.Common.{arith, rules}
-use Rattle.trace_pipeline.proofs.Serving.{serves_cloned}
+use Rattle.trace_pipeline.proofs.step.ServesLemmas.{serves_cloned}
 use Rattle.trace_pipeline.proofs.pipeline.Pipeline.clone_handle.Goals as goal
 
 pub returns-clause-ok : goal.returns-clause-ok

@@ -2,7 +2,7 @@
 use Rattle.std.proofs.Common.{◌++◌, ◌∙◌, List, ap, sym, arith, rules}
 use Rattle.trace_base.specs.declared.callsite.Callsite.{Callsite}
 use Rattle.trace_pipeline.specs.Bodies.{records_dropped}
-use Rattle.trace_pipeline.proofs.Serving.{serves_dropped, in_use}
+use Rattle.trace_pipeline.proofs.step.ServesLemmas.{serves_dropped, in_use}
 use Rattle.trace_pipeline.proofs.pipeline.Pipeline.drop_handle.Goals as goal
 
 pub returns-then-is_borrowed-clause-refused : goal.returns-then-is_borrowed-clause-refused

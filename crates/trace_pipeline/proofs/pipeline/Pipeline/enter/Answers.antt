@@ -1,7 +1,7 @@
 -- What the entry left stands for its effect.
 use Rattle.std.proofs.Common.{◌∙◌, ap, arith, rules}
 use Rattle.trace_pipeline.specs.Fits.{Kept}
-use Rattle.trace_pipeline.proofs.Serving.{serves_entered}
+use Rattle.trace_pipeline.proofs.step.ServesLemmas.{serves_entered}
 use Rattle.trace_pipeline.proofs.pipeline.Pipeline.enter.Goals as goal
 
 pub returns-clause-ok : goal.returns-clause-ok

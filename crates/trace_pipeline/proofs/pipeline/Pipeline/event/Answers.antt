@@ -1,6 +1,6 @@
 -- What the event left stands for its effect.
 use Rattle.std.proofs.Common.{◌∙◌, sym, rules}
-use Rattle.trace_pipeline.proofs.Serving.{serves_recorded, serves_ignored}
+use Rattle.trace_pipeline.proofs.step.ServesLemmas.{serves_recorded, serves_ignored}
 use Rattle.trace_pipeline.proofs.pipeline.Pipeline.event.Goals as goal
 
 pub returns-then-not-lets_through-clause-ok : goal.returns-then-not-lets_through-clause-ok

@@ -1,6 +1,6 @@
 -- What the exit left stands for its effect.
 use Rattle.std.proofs.Common.{rules}
-use Rattle.trace_pipeline.proofs.Serving.{serves_exited}
+use Rattle.trace_pipeline.proofs.step.ServesLemmas.{serves_exited}
 use Rattle.trace_pipeline.proofs.pipeline.Pipeline.exit.Goals as goal
 
 pub returns-clause-ok : goal.returns-clause-ok

@@ -3,7 +3,7 @@ use Rattle.std.proofs.Common.{◌||◌, ◌&&◌, ◌==◌, not, Bool, Option, a
 use Rattle.trace_pipeline.specs.declared.handles.Guard.{Guard}
 use Rattle.trace_pipeline.specs.Effects.{waits_for_guards}
 use Rattle.trace_pipeline.specs.Fits.{Kept}
-use Rattle.trace_pipeline.proofs.Refusing.{open_kept, can_wait}
+use Rattle.trace_pipeline.proofs.step.RefusesLemmas.{open_kept, can_wait}
 use Rattle.trace_pipeline.proofs.pipeline.Pipeline.is_later.Goals as goal
 
 pub returns-clause-refused : goal.returns-clause-refused

@@ -1,6 +1,6 @@
 -- What was made stands for the effect of the making.
 use Rattle.std.proofs.Common.{rules}
-use Rattle.trace_pipeline.proofs.Serving.{serves_declined, serves_made}
+use Rattle.trace_pipeline.proofs.step.ServesLemmas.{serves_declined, serves_made}
 use Rattle.trace_pipeline.proofs.pipeline.Pipeline.make.Goals as goal
 
 pub returns-in_ok-push-clause-ok : goal.returns-in_ok-push-clause-ok

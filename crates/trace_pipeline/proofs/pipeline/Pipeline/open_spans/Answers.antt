@@ -2,7 +2,7 @@
 use Rattle.std.proofs.Common.{◌∙◌, ap, count_by}
 use Rattle.trace_pipeline.specs.Bodies.{is_held}
 use Rattle.trace_pipeline.specs.Fits.{Kept}
-use Rattle.trace_pipeline.proofs.Counting.{open_counted}
+use Rattle.trace_pipeline.proofs.step.OpenSpansLemmas.{open_counted}
 use Rattle.trace_pipeline.proofs.pipeline.Pipeline.open_spans.Goals as goal
 
 pub returns : goal.returns

@@ -6,7 +6,7 @@ use Rattle.trace_pipeline.specs.declared.reply.Refusal.TheVariants.{BadMoment}
 use Rattle.trace_pipeline.specs.History.{History, moment}
 use Rattle.trace_pipeline.specs.Effects.{Resolved, is_bad_moment}
 use Rattle.trace_pipeline.specs.Fits.{Kept, StandsFor, Served, IsRefusal}
-use Rattle.trace_pipeline.proofs.Refusing.{later_refused, moment_refused, lane_refused, goes_on, in_order}
+use Rattle.trace_pipeline.proofs.step.RefusesLemmas.{later_refused, moment_refused, lane_refused, goes_on, in_order}
 use Rattle.trace_pipeline.proofs.pipeline.Pipeline.step.Goals as goal
 
 last_moment : (kept old : Kept) → kept ≡ old → (settings : Settings) (h : History) → StandsFor old.state settings h → kept.state.moment ≡ moment h

@@ -15,7 +15,7 @@ use Rattle.trace_pipeline.specs.declared.handles.Guard.{Guard}
 use Rattle.trace_pipeline.specs.History.{Guarded}
 use Rattle.trace_pipeline.specs.Bodies.{CanWait}
 use Rattle.trace_pipeline.specs.Fits.{State, StandsFor, open_of, guard_of}
-use Rattle.trace_pipeline.proofs.Slots.{any_open}
+use Rattle.trace_pipeline.proofs.step.SlotsLemmas.{any_open}
 use Rattle.std.proofs.Common.{option_map}
 use Rattle.trace_pipeline.specs.Effects.{effect_of, effect_of_call, is_later, is_bad_moment, waits_for_guards}
 

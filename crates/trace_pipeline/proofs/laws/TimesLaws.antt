@@ -13,15 +13,15 @@ use Rattle.trace_pipeline.specs.Ops.{Stamped, done_to, start_done, ops, ops_in, 
 use Rattle.trace_pipeline.specs.Effects.{effect_of}
 use Rattle.trace_pipeline.specs.Fits.{times_of}
 use Rattle.trace_pipeline.specs.Laws.{IsHistory, none, more, made_at, open_entries}
-use Rattle.trace_pipeline.proofs.Tables.{moment_push, made_push, ops_push}
-use Rattle.trace_pipeline.proofs.Timing.{timed, times_push}
-use Rattle.trace_pipeline.proofs.Occurring.{newly_among}
-use Rattle.trace_pipeline.proofs.StartsLemmas.{unstarted}
+use Rattle.trace_pipeline.proofs.step.TablesLemmas.{moment_push, made_push, ops_push}
+use Rattle.trace_pipeline.proofs.step.TimingsLemmas.{timed, times_push}
+use Rattle.trace_pipeline.proofs.step.OccurrencesLemmas.{newly_among}
+use Rattle.trace_pipeline.proofs.step.StartsLemmas.{unstarted}
 use Rattle.std.proofs.lemmas.List.Elements.{filter_map-append}
 use Rattle.std.proofs.Common.{map}
-use Rattle.trace_pipeline.proofs.Effecting.{IsUnknown, Names, no_name, another, new_root, step_of}
-use Rattle.trace_pipeline.proofs.Closing.{known_scope, sound}
-use Rattle.trace_pipeline.proofs.Writing.{get_push_other}
+use Rattle.trace_pipeline.proofs.step.EffectsLemmas.{IsUnknown, Names, no_name, another, new_root, step_of}
+use Rattle.trace_pipeline.proofs.laws.ClosesLaws.{known_scope, sound}
+use Rattle.trace_pipeline.proofs.step.SpanListLemmas.{get_push_other}
 
 -- Of a span made at `start`, the busy time fits between that and now, and up to the last op where some entry is open,
 -- and up to the last exit where none is.

@@ -7,11 +7,11 @@ use Rattle.trace_pipeline.specs.declared.request.TheConstants.{LAST_MOMENT}
 use Rattle.trace_pipeline.specs.declared.settings.Settings.{Settings}
 use Rattle.trace_pipeline.specs.History.{Scope, Made, Guarded, Effect, History, with_new, without, slots_after, handles, guards, slot_at, made, no_making, no_context, made_of}
 use Rattle.trace_pipeline.specs.Fits.{State, Fits, SpansFit, EventsFit, GuardsFit, StandsFor, IsMade, handle_of, held}
-use Rattle.trace_pipeline.proofs.Slots.{named_push, named_set}
+use Rattle.trace_pipeline.proofs.step.SlotsLemmas.{named_push, named_set}
 use Rattle.trace_pipeline.specs.Tables.{tables, after}
-use Rattle.trace_pipeline.proofs.Tables.{tables_push}
-use Rattle.trace_pipeline.proofs.Writing.{get_push_other}
-use Rattle.trace_pipeline.proofs.Effecting.{IsKnown, no_scope, of_handle, of_guard, of_span, Names, no_name, another, new_root, IsStep}
+use Rattle.trace_pipeline.proofs.step.TablesLemmas.{tables_push}
+use Rattle.trace_pipeline.proofs.step.SpanListLemmas.{get_push_other}
+use Rattle.trace_pipeline.proofs.step.EffectsLemmas.{IsKnown, no_scope, of_handle, of_guard, of_span, Names, no_name, another, new_root, IsStep}
 
 -- a name more and a name less, seen by a view
 slots_map : {A B : Type 0} (f : A → B) (xs : List (Option A)) (new : Option A) (spent : Option ℕ) → slots_after (map (option_map f) xs) (option_map f new) spent ≡ map (option_map f) (slots_after xs new spent)

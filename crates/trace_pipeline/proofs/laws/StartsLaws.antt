@@ -5,10 +5,10 @@ use Rattle.std.proofs.lemmas.Bool.Decides.{nat_tests}
 use Rattle.trace_pipeline.specs.declared.settings.Settings.{Settings}
 use Rattle.trace_pipeline.specs.History.{Begun, Effect, History, made, started, closed, newly, is_in, id_of}
 use Rattle.trace_pipeline.specs.Laws.{IsHistory, none, more, occurrences}
-use Rattle.trace_pipeline.proofs.Tables.{started_push, closed_push}
-use Rattle.trace_pipeline.proofs.Occurring.{occurs_append, is_in_counted, placed_counted, newly_once, newly_all}
-use Rattle.trace_pipeline.proofs.Effecting.{StartsNewly, step_of}
-use Rattle.trace_pipeline.proofs.StartsLemmas.{begun_spans}
+use Rattle.trace_pipeline.proofs.step.TablesLemmas.{started_push, closed_push}
+use Rattle.trace_pipeline.proofs.step.OccurrencesLemmas.{occurs_append, is_in_counted, placed_counted, newly_once, newly_all}
+use Rattle.trace_pipeline.proofs.step.EffectsLemmas.{StartsNewly, step_of}
+use Rattle.trace_pipeline.proofs.step.StartsLemmas.{begun_spans}
 
 -- what is started is in the order of the candidates that hadn't been
 started_now : (h : History) (e : Effect) (starts : StartsNewly h e.starts e.closes) → started (h ++ e ∷ []) ≡ started h ++ newly (started h) starts.candidates

@@ -14,21 +14,21 @@ use Rattle.otel_base.specs.declared.context.Context.{Context}
 use Rattle.otel_base.specs.declared.context.SpanContext.{SpanContext}
 use Rattle.otel_base.specs.Ids.{ids_of, ids_or_zeros}
 use Rattle.otel_base.specs.RecorderIds.{parent_id}
-use Rattle.trace_pipeline.proofs.StartsLemmas.{start_ops, quiet_starts}
+use Rattle.trace_pipeline.proofs.step.StartsLemmas.{start_ops, quiet_starts}
 use Rattle.std.proofs.Common.{zero, suc, slice_get}
 use Rattle.trace_pipeline.specs.Ops.{Stamped, start_ids, events}
 use Rattle.trace_pipeline.specs.Content.{content}
 use Rattle.trace_pipeline.specs.Tables.{Tables}
 use Rattle.trace_pipeline.specs.Bodies.{no_span, span_at, span_started, started_after, span_closed, spans_dropped, started_dropped, events_dropped, events_at, records_dropped, record_by, name_at, is_last, closes, IsShort, idle_by}
 use Rattle.trace_pipeline.specs.Fits.{State, Fits, SpansFit, EventsFit, has_error, held, IsMade, IsTimed, handle_of, span_by, times_of, is_started, starts_at}
-use Rattle.trace_pipeline.proofs.Slots.{named_within, any_counted}
-use Rattle.trace_pipeline.proofs.Writing.{span_is, spans_written}
-use Rattle.trace_pipeline.proofs.Steps.{started_fit, with_starts}
-use Rattle.trace_pipeline.proofs.Fitting.{later_spans, quiet}
+use Rattle.trace_pipeline.proofs.step.SlotsLemmas.{named_within, any_counted}
+use Rattle.trace_pipeline.proofs.step.SpanListLemmas.{span_is, spans_written}
+use Rattle.trace_pipeline.proofs.step.OpsLemmas.{started_fit, with_starts}
+use Rattle.trace_pipeline.proofs.step.FitsLemmas.{later_spans, quiet}
 use Rattle.otel_base.specs.declared.record.OtelEvent.{OtelEvent}
 use Rattle.otel_base.specs.declared.status.Status.{Status}
 use Rattle.std.proofs.lemmas.List.{get_or-set_other}
-use Rattle.trace_pipeline.proofs.Telling.{status_is, failed_status}
+use Rattle.trace_pipeline.proofs.step.StatusLemmas.{status_is, failed_status}
 
 pub held_set : (hs : List (Option Scope)) (handle : ℕ) (scope : Scope) (t : ℕ) → slot_at hs handle ≡ Some scope → held (slice_set hs handle None) t + cond (holds t (Some scope)) 1 0 ≡ held hs t
 held_set hs handle scope t there =

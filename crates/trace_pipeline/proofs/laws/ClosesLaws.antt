@@ -5,14 +5,14 @@ use Rattle.std.proofs.lemmas.Bool.{cases_eq, cases_lt}
 use Rattle.std.proofs.lemmas.Bool.Decides.{nat_tests}
 use Rattle.trace_pipeline.specs.declared.settings.Settings.{Settings}
 use Rattle.trace_pipeline.specs.History.{Scope, Made, Guarded, History, with_new, without, slots_after, handles, guards, slot_at, made, no_making, no_context, made_of, closed, closed_of, holds, is_in, is_open}
-use Rattle.trace_pipeline.proofs.Fitting.{held_push}
-use Rattle.trace_pipeline.proofs.Dropping.{held_set}
+use Rattle.trace_pipeline.proofs.step.FitsLemmas.{held_push}
+use Rattle.trace_pipeline.proofs.step.DropsLemmas.{held_set}
 use Rattle.trace_pipeline.specs.Laws.{IsHistory, none, more, occurrences}
-use Rattle.trace_pipeline.proofs.Slots.{named_push, named_set, any_counted}
-use Rattle.trace_pipeline.proofs.Tables.{handles_push, guards_push, made_push, closed_push}
-use Rattle.trace_pipeline.proofs.Occurring.{occurs_cons, occurs_append, occurs_filter, is_in_counted}
-use Rattle.trace_pipeline.proofs.Effecting.{IsKnown, no_scope, of_handle, of_guard, of_span, Names, no_name, another, new_root, Spends, no_spending, one_spent, step_of}
-use Rattle.trace_pipeline.proofs.Writing.{get_push_other}
+use Rattle.trace_pipeline.proofs.step.SlotsLemmas.{named_push, named_set, any_counted}
+use Rattle.trace_pipeline.proofs.step.TablesLemmas.{handles_push, guards_push, made_push, closed_push}
+use Rattle.trace_pipeline.proofs.step.OccurrencesLemmas.{occurs_cons, occurs_append, occurs_filter, is_in_counted}
+use Rattle.trace_pipeline.proofs.step.EffectsLemmas.{IsKnown, no_scope, of_handle, of_guard, of_span, Names, no_name, another, new_root, Spends, no_spending, one_spent, step_of}
+use Rattle.trace_pipeline.proofs.step.SpanListLemmas.{get_push_other}
 
 -- a scope of some of the first n spans, each at most once
 pub record IsScopeOf (n : ℕ) (scope : Scope) : Type 0 where

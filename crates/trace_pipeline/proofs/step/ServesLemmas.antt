@@ -26,16 +26,18 @@ use Rattle.trace_pipeline.specs.Events.{event_site, adds_event_to, event_of, is_
 use Rattle.trace_pipeline.specs.Admission.{admits}
 use Rattle.trace_pipeline.specs.Entries.{enters, exits}
 use Rattle.trace_pipeline.specs.Bodies.{spans_held, is_enabled, spans_entered, started_entered, spans_exited, spans_recorded, events_recorded, spans_dropped, started_dropped, events_dropped, records_dropped, IsShort, is_borrowed_by, current_of}
-use Rattle.trace_pipeline.proofs.Slots.{borrowed_by}
+use Rattle.trace_pipeline.proofs.step.SlotsLemmas.{borrowed_by}
 use Rattle.trace_pipeline.specs.Fits.{State, Kept, SpansFit, StandsFor, Served, held, IsMade, open_of, entered_by, handle_of, guard_of}
-use Rattle.trace_pipeline.proofs.Tables.{made_push, ops_push}
-use Rattle.trace_pipeline.proofs.StartsLemmas.{begun_spans}
-use Rattle.trace_pipeline.proofs.Standing.{stands_step}
-use Rattle.trace_pipeline.proofs.Cloning.{cloned_spans, cloned_events, enabled_scope}
-use Rattle.trace_pipeline.proofs.Effecting.{quiet_step, declined as declines_step, made_root as makes_step, cloned as clones_step, entered as enters_step, exited as exits_step, dropped as drops_step, recorded as records_step}
-use Rattle.trace_pipeline.proofs.Writing.{new_span}
-use Rattle.trace_pipeline.proofs.Fitting.{unchanged_spans, unchanged_events, held_disabled, made_spans, made_events, entered_guards, entered_scope, exited_guards, exited_scope, quiet_ops, same_ops, same_events, recorded_scope, recorded_events}
-use Rattle.trace_pipeline.proofs.Dropping.{dropped_scope, dropped_events, records_after, short_times}
+use Rattle.trace_pipeline.proofs.step.TablesLemmas.{made_push, ops_push}
+use Rattle.trace_pipeline.proofs.step.StartsLemmas.{begun_spans}
+use Rattle.trace_pipeline.proofs.step.StandsLemmas.{stands_step}
+use Rattle.trace_pipeline.proofs.step.SpansLemmas.{made_spans, made_events, cloned_spans, cloned_events, enabled_scope}
+use Rattle.trace_pipeline.proofs.step.EffectsLemmas.{quiet_step, declined as declines_step, made_root as makes_step, cloned as clones_step, entered as enters_step, exited as exits_step, dropped as drops_step, recorded as records_step}
+use Rattle.trace_pipeline.proofs.step.SpanListLemmas.{new_span}
+use Rattle.trace_pipeline.proofs.step.FitsLemmas.{unchanged_spans, unchanged_events, held_disabled, same_ops, same_events}
+use Rattle.trace_pipeline.proofs.step.EntriesLemmas.{entered_guards, entered_scope, exited_guards, exited_scope, quiet_ops}
+use Rattle.trace_pipeline.proofs.step.EventsLemmas.{recorded_scope, recorded_events}
+use Rattle.trace_pipeline.proofs.step.DropsLemmas.{dropped_scope, dropped_events, records_after, short_times}
 
 map_same : {A B : Type 0} (f g : A → B) (xs : List A) → ((x : A) → f x ≡ g x) → map f xs ≡ map g xs
 map_same f g [] same = refl

@@ -9,7 +9,7 @@ use Rattle.otel_base.specs.RecorderIds.{recorder_ids}
 use Rattle.trace_pipeline.specs.History.{Made, start_op, made_of, begun}
 use Rattle.trace_pipeline.specs.Ops.{Stamped, done_to, start_done, start_ids, events}
 use Rattle.trace_pipeline.specs.Laws.{occurrences}
-use Rattle.trace_pipeline.proofs.Occurring.{occurs_cons}
+use Rattle.trace_pipeline.proofs.step.OccurrencesLemmas.{occurs_cons}
 
 -- the starts of some spans, as ops on t
 abbrev pub start_ops : List Made → ℕ → ℕ → List ℕ → ℕ → List Stamped

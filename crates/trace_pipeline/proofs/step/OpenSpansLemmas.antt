@@ -9,7 +9,7 @@ use Rattle.trace_pipeline.specs.declared.settings.Settings.{Settings}
 use Rattle.trace_pipeline.specs.History.{History, handles, holds, is_open, open_spans}
 use Rattle.trace_pipeline.specs.Bodies.{no_span, is_held}
 use Rattle.trace_pipeline.specs.Fits.{State, StandsFor}
-use Rattle.trace_pipeline.proofs.Slots.{any_counted}
+use Rattle.trace_pipeline.proofs.step.SlotsLemmas.{any_counted}
 
 pub range_more : (n : ℕ) → range_with_len 0 (suc n) ≡ range_with_len 0 n ++ n ∷ []
 range_more n =

@@ -20,9 +20,9 @@ use Rattle.trace_pipeline.specs.Spans.{span_site, makes_root, declines, clones, 
 use Rattle.trace_pipeline.specs.Events.{event_site, adds_event_to, scope_of, current_scope}
 use Rattle.trace_pipeline.specs.Entries.{enters, exits}
 use Rattle.trace_pipeline.specs.Laws.{occurrences}
-use Rattle.trace_pipeline.proofs.Occurring.{is_in_counted, occurs_filter, own_among, own_ops}
-use Rattle.trace_pipeline.proofs.Refusing.{in_order}
-use Rattle.trace_pipeline.proofs.Slots.{any_at, named_within}
+use Rattle.trace_pipeline.proofs.step.OccurrencesLemmas.{is_in_counted, occurs_filter, own_among, own_ops}
+use Rattle.trace_pipeline.proofs.step.RefusesLemmas.{in_order}
+use Rattle.trace_pipeline.proofs.step.SlotsLemmas.{any_at, named_within}
 use Rattle.std.proofs.lemmas.Bool.{lt-ltb}
 
 -- a scope that a history adds_event of

@@ -4,12 +4,12 @@ use Rattle.std.specs.List.{range_with_len}
 use Rattle.std.proofs.lemmas.List.Sums.{sum_by_push}
 use Rattle.std.proofs.lemmas.Bool.{cases_lt}
 use Rattle.std.proofs.lemmas.Bool.Decides.{nat_tests}
-use Rattle.trace_pipeline.proofs.Counting.{range_more}
+use Rattle.trace_pipeline.proofs.step.OpenSpansLemmas.{range_more}
 use Rattle.trace_pipeline.specs.declared.settings.Settings.{Settings}
 use Rattle.trace_pipeline.specs.History.{Scope, History, handles, made, closed, is_open, open_spans}
 use Rattle.trace_pipeline.specs.Laws.{IsHistory, occurrences}
-use Rattle.trace_pipeline.proofs.Occurring.{occurs_cons}
-use Rattle.trace_pipeline.proofs.Closing.{sound}
+use Rattle.trace_pipeline.proofs.step.OccurrencesLemmas.{occurs_cons}
+use Rattle.trace_pipeline.proofs.laws.ClosesLaws.{sound}
 
 -- how often each of the first n numbers stands in a list, in sum
 abbrev among : List ℕ → ℕ → ℕ

@@ -11,7 +11,7 @@ use Rattle.trace_pipeline.specs.History.{Scope, enter_op, exit_op, event_op, Mad
 use Rattle.otel_base.specs.declared.context.SpanContext.{SpanContext}
 use Rattle.otel_base.specs.Ids.{ids_of}
 use Rattle.otel_base.specs.RecorderIds.{recorder_ids}
-use Rattle.trace_pipeline.proofs.StartsLemmas.{start_ops, start_at, ids_push}
+use Rattle.trace_pipeline.proofs.step.StartsLemmas.{start_ops, start_at, ids_push}
 use Rattle.std.proofs.Common.{Option}
 use Rattle.otel_base.specs.declared.record.OtelEvent.{OtelEvent}
 use Rattle.trace_pipeline.specs.Ops.{Stamped, done_to, start_ids, is_error_event}
@@ -19,10 +19,10 @@ use Rattle.trace_pipeline.specs.History.{on}
 use Rattle.std.specs.List.{filter_map, cons_option}
 use Rattle.trace_pipeline.specs.Bodies.{no_span, span_at, capped, times_at, started_after, span_started, span_entered, span_exited, span_recorded}
 use Rattle.trace_pipeline.specs.Fits.{SpansFit, IsTimed, span_by, times_of, is_started, starts_at, has_error}
-use Rattle.trace_pipeline.proofs.Tables.{place_new, place_more}
-use Rattle.trace_pipeline.proofs.Timing.{timed, times_push, times_started, started_in_time, times_recorded, times_entered, entered_in_time, times_exited, exited_in_time, entered_at, exited_at}
-use Rattle.trace_pipeline.proofs.Telling.{error_push, or_false}
-use Rattle.trace_pipeline.proofs.Writing.{span_is, spans_written}
+use Rattle.trace_pipeline.proofs.step.TablesLemmas.{place_new, place_more}
+use Rattle.trace_pipeline.proofs.step.TimingsLemmas.{timed, times_push, times_started, started_in_time, times_recorded, times_entered, entered_in_time, times_exited, exited_in_time, entered_at, exited_at}
+use Rattle.trace_pipeline.proofs.step.StatusLemmas.{error_push, or_false}
+use Rattle.trace_pipeline.proofs.step.SpanListLemmas.{span_is, spans_written}
 
 -- an op on a scope's own span, as one on t
 abbrev pub on_scope : ℕ → Scope → Stamped → List Stamped

@@ -10,7 +10,7 @@ use Rattle.trace_pipeline.specs.History.{on}
 use Rattle.std.specs.Option.{option_to_list}
 use Rattle.std.specs.List.{filter_map}
 use Rattle.trace_pipeline.specs.Laws.{occurrences}
-use Rattle.trace_pipeline.proofs.Slots.{any_counted}
+use Rattle.trace_pipeline.proofs.step.SlotsLemmas.{any_counted}
 
 pub occurs_cons : (s x : ℕ) (xs : List ℕ) → occurrences s (x ∷ xs) ≡ cond (x == s) 1 0 + occurrences s xs
 occurs_cons s x xs = sum_by-cons (λ x. cond (x == s) 1 0) x xs
