@@ -56,23 +56,28 @@ span_started started at span = record span {
 }
 
 abbrev pub span_entered : ℕ → Span → Span
-span_entered at span = record span { times = record (times_at span.times at) { entered = capped (span.times.entered + 1) } }
+span_entered at span =
+    record span { times = record (times_at span.times at) { entered = capped (span.times.entered + 1) } }
 
 abbrev pub span_exited : ℕ → Span → Span
-span_exited at span = record span { times = record (times_at span.times at) { entered = span.times.entered - 1; last_exit = Some at } }
+span_exited at span =
+    record span { times = record (times_at span.times at) { entered = span.times.entered - 1; last_exit = Some at } }
 
 abbrev pub span_recorded : Bool → ℕ → Span → Span
-span_recorded is_error at span = record span { failed = span.failed || is_error; times = times_at span.times at }
+span_recorded is_error at span =
+    record span { failed = span.failed || is_error; times = times_at span.times at }
 
 -- ---- the list of spans, and the number of starts, after an entry, an exit and a release of what a handle stands for
 
 abbrev pub spans_entered : ℕ → ℕ → Handle → List Span → List Span
 spans_entered started at Disabled spans = spans
-spans_entered started at (Enabled s) spans = slice_set spans s (span_entered at (span_started started at (span_at spans s)))
+spans_entered started at (Enabled s) spans =
+    slice_set spans s (span_entered at (span_started started at (span_at spans s)))
 
 abbrev pub started_entered : ℕ → Handle → List Span → ℕ
 started_entered started Disabled spans = started
-started_entered started (Enabled s) spans = if nat_lt s (length spans) then started_after started (span_at spans s) else started
+started_entered started (Enabled s) spans =
+    if nat_lt s (length spans) then started_after started (span_at spans s) else started
 
 abbrev pub spans_exited : ℕ → Handle → List Span → List Span
 spans_exited at Disabled spans = spans
@@ -113,7 +118,9 @@ abbrev pub idle_by : Span → ℕ
 idle_by span = option_map_or (λ end. end - span.made - span.times.busy) span.times.last_exit 0
 
 abbrev pub attributes_by : ℕ → ℕ → List KeyValue
-attributes_by busy idle = record { key = codes "busy_ns"; value = I64 (pos busy) } ∷ record { key = codes "idle_ns"; value = I64 (pos idle) } ∷ []
+attributes_by busy idle =
+    record { key = codes "busy_ns"; value = I64 (pos busy) }
+    ∷ record { key = codes "idle_ns"; value = I64 (pos idle) } ∷ []
 
 abbrev pub record_by : List ℕ → Span → List OtelEvent → ℕ → Record
 record_by name span events at = record {
@@ -139,7 +146,8 @@ abbrev pub is_last : Span → Bool
 is_last span = nat_lt span.holds 2
 
 abbrev pub span_dropped : ℕ → ℕ → Span → Span
-span_dropped started at span = if is_last span then span_closed started at span else record span { holds = span.holds - 1 }
+span_dropped started at span =
+    if is_last span then span_closed started at span else record span { holds = span.holds - 1 }
 
 abbrev pub spans_dropped : ℕ → ℕ → Handle → List Span → List Span
 spans_dropped started at Disabled spans = spans
@@ -150,7 +158,8 @@ closes s spans = nat_lt s (length spans) && is_last (span_at spans s)
 
 abbrev pub started_dropped : ℕ → Handle → List Span → ℕ
 started_dropped started Disabled spans = started
-started_dropped started (Enabled s) spans = if closes s spans then started_after started (span_at spans s) else started
+started_dropped started (Enabled s) spans =
+    if closes s spans then started_after started (span_at spans s) else started
 
 -- the events of a span that closes are taken
 abbrev pub events_dropped : Handle → List Span → List (List OtelEvent) → List (List OtelEvent)

@@ -18,7 +18,8 @@ site_name settings site = option_map_or (λ callsite. callsite.name) (slice_get 
 -- the closing attributes: the time in which some entry was open, and the rest up to the last exit
 abbrev pub closing_attributes : ℕ → List Stamped → List KeyValue
 closing_attributes start os =
-    record { key = codes "busy_ns"; value = I64 (pos (busy os)) } ∷ record { key = codes "idle_ns"; value = I64 (pos (idle os start)) } ∷ []
+    record { key = codes "busy_ns"; value = I64 (pos (busy os)) }
+    ∷ record { key = codes "idle_ns"; value = I64 (pos (idle os start)) } ∷ []
 
 -- The record of a making, the ops of its span and the moment at which that closed.
 abbrev pub content : Settings → Made → List Stamped → ℕ → Record

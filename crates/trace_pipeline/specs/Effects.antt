@@ -29,12 +29,21 @@ drops_unless borrowed effect = if borrowed then Err InUse else Ok effect
 
 -- what a call on a lane at a moment changes, with a row for each kind
 abbrev pub effect_of_call : Settings → History → ℕ → ℕ → Call → Resolved
-effect_of_call settings h at lane (call.New site) = named what.Site (span_site settings.callsites site) (λ callsite. Ok (makes settings h at lane site callsite))
-effect_of_call settings h at lane (call.Clone handle) = named what.Handle (slot_at (handles h) handle) (λ scope. Ok (clones h at lane scope))
-effect_of_call settings h at lane (call.Drop handle) = named what.Handle (slot_at (handles h) handle) (λ scope. drops_unless (is_borrowed (guards h) handle) (drops h at lane handle scope))
-effect_of_call settings h at lane (call.Enter handle) = named what.Handle (slot_at (handles h) handle) (λ scope. Ok (enters h at lane handle scope))
-effect_of_call settings h at lane (call.Exit guard) = named what.Guard (slot_at (guards h) guard) (λ guarded. Ok (exits at lane guard guarded.scope))
-effect_of_call settings h at lane (call.Event site) = named what.Site (event_site settings.callsites site) (λ callsite. Ok (adds_event settings h at lane callsite))
+effect_of_call settings h at lane (call.New site) =
+    named what.Site (span_site settings.callsites site)
+    (λ callsite. Ok (makes settings h at lane site callsite))
+effect_of_call settings h at lane (call.Clone handle) =
+    named what.Handle (slot_at (handles h) handle) (λ scope. Ok (clones h at lane scope))
+effect_of_call settings h at lane (call.Drop handle) =
+    named what.Handle (slot_at (handles h) handle)
+    (λ scope. drops_unless (is_borrowed (guards h) handle) (drops h at lane handle scope))
+effect_of_call settings h at lane (call.Enter handle) =
+    named what.Handle (slot_at (handles h) handle) (λ scope. Ok (enters h at lane handle scope))
+effect_of_call settings h at lane (call.Exit guard) =
+    named what.Guard (slot_at (guards h) guard) (λ guarded. Ok (exits at lane guard guarded.scope))
+effect_of_call settings h at lane (call.Event site) =
+    named what.Site (event_site settings.callsites site)
+    (λ callsite. Ok (adds_event settings h at lane callsite))
 
 -- ---- refusals before the names
 
@@ -60,4 +69,5 @@ abbrev pub effect_of : Settings → History → Request → Resolved
 effect_of settings h request =
     if is_later h request then Err Later else
     (if is_bad_moment (moment h) request.at then Err (BadMoment (moment h) request.at) else
-    named what.Lane (slice_get settings.lanes request.lane) (λ lane. effect_of_call settings h request.at request.lane request.call))
+    named what.Lane (slice_get settings.lanes request.lane)
+    (λ lane. effect_of_call settings h request.at request.lane request.call))

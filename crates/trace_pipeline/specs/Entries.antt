@@ -14,4 +14,5 @@ enters h at lane handle scope = record (quiet at lane (reply.Guard (length (guar
 }
 
 abbrev pub exits : ℕ → ℕ → ℕ → Scope → Effect
-exits at lane guard scope = record (quiet at lane reply.Done) { spent_guard = Some guard; ops = on scope exit_op; exit = own scope }
+exits at lane guard scope =
+    record (quiet at lane reply.Done) { spent_guard = Some guard; ops = on scope exit_op; exit = own scope }

@@ -19,7 +19,8 @@ if_event callsite kind.Event = Some callsite
 
 -- the callsite at a place, if it makes events
 abbrev pub event_site : List Callsite → ℕ → Option Callsite
-event_site callsites site = option_and_then (λ callsite. if_event callsite callsite.kind) (slice_get callsites site)
+event_site callsites site =
+    option_and_then (λ callsite. if_event callsite callsite.kind) (slice_get callsites site)
 
 abbrev pub is_error_level : Level → Bool
 is_error_level level.ERROR = true
@@ -33,7 +34,8 @@ abbrev pub event_of : Callsite → ℕ → OtelEvent
 event_of callsite at = record {
   name = callsite.name;
   time = at;
-  attributes = record { key = codes "level"; value = Str (level_text callsite.level) } ∷ record { key = codes "target"; value = Str callsite.target } ∷ [];
+  attributes = record { key = codes "level"; value = Str (level_text callsite.level) }
+      ∷ record { key = codes "target"; value = Str callsite.target } ∷ [];
 }
 
 -- the scope of a span, if there is one
@@ -47,8 +49,13 @@ current_scope h lane = scope_of h (current (entries h lane))
 
 -- an event that is recorded on the span of a scope, or on none
 abbrev pub adds_event_to : ℕ → ℕ → Callsite → Scope → Effect
-adds_event_to at lane callsite scope = record (quiet at lane (reply.Enabled true)) { ops = on scope (event_op (is_error_level callsite.level) (event_of callsite at)) }
+adds_event_to at lane callsite scope =
+    record (quiet at lane (reply.Enabled true)) {
+      ops = on scope (event_op (is_error_level callsite.level) (event_of callsite at));
+    }
 
 -- an admitted event is recorded on the lane's current span, any other leaves nothing
 abbrev pub adds_event : Settings → History → ℕ → ℕ → Callsite → Effect
-adds_event settings h at lane callsite = if admits settings h lane callsite then adds_event_to at lane callsite (current_scope h lane) else quiet at lane (reply.Enabled false)
+adds_event settings h at lane callsite =
+    if admits settings h lane callsite then adds_event_to at lane callsite (current_scope h lane)
+    else quiet at lane (reply.Enabled false)

@@ -68,7 +68,8 @@ has_error os = list_any (λ op. is_error_event op.op) os
 
 -- what is kept of a span with a making, an id, a number of handles that hold it, and these ops
 abbrev pub span_by : Made → ℕ → ℕ → List Stamped → Span
-span_by made id below os = record { site = made.site; made = made.at; id = id; holds = below; failed = has_error os; times = times_of os }
+span_by made id below os =
+    record { site = made.site; made = made.at; id = id; holds = below; failed = has_error os; times = times_of os }
 
 abbrev pub is_started : Span → Bool
 is_started span = nat_lt 0 span.id
@@ -160,14 +161,18 @@ pub record Served (resolved : Resolved) (settings : Settings) (h : History) (old
 abbrev pub IsRefusal : Resolved → Refusal → Type 0
 IsRefusal resolved refusal = refusal ≢ Memory → resolved ≡ Err refusal
 
--- A call on the first lane is served: an Ok at a moment in order comes with the reply, the records and the state of its effect.
+-- A call on the first lane is served: an Ok at a moment in order comes with the reply, the records and the state of
+-- its effect.
 abbrev pub Serves : Kept → ℕ → Call → Result Reply Refusal → Kept → Type 0
-Serves old at call result new = (settings : Settings) (h : History) → StandsFor old.state settings h → moment h ≤ at → at ≤ LAST_MOMENT
+Serves old at call result new =
+    (settings : Settings) (h : History) → StandsFor old.state settings h → moment h ≤ at → at ≤ LAST_MOMENT
     → IfOk result (Served (effect_of_call settings h at 0 call) settings h old new)
 
 -- A call on the first lane is refused as it was resolved, or for want of memory.
 abbrev pub Refuses : Kept → ℕ → Call → Result Reply Refusal → Type 0
-Refuses old at call result = (settings : Settings) (h : History) → StandsFor old.state settings h → IfErr result (IsRefusal (effect_of_call settings h at 0 call))
+Refuses old at call result =
+    (settings : Settings) (h : History) → StandsFor old.state settings h
+    → IfErr result (IsRefusal (effect_of_call settings h at 0 call))
 
 -- a step's reply is served by the effect of its request
 abbrev pub Answered : Settings → History → Request → Kept → Kept → Reply → Type 0

@@ -54,7 +54,8 @@ gap entered last at = if nat_lt 0 entered then at - last else 0
 -- Busy is the sum of the gaps between ops that follow one another, at which more entries than exits came before.
 abbrev pub busy_from : ℕ → ℕ → List Stamped → ℕ
 busy_from entered last [] = 0
-busy_from entered last (op ∷ more) = gap entered last op.at + busy_from (entered_after entered op.op) op.at more
+busy_from entered last (op ∷ more) =
+    gap entered last op.at + busy_from (entered_after entered op.op) op.at more
 
 abbrev pub busy : List Stamped → ℕ
 busy os = busy_from 0 0 os
@@ -94,7 +95,8 @@ status_in op = if op.is_error then Error [] ∷ [] else []
 abbrev pub greater : Status → Status → Status
 greater Unset now = now
 greater (Error description) Unset = Error description
-greater (Error description) (Error other) = match_ordering (slice_cmp nat_cmp description other) (Error other) (Error description) (Error description)
+greater (Error description) (Error other) =
+    match_ordering (slice_cmp nat_cmp description other) (Error other) (Error description) (Error description)
 greater (Error description) Ok = Ok
 greater Ok now = Ok
 

@@ -51,7 +51,8 @@ pub fn add_event(
     number: u64,
     event: OtelEvent,
 ) -> Result<(), Memory>
-    ensures ok { OnOk result (events.new.items ≡ slice_set events.old.items number (events_at events.old.items number ++ event ∷ [])) }
+    ensures ok { OnOk result (events.new.items
+        ≡ slice_set events.old.items number (events_at events.old.items number ++ event ∷ [])) }
     ensures memory_leaves { OnErr result (events.new.items ≡ events.old.items) }
 {
     if let Some(recorded) = events.get_mut(number as usize) {

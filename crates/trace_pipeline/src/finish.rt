@@ -33,7 +33,8 @@ fn idle(span: &Span) -> u64
 }
 
 fn closing_attributes(alloc: Global, busy: u64, idle: u64) -> Result<Items<KeyValue>, Memory>
-    ensures { IfOk result (λ attributes. busy ≤ LAST_MOMENT → idle ≤ LAST_MOMENT → attributes ≡ attributes_by busy idle) }
+    ensures { IfOk result (λ attributes. busy ≤ LAST_MOMENT → idle ≤ LAST_MOMENT
+        → attributes ≡ attributes_by busy idle) }
 {
     let mut attributes = Items::new(alloc);
     attributes.push(KeyValue {

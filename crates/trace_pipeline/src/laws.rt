@@ -26,7 +26,8 @@ pub fn records()
         → length (made h) ≤ s → is_in s (closed h) ≡ false }
     ensures records_and_open { (settings : Settings) (h : History) → IsHistory settings h
         → length (closed h) + open_spans h ≡ length (made h) }
-    ensures as_many_as_closed { (settings : Settings) (h : History) → length (all_records settings [] h) ≡ length (closed h) }
+    ensures as_many_as_closed { (settings : Settings) (h : History)
+        → length (all_records settings [] h) ≡ length (closed h) }
 {}
 
 /// Of a span with no open entry, busy and idle add up to the time from its making to its last exit.

@@ -1,4 +1,6 @@
 //! Scripts of span calls: reading their lines, running their requests, and writing what they give.
+//!
+//! All turns on `Pipeline::step`, which appends a request to the script that the pipeline stands for.
 #![tactic(auto)]
 
 mod calls;
@@ -16,3 +18,13 @@ mod span;
 mod spans;
 mod timings;
 pub mod write;
+
+pub use pipeline::{OpenError, Pipeline};
+pub use read::{LineError, read_request, read_settings};
+pub use reply::{Refusal, Reply, Told, What};
+pub use request::{Call, LAST_MOMENT, Request};
+pub use settings::Settings;
+pub use write::{
+    append_end, append_record, append_refusal, append_reply, end_line, record_line, refusal_line,
+    reply_line,
+};

@@ -152,7 +152,8 @@ impl Pipeline {
     /// The oldest record that hasn't been taken, if there is one: what an `opentelemetry_sdk::trace::SpanExporter`
     /// would get next.
     pub fn take_record(&mut self) -> Option<Record>
-        ensures oldest { MatchOption result (self.old.finished ≡ []) (λ finished. self.old.finished ≡ finished ∷ self.new.finished) }
+        ensures oldest { MatchOption result (self.old.finished ≡ [])
+            (λ finished. self.old.finished ≡ finished ∷ self.new.finished) }
         ensures rest { self.new ≡ record self.old { finished = drop 1 self.old.finished } }
     {
         self.finished.pop_front()
@@ -160,14 +161,15 @@ impl Pipeline {
 
     /// How many spans are open.
     pub fn open_spans(&self) -> u64
-        ensures { (settings : SettingsValue) (h : History) → StandsFor self.now.state settings h → result ≡ open_spans h }
+        ensures { (settings : SettingsValue) (h : History) → StandsFor self.now.state settings h
+            → result ≡ open_spans h }
     {
         self.spans.open()
     }
 
     fn is_later(&self, lane: u64, call: &Call) -> bool
-        ensures refused { (settings : SettingsValue) (h : History) (at : ℕ) → StandsFor self.now.state settings h
-            → result ≡ is_later h (record { at = at; lane = lane; call = call.now }) }
+        ensures refused { (settings : SettingsValue) (h : History) (at : ℕ)
+            → StandsFor self.now.state settings h → result ≡ is_later h (record { at = at; lane = lane; call = call.now }) }
         ensures built { result ≡ false → CanWait call.now self.now.state.open_guard }
     {
         is_unbuilt(lane, self.open_guard, call)

@@ -1,6 +1,6 @@
 //! The state of one span.
-ghost use Rattle.std.specs.Prelude.{◌≡◌, false};
-ghost use Rattle.trace_pipeline.specs.Bodies.{no_times, started_after, span_started, span_entered, span_exited, span_recorded, span_held};
+ghost use Rattle.std.specs.Prelude.{◌≡◌};
+ghost use Rattle.trace_pipeline.specs.Bodies.{no_span, started_after, span_started, span_entered, span_exited, span_recorded, span_held};
 
 use crate::timings::Timings;
 use otel_base::record::Moment;
@@ -25,7 +25,7 @@ pub struct Span {
 impl Span {
     /// A span that isn't started, with the hold of its first handle.
     pub fn new(site: u64, made: Moment) -> Span
-        ensures { result ≡ record { site = site; made = made; id = 0; holds = 1; failed = false; times = no_times } }
+        ensures { result ≡ record no_span { site = site; made = made; holds = 1 } }
     {
         Span {
             site,

@@ -48,7 +48,8 @@ impl Spans {
     ) -> Result<(), Memory>
         ensures list { OnOk result (self.new.list.items ≡ self.old.list.items ++ span ∷ []) }
         ensures events { OnOk result (self.new.events.items ≡ self.old.events.items ++ [] ∷ []) }
-        ensures handles { OnOk result (handles.new.items ≡ handles.old.items ++ Some (Enabled (length self.old.list.items)) ∷ []) }
+        ensures handles { OnOk result (handles.new.items
+            ≡ handles.old.items ++ Some (Enabled (length self.old.list.items)) ∷ []) }
         ensures list_stays { OnErr result (self.new.list.items ≡ self.old.list.items) }
         ensures events_stay { OnErr result (self.new.events.items ≡ self.old.events.items) }
         ensures handles_stay { OnErr result (handles.new.items ≡ handles.old.items) }
@@ -111,8 +112,10 @@ impl Spans {
         event: OtelEvent,
         at: Moment,
     ) -> Result<(), Memory>
-        ensures list { OnOk result (self.new.list.items ≡ spans_recorded is_error at (Enabled number) self.old.list.items) }
-        ensures events { OnOk result (self.new.events.items ≡ events_recorded event (Enabled number) self.old.events.items) }
+        ensures list { OnOk result (self.new.list.items
+            ≡ spans_recorded is_error at (Enabled number) self.old.list.items) }
+        ensures events { OnOk result (self.new.events.items
+            ≡ events_recorded event (Enabled number) self.old.events.items) }
         ensures list_stays { OnErr result (self.new.list.items ≡ self.old.list.items) }
         ensures events_stay { OnErr result (self.new.events.items ≡ self.old.events.items) }
         ensures started { self.new.started ≡ self.old.started }
@@ -124,8 +127,8 @@ impl Spans {
         Ok(())
     }
 
-    /// Takes the hold of a handle from what it stands for. The last hold closes a span, whose record goes to the
-    /// finished ones. `Memory` where there is none for the record; nothing changes then.
+    /// Takes the hold of a handle from what it stands for. The last hold closes a span, whose record goes to
+    /// the finished ones. `Memory` where there is none for the record; nothing changes then.
     pub fn drop_hold(
         &mut self,
         alloc: Global,
@@ -134,11 +137,15 @@ impl Spans {
         handle: Handle,
         at: Moment,
     ) -> Result<(), Memory>
-        ensures list { OnOk result (self.new.list.items ≡ spans_dropped self.old.started at handle self.old.list.items) }
-        ensures events { OnOk result (self.new.events.items ≡ events_dropped handle self.old.list.items self.old.events.items) }
-        ensures started { OnOk result (self.new.started ≡ started_dropped self.old.started handle self.old.list.items) }
+        ensures list { OnOk result (self.new.list.items
+            ≡ spans_dropped self.old.started at handle self.old.list.items) }
+        ensures events { OnOk result (self.new.events.items
+            ≡ events_dropped handle self.old.list.items self.old.events.items) }
+        ensures started { OnOk result (self.new.started
+            ≡ started_dropped self.old.started handle self.old.list.items) }
         ensures finished { OnOk result (IsShort self.old.started at handle self.old.list.items
-            → finished.new.items ≡ finished.old.items ++ records_dropped callsites.now self.old.started at handle self.old.list.items self.old.events.items) }
+            → finished.new.items ≡ finished.old.items
+            ++ records_dropped callsites.now self.old.started at handle self.old.list.items self.old.events.items) }
         ensures list_stays { OnErr result (self.new.list.items ≡ self.old.list.items) }
         ensures events_stay { OnErr result (self.new.events.items ≡ self.old.events.items) }
         ensures started_stays { OnErr result (self.new.started ≡ self.old.started) }

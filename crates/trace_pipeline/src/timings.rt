@@ -61,7 +61,10 @@ impl Timings {
 
     /// An exit.
     pub fn exit(&mut self, at: Moment)
-        ensures { self.new ≡ record (times_at self.old at) { entered = self.old.entered - 1; last_exit = Some at } }
+        ensures { self.new ≡ record (times_at self.old at) {
+          entered = self.old.entered - 1;
+          last_exit = Some at;
+        } }
     {
         self.pass(at);
         self.entered = self.entered.saturating_sub(1);
