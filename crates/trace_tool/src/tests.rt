@@ -203,6 +203,27 @@ fn runs_scripts(rt: HostRuntime) -> Result<(), Fail> {
 }
 
 #[test]
+fn clones_hold_a_span(rt: HostRuntime) -> Result<(), Fail> {
+    let clone = r#"{"at":1,"do":"clone","handle":0,"lane":0}"#;
+    let cloned = r#"{"enabled":true,"handle":1,"reply":3}"#;
+    let first = r#"{"at":2,"do":"drop","handle":0,"lane":0}"#;
+    let fourth = r#"{"reply":4}"#;
+    let enter = r#"{"at":10,"do":"enter","handle":1,"lane":0}"#;
+    let guard = r#"{"guard":0,"reply":5}"#;
+    let sixth = r#"{"reply":6}"#;
+    let last = r#"{"at":50,"do":"drop","handle":1,"lane":0}"#;
+    let seventh = r#"{"reply":7}"#;
+    expect_lines(
+        &rt,
+        &[NEW, clone, first, enter, EXIT, last],
+        &[
+            MADE, cloned, fourth, guard, sixth, seventh, ENTERED, ONE_RECORD,
+        ],
+        Status::Ok,
+    )
+}
+
+#[test]
 fn tells_events(rt: HostRuntime) -> Result<(), Fail> {
     let event = r#"{"at":15,"do":"event","lane":0,"site":1}"#;
     let fourth = r#"{"enabled":true,"reply":4}"#;
