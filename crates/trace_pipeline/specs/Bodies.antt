@@ -11,12 +11,12 @@ use Rattle.trace_base.specs.declared.callsite.Callsite.{Callsite}
 use Rattle.std.specs.List.{slice_index_or}
 use Rattle.trace_pipeline.specs.declared.request.TheConstants.{LAST_MOMENT}
 use Rattle.trace_pipeline.specs.declared.request.Call.{Call}
-use Rattle.trace_pipeline.specs.declared.request.Call.TheVariants as call
 use Rattle.trace_pipeline.specs.declared.handles.Guard.{Guard}
 use Rattle.trace_pipeline.specs.declared.handles.Handle.{Handle}
 use Rattle.trace_pipeline.specs.declared.handles.Handle.TheVariants.{Disabled, Enabled}
 use Rattle.trace_pipeline.specs.declared.span.Span.{Span}
 use Rattle.trace_pipeline.specs.declared.timings.Timings.{Timings}
+use Rattle.trace_pipeline.specs.Effects.{waits_for_guards}
 use Rattle.trace_pipeline.specs.Ops.{gap}
 
 -- whether the open guard, if there is one, names the handle
@@ -183,9 +183,4 @@ is_held span = nat_lt 0 span.holds
 
 -- a call that waits for guards comes where none is open
 abbrev pub CanWait : Call → Option Guard → Type 0
-CanWait (call.New site) open_guard = open_guard ≡ None
-CanWait (call.Clone handle) open_guard = Unit {0}
-CanWait (call.Drop handle) open_guard = Unit {0}
-CanWait (call.Enter handle) open_guard = open_guard ≡ None
-CanWait (call.Exit guard) open_guard = Unit {0}
-CanWait (call.Event site) open_guard = Unit {0}
+CanWait call open_guard = waits_for_guards call ≡ true → open_guard ≡ None

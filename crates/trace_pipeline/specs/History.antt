@@ -71,9 +71,9 @@ pub record Begun : Type 0 where
   pub span : ℕ
   pub ids : SpanContext
 
--- A request's effect: its moment and lane, what it changed, and its reply. A span is made with a handle of it, a handle
--- is made or spent and no two are, what closes was held by the spent handle, and what starts hadn't been started: the
--- combinations that occur are those of `IsStep` in proofs/step/EffectsLemmas, which holds of each request's effect.
+-- A request's effect: its moment and lane, what it changed, and its reply. Of the combinations these occur: a span is
+-- made only with a handle of it, spans close only where a handle of their scope is spent, and what starts hadn't been
+-- started. `IsStep` in proofs/step/EffectsLemmas says so, and `step_of` proves it of each request.
 pub record Effect : Type 0 where
   pub at : ℕ
   pub lane : ℕ

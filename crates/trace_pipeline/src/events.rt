@@ -25,7 +25,7 @@ pub fn is_error(level: Level) -> bool
 }
 
 /// The event of a callsite at a moment: its name, and its level and target as attributes, as
-/// `tracing_opentelemetry::OpenTelemetryLayer` does on an event. `Memory` freely.
+/// `tracing_opentelemetry::OpenTelemetryLayer` does on an event. May answer `Memory`.
 pub fn make_event(alloc: Global, callsite: &Callsite, at: Moment) -> Result<OtelEvent, Memory>
     ensures { IfOk result (λ event. event ≡ event_of callsite.now at) }
 {

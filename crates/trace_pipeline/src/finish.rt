@@ -69,7 +69,7 @@ fn status(alloc: Global, failed: bool) -> Status
     }
 }
 
-/// The record of a span that closes at a moment, without its events. `Memory` freely.
+/// The record of a span that closes at a moment, without its events. May answer `Memory`.
 pub fn finished_record(
     alloc: Global,
     callsites: &[Callsite],

@@ -22,7 +22,7 @@ use trace_base::level::LevelFilter;
 /// Why a pipeline can't be opened.
 #[derive(Clone, Copy, Debug, PartialEq, Eq)]
 pub enum OpenError {
-    /// No memory was to be had.
+    /// Out of memory.
     Memory,
 }
 
@@ -104,7 +104,7 @@ fn is_unbuilt(lane: u64, open_guard: Option<Guard>, call: &Call) -> bool
 impl Pipeline {
     ghost use Rattle.trace_pipeline.specs.Fits.{StandsFor, Serves, Refuses, Answered, IsRefusal};
 
-    /// A pipeline for the settings, before any request. It answers `Memory` alone, and that freely.
+    /// A pipeline for the settings, before any request. It may answer `Memory`, and nothing else.
     pub fn open(alloc: Global, settings: Settings) -> Result<Pipeline, OpenError>
         ensures stands { IfOk result (λ pipeline. StandsFor pipeline.state settings []) }
         ensures records { IfOk result (λ pipeline. pipeline.finished ≡ []) }
@@ -125,7 +125,7 @@ impl Pipeline {
 
     /// Runs a request on the first lane. A refused step leaves the pipeline as it was: `Later` where no built form of
     /// request can do this, `BadMoment` where the moment falls or is above 2^63 - 1, `UnknownName` where it names what
-    /// isn't there, `InUse` where it drops a handle with an open guard, `Memory` freely.
+    /// isn't there, `InUse` where it drops a handle with an open guard. It may answer `Memory`.
     pub fn step(&mut self, request: Request) -> Result<Reply, Refusal>
         ensures ok { (settings : SettingsValue) (h : History) → StandsFor self.old.state settings h
             → IfOk result (Answered settings h request self.old self.new) }

@@ -37,7 +37,7 @@ pub enum Refusal {
     UnknownName { what: What },
     /// The handle has an open guard.
     InUse,
-    /// No memory was to be had.
+    /// Out of memory.
     Memory,
 }
 

@@ -10,7 +10,6 @@ use Rattle.trace_pipeline.specs.declared.request.Call.{Call}
 use Rattle.trace_pipeline.specs.declared.reply.Refusal.TheVariants.{Later, BadMoment, UnknownName}
 use Rattle.trace_pipeline.specs.declared.reply.What.TheVariants as what
 use Rattle.trace_pipeline.specs.History.{History, moment, guards}
-use Rattle.trace_pipeline.specs.declared.request.Call.TheVariants as call
 use Rattle.trace_pipeline.specs.declared.handles.Guard.{Guard}
 use Rattle.trace_pipeline.specs.History.{Guarded}
 use Rattle.trace_pipeline.specs.Bodies.{CanWait}
@@ -56,9 +55,4 @@ none_kept (Some g) e = absurd (cc e)
 
 -- what isn't refused as unbuilt and waits for guards comes where none is open
 pub can_wait : (c : Call) (lane : ℕ) (open_guard : Option Guard) → (not (lane == 0) || (waits_for_guards c && is_some open_guard)) ≡ false → CanWait c open_guard
-can_wait (call.New site) lane open_guard built = none_kept open_guard (or_parts _ _ built).1
-can_wait (call.Clone handle) lane open_guard built = tt
-can_wait (call.Drop handle) lane open_guard built = tt
-can_wait (call.Enter handle) lane open_guard built = none_kept open_guard (or_parts _ _ built).1
-can_wait (call.Exit guard) lane open_guard built = tt
-can_wait (call.Event site) lane open_guard built = tt
+can_wait c lane open_guard built waits = none_kept open_guard (ap (λ b. b && is_some open_guard) (sym waits) ∙ (or_parts _ _ built).1)

@@ -1,5 +1,6 @@
 //! Entering the span of a handle, and exiting it again.
 ghost use Rattle.std.specs.Prelude.{◌≡◌, None, OnErr};
+ghost use Rattle.trace_pipeline.specs.Bodies.{CanWait};
 ghost use Rattle.trace_pipeline.specs.declared.request.Call.{Call};
 
 use crate::handles::{Guard, guard_at, handle_at, spend};
@@ -11,7 +12,7 @@ impl Pipeline {
     ghost use Rattle.trace_pipeline.specs.Fits.{Serves, Refuses};
 
     pub fn enter(&mut self, at: Moment, handle: u64) -> Result<Reply, Refusal>
-        requires { self.old.state.open_guard ≡ None }
+        requires { CanWait (Call.Enter handle) self.old.state.open_guard }
         ensures ok { Serves self.old at (Call.Enter handle) result self.new }
         ensures refused { Refuses self.old at (Call.Enter handle) result }
         ensures err { OnErr result (self.new ≡ self.old) }
