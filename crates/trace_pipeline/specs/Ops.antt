@@ -1,11 +1,11 @@
 -- The ops of a span, and the times that they give.
 use Rattle.std.specs.Prelude.{ℕ, ◌+◌, ◌-◌, List, [], ◌∷◌, ◌++◌, fold, map, slice_get, Bool, nat_lt, ◌==◌, if◌then◌else◌, Option, Some, None, unwrap_or}
 use Rattle.std.specs.List.{flat_map, filter_map}
-use Rattle.std.specs.Ordering.{nat_cmp, match_ordering}
-use Rattle.std.specs.Cmp.Lexicographic.{slice_cmp}
+use Rattle.std.specs.Ordering.{match_ordering}
+use Rattle.otel_base.specs.Statuses.{status_cmp}
 use Rattle.otel_base.specs.declared.record.OtelEvent.{OtelEvent}
 use Rattle.otel_base.specs.declared.status.Status.{Status}
-use Rattle.otel_base.specs.declared.status.Status.TheVariants.{Unset, Error, Ok}
+use Rattle.otel_base.specs.declared.status.Status.TheVariants.{Unset, Error}
 use Rattle.std.specs.Option.{option_map_or, option_to_list}
 use Rattle.trace_pipeline.specs.History.{Op, start_op, Begun, Done, Effect, History}
 use Rattle.otel_base.specs.declared.context.SpanContext.{SpanContext}
@@ -91,14 +91,9 @@ events os = flat_map (λ op. event_in op.op) os
 abbrev pub status_in : Op → List Status
 status_in op = if op.is_error then Error [] ∷ [] else []
 
--- Unset is less than Error, which is ordered by its description's bytes, and Ok is greatest.
+-- the greater of two statuses: `Unset` is the least, errors are ordered by their descriptions, `Ok` is the greatest
 abbrev pub greater : Status → Status → Status
-greater Unset now = now
-greater (Error description) Unset = Error description
-greater (Error description) (Error other) =
-    match_ordering (slice_cmp nat_cmp description other) (Error other) (Error description) (Error description)
-greater (Error description) Ok = Ok
-greater Ok now = Ok
+greater one other = match_ordering (status_cmp one other) other one one
 
 -- the status of the ops: the greatest of all its writes
 abbrev pub status : List Stamped → Status
