@@ -73,6 +73,6 @@ pub record IsCached (sites subscribers : ℕ) (cached : List (List Interest)) (g
   pub has : HasRows sites subscribers cached
   pub there : (d : ℕ) → global ≡ Some d → d < subscribers
 
--- a lane's own subscriber, if it has one, is of the world
+-- a subscriber, if there is one, is of the world
 abbrev pub IsOwn : {S : Type 0} → Worlds S → Option ℕ → Type 0
-IsOwn world own = IfSome own (λ d. d < length world.subscribers)
+IsOwn world dispatch = IfSome dispatch (λ d. d < length world.subscribers)

@@ -3,7 +3,7 @@ ghost use Rattle.std.specs.Prelude.{◌≡◌, ◌≢◌, ◌↔◌, ◌<◌, So
 ghost use Rattle.std.specs.Fn.{FnOnceReturnsAtMut};
 ghost use Rattle.trace_base.specs.declared.dispatcher.TryInitError.TheVariants.{AlreadySet};
 ghost use Rattle.trace_base.specs.Default.{with_own};
-ghost use Rattle.trace_base.specs.Gate.{dispatch_on};
+ghost use Rattle.trace_base.specs.Gate.{IsOwn, dispatch_on};
 
 use crate::lane::Lane;
 use crate::subscriber::Subscriber;
@@ -64,7 +64,8 @@ impl Error for TryInitError {}
 /// The subscriber that serves a lane: the lane's default, else the global one, and none exactly where neither is set;
 /// `tracing_core::dispatcher::get_default`.
 pub fn get_default<S: Subscriber>(world: &World<S>, lane: &Lane) -> Option<Dispatch>
-    ensures { result ≡ dispatch_on lane.now.default world.now.global }
+    ensures value { result ≡ dispatch_on lane.now.default world.now.global }
+    ensures there { IsOwn world.now lane.now.default → IsOwn world.now result }
 {
     either(&lane.default, &world.global())
 }

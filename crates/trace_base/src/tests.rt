@@ -4,6 +4,7 @@ use crate::quote::quote;
 use std::test::Fail;
 
 mod fields;
+mod worlds;
 
 const LEVELS: [Level; 5] = [
     Level::ERROR,

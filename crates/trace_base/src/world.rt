@@ -64,6 +64,11 @@ impl<S: Subscriber> World<S> {
         }
     }
 
+    /// The allocator that it takes its memory from.
+    pub fn allocator(&self) -> Global {
+        self.alloc
+    }
+
     /// Adds a callsite, and asks each subscriber for its interest; `tracing_core::callsite::register`.
     pub fn add_site(&mut self, callsite: Callsite) -> Result<SiteId, Memory>
         ensures site { IfOk result (λ site. site ≡ length self.old.sites) }
@@ -188,7 +193,8 @@ impl<S: Subscriber> World<S> {
 
     /// The global subscriber, if one is set.
     pub(crate) fn global(&self) -> Option<Dispatch>
-        ensures { result ≡ self.now.global }
+        ensures value { result ≡ self.now.global }
+        ensures there { IsOwn self.now result }
     {
         match &self.global {
             Some(dispatch) => Some(*dispatch),

@@ -1,0 +1,4 @@
+pub mod Chaining
+pub mod Showing
+pub mod Telling
+pub mod Untouched

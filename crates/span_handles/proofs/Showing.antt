@@ -1,0 +1,89 @@
+-- What is read of the one subscriber that changed.
+use Rattle.std.proofs.Common.{◌≡◌, ℕ, zero, suc, Bool, false, List, [], ◌∷◌, length, Option, Some, subst, sym, ap, ◌∙◌, slice_get, slice_set, refl}
+use Rattle.std.specs.Option.{option_map_or}
+use Rattle.std.proofs.lemmas.List.{length-set}
+use Rattle.trace_base.specs.Gate.{Worlds}
+use Rattle.trace_base.specs.Spans.{Spans, next_of}
+use Rattle.trace_base.specs.Calls.{SubscriberCall, TryClose, after}
+use Rattle.trace_base.specs.Conditions.{Allowed}
+use Rattle.trace_base.specs.Contexts.{Lanes}
+use Rattle.span_handles.specs.Worlds.{Has, Replaced, seen, Shown, Alike, Chain, ended, closes, Released, all_released, releases, ChainShown, no_spans}
+
+get_set : {X : Type 0} (xs : List X) (n : ℕ) (x y : X) → slice_get xs n ≡ Some x → slice_get (slice_set xs n y) n ≡ Some y
+get_set [] n x y there = absurd (cc there)
+get_set (z ∷ xs) zero x y there = refl
+get_set (z ∷ xs) (suc n) x y there = get_set xs n x y there
+
+module _ {S : Type 0} (R : S → S → Type 0) (old new : Worlds S) (dispatch : ℕ) (r : Replaced R old new dispatch) where
+  pub now_there : slice_get new.subscribers dispatch ≡ Some r.later
+  now_there = ap (λ (w : Worlds S). slice_get w.subscribers dispatch) r.others ∙ get_set old.subscribers dispatch r.before r.later r.there
+
+  pub as_many : length new.subscribers ≡ length old.subscribers
+  as_many = ap (λ (w : Worlds S). length w.subscribers) r.others ∙ length-set old.subscribers dispatch r.later
+
+  pub seen_before : {A : Type 0} (read : S → A) (none : A) → seen read none old dispatch ≡ read r.before
+  seen_before {A} read none = ap (λ (o : Option S). option_map_or read o none) r.there
+
+  pub seen_later : {A : Type 0} (read : S → A) (none : A) → seen read none new dispatch ≡ read r.later
+  seen_later {A} read none = ap (λ (o : Option S). option_map_or read o none) now_there
+
+  the_same : (s t : S) → ◌≡◌ {A = Option S} (Some s) (Some t) → s ≡ t
+  the_same s t e = cc e
+
+  pub keeps : (P : S → Type 0) → ((s t : S) → R s t → P s → P t) → Has P old dispatch → Has P new dispatch
+  keeps P step has s there = subst P (the_same r.later s (sym now_there ∙ there)) (step r.before r.later r.did (has r.before r.there))
+
+pub shown : {S : Type 0} (spans : S → Spans) (attaches : S → Bool) (kept : S → ℕ → ℕ → ℕ) (is_whole : S → Type 0) (does : S → SubscriberCall → S → Type 0)
+    → ((s : S) (call : SubscriberCall) (t : S) → does s call t → spans t ≡ after (spans s) call) → ((s : S) (call : SubscriberCall) (t : S) → does s call t → Lanes (attaches s) (kept s) call (kept t))
+    → ((s : S) (call : SubscriberCall) (t : S) → does s call t → is_whole s → is_whole t)
+    → (old new : Worlds S) (dispatch : ℕ) (call : SubscriberCall) → Replaced (λ s t. does s call t) old new dispatch → Shown spans attaches kept is_whole old new dispatch call
+shown {S} spans attaches kept is_whole does shows lanes keeps_whole old new dispatch call r =
+    let R : S → S → Type 0 = λ s t. does s call t in
+    record {
+      spans_after = seen_later R old new dispatch r spans _ ∙ shows r.before call r.later r.did ∙ ap (λ (x : Spans). after x call) (sym (seen_before R old new dispatch r spans _));
+      lanes = subst (λ (b : Bool). Lanes b (seen kept (λ lane number. 0) old dispatch) call (seen kept (λ lane number. 0) new dispatch)) (sym (seen_before R old new dispatch r attaches false))
+          (subst (λ (f : ℕ → ℕ → ℕ). Lanes (attaches r.before) f call (seen kept (λ lane number. 0) new dispatch)) (sym (seen_before R old new dispatch r kept _))
+          (subst (λ (f : ℕ → ℕ → ℕ). Lanes (attaches r.before) (kept r.before) call f) (sym (seen_later R old new dispatch r kept _)) (lanes r.before call r.later r.did)));
+      count = as_many R old new dispatch r;
+      whole = keeps R old new dispatch r is_whole (λ s t d w. keeps_whole s call t d w);
+    }
+
+pub alike : {S : Type 0} (spans : S → Spans) (kept : S → ℕ → ℕ → ℕ) (is_whole : S → Type 0) (same : S → S → Type 0)
+    → ((s t : S) → same s t → spans t ≡ spans s) → ((s t : S) → same s t → kept t ≡ kept s) → ((s t : S) → same s t → is_whole s → is_whole t)
+    → (old new : Worlds S) (dispatch : ℕ) → Replaced same old new dispatch → Alike spans kept is_whole old new dispatch
+alike {S} spans kept is_whole same same_spans same_kept same_whole old new dispatch r = record {
+  spans_same = seen_later same old new dispatch r spans _ ∙ same_spans r.before r.later r.did ∙ sym (seen_before same old new dispatch r spans _);
+  kept_same = seen_later same old new dispatch r kept _ ∙ same_kept r.before r.later r.did ∙ sym (seen_before same old new dispatch r kept _);
+  count = as_many same old new dispatch r;
+  whole = keeps same old new dispatch r is_whole same_whole;
+}
+
+-- a chain, whatever its length
+record Chained {S : Type 0} (spans : S → Spans) (kept : S → ℕ → ℕ → ℕ) (is_whole : S → Type 0) (next : Option ℕ) (s t : S) : Type 0 where
+  released : Released next (spans s) (spans t)
+  kept_same : kept t ≡ kept s
+  whole : is_whole s → is_whole t
+
+module _ {S : Type 0} (spans : S → Spans) (attaches : S → Bool) (kept : S → ℕ → ℕ → ℕ) (is_whole : S → Type 0) (does : S → SubscriberCall → S → Type 0)
+    (allowed : (s : S) (call : SubscriberCall) (t : S) → does s call t → Allowed (spans s) call) (shows : (s : S) (call : SubscriberCall) (t : S) → does s call t → spans t ≡ after (spans s) call)
+    (lanes : (s : S) (call : SubscriberCall) (t : S) → does s call t → Lanes (attaches s) (kept s) call (kept t)) (keeps_whole : (s : S) (call : SubscriberCall) (t : S) → does s call t → is_whole s → is_whole t) (at : ℕ) where
+  chained : (next : Option ℕ) (s t : S) → Chain spans does at next s t → Chained spans kept is_whole next s t
+  chained _ _ _ (ended s) = record { released = all_released (spans s); kept_same = refl; whole = λ w. w }
+  chained _ _ _ (closes id s m t did rest) =
+      let more = chained (next_of (spans s).made id) m t rest in
+      record {
+        released = releases id at (spans s) (spans t) (allowed s (TryClose id at) m did) (subst (λ (x : Spans). Released (next_of (spans s).made id) x (spans t)) (shows s (TryClose id at) m did) more.released);
+        kept_same = more.kept_same ∙ lanes s (TryClose id at) m did;
+        whole = λ w. more.whole (keeps_whole s (TryClose id at) m did w);
+      }
+
+  pub chain_shown : (old new : Worlds S) (dispatch id : ℕ) → Replaced (λ s t. Chain spans does at (Some id) s t) old new dispatch → ChainShown spans kept is_whole old new dispatch id
+  chain_shown old new dispatch id r =
+      let R : S → S → Type 0 = λ s t. Chain spans does at (Some id) s t in
+      let all = chained (Some id) r.before r.later r.did in
+      record {
+        released = subst (λ (x : Spans). Released (Some id) x (seen spans no_spans new dispatch)) (sym (seen_before R old new dispatch r spans _)) (subst (λ (y : Spans). Released (Some id) (spans r.before) y) (sym (seen_later R old new dispatch r spans _)) all.released);
+        kept_same = seen_later R old new dispatch r kept _ ∙ all.kept_same ∙ sym (seen_before R old new dispatch r kept _);
+        count = as_many R old new dispatch r;
+        whole = keeps R old new dispatch r is_whole (λ s t d w. (chained (Some id) s t d).whole w);
+      }

@@ -1,0 +1,31 @@
+//! What the calls of a subscriber in a world make of its plain data.
+ghost use Rattle.std.specs.Prelude.{◌≡◌, ℕ, Some, List, []};
+ghost use Rattle.trace_base.specs.Gate.{Worlds};
+ghost use Rattle.trace_base.specs.Spans.{span_at};
+ghost use Rattle.trace_base.specs.Calls.{SubscriberCall, TryClose};
+ghost use Rattle.span_handles.specs.Worlds.{Replaced, Shown, Alike, Chain, ChainShown, ToldChain, spans_in, seen};
+
+use trace_base::subscriber::Subscriber;
+
+/// One call is one step of the plain data.
+pub fn calls<S: Subscriber>()
+    ensures { (old new : Worlds S) (dispatch : ℕ) (call : SubscriberCall) → Replaced (λ s t. S.does s call t) old new dispatch → Shown S.spans S.attaches S.kept S.is_whole old new dispatch call }
+{}
+
+/// What is the same but for spare room has the same plain data.
+pub fn same<S: Subscriber>()
+    ensures { (old new : Worlds S) (dispatch : ℕ) → Replaced S.same old new dispatch → Alike S.spans S.kept S.is_whole old new dispatch }
+{}
+
+/// A chain of closes is a chain of the plain data.
+pub fn chains<S: Subscriber>()
+    ensures { (old new : Worlds S) (dispatch at id : ℕ) → Replaced (λ s t. Chain S.spans S.does at (Some id) s t) old new dispatch → ChainShown S.spans S.kept S.is_whole old new dispatch id }
+{}
+
+/// What a close makes of something that the subscriber keeps, the chain makes of it for each span that closes, in order.
+pub fn told<S: Subscriber>()
+    ensures { (read : S → List ℕ) (close : List ℕ → ℕ → List ℕ)
+        → ((s : S) (id at : ℕ) (t : S) → S.does s (TryClose id at) t → ((span_at (S.spans s).made id).holds ≡ 1 → read t ≡ close (read s) id) × (((span_at (S.spans s).made id).holds ≡ 1 → ⊥) → read t ≡ read s))
+        → (old new : Worlds S) (dispatch at id : ℕ) → Replaced (λ s t. Chain S.spans S.does at (Some id) s t) old new dispatch
+        → ToldChain close (Some id) (spans_in S.spans old dispatch) (spans_in S.spans new dispatch) (seen read [] old dispatch) (seen read [] new dispatch) }
+{}
