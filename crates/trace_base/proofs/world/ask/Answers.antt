@@ -1,5 +1,5 @@
 -- One subscriber more has answered, and took room at most.
-use Rattle.std.proofs.Common.{◌≡◌, ◌<◌, length, arith, ap, ◌∙◌}
+use Rattle.std.proofs.Common.{◌≡◌, ◌<◌, List, length, arith, ◌∙◌}
 use Rattle.trace_base.specs.declared.subscriber.Interest.{Interest}
 use Rattle.trace_base.proofs.Caching.{same_one, asked_more, interests_same}
 use Rattle.trace_base.proofs.world.ask.Goals as goal
@@ -21,5 +21,5 @@ loop-at-preserved g c =
     let alike = interests_same g.S.Subscriber.same g.S.Subscriber.interest g.S.Subscriber.hint g.met.S.Subscriber.same_gate c.args.subscribers.now.items c.loop-at.subscribers.items c.args.callsite.now c.loop-at.invariant.same in
     record {
       same = same_one g.S.Subscriber.same g.met.S.Subscriber.same_refl g.met.S.Subscriber.same_trans _ c.loop-at.subscribers.items c.loop-at.at _ c.register_callsite.new.self c.loop-at.invariant.same within c.index_mut.ensures.value c.register_callsite.ensures.leaves;
-      answers = c.in_ok-push.ensures.items ∙ asked_more (λ s. g.S.Subscriber.interest s c.args.callsite.now) c.args.subscribers.now.items c.loop-at.subscribers.items c.loop-at.at c.index_mut.result.now c.in_ok-register_callsite.field-0 c.loop-at.interests.items alike within c.index_mut.ensures.value c.in_ok-register_callsite.ensures.value c.loop-at.invariant.answers;
+      answers = ◌∙◌ {A = List Interest} c.in_ok-push.ensures.items (asked_more (λ s. g.S.Subscriber.interest s c.args.callsite.now) c.args.subscribers.now.items c.loop-at.subscribers.items c.loop-at.at c.index_mut.result.now c.in_ok-register_callsite.field-0 c.loop-at.interests.items alike within c.index_mut.ensures.value c.in_ok-register_callsite.ensures.value c.loop-at.invariant.answers);
     }
