@@ -1,5 +1,4 @@
-pub mod Moves
-pub mod Feeds
-pub mod Steps
-pub mod Ends
-pub mod Statuses
+pub mod StreamsLemmas
+pub mod LinesLemmas
+pub mod AnswersLemmas
+pub mod EndsLemmas

@@ -1,11 +1,80 @@
 -- How a run ends.
-use Rattle.std.specs.Prelude.{◌≡◌, ℕ, ◌^◌, ◌<◌, List, [], length, Bool, true, false, Option, Some}
-use Rattle.trace_pipeline.specs.Report.{report, output, IsValid, IsRefused}
-use Rattle.trace_tool.specs.Streams.{IsFront, Puts, PutsFront}
+use Rattle.std.specs.Prelude.{◌≡◌, ℕ, ◌<◌, ◌≤◌, List, [], ◌++◌, length, take, Bool, true, false, not, Option, Some, None, IfSome}
+use Rattle.std.proofs.Common.{◌⊎◌}
+use Rattle.trace_pipeline.specs.Report.{Report, report, output, IsValid, IsRefused}
+use Rattle.trace_tool.specs.declared.input.TheConstants.{MAX_INPUT}
+use Rattle.trace_tool.specs.Streams.{HasFault, IsQuiet, IsFront, Takes, Puts, PutsFront}
+use Rattle.trace_tool.specs.Breaks.{whole_lines, HasRefused, AnswersAll}
+use Rattle.trace_tool.specs.Answers.{Cuts}
+use Rattle.trace_tool.specs.declared.answers.Output.{Output}
 use Rattle.trace_tool.specs.declared.input.End.{End}
 use Rattle.trace_tool.specs.declared.input.End.TheVariants as end
 use Rattle.trace_tool.specs.declared.status.Status.{Status}
 use Rattle.trace_tool.specs.declared.status.Status.TheVariants as ends
+
+-- ---- what a run leaves, of the source's bytes, those left, and what the sink held before and holds now
+
+-- All came, they are valid, and the sink gained their output.
+abbrev pub RunsWhole : List ℕ → Option (List ℕ) → Option (List ℕ) → Option (List ℕ) → Type 0
+RunsWhole bytes left before now = IsValid bytes × (left ≡ Some []) × Puts before now (output bytes)
+
+-- They are refused, at a whole line within the longest input or where they ended, and the sink gained the lines up to the refusal.
+pub record StopsRefused (bytes : List ℕ) (left before now : Option (List ℕ)) : Type 0 where
+  pub refused : IsRefused bytes
+  pub read : List ℕ
+  pub took : Takes (Some bytes) left read
+  pub place : HasRefused (whole_lines (take MAX_INPUT read)) ⊎ ((left ≡ Some []) × (length bytes ≤ MAX_INPUT))
+  pub put : Puts before now (output bytes)
+
+-- Some came, no whole line of these is refused, and the sink gained what those lines are answered.
+pub record BreaksOff (bytes : List ℕ) (left before now : Option (List ℕ)) : Type 0 where
+  pub read : List ℕ
+  pub took : Takes (Some bytes) left read
+  pub text : List ℕ
+  pub answered : AnswersAll (whole_lines read) text
+  pub put : Puts before now text
+
+-- More than the longest input came, no whole line within that is refused, and the sink gained what those lines are answered.
+pub record RunsOver (bytes : List ℕ) (left before now : Option (List ℕ)) : Type 0 where
+  pub read : List ℕ
+  pub took : Takes (Some bytes) left read
+  pub long : MAX_INPUT < length read
+  pub text : List ℕ
+  pub answered : AnswersAll (whole_lines (take MAX_INPUT read)) text
+  pub put : Puts before now text
+
+-- what a run leaves at each status
+abbrev pub Leaves : Status → List ℕ → Option (List ℕ) → Option (List ℕ) → Option (List ℕ) → Type 0
+Leaves ends.Ok bytes left before now = RunsWhole bytes left before now
+Leaves ends.Usage bytes left before now = (left ≡ Some bytes) × (now ≡ before)
+Leaves ends.Refused bytes left before now = StopsRefused bytes left before now
+Leaves ends.ReadFault bytes left before now = BreaksOff bytes left before now
+Leaves ends.WriteFault bytes left before now = PutsFront before now (output bytes)
+Leaves ends.Memory bytes left before now = PutsFront before now (output bytes)
+Leaves ends.TooLong bytes left before now = RunsOver bytes left before now
+
+-- the same, where the source tells its bytes
+abbrev pub Ends : Status → Option (List ℕ) → Option (List ℕ) → Option (List ℕ) → Option (List ℕ) → Type 0
+Ends status bytes left before now = IfSome bytes (λ bs. Leaves status bs left before now)
+
+-- ---- what brings a status about
+
+-- Faults come only where the counts of reads or writes that failed rise.
+abbrev pub Causes : Status → ℕ → ℕ → ℕ → ℕ → Type 0
+Causes ends.ReadFault reads reads' writes writes' = HasFault reads reads'
+Causes ends.WriteFault reads reads' writes writes' = HasFault writes writes'
+Causes ends.Ok reads reads' writes writes' = Unit {0}
+Causes ends.Usage reads reads' writes writes' = Unit {0}
+Causes ends.Refused reads reads' writes writes' = Unit {0}
+Causes ends.Memory reads reads' writes writes' = Unit {0}
+Causes ends.TooLong reads reads' writes writes' = Unit {0}
+
+-- Valid bytes, with no fault, are run whole, or memory wants.
+abbrev pub Completes : Status → List ℕ → ℕ → ℕ → ℕ → ℕ → Type 0
+Completes status bytes reads reads' writes writes' =
+    IsValid bytes → IsQuiet reads reads' → IsQuiet writes writes' → (status ≡ ends.Ok) ⊎ (status ≡ ends.Memory)
+
+-- ---- inner
 
 -- the status of a run that is written: a refused line is told before a fault and before too long an input
 abbrev pub status_of : Bool → End → Status
@@ -14,22 +83,8 @@ status_of false end.Whole = ends.Ok
 status_of false end.Fault = ends.ReadFault
 status_of false end.TooLong = ends.TooLong
 
--- what a text tells of an input, at each status
-abbrev pub Tells : Status → List ℕ → List ℕ → Type 0
-Tells ends.Ok text bytes = report bytes ≡ record { written = text; accepted = true }
-Tells ends.Refused text bytes = report bytes ≡ record { written = text; accepted = false }
-Tells ends.Usage text bytes = IsFront text (output bytes)
-Tells ends.ReadFault text bytes = IsFront text (output bytes)
-Tells ends.WriteFault text bytes = IsFront text (output bytes)
-Tells ends.Memory text bytes = IsFront text (output bytes)
-Tells ends.TooLong text bytes = IsFront text (output bytes)
-
--- what is known of the input, of what is left of it, and of what was written, at each status
-abbrev pub Ends : Status → List ℕ → Option (List ℕ) → Option (List ℕ) → Option (List ℕ) → Type 0
-Ends ends.Ok bytes left before now = IsValid bytes × (left ≡ Some []) × Puts before now (output bytes)
-Ends ends.Refused bytes left before now = IsRefused bytes × Puts before now (output bytes)
-Ends ends.TooLong bytes left before now = (2 ^ 26 < length bytes) × PutsFront before now (output bytes)
-Ends ends.Usage bytes left before now = PutsFront before now (output bytes)
-Ends ends.ReadFault bytes left before now = PutsFront before now (output bytes)
-Ends ends.WriteFault bytes left before now = PutsFront before now (output bytes)
-Ends ends.Memory bytes left before now = PutsFront before now (output bytes)
+-- what the output tells of the bytes that were read
+abbrev pub Tells : End → List ℕ → Output → Type 0
+Tells end.Whole read output = report read ≡ record { written = output.text.items; accepted = not output.refused }
+Tells end.Fault read output = Cuts output.refused (whole_lines (take MAX_INPUT read)) output.text.items
+Tells end.TooLong read output = Cuts output.refused (whole_lines (take MAX_INPUT read)) output.text.items

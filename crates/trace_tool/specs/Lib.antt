@@ -1,4 +1,5 @@
 pub mod Streams
 pub mod Words
-pub mod Progress
+pub mod Breaks
+pub mod Answers
 pub mod Ends

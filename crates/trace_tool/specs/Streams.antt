@@ -1,9 +1,11 @@
 -- What a source gives and a sink takes, where its bytes are told, and how counts of faults go.
-use Rattle.std.specs.Prelude.{◌≡◌, ℕ, ◌-◌, ◌^◌, ◌<◌, List, ◌++◌, Option, Some, None}
+use Rattle.std.specs.Prelude.{◌≡◌, ℕ, ◌-◌, ◌^◌, ◌<◌, List, [], ◌∷◌, ◌++◌, Option, Some, None}
+use Rattle.trace_tool.specs.declared.turns.Turn.{Turn}
+use Rattle.trace_tool.specs.declared.turns.Turn.TheVariants.{Moves}
 
 -- the count rises, unless it stands at its greatest value
-abbrev pub Rises : ℕ → ℕ → Type 0
-Rises before now = before < 2 ^ 64 - 1 → before < now
+abbrev pub HasFault : ℕ → ℕ → Type 0
+HasFault before now = before < 2 ^ 64 - 1 → before < now
 
 -- no fault was counted, and one would have been
 abbrev pub IsQuiet : ℕ → ℕ → Type 0
@@ -26,3 +28,15 @@ IsFront text bytes = (rest : List ℕ) × (bytes ≡ text ++ rest)
 -- told bytes grow by a front of the bytes
 abbrev pub PutsFront : Option (List ℕ) → Option (List ℕ) → List ℕ → Type 0
 PutsFront old new bytes = (front : List ℕ) × IsFront front bytes × Puts old new front
+
+-- ---- sources and sinks in memory
+
+-- the turn of the next call: one with no turn moves all that it can
+abbrev pub first_turn : List Turn → Turn
+first_turn [] = Moves (2 ^ 64 - 1)
+first_turn (turn ∷ turns) = turn
+
+-- the turns of the calls behind it
+abbrev pub later_turns : List Turn → List Turn
+later_turns [] = []
+later_turns (turn ∷ turns) = turns

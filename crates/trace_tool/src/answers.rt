@@ -1,21 +1,16 @@
-//! Answering the lines of an input.
-ghost use Rattle.std.specs.Prelude.{◌≡◌, ◌≢◌, ℕ, List, [], ◌++◌, ◌+◌, ◌<◌, ◌^◌, length, not, true, false, Ok, Err, IfOk, IfErr, OnOk};
-ghost use Rattle.trace_pipeline.specs.History.{History};
-ghost use Rattle.trace_pipeline.specs.Lines.{lines_of};
-ghost use Rattle.trace_pipeline.specs.Spelled.{settings_spelled};
-ghost use Rattle.trace_pipeline.specs.Report.{record_lines, report_on, report_from, report, output};
-ghost use Rattle.trace_pipeline.specs.Fits.{StandsFor};
-ghost use Rattle.trace_pipeline.specs.declared.settings.Settings.{Settings as SettingsValue};
-ghost use Rattle.trace_tool.specs.Streams.{IsFront};
-ghost use Rattle.trace_tool.specs.Progress.{StepsBy, Between, Answers, Reaches, AnswersWhole};
+//! Answering lines one after another, whichever lines follow them.
+ghost use Rattle.std.specs.Prelude.{◌≡◌, ◌≢◌, ℕ, List, [], ◌∷◌, ◌++◌, ◌+◌, length, not, false, Ok, Err, IfOk, IfErr, OnOk};
+ghost use Rattle.trace_pipeline.specs.Lines.{lines_of, is_blank};
+ghost use Rattle.trace_pipeline.specs.Report.{record_lines, report_from};
+ghost use Rattle.trace_pipeline.specs.Texts.{refusal_text};
+ghost use Rattle.trace_tool.specs.Answers.{IsSpelled, Opens, Runs, AnswersTo, Cuts, is_refused};
 
-use crate::lines::{first_line, is_blank, whole_lines};
+use crate::lines::{first_line, is_blank};
 use otel_base::memory::Memory;
 use std::alloc::Global;
 use trace_pipeline::pipeline::Pipeline;
 use trace_pipeline::read::{LineError, read_request, read_settings};
-use trace_pipeline::reply::{Refusal, Reply, Told};
-use trace_pipeline::settings::Settings;
+use trace_pipeline::reply::{Refusal, Told};
 use trace_pipeline::write::{append_end, append_record, append_refusal, append_reply};
 
 /// What is written so far.
@@ -27,31 +22,26 @@ pub struct Written {
     pub records: u64,
 }
 
-/// What a request line is answered.
+/// Where a run stands between two lines.
 #[derive(Drop)]
-pub enum Answer {
-    /// Its reply and records are written.
-    Given { written: Written },
-    /// It is refused, and its refusal line is written.
-    Refused { text: Vec<u8> },
+pub enum Stage {
+    /// No settings line came: each line so far is blank.
+    Opening,
+    /// The settings line came, and each request is answered.
+    Running { pipeline: Pipeline },
+    /// A line was refused, and its refusal line is the last that is written.
+    Refused,
 }
 
-/// How far the lines of an input were answered.
+/// What the lines so far are answered.
 #[derive(Drop)]
-pub enum Progress {
-    /// All of them are blank, and there are so many.
-    Blank {
-        lines: u64,
-    },
-    /// The settings line came, and each request is answered.
-    Running {
-        pipeline: Pipeline,
-        written: Written,
-    },
-    /// A line was refused, and its refusal line is the last that is written.
-    Refused {
-        text: Vec<u8>,
-    },
+pub struct Answers {
+    /// What is written for them.
+    pub written: Written,
+    /// How many they are, blank ones included.
+    pub lines: u64,
+    /// Where the run stands.
+    pub stage: Stage,
 }
 
 /// All that is written for an input.
@@ -63,38 +53,159 @@ pub struct Output {
     pub refused: bool,
 }
 
-// The settings that a line spells, or why it is refused.
-fn settings_of(alloc: Global, line: &[u8]) -> Result<Result<Settings, Told>, Memory>
-    ensures spelled { IfOk result (λ settings. settings_spelled line.now ≡ settings) }
-    ensures told { IfOk result (λ settings. IfErr settings (λ why. why ≢ Told.Step Refusal.Memory)) }
-{
-    match read_settings(alloc, line) {
-        Ok(settings) => Ok(Ok(settings)),
-        Err(LineError::BadLine) => Ok(Err(Told::BadLine)),
-        Err(LineError::Later) => Ok(Err(Told::Later)),
-        Err(LineError::Memory) => Err(Memory),
+impl Answers {
+    /// The answers to no line.
+    pub fn new(alloc: Global) -> Answers
+        ensures { AnswersTo [] result }
+    {
+        let text = Vec::new(alloc);
+        Answers {
+            written: Written { text, records: 0 },
+            lines: 0,
+            stage: Stage::Opening,
+        }
+    }
+
+    /// The answers to one line more. Behind a refused line nothing is written. `Memory` freely.
+    pub fn line(self, alloc: Global, line: &[u8]) -> Result<Answers, Memory>
+        ensures { (lines : List (List ℕ)) → AnswersTo lines self
+            → IfOk result (λ answers. AnswersTo (lines ++ line.now ∷ []) answers) }
+    {
+        let Answers {
+            written,
+            lines,
+            stage,
+        } = self;
+        // No input has so many lines that the sum wraps.
+        let lines = lines.checked_add(1).ok_or(Memory)?;
+        if is_blank(line) {
+            return Ok(Answers {
+                written,
+                lines,
+                stage,
+            });
+        }
+        match stage {
+            Stage::Opening => open(alloc, written, lines, line),
+            Stage::Running { pipeline } => answer(alloc, pipeline, written, lines, line),
+            Stage::Refused => Ok(Answers {
+                written,
+                lines,
+                stage: Stage::Refused,
+            }),
+        }
+    }
+
+    /// Whether a line was refused.
+    pub fn is_refused(&self) -> bool
+        ensures { result ≡ is_refused self.now.stage }
+    {
+        match &self.stage {
+            Stage::Opening | Stage::Running { .. } => false,
+            Stage::Refused => true,
+        }
+    }
+
+    /// All that is written where no line follows: the end line comes last, or the refusal of an input without a
+    /// settings line. `Memory` freely.
+    pub fn end(self) -> Result<Output, Memory>
+        ensures { (lines : List (List ℕ)) → AnswersTo lines self
+            → IfOk result (λ output. report_from 0 lines ≡ record { written = output.text.items; accepted = not output.refused }) }
+    {
+        let Written { text, records } = self.written;
+        match self.stage {
+            Stage::Opening => {
+                // No input has so many lines that the sum wraps.
+                let end = self.lines.checked_add(1).ok_or(Memory)?;
+                let text = append_refusal(text, end, &Told::BadLine)?;
+                let refused = true;
+                Ok(Output { text, refused })
+            }
+            Stage::Running { pipeline } => {
+                let text = append_end(text, pipeline.open_spans(), records)?;
+                let refused = false;
+                Ok(Output { text, refused })
+            }
+            Stage::Refused => {
+                let refused = true;
+                Ok(Output { text, refused })
+            }
+        }
+    }
+
+    /// All that is written where nothing is known of the lines that follow.
+    pub fn cut(self) -> Output
+        ensures { (lines : List (List ℕ)) → AnswersTo lines self → Cuts result.refused lines result.text.items }
+    {
+        let refused = self.is_refused();
+        let text = self.written.text;
+        Output { text, refused }
     }
 }
 
-// Runs the request that a line spells. If the line is refused, the answer is why.
-fn step_line(
-    alloc: Global,
-    pipeline: &mut Pipeline,
-    line: &[u8],
-) -> Result<Result<Reply, Told>, Memory>
-    ensures steps { (settings : SettingsValue) (h : History) → StandsFor pipeline.old.state settings h
-        → IfOk result (λ reply. StepsBy settings h line.now pipeline.old pipeline.new reply) }
-    ensures told { IfOk result (λ reply. IfErr reply (λ why. why ≢ Told.Step Refusal.Memory)) }
+/// The answers to the lines of some bytes. `Memory` freely.
+pub fn answer_lines(alloc: Global, bytes: &[u8]) -> Result<Answers, Memory>
+    ensures { IfOk result (λ answers. AnswersTo (lines_of bytes.now) answers) }
 {
-    let request = match read_request(alloc, line) {
+    let mut answers = Answers::new(alloc);
+    let mut rest = bytes;
+    while !rest.is_empty() && !answers.is_refused() {
+        let (line, after) = first_line(rest);
+        answers = answers.line(alloc, line)?;
+        rest = after;
+    }
+    Ok(answers)
+}
+
+// Opens the run at the first line that isn't blank.
+fn open(alloc: Global, written: Written, lines: u64, line: &[u8]) -> Result<Answers, Memory>
+    ensures { (before : List (List ℕ)) (count : ℕ) → Opens before count written → lines ≡ count + 1
+        → is_blank line.now ≡ false → IfOk result (λ answers. AnswersTo (before ++ line.now ∷ []) answers) }
+{
+    let settings = match spelled(read_settings(alloc, line))? {
+        Ok(settings) => settings,
+        Err(told) => return refuse(written, lines, &told),
+    };
+    let Ok(pipeline) = Pipeline::open(alloc, settings) else {
+        return Err(Memory);
+    };
+    let stage = Stage::Running { pipeline };
+    Ok(Answers {
+        written,
+        lines,
+        stage,
+    })
+}
+
+// Answers the request on a line.
+fn answer(
+    alloc: Global,
+    pipeline: Pipeline,
+    written: Written,
+    lines: u64,
+    line: &[u8],
+) -> Result<Answers, Memory>
+    ensures { (before : List (List ℕ)) (count : ℕ) → Runs before count pipeline written → lines ≡ count + 1
+        → is_blank line.now ≡ false → IfOk result (λ answers. AnswersTo (before ++ line.now ∷ []) answers) }
+{
+    let mut pipeline = pipeline;
+    let request = match spelled(read_request(alloc, line))? {
         Ok(request) => request,
-        Err(LineError::BadLine) => return Ok(Err(Told::BadLine)),
-        Err(LineError::Later) => return Ok(Err(Told::Later)),
-        Err(LineError::Memory) => return Err(Memory),
+        Err(told) => return refuse(written, lines, &told),
     };
     match pipeline.step(request) {
-        Ok(reply) => Ok(Ok(reply)),
-        Err(refusal) => Ok(Err(told_of(refusal)?)),
+        Ok(reply) => {
+            let Written { text, records } = written;
+            let text = append_reply(text, lines, &reply)?;
+            let written = write_records(&mut pipeline, Written { text, records })?;
+            let stage = Stage::Running { pipeline };
+            Ok(Answers {
+                written,
+                lines,
+                stage,
+            })
+        }
+        Err(refusal) => refuse(written, lines, &told_of(refusal)?),
     }
 }
 
@@ -104,15 +215,43 @@ fn told_of(refusal: Refusal) -> Result<Told, Memory>
     ensures other { OnOk result (refusal ≢ Refusal.Memory) }
 {
     match refusal {
-        Refusal::Later | Refusal::BadMoment { .. } | Refusal::UnknownName { .. } | Refusal::InUse =>
-            Ok(Told::Step { refusal }),
         Refusal::Memory => Err(Memory),
+        _ => Ok(Told::Step { refusal }),
+    }
+}
+
+// Ends the answers with the refusal line of the last line.
+fn refuse(written: Written, lines: u64, told: &Told) -> Result<Answers, Memory>
+    requires { told.now ≢ Told.Step Refusal.Memory }
+    ensures text { IfOk result (λ answers. answers.written.text.items ≡ written.text.items ++ refusal_text lines told.now) }
+    ensures stage { IfOk result (λ answers. answers.stage ≡ Stage.Refused) }
+{
+    let Written { text, records } = written;
+    let text = append_refusal(text, lines, told)?;
+    Ok(Answers {
+        written: Written { text, records },
+        lines,
+        stage: Stage::Refused,
+    })
+}
+
+// What a line spells, or what its refusal line tells. Want of memory has no such line.
+fn spelled<T: Drop>(read: Result<T, LineError>) -> Result<Result<T, Told>, Memory>
+    ensures same { IfOk result (λ spelled. IsSpelled read spelled) }
+    ensures told { IfOk result (λ spelled. IfErr spelled (λ why. why ≢ Told.Step Refusal.Memory)) }
+{
+    match read {
+        Ok(value) => Ok(Ok(value)),
+        Err(LineError::BadLine) => Ok(Err(Told::BadLine)),
+        Err(LineError::Later) => Ok(Err(Told::Later)),
+        Err(LineError::Memory) => Err(Memory),
     }
 }
 
 // Takes the finished records, and writes their lines.
 fn write_records(pipeline: &mut Pipeline, written: Written) -> Result<Written, Memory>
-    ensures lines { IfOk result (λ new. new.text.items ≡ written.text.items ++ record_lines (written.records + 1) pipeline.old.finished) }
+    ensures lines { IfOk result (λ new.
+        new.text.items ≡ written.text.items ++ record_lines (written.records + 1) pipeline.old.finished) }
     ensures count { IfOk result (λ new. new.records ≡ written.records + length pipeline.old.finished) }
     ensures taken { OnOk result (pipeline.new.finished ≡ []) }
     ensures state { pipeline.new.state ≡ pipeline.old.state }
@@ -127,141 +266,4 @@ fn write_records(pipeline: &mut Pipeline, written: Written) -> Result<Written, M
         text = append_record(text, records, &finished)?;
     }
     Ok(Written { text, records })
-}
-
-// Answers the request on a line.
-#[tactic(auto, using(crate::proofs::Steps::answered))]
-fn answer_line(
-    alloc: Global,
-    pipeline: &mut Pipeline,
-    number: u64,
-    line: &[u8],
-    written: Written,
-) -> Result<Answer, Memory>
-    ensures { (settings : SettingsValue) (h : History) → Between settings h pipeline.old written.records
-        → IfOk result (λ answer. Answers settings h number line.now written.text.items pipeline.new answer) }
-{
-    let Written { text, records } = written;
-    match step_line(alloc, pipeline, line)? {
-        Ok(reply) => {
-            let text = append_reply(text, number, &reply)?;
-            let written = write_records(pipeline, Written { text, records })?;
-            Ok(Answer::Given { written })
-        }
-        Err(told) => {
-            let text = append_refusal(text, number, &told)?;
-            Ok(Answer::Refused { text })
-        }
-    }
-}
-
-// Answers the request lines, so many lines having come before.
-fn answer_requests(
-    alloc: Global,
-    settings: Settings,
-    before: u64,
-    bytes: &[u8],
-) -> Result<Progress, Memory>
-    requires { before + length bytes.now < 2 ^ 64 }
-    ensures { IfOk result (λ progress. Reaches progress (λ more. report_on settings [] before (lines_of bytes.now ++ more))) }
-{
-    let Ok(mut pipeline) = Pipeline::open(alloc, settings) else {
-        return Err(Memory);
-    };
-    let mut written = Written {
-        text: Vec::new(alloc),
-        records: 0,
-    };
-    let mut number = before;
-    let mut rest = bytes;
-    while !rest.is_empty() {
-        let (line, after) = first_line(rest);
-        number += 1;
-        rest = after;
-        if is_blank(line) {
-            continue;
-        }
-        match answer_line(alloc, &mut pipeline, number, line, written)? {
-            Answer::Given { written: more } => written = more,
-            Answer::Refused { text } => return Ok(Progress::Refused { text }),
-        }
-    }
-    Ok(Progress::Running { pipeline, written })
-}
-
-// Answers the lines, up to the first that is refused.
-fn answer_lines(alloc: Global, bytes: &[u8]) -> Result<Progress, Memory>
-    ensures { IfOk result (λ progress. Reaches progress (λ more. report_from 0 (lines_of bytes.now ++ more))) }
-{
-    let mut lines = 0u64;
-    let mut rest = bytes;
-    while !rest.is_empty() {
-        let (line, after) = first_line(rest);
-        lines += 1;
-        rest = after;
-        if is_blank(line) {
-            continue;
-        }
-        return match settings_of(alloc, line)? {
-            Ok(settings) => answer_requests(alloc, settings, lines, rest),
-            Err(told) => {
-                let text = append_refusal(Vec::new(alloc), lines, &told)?;
-                Ok(Progress::Refused { text })
-            }
-        };
-    }
-    Ok(Progress::Blank { lines })
-}
-
-/// Answers a whole input. `Memory` freely.
-pub fn answer_all(alloc: Global, bytes: &[u8]) -> Result<Output, Memory>
-    ensures { IfOk result (λ output. report bytes.now ≡ record { written = output.text.items; accepted = not output.refused }) }
-{
-    match answer_lines(alloc, bytes)? {
-        Progress::Blank { lines } => {
-            // No input has so many lines that the sum wraps.
-            let end = lines.checked_add(1).ok_or(Memory)?;
-            let text = append_refusal(Vec::new(alloc), end, &Told::BadLine)?;
-            let refused = true;
-            Ok(Output { text, refused })
-        }
-        Progress::Running { pipeline, written } => {
-            let text = append_end(written.text, pipeline.open_spans(), written.records)?;
-            let refused = false;
-            Ok(Output { text, refused })
-        }
-        Progress::Refused { text } => {
-            let refused = true;
-            Ok(Output { text, refused })
-        }
-    }
-}
-
-/// Answers the lines at the front of an input that end by a line feed. What comes after them isn't known. `Memory`
-/// freely.
-pub fn answer_front(alloc: Global, bytes: &[u8]) -> Result<Output, Memory>
-    ensures front { IfOk result (λ text. (tail : List ℕ) → IsFront text.text.items (output (bytes.now ++ tail))) }
-    ensures answered { IfOk result (λ text. text.refused ≡ false → AnswersWhole bytes.now text.text.items) }
-    ensures refused { IfOk result (λ text. text.refused ≡ true
-        → (tail : List ℕ) → report (bytes.now ++ tail) ≡ record { written = text.text.items; accepted = false }) }
-{
-    match answer_lines(alloc, whole_lines(bytes))? {
-        Progress::Blank { lines: _lines } => {
-            let text = Vec::new(alloc);
-            let refused = false;
-            Ok(Output { text, refused })
-        }
-        Progress::Running {
-            pipeline: _pipeline,
-            written,
-        } => {
-            let text = written.text;
-            let refused = false;
-            Ok(Output { text, refused })
-        }
-        Progress::Refused { text } => {
-            let refused = true;
-            Ok(Output { text, refused })
-        }
-    }
 }

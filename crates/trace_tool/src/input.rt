@@ -1,7 +1,7 @@
 //! The input of a run, which is read before its first line is handled.
-ghost use Rattle.std.specs.Prelude.{◌≡◌, ◌^◌, ◌<◌, ◌≤◌, length, IfOk, vec_len};
+ghost use Rattle.std.specs.Prelude.{◌≡◌, ◌≢◌, ◌<◌, ◌≤◌, length, IfOk, vec_len};
 ghost use Rattle.std.specs.Io.KnownBytes.{IsAtEnd};
-ghost use Rattle.trace_tool.specs.Streams.{Rises, Takes};
+ghost use Rattle.trace_tool.specs.Streams.{HasFault, Takes};
 
 use crate::failed::Failed;
 use crate::source::Source;
@@ -36,11 +36,11 @@ pub struct Input {
 
 /// Reads the source to its end, to a fault, or until more was read than an input may have. `Memory` freely.
 pub fn read_all<R: Source>(alloc: Global, source: &mut R) -> Result<Input, Memory>
-    ensures bytes { IfOk result (λ input. Takes (R.left source.old) (R.left source.new) input.bytes.items) }
-    ensures whole { IfOk result (λ input. input.end ≡ End.Whole → IsAtEnd (R.left source.new)) }
-    ensures short { IfOk result (λ input. input.end ≡ End.Whole → length input.bytes.items ≤ 2 ^ 26) }
-    ensures long { IfOk result (λ input. input.end ≡ End.TooLong → 2 ^ 26 < length input.bytes.items) }
-    ensures fault { IfOk result (λ input. input.end ≡ End.Fault → Rises (R.faults source.old) (R.faults source.new)) }
+    ensures bytes { IfOk result (λ input. Takes (R.remaining source.old) (R.remaining source.new) input.bytes.items) }
+    ensures whole { IfOk result (λ input. input.end ≡ End.Whole → IsAtEnd (R.remaining source.new)) }
+    ensures short { IfOk result (λ input. input.end ≢ End.TooLong → length input.bytes.items ≤ MAX_INPUT) }
+    ensures long { IfOk result (λ input. input.end ≡ End.TooLong → MAX_INPUT < length input.bytes.items) }
+    ensures fault { IfOk result (λ input. input.end ≡ End.Fault → HasFault (R.faults source.old) (R.faults source.new)) }
     ensures count { R.faults source.old ≤ R.faults source.new }
 {
     let mut bytes = Vec::new(alloc);

@@ -1,7 +1,7 @@
 //! The lines of some bytes.
-ghost use Rattle.std.specs.Prelude.{◌≡◌, ◌∷◌, ◌++◌, ◌<◌, length, drop};
+ghost use Rattle.std.specs.Prelude.{◌≡◌, ◌∷◌, ◌<◌, length};
 ghost use Rattle.trace_pipeline.specs.Lines.{lines_of, is_space, is_blank};
-ghost use Rattle.trace_tool.specs.Progress.{NoFeed, IsWhole};
+ghost use Rattle.trace_tool.specs.Breaks.{whole_part};
 
 use memchr::{memchr, memrchr};
 
@@ -18,10 +18,8 @@ pub fn first_line(bytes: &[u8]) -> (&[u8], &[u8])
 }
 
 /// The lines at the front that end by a line feed.
-pub fn whole_lines(bytes: &[u8]) -> &[u8]
-    ensures front { bytes.now ≡ result.now ++ drop (length result.now) bytes.now }
-    ensures whole { IsWhole result.now }
-    ensures feedless { NoFeed (drop (length result.now) bytes.now) }
+pub fn whole_part(bytes: &[u8]) -> &[u8]
+    ensures { result.now ≡ whole_part bytes.now }
 {
     match memrchr(b'\n', bytes) {
         Some(last) => &bytes[..last + 1],

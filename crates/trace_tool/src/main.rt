@@ -12,6 +12,7 @@ mod status;
 #[cfg(test)]
 mod tests;
 mod top;
+mod turns;
 
 use crate::sink::StdSink;
 use crate::source::StdSource;

@@ -1,13 +1,13 @@
 //! Running a script: all of its input is read, then answered, and then the answers are written.
-ghost use Rattle.std.specs.Prelude.{◌≡◌, ◌≢◌, ◌<◌, ◌≤◌, ◌^◌, ◌++◌, ℕ, List, [], length, Some, IfSome, IfOk, OnErr};
-ghost use Rattle.std.proofs.Common.{◌⊎◌};
-ghost use Rattle.trace_pipeline.specs.Report.{IsValid, IsRefused, output};
-ghost use Rattle.trace_tool.specs.Streams.{Rises, IsQuiet, Puts, PutsFront};
-ghost use Rattle.trace_tool.specs.Ends.{status_of, Tells, Ends};
+ghost use Rattle.std.specs.Prelude.{◌≡◌, ◌≢◌, [], IfSome, IfOk, OnErr};
+ghost use Rattle.trace_pipeline.specs.Report.{output};
+ghost use Rattle.trace_tool.specs.Streams.{HasFault, Puts, PutsFront};
+ghost use Rattle.trace_tool.specs.Ends.{Leaves, Ends, Causes, Completes, status_of, Tells};
 
-use crate::answers::{Output, answer_all, answer_front};
+use crate::answers::{Output, answer_lines};
 use crate::failed::Failed;
 use crate::input::{End, Input, MAX_INPUT, read_all};
+use crate::lines::whole_part;
 use crate::sink::{Sink, write_all};
 use crate::source::Source;
 use crate::status::Status;
@@ -28,17 +28,12 @@ pub fn run_script<R: Source, W: Sink>(
     source: &mut R,
     sink: &mut W,
 ) -> Status
-    ensures ok { result ≡ Status.Ok → IfSome (R.left source.old) (λ bytes.
-        IsValid bytes × (R.left source.new ≡ Some []) × Puts (W.holds sink.old) (W.holds sink.new) (output bytes)) }
-    ensures refused { result ≡ Status.Refused → IfSome (R.left source.old) (λ bytes.
-        IsRefused bytes × Puts (W.holds sink.old) (W.holds sink.new) (output bytes)) }
-    ensures read_fault { result ≡ Status.ReadFault → Rises (R.faults source.old) (R.faults source.new) }
-    ensures write_fault { result ≡ Status.WriteFault → Rises (W.faults sink.old) (W.faults sink.new) }
-    ensures too_long { result ≡ Status.TooLong → IfSome (R.left source.old) (λ bytes. 2 ^ 26 < length bytes) }
-    ensures front { IfSome (R.left source.old) (λ bytes. PutsFront (W.holds sink.old) (W.holds sink.new) (output bytes)) }
-    ensures complete { IfSome (R.left source.old) (λ bytes. IsValid bytes
-        → IsQuiet (R.faults source.old) (R.faults source.new) → IsQuiet (W.faults sink.old) (W.faults sink.new)
-        → (result ≡ Status.Ok) ⊎ (result ≡ Status.Memory)) }
+    ensures ends { Ends result (R.remaining source.old) (R.remaining source.new) (W.holds sink.old) (W.holds sink.new) }
+    ensures causes { Causes result (R.faults source.old) (R.faults source.new) (W.faults sink.old) (W.faults sink.new) }
+    ensures front { IfSome (R.remaining source.old) (λ bytes.
+        PutsFront (W.holds sink.old) (W.holds sink.new) (output bytes)) }
+    ensures complete { IfSome (R.remaining source.old) (λ bytes.
+        Completes result bytes (R.faults source.old) (R.faults source.new) (W.faults sink.old) (W.faults sink.new)) }
     ensures usage { result ≢ Status.Usage }
 {
     match command {
@@ -51,11 +46,13 @@ pub fn run_script<R: Source, W: Sink>(
 
 // Runs a script. Nothing is written where no memory was to be had.
 fn run<R: Source, W: Sink>(alloc: Global, source: &mut R, sink: &mut W) -> Result<Status, Memory>
-    ensures told { IfSome (R.left source.old) (λ bytes.
-        IfOk result (λ status. Ends status bytes (R.left source.new) (W.holds sink.old) (W.holds sink.new))) }
+    ensures ends { IfSome (R.remaining source.old) (λ bytes.
+        IfOk result (λ status. Leaves status bytes (R.remaining source.new) (W.holds sink.old) (W.holds sink.new))) }
+    ensures front { IfSome (R.remaining source.old) (λ bytes.
+        IfOk result (λ _. PutsFront (W.holds sink.old) (W.holds sink.new) (output bytes))) }
     ensures memory { OnErr result (Puts (W.holds sink.old) (W.holds sink.new) []) }
-    ensures read_fault { IfOk result (λ status. status ≡ Status.ReadFault → Rises (R.faults source.old) (R.faults source.new)) }
-    ensures write_fault { IfOk result (λ status. status ≡ Status.WriteFault → Rises (W.faults sink.old) (W.faults sink.new)) }
+    ensures causes { IfOk result (λ status.
+        Causes status (R.faults source.old) (R.faults source.new) (W.faults sink.old) (W.faults sink.new)) }
     ensures other { IfOk result (λ status. (status ≢ Status.Usage) × (status ≢ Status.Memory)) }
 {
     let input = read_all(alloc, source)?;
@@ -68,14 +65,13 @@ fn run<R: Source, W: Sink>(alloc: Global, source: &mut R, sink: &mut W) -> Resul
 
 // Answers what was read of an input: all of it, or the whole lines at its front that end where the longest input does.
 fn answer_input(alloc: Global, input: &Input) -> Result<Output, Memory>
-    ensures { IfOk result (λ output. (rest : List ℕ) → (input.now.end ≡ End.Whole → rest ≡ [])
-        → Tells (status_of output.refused input.now.end) output.text.items (input.now.bytes.items ++ rest)) }
+    ensures { IfOk result (λ output. Tells input.now.end input.now.bytes.items output) }
 {
     match input.end {
-        End::Whole => answer_all(alloc, input.bytes.as_slice()),
+        End::Whole => answer_lines(alloc, input.bytes.as_slice())?.end(),
         End::Fault | End::TooLong => {
             let size = input.bytes.len().min(MAX_INPUT);
-            answer_front(alloc, &input.bytes[..size])
+            Ok(answer_lines(alloc, whole_part(&input.bytes[..size]))?.cut())
         }
     }
 }

@@ -1,9 +1,10 @@
 //! Sinks: where a run's output goes.
 ghost use Rattle.std.specs.Prelude.{◌≡◌, ℕ, ◌<◌, ◌≤◌, List, [], Option, Some, length, take, IfOk, OnOk, OnErr};
 ghost use Rattle.std.proofs.Common.{◌⊎◌};
-ghost use Rattle.trace_tool.specs.Streams.{Rises, Puts, PutsFront};
+ghost use Rattle.trace_tool.specs.Streams.{HasFault, Puts, PutsFront};
 
 use crate::failed::Failed;
+use crate::turns::{Turn, next_turn};
 use std::alloc::Global;
 use std::io::{ErrorKind, Write};
 
@@ -20,10 +21,10 @@ pub trait Sink {
     fn write(&mut self, piece: &[u8]) -> Result<usize, Failed>
         ensures bound { IfOk result (λ n. n ≤ length piece.now) }
         ensures bytes { IfOk result (λ n. Puts (holds self.old) (holds self.new) (take n piece.now)) }
-        ensures stuck { IfOk result (λ n. n ≡ 0 → 0 < length piece.now → Rises (faults self.old) (faults self.new)) }
+        ensures stuck { IfOk result (λ n. n ≡ 0 → 0 < length piece.now → HasFault (faults self.old) (faults self.new)) }
         ensures kept { OnErr result (Puts (holds self.old) (holds self.new) []) }
         ensures count { faults self.old ≤ faults self.new }
-        ensures cause { OnErr result (Rises (faults self.old) (faults self.new)) };
+        ensures cause { OnErr result (HasFault (faults self.old) (faults self.new)) };
 }
 
 /// Writes the whole piece. `Failed` where a write failed or took nothing; what was written is then a front of it.
@@ -31,7 +32,7 @@ pub fn write_all<W: Sink>(sink: &mut W, piece: &[u8]) -> Result<(), Failed>
     ensures ok { OnOk result (Puts (W.holds sink.old) (W.holds sink.new) piece.now) }
     ensures err { OnErr result (PutsFront (W.holds sink.old) (W.holds sink.new) piece.now) }
     ensures count { W.faults sink.old ≤ W.faults sink.new }
-    ensures cause { OnErr result (Rises (W.faults sink.old) (W.faults sink.new)) }
+    ensures cause { OnErr result (HasFault (W.faults sink.old) (W.faults sink.new)) }
 {
     let mut at = 0;
     while at < piece.len() {
@@ -83,6 +84,58 @@ impl Sink for SureSink {
             Err(_) => {
                 self.faults = self.faults.saturating_add(1);
                 Err(Failed)
+            }
+        }
+    }
+}
+
+/// A sink in memory, which is told, and whose writes do what they are to do. It fails too where no memory is to be had.
+#[derive(Drop)]
+pub struct MemSink<'a> {
+    bytes: SureSink,
+    turns: &'a [Turn],
+    faults: u64,
+}
+
+impl<'a> MemSink<'a> {
+    /// A sink that holds nothing, whose first writes have these turns.
+    pub fn new(alloc: Global, turns: &'a [Turn]) -> MemSink<'a>
+        ensures bytes { result.bytes.bytes.items ≡ [] }
+        ensures turns { result.turns.now ≡ turns.now }
+        ensures faults { result.faults ≡ 0 }
+    {
+        MemSink {
+            bytes: SureSink::new(alloc),
+            turns,
+            faults: 0,
+        }
+    }
+
+    /// The bytes that it holds.
+    pub fn as_slice(&self) -> &[u8]
+        ensures { result.now ≡ self.now.bytes.bytes.items }
+    {
+        self.bytes.as_slice()
+    }
+}
+
+impl<'a> Sink for MemSink<'a> {
+    ghost holds = { λ s. Some s.bytes.bytes.items };
+
+    ghost faults = { λ s. s.faults };
+
+    fn write(&mut self, piece: &[u8]) -> Result<usize, Failed> {
+        let (turn, turns) = next_turn(self.turns);
+        self.turns = turns;
+        let taken = match turn {
+            Turn::Fails => Err(Failed),
+            Turn::Moves { most } => self.bytes.write(&piece[..most.min(piece.len())]),
+        };
+        match taken {
+            Ok(count) if count > 0 || piece.is_empty() => Ok(count),
+            other => {
+                self.faults = self.faults.saturating_add(1);
+                other
             }
         }
     }

@@ -1,15 +1,16 @@
 //! Sources: where a run's input comes from.
 ghost use Rattle.std.specs.Prelude.{◌≡◌, ℕ, ◌<◌, ◌≤◌, List, [], Option, Some, length, take, IfOk, OnErr};
 ghost use Rattle.std.specs.Io.KnownBytes.{IsAtEnd};
-ghost use Rattle.trace_tool.specs.Streams.{Rises, Takes};
+ghost use Rattle.trace_tool.specs.Streams.{HasFault, Takes};
 
 use crate::failed::Failed;
+use crate::turns::{Turn, next_turn};
 use std::io::{ErrorKind, Read};
 
 /// Gives bytes, one read after another, and counts its faults.
 pub trait Source {
     /// The bytes that are left, where they are told.
-    ghost left: { Self → Option (List ℕ) };
+    ghost remaining: { Self → Option (List ℕ) };
 
     /// How many reads failed.
     ghost faults: { Self → ℕ };
@@ -18,11 +19,11 @@ pub trait Source {
     /// nothing was taken then.
     fn read(&mut self, buf: &mut [u8]) -> Result<usize, Failed>
         ensures bound { IfOk result (λ n. n ≤ length buf.new) }
-        ensures bytes { IfOk result (λ n. Takes (left self.old) (left self.new) (take n buf.new)) }
-        ensures end { IfOk result (λ n. n ≡ 0 → 0 < length buf.new → IsAtEnd (left self.new)) }
-        ensures kept { OnErr result (Takes (left self.old) (left self.new) []) }
+        ensures bytes { IfOk result (λ n. Takes (remaining self.old) (remaining self.new) (take n buf.new)) }
+        ensures end { IfOk result (λ n. n ≡ 0 → 0 < length buf.new → IsAtEnd (remaining self.new)) }
+        ensures kept { OnErr result (Takes (remaining self.old) (remaining self.new) []) }
         ensures count { faults self.old ≤ faults self.new }
-        ensures cause { OnErr result (Rises (faults self.old) (faults self.new)) };
+        ensures cause { OnErr result (HasFault (faults self.old) (faults self.new)) };
 }
 
 /// A source in memory, which is told and never fails.
@@ -41,7 +42,7 @@ impl<'a> SureSource<'a> {
 }
 
 impl<'a> Source for SureSource<'a> {
-    ghost left = { λ s. Some s.rest.now };
+    ghost remaining = { λ s. Some s.rest.now };
 
     ghost faults = { λ _. 0 };
 
@@ -51,6 +52,50 @@ impl<'a> Source for SureSource<'a> {
         buf[..count].copy_from_slice(front);
         self.rest = rest;
         Ok(count)
+    }
+}
+
+/// A source in memory, which is told, and whose reads do what they are to do.
+#[derive(Drop)]
+pub struct MemSource<'a> {
+    bytes: SureSource<'a>,
+    turns: &'a [Turn],
+    faults: u64,
+}
+
+impl<'a> MemSource<'a> {
+    /// A source of these bytes, whose first reads have these turns. One that gives bytes gives at least one.
+    pub fn new(bytes: &'a [u8], turns: &'a [Turn]) -> MemSource<'a>
+        ensures bytes { result.bytes.rest.now ≡ bytes.now }
+        ensures turns { result.turns.now ≡ turns.now }
+        ensures faults { result.faults ≡ 0 }
+    {
+        MemSource {
+            bytes: SureSource::new(bytes),
+            turns,
+            faults: 0,
+        }
+    }
+}
+
+impl<'a> Source for MemSource<'a> {
+    ghost remaining = { λ s. Some s.bytes.rest.now };
+
+    ghost faults = { λ s. s.faults };
+
+    fn read(&mut self, buf: &mut [u8]) -> Result<usize, Failed> {
+        let (turn, turns) = next_turn(self.turns);
+        self.turns = turns;
+        match turn {
+            Turn::Fails => {
+                self.faults = self.faults.saturating_add(1);
+                Err(Failed)
+            }
+            Turn::Moves { most } => {
+                let count = most.max(1).min(buf.len());
+                self.bytes.read(&mut buf[..count])
+            }
+        }
     }
 }
 
@@ -79,7 +124,7 @@ impl<R: Read> StdSource<R> {
 }
 
 impl<R: Read> Source for StdSource<R> {
-    ghost left = { λ s. R.remaining s.reader };
+    ghost remaining = { λ s. R.remaining s.reader };
 
     ghost faults = { λ s. s.faults };
 

@@ -1,12 +1,14 @@
 //! Runs of the program over sources and sinks in memory.
-ghost use Rattle.std.specs.Prelude.{None};
 
-use crate::failed::Failed;
+mod runs;
+
 use crate::input::MAX_INPUT;
-use crate::sink::{Sink, StdSink, SureSink};
-use crate::source::{Source, StdSource, SureSource};
+use crate::sink::{MemSink, Sink, StdSink, SureSink};
+use crate::source::{MemSource, Source, StdSource, SureSource};
 use crate::status::Status;
 use crate::top::top;
+use crate::turns::Turn;
+use runs::RUNS;
 use std::process::Abort;
 use std::sync::Wait;
 use std::test::Fail;
@@ -15,439 +17,255 @@ use std::thread::Threads;
 const SETTINGS: &str =
     r#"{"callsites":[{"fields":["a","f","otel.status_code"],"kind":"span","level":"info","name":"s","target":"app"},{"fields":["error","message"],"kind":"event","level":"info","name":"e","target":"app"},{"fields":["error","message"],"kind":"event","level":"error","name":"x","target":"app"},{"fields":[],"kind":"event","level":"debug","name":"d","target":"app"},{"fields":[],"kind":"span","level":"trace","name":"t","target":"app"}],"filter":"info","lanes":[{"id":1,"name":"main"},{"id":2}],"layer":{"location":false,"target":false,"threads":false}}"#;
 
-const NO_LANES: &str =
-    r#"{"callsites":[],"filter":"info","lanes":[],"layer":{"location":false,"target":false,"threads":false}}"#;
+// The requests of the first span.
+const FIRST: &str = r#"{"at":0,"do":"new","lane":0,"site":0}
+{"at":10,"do":"enter","handle":0,"lane":0}
+{"at":30,"do":"exit","guard":0,"lane":0}
+{"at":50,"do":"drop","handle":0,"lane":0}
+"#;
 
-const DIRECTIVES: &str =
-    r#"{"callsites":[],"filter":"app=info","lanes":[],"layer":{"location":false,"target":false,"threads":false}}"#;
+// What they are answered: a reply each, and the record behind the last.
+const ANSWERS: &str = r#"{"enabled":true,"handle":0,"reply":2}
+{"guard":0,"reply":3}
+{"reply":4}
+{"reply":5}
+{"attributes":[["busy_ns",20],["idle_ns",10]],"end":30,"events":[],"kind":"internal","links":[],"name":"s","parent":"0000000000000000","record":1,"span":"0000000000000001","start":0,"status":"unset","trace":"00000000000000000000000000000001"}
+{"done":true,"open":0,"records":1}
+"#;
 
-const NEW: &str = r#"{"at":0,"do":"new","lane":0,"site":0}"#;
-
-const MADE: &str = r#"{"enabled":true,"handle":0,"reply":2}"#;
-
-const SPENT: &str =
-    r#"{"attributes":[["busy_ns",0],["idle_ns",0]],"end":1,"events":[],"kind":"internal","links":[],"name":"s","parent":"0000000000000000","record":1,"span":"0000000000000001","start":0,"status":"unset","trace":"00000000000000000000000000000001"}"#;
-
-const ENTERED: &str =
-    r#"{"attributes":[["busy_ns",20],["idle_ns",10]],"end":30,"events":[],"kind":"internal","links":[],"name":"s","parent":"0000000000000000","record":1,"span":"0000000000000001","start":0,"status":"unset","trace":"00000000000000000000000000000001"}"#;
-
-const ENTER: &str = r#"{"at":10,"do":"enter","handle":0,"lane":0}"#;
-
-const GUARD: &str = r#"{"guard":0,"reply":3}"#;
-
-const EXIT: &str = r#"{"at":30,"do":"exit","guard":0,"lane":0}"#;
-
-const DROP: &str = r#"{"at":50,"do":"drop","handle":0,"lane":0}"#;
-
-const END: &str = r#"{"done":true,"open":0,"records":0}"#;
-
-const ONE_OPEN: &str = r#"{"done":true,"open":1,"records":0}"#;
-
-const ONE_RECORD: &str = r#"{"done":true,"open":0,"records":1}"#;
-
-// A source that fails after its bytes, in place of an end.
-#[derive(Drop)]
-struct Broken<'a> {
-    bytes: SureSource<'a>,
-    faults: u64,
+// Adds a line and its line feed.
+fn add_line(text: &mut String, line: &str) -> Result<(), Fail> {
+    text.push_str(line)?;
+    text.push('\n')?;
+    Ok(())
 }
 
-impl<'a> Source for Broken<'a> {
-    ghost left = { λ _. None };
-
-    ghost faults = { λ s. s.faults };
-
-    fn read(&mut self, buf: &mut [u8]) -> Result<usize, Failed> {
-        match self.bytes.read(buf) {
-            Ok(count) if count > 0 => Ok(count),
-            _ => {
-                self.faults = self.faults.saturating_add(1);
-                Err(Failed)
-            }
-        }
-    }
-}
-
-// A source that gives so many fillers after its bytes.
-#[derive(Drop)]
-struct Filled<'a> {
-    bytes: SureSource<'a>,
-    filler: u8,
-    fillers: usize,
-}
-
-impl<'a> Source for Filled<'a> {
-    ghost left = { λ _. None };
-
-    ghost faults = { λ _. 0 };
-
-    fn read(&mut self, buf: &mut [u8]) -> Result<usize, Failed> {
-        match self.bytes.read(buf) {
-            Ok(count) if count > 0 => Ok(count),
-            _ => {
-                let count = buf.len().min(self.fillers);
-                buf[..count].fill(self.filler);
-                self.fillers -= count;
-                Ok(count)
-            }
-        }
-    }
-}
-
-// A sink that takes a byte at a time. Once it is full it takes none, or fails.
-#[derive(Drop)]
-struct Small {
-    bytes: SureSink,
-    room: usize,
-    fails: bool,
-    faults: u64,
-}
-
-impl Sink for Small {
-    ghost holds = { λ _. None };
-
-    ghost faults = { λ s. s.faults };
-
-    fn write(&mut self, piece: &[u8]) -> Result<usize, Failed> {
-        if self.room > 0 && !piece.is_empty() && self.bytes.write(&piece[..1]).is_ok() {
-            self.room -= 1;
-            return Ok(1);
-        }
-        self.faults = self.faults.saturating_add(1);
-        if self.fails { Err(Failed) } else { Ok(0) }
-    }
-}
-
-// The lines, each with a line feed.
-fn text_of<R: AllocGlobal>(rt: &R, lines: &[&str]) -> Result<String, Fail> {
+// The settings line, with these bytes behind it.
+fn script<R: AllocGlobal>(rt: &R, rest: &str) -> Result<String, Fail> {
     let mut text = String::new(rt.alloc());
-    for line in lines {
-        text.push_str(line)?;
-        text.push('\n')?;
-    }
+    add_line(&mut text, SETTINGS)?;
+    text.push_str(rest)?;
     Ok(text)
 }
 
-fn words_of<R: AllocGlobal>(rt: &R, words: &[&str]) -> Result<Vec<String>, Fail> {
-    let mut list = Vec::new(rt.alloc());
-    for word in words {
-        let word = String::from_str(rt.alloc(), word)?;
-        if list.push(word).is_err() {
-            return Err(Fail::from("no memory"));
-        }
-    }
-    Ok(list)
+// The first bytes of a text, and behind them a status.
+fn ended<R: AllocGlobal>(rt: &R, text: &str, size: usize, status: Status) -> Result<String, Fail> {
+    let front = text.get(..size).ok_or("a front")?;
+    Ok(format!(in rt.alloc(); "{front}= {}\n", status.number())?)
 }
 
 fn run<H: Threads + Wait + Sync + AllocGlobal, R: Source, W: Sink>(
     rt: &H,
     source: &mut R,
     sink: &mut W,
+    word: &str,
 ) -> Result<Status, Fail> {
-    let words = words_of(rt, &["run"])?;
+    let mut words = Vec::new(rt.alloc());
+    words.push(String::from_str(rt.alloc(), word)?)?;
     Ok(top(rt, rt.alloc(), words.as_slice(), source, sink))
 }
 
-// Runs the input, and compares what is written and how it ends.
-fn expect_run<R: Abort + Threads + Wait + Sync + AllocGlobal>(
-    rt: &R,
+// What is written for an input, over these turns of reads and writes, and behind it the status.
+fn ran<H: Threads + Wait + Sync + AllocGlobal>(
+    rt: &H,
     input: &[u8],
-    output: &[&str],
-    status: Status,
-) -> Result<(), Fail> {
-    let mut sink = SureSink::new(rt.alloc());
-    let ended = run(rt, &mut SureSource::new(input), &mut sink)?;
-    let wanted = text_of(rt, output)?;
-    let name = wanted.as_str();
-    assert!(rt;
-        sink.as_slice() == wanted.as_bytes(),
-        "written in place of {name}"
-    );
-    assert_eq!(rt; ended, status, "after {name}");
-    Ok(())
+    reads: &[Turn],
+    writes: &[Turn],
+) -> Result<String, Fail> {
+    let mut source = MemSource::new(input, reads);
+    let mut sink = MemSink::new(rt.alloc(), writes);
+    let status = run(rt, &mut source, &mut sink, "run")?;
+    let text = str::from_utf8(sink.as_slice()).ok().ok_or("no text")?;
+    ended(rt, text, text.len(), status)
 }
 
-// The same over the settings and these lines.
-fn expect_lines<R: Abort + Threads + Wait + Sync + AllocGlobal>(
-    rt: &R,
-    lines: &[&str],
-    output: &[&str],
-    status: Status,
-) -> Result<(), Fail> {
-    let mut input = text_of(rt, &[SETTINGS])?;
-    let rest = text_of(rt, lines)?;
-    input.push_str(rest.as_str())?;
-    expect_run(rt, input.as_bytes(), output, status)
+// The first of the runs that goes otherwise than is written there.
+fn differing<H: Threads + Wait + Sync + AllocGlobal>(rt: &H) -> Result<Option<String>, Fail> {
+    let mut input = String::new(rt.alloc());
+    let mut wanted = String::new(rt.alloc());
+    for line in RUNS.lines() {
+        if let Some(text) = line.strip_prefix("< ") {
+            add_line(&mut input, text)?;
+        } else if let Some(text) = line.strip_prefix("> ") {
+            add_line(&mut wanted, text)?;
+        } else if line == "P" {
+            add_line(&mut input, SETTINGS)?;
+        } else if line.starts_with('=') {
+            add_line(&mut wanted, line)?;
+            let got = ran(rt, input.as_bytes(), &[], &[])?;
+            if got.as_str() != wanted.as_str() {
+                return Ok(Some(got));
+            }
+            input.clear();
+            wanted.clear();
+        }
+    }
+    Ok(None)
 }
 
 #[test]
 fn runs_scripts(rt: HostRuntime) -> Result<(), Fail> {
-    let fourth = r#"{"reply":4}"#;
-    let fifth = r#"{"reply":5}"#;
-    expect_lines(&rt, &[], &[END], Status::Ok)?;
-    expect_lines(&rt, &[NEW], &[MADE, ONE_OPEN], Status::Ok)?;
-    expect_lines(
-        &rt,
-        &[NEW, ENTER, EXIT, DROP],
-        &[MADE, GUARD, fourth, fifth, ENTERED, ONE_RECORD],
-        Status::Ok,
-    )?;
-    let declined = r#"{"at":0,"do":"new","lane":0,"site":4}"#;
-    let disabled = r#"{"enabled":false,"handle":0,"reply":2}"#;
-    expect_lines(
-        &rt,
-        &[declined, ENTER, EXIT, DROP],
-        &[disabled, GUARD, fourth, fifth, END],
-        Status::Ok,
-    )
+    let differing = differing(&rt)?;
+    assert!(rt; differing.is_none(), "{differing:?}");
+    Ok(())
 }
 
-#[test]
-fn clones_hold_a_span(rt: HostRuntime) -> Result<(), Fail> {
-    let clone = r#"{"at":1,"do":"clone","handle":0,"lane":0}"#;
-    let cloned = r#"{"enabled":true,"handle":1,"reply":3}"#;
-    let first = r#"{"at":2,"do":"drop","handle":0,"lane":0}"#;
-    let fourth = r#"{"reply":4}"#;
-    let enter = r#"{"at":10,"do":"enter","handle":1,"lane":0}"#;
-    let guard = r#"{"guard":0,"reply":5}"#;
-    let sixth = r#"{"reply":6}"#;
-    let last = r#"{"at":50,"do":"drop","handle":1,"lane":0}"#;
-    let seventh = r#"{"reply":7}"#;
-    expect_lines(
-        &rt,
-        &[NEW, clone, first, enter, EXIT, last],
-        &[
-            MADE, cloned, fourth, guard, sixth, seventh, ENTERED, ONE_RECORD,
-        ],
-        Status::Ok,
-    )
-}
-
-#[test]
-fn tells_events(rt: HostRuntime) -> Result<(), Fail> {
-    let event = r#"{"at":15,"do":"event","lane":0,"site":1}"#;
-    let fourth = r#"{"enabled":true,"reply":4}"#;
-    let fifth = r#"{"reply":5}"#;
-    let sixth = r#"{"reply":6}"#;
-    let told =
-        r#"{"attributes":[["busy_ns",20],["idle_ns",10]],"end":30,"events":[{"attributes":[["level","INFO"],["target","app"]],"name":"e","time":15}],"kind":"internal","links":[],"name":"s","parent":"0000000000000000","record":1,"span":"0000000000000001","start":0,"status":"unset","trace":"00000000000000000000000000000001"}"#;
-    expect_lines(
-        &rt,
-        &[NEW, ENTER, event, EXIT, DROP],
-        &[MADE, GUARD, fourth, fifth, sixth, told, ONE_RECORD],
-        Status::Ok,
-    )?;
-    let late = r#"{"at":30,"do":"event","lane":0,"site":2}"#;
-    let exited = r#"{"reply":4}"#;
-    let nowhere = r#"{"enabled":true,"reply":5}"#;
-    expect_lines(
-        &rt,
-        &[NEW, ENTER, EXIT, late, DROP],
-        &[MADE, GUARD, exited, nowhere, sixth, ENTERED, ONE_RECORD],
-        Status::Ok,
-    )
-}
-
-#[test]
-fn keeps_events_in_order(rt: HostRuntime) -> Result<(), Fail> {
-    let event = r#"{"at":15,"do":"event","lane":0,"site":1}"#;
-    let fault = r#"{"at":15,"do":"event","lane":0,"site":2}"#;
-    let declined = r#"{"at":15,"do":"event","lane":0,"site":3}"#;
-    let fourth = r#"{"enabled":true,"reply":4}"#;
-    let fifth = r#"{"enabled":true,"reply":5}"#;
-    let unlet = r#"{"enabled":false,"reply":6}"#;
-    let seventh = r#"{"reply":7}"#;
-    let eighth = r#"{"reply":8}"#;
-    let both =
-        r#"{"attributes":[["busy_ns",20],["idle_ns",10]],"end":30,"events":[{"attributes":[["level","ERROR"],["target","app"]],"name":"x","time":15},{"attributes":[["level","INFO"],["target","app"]],"name":"e","time":15}],"kind":"internal","links":[],"name":"s","parent":"0000000000000000","record":1,"span":"0000000000000001","start":0,"status":{"error":""},"trace":"00000000000000000000000000000001"}"#;
-    expect_lines(
-        &rt,
-        &[NEW, ENTER, fault, event, declined, EXIT, DROP],
-        &[
-            MADE, GUARD, fourth, fifth, unlet, seventh, eighth, both, ONE_RECORD,
-        ],
-        Status::Ok,
-    )
-}
-
-#[test]
-fn refuses_steps_under_a_guard(rt: HostRuntime) -> Result<(), Fail> {
-    let enter = r#"{"at":1,"do":"enter","handle":0,"lane":0}"#;
-    let drop = r#"{"at":2,"do":"drop","handle":0,"lane":0}"#;
-    let in_use = r#"{"line":4,"refused":"InUse"}"#;
-    let fallen = r#"{"at":0,"do":"exit","guard":0,"lane":0}"#;
-    let before = r#"{"before":1,"given":0,"line":4,"refused":"BadMoment"}"#;
-    let past = r#"{"at":9223372036854775808,"do":"drop","handle":0,"lane":0}"#;
-    let after = r#"{"before":1,"given":9223372036854775808,"line":4,"refused":"BadMoment"}"#;
-    let cut = r#"{"at":2,"do":"#;
-    let bad = r#"{"line":4,"refused":"BadLine"}"#;
-    let later = r#"{"line":4,"refused":"Later"}"#;
-    for (line, refusal) in [
-        (drop, in_use),
-        (fallen, before),
-        (past, after),
-        (cut, bad),
-        (NEW, later),
-        (ENTER, later),
-    ] {
-        expect_lines(
-            &rt,
-            &[NEW, enter, line],
-            &[MADE, GUARD, refusal],
-            Status::Refused,
-        )?;
+// How many bytes the first lines have.
+fn size_of_lines(text: &str, lines: usize) -> usize {
+    let mut size = 0usize;
+    for line in text.lines().take(lines) {
+        size = size.saturating_add(line.len()).saturating_add(1);
     }
-    let declined = r#"{"at":0,"do":"new","lane":0,"site":4}"#;
-    let disabled = r#"{"enabled":false,"handle":0,"reply":2}"#;
-    expect_lines(
-        &rt,
-        &[declined, enter, drop],
-        &[disabled, GUARD, in_use],
-        Status::Refused,
-    )
+    size
 }
 
-#[test]
-fn refuses_lines(rt: HostRuntime) -> Result<(), Fail> {
-    let bad = r#"{"line":2,"refused":"BadLine"}"#;
-    let later = r#"{"line":2,"refused":"Later"}"#;
-    let no_site = r#"{"line":2,"refused":"UnknownName","what":"site"}"#;
-    for (line, refusal) in [
-        (r#"{"at":0,"do":"current","lane":0}"#, later),
-        (r#"{"at":0,"do":"new","lane":0,"site":1}"#, no_site),
-        (r#"{"at":0,"do":"new","lane":0,"site":5}"#, no_site),
-        (r#"{"at":0,"do":"event","lane":0,"site":0}"#, no_site),
-        (r#"{"at":0,"do":"event","lane":0,"site":9}"#, no_site),
-        (r#"{"at":0,"do":"new","lane":0,"more":1,"site":0}"#, later),
-        (r#"{"at":0.5,"do":"new","lane":0,"site":0}"#, later),
-        (r#"{"at":0,"do":"new","#, bad),
-        ("7", bad),
-    ] {
-        expect_lines(&rt, &[line], &[refusal], Status::Refused)?;
+// The first read of the first span's script, byte by byte, that isn't answered by the lines of the whole lines before
+// it where it fails.
+fn wrong_read<H: Threads + Wait + Sync + AllocGlobal>(rt: &H) -> Result<Option<usize>, Fail> {
+    let input = script(rt, FIRST)?;
+    let mut turns = vec![in rt.alloc(); Turn::Moves { most: 1 }; input.len()]?;
+    // The settings line is answered nothing, the last line a record too.
+    let mut answered = [0, 1, 2, 3, 5].iter();
+    let mut size = 0;
+    for (at, byte) in input.as_bytes().iter().enumerate() {
+        turns[at] = Turn::Fails;
+        let got = ran(rt, input.as_bytes(), turns.as_slice(), &[])?;
+        let wanted = ended(rt, ANSWERS, size, Status::ReadFault)?;
+        if got.as_str() != wanted.as_str() {
+            return Ok(Some(at));
+        }
+        turns[at] = Turn::Moves { most: 1 };
+        if *byte == b'\n' {
+            size = size_of_lines(ANSWERS, *answered.next().ok_or("a line")?);
+        }
     }
-    let drop = r#"{"at":1,"do":"drop","handle":0,"lane":0}"#;
-    let again = r#"{"at":2,"do":"drop","handle":0,"lane":0}"#;
-    let third = r#"{"reply":3}"#;
-    let spent = r#"{"line":4,"refused":"UnknownName","what":"handle"}"#;
-    expect_lines(
-        &rt,
-        &[NEW, drop, again],
-        &[MADE, third, SPENT, spent],
-        Status::Refused,
-    )
+    Ok(None)
+}
+
+// The first write, byte by byte, that isn't told with the bytes before it where it fails.
+fn wrong_write<H: Threads + Wait + Sync + AllocGlobal>(rt: &H) -> Result<Option<usize>, Fail> {
+    let input = script(rt, FIRST)?;
+    let mut turns = vec![in rt.alloc(); Turn::Moves { most: 1 }; ANSWERS.len()]?;
+    for at in 0..ANSWERS.len() {
+        turns[at] = Turn::Fails;
+        let got = ran(rt, input.as_bytes(), &[], turns.as_slice())?;
+        let wanted = ended(rt, ANSWERS, at, Status::WriteFault)?;
+        if got.as_str() != wanted.as_str() {
+            return Ok(Some(at));
+        }
+        turns[at] = Turn::Moves { most: 1 };
+    }
+    Ok(None)
 }
 
 #[test]
-fn counts_lines(rt: HostRuntime) -> Result<(), Fail> {
-    let first = r#"{"line":1,"refused":"BadLine"}"#;
-    let third = r#"{"line":3,"refused":"BadLine"}"#;
-    expect_run(&rt, b"", &[first], Status::Refused)?;
-    expect_run(&rt, b"\n\n", &[third], Status::Refused)?;
-    let later = r#"{"line":1,"refused":"Later"}"#;
-    expect_run(&rt, DIRECTIVES.as_bytes(), &[later], Status::Refused)?;
-    expect_run(&rt, SETTINGS.as_bytes(), &[END], Status::Ok)?;
-    let no_lane = r#"{"line":2,"refused":"UnknownName","what":"lane"}"#;
-    let input = text_of(&rt, &[NO_LANES, NEW])?;
-    expect_run(&rt, input.as_bytes(), &[no_lane], Status::Refused)?;
-    let mut input = text_of(&rt, &["", SETTINGS, " \t\r", NEW, "\r"])?;
-    input.push_str(r#"{"at":1,"do":"drop","handle":0,"lane":0}"#)?;
-    let made = r#"{"enabled":true,"handle":0,"reply":4}"#;
-    let dropped = r#"{"reply":6}"#;
-    let output = [made, dropped, SPENT, ONE_RECORD];
-    expect_run(&rt, input.as_bytes(), &output, Status::Ok)?;
-    let mut bytes = text_of(&rt, &[SETTINGS])?.into_bytes();
-    bytes.extend_from_slice(b"\"\xff\"\n")?;
-    let second = r#"{"line":2,"refused":"BadLine"}"#;
-    expect_run(&rt, bytes.as_slice(), &[second], Status::Refused)
+fn tells_each_fault(rt: HostRuntime) -> Result<(), Fail> {
+    assert_eq!(rt; wrong_read(&rt)?, None);
+    assert_eq!(rt; wrong_write(&rt)?, None);
+    Ok(())
+}
+
+// The same script over these turns.
+fn first<H: Threads + Wait + Sync + AllocGlobal>(
+    rt: &H,
+    reads: &[Turn],
+    writes: &[Turn],
+    size: usize,
+    status: Status,
+) -> Result<bool, Fail> {
+    let input = script(rt, FIRST)?;
+    let got = ran(rt, input.as_bytes(), reads, writes)?;
+    let wanted = ended(rt, ANSWERS, size, status)?;
+    Ok(got.as_str() == wanted.as_str())
+}
+
+#[test]
+fn breaks_off(rt: HostRuntime) -> Result<(), Fail> {
+    let settings = SETTINGS.len() + 1;
+    let most = settings + size_of_lines(FIRST, 2);
+    let whole = [Turn::Moves { most }, Turn::Fails];
+    let most = settings + 20;
+    let cut = [Turn::Moves { most }, Turn::Fails];
+    let ten = Turn::Moves { most: 10 };
+    let full = [ten, ten, ten, Turn::Moves { most: 0 }];
+    let answers = size_of_lines(ANSWERS, 2);
+    assert!(rt; first(&rt, &whole, &[], answers, Status::ReadFault)?);
+    assert!(rt; first(&rt, &cut, &[], 0, Status::ReadFault)?);
+    assert!(rt; first(&rt, &[], &full, 30, Status::WriteFault)?);
+    Ok(())
+}
+
+// What is written for a text that is filled up with blanks to so many bytes, and behind it the status.
+fn filled<H: Threads + Wait + Sync + AllocGlobal>(
+    rt: &H,
+    text: &[u8],
+    size: usize,
+) -> Result<String, Fail> {
+    let mut input = Vec::new(rt.alloc());
+    input.extend_from_slice(text)?;
+    input.resize(size, b' ')?;
+    ran(rt, input.as_slice(), &[], &[])
+}
+
+#[test]
+fn tells_a_long_input(rt: HostRuntime) -> Result<(), Fail> {
+    let made = script(&rt, "{\"at\":0,\"do\":\"new\",\"lane\":0,\"site\":0}\n")?;
+    let longer = MAX_INPUT + 1;
+    let over = filled(&rt, made.as_bytes(), longer)?;
+    assert_eq!(rt;
+        over.as_str(),
+        "{\"enabled\":true,\"handle\":0,\"reply\":2}\n= 6\n"
+    );
+    let refused = filled(&rt, b"7\n", MAX_INPUT + 2)?;
+    assert_eq!(rt;
+        refused.as_str(),
+        "{\"line\":1,\"refused\":\"BadLine\"}\n= 2\n"
+    );
+    let longest = filled(&rt, SETTINGS.as_bytes(), MAX_INPUT)?;
+    assert_eq!(rt;
+        longest.as_str(),
+        "{\"done\":true,\"open\":0,\"records\":0}\n= 0\n"
+    );
+    Ok(())
+}
+
+#[test]
+fn reads_bytes(rt: HostRuntime) -> Result<(), Fail> {
+    let mut input = script(&rt, "\r\n")?.into_bytes();
+    input.extend_from_slice(b"{\"at\":0,\"do\":\"new\",\"lane\":0,\"site\":0}")?;
+    let made = ran(&rt, input.as_slice(), &[], &[])?;
+    let wanted =
+        "{\"enabled\":true,\"handle\":0,\"reply\":3}\n{\"done\":true,\"open\":1,\"records\":0}\n= 0\n";
+    assert_eq!(rt; made.as_str(), wanted);
+    let mut input = script(&rt, "")?.into_bytes();
+    input.extend_from_slice(b"\"\xff\"\n")?;
+    let refused = ran(&rt, input.as_slice(), &[], &[])?;
+    assert_eq!(rt;
+        refused.as_str(),
+        "{\"line\":2,\"refused\":\"BadLine\"}\n= 2\n"
+    );
+    Ok(())
 }
 
 #[test]
 fn knows_one_word(rt: HostRuntime) -> Result<(), Fail> {
-    let none: [&str; 0] = [];
-    for words in [none.as_slice(), &["walk"], &["run", "run"], &["Run"]] {
-        let words = words_of(&rt, words)?;
+    for word in ["walk", "Run", ""] {
         let mut source = SureSource::new(SETTINGS.as_bytes());
         let mut sink = SureSink::new(rt.alloc());
-        let ended = top(&rt, rt.alloc(), words.as_slice(), &mut source, &mut sink);
-        assert_eq!(rt; ended, Status::Usage);
-        assert_eq!(rt; ended.number(), 1);
+        let status = run(&rt, &mut source, &mut sink, word)?;
+        assert_eq!(rt; status.number(), 1);
         assert!(rt; sink.as_slice().is_empty());
     }
     Ok(())
 }
 
 #[test]
-fn tells_faults_of_a_source(rt: HostRuntime) -> Result<(), Fail> {
-    let cut = r#"{"at":5,"do":"#;
-    let bad = r#"{"line":2,"refused":"BadLine"}"#;
-    for (line, answer, status) in [(NEW, MADE, Status::ReadFault), ("7", bad, Status::Refused)] {
-        let mut input = text_of(&rt, &[SETTINGS, line])?;
-        input.push_str(cut)?;
-        let bytes = SureSource::new(input.as_bytes());
-        let mut sink = SureSink::new(rt.alloc());
-        let ended = run(&rt, &mut Broken { bytes, faults: 0 }, &mut sink)?;
-        let wanted = text_of(&rt, &[answer])?;
-        assert!(rt; sink.as_slice() == wanted.as_bytes());
-        assert_eq!(rt; ended, status);
-    }
-    let bytes = SureSource::new(b"");
-    let mut sink = SureSink::new(rt.alloc());
-    let ended = run(&rt, &mut Broken { bytes, faults: 0 }, &mut sink)?;
-    assert_eq!(rt; ended, Status::ReadFault);
-    assert!(rt; sink.as_slice().is_empty());
-    Ok(())
-}
-
-#[test]
-fn tells_faults_of_a_sink(rt: HostRuntime) -> Result<(), Fail> {
-    for (room, fails, wanted, status, faults) in [
-        (0, true, "", Status::WriteFault, 1),
-        (0, false, "", Status::WriteFault, 1),
-        (7, false, "{\"done\"", Status::WriteFault, 1),
-        (7, true, "{\"done\"", Status::WriteFault, 1),
-        (
-            1000,
-            true,
-            "{\"done\":true,\"open\":0,\"records\":0}\n",
-            Status::Ok,
-            0,
-        ),
-    ] {
-        let mut sink = Small {
-            bytes: SureSink::new(rt.alloc()),
-            room,
-            fails,
-            faults: 0,
-        };
-        let ended = run(&rt, &mut SureSource::new(SETTINGS.as_bytes()), &mut sink)?;
-        assert_eq!(rt; ended, status);
-        assert!(rt; sink.bytes.as_slice() == wanted.as_bytes());
-        assert_eq!(rt; sink.faults, faults);
-    }
-    Ok(())
-}
-
-#[test]
-fn tells_a_long_input(rt: HostRuntime) -> Result<(), Fail> {
-    let mut source = Filled {
-        bytes: SureSource::new(b""),
-        filler: b'\n',
-        fillers: MAX_INPUT + 1,
-    };
-    let mut sink = SureSink::new(rt.alloc());
-    assert_eq!(rt; run(&rt, &mut source, &mut sink)?, Status::TooLong);
-    assert!(rt; sink.as_slice().is_empty());
-    Ok(())
-}
-
-#[test]
 fn runs_over_readers_and_writers(rt: HostRuntime) -> Result<(), Fail> {
-    let input = text_of(&rt, &[SETTINGS, NEW])?;
+    let input = script(&rt, FIRST)?;
     let mut source = StdSource::new(input.as_bytes());
     let mut sink = StdSink::new(Vec::new(rt.alloc()));
-    assert_eq!(rt; run(&rt, &mut source, &mut sink)?, Status::Ok);
-    let wanted = text_of(&rt, &[MADE, ONE_OPEN])?;
-    assert!(rt; sink.get_ref().as_slice() == wanted.as_bytes());
+    assert_eq!(rt; run(&rt, &mut source, &mut sink, "run")?, Status::Ok);
+    assert!(rt; sink.get_ref().as_slice() == ANSWERS.as_bytes());
     assert!(rt; source.get_ref().is_empty());
     Ok(())
 }

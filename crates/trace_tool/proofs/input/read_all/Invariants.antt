@@ -4,7 +4,7 @@ use Rattle.trace_tool.proofs.input.read_all.Given as goal
 
 abbrev pub invariant-loop-block : goal.invariant-loop-block
 invariant-loop-block g l = record {
-  told : Takes (g.R.Source.left l.fn.source) (g.R.Source.left l.source) l.bytes.items;
+  told : Takes (g.R.Source.remaining l.fn.source) (g.R.Source.remaining l.source) l.bytes.items;
   count : g.R.Source.faults l.fn.source ≤ g.R.Source.faults l.source;
 }
 

@@ -1,6 +1,6 @@
 use Rattle.std.proofs.Common.{arith}
 use Rattle.std.proofs.lemmas.Bool.{eqb-true}
-use Rattle.trace_tool.proofs.Feeds.{fed_line, only_line, feedless_before, feedless_from}
+use Rattle.trace_tool.proofs.LinesLemmas.{fed_line, only_line, feedless_before, feedless_from}
 use Rattle.trace_tool.proofs.lines.first_line.Goals as goal
 
 pub returns-in-Some-clause-lines : goal.returns-in-Some-clause-lines

@@ -1,7 +1,10 @@
-use Rattle.trace_tool.proofs.Statuses.{ok_front_tells, not_whole}
+use Rattle.std.proofs.Common.{◌∙◌}
+use Rattle.trace_tool.proofs.EndsLemmas.{cut_part, cut_tells}
 use Rattle.trace_tool.proofs.script.answer_input.Goals as goal
 
-pub returns-in-Fault : goal.returns-in-Fault
-returns-in-Fault c =
-    ok_front_tells c.answer_front.result c.args.input.now.end c.args.input.now.bytes.items _
-    (rw c.deref.ensures.value at c.answer_front.ensures.front) (rw c.deref.ensures.value at c.answer_front.ensures.refused) (not_whole c.args.input.now.end c.in-Fault.is)
+pub returns-in_ok-answer_lines-in-Fault : goal.returns-in_ok-answer_lines-in-Fault
+returns-in_ok-answer_lines-in-Fault c =
+    let cuts = c.cut.ensures _ c.in_ok-answer_lines-in-Fault.ensures in
+    cut_tells c.args.input.now.end c.args.input.now.bytes.items c.cut.result c.in-Fault.is
+    (cut_part _ _ _ _ _ c.cut.result.refused c.cut.result.text.items c.whole_part.ensures c.deref.ensures.value c.min-size.ensures
+    (c.len.ensures ∙ c.args.input.now.bytes.ok.0) cuts)

@@ -1,7 +1,24 @@
-use Rattle.trace_tool.proofs.Statuses.{fault_ends}
+use Rattle.trace_tool.proofs.EndsLemmas.{front_ends, puts_whole, written_ends}
 use Rattle.trace_tool.proofs.script.run.Goals as goal
 
-pub returns-clause-told : goal.returns-clause-told
-returns-clause-told g c =
-    fault_ends _ _ _ _ c.in_ok-output.output.refused c.in_ok-input.input.end c.in_ok-output.output.text.items c.in_ok-input.input.bytes.items
-    c.in_ok-input.ensures.bytes c.in_ok-input.ensures.whole c.in_ok-output.ensures (rw c.as_slice.ensures.value at c.in-Err.ensures.err)
+pub returns-in-Ok-clause-ends : goal.returns-in-Ok-clause-ends
+returns-in-Ok-clause-ends g c =
+    let read = c.in_ok-input.ensures in
+    rw c.status_of.ensures
+    (written_ends _ _ _ _ c.in_ok-input.input.end c.in_ok-output.output c.in_ok-input.input.bytes.items read.bytes read.whole read.short read.long
+    c.in_ok-output.ensures (rw c.as_slice.ensures.value at c.in-Ok.ensures.ok))
+
+pub returns-in-Ok-clause-front : goal.returns-in-Ok-clause-front
+returns-in-Ok-clause-front g c =
+    front_ends _ _ _ _ c.in_ok-input.input.end c.in_ok-output.output c.in_ok-input.input.bytes.items c.in_ok-input.ensures.bytes c.in_ok-input.ensures.whole
+    c.in_ok-output.ensures (puts_whole _ _ _ (rw c.as_slice.ensures.value at c.in-Ok.ensures.ok))
+
+pub returns-clause-ends : goal.returns-clause-ends
+returns-clause-ends g c =
+    front_ends _ _ _ _ c.in_ok-input.input.end c.in_ok-output.output c.in_ok-input.input.bytes.items c.in_ok-input.ensures.bytes c.in_ok-input.ensures.whole
+    c.in_ok-output.ensures (rw c.as_slice.ensures.value at c.in-Err.ensures.err)
+
+pub returns-clause-front : goal.returns-clause-front
+returns-clause-front g c =
+    front_ends _ _ _ _ c.in_ok-input.input.end c.in_ok-output.output c.in_ok-input.input.bytes.items c.in_ok-input.ensures.bytes c.in_ok-input.ensures.whole
+    c.in_ok-output.ensures (rw c.as_slice.ensures.value at c.in-Err.ensures.err)

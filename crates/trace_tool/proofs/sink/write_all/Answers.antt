@@ -1,5 +1,5 @@
 use Rattle.std.proofs.Common.{arith}
-use Rattle.trace_tool.proofs.Moves.{puts_next, puts_front, puts_stuck, length_rest, on_any_err}
+use Rattle.trace_tool.proofs.StreamsLemmas.{puts_next, puts_front, puts_stuck, length_rest, on_any_err}
 use Rattle.trace_tool.proofs.sink.write_all.Goals as goal
 
 pub returns-in_err-count-clause-err : goal.returns-in_err-count-clause-err

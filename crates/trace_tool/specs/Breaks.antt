@@ -1,0 +1,35 @@
+-- What is known of an input that breaks off: its whole lines, and what they are answered.
+use Rattle.std.specs.Prelude.{◌≡◌, ℕ, List, [], ◌∷◌, ◌++◌, Bool, true, false, ◌==◌, if◌then◌else◌}
+use Rattle.std.specs.List.{list_all, list_any}
+use Rattle.std.proofs.Common.{◌⊎◌}
+use Rattle.trace_pipeline.specs.Lines.{lines_of, is_blank}
+use Rattle.trace_pipeline.specs.Texts.{end_text}
+use Rattle.trace_pipeline.specs.Report.{Report, report_from}
+
+-- whether a line feed is among the bytes
+abbrev pub has_feed : List ℕ → Bool
+has_feed bytes = list_any (λ b. b == 10) bytes
+
+-- the bytes up to their last line feed, with it
+abbrev pub whole_part : List ℕ → List ℕ
+whole_part [] = []
+whole_part (b ∷ bs) = if has_feed (b ∷ bs) then b ∷ whole_part bs else []
+
+-- the lines that are whole whatever bytes follow
+abbrev pub whole_lines : List ℕ → List (List ℕ)
+whole_lines bytes = lines_of (whole_part bytes)
+
+-- no settings line is among the lines
+abbrev pub are_blank : List (List ℕ) → Bool
+are_blank lines = list_all is_blank lines
+
+-- Some line is refused, and not only the end of the lines for want of a settings line.
+pub record HasRefused (lines : List (List ℕ)) : Type 0 where
+  pub some : are_blank lines ≡ false
+  pub refused : (report_from 0 lines).accepted ≡ false
+
+-- No line is refused, and the text is what they are answered with no end line: nothing where all are blank.
+abbrev pub AnswersAll : List (List ℕ) → List ℕ → Type 0
+AnswersAll lines text =
+    ((are_blank lines ≡ true) × (text ≡ []))
+    ⊎ ((spans : ℕ) × (records : ℕ) × (report_from 0 lines ≡ record { written = text ++ end_text spans records; accepted = true }))

@@ -1,0 +1,254 @@
+//! Scripts with what they write, worked out by hand.
+
+/// Runs, each with its title. `P` stands for the settings line, `<` leads an input line, `>` an output line, and `=` the
+/// number of the status.
+pub const RUNS: &str = r#"
+# settings alone
+P
+> {"done":true,"open":0,"records":0}
+= 0
+# a span that stays open
+P
+< {"at":0,"do":"new","lane":0,"site":0}
+> {"enabled":true,"handle":0,"reply":2}
+> {"done":true,"open":1,"records":0}
+= 0
+# a span that is entered, exited and dropped
+P
+< {"at":0,"do":"new","lane":0,"site":0}
+< {"at":10,"do":"enter","handle":0,"lane":0}
+< {"at":30,"do":"exit","guard":0,"lane":0}
+< {"at":50,"do":"drop","handle":0,"lane":0}
+> {"enabled":true,"handle":0,"reply":2}
+> {"guard":0,"reply":3}
+> {"reply":4}
+> {"reply":5}
+> {"attributes":[["busy_ns",20],["idle_ns",10]],"end":30,"events":[],"kind":"internal","links":[],"name":"s","parent":"0000000000000000","record":1,"span":"0000000000000001","start":0,"status":"unset","trace":"00000000000000000000000000000001"}
+> {"done":true,"open":0,"records":1}
+= 0
+# a span that the filter declines
+P
+< {"at":0,"do":"new","lane":0,"site":4}
+< {"at":10,"do":"enter","handle":0,"lane":0}
+< {"at":30,"do":"exit","guard":0,"lane":0}
+< {"at":50,"do":"drop","handle":0,"lane":0}
+> {"enabled":false,"handle":0,"reply":2}
+> {"guard":0,"reply":3}
+> {"reply":4}
+> {"reply":5}
+> {"done":true,"open":0,"records":0}
+= 0
+# a clone that holds its span
+P
+< {"at":0,"do":"new","lane":0,"site":0}
+< {"at":1,"do":"clone","handle":0,"lane":0}
+< {"at":2,"do":"drop","handle":0,"lane":0}
+< {"at":10,"do":"enter","handle":1,"lane":0}
+< {"at":30,"do":"exit","guard":0,"lane":0}
+< {"at":50,"do":"drop","handle":1,"lane":0}
+> {"enabled":true,"handle":0,"reply":2}
+> {"enabled":true,"handle":1,"reply":3}
+> {"reply":4}
+> {"guard":0,"reply":5}
+> {"reply":6}
+> {"reply":7}
+> {"attributes":[["busy_ns",20],["idle_ns",10]],"end":30,"events":[],"kind":"internal","links":[],"name":"s","parent":"0000000000000000","record":1,"span":"0000000000000001","start":0,"status":"unset","trace":"00000000000000000000000000000001"}
+> {"done":true,"open":0,"records":1}
+= 0
+# an event on the current span
+P
+< {"at":0,"do":"new","lane":0,"site":0}
+< {"at":10,"do":"enter","handle":0,"lane":0}
+< {"at":15,"do":"event","lane":0,"site":1}
+< {"at":30,"do":"exit","guard":0,"lane":0}
+< {"at":50,"do":"drop","handle":0,"lane":0}
+> {"enabled":true,"handle":0,"reply":2}
+> {"guard":0,"reply":3}
+> {"enabled":true,"reply":4}
+> {"reply":5}
+> {"reply":6}
+> {"attributes":[["busy_ns",20],["idle_ns",10]],"end":30,"events":[{"attributes":[["level","INFO"],["target","app"]],"name":"e","time":15}],"kind":"internal","links":[],"name":"s","parent":"0000000000000000","record":1,"span":"0000000000000001","start":0,"status":"unset","trace":"00000000000000000000000000000001"}
+> {"done":true,"open":0,"records":1}
+= 0
+# an event with no current span
+P
+< {"at":0,"do":"new","lane":0,"site":0}
+< {"at":10,"do":"enter","handle":0,"lane":0}
+< {"at":30,"do":"exit","guard":0,"lane":0}
+< {"at":30,"do":"event","lane":0,"site":2}
+< {"at":50,"do":"drop","handle":0,"lane":0}
+> {"enabled":true,"handle":0,"reply":2}
+> {"guard":0,"reply":3}
+> {"reply":4}
+> {"enabled":true,"reply":5}
+> {"reply":6}
+> {"attributes":[["busy_ns",20],["idle_ns",10]],"end":30,"events":[],"kind":"internal","links":[],"name":"s","parent":"0000000000000000","record":1,"span":"0000000000000001","start":0,"status":"unset","trace":"00000000000000000000000000000001"}
+> {"done":true,"open":0,"records":1}
+= 0
+# three events in order, of which the filter declines one
+P
+< {"at":0,"do":"new","lane":0,"site":0}
+< {"at":10,"do":"enter","handle":0,"lane":0}
+< {"at":15,"do":"event","lane":0,"site":2}
+< {"at":15,"do":"event","lane":0,"site":1}
+< {"at":15,"do":"event","lane":0,"site":3}
+< {"at":30,"do":"exit","guard":0,"lane":0}
+< {"at":50,"do":"drop","handle":0,"lane":0}
+> {"enabled":true,"handle":0,"reply":2}
+> {"guard":0,"reply":3}
+> {"enabled":true,"reply":4}
+> {"enabled":true,"reply":5}
+> {"enabled":false,"reply":6}
+> {"reply":7}
+> {"reply":8}
+> {"attributes":[["busy_ns",20],["idle_ns",10]],"end":30,"events":[{"attributes":[["level","ERROR"],["target","app"]],"name":"x","time":15},{"attributes":[["level","INFO"],["target","app"]],"name":"e","time":15}],"kind":"internal","links":[],"name":"s","parent":"0000000000000000","record":1,"span":"0000000000000001","start":0,"status":{"error":""},"trace":"00000000000000000000000000000001"}
+> {"done":true,"open":0,"records":1}
+= 0
+# a drop under an open guard
+P
+< {"at":0,"do":"new","lane":0,"site":0}
+< {"at":1,"do":"enter","handle":0,"lane":0}
+< {"at":2,"do":"drop","handle":0,"lane":0}
+> {"enabled":true,"handle":0,"reply":2}
+> {"guard":0,"reply":3}
+> {"line":4,"refused":"InUse"}
+= 2
+# a moment below the last
+P
+< {"at":0,"do":"new","lane":0,"site":0}
+< {"at":1,"do":"enter","handle":0,"lane":0}
+< {"at":0,"do":"exit","guard":0,"lane":0}
+> {"enabled":true,"handle":0,"reply":2}
+> {"guard":0,"reply":3}
+> {"before":1,"given":0,"line":4,"refused":"BadMoment"}
+= 2
+# a moment above 2^63 - 1
+P
+< {"at":0,"do":"new","lane":0,"site":0}
+< {"at":1,"do":"enter","handle":0,"lane":0}
+< {"at":9223372036854775808,"do":"drop","handle":0,"lane":0}
+> {"enabled":true,"handle":0,"reply":2}
+> {"guard":0,"reply":3}
+> {"before":1,"given":9223372036854775808,"line":4,"refused":"BadMoment"}
+= 2
+# a line that is cut
+P
+< {"at":0,"do":"new","lane":0,"site":0}
+< {"at":1,"do":"enter","handle":0,"lane":0}
+< {"at":2,"do":
+> {"enabled":true,"handle":0,"reply":2}
+> {"guard":0,"reply":3}
+> {"line":4,"refused":"BadLine"}
+= 2
+# a making under an open guard
+P
+< {"at":0,"do":"new","lane":0,"site":0}
+< {"at":1,"do":"enter","handle":0,"lane":0}
+< {"at":0,"do":"new","lane":0,"site":0}
+> {"enabled":true,"handle":0,"reply":2}
+> {"guard":0,"reply":3}
+> {"line":4,"refused":"Later"}
+= 2
+# an entry under an open guard
+P
+< {"at":0,"do":"new","lane":0,"site":0}
+< {"at":1,"do":"enter","handle":0,"lane":0}
+< {"at":10,"do":"enter","handle":0,"lane":0}
+> {"enabled":true,"handle":0,"reply":2}
+> {"guard":0,"reply":3}
+> {"line":4,"refused":"Later"}
+= 2
+# a drop under an open guard of a disabled handle
+P
+< {"at":0,"do":"new","lane":0,"site":4}
+< {"at":1,"do":"enter","handle":0,"lane":0}
+< {"at":2,"do":"drop","handle":0,"lane":0}
+> {"enabled":false,"handle":0,"reply":2}
+> {"guard":0,"reply":3}
+> {"line":4,"refused":"InUse"}
+= 2
+# a request that is not built
+P
+< {"at":0,"do":"current","lane":0}
+> {"line":2,"refused":"Later"}
+= 2
+# an event's site for a span
+P
+< {"at":0,"do":"new","lane":0,"site":1}
+> {"line":2,"refused":"UnknownName","what":"site"}
+= 2
+# a site past the last
+P
+< {"at":0,"do":"new","lane":0,"site":5}
+> {"line":2,"refused":"UnknownName","what":"site"}
+= 2
+# a span's site for an event
+P
+< {"at":0,"do":"event","lane":0,"site":0}
+> {"line":2,"refused":"UnknownName","what":"site"}
+= 2
+# a site past the last for an event
+P
+< {"at":0,"do":"event","lane":0,"site":9}
+> {"line":2,"refused":"UnknownName","what":"site"}
+= 2
+# a further member
+P
+< {"at":0,"do":"new","lane":0,"more":1,"site":0}
+> {"line":2,"refused":"Later"}
+= 2
+# a moment that is not whole
+P
+< {"at":0.5,"do":"new","lane":0,"site":0}
+> {"line":2,"refused":"Later"}
+= 2
+# an object that ends early
+P
+< {"at":0,"do":"new",
+> {"line":2,"refused":"BadLine"}
+= 2
+# a number
+P
+< 7
+> {"line":2,"refused":"BadLine"}
+= 2
+# a second drop
+P
+< {"at":0,"do":"new","lane":0,"site":0}
+< {"at":1,"do":"drop","handle":0,"lane":0}
+< {"at":2,"do":"drop","handle":0,"lane":0}
+> {"enabled":true,"handle":0,"reply":2}
+> {"reply":3}
+> {"attributes":[["busy_ns",0],["idle_ns",0]],"end":1,"events":[],"kind":"internal","links":[],"name":"s","parent":"0000000000000000","record":1,"span":"0000000000000001","start":0,"status":"unset","trace":"00000000000000000000000000000001"}
+> {"line":4,"refused":"UnknownName","what":"handle"}
+= 2
+# no line
+> {"line":1,"refused":"BadLine"}
+= 2
+# two blank lines
+< 
+< 
+> {"line":3,"refused":"BadLine"}
+= 2
+# a filter of directives
+< {"callsites":[],"filter":"app=info","lanes":[],"layer":{"location":false,"target":false,"threads":false}}
+> {"line":1,"refused":"Later"}
+= 2
+# a lane that is not there
+< {"callsites":[],"filter":"info","lanes":[],"layer":{"location":false,"target":false,"threads":false}}
+< {"at":0,"do":"new","lane":0,"site":0}
+> {"line":2,"refused":"UnknownName","what":"lane"}
+= 2
+# blank lines between
+< 
+P
+<   
+< {"at":0,"do":"new","lane":0,"site":0}
+<   
+< {"at":1,"do":"drop","handle":0,"lane":0}
+> {"enabled":true,"handle":0,"reply":4}
+> {"reply":6}
+> {"attributes":[["busy_ns",0],["idle_ns",0]],"end":1,"events":[],"kind":"internal","links":[],"name":"s","parent":"0000000000000000","record":1,"span":"0000000000000001","start":0,"status":"unset","trace":"00000000000000000000000000000001"}
+> {"done":true,"open":0,"records":1}
+= 0
+"#;
