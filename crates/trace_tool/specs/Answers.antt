@@ -15,8 +15,8 @@ use Rattle.trace_tool.specs.declared.answers.Stage.{Stage}
 use Rattle.trace_tool.specs.declared.answers.Stage.TheVariants as stage
 use Rattle.trace_tool.specs.declared.answers.Written.{Written}
 
--- Settings came, the pipeline stands for the requests so far, their records are taken and counted, and behind what is
--- written comes the report on the lines that follow.
+-- Settings came, the pipeline stands for the requests so far, their records are taken and counted, and behind what
+-- is written comes the report on the lines that follow.
 pub record Runs (lines : List (List ℕ)) (count : ℕ) (kept : Kept) (written : Written) : Type 0 where
   pub settings : Settings
   pub history : History
@@ -24,7 +24,8 @@ pub record Runs (lines : List (List ℕ)) (count : ℕ) (kept : Kept) (written :
   pub stands : StandsFor kept.state settings history
   pub taken : kept.finished ≡ []
   pub counted : written.records ≡ length (closed history)
-  pub report_is : (more : List (List ℕ)) → report_from 0 (lines ++ more) ≡ behind written.text.items (report_on settings history count more)
+  pub report_is : (more : List (List ℕ))
+      → report_from 0 (lines ++ more) ≡ behind written.text.items (report_on settings history count more)
 
 -- all lines are blank, and nothing is written
 pub record Opens (lines : List (List ℕ)) (count : ℕ) (written : Written) : Type 0 where
@@ -36,7 +37,8 @@ pub record Opens (lines : List (List ℕ)) (count : ℕ) (written : Written) : T
 -- a line is refused, and its refusal line is the last of the text
 pub record Stops (lines : List (List ℕ)) (text : List ℕ) : Type 0 where
   pub some : are_blank lines ≡ false
-  pub report_is : (more : List (List ℕ)) → report_from 0 (lines ++ more) ≡ record { written = text; accepted = false }
+  pub report_is : (more : List (List ℕ))
+      → report_from 0 (lines ++ more) ≡ record { written = text; accepted = false }
 
 abbrev pub AnswersAt : Stage → List (List ℕ) → ℕ → Written → Type 0
 AnswersAt stage.Opening lines count written = Opens lines count written
@@ -55,7 +57,8 @@ is_refused stage.Refused = true
 -- what a text is for lines at which an input breaks off, by whether it ends with a refusal line
 abbrev pub Cuts : Bool → List (List ℕ) → List ℕ → Type 0
 Cuts true lines text = Stops lines text
-Cuts false lines text = AnswersAll lines text × ((more : List (List ℕ)) → IsFront text (report_from 0 (lines ++ more)).written)
+Cuts false lines text = AnswersAll lines text
+    × ((more : List (List ℕ)) → IsFront text (report_from 0 (lines ++ more)).written)
 
 -- ---- reading
 

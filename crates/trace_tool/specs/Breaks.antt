@@ -32,4 +32,5 @@ pub record HasRefused (lines : List (List ℕ)) : Type 0 where
 abbrev pub AnswersAll : List (List ℕ) → List ℕ → Type 0
 AnswersAll lines text =
     ((are_blank lines ≡ true) × (text ≡ []))
-    ⊎ ((spans : ℕ) × (records : ℕ) × (report_from 0 lines ≡ record { written = text ++ end_text spans records; accepted = true }))
+    ⊎ ((spans : ℕ) × (records : ℕ)
+    × (report_from 0 lines ≡ record { written = text ++ end_text spans records; accepted = true }))

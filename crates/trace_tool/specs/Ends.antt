@@ -18,7 +18,8 @@ use Rattle.trace_tool.specs.declared.status.Status.TheVariants as ends
 abbrev pub RunsWhole : List ℕ → Option (List ℕ) → Option (List ℕ) → Option (List ℕ) → Type 0
 RunsWhole bytes left before now = IsValid bytes × (left ≡ Some []) × Puts before now (output bytes)
 
--- They are refused, at a whole line within the longest input or where they ended, and the sink gained the lines up to the refusal.
+-- They are refused, at a whole line within the longest input or where they ended, and the sink gained the lines up
+-- to the refusal.
 pub record StopsRefused (bytes : List ℕ) (left before now : Option (List ℕ)) : Type 0 where
   pub refused : IsRefused bytes
   pub read : List ℕ
@@ -34,7 +35,8 @@ pub record BreaksOff (bytes : List ℕ) (left before now : Option (List ℕ)) : 
   pub answered : AnswersAll (whole_lines read) text
   pub put : Puts before now text
 
--- More than the longest input came, no whole line within that is refused, and the sink gained what those lines are answered.
+-- More than the longest input came, no whole line within that is refused, and the sink gained what those lines are
+-- answered.
 pub record RunsOver (bytes : List ℕ) (left before now : Option (List ℕ)) : Type 0 where
   pub read : List ℕ
   pub took : Takes (Some bytes) left read
@@ -72,7 +74,8 @@ Causes ends.TooLong reads reads' writes writes' = Unit {0}
 -- Valid bytes, with no fault, are run whole, or memory wants.
 abbrev pub Completes : Status → List ℕ → ℕ → ℕ → ℕ → ℕ → Type 0
 Completes status bytes reads reads' writes writes' =
-    IsValid bytes → IsQuiet reads reads' → IsQuiet writes writes' → (status ≡ ends.Ok) ⊎ (status ≡ ends.Memory)
+    IsValid bytes → IsQuiet reads reads' → IsQuiet writes writes'
+    → (status ≡ ends.Ok) ⊎ (status ≡ ends.Memory)
 
 -- ---- inner
 
@@ -85,6 +88,7 @@ status_of false end.TooLong = ends.TooLong
 
 -- what the output tells of the bytes that were read
 abbrev pub Tells : End → List ℕ → Output → Type 0
-Tells end.Whole read output = report read ≡ record { written = output.text.items; accepted = not output.refused }
+Tells end.Whole read output =
+    report read ≡ record { written = output.text.items; accepted = not output.refused }
 Tells end.Fault read output = Cuts output.refused (whole_lines (take MAX_INPUT read)) output.text.items
 Tells end.TooLong read output = Cuts output.refused (whole_lines (take MAX_INPUT read)) output.text.items

@@ -106,11 +106,12 @@ impl Answers {
         }
     }
 
-    /// All that is written where no line follows: the end line comes last, or the refusal of an input without a
-    /// settings line. `Memory` freely.
+    /// All that is written where no line follows: the end line comes last, or the refusal of an input without
+    /// a settings line. `Memory` freely.
     pub fn end(self) -> Result<Output, Memory>
         ensures { (lines : List (List ℕ)) → AnswersTo lines self
-            → IfOk result (λ output. report_from 0 lines ≡ record { written = output.text.items; accepted = not output.refused }) }
+            → IfOk result (λ output. report_from 0 lines
+            ≡ record { written = output.text.items; accepted = not output.refused }) }
     {
         let Written { text, records } = self.written;
         match self.stage {
@@ -135,7 +136,8 @@ impl Answers {
 
     /// All that is written where nothing is known of the lines that follow.
     pub fn cut(self) -> Output
-        ensures { (lines : List (List ℕ)) → AnswersTo lines self → Cuts result.refused lines result.text.items }
+        ensures { (lines : List (List ℕ)) → AnswersTo lines self
+            → Cuts result.refused lines result.text.items }
     {
         let refused = self.is_refused();
         let text = self.written.text;
@@ -223,7 +225,8 @@ fn told_of(refusal: Refusal) -> Result<Told, Memory>
 // Ends the answers with the refusal line of the last line.
 fn refuse(written: Written, lines: u64, told: &Told) -> Result<Answers, Memory>
     requires { told.now ≢ Told.Step Refusal.Memory }
-    ensures text { IfOk result (λ answers. answers.written.text.items ≡ written.text.items ++ refusal_text lines told.now) }
+    ensures text { IfOk result (λ answers.
+        answers.written.text.items ≡ written.text.items ++ refusal_text lines told.now) }
     ensures stage { IfOk result (λ answers. answers.stage ≡ Stage.Refused) }
 {
     let Written { text, records } = written;

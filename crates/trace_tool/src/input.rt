@@ -36,11 +36,13 @@ pub struct Input {
 
 /// Reads the source to its end, to a fault, or until more was read than an input may have. `Memory` freely.
 pub fn read_all<R: Source>(alloc: Global, source: &mut R) -> Result<Input, Memory>
-    ensures bytes { IfOk result (λ input. Takes (R.remaining source.old) (R.remaining source.new) input.bytes.items) }
+    ensures bytes { IfOk result (λ input.
+        Takes (R.remaining source.old) (R.remaining source.new) input.bytes.items) }
     ensures whole { IfOk result (λ input. input.end ≡ End.Whole → IsAtEnd (R.remaining source.new)) }
     ensures short { IfOk result (λ input. input.end ≢ End.TooLong → length input.bytes.items ≤ MAX_INPUT) }
     ensures long { IfOk result (λ input. input.end ≡ End.TooLong → MAX_INPUT < length input.bytes.items) }
-    ensures fault { IfOk result (λ input. input.end ≡ End.Fault → HasFault (R.faults source.old) (R.faults source.new)) }
+    ensures fault { IfOk result (λ input. input.end ≡ End.Fault
+        → HasFault (R.faults source.old) (R.faults source.new)) }
     ensures count { R.faults source.old ≤ R.faults source.new }
 {
     let mut bytes = Vec::new(alloc);

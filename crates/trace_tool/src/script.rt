@@ -21,19 +21,22 @@ pub enum Command {
     Run,
 }
 
-/// Carries a command out. A line that is refused is told before a fault of the source and before too long an input.
+/// Carries a command out. A line that is refused is told before a fault of the source and too long an input.
 pub fn run_script<R: Source, W: Sink>(
     alloc: Global,
     command: Command,
     source: &mut R,
     sink: &mut W,
 ) -> Status
-    ensures ends { Ends result (R.remaining source.old) (R.remaining source.new) (W.holds sink.old) (W.holds sink.new) }
-    ensures causes { Causes result (R.faults source.old) (R.faults source.new) (W.faults sink.old) (W.faults sink.new) }
+    ensures ends { Ends result
+        (R.remaining source.old) (R.remaining source.new) (W.holds sink.old) (W.holds sink.new) }
+    ensures causes { Causes result
+        (R.faults source.old) (R.faults source.new) (W.faults sink.old) (W.faults sink.new) }
     ensures front { IfSome (R.remaining source.old) (λ bytes.
         PutsFront (W.holds sink.old) (W.holds sink.new) (output bytes)) }
     ensures complete { IfSome (R.remaining source.old) (λ bytes.
-        Completes result bytes (R.faults source.old) (R.faults source.new) (W.faults sink.old) (W.faults sink.new)) }
+        Completes result bytes (R.faults source.old) (R.faults source.new)
+        (W.faults sink.old) (W.faults sink.new)) }
     ensures usage { result ≢ Status.Usage }
 {
     match command {
@@ -47,7 +50,8 @@ pub fn run_script<R: Source, W: Sink>(
 // Runs a script. Nothing is written where no memory was to be had.
 fn run<R: Source, W: Sink>(alloc: Global, source: &mut R, sink: &mut W) -> Result<Status, Memory>
     ensures ends { IfSome (R.remaining source.old) (λ bytes.
-        IfOk result (λ status. Leaves status bytes (R.remaining source.new) (W.holds sink.old) (W.holds sink.new))) }
+        IfOk result (λ status.
+        Leaves status bytes (R.remaining source.new) (W.holds sink.old) (W.holds sink.new))) }
     ensures front { IfSome (R.remaining source.old) (λ bytes.
         IfOk result (λ _. PutsFront (W.holds sink.old) (W.holds sink.new) (output bytes))) }
     ensures memory { OnErr result (Puts (W.holds sink.old) (W.holds sink.new) []) }
@@ -63,7 +67,7 @@ fn run<R: Source, W: Sink>(alloc: Global, source: &mut R, sink: &mut W) -> Resul
     }
 }
 
-// Answers what was read of an input: all of it, or the whole lines at its front that end where the longest input does.
+// Answers what was read of an input: all of it, or its whole lines that end within the longest input.
 fn answer_input(alloc: Global, input: &Input) -> Result<Output, Memory>
     ensures { IfOk result (λ output. Tells input.now.end input.now.bytes.items output) }
 {

@@ -16,21 +16,25 @@ pub trait Sink {
     /// How many writes failed.
     ghost faults: { Self → ℕ };
 
-    /// Writes some of the piece's first bytes, and answers how many. None of a piece that has some is a fault.
-    /// `Failed` where the write failed; nothing was written then.
+    /// Writes some of the piece's first bytes, and answers how many. None of a piece that has some is a fault,
+    /// and some is none. `Failed` where the write failed; nothing was written then.
     fn write(&mut self, piece: &[u8]) -> Result<usize, Failed>
         ensures bound { IfOk result (λ n. n ≤ length piece.now) }
         ensures bytes { IfOk result (λ n. Puts (holds self.old) (holds self.new) (take n piece.now)) }
-        ensures stuck { IfOk result (λ n. n ≡ 0 → 0 < length piece.now → HasFault (faults self.old) (faults self.new)) }
+        ensures stuck { IfOk result (λ n. n ≡ 0 → 0 < length piece.now
+            → HasFault (faults self.old) (faults self.new)) }
+        ensures moved { IfOk result (λ n. 0 < n → faults self.new ≡ faults self.old) }
         ensures kept { OnErr result (Puts (holds self.old) (holds self.new) []) }
         ensures count { faults self.old ≤ faults self.new }
         ensures cause { OnErr result (HasFault (faults self.old) (faults self.new)) };
 }
 
 /// Writes the whole piece. `Failed` where a write failed or took nothing; what was written is then a front of it.
+/// Behind such a fault nothing more is written, so `Ok` comes only where no fault was counted.
 pub fn write_all<W: Sink>(sink: &mut W, piece: &[u8]) -> Result<(), Failed>
     ensures ok { OnOk result (Puts (W.holds sink.old) (W.holds sink.new) piece.now) }
     ensures err { OnErr result (PutsFront (W.holds sink.old) (W.holds sink.new) piece.now) }
+    ensures sure { OnOk result (W.faults sink.new ≡ W.faults sink.old) }
     ensures count { W.faults sink.old ≤ W.faults sink.new }
     ensures cause { OnErr result (HasFault (W.faults sink.old) (W.faults sink.new)) }
 {
@@ -89,7 +93,8 @@ impl Sink for SureSink {
     }
 }
 
-/// A sink in memory, which is told, and whose writes do what they are to do. It fails too where no memory is to be had.
+/// A sink in memory, which is told, and whose writes do what they are to do. It fails too where no memory is to
+/// be had.
 #[derive(Drop)]
 pub struct MemSink<'a> {
     bytes: SureSink,

@@ -15,8 +15,8 @@ pub trait Source {
     /// How many reads failed.
     ghost faults: { Self → ℕ };
 
-    /// Reads some bytes to the start of `buf`, and answers how many. None is the end. `Failed` where the read failed;
-    /// nothing was taken then.
+    /// Reads some bytes to the start of `buf`, and answers how many. None is the end. `Failed` where the read
+    /// failed; nothing was taken then.
     fn read(&mut self, buf: &mut [u8]) -> Result<usize, Failed>
         ensures bound { IfOk result (λ n. n ≤ length buf.new) }
         ensures bytes { IfOk result (λ n. Takes (remaining self.old) (remaining self.new) (take n buf.new)) }

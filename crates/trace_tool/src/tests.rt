@@ -119,8 +119,8 @@ fn size_of_lines(text: &str, lines: usize) -> usize {
     size
 }
 
-// The first read of the first span's script, byte by byte, that isn't answered by the lines of the whole lines before
-// it where it fails.
+// The first read of the first span's script, byte by byte, that isn't answered by the lines of the whole lines
+// before it where it fails.
 fn wrong_read<H: Threads + Wait + Sync + AllocGlobal>(rt: &H) -> Result<Option<usize>, Fail> {
     let input = script(rt, FIRST)?;
     let mut turns = vec![in rt.alloc(); Turn::Moves { most: 1 }; input.len()]?;
@@ -182,7 +182,7 @@ fn first<H: Threads + Wait + Sync + AllocGlobal>(
 #[test]
 fn breaks_off(rt: HostRuntime) -> Result<(), Fail> {
     let settings = SETTINGS.len() + 1;
-    let most = settings + size_of_lines(FIRST, 2);
+    let most = settings.saturating_add(size_of_lines(FIRST, 2));
     let whole = [Turn::Moves { most }, Turn::Fails];
     let most = settings + 20;
     let cut = [Turn::Moves { most }, Turn::Fails];

@@ -13,8 +13,8 @@ use std::alloc::Global;
 use std::sync::Wait;
 use std::thread::Threads;
 
-/// Carries out what the words ask for, and answers how it ended. Words that ask for nothing touch neither source nor
-/// sink.
+/// Carries out what the words ask for, and answers how it ended. Words that ask for nothing touch neither source
+/// nor sink.
 pub fn top<H: Threads + Wait + Sync, R: Source, W: Sink>(
     _rt: &H,
     alloc: Global,
@@ -25,12 +25,16 @@ pub fn top<H: Threads + Wait + Sync, R: Source, W: Sink>(
     ensures usage { command_of (map string_bytes words.now) ≡ None → result ≡ Status.Usage }
     ensures only_usage { result ≡ Status.Usage → command_of (map string_bytes words.now) ≡ None }
     ensures usage_leaves { result ≡ Status.Usage → (source.new ≡ source.old) × (sink.new ≡ sink.old) }
-    ensures ends { Ends result (R.remaining source.old) (R.remaining source.new) (W.holds sink.old) (W.holds sink.new) }
-    ensures causes { Causes result (R.faults source.old) (R.faults source.new) (W.faults sink.old) (W.faults sink.new) }
+    ensures ends { Ends result
+        (R.remaining source.old) (R.remaining source.new) (W.holds sink.old) (W.holds sink.new) }
+    ensures causes { Causes result
+        (R.faults source.old) (R.faults source.new) (W.faults sink.old) (W.faults sink.new) }
     ensures front { IfSome (R.remaining source.old) (λ bytes.
         PutsFront (W.holds sink.old) (W.holds sink.new) (output bytes)) }
-    ensures complete { IsSome (command_of (map string_bytes words.now)) → IfSome (R.remaining source.old) (λ bytes.
-        Completes result bytes (R.faults source.old) (R.faults source.new) (W.faults sink.old) (W.faults sink.new)) }
+    ensures complete { IsSome (command_of (map string_bytes words.now))
+        → IfSome (R.remaining source.old) (λ bytes.
+        Completes result bytes (R.faults source.old) (R.faults source.new)
+        (W.faults sink.old) (W.faults sink.new)) }
 {
     match command_of(words) {
         Some(command) => run_script(alloc, command, source, sink),

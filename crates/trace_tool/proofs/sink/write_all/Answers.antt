@@ -1,4 +1,4 @@
-use Rattle.std.proofs.Common.{arith}
+use Rattle.std.proofs.Common.{arith, ◌∙◌}
 use Rattle.trace_tool.proofs.StreamsLemmas.{puts_next, puts_front, puts_stuck, length_rest, on_any_err}
 use Rattle.trace_tool.proofs.sink.write_all.Goals as goal
 
@@ -16,5 +16,5 @@ loop-at-preserved g c =
     record {
       within = omega (arith, room, c.in_ok-count.ensures.bound);
       told = puts_next _ _ _ c.args.piece.now c.loop-at.at c.in_ok-count.count (omega (arith, room, c.in_ok-count.ensures.bound)) c.loop-at.invariant.told c.in_ok-count.ensures.bytes;
-      count = omega (arith, c.in_ok-count.ensures.count);
+      sure = c.in_ok-count.ensures.moved (omega (arith, c.if-count-eq0.false)) ∙ c.loop-at.invariant.sure;
     }

@@ -1,4 +1,4 @@
-use Rattle.std.proofs.Common.{length, ◌-◌, ◌≤◌, take}
+use Rattle.std.proofs.Common.{◌≡◌, length, ◌-◌, ◌≤◌, take}
 use Rattle.trace_tool.specs.Streams.{Puts}
 use Rattle.trace_tool.proofs.sink.write_all.Given as goal
 
@@ -6,7 +6,7 @@ abbrev pub invariant-loop-at : goal.invariant-loop-at
 invariant-loop-at g l = record {
   within : l.at ≤ length l.piece;
   told : Puts (g.W.Sink.holds l.fn.sink) (g.W.Sink.holds l.sink) (take l.at l.piece);
-  count : g.W.Sink.faults l.fn.sink ≤ g.W.Sink.faults l.sink;
+  sure : g.W.Sink.faults l.sink ≡ g.W.Sink.faults l.fn.sink;
 }
 
 abbrev pub decreases-loop-at : goal.decreases-loop-at
