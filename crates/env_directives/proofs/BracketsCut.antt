@@ -4,9 +4,9 @@ use Rattle.std.specs.Prelude.{IfSome}
 use Rattle.std.proofs.lemmas.Bool.Decides.{nat_tests}
 use Rattle.trace_base.specs.declared.level.LevelFilter.TheVariants.{TRACE}
 use Rattle.env_directives.specs.Cuts.{cut, is_among, lacks}
-use Rattle.env_directives.specs.Faults.{HasTextField}
+use Rattle.env_directives.specs.Faults.{HasNoPattern}
 use Rattle.env_directives.specs.Forms.{begins, unless_empty, target_at}
-use Rattle.env_directives.specs.Reading.{Answers, read_fields, read_fielded, read_bracket, reading, LeadsToText, SpanLeadsToText}
+use Rattle.env_directives.specs.Reading.{Answers, read_fields, read_fielded, read_bracket, reading, LeadsToNoPattern, SpanLeadsToNoPattern}
 use Rattle.env_directives.specs.declared.directive.ParseError.{ParseError}
 use Rattle.env_directives.specs.declared.directive.ParseError.TheVariants.{Shape, Level, Field, Pattern, Equals, Fields, Memory}
 use Rattle.env_directives.specs.declared.env.directive.Directive.{Directive}
@@ -35,7 +35,7 @@ module _ (patterns : Bool) (d : Directive) (text front rest : List ℕ) (stop : 
   unfolding read_bracket
   span_cut = rw (← is_front, ← is_stop, ← is_rest, brace) refl
 
-  pub span_leads : LeadsToText rest → SpanLeadsToText text
+  pub span_leads : LeadsToNoPattern rest → SpanLeadsToNoPattern text
   span_leads leads = record {
     span = front;
     more = rest;
@@ -45,8 +45,8 @@ module _ (patterns : Bool) (d : Directive) (text front rest : List ℕ) (stop : 
   }
 
   -- fields that can't be read
-  pub span_fault : {X : Type 0} (view : X → List Match × List ℕ) (e : ParseError) → Answers view patterns (LeadsToText rest) (Err e) (read_fields patterns [] rest) →
-      Answers {X = Directive} (λ d. d) patterns (SpanLeadsToText text) (Err e) (read_bracket patterns d text)
+  pub span_fault : {X : Type 0} (view : X → List Match × List ℕ) (e : ParseError) → Answers view patterns (LeadsToNoPattern rest) (Err e) (read_fields patterns [] rest) →
+      Answers {X = Directive} (λ d. d) patterns (SpanLeadsToNoPattern text) (Err e) (read_bracket patterns d text)
   span_fault view Memory h = tt
   span_fault view Pattern h = (h.0, span_leads h.1)
   span_fault view Shape h = span_cut ∙ ap (read_fielded (record d { in_span = unless_empty front })) h
@@ -66,7 +66,7 @@ module _ (patterns : Bool) (text front rest : List ℕ) (stop : ℕ) (start : be
   unfolding reading
   head_cut = rw (start, ← is_front, ← is_stop, ← is_rest, bracket) refl
 
-  head_leads : SpanLeadsToText rest → HasTextField text
+  head_leads : SpanLeadsToNoPattern rest → HasNoPattern text
   head_leads inner = record {
     start = start;
     head = front;
@@ -84,8 +84,8 @@ module _ (patterns : Bool) (text front rest : List ℕ) (stop : ℕ) (start : be
     value = inner.leads.value;
   }
 
-  pub bracket_answers : (r : Result Directive ParseError) → Answers (λ d. d) patterns (SpanLeadsToText rest) r (read_bracket patterns (target_at front TRACE) rest) →
-      Answers (λ d. d) patterns (HasTextField text) r (reading patterns text)
+  pub bracket_answers : (r : Result Directive ParseError) → Answers (λ d. d) patterns (SpanLeadsToNoPattern rest) r (read_bracket patterns (target_at front TRACE) rest) →
+      Answers (λ d. d) patterns (HasNoPattern text) r (reading patterns text)
   bracket_answers (Ok d) h = head_cut ∙ h
   bracket_answers (Err Memory) h = tt
   bracket_answers (Err Pattern) h = (h.0, head_leads h.1)

@@ -7,8 +7,8 @@ use Rattle.std.proofs.lemmas.List.{length-append}
 use Rattle.std.proofs.lemmas.Grind.{flat_map-append}
 use Rattle.env_directives.specs.Cuts.{cut, is_among, lacks}
 use Rattle.env_directives.specs.Forms.{each_with_comma, unless_empty, IsField}
-use Rattle.env_directives.specs.Reading.{FieldsRead, field_ends, more_fields, read_fields, LeadsToText, Answers}
-use Rattle.env_directives.specs.Values.{field_of, IsTextField, MayFail}
+use Rattle.env_directives.specs.Reading.{FieldsRead, field_ends, more_fields, read_fields, LeadsToNoPattern, Answers}
+use Rattle.env_directives.specs.Values.{field_of, IsNoPatternField, MayFail}
 use Rattle.env_directives.specs.declared.env.field.Match.{Match}
 use Rattle.env_directives.specs.declared.directive.ParseError.TheVariants.{Shape, Level, Field, Pattern, Equals, Fields, Memory}
 use Rattle.env_directives.specs.declared.directive.ParseError.{ParseError}
@@ -99,7 +99,7 @@ module _ (patterns : Bool) (whole text front rest : List ℕ) (fields : List Mat
     text_shorter = rw joined (simp (length-append) (omega arith))
 
     -- a value is no pattern
-    pub text_left : (done : List (List ℕ)) → AllByRecursion IsField done → whole ≡ each_with_comma done ++ text → IsTextField front → LeadsToText whole
+    pub text_left : (done : List (List ℕ)) → AllByRecursion IsField done → whole ≡ each_with_comma done ++ text → IsNoPatternField front → LeadsToNoPattern whole
     text_left done parts so value = record {
       earlier = done;
       field = front;

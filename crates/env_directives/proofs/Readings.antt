@@ -5,7 +5,7 @@ use Rattle.std.proofs.lemmas.Bool.{eqb-true}
 use Rattle.std.proofs.lemmas.Bool.Decides.{nat_tests}
 use Rattle.trace_base.specs.declared.level.LevelFilter.TheVariants.{TRACE}
 use Rattle.env_directives.specs.Cuts.{cut, is_among}
-use Rattle.env_directives.specs.Faults.{HasNoLevel, HasEmptyField, HasTextField, HasFault}
+use Rattle.env_directives.specs.Faults.{HasNoLevel, HasEmptyField, HasNoPattern, HasFault}
 use Rattle.env_directives.specs.Forms.{begins, unless_empty, target_at, Front, bare, spanned, fielded, alone, head_comma, leveled, leveled_comma, front_text, IsHead, IsSpan, IsFront, directive_at, directive_alone, head_alone, each_with_comma, level_behind, IsDirective}
 use Rattle.env_directives.specs.Reading.{read_last, read_level, read_end, read_close, read_fields, read_fielded, read_span, read_bracket, read_head, reading, Answers}
 use Rattle.env_directives.specs.declared.directive.ParseError.{ParseError}
@@ -169,13 +169,13 @@ reading_explained patterns text = by_start (begins text) refl
     by_start false start = tt
 
 -- what is answered is a directive of the text
-pub answer_is : (patterns : Bool) (text : List ℕ) (r : Result Directive ParseError) → Answers (λ d. d) patterns (HasTextField text) r (reading patterns text) →
+pub answer_is : (patterns : Bool) (text : List ℕ) (r : Result Directive ParseError) → Answers (λ d. d) patterns (HasNoPattern text) r (reading patterns text) →
     IfOk r (IsDirective patterns text)
 answer_is patterns text (Ok d) h = subst (Explained (IsDirective patterns text) (HasNoLevel text) (HasEmptyField text)) h (reading_explained patterns text)
 answer_is patterns text (Err e) h = tt
 
 -- or a fault of it
-pub fault_is : (patterns : Bool) (text : List ℕ) (r : Result Directive ParseError) → Answers (λ d. d) patterns (HasTextField text) r (reading patterns text) →
+pub fault_is : (patterns : Bool) (text : List ℕ) (r : Result Directive ParseError) → Answers (λ d. d) patterns (HasNoPattern text) r (reading patterns text) →
     IfErr r (HasFault patterns text)
 fault_is patterns text (Ok d) h = tt
 fault_is patterns text (Err Memory) h = tt

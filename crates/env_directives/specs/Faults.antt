@@ -2,7 +2,7 @@
 use Rattle.std.specs.Prelude.{◌≡◌, ℕ, List, [], ◌∷◌, ◌++◌, Bool, true, None, codes}
 use Rattle.env_directives.specs.Cuts.{is_among}
 use Rattle.env_directives.specs.Forms.{begins, Front, front_text, IsFront, IsLevelText, level_behind, opened, IsOpened, IsField, IsDirective}
-use Rattle.env_directives.specs.Values.{IsTextField}
+use Rattle.env_directives.specs.Values.{IsNoPatternField}
 use Rattle.env_directives.specs.declared.directive.ParseError.{ParseError}
 use Rattle.env_directives.specs.declared.directive.ParseError.TheVariants.{Shape, Level, Field, Pattern, Equals, Fields, Memory}
 use Rattle.env_directives.specs.declared.env.directive.Directive.{Directive}
@@ -36,8 +36,8 @@ pub record HasEmptyField (text : List ℕ) : Type 0 where
   pub stops : is_among (codes ",}") stop ≡ true
   pub whole : text ≡ opened head span earlier (stop ∷ more)
 
--- the value of some field is a text, and so one that may be no pattern
-pub record HasTextField (text : List ℕ) : Type 0 where
+-- the value of some field is a text that is refused as a pattern
+pub record HasNoPattern (text : List ℕ) : Type 0 where
   pub start : begins text ≡ true
   pub head : List ℕ
   pub span : List ℕ
@@ -49,14 +49,14 @@ pub record HasTextField (text : List ℕ) : Type 0 where
   pub part : IsField field
   pub stops : is_among (codes ",}") stop ≡ true
   pub whole : text ≡ opened head span earlier (field ++ stop ∷ more)
-  pub value : IsTextField field
+  pub value : IsNoPatternField field
 
 -- what each fault says of a text; `Shape` is told where the text is no directive and has no other fault
 abbrev pub HasFault : Bool → List ℕ → ParseError → Type 0
 HasFault patterns text Shape = ((directive : Directive) → ¬ IsDirective patterns text directive) × ¬ HasNoLevel text × ¬ HasEmptyField text
 HasFault patterns text Level = HasNoLevel text
 HasFault patterns text Field = HasEmptyField text
-HasFault patterns text Pattern = (patterns ≡ true) × HasTextField text
+HasFault patterns text Pattern = (patterns ≡ true) × HasNoPattern text
 HasFault patterns text Equals = ⊥
 HasFault patterns text (Fields many) = ⊥
 HasFault patterns text Memory = Unit {0}

@@ -1,16 +1,13 @@
 -- Which values meet what a directive asks of a field.
-use Rattle.std.specs.Prelude.{◌≡◌, ℕ, ℤ, pos, List, Bool, true, false, not, ◌==◌, Option, None, Some, bytes_eq, is_some}
+use Rattle.std.specs.Prelude.{ℕ, ℤ, pos, List, Bool, true, false, not, ◌==◌, Option, None, Some, bytes_eq}
 use Rattle.std.specs.Fmt.{decimal, signed_decimal}
 use Rattle.std.specs.Ordering.{int_eq}
-use Rattle.regex.specs.Patterns.{find_str}
-use Rattle.regex.specs.Strings.{regex_pattern}
-use Rattle.regex.specs.declared.string.regex.Regex.{Regex}
 use Rattle.trace_base.specs.Quote.{quoted}
 use Rattle.trace_base.specs.declared.field.Value.{Value}
 use Rattle.trace_base.specs.declared.field.Value.TheVariants as given
 use Rattle.env_directives.specs.declared.env.field.ValueMatch.{ValueMatch}
 use Rattle.env_directives.specs.declared.env.field.ValueMatch.TheVariants.{Bool as Truth, U64, I64, Pat, Debug}
-use Rattle.env_directives.specs.Patterns.{IsCompiled}
+use Rattle.env_directives.specs.Patterns.{is_matched}
 
 -- whether a value is the truth value that is asked for
 abbrev pub meets_truth : Bool → Value → Bool
@@ -47,20 +44,15 @@ abbrev pub plain_text : Value → Option (List ℕ)
 plain_text (given.Str text) = Some text
 plain_text value = debug_text value
 
--- whether a pattern matches the whole of a text: whether what it is read as between start and end is found there
-pub record Matches (pattern text : List ℕ) (found : Bool) : Type 0 where
-  pub regex : Regex
-  pub compiled : IsCompiled pattern regex
-  pub answer : found ≡ is_some (find_str (regex_pattern regex) text 0)
-
-abbrev pub MatchesIfAny : List ℕ → Option (List ℕ) → Bool → Type 0
-MatchesIfAny pattern None found = found ≡ false
-MatchesIfAny pattern (Some text) found = Matches pattern text found
+-- a pattern is met by a value that has a text which it matches
+abbrev pub is_matched_if_any : List ℕ → Option (List ℕ) → Bool
+is_matched_if_any pattern None = false
+is_matched_if_any pattern (Some text) = is_matched pattern text
 
 -- whether a value meets what is asked
-abbrev pub Meets : ValueMatch → Value → Bool → Type 0
-Meets (Truth wanted) value found = found ≡ meets_truth wanted value
-Meets (U64 wanted) value found = found ≡ meets_u64 wanted value
-Meets (I64 wanted) value found = found ≡ meets_i64 wanted value
-Meets (Debug wanted) value found = found ≡ is_text wanted (debug_text value)
-Meets (Pat pattern) value found = MatchesIfAny pattern (plain_text value) found
+abbrev pub meets : ValueMatch → Value → Bool
+meets (Truth wanted) value = meets_truth wanted value
+meets (U64 wanted) value = meets_u64 wanted value
+meets (I64 wanted) value = meets_i64 wanted value
+meets (Debug wanted) value = is_text wanted (debug_text value)
+meets (Pat pattern) value = is_matched_if_any pattern (plain_text value)

@@ -1,6 +1,12 @@
 -- Patterns for whole texts.
-use Rattle.std.specs.Prelude.{◌≡◌, ℕ, List, ◌++◌, codes}
-use Rattle.regex.specs.Patterns.{default_config}
+use Rattle.std.specs.Prelude.{◌≡◌, ◌≢◌, ◌⊎◌, ℕ, List, ◌++◌, Bool, false, codes, chars, is_some}
+use Rattle.std.specs.Option.{option_map_or}
+use Rattle.regex.specs.Failures.{IsRightKind}
+use Rattle.regex.specs.Patterns.{default_config, find_str}
+use Rattle.regex.specs.Sources.{IsRefusal}
+use Rattle.regex.specs.declared.error.Error.{Error}
+use Rattle.regex.specs.declared.error.Error.TheVariants.{OutOfMemory}
+use Rattle.regex_syntax.specs.Grammar.{read}
 use Rattle.regex.specs.Strings.{regex_source, regex_config, IsReadFromSource}
 use Rattle.regex.specs.declared.string.regex.Regex.{Regex}
 
@@ -13,3 +19,15 @@ pub record IsCompiled (pattern : List ℕ) (regex : Regex) : Type 0 where
   pub source : regex_source regex ≡ whole pattern
   pub config : regex_config regex ≡ default_config
   pub read : IsReadFromSource regex
+
+-- `regex` refuses a pattern, for another cause than want of memory
+abbrev pub IsRefused : List ℕ → Type 0
+IsRefused pattern = (why : Error) × (why ≢ OutOfMemory) × IsRefusal default_config pattern why × IsRightKind default_config pattern why
+
+-- a text is refused as a pattern, by itself or between the start and the end of a text
+abbrev pub IsNoPattern : List ℕ → Type 0
+IsNoPattern text = IsRefused text ⊎ IsRefused (whole text)
+
+-- whether a pattern matches the whole of a text: whether what `regex` reads between start and end is found there
+unfoldable pub is_matched : List ℕ → List ℕ → Bool
+is_matched pattern text = option_map_or (λ found. is_some (find_str found.0.value text 0)) (read default_config (chars (whole pattern))) false

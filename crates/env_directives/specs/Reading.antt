@@ -5,7 +5,7 @@ use Rattle.trace_base.specs.declared.level.LevelFilter.{LevelFilter}
 use Rattle.trace_base.specs.declared.level.LevelFilter.TheVariants.{TRACE}
 use Rattle.env_directives.specs.Cuts.{cut, is_among}
 use Rattle.env_directives.specs.Forms.{begins, unless_empty, target_at, head_alone, level_behind, each_with_comma, IsSpan, IsField}
-use Rattle.env_directives.specs.Values.{field_of, IsTextField}
+use Rattle.env_directives.specs.Values.{field_of, IsNoPatternField}
 use Rattle.env_directives.specs.declared.directive.ParseError.{ParseError}
 use Rattle.env_directives.specs.declared.directive.ParseError.TheVariants.{Shape, Level, Field, Pattern, Memory}
 use Rattle.env_directives.specs.declared.env.directive.Directive.{Directive}
@@ -98,8 +98,8 @@ reading patterns text =
     let pieces = cut (codes "=[,") text in
     if begins text then read_head patterns pieces.front pieces.stop pieces.rest else Err Shape
 
--- the fields of a text lead to one whose value is a text
-pub record LeadsToText (text : List ℕ) : Type 0 where
+-- the fields of a text lead to one whose value is refused as a pattern
+pub record LeadsToNoPattern (text : List ℕ) : Type 0 where
   pub earlier : List (List ℕ)
   pub field : List ℕ
   pub stop : ℕ
@@ -108,15 +108,15 @@ pub record LeadsToText (text : List ℕ) : Type 0 where
   pub part : IsField field
   pub stops : is_among (codes ",}") stop ≡ true
   pub whole : text ≡ each_with_comma earlier ++ (field ++ stop ∷ more)
-  pub value : IsTextField field
+  pub value : IsNoPatternField field
 
 -- the same, behind a span's name
-pub record SpanLeadsToText (text : List ℕ) : Type 0 where
+pub record SpanLeadsToNoPattern (text : List ℕ) : Type 0 where
   pub span : List ℕ
   pub more : List ℕ
   pub part : IsSpan span
   pub whole : text ≡ span ++ (codes "{" ++ more)
-  pub leads : LeadsToText more
+  pub leads : LeadsToNoPattern more
 
 -- what is answered is what was read, but for want of memory, and for no pattern where patterns are wanted and P holds
 abbrev pub Answers : {X Y : Type 0} → (X → Y) → Bool → Type 0 → Result X ParseError → Result Y ParseError → Type 0

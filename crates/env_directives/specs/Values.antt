@@ -4,6 +4,7 @@ use Rattle.std.specs.Option.{option_and_then, option_map, option_or}
 use Rattle.std.specs.Str.Parse.{without_leading_sign, signed_digits_value}
 use Rattle.trace_base.specs.LevelWords.{digits_number, decimal_value}
 use Rattle.env_directives.specs.Cuts.{cut}
+use Rattle.env_directives.specs.Patterns.{IsNoPattern}
 use Rattle.env_directives.specs.declared.directive.ParseError.{ParseError}
 use Rattle.env_directives.specs.declared.directive.ParseError.TheVariants.{Shape, Level, Field, Pattern, Equals, Fields, Memory}
 use Rattle.env_directives.specs.declared.env.field.Match.{Match}
@@ -46,10 +47,14 @@ unfoldable pub field_of : Bool → List ℕ → Match
 field_of patterns text = let pieces = cut (codes "=") text in
     record { name = pieces.front; value = option_map (λ _. value_of patterns (cut (codes "=") pieces.rest).front) pieces.stop }
 
--- a field has a value, which is no truth value and no number
-abbrev pub IsTextField : List ℕ → Type 0
-IsTextField text = let pieces = cut (codes "=") text in
-    IsSome pieces.stop × (plain_value (cut (codes "=") pieces.rest).front ≡ None)
+-- a text is no truth value and no number, and is refused as a pattern
+abbrev pub IsNoPatternValue : List ℕ → Type 0
+IsNoPatternValue text = (plain_value text ≡ None) × IsNoPattern text
+
+-- a field has a value, which is refused as a pattern
+abbrev pub IsNoPatternField : List ℕ → Type 0
+IsNoPatternField text = let pieces = cut (codes "=") text in
+    IsSome pieces.stop × IsNoPatternValue (cut (codes "=") pieces.rest).front
 
 -- how reading a value may fail: for want of memory, or, where patterns are wanted and P holds, because it is no pattern
 abbrev pub MayFail : Bool → Type 0 → ParseError → Type 0

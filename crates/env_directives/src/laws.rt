@@ -1,20 +1,17 @@
 //! What holds of every text of a directive, and of whole lists of directives, whatever the sets do step by step. Each
 //! law is a function that does nothing.
-ghost use Rattle.std.specs.Prelude.{◌≡◌, Bool, List, ℕ, false, ◌↔◌, ◌<◌, IfSome, slice_index};
+ghost use Rattle.std.specs.Prelude.{◌≡◌, Bool, List, ℕ, false, ◌↔◌};
 ghost use Rattle.std.specs.Str.{IsUtf8, trim};
 ghost use Rattle.std.specs.declared.cmp.Ordering.TheVariants.{Equal};
 ghost use Rattle.env_directives.specs.Choice.{admits_target, lets_through, longest_prefix};
 ghost use Rattle.env_directives.specs.DirectiveOrder.{directive_cmp, SameButLevel};
 ghost use Rattle.env_directives.specs.Faults.{HasNoLevel, HasEmptyField};
 ghost use Rattle.env_directives.specs.Forms.{IsDirective};
-ghost use Rattle.env_directives.specs.Meeting.{Meets, plain_text};
 ghost use Rattle.env_directives.specs.Printed.{directive_text, HasNoMinusZero};
 ghost use Rattle.env_directives.specs.Table.{Table, IsTableOf, empty_table, with_all_added};
 ghost use Rattle.env_directives.specs.Targets.{all_added};
 ghost use Rattle.env_directives.specs.declared.directive.StaticDirective.{StaticDirective};
 ghost use Rattle.env_directives.specs.declared.env.directive.Directive.{Directive};
-ghost use Rattle.env_directives.specs.declared.env.field.ValueMatch.{ValueMatch};
-ghost use Rattle.trace_base.specs.declared.field.Value.{Value};
 ghost use Rattle.trace_base.specs.declared.level.Level.{Level};
 
 use crate::directive::Match;
@@ -45,11 +42,6 @@ pub fn tables<T: Ord + Match>()
 pub fn prefixes()
     ensures { (ds : List StaticDirective) (target : List ℕ) (level : Level)
         → admits_target (all_added ds empty_table).directives target level ≡ lets_through level (longest_prefix ds target) }
-{}
-
-/// A value whose text is bytes meets what is asked, or doesn't: it doesn't hang on what a pattern was compiled to.
-pub fn meetings()
-    ensures { (asked : ValueMatch) (value : Value) (one other : Bool) → IfSome (plain_text value) (λ text. (k : ℕ) → slice_index text k < 256) → Meets asked value one → Meets asked value other → one ≡ other }
 {}
 
 /// Two directives are equal by the order exactly where they differ in their level at most.

@@ -1,4 +1,5 @@
-//! Directives at concrete values.
+//! Directives at concrete values. What texts are read as and print, and in which order, is shown by the stored run of
+//! `explain_filter`.
 use crate::directive::Match;
 use crate::directive::set::DirectiveSet;
 use crate::env::field::text_of;
@@ -9,27 +10,19 @@ use std::test::Fail;
 use trace_base::callsite::{Callsite, Kind};
 use trace_base::level::Level;
 
-mod dynamics;
 mod matching;
-mod parsing;
-mod tables;
+mod spans;
+mod statics;
+mod targets;
 
-// A callsite with fields of these names.
-fn callsite(
-    alloc: Global,
-    target: &str,
-    name: &str,
-    level: Level,
-    kind: Kind,
-    names: &[&str],
-) -> Result<Callsite, Fail> {
+// A callsite in `app::web` of the name `s` with the fields `f` and `g`.
+fn callsite(alloc: Global, kind: Kind, level: Level) -> Result<Callsite, Fail> {
     let mut fields = Items::new(alloc);
-    for name in names {
-        fields.push(text_of(alloc, *name)?)?;
-    }
+    fields.push(text_of(alloc, "f")?)?;
+    fields.push(text_of(alloc, "g")?)?;
     Ok(Callsite {
-        name: text_of(alloc, name)?,
-        target: text_of(alloc, target)?,
+        name: text_of(alloc, "s")?,
+        target: text_of(alloc, "app::web")?,
         level,
         kind,
         file: None,

@@ -91,7 +91,8 @@ impl<T: Match + Ord + MadeWith<Global> + Drop> DirectiveSet<T> {
 }
 
 impl<T: Match + Ord> DirectiveSet<T> {
-    pub(crate) fn as_slice(&self) -> &[T]
+    /// The directives in their order, as a slice.
+    pub fn as_slice(&self) -> &[T]
         ensures { result.now ≡ self.now.directives }
     {
         self.directives.as_slice()

@@ -5,9 +5,9 @@ ghost use Rattle.std.specs.Cmp.Rules.{comparing};
 ghost use Rattle.std.specs.Ordering.{nat_cmp, as_partial_cmp};
 ghost use Rattle.std.specs.Cmp.{partial_order_from_own_ties};
 ghost use Rattle.std.specs.Cmp.Lexicographic.{slice_cmp};
-ghost use Rattle.env_directives.specs.Meeting.{Meets, meets_truth, meets_u64, meets_i64, is_text, debug_text};
+ghost use Rattle.env_directives.specs.Meeting.{meets, meets_truth, meets_u64, meets_i64, is_text, debug_text};
 ghost use Rattle.env_directives.specs.Printed.{match_text, value_text};
-ghost use Rattle.env_directives.specs.Values.{IsTextField, field_of, value_of, plain_value, truth_of, u64_of, i64_of, MayFail};
+ghost use Rattle.env_directives.specs.Values.{IsNoPatternField, IsNoPatternValue, field_of, value_of, plain_value, truth_of, u64_of, i64_of, MayFail};
 
 use crate::directive::ParseError;
 use crate::env::cut::cut;
@@ -37,7 +37,7 @@ impl Match {
     #[tactic(auto, unfolding(crate::specs::Values::field_of))]
     pub(crate) fn parse(alloc: Global, text: &str, patterns: bool) -> Result<Match, ParseError>
         ensures ok { IfOk result (λ m. m ≡ field_of patterns text.now) }
-        ensures err { IfErr result (MayFail patterns (IsTextField text.now)) }
+        ensures err { IfErr result (MayFail patterns (IsNoPatternField text.now)) }
     {
         let pieces = cut(text, b"=");
         let value = match pieces.stop {
@@ -116,7 +116,7 @@ impl ValueMatch {
     // Reads a truth value, a number, or else a text: a pattern where those are wanted.
     fn parse(alloc: Global, text: &str, patterns: bool) -> Result<ValueMatch, ParseError>
         ensures ok { IfOk result (λ v. v ≡ value_of patterns text.now) }
-        ensures err { IfErr result (MayFail patterns (plain_value text.now ≡ None)) }
+        ensures err { IfErr result (MayFail patterns (IsNoPatternValue text.now)) }
     {
         if let Some(value) = plain_value(text) {
             return Ok(value);
@@ -124,9 +124,7 @@ impl ValueMatch {
         if patterns {
             Ok(ValueMatch::Pat(MatchPattern::new(alloc, text)?))
         } else {
-            Ok(ValueMatch::Debug(MatchDebug {
-                pattern: text_of(alloc, text)?,
-            }))
+            Ok(ValueMatch::Debug(MatchDebug::new(text_of(alloc, text)?)))
         }
     }
 }
@@ -150,7 +148,7 @@ impl ValueMatch {
     /// pattern that matches it as it stands; `Memory` where there is none to search or to print with. It stands for what
     /// `MatchVisitor` does with a value.
     pub fn met(&self, alloc: Global, value: &Value) -> Result<bool, Memory>
-        ensures { IfOk result (λ found. Meets self.now value.now found) }
+        ensures { IfOk result (λ found. found ≡ meets self.now value.now) }
     {
         match self {
             ValueMatch::Bool(wanted) => Ok(meets_truth(*wanted, value)),
@@ -248,6 +246,20 @@ impl Model for MatchDebug {
 }
 
 impl MatchDebug {
+    /// What is met by this debug text alone; `MatchDebug::new`.
+    pub fn new(pattern: Text) -> MatchDebug
+        ensures { result ≡ pattern }
+    {
+        MatchDebug { pattern }
+    }
+
+    /// The debug text.
+    pub fn as_str(&self) -> &str
+        ensures { result.now ≡ self.now }
+    {
+        self.pattern.as_str()
+    }
+
     // Whether the debug text of a value is this one.
     fn met(&self, alloc: Global, value: &Value) -> Result<bool, Memory>
         ensures { IfOk result (λ found. found ≡ is_text self.now (debug_text value.now)) }

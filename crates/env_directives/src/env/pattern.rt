@@ -8,11 +8,11 @@ ghost use Rattle.std.specs.Ordering.{nat_cmp, as_partial_cmp};
 ghost use Rattle.std.specs.Cmp.{partial_order_from_own_ties};
 ghost use Rattle.std.specs.Cmp.Lexicographic.{slice_cmp};
 ghost use Rattle.env_directives.specs.Values.{MayFail};
-ghost use Rattle.env_directives.specs.Meeting.{Matches, MatchesIfAny, plain_text};
-ghost use Rattle.env_directives.specs.Patterns.{whole};
+ghost use Rattle.env_directives.specs.Meeting.{is_matched_if_any, plain_text};
+ghost use Rattle.env_directives.specs.Patterns.{whole, is_matched, IsRefused, IsNoPattern};
 
 use crate::directive::ParseError;
-use crate::env::field::text_of;
+use crate::env::field::{MatchDebug, text_of};
 use otel_base::memory::Memory;
 use otel_base::text::Text;
 use regex::{Error, Regex};
@@ -47,7 +47,7 @@ impl MatchPattern {
     // Compiles a pattern for whole texts. It has to be one by itself too: `a)(b` becomes one in brackets.
     pub(crate) fn new(alloc: Global, text: &str) -> Result<MatchPattern, ParseError>
         ensures ok { IfOk result (λ m. m ≡ text.now) }
-        ensures err { IfErr result (MayFail true (Unit {0})) }
+        ensures err { IfErr result (MayFail true (IsNoPattern text.now)) }
     {
         compile(alloc, text)?;
         let whole = format!(in alloc; "\\A(?:{text})\\z")?;
@@ -60,9 +60,24 @@ impl MatchPattern {
 }
 
 impl MatchPattern {
+    /// The text of the pattern.
+    pub fn as_str(&self) -> &str
+        ensures { result.now ≡ self.now }
+    {
+        self.pattern.as_str()
+    }
+
+    /// The text of the pattern, to be met as it stands, without a copy; `MatchPattern::into_debug_match`.
+    pub fn into_debug_match(self) -> MatchDebug
+        ensures { result ≡ self }
+    {
+        let MatchPattern { pattern, regex: _ } = self;
+        MatchDebug::new(pattern)
+    }
+
     // Whether a value's text, or the debug text of another value, matches as a whole.
     pub(crate) fn met(&self, alloc: Global, value: &Value) -> Result<bool, Memory>
-        ensures { IfOk result (λ found. MatchesIfAny self.now (plain_text value.now) found) }
+        ensures { IfOk result (λ found. found ≡ is_matched_if_any self.now (plain_text value.now)) }
     {
         match value {
             Value::Str(text) | Value::Debug(text) => self.matches(alloc, text.as_str()),
@@ -75,7 +90,7 @@ impl MatchPattern {
 
     // Whether a whole text matches.
     fn matches(&self, alloc: Global, text: &str) -> Result<bool, Memory>
-        ensures { IfOk result (λ found. Matches self.now text.now found) }
+        ensures { IfOk result (λ found. found ≡ is_matched self.now text.now) }
     {
         let mut matcher = self.regex.matcher(alloc)?;
         Ok(matcher.is_match(text))
@@ -134,7 +149,7 @@ fn compile(alloc: Global, source: &str) -> Result<Regex, ParseError>
     ensures source { IfOk result (λ r. regex_source r ≡ source.now) }
     ensures config { IfOk result (λ r. regex_config r ≡ default_config) }
     ensures read { IfOk result IsReadFromSource }
-    ensures err { IfErr result (MayFail true (Unit {0})) }
+    ensures err { IfErr result (MayFail true (IsRefused source.now)) }
 {
     match Regex::new(alloc, source) {
         Ok(regex) => Ok(regex),

@@ -1,15 +1,10 @@
-//! What values meet, how directives and fields are ordered, and what they print.
-use crate::directive::ParseError;
+//! What values meet.
 use crate::env::directive::Directive;
-use crate::env::field::{BadFieldName, BadName, Match, text_of};
+use crate::env::field::{Match, ValueMatch, text_of};
 use otel_base::list::Items;
 use std::alloc::Global;
-use std::cmp::Ordering;
 use std::test::Fail;
 use trace_base::field::Value;
-use trace_base::level::{Level, LevelFilter};
-
-const STRUCT: &str = "f=MyStruct { answer: 42, question: \"life, the universe, and everything\" }";
 
 // Whether a value meets the value of a field that is asked for.
 fn met(alloc: Global, field: &str, patterns: bool, value: &Value) -> Result<bool, Fail> {
@@ -20,248 +15,137 @@ fn met(alloc: Global, field: &str, patterns: bool, value: &Value) -> Result<bool
     }
 }
 
-fn met_by_text(alloc: Global, field: &str, patterns: bool, text: &str) -> Result<bool, Fail> {
-    met(alloc, field, patterns, &Value::Str(text_of(alloc, text)?))
+// `y` or `n` for each of the fields, whether a value meets it.
+fn told(alloc: Global, patterns: bool, asked: &[&str], value: &Value) -> Result<String, Fail> {
+    let mut told = String::new(alloc);
+    for field in asked {
+        told.push(if met(alloc, field, patterns, value)? {
+            'y'
+        } else {
+            'n'
+        })?;
+    }
+    Ok(told)
 }
 
-fn met_by_debug(alloc: Global, field: &str, patterns: bool, text: &str) -> Result<bool, Fail> {
-    met(alloc, field, patterns, &Value::Debug(text_of(alloc, text)?))
+const STRUCT: &str = "MyStruct { answer: 42, question: \"life, the universe, and everything\" }";
+
+const STRUCTS: [&str; 5] = [
+    "f=MyStruct { answer: 42, question: \"life, the universe, and everything\" }",
+    "f=MyStruct { answer: 42, question: \"what shall I call you?\" }",
+    "f=MyStruct { answer: 42, question: \"life, the universe, and everything\"",
+    "f=MyStruct { answer: 42, question: \"life, the universe, and everything\" } ",
+    "f=MyStruct",
+];
+
+// How a debug text, and a text by its quoted form, meet fixed texts.
+fn fixed(alloc: Global) -> Result<String, Fail> {
+    let debug = Value::Debug(text_of(alloc, STRUCT)?);
+    let one = told(alloc, false, STRUCTS.as_slice(), &debug)?;
+    let text = Value::Str(text_of(alloc, "a\"b")?);
+    let other = told(
+        alloc,
+        false,
+        &["f=\"a\\\"b\"", "f=a\"b", "f=\"a\"b\""],
+        &text,
+    )?;
+    Ok(format!(in alloc; "{one} {other}")?)
 }
 
-fn met_by_error(alloc: Global, field: &str, patterns: bool, text: &str) -> Result<bool, Fail> {
-    let value = Value::Error {
-        message: text_of(alloc, text)?,
+#[test]
+fn meets_fixed_texts_as_a_whole(rt: HostRuntime) -> Result<(), Fail> {
+    assert_eq!(rt; fixed(rt.alloc())?.as_str(), "ynnnn ynn");
+    Ok(())
+}
+
+const PATTERNS: [&str; 5] = ["f=a.c", "f=b|a.?c", "f=ab", "f=bc", "f=\"abc\""];
+
+// How texts, debug texts and messages meet patterns, and fixed texts.
+fn patterns(alloc: Global) -> Result<String, Fail> {
+    let text = Value::Str(text_of(alloc, "abc")?);
+    let debug = Value::Debug(text_of(alloc, "abc")?);
+    let error = Value::Error {
+        message: text_of(alloc, "a.c")?,
         chain: Items::new(alloc),
     };
-    met(alloc, field, patterns, &value)
+    let of_text = told(alloc, true, PATTERNS.as_slice(), &text)?;
+    let of_debug = told(alloc, true, PATTERNS.as_slice(), &debug)?;
+    let of_error = told(alloc, true, PATTERNS.as_slice(), &error)?;
+    let fixed = told(alloc, false, PATTERNS.as_slice(), &error)?;
+    Ok(format!(in alloc; "{of_text} {of_debug} {of_error} {fixed}")?)
 }
 
 #[test]
-fn meets_a_fixed_text_as_a_whole(rt: HostRuntime) -> Result<(), Fail> {
-    for (debug, wanted) in [
-        (
-            "MyStruct { answer: 42, question: \"life, the universe, and everything\" }",
-            true,
-        ),
-        (
-            "MyStruct { answer: 42, question: \"what shall I call you?\" }",
-            false,
-        ),
-        (
-            "MyStruct { answer: 42, question: \"life, the universe, and everything\"",
-            false,
-        ),
-        (
-            "MyStruct { answer: 42, question: \"life, the universe, and everything\" } ",
-            false,
-        ),
-        ("MyStruct", false),
-        ("", false),
-    ] {
-        assert_eq!(rt; met_by_debug(rt.alloc(), STRUCT, false, debug)?, wanted);
-    }
+fn meets_patterns_as_a_whole(rt: HostRuntime) -> Result<(), Fail> {
+    assert_eq!(rt; patterns(rt.alloc())?.as_str(), "yynnn yynnn yynnn ynnnn");
     Ok(())
 }
 
-#[test]
-fn meets_a_fixed_text_by_the_quoted_form(rt: HostRuntime) -> Result<(), Fail> {
-    for (asked, text, wanted) in [
-        ("f=\"a\\\"b\"", "a\"b", true),
-        ("f=a\"b", "a\"b", false),
-        ("f=\"a\"b\"", "a\"b", false),
-        ("f=\"value\"", "value", true),
-        ("f=value", "value", false),
-    ] {
-        assert_eq!(rt; met_by_text(rt.alloc(), asked, false, text)?, wanted);
-    }
-    Ok(())
+const NUMBERS: [&str; 5] = ["f=7", "f=+7", "f=8", "f=-7", "f=true"];
+
+// How truth values and numbers are met.
+fn numbers(alloc: Global) -> Result<String, Fail> {
+    let signed = told(alloc, false, NUMBERS.as_slice(), &Value::I64(7))?;
+    let negative = told(alloc, false, NUMBERS.as_slice(), &Value::I64(-7))?;
+    let natural = told(alloc, false, NUMBERS.as_slice(), &Value::U64(7))?;
+    let truth = told(alloc, false, NUMBERS.as_slice(), &Value::Bool(true))?;
+    let long = told(alloc, false, NUMBERS.as_slice(), &Value::I128(7))?;
+    Ok(format!(in alloc; "{signed} {negative} {natural} {truth} {long}")?)
+}
+
+const LARGE: [&str; 3] = [
+    "f=18446744073709551616",
+    "f=18446744073709551615",
+    "f=-9223372036854775809",
+];
+
+// How numbers of 128 bits, and the ends of 64 bits, are met.
+fn large_numbers(alloc: Global) -> Result<String, Fail> {
+    let past = told(alloc, false, LARGE.as_slice(), &Value::U128(1 << 64))?;
+    let below = told(
+        alloc,
+        false,
+        LARGE.as_slice(),
+        &Value::I128(-9223372036854775809),
+    )?;
+    let minus_one = told(alloc, false, LARGE.as_slice(), &Value::I64(-1))?;
+    let pattern = told(
+        alloc,
+        true,
+        &["f=1844674407370955161."],
+        &Value::U128(1 << 64),
+    )?;
+    Ok(format!(in alloc; "{past} {below} {minus_one} {pattern}")?)
 }
 
 #[test]
-fn meets_a_pattern_as_a_whole(rt: HostRuntime) -> Result<(), Fail> {
-    for (asked, text, wanted) in [
-        ("f=a.c", "abc", true),
-        ("f=a.c", "a.c", true),
-        ("f=a.c", "abcd", false),
-        ("f=a.c", "xabc", false),
-        ("f=a.c", "\"abc\"", false),
-        ("f=b|ab", "ab", true),
-        ("f=b|ab", "b", true),
-        ("f=b|ab", "a", false),
-        ("f=.*", "", true),
-        ("f=a$", "a\n", false),
-    ] {
-        assert_eq!(rt; met_by_text(rt.alloc(), asked, true, text)?, wanted);
-        assert_eq!(rt; met_by_debug(rt.alloc(), asked, true, text)?, wanted);
-    }
-    Ok(())
-}
-
-#[test]
-fn meets_truth_values(rt: HostRuntime) -> Result<(), Fail> {
-    for (asked, truth, wanted) in [
-        ("f=true", true, true),
-        ("f=true", false, false),
-        ("f=false", false, true),
-        ("f=1", true, false),
-    ] {
-        assert_eq!(rt; met(rt.alloc(), asked, false, &Value::Bool(truth))?, wanted);
-    }
-    Ok(())
-}
-
-#[test]
-fn meets_signed_numbers(rt: HostRuntime) -> Result<(), Fail> {
-    for (asked, number, wanted) in [
-        ("f=7", 7, true),
-        ("f=+7", 7, true),
-        ("f=7", 8, false),
-        ("f=-1", -1, true),
-        ("f=-0", 0, true),
-        ("f=18446744073709551615", -1, false),
-    ] {
-        assert_eq!(rt; met(rt.alloc(), asked, false, &Value::I64(number))?, wanted);
-    }
-    Ok(())
-}
-
-#[test]
-fn meets_other_numbers(rt: HostRuntime) -> Result<(), Fail> {
-    for (asked, number, wanted) in [
-        ("f=7", 7, true),
-        ("f=7", 8, false),
-        ("f=-1", 18446744073709551615, false),
-        ("f=-0", 0, false),
-    ] {
-        assert_eq!(rt; met(rt.alloc(), asked, false, &Value::U64(number))?, wanted);
-    }
-    Ok(())
-}
-
-#[test]
-fn meets_numbers_of_128_bits(rt: HostRuntime) -> Result<(), Fail> {
-    for (asked, number, wanted) in [
-        ("f=7", 7, false),
-        ("f=18446744073709551616", 18446744073709551616, true),
-        ("f=-9223372036854775809", -9223372036854775809, true),
-    ] {
-        assert_eq!(rt;
-            met(rt.alloc(), asked, false, &Value::I128(number))?,
-            wanted
-        );
-    }
-    let past = Value::U128(18446744073709551616);
-    assert!(rt; met(rt.alloc(), "f=18446744073709551616", false, &past)?);
-    assert!(rt; met(rt.alloc(), "f=1844674407370955161.", true, &past)?);
-    Ok(())
-}
-
-#[test]
-fn meets_debug_texts_and_messages(rt: HostRuntime) -> Result<(), Fail> {
-    for (asked, text, wanted) in [
-        ("f=true", "true", false),
-        ("f=1", "1", false),
-        ("f=1.0", "1.0", true),
-        ("f=no room", "no room", true),
-        ("f=no", "no room", false),
-    ] {
-        assert_eq!(rt; met_by_debug(rt.alloc(), asked, false, text)?, wanted);
-        assert_eq!(rt; met_by_error(rt.alloc(), asked, false, text)?, wanted);
-        assert_eq!(rt; met_by_error(rt.alloc(), asked, true, text)?, wanted);
-    }
-    Ok(())
-}
-
-// How one field compares with another, each read with patterns or without.
-fn compared(alloc: Global, one: (&str, bool), other: (&str, bool)) -> Result<Ordering, Fail> {
-    let one = Match::parse(alloc, one.0, one.1)?;
-    let other = Match::parse(alloc, other.0, other.1)?;
-    Ok(one.cmp(&other))
-}
-
-#[test]
-fn orders_fields(rt: HostRuntime) -> Result<(), Fail> {
-    for (less, more) in [
-        (("b", true), ("c", true)),
-        (("c", true), ("a=false", true)),
-        (("a=false", true), ("a=true", true)),
-        (("a=true", true), ("a=2", true)),
-        (("a=2", true), ("a=10", true)),
-        (("a=10", true), ("a=-3", true)),
-        (("a=-3", true), ("a=-2", true)),
-        (("a=-2", true), ("a=x", true)),
-        (("a=x", true), ("a=y", true)),
-        (("a=y", true), ("a=.", false)),
-        (("a=.", false), ("b=false", true)),
-    ] {
-        assert_eq!(rt; compared(rt.alloc(), less, more)?, Ordering::Less);
-        assert_eq!(rt; compared(rt.alloc(), more, less)?, Ordering::Greater);
-        assert_eq!(rt; compared(rt.alloc(), less, less)?, Ordering::Equal);
-    }
-    Ok(())
-}
-
-// How one directive compares with another.
-fn directives_compared(alloc: Global, one: &str, other: &str) -> Result<Ordering, Fail> {
-    let one = Directive::from_str(alloc, one)?;
-    let other = Directive::from_str(alloc, other)?;
-    Ok(one.cmp(&other))
-}
-
-#[test]
-fn orders_directives(rt: HostRuntime) -> Result<(), Fail> {
-    for (one, other, wanted) in [
-        ("a[{f=x}]=warn", "a[{f=x}]=info", Ordering::Equal),
-        ("a[{b,c}]", "a[{f=x}]", Ordering::Less),
-        ("a[{f=x}]", "[s{b,c}]", Ordering::Less),
-        ("b=info", "a=info", Ordering::Less),
-    ] {
-        assert_eq!(rt; directives_compared(rt.alloc(), one, other)?, wanted);
-    }
-    Ok(())
-}
-
-#[test]
-fn prints_bad_names(rt: HostRuntime) -> Result<(), Fail> {
-    let alloc = rt.alloc();
-    let fault: BadFieldName = BadName {
-        name: text_of(alloc, "x")?,
-    };
+fn meets_numbers(rt: HostRuntime) -> Result<(), Fail> {
     assert_eq!(rt;
-        format!(in alloc; "{fault}")?.as_str(),
-        "invalid field name `x`"
+        numbers(rt.alloc())?.as_str(),
+        "yynnn nnnyn yynnn nnnny nnnnn"
     );
-    assert_eq!(rt;
-        format!(in alloc; "{fault:?}")?.as_str(),
-        "BadName { name: \"x\" }"
-    );
+    assert_eq!(rt; large_numbers(rt.alloc())?.as_str(), "ynn nny nnn y");
     Ok(())
 }
 
-// Whether a directive speaks of everything, at a level.
-fn is_for_all(directive: &Directive, level: LevelFilter) -> bool {
-    directive.target().is_none()
-        && directive.in_span().is_none()
-        && directive.fields().is_empty()
-        && directive.level() == level
+// The text of a pattern, and whether its own text meets the fixed text of the same bytes, and another.
+fn as_fixed_text(alloc: Global) -> Result<String, Fail> {
+    let directive = Directive::from_str(alloc, "[{f=a.c}]")?;
+    let mut told = String::new(alloc);
+    for field in directive.fields() {
+        if let Some(ValueMatch::Pat(pattern)) = &field.value {
+            told.push_str(pattern.as_str())?;
+            let fixed = ValueMatch::Debug(pattern.clone()?.into_debug_match());
+            let same = fixed.met(alloc, &Value::Debug(text_of(alloc, "a.c")?))?;
+            let other = fixed.met(alloc, &Value::Debug(text_of(alloc, "abc")?))?;
+            told.push_str(format!(in alloc; " {same} {other} {fixed}")?.as_str())?;
+        }
+    }
+    Ok(told)
 }
 
 #[test]
-fn makes_directives_of_levels(rt: HostRuntime) {
-    let alloc = rt.alloc();
-    let level = Directive::from_level(alloc, Level::DEBUG);
-    assert!(rt; is_for_all(&level, LevelFilter::DEBUG));
-    let filter = Directive::from_filter(alloc, LevelFilter::WARN);
-    assert!(rt; is_for_all(&filter, LevelFilter::WARN));
-    assert!(rt; is_for_all(&Directive::default(alloc), LevelFilter::OFF));
-}
-
-#[test]
-fn tells_a_directives_parts(rt: HostRuntime) -> Result<(), ParseError> {
-    let directive = Directive::from_str(rt.alloc(), "app[s{f,g=1}]=info")?;
-    assert_eq!(rt; directive.target(), Some("app"));
-    assert_eq!(rt; directive.in_span(), Some("s"));
-    assert_eq!(rt; directive.fields().len(), 2);
-    assert_eq!(rt; directive.level(), LevelFilter::INFO);
+fn turns_a_pattern_into_its_text(rt: HostRuntime) -> Result<(), Fail> {
+    assert_eq!(rt; as_fixed_text(rt.alloc())?.as_str(), "a.c true false a.c");
     Ok(())
 }

@@ -1,9 +1,9 @@
 //! Reading a directive from its text, one cut after the other.
 ghost use Rattle.std.specs.Prelude.{◌≡◌, [], IfOk, Some, false, true};
 ghost use Rattle.env_directives.specs.Forms.{begins, may_begin, head_alone, target_at, level_behind, unless_empty};
-ghost use Rattle.env_directives.specs.Reading.{Answers, read_last, read_level, LeadsToText, SpanLeadsToText, read_end, read_close, read_fields, read_bracket, reading};
+ghost use Rattle.env_directives.specs.Reading.{Answers, read_last, read_level, LeadsToNoPattern, SpanLeadsToNoPattern, read_end, read_close, read_fields, read_bracket, reading};
 ghost use Rattle.trace_base.specs.declared.level.LevelFilter.TheVariants.{TRACE};
-ghost use Rattle.env_directives.specs.Faults.{HasTextField};
+ghost use Rattle.env_directives.specs.Faults.{HasNoPattern};
 
 use crate::directive::ParseError;
 use crate::env::cut::cut;
@@ -19,7 +19,7 @@ use unicode::properties::{GeneralCategory, GeneralCategoryGroup, is_alphabetic};
 // Reads a text without white space at its ends.
 #[tactic(auto, unfolding(crate::specs::Reading::reading))]
 pub(super) fn read(alloc: Global, text: &str, patterns: bool) -> Result<Directive, ParseError>
-    ensures { Answers (λ d. d) patterns (HasTextField text.now) result (reading patterns text.now) }
+    ensures { Answers (λ d. d) patterns (HasNoPattern text.now) result (reading patterns text.now) }
 {
     if !begins(text) {
         return Err(ParseError::Shape);
@@ -162,7 +162,7 @@ fn read_bracket(
     text: &str,
     patterns: bool,
 ) -> Result<Directive, ParseError>
-    ensures { Answers (λ d. d) patterns (SpanLeadsToText text.now) result (read_bracket patterns directive text.now) }
+    ensures { Answers (λ d. d) patterns (SpanLeadsToNoPattern text.now) result (read_bracket patterns directive text.now) }
 {
     let pieces = cut(text, b"]{");
     match pieces.stop {
@@ -198,7 +198,7 @@ fn read_fields<'t>(
     text: &'t str,
     patterns: bool,
 ) -> Result<(Items<Match>, &'t str), ParseError>
-    ensures { Answers (λ r. (r.0, r.1.now)) patterns (LeadsToText text.now) result (read_fields patterns [] text.now) }
+    ensures { Answers (λ r. (r.0, r.1.now)) patterns (LeadsToNoPattern text.now) result (read_fields patterns [] text.now) }
 {
     let mut fields = Items::new(alloc);
     let mut text = text;

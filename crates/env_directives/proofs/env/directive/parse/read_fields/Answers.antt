@@ -1,7 +1,7 @@
 use Rattle.std.proofs.Common.{◌≡◌, List, ℕ, Bor, Some, codes, sym, ◌∙◌, rules}
 use Rattle.std.proofs.lemmas.Result.{err_from_is_err_and}
 use Rattle.env_directives.specs.Cuts.{cut}
-use Rattle.env_directives.specs.Values.{IsTextField}
+use Rattle.env_directives.specs.Values.{IsNoPatternField}
 use Rattle.env_directives.proofs.FieldsCut.{shape_left, empty_left, text_left, last_left, more_left, earlier_more, text_shorter, answers_fault}
 use Rattle.env_directives.specs.declared.env.field.Match.{Match}
 use Rattle.env_directives.proofs.env.directive.parse.read_fields.Goals as goal
@@ -22,7 +22,7 @@ returns-in_err-parse c =
     let stopped : Some c.in-Some.stop ≡ (cut (codes ",}") c.fields.text.now).stop = sym c.in-Some.is ∙ c.cut-pieces.ensures.stop in
     let parts = c.fields.invariant.earlier in
     let view : List Match × Bor (List ℕ) → List Match × List ℕ = λ r. (r.0, r.1.now) in
-    rw (p.1, p.2) (answers_fault view c.args.patterns (IsTextField c.cut-pieces.result.front.now) _ _ c.in_err-parse.field-0.0 c.in_err-parse.ensures.err
+    rw (p.1, p.2) (answers_fault view c.args.patterns (IsNoPatternField c.cut-pieces.result.front.now) _ _ c.in_err-parse.field-0.0 c.in_err-parse.ensures.err
     (text_left c.args.patterns c.args.text.now c.fields.text.now _ _ c.fields.fields c.fields.invariant.same c.cut-pieces.ensures.front
     c.cut-pieces.ensures.rest c.in-Some.stop stopped (sym c.if-is_empty.false ∙ c.is_empty.ensures) parts.0 parts.1 parts.2))
 

@@ -1,13 +1,13 @@
-use Rattle.std.proofs.Common.{ℕ, List, is_some, ap, ◌∙◌, subst}
+use Rattle.std.proofs.Common.{ℕ, List, is_some, ap, sym, ◌∙◌, subst, arith}
 use Rattle.regex.specs.Patterns.{find_str}
 use Rattle.regex.specs.Strings.{regex_pattern}
 use Rattle.regex.specs.declared.string.regex.Regex.{Regex}
 use Rattle.env_directives.specs.Patterns.{IsCompiled}
+use Rattle.env_directives.proofs.Matching.{found_as_matched}
 use Rattle.env_directives.proofs.env.pattern.MatchPattern.matches.Goals as goal
 
 pub returns : goal.returns
-returns c = record {
-  regex = c.self.inside.regex.value;
-  compiled = subst (λ (p : List ℕ). IsCompiled p c.self.inside.regex.value) c.self.view_is c.self.invariant;
-  answer = c.is_match.ensures.found ∙ ap (λ p. is_some (find_str p c.args.text.now 0)) (c.in_ok-matcher.ensures.pattern ∙ ap (λ (r : Regex). regex_pattern r) c.deref.ensures);
-}
+returns c =
+    c.is_match.ensures.found ∙ ap (λ p. is_some (find_str p c.args.text.now 0)) (c.in_ok-matcher.ensures.pattern ∙ ap (λ (r : Regex). regex_pattern r) c.deref.ensures)
+    ∙ found_as_matched _ c.args.text.now c.self.inside.regex.value (λ k. omega (arith, c.type_inv.text k))
+    (subst (λ (p : List ℕ). IsCompiled p c.self.inside.regex.value) c.self.view_is c.self.invariant)

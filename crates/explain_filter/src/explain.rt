@@ -1,0 +1,125 @@
+//! What a text is read as, in lines that are indented.
+use crate::reading::Reading;
+use env_directives::directive::ParseError;
+use env_directives::directive::set::DirectiveSet;
+use env_directives::env::directive::Directive;
+use env_directives::env::field::{Match, ValueMatch};
+use env_directives::targets::Targets;
+use otel_base::memory::Memory;
+use std::alloc::Global;
+
+/// The lines that tell what a text is read as: each directive, in the order in which they are asked, or the faults.
+pub fn explain(alloc: Global, reading: Reading, text: &str) -> Result<String, Memory> {
+    match reading {
+        Reading::Filter => filter(alloc, text),
+        Reading::Directive => directive(alloc, text, true),
+        Reading::Fixed => directive(alloc, text, false),
+        Reading::Targets => targets(alloc, text),
+    }
+}
+
+// One directive.
+fn directive(alloc: Global, text: &str, patterns: bool) -> Result<String, Memory> {
+    let mut told = String::new(alloc);
+    match Directive::parse(alloc, text, patterns) {
+        Ok(directive) => told.push_str(parts(alloc, &directive)?.as_str())?,
+        Err(fault) => told.push_str(fault_line(alloc, fault)?.as_str())?,
+    }
+    Ok(told)
+}
+
+// The faults of a list's pieces, each with the piece's number and text, and then the directives of the others in order.
+fn filter(alloc: Global, text: &str) -> Result<String, Memory> {
+    let mut told = String::new(alloc);
+    let mut set = DirectiveSet::new(alloc);
+    let mut number = 0u64;
+    for piece in text.split(',') {
+        number = number.saturating_add(1);
+        if piece.is_empty() {
+            continue;
+        }
+        match Directive::parse(alloc, piece, true) {
+            Ok(directive) => set.add(directive)?,
+            Err(ParseError::Memory) => return Err(Memory),
+            Err(fault) => {
+                let line = format!(in alloc; "  piece {number} `{piece}`: {fault:?}, {fault}\n")?;
+                told.push_str(line.as_str())?;
+            }
+        }
+    }
+    told.push_str(listed(alloc, &set)?.as_str())?;
+    Ok(told)
+}
+
+fn listed(alloc: Global, set: &DirectiveSet<Directive>) -> Result<String, Memory> {
+    let mut told = String::new(alloc);
+    for directive in set.as_slice() {
+        told.push_str(parts(alloc, directive)?.as_str())?;
+    }
+    Ok(told)
+}
+
+// The targets with their levels in order, and the level of all others, if there is one.
+fn targets(alloc: Global, text: &str) -> Result<String, Memory> {
+    match Targets::from_str(alloc, text) {
+        Ok(targets) => {
+            let mut told = format!(in alloc; "  prints {targets}\n")?;
+            for (target, level) in targets.iter() {
+                told.push_str(format!(in alloc; "  target {target} level {level}\n")?.as_str())?;
+            }
+            if let Some(level) = targets.default_level() {
+                told.push_str(format!(in alloc; "  others level {level}\n")?.as_str())?;
+            }
+            Ok(told)
+        }
+        Err(fault) => fault_line(alloc, fault),
+    }
+}
+
+// A fault by its name and its text.
+fn fault_line(alloc: Global, fault: ParseError) -> Result<String, Memory> {
+    if fault == ParseError::Memory {
+        return Err(Memory);
+    }
+    Ok(format!(in alloc; "  {fault:?}, {fault}\n")?)
+}
+
+// A directive's tables and parts, and how it prints.
+fn parts(alloc: Global, directive: &Directive) -> Result<String, Memory> {
+    let mut told = format!(in alloc; "  {}", tables(directive))?;
+    if let Some(target) = directive.target() {
+        told.push_str(format!(in alloc; " target {target}")?.as_str())?;
+    }
+    if let Some(span) = directive.in_span() {
+        told.push_str(format!(in alloc; " span `{span}`")?.as_str())?;
+    }
+    for field in directive.fields() {
+        told.push_str(format!(in alloc; " field {field} ({})", kind(field))?.as_str())?;
+    }
+    let level = directive.level();
+    told.push_str(format!(in alloc; " level {level}: {directive}\n")?.as_str())?;
+    Ok(told)
+}
+
+// Whether a directive is judged by callsites alone, or by spans: a filter asks one with field names and no more for both.
+fn tables(directive: &Directive) -> &'static str {
+    let speaks_of_spans = directive.in_span().is_some();
+    let has_values = directive.fields().iter().any(|field| field.value.is_some());
+    match (speaks_of_spans || has_values, directive.fields().is_empty()) {
+        (true, _) => "dynamic",
+        (false, true) => "static",
+        (false, false) => "static and dynamic",
+    }
+}
+
+// Of which kind a field's value is.
+fn kind(field: &Match) -> &'static str {
+    match &field.value {
+        Some(ValueMatch::Bool(_)) => "truth value",
+        Some(ValueMatch::U64(_)) => "number",
+        Some(ValueMatch::I64(_)) => "negative number",
+        Some(ValueMatch::Debug(_)) => "text",
+        Some(ValueMatch::Pat(_)) => "pattern",
+        None => "any value",
+    }
+}
