@@ -9,6 +9,5 @@ pub mod Ids
 pub mod Lending
 pub mod Level
 pub mod LevelWords
-pub mod Nothing
 pub mod Quote
 pub mod Spans

@@ -3,8 +3,8 @@ use crate::level::{Level, LevelFilter, STATIC_MAX_LEVEL};
 use crate::quote::quote;
 use std::test::Fail;
 
+mod defaults;
 mod fields;
-mod worlds;
 
 const LEVELS: [Level; 5] = [
     Level::ERROR,
