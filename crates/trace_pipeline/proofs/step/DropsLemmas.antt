@@ -12,8 +12,7 @@ use Rattle.trace_pipeline.specs.History.{Scope, Made, no_context, slot_at, made_
 use Rattle.trace_pipeline.specs.declared.settings.Settings.{Settings}
 use Rattle.otel_base.specs.declared.context.Context.{Context}
 use Rattle.otel_base.specs.declared.context.SpanContext.{SpanContext}
-use Rattle.otel_base.specs.Ids.{ids_of, ids_or_zeros}
-use Rattle.otel_base.specs.RecorderIds.{parent_id}
+use Rattle.otel_base.specs.Ids.{ids_of, ids_or_zeros, parent_id}
 use Rattle.trace_pipeline.proofs.step.StartsLemmas.{start_ops, quiet_starts}
 use Rattle.std.proofs.Common.{zero, suc, slice_get}
 use Rattle.trace_pipeline.specs.Ops.{Stamped, start_ids, events}
