@@ -16,6 +16,7 @@ use Rattle.trace_base.proofs.Entering.{count_cons, count_push, counted_if_any, a
 use Rattle.trace_base.specs.Hooks.{Seen}
 use Rattle.span_registry.specs.Both.{InStep, KnowsNone}
 use Rattle.span_registry.specs.Stepping.{in_step_start}
+use Rattle.span_registry.specs.Tabling.{Tabled}
 use Rattle.span_registry.proofs.Lanes.{current_in, first_if_in, one_with}
 
 -- a span written
@@ -35,10 +36,10 @@ keeps_children made id now within parent live still q =
     omega (arith, write, same)
 
 -- a span with one hold less
-less_last : (s : Span) → s.holds ≡ 1 → less_held s ≡ no_span
+pub less_last : (s : Span) → s.holds ≡ 1 → less_held s ≡ no_span
 less_last s last = cond-true {A = Span} (s.holds == 1) no_span (record s { holds = s.holds - 1 }) (eq-eqb s.holds 1 last)
 
-less_more : (s : Span) → (s.holds ≡ 1 → ⊥) → less_held s ≡ record s { holds = s.holds - 1 }
+pub less_more : (s : Span) → (s.holds ≡ 1 → ⊥) → less_held s ≡ record s { holds = s.holds - 1 }
 less_more s more = cond-false {A = Span} (s.holds == 1) no_span (record s { holds = s.holds - 1 }) (ne_eqb s.holds 1 more)
 
 pub less_holds : (s : Span) → (less_held s).holds ≡ s.holds - 1
@@ -382,3 +383,7 @@ sound_in_step spans seen sound fresh =
     let none = ap (λ (s : Span). s.holds) (get_or_past spans.made id no_span past) in
     let bound = sound.bound id in
     no_entries spans.lanes id lane (omega (arith, none, bound)))
+
+pub err_made : {T E : Type 0} (result : Result T E) (now old : Tabled) → OnErr result (now ≡ old) → OnErr result (now.made ≡ old.made)
+err_made (Ok v) now old e = tt
+err_made (Err v) now old e = ap (λ (t : Tabled). t.made) e

@@ -3,3 +3,4 @@ pub mod Layering
 pub mod Lending
 pub mod Registering
 pub mod Stepping
+pub mod Tabling

@@ -1,15 +1,17 @@
 -- The registry does what every subscriber's spans show, and nothing more.
-use Rattle.std.specs.Prelude.{◌≡◌, ◌≢◌, ℕ, ◌+◌, ◌<◌, ◌≤◌, ◌==◌, ◌||◌, Bool, true, false, List, [], ◌∷◌, length, Option, Some, slice_index_or, refl}
+use Rattle.std.specs.Prelude.{◌≡◌, ◌≢◌, ℕ, ◌+◌, ◌<◌, ◌≤◌, ◌==◌, ◌||◌, Bool, true, false, List, [], ◌∷◌, length, max, Option, Some, slice_index_or, refl}
 use Rattle.std.proofs.Common.{ap, sym, subst, ◌∙◌, arith}
 use Rattle.trace_base.specs.declared.lane.Lane.{Lane}
-use Rattle.trace_base.specs.Spans.{Spans, Entries, span_at, bound_holds}
+use Rattle.trace_base.specs.Spans.{Span, Spans, Entries, span_at, bound_holds}
 use Rattle.trace_base.specs.Calls.{SubscriberCall, NewSpan, Records, Follows, Event, Enter, Exit, CloneSpan, TryClose, after}
 use Rattle.trace_base.specs.Conditions.{Allowed}
+use Rattle.span_registry.specs.Tabling.{live_spans}
 use Rattle.trace_base.specs.Contexts.{Lanes, KeepsLane, KeepsAttached, attached_on}
 
--- what a registry stands for
+-- what a registry stands for: its spans, and how many slots it has for live ones
 pub record Registered : Type 0 where
   pub spans : Spans
+  pub slots : ℕ
 
 -- no span was made, and nothing was entered
 abbrev pub no_spans : Spans
@@ -42,10 +44,22 @@ LeavesLane (Event lane at place site callsite values) = Unit {0}
 LeavesLane (CloneSpan id) = Unit {0}
 LeavesLane (TryClose id at) = Unit {0}
 
+-- the slots after a call that leaves these spans: a new span takes one that is free, else there is one more
+abbrev pub slots_after : ℕ → SubscriberCall → List Span → ℕ
+slots_after slots (NewSpan lane at place site callsite values) made = max slots (live_spans made)
+slots_after slots (Records id at callsite values) made = slots
+slots_after slots (Follows id from at) made = slots
+slots_after slots (Event lane at place site callsite values) made = slots
+slots_after slots (Enter id at before later) made = slots
+slots_after slots (Exit id at before later) made = slots
+slots_after slots (CloneSpan id) made = slots
+slots_after slots (TryClose id at) made = slots
+
 -- it does what every subscriber does to its spans, and attaches nothing
 pub record DoesRegistry (old : Registered) (call : SubscriberCall) (new : Registered) : Type 0 where
   pub allowed : Allowed old.spans call
   pub shows : new.spans ≡ after old.spans call
+  pub slots : new.slots ≡ slots_after old.slots call new.spans.made
   pub lane : LeavesLane call
 
 pub registry_same : (s t : Registered) (call : SubscriberCall) (u : Registered) → t ≡ s → DoesRegistry t call u → DoesRegistry s call u

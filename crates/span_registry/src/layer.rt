@@ -10,7 +10,7 @@ pub use trace_base::layer::Layer;
 
 /// A registry without spans, which a stack of layers begins with; `tracing_subscriber::registry`.
 pub fn registry(alloc: Global) -> Registry
-    ensures { result.spans ≡ no_spans }
+    ensures { result ≡ record { spans = no_spans; slots = 0 } }
 {
     Registry::new(alloc)
 }

@@ -34,15 +34,15 @@ impl Model for Registry {
 
     ghost Value = { Registered };
 
-    ghost view = { λ r. record { spans = record { made = r.table; lanes = r.lanes.items } } };
+    ghost view = { λ r. record { spans = record { made = r.table.made; lanes = r.lanes.items }; slots = r.table.slots } };
 
-    ghost invariant = { λ r. IsSound (record { made = r.table; lanes = r.lanes.items }) };
+    ghost invariant = { λ r. IsSound (record { made = r.table.made; lanes = r.lanes.items }) };
 }
 
 impl Registry {
     /// A registry without spans, which takes no memory yet; `Registry::default` of the Rust crate.
     pub fn new(alloc: Global) -> Registry
-        ensures { result.spans ≡ no_spans }
+        ensures { result ≡ record { spans = no_spans; slots = 0 } }
     {
         Registry {
             alloc,
@@ -80,11 +80,19 @@ impl Registry {
         entries(self.lanes.as_slice(), lane)
     }
 
+    /// How many slots for spans there are: as many as were live at once. A slot is used again after its span closed.
+    pub fn slots(&self) -> u64
+        ensures value { result ≡ self.now.slots }
+    {
+        self.table.slots()
+    }
+
     /// Releases one hold of a span, and answers the parent that is to be released next: none at the end of the chain.
     pub fn next_closed(&mut self, id: Id) -> Option<Id>
         requires { HasOwnHold self.old.spans id }
         ensures value { result ≡ next_of self.old.spans.made id }
         ensures spans { self.new.spans ≡ record self.old.spans { made = released self.old.spans.made id } }
+        ensures slots { self.new.slots ≡ self.old.slots }
         ensures next_held { IfSome result (λ p. (p < id) × HasOwnHold self.new.spans p) }
     {
         self.table.release(id).next
@@ -239,9 +247,10 @@ fn place(lanes: &[LaneEntries], lane: u64, parent: Parent) -> Option<Id>
 
 // One hold more, unless the span is entered already.
 fn hold_unless(again: bool, table: &mut Table, id: Id)
-    requires live { IsLive table.old id }
-    requires few { HasFewHolds table.old id }
-    ensures { table.new ≡ (if again then table.old else held table.old id) }
+    requires live { IsLive table.old.made id }
+    requires few { HasFewHolds table.old.made id }
+    ensures made { table.new.made ≡ (if again then table.old.made else held table.old.made id) }
+    ensures slots { table.new.slots ≡ table.old.slots }
 {
     if !again {
         table.hold(id);
@@ -250,8 +259,9 @@ fn hold_unless(again: bool, table: &mut Table, id: Id)
 
 // One hold less, with the last entry.
 fn release_if(last: bool, table: &mut Table, id: Id)
-    requires { IsLive table.old id }
-    ensures { table.new ≡ (if last then released table.old id else table.old) }
+    requires { IsLive table.old.made id }
+    ensures made { table.new.made ≡ (if last then released table.old.made id else table.old.made) }
+    ensures slots { table.new.slots ≡ table.old.slots }
 {
     if last {
         table.release(id);

@@ -1,163 +1,273 @@
-//! The spans that are live, by id.
-ghost use Rattle.std.specs.Prelude.{◌≡◌, ◌==◌, ◌+◌, ◌<◌, ◌^◌, ◌∷◌, [], ◌++◌, length, vec_len, vec_capacity, OnOk, OnErr, IfSome, IfOk, if◌then◌else◌};
-ghost use Rattle.trace_base.specs.Spans.{Span, span_at, held, held_by_child, released, next_of};
+//! The spans that are live, each in a slot that is used again after its span closed.
+ghost use Rattle.std.specs.Prelude.{◌≡◌, ◌==◌, ◌+◌, ◌-◌, ◌<◌, ◌≤◌, ◌^◌, ◌∷◌, [], ◌++◌, ℕ, length, take, max, slice_index_or, slice_set, vec_len, vec_capacity, Some, None, OnOk, OnErr, IfSome, IfOk, if◌then◌else◌};
+ghost use Rattle.std.specs.Ordering.{nat_cmp};
+ghost use Rattle.std.specs.BTreeMap.{get};
+ghost use Rattle.trace_base.specs.Spans.{Span, no_span, span_at, held, held_by_child, released, next_of};
 ghost use Rattle.trace_base.specs.Conditions.{IsLive, HasFewHolds};
+ghost use Rattle.span_registry.specs.Tabling.{Slotted, IsPlace, slot_at, live_spans};
 
 use otel_base::memory::Memory;
 use std::alloc::Global;
+use std::collections::BTreeMap;
 use std::marker::Model;
 use trace_base::callsite::SiteId;
 use trace_base::span::{Closing, Id};
 
-// What is kept of a span.
+// What is kept of a span. A free slot has no holds.
 #[derive(Drop)]
-struct Made {
+struct Slot {
+    id: Id,
     holds: u64,
     parent: Option<Id>,
     site: SiteId,
 }
 
-impl Model for Made {
-    ghost use Rattle.std.specs.Prelude.{◌==◌, if◌then◌else◌};
-    ghost use Rattle.trace_base.specs.Spans.{Span, no_span};
+impl Model for Slot {
+    ghost use Rattle.span_registry.specs.Tabling.{Slotted};
 
-    ghost Value = { Span };
+    ghost Value = { Slotted };
 
-    ghost view = { λ m. if m.holds == 0 then no_span else record { holds = m.holds; parent = m.parent; site = m.site } };
+    ghost view = { λ s. record { id = s.id; span = record { holds = s.holds; parent = s.parent; site = s.site } } };
 }
 
 // The spans that were made, by id; of one that closed nothing is kept.
 #[derive(Drop)]
 pub(crate) struct Table {
-    spans: Vec<Made>,
+    // How many were made.
+    count: u64,
+    // Where the slot of each live span stands.
+    places: BTreeMap<u64, usize>,
+    slots: Vec<Slot>,
+    // The places of the slots that are free, with room for all, so that a close takes no memory.
+    free: Vec<usize>,
 }
 
 impl Model for Table {
-    ghost use Rattle.std.specs.Prelude.{List};
-    ghost use Rattle.trace_base.specs.Spans.{Span};
+    ghost use Rattle.std.specs.Prelude.{vec_capacity};
+    ghost use Rattle.std.specs.Ordering.{nat_cmp};
+    ghost use Rattle.std.specs.BTreeMap.{get};
+    ghost use Rattle.span_registry.specs.Tabling.{Tabled, tabled, IsTabled};
 
-    ghost Value = { List Span };
+    ghost Value = { Tabled };
 
-    ghost view = { λ t. t.spans.items };
+    ghost view = { λ t. tabled t.count (get nat_cmp t.places) t.slots.items };
+
+    ghost invariant = { λ t. IsTabled t.count (get nat_cmp t.places) t.slots.items t.free.items (vec_capacity t.free) };
 }
 
 impl Table {
     // A table without spans, which takes no memory yet.
     pub(crate) fn new(alloc: Global) -> Table
-        ensures { result ≡ [] }
+        ensures { result ≡ record { made = []; slots = 0 } }
     {
         Table {
-            spans: Vec::new(alloc),
+            count: 0,
+            places: BTreeMap::new(alloc),
+            slots: Vec::new(alloc),
+            free: Vec::new(alloc),
         }
+    }
+
+    // How many slots there are.
+    pub(crate) fn slots(&self) -> u64
+        ensures { result ≡ self.now.slots }
+    {
+        self.slots.len() as u64
     }
 
     // How many holds a span has, 0 where it isn't live.
     pub(crate) fn holds(&self, id: Id) -> u64
-        ensures { result ≡ (span_at self.now id).holds }
+        ensures { result ≡ (span_at self.now.made id).holds }
     {
-        match self.spans.get(id.place() as usize) {
-            Some(made) => made.holds,
+        match self.slot(id) {
+            Some(slot) => slot.holds,
             None => 0,
         }
     }
 
     // A span's parent, none where it isn't live.
     pub(crate) fn parent(&self, id: Id) -> Option<Id>
-        ensures { result ≡ (span_at self.now id).parent }
+        ensures { result ≡ (span_at self.now.made id).parent }
     {
-        match self.spans.get(id.place() as usize) {
-            Some(made) if made.holds > 0 => again(&made.parent),
-            _ => None,
+        match self.slot(id) {
+            Some(slot) => again(&slot.parent),
+            None => None,
         }
     }
 
     // The site of a span's callsite.
     pub(crate) fn site(&self, id: Id) -> SiteId
-        requires { IsLive self.now id }
-        ensures { result ≡ (span_at self.now id).site }
+        requires { IsLive self.now.made id }
+        ensures { result ≡ (span_at self.now.made id).site }
     {
-        let made = &self.spans[id.place() as usize];
-        made.site
+        let Some(slot) = self.slot(id) else {
+            unreachable!()
+        };
+        slot.site
+    }
+
+    // The slot of a span, none where it isn't live.
+    fn slot(&self, id: Id) -> Option<&Slot>
+        ensures some { IfSome result (λ slot. slot.now.span ≡ span_at self.now.made id) }
+        ensures none { result ≡ None → span_at self.now.made id ≡ no_span }
+    {
+        match find(&self.places, id) {
+            Some(place) => Some(&self.slots[place]),
+            None => None,
+        }
     }
 
     // Adds a span, which holds its parent.
     pub(crate) fn add(&mut self, above: Option<Id>, site: SiteId) -> Result<Id, Memory>
-        requires live { IfSome above (IsLive self.old) }
-        requires few_holds { IfSome above (HasFewHolds self.old) }
-        requires few { length self.old < 2 ^ 63 }
-        ensures id { IfOk result (λ id. id ≡ length self.old) }
-        ensures ok { OnOk result (self.new ≡ held_by_child self.old above ++ record { holds = 1; parent = above; site = site } ∷ []) }
+        requires live { IfSome above (IsLive self.old.made) }
+        requires few_holds { IfSome above (HasFewHolds self.old.made) }
+        requires few { length self.old.made < 2 ^ 63 }
+        ensures id { IfOk result (λ id. id ≡ length self.old.made) }
+        ensures ok { OnOk result (self.new.made ≡ held_by_child self.old.made above ++ record { holds = 1; parent = above; site = site } ∷ []) }
+        ensures slots { OnOk result (self.new.slots ≡ max self.old.slots (live_spans self.new.made)) }
         ensures memory_leaves { OnErr result (self.new ≡ self.old) }
     {
-        let id = Id::at(self.spans.len() as u64);
-        self.spans.reserve(1)?;
-        hold_parent(&mut self.spans, &above);
-        let Ok(()) = self.spans.push(Made {
+        let id = self.push(again(&above), site)?;
+        self.hold_parent(above);
+        Ok(id)
+    }
+
+    // Adds a span without a hold of its parent.
+    fn push(&mut self, above: Option<Id>, site: SiteId) -> Result<Id, Memory>
+        requires { length self.old.made < 2 ^ 63 }
+        ensures id { IfOk result (λ id. id ≡ length self.old.made) }
+        ensures ok { OnOk result (self.new.made ≡ self.old.made ++ record { holds = 1; parent = above; site = site } ∷ []) }
+        ensures slots { OnOk result (self.new.slots ≡ max self.old.slots (live_spans self.new.made)) }
+        ensures memory_leaves { OnErr result (self.new ≡ self.old) }
+    {
+        let id = Id::at(self.count);
+        let place = choose(&mut self.slots, &mut self.free)?;
+        put(&mut self.places, id, place)?;
+        let slot = Slot {
+            id,
             holds: 1,
             parent: above,
             site,
-        })
-        else {
-            unreachable!()
         };
+        fill(&mut self.slots, &mut self.free, slot);
+        self.count += 1;
         Ok(id)
+    }
+
+    // One hold more of a parent, if there is one.
+    fn hold_parent(&mut self, above: Option<Id>)
+        requires live { IfSome above (IsLive self.old.made) }
+        requires few_holds { IfSome above (HasFewHolds self.old.made) }
+        ensures made { self.new.made ≡ held_by_child self.old.made above }
+        ensures slots { self.new.slots ≡ self.old.slots }
+    {
+        if let Some(parent) = above {
+            self.hold(parent);
+        }
     }
 
     // One hold more.
     pub(crate) fn hold(&mut self, id: Id)
-        requires live { IsLive self.old id }
-        requires few { HasFewHolds self.old id }
-        ensures { self.new ≡ held self.old id }
+        requires live { IsLive self.old.made id }
+        requires few { HasFewHolds self.old.made id }
+        ensures { self.new ≡ record self.old { made = held self.old.made id } }
     {
-        hold(&mut self.spans, id);
+        let Some(place) = find(&self.places, id) else {
+            unreachable!()
+        };
+        let slot = &mut self.slots[place];
+        slot.holds += 1;
     }
 
-    // One hold less; with the last one the span closes.
+    // One hold less; with the last one the span closes, and its slot is free.
     pub(crate) fn release(&mut self, id: Id) -> Closing
-        requires { IsLive self.old id }
-        ensures spans { self.new ≡ released self.old id }
-        ensures closed { result.closed ≡ ((span_at self.old id).holds == 1) }
-        ensures next { result.next ≡ next_of self.old id }
+        requires { IsLive self.old.made id }
+        ensures made { self.new ≡ record self.old { made = released self.old.made id } }
+        ensures closed { result.closed ≡ ((span_at self.old.made id).holds == 1) }
+        ensures next { result.next ≡ next_of self.old.made id }
     {
-        let made = &mut self.spans[id.place() as usize];
-        made.holds -= 1;
-        if made.holds == 0 {
-            Closing {
-                closed: true,
-                next: again(&made.parent),
-            }
-        } else {
-            Closing {
+        let Some(place) = find(&self.places, id) else {
+            unreachable!()
+        };
+        let slot = &mut self.slots[place];
+        slot.holds -= 1;
+        if slot.holds > 0 {
+            return Closing {
                 closed: false,
                 next: None,
-            }
+            };
         }
+        let next = again(&slot.parent);
+        take_out(&mut self.places, id);
+        let Ok(()) = self.free.push(place) else {
+            unreachable!()
+        };
+        Closing { closed: true, next }
     }
 }
 
-// One hold more of a parent, if there is one.
-fn hold_parent(spans: &mut Vec<Made>, above: &Option<Id>)
-    requires live { IfSome above.now (IsLive spans.old.items) }
-    requires few_holds { IfSome above.now (HasFewHolds spans.old.items) }
-    ensures held { spans.new.items ≡ held_by_child spans.old.items above.now }
-    ensures len { vec_len spans.new ≡ vec_len spans.old }
-    ensures room { vec_capacity spans.new ≡ vec_capacity spans.old }
+// The place of a span's slot.
+fn find(places: &BTreeMap<u64, usize>, id: Id) -> Option<usize>
+    ensures { result ≡ get nat_cmp places.now id }
 {
-    if let Some(parent) = above {
-        hold(spans, *parent);
+    match places.get(&id.place()) {
+        Some(place) => Some(*place),
+        None => None,
     }
 }
 
-// One hold more.
-fn hold(spans: &mut Vec<Made>, id: Id)
-    requires live { IsLive spans.old.items id }
-    requires few { HasFewHolds spans.old.items id }
-    ensures held { spans.new.items ≡ held spans.old.items id }
-    ensures len { vec_len spans.new ≡ vec_len spans.old }
-    ensures room { vec_capacity spans.new ≡ vec_capacity spans.old }
+// A place for a span more.
+fn put(places: &mut BTreeMap<u64, usize>, id: Id, place: usize) -> Result<(), Memory>
+    ensures ok { OnOk result ((q : ℕ) → get nat_cmp places.new q ≡ (if id == q then Some place else get nat_cmp places.old q)) }
+    ensures memory_leaves { OnErr result ((q : ℕ) → get nat_cmp places.new q ≡ get nat_cmp places.old q) }
 {
-    let made = &mut spans[id.place() as usize];
-    made.holds += 1;
+    places.insert(id.place(), place)?;
+    Ok(())
+}
+
+// The place of a span less.
+fn take_out(places: &mut BTreeMap<u64, usize>, id: Id)
+    ensures { (q : ℕ) → get nat_cmp places.new q ≡ (if id == q then None else get nat_cmp places.old q) }
+{
+    places.remove(&id.place());
+}
+
+// The place of the last slot that is free, else of a new one, for which it takes all memory.
+fn choose(slots: &mut Vec<Slot>, free: &mut Vec<usize>) -> Result<usize, Memory>
+    ensures used { IfOk result (λ place. 0 < length free.old.items → place ≡ slice_index_or free.old.items (length free.old.items - 1) 0) }
+    ensures new { IfOk result (λ place. length free.old.items ≡ 0 → place ≡ length slots.old.items) }
+    ensures slots { slots.new.items ≡ slots.old.items }
+    ensures free { free.new.items ≡ free.old.items }
+    ensures capacity { vec_capacity free.old ≤ vec_capacity free.new }
+    ensures room { OnOk result (length free.old.items ≡ 0 → vec_len slots.new < vec_capacity slots.new) }
+    ensures free_room { OnOk result (length free.old.items ≡ 0 → length slots.old.items + 1 ≤ vec_capacity free.new) }
+{
+    if free.len() > 0 {
+        return Ok(free[free.len() - 1]);
+    }
+    slots.reserve(1)?;
+    free.reserve(slots.len() + 1)?;
+    Ok(slots.len())
+}
+
+// Puts a span into the last slot that is free, else into a new one.
+fn fill(slots: &mut Vec<Slot>, free: &mut Vec<usize>, slot: Slot)
+    requires within { 0 < length free.old.items → slice_index_or free.old.items (length free.old.items - 1) 0 < length slots.old.items }
+    requires room { length free.old.items ≡ 0 → vec_len slots.old < vec_capacity slots.old }
+    ensures used { 0 < length free.old.items → slots.new.items ≡ slice_set slots.old.items (slice_index_or free.old.items (length free.old.items - 1) 0) slot }
+    ensures new { length free.old.items ≡ 0 → slots.new.items ≡ slots.old.items ++ slot ∷ [] }
+    ensures free { free.new.items ≡ take (length free.old.items - 1) free.old.items }
+    ensures capacity { vec_capacity free.new ≡ vec_capacity free.old }
+{
+    if free.len() > 0 {
+        let place = free[free.len() - 1];
+        free.pop();
+        slots[place] = slot;
+        return;
+    }
+    let Ok(()) = slots.push(slot) else {
+        unreachable!()
+    };
 }
 
 // The same id once more.

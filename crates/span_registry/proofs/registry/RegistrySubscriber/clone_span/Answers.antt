@@ -6,4 +6,4 @@ use Rattle.span_registry.proofs.Sound.{sound_held}
 use Rattle.span_registry.proofs.registry.RegistrySubscriber.clone_span.Goals as goal
 
 pub invariant_of-self : goal.invariant_of-self
-invariant_of-self c = rw c.hold.ensures (sound_held (record { made = c.self.inside.table; lanes = c.self.inside.lanes.items }) c.args.id c.self.invariant (subst (λ (s : Registered). IsLive s.spans.made c.args.id) (sym c.self.view_is) c.requires.live))
+invariant_of-self c = rw c.hold.ensures (sound_held (record { made = c.self.inside.table.made; lanes = c.self.inside.lanes.items }) c.args.id c.self.invariant (subst (λ (s : Registered). IsLive s.spans.made c.args.id) (sym c.self.view_is) c.requires.live))
