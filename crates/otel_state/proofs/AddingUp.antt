@@ -1,0 +1,124 @@
+-- Busy and idle add up to the time from the making to the end.
+use Rattle.std.proofs.Common.{◌≡◌, ℕ, ◌+◌, ◌-◌, ◌<◌, ◌≤◌, List, [], ◌∷◌, Bool, true, false, Option, Some, None, refl, sym, ap, subst, ◌∙◌, arith, zero, suc}
+use Rattle.std.specs.Prelude.{if◌then◌else◌, ◌==◌, ◌||◌, min, fold, filter_map, unwrap_or, IsTrue}
+use Rattle.std.specs.List.{list_any, cons_option}
+use Rattle.std.proofs.lemmas.Bool.{eqb-true}
+use Rattle.otel_state.specs.declared.times.TheConstants.{GREATEST}
+use Rattle.otel_state.specs.Deeds.{Deed, Stamped, deed}
+use Rattle.otel_state.specs.Times.{open_after, open_by, gap, busy_of, exit_in, last_exit, idle_of, InOrder}
+use Rattle.otel_state.specs.Content.{Making, content}
+use Rattle.otel_state.specs.States.{Told, begun, moment, changed_by}
+use Rattle.otel_state.specs.Laws.{AddUp, was_entered}
+use Rattle.otel_state.proofs.Summing.{folded, constant, busy_all, left_all, first_within}
+
+-- how far busy time may reach: to the last moment where an entry is open, else to the last exit or the making
+record Bounded (busy entries made last : ℕ) (left : Option ℕ) : Type 0 where
+  pub is_moment : last ≤ GREATEST
+  pub while_open : 0 < entries → busy + made ≤ last
+  pub while_shut : entries ≡ 0 → busy + made ≤ unwrap_or left made
+  pub within : unwrap_or left made ≤ last
+
+gap_shut : (entries last at : ℕ) → entries ≡ 0 → gap entries last at ≡ 0
+gap_shut entries last at is = ap (λ n. gap n last at) is
+
+gap_open : (entries last at : ℕ) → 0 < entries → gap entries last at ≡ at - last
+gap_open entries last at more = by_test (entries == 0) refl
+  where
+    by_test : (shut : Bool) → (entries == 0) ≡ shut → (if shut then 0 else at - last) ≡ at - last
+    by_test true is = let none = eqb-true entries 0 is in absurd (omega (arith, none, more))
+    by_test false is = refl
+
+grown : (busy entries made last at : ℕ) (left : Option ℕ) → last ≤ at → Bounded busy entries made last left → busy + gap entries last at + made ≤ at
+grown busy zero made last at left later bounded = let shut = bounded.while_shut refl in let within = bounded.within in omega (arith, shut, within, later)
+grown busy (suc n) made last at left later bounded = let more = bounded.while_open (omega arith) in let is = gap_open (suc n) last at (omega arith) in omega (arith, more, is, later)
+
+one_bounded : (busy entries made last at : ℕ) (left : Option ℕ) (d : Deed) → last ≤ at → at ≤ GREATEST → Bounded busy entries made last left → (exits enters : Bool)
+    → Bounded (busy + gap entries last at) (if exits then entries - 1 else if enters then min (entries + 1) GREATEST else entries) made at (if exits then Some at else left)
+one_bounded busy entries made last at left d later most bounded true enters =
+    let reach = grown busy entries made last at left later bounded in
+    record { is_moment = most; while_open = λ more. reach; while_shut = λ is. reach; within = omega (arith, later) }
+one_bounded busy entries made last at left d later most bounded false true =
+    let reach = grown busy entries made last at left later bounded in let within = bounded.within in
+    record { is_moment = most; while_open = λ more. reach; while_shut = λ is. absurd (omega (arith, is)); within = omega (arith, within, later) }
+one_bounded busy entries made last at left d later most bounded false false =
+    let reach = grown busy entries made last at left later bounded in let within = bounded.within in
+    record {
+      is_moment = most;
+      while_open = λ more. reach;
+      while_shut = λ is. let none = gap_shut entries last at is in let shut = bounded.while_shut is in omega (arith, none, shut);
+      within = omega (arith, within, later);
+    }
+
+later_moment : (last at : ℕ) → last ≤ GREATEST → (last ≤ moment last at) × (moment last at ≤ GREATEST)
+later_moment last at most = (omega (arith, most), omega arith)
+
+all_bounded : (told : Told) (ops : List Stamped) → Bounded told.busy told.entries told.made told.last told.left
+    → Bounded (fold changed_by told ops).busy (fold changed_by told ops).entries (fold changed_by told ops).made (fold changed_by told ops).last (fold changed_by told ops).left
+all_bounded told [] bounded = bounded
+all_bounded told (op ∷ ops) bounded =
+    let later = later_moment told.last op.at bounded.is_moment in
+    all_bounded (changed_by told op) ops (one_bounded told.busy told.entries told.made told.last (moment told.last op.at) told.left (deed op.op) later.0 later.1 bounded (deed op.op).exits (deed op.op).enters)
+
+-- ---- a span that was entered and has no open entry was left
+
+never_none : (at : ℕ) (moments : List ℕ) → fold (λ _ n. Some n) (Some at) moments ≡ None → ⊥
+never_none at [] is = cc
+never_none at (n ∷ moments) is = never_none n moments is
+
+stays_open : (entries : ℕ) (ops : List Stamped) (left : Option ℕ) → 0 < entries → fold (λ _ at. Some at) left (filter_map exit_in ops) ≡ None → 0 < fold (λ n op. open_after n (deed op.op)) entries ops
+stays_open entries [] left more is = more
+stays_open entries (op ∷ ops) left more is = by_op (λ n less here. stays_open n ops left less here) (deed op.op).exits (deed op.op).enters is
+  where
+    by_op : ((n : ℕ) → 0 < n → fold (λ _ at. Some at) left (filter_map exit_in ops) ≡ None → 0 < fold (λ n op. open_after n (deed op.op)) n ops) → (exits enters : Bool)
+        → fold (λ _ at. Some at) left (cons_option (if exits then Some op.at else None) (filter_map exit_in ops)) ≡ None
+        → 0 < fold (λ n op. open_after n (deed op.op)) (if exits then entries - 1 else if enters then min (entries + 1) GREATEST else entries) ops
+    by_op more_ops true enters none = absurd (never_none op.at (filter_map exit_in ops) none)
+    by_op more_ops false true none = more_ops (min (entries + 1) GREATEST) (omega arith) none
+    by_op more_ops false false none = more_ops entries more none
+
+left_if_entered : (entries : ℕ) (ops : List Stamped) (left : Option ℕ) → open_by entries ops ≡ 0 → was_entered ops ≡ true → fold (λ _ at. Some at) left (filter_map exit_in ops) ≡ None → ⊥
+left_if_entered entries [] left shut entered none = cc
+left_if_entered entries (op ∷ ops) left shut entered none = by_op (λ n. left_if_entered n ops left) (deed op.op).exits (deed op.op).enters shut entered none
+  where
+    by_op : ((n : ℕ) → open_by n ops ≡ 0 → was_entered ops ≡ true → fold (λ _ at. Some at) left (filter_map exit_in ops) ≡ None → ⊥) → (exits enters : Bool)
+        → open_by (if exits then entries - 1 else if enters then min (entries + 1) GREATEST else entries) ops ≡ 0 → (enters || was_entered ops) ≡ true
+        → fold (λ _ at. Some at) left (cons_option (if exits then Some op.at else None) (filter_map exit_in ops)) ≡ None → ⊥
+    by_op more_ops true enters shut entered none = never_none op.at (filter_map exit_in ops) none
+    by_op more_ops false true shut entered none = let more = stays_open (min (entries + 1) GREATEST) ops left (omega arith) none in absurd (omega (arith, more, shut))
+    by_op more_ops false false shut entered none = more_ops entries shut entered none
+
+-- ---- the law
+
+sum_is : (made busy closed : ℕ) (left : Option ℕ) → (left ≡ None → ⊥) → busy + made ≤ unwrap_or left made → made + busy + idle_of left made busy ≡ unwrap_or left closed
+sum_is made busy closed None never reach = absurd (never refl)
+sum_is made busy closed (Some end) never reach = omega (arith, reach)
+
+no_idle : (made busy : ℕ) (left : Option ℕ) → left ≡ None → idle_of left made busy ≡ 0
+no_idle made busy left is = ap (λ l. idle_of l made busy) is
+
+no_busy : (made busy : ℕ) (left : Option ℕ) → left ≡ None → busy + made ≤ unwrap_or left made → busy ≡ 0
+no_busy made busy left is reach = let none = ap (λ l. unwrap_or l made) is in omega (arith, none, reach)
+
+reached : (making : Making) (ops : List Stamped) → InOrder making.made ops → open_by 0 ops ≡ 0 → busy_of making.made ops + making.made ≤ unwrap_or (last_exit ops) making.made
+reached making ops order shut =
+    let start = begun making in
+    let made = first_within making.made ops order in
+    let within : min making.made GREATEST ≡ making.made = omega (arith, made) in
+    let in_order = subst (λ n. InOrder n ops) (sym within) order in
+    let bounded = all_bounded start ops (record { is_moment = omega arith; while_open = λ more. absurd (omega (arith, more)); while_shut = λ is. omega arith; within = omega (arith, within) }) in
+    let entries = folded (λ t. t.entries) (λ n op. open_after n (deed op.op)) (λ t op. refl) start ops ∙ shut in
+    let reach = bounded.while_shut entries in
+    let busy = busy_all start ops in_order ∙ ap (λ n. 0 + busy_of n ops) within in
+    let left = ap (λ l. unwrap_or l making.made) (left_all start ops in_order) in
+    let kept = constant (λ t. t.made) (λ t op. refl) start ops in
+    let left_made = ap (λ n. unwrap_or (fold changed_by start ops).left n) kept in
+    omega (arith, reach, busy, left, kept, left_made)
+
+pub add_up : (making : Making) (ops : List Stamped) (closed : ℕ) → InOrder making.made ops → open_by 0 ops ≡ 0 → AddUp making ops closed
+add_up making ops closed order shut =
+    let reach = reached making ops order shut in
+    record {
+      entered = λ entered. sum_is making.made (busy_of making.made ops) closed (last_exit ops) (λ none. left_if_entered 0 ops None shut entered none) reach;
+      busy = λ none. no_busy making.made (busy_of making.made ops) (last_exit ops) none reach;
+      idle = λ none. no_idle making.made (busy_of making.made ops) (last_exit ops) none;
+    }

@@ -1,0 +1,5 @@
+pub mod Summing
+pub mod AddingUp
+pub mod Starting
+pub mod Ranking
+pub mod Popping

@@ -1,0 +1,6 @@
+-- The lemma itself.
+use Rattle.otel_state.proofs.Ranking.{never_falls}
+use Rattle.otel_state.proofs.laws.statuses.Goals as goal
+
+pub returns : goal.returns
+returns c = never_falls

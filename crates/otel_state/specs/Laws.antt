@@ -1,0 +1,56 @@
+-- What holds of all lists of ops.
+use Rattle.std.specs.Prelude.{◌≡◌, ℕ, ◌+◌, List, [], ◌∷◌, ◌++◌, Bool, IsTrue, All, Option, None, is_some}
+use Rattle.std.specs.List.{list_any}
+use Rattle.std.specs.Ordering.{is_le}
+use Rattle.otel_base.specs.declared.context.SpanContext.{SpanContext}
+use Rattle.otel_base.specs.Statuses.{status_cmp}
+use Rattle.otel_state.specs.declared.op.Op.{Op}
+use Rattle.otel_state.specs.declared.op.Op.TheVariants as ops
+use Rattle.otel_state.specs.Deeds.{Deed, Stamped, deed}
+use Rattle.otel_state.specs.Opening.{own_of}
+use Rattle.otel_state.specs.Statuses.{status_of}
+use Rattle.otel_state.specs.Times.{InOrder, open_by, busy_of, idle_of, last_exit}
+use Rattle.otel_state.specs.Content.{Making, content}
+
+-- ---- busy and idle
+
+-- an entry was opened
+abbrev pub was_entered : List Stamped → Bool
+was_entered ops = list_any (λ op. (deed op.op).enters) ops
+
+-- from the making on, busy and idle take up to the end, where the span was entered, and are both 0 where it was never left
+pub record AddUp (making : Making) (ops : List Stamped) (closed : ℕ) : Type 0 where
+  pub entered : IsTrue (was_entered ops)
+      → making.made + busy_of making.made ops + idle_of (last_exit ops) making.made (busy_of making.made ops) ≡ (content making ops closed).end
+  pub busy : last_exit ops ≡ None → busy_of making.made ops ≡ 0
+  pub idle : last_exit ops ≡ None → idle_of (last_exit ops) making.made (busy_of making.made ops) ≡ 0
+
+-- ---- what is settled by the start
+
+-- what an op does beside writing a name, a kind or a parent
+abbrev pub unsettling : Deed → Deed
+unsettling d = record d { name = None; kind = None; parent = None }
+
+-- two ops do the same but for the name, the kind and the parent
+abbrev pub SameButSettled : Op → Op → Type 0
+SameButSettled a b = unsettling (deed a) ≡ unsettling (deed b)
+
+-- an op writes no name, no kind and no parent
+abbrev pub SettlesNothing : Stamped → Type 0
+SettlesNothing op = deed op.op ≡ unsettling (deed op.op)
+
+abbrev pub start_at : ℕ → SpanContext → Stamped
+start_at at own = record { at = at; op = ops.Start own }
+
+-- the ops with a start early, or late
+abbrev pub with_early : List Stamped → Stamped → List Stamped → List Stamped → List Stamped
+with_early before start between after = before ++ (start ∷ between ++ after)
+
+abbrev pub with_late : List Stamped → List Stamped → Stamped → List Stamped → List Stamped
+with_late before between start after = (before ++ between) ++ start ∷ after
+
+-- ---- the status
+
+-- the status after more ops is no less
+abbrev pub NeverFalls : List Stamped → List Stamped → Type 0
+NeverFalls ops more = IsTrue (is_le (status_cmp (status_of ops) (status_of (ops ++ more))))

@@ -1,0 +1,197 @@
+-- What a span's state has come to by its ops, one step for each op.
+use Rattle.std.specs.Prelude.{◌≡◌, ℕ, ◌+◌, ◌-◌, ◌≤◌, ◌==◌, min, max, if◌then◌else◌, Bool, true, false, List, [], ◌∷◌, ◌++◌, length, fold, Option, Some, None, Ok, Err, IfSome, IsTrue, is_some}
+use Rattle.std.specs.Option.{option_to_list}
+use Rattle.otel_base.specs.declared.context.Context.{Context}
+use Rattle.otel_base.specs.declared.context.SpanContext.{SpanContext}
+use Rattle.otel_base.specs.declared.record.Link.{Link}
+use Rattle.otel_base.specs.declared.record.OtelEvent.{OtelEvent}
+use Rattle.otel_base.specs.declared.record.Record.{Record}
+use Rattle.otel_base.specs.declared.record.SpanKind.{SpanKind}
+use Rattle.otel_base.specs.declared.record.SpanKind.TheVariants.{Internal}
+use Rattle.otel_base.specs.declared.status.Status.{Status}
+use Rattle.otel_base.specs.declared.status.Status.TheVariants.{Unset}
+use Rattle.otel_base.specs.declared.value.KeyValue.{KeyValue}
+use Rattle.otel_base.specs.Ids.{ids_of, ids_or_zeros, parent_id}
+use Rattle.otel_state.specs.declared.op.Op.{Op}
+use Rattle.otel_state.specs.declared.op.Op.TheVariants as ops
+use Rattle.otel_state.specs.declared.op.OpReply.{OpReply}
+use Rattle.otel_state.specs.declared.op.OpReply.TheVariants.{Done, Parent}
+use Rattle.otel_state.specs.declared.op.SetParentError.TheVariants.{AlreadyStarted}
+use Rattle.otel_state.specs.declared.times.TheConstants.{GREATEST}
+use Rattle.otel_state.specs.Deeds.{Deed, Stamped, deed}
+use Rattle.otel_state.specs.Statuses.{writes, greatest}
+use Rattle.otel_state.specs.Times.{open_after, gap, end_of, idle_of}
+use Rattle.otel_state.specs.Content.{Making, closing_count, closing_times}
+
+-- what a span has come to
+pub record Told : Type 0 where
+  pub name : List ℕ
+  pub kind : SpanKind
+  pub parent : Context
+  pub made : ℕ
+  pub counting : Bool
+  pub inactivity : Bool
+  pub own : Option SpanContext
+  pub attributes : List KeyValue
+  pub events : List OtelEvent
+  pub links : List Link
+  pub status : Status
+  pub counted : ℕ
+  -- how many entries are open, the moment of the last op, the busy time up to it, and the last exit
+  pub entries : ℕ
+  pub last : ℕ
+  pub busy : ℕ
+  pub left : Option ℕ
+
+-- how many attributes, events and links more need no memory; the attributes of the close aren't counted
+pub record Room : Type 0 where
+  pub attributes : ℕ
+  pub events : ℕ
+  pub links : ℕ
+
+-- a state: what the span has come to, and the spare room
+pub record Kept : Type 0 where
+  pub told : Told
+  pub room : Room
+
+-- a span without ops
+abbrev pub begun : Making → Told
+begun making = record {
+  name = making.name;
+  kind = Internal;
+  parent = making.parent;
+  made = making.made;
+  counting = making.counting;
+  inactivity = making.inactivity;
+  own = None;
+  attributes = making.first;
+  events = [];
+  links = [];
+  status = Unset;
+  counted = 0;
+  entries = 0;
+  last = min making.made GREATEST;
+  busy = 0;
+  left = None;
+}
+
+-- ---- one op more
+
+-- a moment counts from the last one on, and up to the greatest
+abbrev pub moment : ℕ → ℕ → ℕ
+moment last at = min (max at last) GREATEST
+
+-- what is written counts unless the span has started
+abbrev pub unless_started : {A : Type 0} → Option SpanContext → A → Option A → A
+unless_started own before None = before
+unless_started own before (Some written) = if is_some own then before else written
+
+-- the first start counts
+abbrev pub first_start : Option SpanContext → Option SpanContext → Option SpanContext
+first_start own None = own
+first_start None (Some given) = Some given
+first_start (Some own) (Some given) = Some own
+
+abbrev pub with_all : {A : Type 0} → List A → List A → List A
+with_all items [] = items
+with_all items (more ∷ mores) = items ++ more ∷ mores
+
+abbrev pub with_one : {A : Type 0} → List A → Option A → List A
+with_one items None = items
+with_one items (Some one) = items ++ one ∷ []
+
+-- time passes up to a moment
+abbrev pub passed : Told → ℕ → Told
+passed told at = record told { busy = told.busy + gap told.entries told.last (moment told.last at); last = moment told.last at }
+
+-- what an op does at the last moment
+abbrev pub did : Told → Deed → Told
+did told d =
+    let own = first_start told.own d.own in
+    record told {
+      name = unless_started own told.name d.name;
+      kind = unless_started own told.kind d.kind;
+      parent = unless_started own told.parent d.parent;
+      own = own;
+      attributes = with_all told.attributes d.attributes;
+      events = with_one told.events d.event;
+      links = with_one told.links d.link;
+      status = greatest told.status (writes d);
+      counted = if d.counts then min (told.counted + 1) GREATEST else told.counted;
+      entries = open_after told.entries d;
+      left = if d.exits then Some told.last else told.left;
+    }
+
+abbrev pub changed : Told → ℕ → Op → Told
+changed told at op = did (passed told at) (deed op)
+
+-- ---- a list of ops
+
+abbrev pub changed_by : Told → Stamped → Told
+changed_by told op = changed told op.at op.op
+
+-- a state stands for a making and the ops since
+abbrev pub Stands : Making → List Stamped → Told → Type 0
+Stands making ops told = told ≡ fold changed_by (begun making) ops
+
+-- a state stands for one op more, whatever making and ops it stood for
+abbrev pub Appends : ℕ → Op → Told → Told → Type 0
+Appends at op before now = (making : Making) (ops : List Stamped) → Stands making ops before → Stands making (ops ++ record { at = at; op = op } ∷ []) now
+
+-- a value is read off the making and the ops that a state stands for
+abbrev pub IsReadOff : {A : Type 0} → (Making → List Stamped → A) → Told → A → Type 0
+IsReadOff read told value = (making : Making) (ops : List Stamped) → Stands making ops told → value ≡ read making ops
+
+-- ---- answers
+
+-- what an op answers: a parent is set exactly before the first start
+abbrev pub reply_after : Option SpanContext → Op → OpReply
+reply_after own (ops.SetParent context) = Parent (if is_some own then Err AlreadyStarted else Ok tt)
+reply_after own _ = Done
+
+abbrev pub reply : Told → Op → OpReply
+reply told op = reply_after told.own op
+
+-- the ops for which memory may be wanted
+abbrev pub is_growing : Op → Bool
+is_growing (ops.Update update) = true
+is_growing (ops.Event is_error update event) = true
+is_growing (ops.AddEvent event) = true
+is_growing (ops.Link link) = true
+is_growing (ops.SetAttribute pair) = true
+is_growing _ = false
+
+-- the room that an op fills
+pub record HasRoom (room : Room) (op : Op) : Type 0 where
+  pub attributes : length (deed op).attributes ≤ room.attributes
+  pub events : length (option_to_list (deed op).event) ≤ room.events
+  pub links : length (option_to_list (deed op).link) ≤ room.links
+
+-- ---- the close
+
+-- the record of a state that is closed at a moment
+abbrev pub record_of : Told → ℕ → Record
+record_of told closed = record {
+  name = told.name;
+  kind = told.kind;
+  context = ids_or_zeros told.own;
+  parent = parent_id (ids_of told.parent);
+  start = told.made;
+  end = end_of told.left closed;
+  attributes = told.attributes ++ closing_count told.counting told.counted
+      ++ closing_times told.inactivity told.busy (idle_of told.left told.made told.busy);
+  events = told.events;
+  links = told.links;
+  status = told.status;
+}
+
+-- ---- what always holds of what is kept
+
+-- times are moments in order, a count is within its type, and the close has its room
+pub record IsInTime (counted entries busy last : ℕ) (left : Option ℕ) (length capacity : ℕ) : Type 0 where
+  pub is_within : busy ≤ last
+  pub is_moment : last ≤ GREATEST
+  pub is_past : IfSome left (λ l. l ≤ last)
+  pub is_counted : counted ≤ GREATEST
+  pub is_open : entries ≤ GREATEST
+  pub has_room : length + 3 ≤ capacity

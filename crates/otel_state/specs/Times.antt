@@ -1,0 +1,47 @@
+-- When a span ended, and how long it was busy and idle.
+use Rattle.std.specs.Prelude.{◌≡◌, ℕ, ◌+◌, ◌-◌, ◌≤◌, ◌==◌, min, List, [], ◌∷◌, Bool, Option, None, Some, if◌then◌else◌, filter_map, fold, unwrap_or}
+use Rattle.std.specs.Option.{option_map_or}
+use Rattle.otel_state.specs.declared.times.TheConstants.{GREATEST}
+use Rattle.otel_state.specs.Deeds.{Deed, Stamped, deed}
+
+-- how many entries are open after an op; the count stands still at its greatest
+abbrev pub open_after : ℕ → Deed → ℕ
+open_after entries d = if d.exits then entries - 1 else if d.enters then min (entries + 1) GREATEST else entries
+
+-- how many entries are open after some ops
+abbrev pub open_by : ℕ → List Stamped → ℕ
+open_by entries ops = fold (λ n op. open_after n (deed op.op)) entries ops
+
+-- the time since the op before, where an entry is open
+abbrev pub gap : ℕ → ℕ → ℕ → ℕ
+gap entries last at = if entries == 0 then 0 else at - last
+
+-- the sum of the gaps between ops that follow one another, from so many entries and a moment on
+abbrev pub busy_from : ℕ → ℕ → List Stamped → ℕ
+busy_from entries last [] = 0
+busy_from entries last (op ∷ ops) = gap entries last op.at + busy_from (open_after entries (deed op.op)) op.at ops
+
+-- busy is the time in which some entry was open
+abbrev pub busy_of : ℕ → List Stamped → ℕ
+busy_of made ops = busy_from 0 made ops
+
+-- the moment of an op that closes an entry
+abbrev pub exit_in : Stamped → Option ℕ
+exit_in op = if (deed op.op).exits then Some op.at else None
+
+-- the moment of the last exit, if there is one
+abbrev pub last_exit : List Stamped → Option ℕ
+last_exit ops = fold (λ _ at. Some at) None (filter_map exit_in ops)
+
+-- the end is the last exit, else the close
+abbrev pub end_of : Option ℕ → ℕ → ℕ
+end_of left closed = unwrap_or left closed
+
+-- idle is the rest from the making to the last exit, 0 where there is none
+abbrev pub idle_of : Option ℕ → ℕ → ℕ → ℕ
+idle_of left made busy = option_map_or (λ end. end - made - busy) left 0
+
+-- moments don't fall, and are at most the greatest
+abbrev pub InOrder : ℕ → List Stamped → Type 0
+InOrder last [] = last ≤ GREATEST
+InOrder last (op ∷ ops) = (last ≤ op.at) × InOrder op.at ops

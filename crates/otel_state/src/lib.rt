@@ -1,0 +1,17 @@
+//! What a span's state is: a making and the ops that were applied since, which a close turns into the span's record.
+//! Everything turns on `SpanState`: `apply` adds an op, and `close` answers the record that the ops define.
+#![tactic(auto)]
+
+pub mod laws;
+pub mod op;
+pub mod stack;
+pub mod state;
+#[cfg(test)]
+mod tests;
+pub mod times;
+pub mod update;
+
+pub use op::{Op, OpReply, SetParentError};
+pub use stack::IdValueStack;
+pub use state::SpanState;
+pub use update::Update;

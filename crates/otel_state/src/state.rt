@@ -1,0 +1,488 @@
+//! The state of a span from its making to its close.
+ghost use Rattle.std.specs.Prelude.{◌≡◌, ◌+◌, ◌≤◌, ◌<◌, ◌++◌, ◌∷◌, [], ℕ, List, Some, OnOk, OnErr, IfOk, IsTrue, false, length, vec_len, vec_capacity};
+ghost use Rattle.std.specs.Option.{option_to_list};
+ghost use Rattle.std.specs.Ordering.{ord_max};
+ghost use Rattle.otel_base.specs.Statuses.{status_cmp};
+ghost use Rattle.otel_base.specs.Words.{word_text};
+ghost use Rattle.otel_state.specs.declared.times.TheConstants.{GREATEST};
+ghost use Rattle.otel_state.specs.Deeds.{Stamped, written_by};
+ghost use Rattle.otel_state.specs.Opening.{own_of, parent_of};
+ghost use Rattle.otel_state.specs.Statuses.{greatest, error_in};
+ghost use Rattle.otel_state.specs.Times.{InOrder, open_by};
+ghost use Rattle.otel_state.specs.Content.{Making, content, closing_count, closing_times, number};
+ghost use Rattle.otel_state.specs.States.{begun, passed, unless_started, with_all, did, changed, reply, reply_after, is_growing, record_of, Stands, Appends, IsReadOff, HasRoom};
+
+use crate::op::{Op, OpReply, SetParentError};
+use crate::times::{GREATEST, idle, moment_after, one_more};
+use crate::update::Update;
+use otel_base::context::{Context, SpanContext};
+use otel_base::list::Items;
+use otel_base::memory::Memory;
+use otel_base::record::{Link, Moment, OtelEvent, Record, SpanKind};
+use otel_base::status::Status;
+use otel_base::text::Text;
+use otel_base::value::{KeyValue, OtelValue};
+use otel_base::word::Word;
+use std::alloc::Global;
+use std::marker::Model;
+
+/// How many attributes a close adds at most.
+const CLOSING: usize = 3;
+
+/// The state of a span: its making, and what the ops since came to; the `OtelData` of `tracing_opentelemetry::layer`.
+#[derive(Drop)]
+pub struct SpanState {
+    alloc: Global,
+    opening: Opening,
+    made: u64,
+    counting: bool,
+    inactivity: bool,
+    own: Option<SpanContext>,
+    attributes: Vec<KeyValue>,
+    events: Vec<OtelEvent>,
+    links: Vec<Link>,
+    status: Status,
+    counted: u64,
+    entries: u64,
+    last: u64,
+    busy: u64,
+    left: Option<u64>,
+}
+
+// What ops may change until the span starts.
+#[derive(Drop)]
+struct Opening {
+    name: Text,
+    kind: SpanKind,
+    parent: Context,
+}
+
+impl Model for SpanState {
+    ghost use Rattle.std.specs.Prelude.{◌-◌, length, vec_capacity};
+    ghost use Rattle.otel_state.specs.States.{Kept, IsInTime};
+
+    ghost Value = { Kept };
+
+    ghost view = { λ s. record {
+      told = record {
+        name = s.opening.name;
+        kind = s.opening.kind;
+        parent = s.opening.parent;
+        made = s.made;
+        counting = s.counting;
+        inactivity = s.inactivity;
+        own = s.own;
+        attributes = s.attributes.items;
+        events = s.events.items;
+        links = s.links.items;
+        status = s.status;
+        counted = s.counted;
+        entries = s.entries;
+        last = s.last;
+        busy = s.busy;
+        left = s.left;
+      };
+      room = record {
+        attributes = vec_capacity s.attributes - length s.attributes.items - 3;
+        events = vec_capacity s.events - length s.events.items;
+        links = vec_capacity s.links - length s.links.items;
+      };
+    } };
+
+    ghost invariant = { λ s. IsInTime s.counted s.entries s.busy s.last s.left (length s.attributes.items) (vec_capacity s.attributes) };
+}
+
+impl SpanState {
+    /// The state of a span that is made at a moment, with the room that its close needs. `first` are its first
+    /// attributes; with `counting` its close tells how many events were counted, and with `inactivity` its times.
+    pub fn new(
+        alloc: Global,
+        name: &str,
+        parent: Context,
+        made: Moment,
+        first: Items<KeyValue>,
+        counting: bool,
+        inactivity: bool,
+    ) -> Result<SpanState, Memory>
+        ensures { IfOk result (λ state. Stands (record { name = name.now; parent = parent; made = made; first = first; counting = counting; inactivity = inactivity }) [] state.told) }
+    {
+        let mut attributes = first.into_vec();
+        attributes.reserve(CLOSING)?;
+        Ok(SpanState {
+            alloc,
+            opening: Opening {
+                name: Text::from(String::from_str(alloc, name)?),
+                kind: SpanKind::Internal,
+                parent,
+            },
+            made,
+            counting,
+            inactivity,
+            own: None,
+            attributes,
+            events: Vec::new(alloc),
+            links: Vec::new(alloc),
+            status: Status::Unset,
+            counted: 0,
+            entries: 0,
+            last: made.min(GREATEST),
+            busy: 0,
+            left: None,
+        })
+    }
+
+    /// Its ids, once it has started.
+    #[tactic(auto, using(crate::proofs::Summing::own_is))]
+    pub fn started(&self) -> Option<SpanContext>
+        ensures value { result ≡ self.now.told.own }
+        ensures listed { IsReadOff (λ _ ops. own_of ops) self.now.told result }
+    {
+        self.own
+    }
+
+    /// The context of its parent.
+    #[tactic(auto, using(crate::proofs::Summing::parent_is))]
+    pub fn parent(&self) -> Context
+        ensures value { result ≡ self.now.told.parent }
+        ensures listed { IsReadOff (λ making ops. parent_of making.parent ops) self.now.told result }
+    {
+        self.opening.parent
+    }
+
+    /// How many entries are open.
+    #[tactic(auto, using(crate::proofs::Summing::entries_is))]
+    pub fn entries(&self) -> u64
+        ensures value { result ≡ self.now.told.entries }
+        ensures listed { IsReadOff (λ _ ops. open_by 0 ops) self.now.told result }
+    {
+        self.entries
+    }
+
+    /// Applies an op at a moment, and answers it. `Memory` only where the op adds attributes, an event or a link; the
+    /// state then stays as it is.
+    #[tactic(auto, using(crate::proofs::Summing::appended))]
+    pub fn apply(&mut self, at: Moment, op: Op) -> Result<OpReply, Memory>
+        ensures appends { OnOk result (Appends at op self.old.told self.new.told) }
+        ensures did { OnOk result (self.new.told ≡ changed self.old.told at op) }
+        ensures reply { IfOk result (λ r. r ≡ reply self.old.told op) }
+        ensures listed { IfOk result (IsReadOff (λ _ ops. reply_after (own_of ops) op) self.old.told) }
+        ensures memory_leaves { OnErr result (self.new.told ≡ self.old.told) }
+        ensures memory { OnErr result (IsTrue (is_growing op)) }
+    {
+        let answer = self.answer(&op);
+        self.reserve(&op)?;
+        self.put(at, op);
+        Ok(answer)
+    }
+
+    /// Applies an op in room that was reserved for it.
+    pub fn put(&mut self, at: Moment, op: Op)
+        requires room { HasRoom self.old.room op }
+        ensures told { self.new.told ≡ changed self.old.told at op }
+        ensures room { is_growing op ≡ false → self.new.room ≡ self.old.room }
+    {
+        self.pass(at);
+        match op {
+            Op::Update { update } => self.put_update(update),
+            Op::Event {
+                is_error,
+                update,
+                event,
+            } => {
+                self.put_error(is_error);
+                self.put_update(update);
+                self.put_event(event);
+            }
+            Op::Counted => self.counted = one_more(self.counted),
+            Op::AddEvent { event } => self.put_event(event),
+            Op::Link { link } => self.put_link(link),
+            Op::SetAttribute { pair } => self.put_attribute(pair),
+            Op::SetStatus { status } => self.put_status(status),
+            Op::SetParent { context } => {
+                if self.own.is_none() {
+                    self.opening.parent = context;
+                }
+            }
+            Op::Start { own } => {
+                if self.own.is_none() {
+                    self.own = Some(own);
+                }
+            }
+            Op::Enter => self.entries = one_more(self.entries),
+            Op::Exit => {
+                self.entries = self.entries.saturating_sub(1);
+                self.left = Some(self.last);
+            }
+        }
+    }
+
+    // Time passes up to a moment.
+    fn pass(&mut self, at: Moment)
+        ensures told { self.new.told ≡ passed self.old.told at }
+        ensures room { self.new.room ≡ self.old.room }
+    {
+        let at = moment_after(self.last, at);
+        if self.entries > 0 {
+            self.busy += at - self.last;
+        }
+        self.last = at;
+    }
+
+    fn put_update(&mut self, update: Update)
+        requires { length update.attributes ≤ self.old.room.attributes }
+        ensures told { self.new.told ≡ did self.old.told (written_by update) }
+        ensures room { self.new.room.events ≡ self.old.room.events }
+    {
+        let Update {
+            name,
+            kind,
+            status,
+            attributes,
+        } = update;
+        self.put_name(name);
+        self.put_kind(kind);
+        self.put_written(status);
+        self.put_attributes(attributes);
+    }
+
+    fn put_name(&mut self, name: Option<Text>)
+        ensures told { self.new.told ≡ record self.old.told { name = unless_started self.old.told.own self.old.told.name name } }
+        ensures room { self.new.room ≡ self.old.room }
+    {
+        if let Some(name) = name
+            && self.own.is_none()
+        {
+            self.opening.name = name;
+        }
+    }
+
+    fn put_kind(&mut self, kind: Option<SpanKind>)
+        ensures told { self.new.told ≡ record self.old.told { kind = unless_started self.old.told.own self.old.told.kind kind } }
+        ensures room { self.new.room ≡ self.old.room }
+    {
+        if self.own.is_none()
+            && let Some(kind) = kind
+        {
+            self.opening.kind = kind;
+        }
+    }
+
+    // An error without a description is written, if there is one.
+    fn put_error(&mut self, is_error: bool)
+        ensures told { self.new.told ≡ record self.old.told { status = greatest self.old.told.status (error_in is_error) } }
+        ensures room { self.new.room ≡ self.old.room }
+    {
+        if is_error {
+            self.put_status(Status::Error {
+                description: Text::from(String::new(self.alloc)),
+            });
+        }
+    }
+
+    fn put_written(&mut self, status: Option<Status>)
+        ensures told { self.new.told ≡ record self.old.told { status = greatest self.old.told.status (option_to_list status) } }
+        ensures room { self.new.room ≡ self.old.room }
+    {
+        if let Some(status) = status {
+            self.put_status(status);
+        }
+    }
+
+    fn put_status(&mut self, status: Status)
+        ensures told { self.new.told ≡ record self.old.told { status = ord_max status_cmp self.old.told.status status } }
+        ensures room { self.new.room ≡ self.old.room }
+    {
+        if status >= self.status {
+            self.status = status;
+        }
+    }
+
+    fn put_attributes(&mut self, attributes: Items<KeyValue>)
+        requires { length attributes ≤ self.old.room.attributes }
+        ensures told { self.new.told ≡ record self.old.told { attributes = with_all self.old.told.attributes attributes } }
+        ensures room { self.new.room.events ≡ self.old.room.events }
+    {
+        let mut attributes = attributes.into_vec();
+        match self.attributes.append(&mut attributes) {
+            Ok(()) => {}
+            Err(_) => unreachable!(),
+        }
+    }
+
+    fn put_attribute(&mut self, pair: KeyValue)
+        requires { 1 ≤ self.old.room.attributes }
+        ensures { self.new.told ≡ record self.old.told { attributes = self.old.told.attributes ++ pair ∷ [] } }
+    {
+        match self.attributes.push(pair) {
+            Ok(()) => {}
+            Err(_) => unreachable!(),
+        }
+    }
+
+    fn put_event(&mut self, event: OtelEvent)
+        requires { 1 ≤ self.old.room.events }
+        ensures { self.new.told ≡ record self.old.told { events = self.old.told.events ++ event ∷ [] } }
+    {
+        match self.events.push(event) {
+            Ok(()) => {}
+            Err(_) => unreachable!(),
+        }
+    }
+
+    fn put_link(&mut self, link: Link)
+        requires { 1 ≤ self.old.room.links }
+        ensures { self.new.told ≡ record self.old.told { links = self.old.told.links ++ link ∷ [] } }
+    {
+        match self.links.push(link) {
+            Ok(()) => {}
+            Err(_) => unreachable!(),
+        }
+    }
+
+    /// Gives a state without ops its parent and the moment of its making.
+    pub fn begin(&mut self, parent: Context, made: Moment)
+        ensures told { (making : Making) → self.old.told ≡ begun making → self.new.told ≡ begun (record making { parent = parent; made = made }) }
+        ensures room { self.new.room ≡ self.old.room }
+    {
+        self.opening.parent = parent;
+        self.made = made;
+        self.last = made.min(GREATEST);
+        self.busy = 0;
+        self.left = None;
+    }
+
+    /// What an op will answer.
+    pub fn answer(&self, op: &Op) -> OpReply
+        ensures { result ≡ reply self.now.told op.now }
+    {
+        match op {
+            Op::SetParent { context: _ } => {
+                if self.own.is_some() {
+                    OpReply::Parent(Err(SetParentError::AlreadyStarted))
+                } else {
+                    OpReply::Parent(Ok(()))
+                }
+            }
+            _ => OpReply::Done,
+        }
+    }
+
+    /// Takes the room for an op. `Memory` only where the op adds attributes, an event or a link.
+    pub fn reserve(&mut self, op: &Op) -> Result<(), Memory>
+        ensures room { OnOk result (HasRoom self.new.room op.now) }
+        ensures memory { OnErr result (IsTrue (is_growing op.now)) }
+        ensures leaves { self.new.told ≡ self.old.told }
+    {
+        match op {
+            Op::Update { update } => self.reserve_room(update.attributes.as_slice().len(), 0, 0),
+            Op::Event {
+                is_error: _,
+                update,
+                event: _,
+            } => self.reserve_room(update.attributes.as_slice().len(), 1, 0),
+            Op::AddEvent { event: _ } => self.reserve_room(0, 1, 0),
+            Op::Link { link: _ } => self.reserve_room(0, 0, 1),
+            Op::SetAttribute { pair: _ } => self.reserve_room(1, 0, 0),
+            _ => Ok(()),
+        }
+    }
+
+    /// Takes room for so many attributes, events and links, beside that of the close.
+    pub fn reserve_room(
+        &mut self,
+        attributes: usize,
+        events: usize,
+        links: usize,
+    ) -> Result<(), Memory>
+        ensures attributes { OnOk result (attributes ≤ self.new.room.attributes) }
+        ensures events { OnOk result (events ≤ self.new.room.events) }
+        ensures links { OnOk result (links ≤ self.new.room.links) }
+        ensures leaves { self.new.told ≡ self.old.told }
+    {
+        let all = attributes.checked_add(CLOSING).ok_or(Memory)?;
+        self.attributes.reserve(all)?;
+        self.events.reserve(events)?;
+        self.links.reserve(links)?;
+        Ok(())
+    }
+
+    /// The record of the span, which is closed at a moment. It takes no memory.
+    pub fn close(self, at: Moment) -> Record
+        ensures value { result ≡ record_of self.told at }
+        ensures content { (making : Making) (ops : List Stamped) → Stands making ops self.told → InOrder making.made ops → result ≡ content making ops at }
+    {
+        self.into_record(at)
+    }
+
+    fn into_record(self, at: Moment) -> Record
+        ensures { result ≡ record_of self.told at }
+    {
+        let idle = idle(self.left, self.made, self.busy);
+        let context = self.own.unwrap_or(SpanContext { trace: 0, span: 0 });
+        let parent = self.opening.parent.span_context().parent_id();
+        let end = self.left.unwrap_or(at);
+        let mut attributes = self.attributes;
+        add_count(self.alloc, &mut attributes, self.counting, self.counted);
+        add_times(
+            self.alloc,
+            &mut attributes,
+            self.inactivity,
+            self.busy,
+            idle,
+        );
+        Record {
+            name: self.opening.name,
+            kind: self.opening.kind,
+            context,
+            parent,
+            start: self.made,
+            end,
+            attributes: Items::from(attributes),
+            events: Items::from(self.events),
+            links: Items::from(self.links),
+            status: self.status,
+        }
+    }
+}
+
+// Adds how many events were counted, where that is told, in room that is there.
+fn add_count(alloc: Global, attributes: &mut Vec<KeyValue>, counting: bool, counted: u64)
+    requires room { vec_len attributes.old + 3 ≤ vec_capacity attributes.old }
+    requires number { counted ≤ GREATEST }
+    ensures items { attributes.new.items ≡ attributes.old.items ++ closing_count counting counted }
+    ensures room { vec_len attributes.new + 2 ≤ vec_capacity attributes.new }
+{
+    if counting {
+        add_number(alloc, attributes, Word::EventCount, counted);
+    }
+}
+
+// Adds the times, where these are told, in room that is there.
+fn add_times(alloc: Global, attributes: &mut Vec<KeyValue>, inactivity: bool, busy: u64, idle: u64)
+    requires room { vec_len attributes.old + 2 ≤ vec_capacity attributes.old }
+    requires busy { busy ≤ GREATEST }
+    requires idle { idle ≤ GREATEST }
+    ensures { attributes.new.items ≡ attributes.old.items ++ closing_times inactivity busy idle }
+{
+    if inactivity {
+        add_number(alloc, attributes, Word::Busy, busy);
+        add_number(alloc, attributes, Word::Idle, idle);
+    }
+}
+
+// Adds an attribute that tells a number, in room that is there.
+fn add_number(alloc: Global, attributes: &mut Vec<KeyValue>, key: Word, told: u64)
+    requires room { vec_len attributes.old < vec_capacity attributes.old }
+    requires number { told ≤ GREATEST }
+    ensures items { attributes.new.items ≡ attributes.old.items ++ number (word_text key) told ∷ [] }
+    ensures len { vec_len attributes.new ≡ vec_len attributes.old + 1 }
+    ensures capacity { vec_capacity attributes.old ≤ vec_capacity attributes.new }
+{
+    match attributes.push(KeyValue {
+        key: Text::fixed(alloc, key),
+        value: OtelValue::I64(told as i64),
+    }) {
+        Ok(()) => {}
+        Err(_) => unreachable!(),
+    }
+}
