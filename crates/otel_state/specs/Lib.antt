@@ -6,3 +6,8 @@ pub mod Content
 pub mod States
 pub mod Laws
 pub mod Stack
+pub mod Settings
+pub mod Fields
+pub mod FirstAttributes
+pub mod SpanFields
+pub mod EventFields

@@ -2,8 +2,10 @@
 //! Everything turns on `SpanState`: `apply` adds an op, and `close` answers the record that the ops define.
 #![tactic(auto)]
 
+pub mod fields;
 pub mod laws;
 pub mod op;
+pub mod settings;
 pub mod stack;
 pub mod state;
 #[cfg(test)]
@@ -11,7 +13,11 @@ mod tests;
 pub mod times;
 pub mod update;
 
+pub use fields::event::event_op;
+pub use fields::first::first_attributes;
+pub use fields::span::span_update;
 pub use op::{Op, OpReply, SetParentError};
+pub use settings::LayerSettings;
 pub use stack::IdValueStack;
 pub use state::SpanState;
 pub use update::Update;

@@ -15,6 +15,8 @@ use std::fmt::Write;
 use std::test::Fail;
 use trace_base::span::Id;
 
+mod fields;
+
 // A span that is made at 0 under the span 2 of the trace 5, with one attribute. Its ops come at 10, 20 and so on, and it
 // closes at 1000. What is told are the answers of its ops, and then its record.
 const CASES: [(&str, &str); 24] = [
@@ -319,10 +321,15 @@ fn tell(told: &mut String, record: &Record) -> Result<(), Fail> {
     for link in record.links.as_slice() {
         write!(told, " {}/{}", link.context.trace, link.context.span)?;
     }
-    match &record.status {
-        Status::Unset => told.push_str(", unset")?,
-        Status::Ok => told.push_str(", ok")?,
-        Status::Error { description } => write!(told, ", error {}", description.as_str())?,
+    told.push_str(", ")?;
+    tell_status(told, &record.status)
+}
+
+fn tell_status(told: &mut String, status: &Status) -> Result<(), Fail> {
+    match status {
+        Status::Unset => told.push_str("unset")?,
+        Status::Ok => told.push_str("ok")?,
+        Status::Error { description } => write!(told, "error {}", description.as_str())?,
     }
     Ok(())
 }
@@ -333,7 +340,12 @@ fn tell_pair(told: &mut String, pair: &KeyValue) -> Result<(), Fail> {
         OtelValue::Bool(flag) => write!(told, " {key}={flag}")?,
         OtelValue::I64(number) => write!(told, " {key}={number}")?,
         OtelValue::Str(text) => write!(told, " {key}={}", text.as_str())?,
-        OtelValue::List(_) => write!(told, " {key}=..")?,
+        OtelValue::List(texts) => {
+            write!(told, " {key}=")?;
+            for text in texts.as_slice() {
+                write!(told, "{}|", text.as_str())?;
+            }
+        }
     }
     Ok(())
 }

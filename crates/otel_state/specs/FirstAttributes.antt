@@ -1,0 +1,20 @@
+-- The attributes that a span has from its making.
+use Rattle.std.specs.Prelude.{pos, List, [], ◌∷◌, ◌++◌, codes, min}
+use Rattle.otel_base.specs.declared.value.KeyValue.{KeyValue}
+use Rattle.trace_base.specs.declared.callsite.Callsite.{Callsite}
+use Rattle.trace_base.specs.declared.lane.Lane.{Lane}
+use Rattle.trace_base.specs.Level.{level_text}
+use Rattle.otel_state.specs.declared.times.TheConstants.{GREATEST}
+use Rattle.otel_state.specs.declared.settings.LayerSettings.{LayerSettings}
+use Rattle.otel_state.specs.Fields.{with_text, with_number, wanted, known_text, location}
+
+-- a lane's id, which stands still at the greatest number of 63 bits, and its name if it has one
+abbrev pub lane_attributes : Lane → List KeyValue
+lane_attributes lane = with_number (codes "thread.id") (pos (min lane.id GREATEST)) ∷ known_text (codes "thread.name") lane.name
+
+abbrev pub first_attributes : Callsite → Lane → LayerSettings → List KeyValue
+first_attributes c lane settings =
+    wanted settings.location (location c)
+    ++ wanted settings.threads (lane_attributes lane)
+    ++ wanted settings.level (with_text (codes "level") (level_text c.level) ∷ [])
+    ++ wanted settings.target (with_text (codes "target") c.target ∷ [])

@@ -1,0 +1,88 @@
+//! The attributes that a span has from its making.
+ghost use Rattle.std.specs.Prelude.{◌≡◌, ◌++◌, ◌∷◌, [], OnOk, IfOk, codes};
+ghost use Rattle.trace_base.specs.Level.{level_text};
+ghost use Rattle.otel_state.specs.Fields.{with_text, wanted};
+ghost use Rattle.otel_state.specs.FirstAttributes.{first_attributes, lane_attributes};
+
+use crate::fields::{add_known_text, add_location, add_text};
+use crate::settings::LayerSettings;
+use crate::times::GREATEST;
+use otel_base::list::Items;
+use otel_base::memory::Memory;
+use otel_base::text::Text;
+use otel_base::value::{KeyValue, OtelValue};
+use otel_base::word::Word;
+use std::alloc::Global;
+use trace_base::callsite::Callsite;
+use trace_base::lane::Lane;
+
+/// The first attributes of a span of a callsite that is made on a lane: location, lane, level and target, each if it is
+/// wanted and known; those that `tracing_opentelemetry::layer` adds in `on_new_span`.
+pub fn first_attributes(
+    alloc: Global,
+    callsite: &Callsite,
+    lane: &Lane,
+    settings: &LayerSettings,
+) -> Result<Items<KeyValue>, Memory>
+    ensures { IfOk result (λ attributes. attributes ≡ first_attributes callsite.now lane.now settings.now) }
+{
+    let mut attributes = Items::new(alloc);
+    add_location(alloc, &mut attributes, settings.location, callsite)?;
+    add_lane(alloc, &mut attributes, settings.threads, lane)?;
+    add_level(alloc, &mut attributes, settings.level, callsite)?;
+    add_target(alloc, &mut attributes, settings.target, callsite)?;
+    Ok(attributes)
+}
+
+fn add_lane(
+    alloc: Global,
+    attributes: &mut Items<KeyValue>,
+    is_wanted: bool,
+    lane: &Lane,
+) -> Result<(), Memory>
+    ensures { OnOk result (attributes.new ≡ attributes.old ++ wanted is_wanted (lane_attributes lane.now)) }
+{
+    if is_wanted {
+        attributes.push(KeyValue {
+            key: Text::fixed(alloc, Word::ThreadId),
+            value: OtelValue::I64(lane.id.min(GREATEST) as i64),
+        })?;
+        add_known_text(alloc, attributes, Word::ThreadName, &lane.name)?;
+    }
+    Ok(())
+}
+
+// Adds the level of a callsite, where it is wanted.
+pub(crate) fn add_level(
+    alloc: Global,
+    attributes: &mut Items<KeyValue>,
+    is_wanted: bool,
+    callsite: &Callsite,
+) -> Result<(), Memory>
+    ensures { OnOk result (attributes.new ≡ attributes.old ++ wanted is_wanted (with_text (codes "level") (level_text callsite.now.level) ∷ [])) }
+{
+    if is_wanted {
+        let level = Text::fixed(alloc, callsite.level.word());
+        add_text(attributes, Text::fixed(alloc, Word::Level), level)?;
+    }
+    Ok(())
+}
+
+// Adds the target of a callsite, where it is wanted.
+pub(crate) fn add_target(
+    alloc: Global,
+    attributes: &mut Items<KeyValue>,
+    is_wanted: bool,
+    callsite: &Callsite,
+) -> Result<(), Memory>
+    ensures { OnOk result (attributes.new ≡ attributes.old ++ wanted is_wanted (with_text (codes "target") callsite.now.target ∷ [])) }
+{
+    if is_wanted {
+        add_text(
+            attributes,
+            Text::fixed(alloc, Word::Target),
+            callsite.target.clone()?,
+        )?;
+    }
+    Ok(())
+}
