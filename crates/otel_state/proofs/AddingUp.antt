@@ -1,12 +1,12 @@
 -- Busy and idle add up to the time from the making to the end.
 use Rattle.std.proofs.Common.{◌≡◌, ℕ, ◌+◌, ◌-◌, ◌<◌, ◌≤◌, List, [], ◌∷◌, Bool, true, false, Option, Some, None, refl, sym, ap, subst, ◌∙◌, arith, zero, suc}
-use Rattle.std.specs.Prelude.{if◌then◌else◌, ◌==◌, ◌||◌, min, fold, filter_map, unwrap_or, IsTrue}
-use Rattle.std.specs.List.{list_any, cons_option}
+use Rattle.std.specs.Prelude.{if◌then◌else◌, ◌==◌, ◌||◌, min, fold, filter_map, unwrap_or}
+use Rattle.std.specs.List.{cons_option}
 use Rattle.std.proofs.lemmas.Bool.{eqb-true}
 use Rattle.otel_state.specs.declared.times.TheConstants.{GREATEST}
 use Rattle.otel_state.specs.Deeds.{Deed, Stamped, deed}
 use Rattle.otel_state.specs.Times.{open_after, open_by, gap, busy_of, exit_in, last_exit, idle_of, InOrder}
-use Rattle.otel_state.specs.Content.{Making, content}
+use Rattle.otel_state.specs.Content.{Making}
 use Rattle.otel_state.specs.States.{Told, begun, moment, changed_by}
 use Rattle.otel_state.specs.Laws.{AddUp, was_entered}
 use Rattle.otel_state.proofs.Summing.{folded, constant, busy_all, left_all, first_within}

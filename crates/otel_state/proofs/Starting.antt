@@ -1,11 +1,10 @@
 -- What comes of the place of a start, and of what is written after it.
-use Rattle.std.proofs.Common.{◌≡◌, ℕ, ◌+◌, ◌-◌, ◌<◌, ◌≤◌, List, [], ◌∷◌, ◌++◌, length, Bool, true, false, Option, Some, None, refl, sym, ap, subst, ◌∙◌, arith, append_assoc}
+use Rattle.std.proofs.Common.{◌≡◌, ℕ, ◌+◌, ◌-◌, ◌≤◌, List, [], ◌∷◌, ◌++◌, Bool, true, false, Option, Some, None, refl, sym, ap, ◌∙◌, arith, append_assoc}
 use Rattle.std.specs.Prelude.{if◌then◌else◌, ◌==◌, is_some, min, fold, flat_map, filter_map, count_by, slice_get, All, IsTrue}
 use Rattle.std.specs.List.{cons_option}
 use Rattle.std.proofs.lemmas.List.Elements.{All-tail}
 use Rattle.std.proofs.lemmas.List.Sums.{sum_by-cons}
 use Rattle.otel_base.specs.declared.context.SpanContext.{SpanContext}
-use Rattle.otel_base.specs.declared.record.Record.{Record}
 use Rattle.otel_base.specs.declared.record.SpanKind.TheVariants.{Internal}
 use Rattle.otel_base.specs.declared.status.Status.{Status}
 use Rattle.otel_base.specs.declared.status.Status.TheVariants.{Unset}
@@ -17,7 +16,7 @@ use Rattle.otel_state.specs.Opening.{is_start, before_start, own_of, last_or, na
 use Rattle.otel_state.specs.Statuses.{writes, greatest, status_of}
 use Rattle.otel_state.specs.Times.{open_after, open_by, gap, busy_from, busy_of, exit_in, last_exit, InOrder}
 use Rattle.otel_state.specs.Content.{Making, attributes_of, events_of, links_of, counted_of, content}
-use Rattle.otel_state.specs.Laws.{unsettling, SameButSettled, SettlesNothing, start_at, with_early, with_late}
+use Rattle.otel_state.specs.Laws.{unsettling, SameButSettled, SettlesNothing, start_at, with_early, with_late, SameButIds}
 
 -- ---- what is written before the start
 
@@ -152,12 +151,10 @@ late_is_nothing making before after at closed a b started same =
     (content making xs closed).context
     ∙ ap (λ (c : SpanContext). record (content making ys closed) { context = c }) own
 
-pub early_is_late : (making : Making) (before between after : List Stamped) (early late : ℕ) (own given : SpanContext) (closed : ℕ) → All SettlesNothing between
+pub early_is_late : (making : Making) (before between after : List Stamped) (early late : ℕ) (own given : SpanContext) (closed : ℕ) → All SettlesNothing between → open_by 0 (before ++ between ++ after) ≡ 0
     → InOrder making.made (with_early before (start_at early own) between after) → InOrder making.made (with_late before between (start_at late given) after)
-    → open_by 0 (before ++ between ++ after) ≡ 0
-    → content making (with_early before (start_at early own) between after) closed
-    ≡ record (content making (with_late before between (start_at late given) after) closed) { context = (content making (with_early before (start_at early own) between after) closed).context }
-early_is_late making before between after early late own given closed all order later shut =
+    → SameButIds (content making (with_early before (start_at early own) between after) closed) (content making (with_late before between (start_at late given) after) closed)
+early_is_late making before between after early late own given closed all shut order later =
     let x = start_at early own in
     let y = start_at late given in
     let xs = with_early before x between after in

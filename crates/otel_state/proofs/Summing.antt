@@ -1,14 +1,11 @@
 -- What a state has come to by a list of ops, field by field, and so the record that it is closed to.
-use Rattle.std.proofs.Common.{◌≡◌, ℕ, ◌+◌, ◌-◌, ◌<◌, ◌≤◌, List, [], ◌∷◌, ◌++◌, length, Bool, true, false, Option, Some, None, refl, sym, ap, subst, ◌∙◌, arith, append_assoc}
-use Rattle.std.specs.Prelude.{if◌then◌else◌, ◌==◌, is_some, min, max, fold, flat_map, filter_map, count_by, slice_get}
+use Rattle.std.proofs.Common.{◌≡◌, ℕ, ◌+◌, ◌≤◌, List, [], ◌∷◌, ◌++◌, Bool, true, false, Option, Some, None, refl, sym, ap, subst, ◌∙◌, arith, append_assoc}
+use Rattle.std.specs.Prelude.{if◌then◌else◌, is_some, min, fold, flat_map, filter_map, count_by, slice_get}
 use Rattle.std.specs.List.{cons_option}
 use Rattle.std.specs.Ordering.{ord_max}
 use Rattle.std.proofs.lemmas.List.{append-nil}
 use Rattle.std.proofs.lemmas.List.Sums.{fold-append, fold_push, sum_by-cons}
 use Rattle.otel_base.specs.declared.context.SpanContext.{SpanContext}
-use Rattle.otel_base.specs.declared.record.Record.{Record}
-use Rattle.otel_base.specs.declared.record.SpanKind.TheVariants.{Internal}
-use Rattle.otel_base.specs.declared.status.Status.{Status}
 use Rattle.otel_base.specs.declared.status.Status.TheVariants.{Unset}
 use Rattle.otel_base.specs.Statuses.{status_cmp}
 use Rattle.otel_state.specs.declared.times.TheConstants.{GREATEST}

@@ -1,8 +1,6 @@
 -- What the fields of an event tell, of the event and on its span, a row for each case.
-use Rattle.std.specs.Prelude.{ℕ, ℤ, List, [], ◌∷◌, ◌++◌, Bool, true, false, Option, None, Some, if◌then◌else◌, codes, bytes_eq, fold, ◌&&◌}
+use Rattle.std.specs.Prelude.{ℕ, List, [], ◌∷◌, ◌++◌, Bool, true, false, Option, None, Some, if◌then◌else◌, codes, bytes_eq, fold, ◌&&◌}
 use Rattle.std.specs.Fmt.{signed_decimal}
-use Rattle.otel_base.specs.declared.record.OtelEvent.{OtelEvent}
-use Rattle.otel_base.specs.declared.status.Status.{Status}
 use Rattle.otel_base.specs.declared.status.Status.TheVariants.{Error}
 use Rattle.otel_base.specs.declared.value.KeyValue.{KeyValue}
 use Rattle.otel_base.specs.declared.value.OtelValue.TheVariants as told
@@ -12,18 +10,17 @@ use Rattle.trace_base.specs.declared.field.Value.TheVariants as given
 use Rattle.trace_base.specs.declared.field.ValueSet.{ValueSet}
 use Rattle.trace_base.specs.declared.level.Level.{Level}
 use Rattle.trace_base.specs.declared.level.Level.TheVariants as level
-use Rattle.trace_base.specs.Level.{level_text}
 use Rattle.otel_state.specs.declared.fields.event.Event.{Event}
 use Rattle.otel_state.specs.declared.op.Op.{Op}
 use Rattle.otel_state.specs.declared.op.Op.TheVariants as ops
 use Rattle.otel_state.specs.declared.settings.LayerSettings.{LayerSettings}
-use Rattle.otel_state.specs.Fields.{by_name, with_text, with_number, wanted, location, plain_text, debug_text, as_exception, as_field}
+use Rattle.otel_state.specs.Fields.{by_name, with_text, with_number, wanted, location, level_attribute, target_attribute, plain_text, debug_text, as_exception, as_field}
 
 -- each event tells its level and its target first; the name is empty while there is none
 abbrev pub begun_event : Callsite → Event
 begun_event c = record {
   name = [];
-  attributes = with_text (codes "level") (level_text c.level) ∷ with_text (codes "target") c.target ∷ [];
+  attributes = level_attribute c ++ target_attribute c;
   status = None;
   on_span = [];
 }

@@ -7,6 +7,7 @@ use Rattle.otel_base.specs.declared.value.OtelValue.TheVariants as told
 use Rattle.trace_base.specs.declared.callsite.Callsite.{Callsite}
 use Rattle.trace_base.specs.declared.field.Value.{Value}
 use Rattle.trace_base.specs.declared.field.Value.TheVariants as given
+use Rattle.trace_base.specs.Level.{level_text}
 use Rattle.trace_base.specs.Quote.{quoted}
 
 -- what the value at a place of a callsite's fields makes of something; a place past the fields changes nothing
@@ -35,6 +36,13 @@ known_number key n = option_to_list (option_map (λ m. with_number key (pos m)) 
 -- the file, the module and the line of a callsite
 abbrev pub location : Callsite → List KeyValue
 location c = known_text (codes "code.file.path") c.file ++ known_text (codes "code.module.name") c.module_path ++ known_number (codes "code.line.number") c.line
+
+-- the level of a callsite in upper case, and its target
+abbrev pub level_attribute : Callsite → List KeyValue
+level_attribute c = with_text (codes "level") (level_text c.level) ∷ []
+
+abbrev pub target_attribute : Callsite → List KeyValue
+target_attribute c = with_text (codes "target") c.target ∷ []
 
 -- ---- texts of values
 

@@ -1,12 +1,11 @@
 -- The attributes that a span has from its making.
-use Rattle.std.specs.Prelude.{pos, List, [], ◌∷◌, ◌++◌, codes, min}
+use Rattle.std.specs.Prelude.{pos, List, ◌∷◌, ◌++◌, codes, min}
 use Rattle.otel_base.specs.declared.value.KeyValue.{KeyValue}
 use Rattle.trace_base.specs.declared.callsite.Callsite.{Callsite}
 use Rattle.trace_base.specs.declared.lane.Lane.{Lane}
-use Rattle.trace_base.specs.Level.{level_text}
 use Rattle.otel_state.specs.declared.times.TheConstants.{GREATEST}
 use Rattle.otel_state.specs.declared.settings.LayerSettings.{LayerSettings}
-use Rattle.otel_state.specs.Fields.{with_text, with_number, wanted, known_text, location}
+use Rattle.otel_state.specs.Fields.{with_number, wanted, known_text, location, level_attribute, target_attribute}
 
 -- a lane's id, which stands still at the greatest number of 63 bits, and its name if it has one
 abbrev pub lane_attributes : Lane → List KeyValue
@@ -16,5 +15,5 @@ abbrev pub first_attributes : Callsite → Lane → LayerSettings → List KeyVa
 first_attributes c lane settings =
     wanted settings.location (location c)
     ++ wanted settings.threads (lane_attributes lane)
-    ++ wanted settings.level (with_text (codes "level") (level_text c.level) ∷ [])
-    ++ wanted settings.target (with_text (codes "target") c.target ∷ [])
+    ++ wanted settings.level (level_attribute c)
+    ++ wanted settings.target (target_attribute c)

@@ -1,15 +1,15 @@
 -- What holds of all lists of ops.
-use Rattle.std.specs.Prelude.{◌≡◌, ℕ, ◌+◌, List, [], ◌∷◌, ◌++◌, Bool, IsTrue, All, Option, None, is_some}
+use Rattle.std.specs.Prelude.{◌≡◌, ℕ, ◌+◌, List, ◌∷◌, ◌++◌, Bool, IsTrue, None}
 use Rattle.std.specs.List.{list_any}
 use Rattle.std.specs.Ordering.{is_le}
 use Rattle.otel_base.specs.declared.context.SpanContext.{SpanContext}
+use Rattle.otel_base.specs.declared.record.Record.{Record}
 use Rattle.otel_base.specs.Statuses.{status_cmp}
 use Rattle.otel_state.specs.declared.op.Op.{Op}
 use Rattle.otel_state.specs.declared.op.Op.TheVariants as ops
 use Rattle.otel_state.specs.Deeds.{Deed, Stamped, deed}
-use Rattle.otel_state.specs.Opening.{own_of}
 use Rattle.otel_state.specs.Statuses.{status_of}
-use Rattle.otel_state.specs.Times.{InOrder, open_by, busy_of, idle_of, last_exit}
+use Rattle.otel_state.specs.Times.{busy_of, idle_of, last_exit}
 use Rattle.otel_state.specs.Content.{Making, content}
 
 -- ---- busy and idle
@@ -48,6 +48,10 @@ with_early before start between after = before ++ (start ∷ between ++ after)
 
 abbrev pub with_late : List Stamped → List Stamped → Stamped → List Stamped → List Stamped
 with_late before between start after = (before ++ between) ++ start ∷ after
+
+-- two records differ in their ids alone
+abbrev pub SameButIds : Record → Record → Type 0
+SameButIds a b = a ≡ record b { context = a.context }
 
 -- ---- the status
 

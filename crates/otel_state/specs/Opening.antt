@@ -1,5 +1,5 @@
 -- What a span's ops settle until it starts: its name, its kind and its parent; and the start itself.
-use Rattle.std.specs.Prelude.{ℕ, List, [], ◌∷◌, Bool, Option, None, Some, if◌then◌else◌, is_some, filter_map, fold, slice_get}
+use Rattle.std.specs.Prelude.{ℕ, List, [], ◌∷◌, Bool, Option, if◌then◌else◌, is_some, filter_map, fold, slice_get}
 use Rattle.otel_base.specs.declared.context.Context.{Context}
 use Rattle.otel_base.specs.declared.context.SpanContext.{SpanContext}
 use Rattle.otel_base.specs.declared.record.SpanKind.{SpanKind}

@@ -1,5 +1,5 @@
 -- What fields write on a span, a row for each case.
-use Rattle.std.specs.Prelude.{ℕ, List, [], ◌∷◌, ◌++◌, Bool, Option, None, Some, if◌then◌else◌, codes, bytes_eq, fold}
+use Rattle.std.specs.Prelude.{ℕ, List, [], ◌∷◌, ◌++◌, Option, None, Some, if◌then◌else◌, codes, bytes_eq, fold}
 use Rattle.std.specs.Str.{str_eq_ignore_ascii_case}
 use Rattle.otel_base.specs.declared.record.SpanKind.{SpanKind}
 use Rattle.otel_base.specs.declared.record.SpanKind.TheVariants.{Server, Client, Producer, Consumer, Internal}

@@ -1,5 +1,5 @@
 -- What a span's state has come to by its ops, one step for each op.
-use Rattle.std.specs.Prelude.{◌≡◌, ℕ, ◌+◌, ◌-◌, ◌≤◌, ◌==◌, min, max, if◌then◌else◌, Bool, true, false, List, [], ◌∷◌, ◌++◌, length, fold, Option, Some, None, Ok, Err, IfSome, IsTrue, is_some}
+use Rattle.std.specs.Prelude.{◌≡◌, ℕ, ◌+◌, ◌≤◌, min, max, if◌then◌else◌, Bool, true, false, List, [], ◌∷◌, ◌++◌, length, fold, Option, Some, None, Ok, Err, IfSome, is_some}
 use Rattle.std.specs.Option.{option_to_list}
 use Rattle.otel_base.specs.declared.context.Context.{Context}
 use Rattle.otel_base.specs.declared.context.SpanContext.{SpanContext}
@@ -20,8 +20,8 @@ use Rattle.otel_state.specs.declared.op.SetParentError.TheVariants.{AlreadyStart
 use Rattle.otel_state.specs.declared.times.TheConstants.{GREATEST}
 use Rattle.otel_state.specs.Deeds.{Deed, Stamped, deed}
 use Rattle.otel_state.specs.Statuses.{writes, greatest}
-use Rattle.otel_state.specs.Times.{open_after, gap, end_of, idle_of}
-use Rattle.otel_state.specs.Content.{Making, closing_count, closing_times}
+use Rattle.otel_state.specs.Times.{open_after, gap, end_of, idle_of, InOrder}
+use Rattle.otel_state.specs.Content.{Making, content, closing_count, closing_times}
 
 -- what a span has come to
 pub record Told : Type 0 where
@@ -141,6 +141,14 @@ Appends at op before now = (making : Making) (ops : List Stamped) → Stands mak
 -- a value is read off the making and the ops that a state stands for
 abbrev pub IsReadOff : {A : Type 0} → (Making → List Stamped → A) → Told → A → Type 0
 IsReadOff read told value = (making : Making) (ops : List Stamped) → Stands making ops told → value ≡ read making ops
+
+-- a state without ops gets the parent and the moment of its making
+abbrev pub Begins : Context → ℕ → Told → Told → Type 0
+Begins parent made before now = (making : Making) → before ≡ begun making → now ≡ begun (record making { parent = parent; made = made })
+
+-- a record is the content of the making and the ops that a state stands for, where moments don't fall
+abbrev pub IsContent : ℕ → Told → Record → Type 0
+IsContent at told result = (making : Making) (ops : List Stamped) → Stands making ops told → InOrder making.made ops → result ≡ content making ops at
 
 -- ---- answers
 

@@ -1,5 +1,5 @@
 -- The status of a span is the greatest of all that its ops write.
-use Rattle.std.specs.Prelude.{ℕ, List, [], ◌∷◌, ◌++◌, Bool, if◌then◌else◌, fold, flat_map}
+use Rattle.std.specs.Prelude.{List, [], ◌∷◌, ◌++◌, Bool, if◌then◌else◌, fold, flat_map}
 use Rattle.std.specs.Option.{option_to_list}
 use Rattle.std.specs.Ordering.{ord_max}
 use Rattle.otel_base.specs.Statuses.{status_cmp}

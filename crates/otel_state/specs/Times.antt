@@ -1,5 +1,5 @@
 -- When a span ended, and how long it was busy and idle.
-use Rattle.std.specs.Prelude.{◌≡◌, ℕ, ◌+◌, ◌-◌, ◌≤◌, ◌==◌, min, List, [], ◌∷◌, Bool, Option, None, Some, if◌then◌else◌, filter_map, fold, unwrap_or}
+use Rattle.std.specs.Prelude.{ℕ, ◌+◌, ◌-◌, ◌≤◌, ◌==◌, min, List, [], ◌∷◌, Option, None, Some, if◌then◌else◌, filter_map, fold, unwrap_or}
 use Rattle.std.specs.Option.{option_map_or}
 use Rattle.otel_state.specs.declared.times.TheConstants.{GREATEST}
 use Rattle.otel_state.specs.Deeds.{Deed, Stamped, deed}

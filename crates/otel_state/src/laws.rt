@@ -7,7 +7,7 @@ ghost use Rattle.otel_state.specs.Opening.{own_of};
 ghost use Rattle.otel_state.specs.Times.{InOrder, open_by};
 ghost use Rattle.otel_state.specs.Content.{Making, content};
 ghost use Rattle.otel_state.specs.States.{Told, Appends, changed};
-ghost use Rattle.otel_state.specs.Laws.{AddUp, SameButSettled, SettlesNothing, start_at, with_early, with_late, NeverFalls};
+ghost use Rattle.otel_state.specs.Laws.{AddUp, SameButSettled, SettlesNothing, start_at, with_early, with_late, SameButIds, NeverFalls};
 
 /// A state that stands for some ops stands, after one more, for these and that one.
 pub fn appends()
@@ -17,23 +17,27 @@ pub fn appends()
 /// Where moments don't fall and no entry is left open, busy and idle add up to the time from the making to the end if
 /// the span was entered, and both are 0 if it was never left.
 pub fn times()
-    ensures { (making : Making) (ops : List Stamped) (closed : ℕ) → InOrder making.made ops → open_by 0 ops ≡ 0 → AddUp making ops closed }
+    ensures { (making : Making) (ops : List Stamped) (closed : ℕ) → InOrder making.made ops → open_by 0 ops ≡ 0
+        → AddUp making ops closed }
 {}
 
 /// A name, a kind or a parent that is written after the start leaves the record as it is.
 pub fn late_writes()
-    ensures { (making : Making) (before after : List Stamped) (at closed : ℕ) (a b : Op) → IsTrue (is_some (own_of before)) → SameButSettled a b
-        → content making (before ++ record { at = at; op = a } ∷ after) closed ≡ content making (before ++ record { at = at; op = b } ∷ after) closed }
+    ensures { (making : Making) (before after : List Stamped) (at closed : ℕ) (a b : Op)
+        → IsTrue (is_some (own_of before)) → SameButSettled a b
+        → content making (before ++ record { at = at; op = a } ∷ after) closed
+        ≡ content making (before ++ record { at = at; op = b } ∷ after) closed }
 {}
 
 /// A start may come early or late: where no name, kind or parent is written between the two places, the records differ
 /// in their ids alone.
 pub fn early_starts()
-    ensures { (making : Making) (before between after : List Stamped) (early late : ℕ) (own given : SpanContext) (closed : ℕ) → All SettlesNothing between
-        → InOrder making.made (with_early before (start_at early own) between after) → InOrder making.made (with_late before between (start_at late given) after)
-        → open_by 0 (before ++ between ++ after) ≡ 0
-        → content making (with_early before (start_at early own) between after) closed
-        ≡ record (content making (with_late before between (start_at late given) after) closed) { context = (content making (with_early before (start_at early own) between after) closed).context } }
+    ensures { (making : Making) (before between after : List Stamped) (early late : ℕ) (own given : SpanContext)
+        (closed : ℕ) → All SettlesNothing between → open_by 0 (before ++ between ++ after) ≡ 0
+        → InOrder making.made (with_early before (start_at early own) between after)
+        → InOrder making.made (with_late before between (start_at late given) after)
+        → SameButIds (content making (with_early before (start_at early own) between after) closed)
+        (content making (with_late before between (start_at late given) after) closed) }
 {}
 
 /// The status never falls as ops are appended.

@@ -5,12 +5,12 @@ ghost use Rattle.std.specs.Ordering.{ord_max};
 ghost use Rattle.otel_base.specs.Statuses.{status_cmp};
 ghost use Rattle.otel_base.specs.Words.{word_text};
 ghost use Rattle.otel_state.specs.declared.times.TheConstants.{GREATEST};
-ghost use Rattle.otel_state.specs.Deeds.{Stamped, written_by};
+ghost use Rattle.otel_state.specs.Deeds.{written_by};
 ghost use Rattle.otel_state.specs.Opening.{own_of, parent_of};
 ghost use Rattle.otel_state.specs.Statuses.{greatest, error_in};
-ghost use Rattle.otel_state.specs.Times.{InOrder, open_by};
-ghost use Rattle.otel_state.specs.Content.{Making, content, closing_count, closing_times, number};
-ghost use Rattle.otel_state.specs.States.{begun, passed, unless_started, with_all, did, changed, reply, reply_after, is_growing, record_of, Stands, Appends, IsReadOff, HasRoom};
+ghost use Rattle.otel_state.specs.Times.{open_by};
+ghost use Rattle.otel_state.specs.Content.{closing_count, closing_times, number};
+ghost use Rattle.otel_state.specs.States.{passed, unless_started, with_all, did, changed, reply, reply_after, is_growing, record_of, Stands, Appends, Begins, IsReadOff, IsContent, HasRoom};
 
 use crate::op::{Op, OpReply, SetParentError};
 use crate::times::{GREATEST, idle, moment_after, one_more};
@@ -104,7 +104,14 @@ impl SpanState {
         counting: bool,
         inactivity: bool,
     ) -> Result<SpanState, Memory>
-        ensures { IfOk result (λ state. Stands (record { name = name.now; parent = parent; made = made; first = first; counting = counting; inactivity = inactivity }) [] state.told) }
+        ensures { IfOk result (λ state. Stands (record {
+          name = name.now;
+          parent = parent;
+          made = made;
+          first = first;
+          counting = counting;
+          inactivity = inactivity;
+        }) [] state.told) }
     {
         let mut attributes = first.into_vec();
         attributes.reserve(CLOSING)?;
@@ -341,7 +348,7 @@ impl SpanState {
 
     /// Gives a state without ops its parent and the moment of its making.
     pub fn begin(&mut self, parent: Context, made: Moment)
-        ensures told { (making : Making) → self.old.told ≡ begun making → self.new.told ≡ begun (record making { parent = parent; made = made }) }
+        ensures told { Begins parent made self.old.told self.new.told }
         ensures room { self.new.room ≡ self.old.room }
     {
         self.opening.parent = parent;
@@ -409,7 +416,7 @@ impl SpanState {
     /// The record of the span, which is closed at a moment. It takes no memory.
     pub fn close(self, at: Moment) -> Record
         ensures value { result ≡ record_of self.told at }
-        ensures content { (making : Making) (ops : List Stamped) → Stands making ops self.told → InOrder making.made ops → result ≡ content making ops at }
+        ensures content { IsContent at self.told result }
     {
         self.into_record(at)
     }

@@ -1,7 +1,6 @@
 //! The attributes that a span has from its making.
-ghost use Rattle.std.specs.Prelude.{◌≡◌, ◌++◌, ◌∷◌, [], OnOk, IfOk, codes};
-ghost use Rattle.trace_base.specs.Level.{level_text};
-ghost use Rattle.otel_state.specs.Fields.{with_text, wanted};
+ghost use Rattle.std.specs.Prelude.{◌≡◌, ◌++◌, OnOk, IfOk};
+ghost use Rattle.otel_state.specs.Fields.{wanted, level_attribute, target_attribute};
 ghost use Rattle.otel_state.specs.FirstAttributes.{first_attributes, lane_attributes};
 
 use crate::fields::{add_known_text, add_location, add_text};
@@ -59,7 +58,7 @@ pub(crate) fn add_level(
     is_wanted: bool,
     callsite: &Callsite,
 ) -> Result<(), Memory>
-    ensures { OnOk result (attributes.new ≡ attributes.old ++ wanted is_wanted (with_text (codes "level") (level_text callsite.now.level) ∷ [])) }
+    ensures { OnOk result (attributes.new ≡ attributes.old ++ wanted is_wanted (level_attribute callsite.now)) }
 {
     if is_wanted {
         let level = Text::fixed(alloc, callsite.level.word());
@@ -75,7 +74,7 @@ pub(crate) fn add_target(
     is_wanted: bool,
     callsite: &Callsite,
 ) -> Result<(), Memory>
-    ensures { OnOk result (attributes.new ≡ attributes.old ++ wanted is_wanted (with_text (codes "target") callsite.now.target ∷ [])) }
+    ensures { OnOk result (attributes.new ≡ attributes.old ++ wanted is_wanted (target_attribute callsite.now)) }
 {
     if is_wanted {
         add_text(
