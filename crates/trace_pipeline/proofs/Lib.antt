@@ -7,3 +7,7 @@ pub mod Distinct
 pub mod Items
 pub mod Hex
 pub mod Written
+pub mod Digits
+pub mod Plainly
+pub mod Placing
+pub mod Values

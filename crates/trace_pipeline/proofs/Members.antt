@@ -10,6 +10,8 @@ use Rattle.serde_json.specs.Find.{get_member}
 use Rattle.serde_json.specs.View.{view, members_view}
 use Rattle.serde_json.proofs.Views.{Entry, view-lookup}
 use Rattle.trace_pipeline.specs.Forms.{without, nothing}
+use Rattle.trace_pipeline.specs.Compact.{members_of}
+use Rattle.trace_pipeline.proofs.Plainly.{Entry as Flat}
 
 -- whether a key is the name
 abbrev pub is_name : List ℕ → String Global → Bool
@@ -40,3 +42,11 @@ nothing_left (e ∷ es) none = absurd (omega arith)
 pub something_left : (es : List Entry) → (length es ≡ 0 → ⊥) → nothing (members_view es) ≡ None
 something_left [] some = absurd (some refl)
 something_left (e ∷ es) some = refl
+
+pub no_entry_left : (es : List Flat) → length es ≡ 0 → nothing (members_of es) ≡ Some tt
+no_entry_left [] none = refl
+no_entry_left (e ∷ es) none = absurd (omega arith)
+
+pub some_entry_left : (es : List Flat) → (length es ≡ 0 → ⊥) → nothing (members_of es) ≡ None
+some_entry_left [] some = absurd (some refl)
+some_entry_left (e ∷ es) some = refl

@@ -1,7 +1,16 @@
--- The members that an object has left.
-use Rattle.serde_json.specs.Data.{Members}
-use Rattle.serde_json.specs.View.{members_view}
+-- The members that an object has left, of a text or of a tree.
+use Rattle.serde_json.specs.Data.{Data, Members}
+use Rattle.serde_json.specs.View.{view, members_view}
+use Rattle.trace_pipeline.specs.Compact.{plain_data, members_of}
 use Rattle.trace_pipeline.specs.declared.read.object.Object.{Object}
+use Rattle.trace_pipeline.specs.declared.read.object.Object.TheVariants.{Flat, Tree}
+use Rattle.trace_pipeline.specs.declared.read.value.Value.{Value}
+use Rattle.trace_pipeline.specs.declared.read.value.Value.TheVariants as value
+
+abbrev pub value_data : Value → Data
+value_data (value.Plain plain) = plain_data plain
+value_data (value.Tree tree) = view tree
 
 abbrev pub left : Object → Members
-left object = members_view object.members.entries
+left (Flat members) = members_of members.items
+left (Tree members) = members_view members.entries

@@ -1,6 +1,8 @@
 pub mod Lines
 pub mod Gives
 pub mod Left
+pub mod Compact
+pub mod Placed
 pub mod Words
 pub mod Forms
 pub mod SettingsForm

@@ -4,10 +4,15 @@ ghost use Rattle.trace_pipeline.specs.Spelled.{settings_spelled, request_spelled
 ghost use Rattle.trace_pipeline.specs.declared.reply.Told.{Told};
 ghost use Rattle.trace_pipeline.specs.declared.read.LineError.TheVariants.{Memory};
 
+mod flat;
 pub mod laws;
 mod object;
+mod plain;
 mod request;
+mod scan;
 mod settings;
+mod tree;
+mod value;
 
 use crate::request::Request;
 use crate::settings::Settings;

@@ -1,13 +1,17 @@
 //! Objects that members are taken from, one after another.
-ghost use Rattle.std.specs.Prelude.{◌≡◌, option_map, option_and_then};
-ghost use Rattle.serde_json.specs.Find.{get_member, as_str, as_object, as_array};
-ghost use Rattle.serde_json.specs.View.{view, items_view};
+ghost use Rattle.std.specs.Prelude.{◌≡◌, ◌-◌, ◌^◌, option_map};
+ghost use Rattle.serde_json.specs.Find.{get_member, as_object};
 ghost use Rattle.trace_pipeline.specs.Gives.{Gives, Opens};
-ghost use Rattle.trace_pipeline.specs.Spelled.{line_value, line_members};
-ghost use Rattle.trace_pipeline.specs.Left.{left};
-ghost use Rattle.trace_pipeline.specs.Forms.{at_most, as_u32};
+ghost use Rattle.trace_pipeline.specs.Spelled.{line_members};
+ghost use Rattle.trace_pipeline.specs.Left.{value_data, left};
+ghost use Rattle.trace_pipeline.specs.Forms.{at_most};
+ghost use Rattle.trace_pipeline.specs.Object.{items};
 
 use crate::read::LineError;
+use crate::read::flat::{self, take};
+use crate::read::plain::Plain;
+use crate::read::tree::value_of;
+use crate::read::value::Value;
 use otel_base::text::Text;
 use serde_json::Value as Json;
 use serde_json::value::Map;
@@ -15,20 +19,11 @@ use std::alloc::Global;
 
 /// The members that a JSON object has left.
 #[derive(Drop)]
-pub(crate) struct Object {
-    members: Map<String, Json>,
-}
-
-// The value that a line is.
-#[tactic(auto, using(crate::proofs::LineValue::read_value, crate::proofs::LineValue::no_value))]
-fn value_of(alloc: Global, line: &[u8]) -> Result<Json, LineError>
-    ensures { Opens view result (line_value line.now) }
-{
-    match Json::from_slice(alloc, line) {
-        Ok(value) => Ok(value),
-        Err(error) if error.is_memory() => Err(LineError::Memory),
-        Err(_) => Err(LineError::BadLine),
-    }
+pub(crate) enum Object<'a> {
+    /// They stand plainly in the text.
+    Flat(Vec<(&'a [u8], Plain<'a>)>),
+    /// They were read to a tree.
+    Tree(Map<String, Json>),
 }
 
 // A whole number up to the greatest.
@@ -42,62 +37,81 @@ fn within(greatest: u64, number: u64) -> Result<u64, LineError>
     }
 }
 
-// The whole number of 32 bits that a value is.
-fn u32_of(value: &Json) -> Result<u32, LineError>
-    ensures { Gives (λ n. n) result (as_u32 (view value.now)) }
+// A whole number of 32 bits.
+fn short(number: u64) -> Result<u32, LineError>
+    ensures { Gives (λ n. n) result (at_most (2 ^ 32 - 1) number) }
 {
-    match value.as_u64() {
-        Some(number) => u32::try_from(number).map_err(|_| LineError::Later),
-        None => Err(LineError::Later),
+    u32::try_from(number).map_err(|_| LineError::Later)
+}
+
+// The object that a line is, as a tree.
+fn tree_of(alloc: Global, line: &[u8]) -> Result<Object<'_>, LineError>
+    ensures { Opens left result (line_members line.now) }
+{
+    match value_of(alloc, line)? {
+        Json::Object(members) => Ok(Object::Tree(members)),
+        _ => Err(LineError::BadLine),
     }
 }
 
-/// The text that a value is, without a copy.
-pub(crate) fn text_of(value: Json) -> Result<Text, LineError>
-    ensures { Gives (λ t. t) result (as_str (view value)) }
+// The object that a nested text is.
+fn object_of_text(alloc: Global, text: &str) -> Result<Object<'_>, LineError>
+    ensures { Gives left result (line_members text.now) }
 {
-    match value {
-        Json::String(text) => Ok(Text::from(text)),
-        _ => Err(LineError::Later),
+    match Object::open(alloc, text.as_bytes()) {
+        Ok(object) => Ok(object),
+        Err(LineError::Memory) => Err(LineError::Memory),
+        Err(_) => Err(LineError::Later),
     }
 }
 
-impl Object {
+impl<'a> Object<'a> {
     ghost use Rattle.std.specs.Prelude.{List, ℕ};
     ghost use Rattle.trace_pipeline.specs.Forms.{without, member, optional, whole, whole_to, text, flag, array, optional_text, optional_u32, nothing};
 
     /// The object that a line is.
-    pub(crate) fn open(alloc: Global, line: &[u8]) -> Result<Object, LineError>
+    pub(crate) fn open(alloc: Global, line: &'a [u8]) -> Result<Object<'a>, LineError>
         ensures { Opens left result (line_members line.now) }
     {
-        match value_of(alloc, line)? {
-            Json::Object(members) => Ok(Object { members }),
-            _ => Err(LineError::BadLine),
+        match flat::members(alloc, line) {
+            Some(members) => Ok(Object::Flat(members)),
+            None => tree_of(alloc, line),
         }
     }
 
     /// The object that a value is.
-    pub(crate) fn of(value: Json) -> Result<Object, LineError>
-        ensures { Gives left result (as_object (view value)) }
+    #[tactic(auto, using(crate::proofs::Values::nested_object))]
+    pub(crate) fn of(alloc: Global, value: Value<'a>) -> Result<Object<'a>, LineError>
+        ensures { Gives left result (as_object (value_data value.entry)) }
     {
         match value {
-            Json::Object(members) => Ok(Object { members }),
+            Value::Plain(Plain::Nested(text)) => object_of_text(alloc, text),
+            Value::Tree(Json::Object(members)) => Ok(Object::Tree(members)),
             _ => Err(LineError::Later),
         }
     }
 
     // Takes a member, if it is there.
     #[tactic(auto, using(crate::proofs::Members::found, crate::proofs::Members::kept))]
-    fn optional(&mut self, name: &str) -> Option<Json>
-        ensures found { option_map view result ≡ get_member name.now (left self.old) }
+    fn optional(&mut self, name: &str) -> Option<Value<'a>>
+        ensures found { option_map value_data result ≡ get_member name.now (left self.old) }
         ensures left { left self.new ≡ without name.now (left self.old) }
     {
-        self.members.remove(name)
+        match self {
+            Object::Flat(members) => match take(members, name.as_bytes()) {
+                Some(plain) => Some(Value::Plain(plain)),
+                None => None,
+            },
+            Object::Tree(members) => match members.remove(name) {
+                Some(tree) => Some(Value::Tree(tree)),
+                None => None,
+            },
+        }
     }
 
     /// Takes a member.
-    pub(crate) fn member(&mut self, name: &str) -> Result<Json, LineError>
-        ensures { Gives (λ v. (view v, left self.new)) result (member name.now (left self.old)) }
+    pub(crate) fn member(&mut self, name: &str) -> Result<Value<'a>, LineError>
+        ensures { Gives (λ v. (value_data v, left self.new)) result (member name.now (left self.old)) }
     {
         match self.optional(name) {
             Some(value) => Ok(value),
@@ -109,7 +123,7 @@ impl Object {
     pub(crate) fn whole(&mut self, name: &str) -> Result<u64, LineError>
         ensures { Gives (λ n. (n, left self.new)) result (whole name.now (left self.old)) }
     {
-        self.member(name)?.as_u64().ok_or(LineError::Later)
+        self.member(name)?.whole()
     }
 
     /// Takes a whole number up to the greatest.
@@ -119,36 +133,37 @@ impl Object {
         within(greatest, self.whole(name)?)
     }
 
-    /// Takes a text, without a copy.
-    pub(crate) fn text(&mut self, name: &str) -> Result<Text, LineError>
+    /// Takes a text, to be kept.
+    pub(crate) fn text(&mut self, alloc: Global, name: &str) -> Result<Text, LineError>
         ensures { Gives (λ t. (t, left self.new)) result (text name.now (left self.old)) }
     {
-        text_of(self.member(name)?)
+        self.member(name)?.into_text(alloc)
     }
 
     /// Takes a flag.
     pub(crate) fn flag(&mut self, name: &str) -> Result<bool, LineError>
         ensures { Gives (λ b. (b, left self.new)) result (flag name.now (left self.old)) }
     {
-        self.member(name)?.as_bool().ok_or(LineError::Later)
+        self.member(name)?.flag()
     }
 
     /// Takes an array.
-    pub(crate) fn array(&mut self, name: &str) -> Result<Vec<Json>, LineError>
-        ensures { Gives (λ v. (items_view v.items, left self.new)) result (array name.now (left self.old)) }
+    pub(crate) fn array(&mut self, alloc: Global, name: &str) -> Result<Vec<Value<'a>>, LineError>
+        ensures { Gives (λ v. (items value_data v.items, left self.new)) result (array name.now (left self.old)) }
     {
-        match self.member(name)? {
-            Json::Array(values) => Ok(values),
-            _ => Err(LineError::Later),
-        }
+        self.member(name)?.into_array(alloc)
     }
 
-    /// Takes a text that may be absent, without a copy.
-    pub(crate) fn optional_text(&mut self, name: &str) -> Result<Option<Text>, LineError>
+    /// Takes a text that may be absent, to be kept.
+    pub(crate) fn optional_text(
+        &mut self,
+        alloc: Global,
+        name: &str,
+    ) -> Result<Option<Text>, LineError>
         ensures { Gives (λ t. (t, left self.new)) result (optional_text name.now (left self.old)) }
     {
         match self.optional(name) {
-            Some(value) => Ok(Some(text_of(value)?)),
+            Some(value) => Ok(Some(value.into_text(alloc)?)),
             None => Ok(None),
         }
     }
@@ -158,20 +173,20 @@ impl Object {
         ensures { Gives (λ n. (n, left self.new)) result (optional_u32 name.now (left self.old)) }
     {
         match self.optional(name) {
-            Some(value) => Ok(Some(u32_of(&value)?)),
+            Some(value) => Ok(Some(short(value.whole()?)?)),
             None => Ok(None),
         }
     }
 
     /// Makes sure that no member is left.
-    #[tactic(auto, using(crate::proofs::Members::nothing_left, crate::proofs::Members::something_left))]
+    #[tactic(auto, using(crate::proofs::Members::nothing_left, crate::proofs::Members::something_left, crate::proofs::Members::no_entry_left, crate::proofs::Members::some_entry_left))]
     pub(crate) fn end(&self) -> Result<(), LineError>
         ensures { Gives (λ u. u) result (nothing (left self.now)) }
     {
-        if self.members.is_empty() {
-            Ok(())
-        } else {
-            Err(LineError::Later)
-        }
+        let done = match self {
+            Object::Flat(members) => members.is_empty(),
+            Object::Tree(members) => members.is_empty(),
+        };
+        if done { Ok(()) } else { Err(LineError::Later) }
     }
 }

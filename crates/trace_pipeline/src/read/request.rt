@@ -101,8 +101,8 @@ pub(crate) fn request_members(object: &mut Object) -> Result<Request, LineError>
 {
     let at = object.whole("at")?;
     let lane = object.whole_to(0, "lane")?;
-    let word = object.text("do")?;
-    let verb = verb_of(word.as_str()).ok_or(LineError::Later)?;
+    let word = object.member("do")?;
+    let verb = verb_of(word.word()?).ok_or(LineError::Later)?;
     let call = call(verb, object)?;
     Ok(Request { at, lane, call })
 }

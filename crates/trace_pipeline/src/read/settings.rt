@@ -1,19 +1,19 @@
 //! Reading settings: callsites, the filter, lanes and the layer.
 ghost use Rattle.std.specs.Prelude.{◌≡◌};
 ghost use Rattle.serde_json.specs.Find.{as_str};
-ghost use Rattle.serde_json.specs.View.{view, items_view};
 ghost use Rattle.trace_pipeline.specs.Gives.{Gives};
-ghost use Rattle.trace_pipeline.specs.Left.{left};
+ghost use Rattle.trace_pipeline.specs.Left.{value_data, left};
 ghost use Rattle.trace_pipeline.specs.Forms.{each, object_of, provided};
+ghost use Rattle.trace_pipeline.specs.Object.{items};
 ghost use Rattle.trace_pipeline.specs.SettingsForm.{Lane, lane_form, callsite_form, layer_form, settings_form, ids, all_differ};
 
 use crate::level_words::{filter_of, kind_of, level_of};
 use crate::read::LineError;
-use crate::read::object::{Object, text_of};
+use crate::read::object::Object;
+use crate::read::value::Value;
 use crate::settings::Settings;
 use otel_base::list::Items;
 use otel_base::text::Text;
-use serde_json::Value as Json;
 use std::alloc::Global;
 use std::collections::BTreeSet;
 use trace_base::callsite::Callsite;
@@ -22,39 +22,39 @@ use trace_base::callsite::Callsite;
 const GREATEST_ID: u64 = 9_223_372_036_854_775_807;
 
 #[tactic(auto, unfolding(crate::specs::SettingsForm::lane_form))]
-fn lane_members(object: &mut Object) -> Result<(u64, Option<Text>), LineError>
+fn lane_members(alloc: Global, object: &mut Object) -> Result<(u64, Option<Text>), LineError>
     ensures { Gives (λ l. (l, left object.new)) result (lane_form (left object.old)) }
 {
     let id = object.whole_to(GREATEST_ID, "id")?;
-    let name = object.optional_text("name")?;
+    let name = object.optional_text(alloc, "name")?;
     Ok((id, name))
 }
 
-fn lane(value: Json) -> Result<(u64, Option<Text>), LineError>
-    ensures { Gives (λ l. l) result (object_of lane_form (view value)) }
+fn lane(alloc: Global, value: Value<'_>) -> Result<(u64, Option<Text>), LineError>
+    ensures { Gives (λ l. l) result (object_of lane_form (value_data value.entry)) }
 {
-    let mut object = Object::of(value)?;
-    let lane = lane_members(&mut object)?;
+    let mut object = Object::of(alloc, value)?;
+    let lane = lane_members(alloc, &mut object)?;
     object.end()?;
     Ok(lane)
 }
 
-fn lanes(alloc: Global, values: Vec<Json>) -> Result<Items<(u64, Option<Text>)>, LineError>
-    ensures { Gives (λ l. l) result (each (object_of lane_form) (items_view values.items)) }
+fn lanes(alloc: Global, values: Vec<Value<'_>>) -> Result<Items<(u64, Option<Text>)>, LineError>
+    ensures { Gives (λ l. l) result (each (object_of lane_form) (items value_data values.entry.items)) }
 {
     let mut lanes = Items::new(alloc);
     for value in values {
-        lanes.push(lane(value)?)?;
+        lanes.push(lane(alloc, value)?)?;
     }
     Ok(lanes)
 }
 
-fn fields(alloc: Global, values: Vec<Json>) -> Result<Items<Text>, LineError>
-    ensures { Gives (λ l. l) result (each as_str (items_view values.items)) }
+fn fields(alloc: Global, values: Vec<Value<'_>>) -> Result<Items<Text>, LineError>
+    ensures { Gives (λ l. l) result (each as_str (items value_data values.entry.items)) }
 {
     let mut fields = Items::new(alloc);
     for value in values {
-        fields.push(text_of(value)?)?;
+        fields.push(value.into_text(alloc)?)?;
     }
     Ok(fields)
 }
@@ -63,13 +63,13 @@ fn fields(alloc: Global, values: Vec<Json>) -> Result<Items<Text>, LineError>
 fn callsite_members(alloc: Global, object: &mut Object) -> Result<Callsite, LineError>
     ensures { Gives (λ c. (c, left object.new)) result (callsite_form (left object.old)) }
 {
-    let name = object.text("name")?;
-    let target = object.text("target")?;
-    let level = level_of(object.text("level")?.as_str()).ok_or(LineError::Later)?;
-    let kind = kind_of(object.text("kind")?.as_str()).ok_or(LineError::Later)?;
-    let fields = fields(alloc, object.array("fields")?)?;
-    let file = object.optional_text("file")?;
-    let module_path = object.optional_text("module")?;
+    let name = object.text(alloc, "name")?;
+    let target = object.text(alloc, "target")?;
+    let level = level_of(object.member("level")?.word()?).ok_or(LineError::Later)?;
+    let kind = kind_of(object.member("kind")?.word()?).ok_or(LineError::Later)?;
+    let fields = fields(alloc, object.array(alloc, "fields")?)?;
+    let file = object.optional_text(alloc, "file")?;
+    let module_path = object.optional_text(alloc, "module")?;
     let line = object.optional_u32("line")?;
     Ok(Callsite {
         name,
@@ -83,17 +83,17 @@ fn callsite_members(alloc: Global, object: &mut Object) -> Result<Callsite, Line
     })
 }
 
-fn callsite(alloc: Global, value: Json) -> Result<Callsite, LineError>
-    ensures { Gives (λ c. c) result (object_of callsite_form (view value)) }
+fn callsite(alloc: Global, value: Value<'_>) -> Result<Callsite, LineError>
+    ensures { Gives (λ c. c) result (object_of callsite_form (value_data value.entry)) }
 {
-    let mut object = Object::of(value)?;
+    let mut object = Object::of(alloc, value)?;
     let callsite = callsite_members(alloc, &mut object)?;
     object.end()?;
     Ok(callsite)
 }
 
-fn callsites(alloc: Global, values: Vec<Json>) -> Result<Items<Callsite>, LineError>
-    ensures { Gives (λ l. l) result (each (object_of callsite_form) (items_view values.items)) }
+fn callsites(alloc: Global, values: Vec<Value<'_>>) -> Result<Items<Callsite>, LineError>
+    ensures { Gives (λ l. l) result (each (object_of callsite_form) (items value_data values.entry.items)) }
 {
     let mut callsites = Items::new(alloc);
     for value in values {
@@ -116,10 +116,10 @@ fn layer_members(object: &mut Object) -> Result<(), LineError>
     }
 }
 
-fn layer(value: Json) -> Result<(), LineError>
-    ensures { Gives (λ u. u) result (object_of layer_form (view value)) }
+fn layer(alloc: Global, value: Value<'_>) -> Result<(), LineError>
+    ensures { Gives (λ u. u) result (object_of layer_form (value_data value.entry)) }
 {
-    let mut object = Object::of(value)?;
+    let mut object = Object::of(alloc, value)?;
     layer_members(&mut object)?;
     object.end()
 }
@@ -142,12 +142,12 @@ fn distinct(alloc: Global, lanes: &[(u64, Option<Text>)]) -> Result<(), LineErro
 pub(crate) fn settings_members(alloc: Global, object: &mut Object) -> Result<Settings, LineError>
     ensures { Gives (λ s. (s, left object.new)) result (settings_form (left object.old)) }
 {
-    let callsites = callsites(alloc, object.array("callsites")?)?;
-    let filter = object.text("filter")?;
+    let callsites = callsites(alloc, object.array(alloc, "callsites")?)?;
+    let filter = object.text(alloc, "filter")?;
     filter_of(filter.as_str()).ok_or(LineError::Later)?;
-    let lanes = lanes(alloc, object.array("lanes")?)?;
+    let lanes = lanes(alloc, object.array(alloc, "lanes")?)?;
     distinct(alloc, lanes.as_slice())?;
-    layer(object.member("layer")?)?;
+    layer(alloc, object.member("layer")?)?;
     Ok(Settings {
         filter,
         lanes,

@@ -1,10 +1,11 @@
 use Rattle.std.proofs.Common.{◌≡◌}
 use Rattle.std.specs.Vec.Iter.{into_iter_items}
 use Rattle.serde_json.specs.Find.{as_str}
-use Rattle.serde_json.specs.View.{items_view}
+use Rattle.trace_pipeline.specs.Object.{items}
+use Rattle.trace_pipeline.specs.Left.{value_data}
 use Rattle.trace_pipeline.specs.Forms.{each}
 use Rattle.trace_pipeline.proofs.Items.{with_front}
 use Rattle.trace_pipeline.proofs.read.settings.fields.Given as goal
 
 abbrev pub invariant-loop-value : goal.invariant-loop-value
-invariant-loop-value l = with_front l.fields (each as_str (items_view (into_iter_items l.value-iterator))) ≡ each as_str (items_view l.fn.values.items)
+invariant-loop-value l = with_front l.fields (each as_str (items value_data (into_iter_items l.value-iterator))) ≡ each as_str (items value_data l.fn.values.items)

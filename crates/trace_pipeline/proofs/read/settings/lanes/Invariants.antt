@@ -1,10 +1,11 @@
 use Rattle.std.proofs.Common.{◌≡◌}
 use Rattle.std.specs.Vec.Iter.{into_iter_items}
 use Rattle.trace_pipeline.specs.SettingsForm.{lane_form}
-use Rattle.serde_json.specs.View.{items_view}
+use Rattle.trace_pipeline.specs.Object.{items}
+use Rattle.trace_pipeline.specs.Left.{value_data}
 use Rattle.trace_pipeline.specs.Forms.{object_of, each}
 use Rattle.trace_pipeline.proofs.Items.{with_front}
 use Rattle.trace_pipeline.proofs.read.settings.lanes.Given as goal
 
 abbrev pub invariant-loop-value : goal.invariant-loop-value
-invariant-loop-value l = with_front l.lanes (each (object_of lane_form) (items_view (into_iter_items l.value-iterator))) ≡ each (object_of lane_form) (items_view l.fn.values.items)
+invariant-loop-value l = with_front l.lanes (each (object_of lane_form) (items value_data (into_iter_items l.value-iterator))) ≡ each (object_of lane_form) (items value_data l.fn.values.items)

@@ -1,0 +1,10 @@
+use Rattle.std.proofs.Common.{◌∙◌, Some, ap, sym}
+use Rattle.serde_json.specs.Find.{get_member}
+use Rattle.trace_pipeline.specs.Left.{left}
+use Rattle.trace_pipeline.proofs.Members.{found}
+use Rattle.trace_pipeline.proofs.read.object.Object.optional.Goals as goal
+
+pub returns-in-Some-remove-clause-found : goal.returns-in-Some-remove-clause-found
+returns-in-Some-remove-clause-found c =
+    found c.args.name.now c.in-Tree.members.entries (Some c.in-Some-remove.tree) c.in-Some-remove.ensures.value
+    ∙ ap (λ object. get_member c.args.name.now (left object)) (sym c.in-Tree.is)

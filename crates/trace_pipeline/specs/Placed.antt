@@ -1,0 +1,19 @@
+-- Places in the list of an object's members.
+use Rattle.std.specs.Prelude.{◌≡◌, ◌≤◌, ◌<◌, ℕ, List, Option, Some, None, length, get_or, remove, insert}
+use Rattle.std.specs.Borrow.{Bor}
+use Rattle.serde_json.specs.Data.{put}
+use Rattle.serde_json.specs.Find.{get_member}
+use Rattle.trace_pipeline.specs.Forms.{without}
+use Rattle.trace_pipeline.specs.Compact.{plain_data, members_of}
+use Rattle.trace_pipeline.specs.declared.read.plain.Plain.{Plain}
+
+-- where the member of a name stands, if there is one
+abbrev pub Finds : List ℕ → List (Bor (List ℕ) × Plain) → Option ℕ → Type 0
+Finds name es None = (get_member name (members_of es) ≡ None) × (without name (members_of es) ≡ members_of es)
+Finds name es (Some i) =
+    (i < length es) × ((d : Bor (List ℕ) × Plain) → get_member name (members_of es) ≡ Some (plain_data (get_or es i d).1))
+    × (without name (members_of es) ≡ members_of (remove es i))
+
+-- where a member of a new name goes
+abbrev pub FitsIn : List ℕ → List (Bor (List ℕ) × Plain) → ℕ → Type 0
+FitsIn name es i = (i ≤ length es) × ((e : Bor (List ℕ) × Plain) → e.0.now ≡ name → put name (plain_data e.1) (members_of es) ≡ members_of (insert es i e))

@@ -1,0 +1,168 @@
+//! The members of a compact object, and the items of a compact array, as lists of plain values. The names are slices
+//! of the text. None says nothing of what the text is.
+ghost use Rattle.std.specs.Prelude.{◌≡◌, [], ◌∷◌, ◌++◌, true, Some, IfSome, Decides, option_map};
+ghost use Rattle.std.specs.Cmp.Lexicographic.{slice_cmp};
+ghost use Rattle.std.specs.Ordering.{nat_cmp};
+ghost use Rattle.std.specs.Str.{IsUtf8};
+ghost use Rattle.serde_json.specs.Data.{array, put};
+ghost use Rattle.serde_json.specs.Find.{get_member};
+ghost use Rattle.trace_pipeline.specs.Forms.{without};
+ghost use Rattle.trace_pipeline.specs.Object.{items};
+ghost use Rattle.trace_pipeline.specs.Spelled.{line_value, line_members};
+ghost use Rattle.trace_pipeline.specs.Compact.{plain_data, members_of};
+ghost use Rattle.trace_pipeline.specs.Left.{value_data};
+ghost use Rattle.trace_pipeline.specs.Placed.{Finds, FitsIn};
+
+use crate::read::plain::Plain;
+use crate::read::scan::{behind, text, value};
+use crate::read::value::Value;
+use std::alloc::Global;
+use std::cmp::Ordering;
+
+// The room that most objects need.
+const USUAL: usize = 8;
+
+// The most members of an object. One that has more is read as a tree.
+const MOST_MEMBERS: u32 = 32;
+
+// The most items of an array.
+const MOST_ITEMS: u32 = 65_536;
+
+// Whether bytes are known to be UTF-8.
+fn is_text(bytes: &[u8]) -> bool
+    ensures { result ≡ true → IsUtf8 bytes.now }
+{
+    bytes.is_ascii() || str::from_utf8(bytes).is_ok()
+}
+
+/// The members of the object that a text is, in the order of their names.
+pub(crate) fn members<'a>(alloc: Global, line: &'a [u8]) -> Option<Vec<(&'a [u8], Plain<'a>)>>
+    ensures { IfSome result (λ members. line_members line.now ≡ Some (members_of members.items)) }
+{
+    if !is_text(line) {
+        return None;
+    }
+    let mut members = Vec::with_capacity(alloc, USUAL).ok()?;
+    let mut rest = behind(line, b'{')?;
+    for _ in 0..MOST_MEMBERS {
+        let (name, colon) = text(rest)?;
+        let inner = behind(colon, b':')?;
+        let (plain, after) = value(inner)?;
+        place(&mut members, name, plain)?;
+        match behind(after, b',') {
+            Some(more) => rest = more,
+            None => {
+                let end = behind(after, b'}')?;
+                ends(end)?;
+                return Some(members);
+            }
+        }
+    }
+    None
+}
+
+/// The items of the array that a text is.
+pub(crate) fn items<'a>(alloc: Global, text: &'a [u8]) -> Option<Vec<Value<'a>>>
+    ensures { IfSome result (λ values. line_value text.now ≡ Some (array (items value_data values.items))) }
+{
+    if !is_text(text) {
+        return None;
+    }
+    let mut values = Vec::with_capacity(alloc, USUAL).ok()?;
+    let mut rest = behind(text, b'[')?;
+    for _ in 0..MOST_ITEMS {
+        let (plain, after) = value(rest)?;
+        keep(&mut values, Value::Plain(plain))?;
+        match behind(after, b',') {
+            Some(more) => rest = more,
+            None => {
+                let end = behind(after, b']')?;
+                ends(end)?;
+                return Some(values);
+            }
+        }
+    }
+    None
+}
+
+// Adds an item. None where there is no memory.
+fn keep<'a>(values: &mut Vec<Value<'a>>, value: Value<'a>) -> Option<()>
+    ensures { IfSome result (λ _. values.new.items ≡ values.old.items ++ value.entry ∷ []) }
+{
+    values.push(value).ok()?;
+    Some(())
+}
+
+// That nothing stands behind a value.
+fn ends(rest: &[u8]) -> Option<()>
+    ensures { IfSome result (λ _. rest.now ≡ []) }
+{
+    if rest.is_empty() { Some(()) } else { None }
+}
+
+fn compare(one: &[u8], other: &[u8]) -> Ordering
+    ensures { result ≡ slice_cmp nat_cmp one.now other.now }
+{
+    one.cmp(other)
+}
+
+// Where a member of a new name goes. None where the name is there.
+fn place_for(members: &[(&[u8], Plain<'_>)], name: &[u8]) -> Option<usize>
+    ensures { IfSome result (λ at. FitsIn name.now members.now at) }
+{
+    let mut at = 0usize;
+    while at < members.len() {
+        match compare(name, members[at].0) {
+            Ordering::Less => return Some(at),
+            Ordering::Equal => return None,
+            Ordering::Greater => {}
+        }
+        at += 1;
+    }
+    Some(at)
+}
+
+// Puts a member in its place. None where its name is there, or there is no memory.
+fn place<'a>(
+    members: &mut Vec<(&'a [u8], Plain<'a>)>,
+    name: &'a [u8],
+    plain: Plain<'a>,
+) -> Option<()>
+    ensures { IfSome result (λ _. members_of members.new.items ≡ put name.now (plain_data plain.entry) (members_of members.old.items)) }
+{
+    let at = place_for(members.as_slice(), name)?;
+    members.insert(at, (name, plain)).ok()?;
+    Some(())
+}
+
+fn is_same(one: &[u8], other: &[u8]) -> bool
+    ensures { Decides result (one.now ≡ other.now) }
+{
+    one == other
+}
+
+// Where the member of a name stands.
+#[tactic(auto, using(crate::proofs::Placing::passed_first, crate::proofs::Placing::passed_more, crate::proofs::Placing::is_found, crate::proofs::Placing::not_found))]
+fn place_of(members: &[(&[u8], Plain<'_>)], name: &[u8]) -> Option<usize>
+    ensures { Finds name.now members.now result }
+{
+    let mut at = 0usize;
+    while at < members.len() {
+        if is_same(members[at].0, name) {
+            return Some(at);
+        }
+        at += 1;
+    }
+    None
+}
+
+/// Takes the member of a name, if it is there.
+pub(crate) fn take<'a>(members: &mut Vec<(&'a [u8], Plain<'a>)>, name: &[u8]) -> Option<Plain<'a>>
+    ensures found { option_map plain_data result ≡ get_member name.now (members_of members.old.items) }
+    ensures left { members_of members.new.items ≡ without name.now (members_of members.old.items) }
+{
+    match place_of(members.as_slice(), name) {
+        Some(at) => Some(members.remove(at).1),
+        None => None,
+    }
+}
