@@ -11,3 +11,5 @@ pub mod Digits
 pub mod Plainly
 pub mod Placing
 pub mod Values
+pub mod Adding
+pub mod Escapes

@@ -10,8 +10,7 @@ use Rattle.std.proofs.lemmas.Bool.Decides.{Decides-eqb}
 use Rattle.json.specs.Token.{Token}
 use Rattle.json.specs.Json.{value, if_last}
 use Rattle.json.specs.Tree.{json_tokens, depth, items_depth, members_depth, HasNumbers, ItemsHaveNumbers, MembersHaveNumbers}
-use Rattle.json.specs.Print.{escape, escape_byte, quoted}
-use Rattle.json.proofs.Printed.Strings.{escape_byte_plain}
+use Rattle.json.specs.Print.{escape, quoted}
 use Rattle.json.proofs.Printed.Decimals.{IsNumber-decimal}
 use Rattle.json.proofs.Printed.Tokens.{tokens-print}
 use Rattle.json.proofs.Printed.Trees.{value-json_tokens, ArePrintable-json_tokens}
@@ -243,19 +242,9 @@ onto_push (x ∷ es) e ms = ap (member x.0.now (plain_data x.1)) (onto_push es e
 pub behind_byte : (text : List ℕ) (byte : ℕ) → 0 < length text → get_or text 0 0 ≡ byte → text ≡ byte ∷ drop 1 text
 behind_byte text byte some here = drop-cons text 0 0 some ∙ ap (λ x. x ∷ drop 1 text) here
 
-pub escape_step : (s : List ℕ) (x : ℕ) → escape s ≡ s → escape_byte x ≡ x ∷ [] → escape (s ++ x ∷ []) ≡ s ++ x ∷ []
-escape_step s x done plain = escape_append s x ∙ rw (done, plain) refl
-  where
-    escape_append : (s : List ℕ) (x : ℕ) → escape (s ++ x ∷ []) ≡ escape s ++ escape_byte x
-    escape_append [] x = append-nil (escape_byte x)
-    escape_append (y ∷ ys) x = ap (λ (l : List ℕ). escape_byte y ++ l) (escape_append ys x) ∙ sym (append_assoc (escape_byte y) (escape ys) (escape_byte x))
-
 pub quoted_text : (bytes body rest : List ℕ) (at : ℕ) → bytes ≡ 34 ∷ body → escape (take at body) ≡ take at body → drop at body ≡ 34 ∷ rest → bytes ≡ quoted (take at body) ++ rest
 quoted_text bytes body rest at a plain b =
     a ∙ ap (λ (l : List ℕ). 34 ∷ l) (sym (take-append-drop at body) ∙ ap (λ (l : List ℕ). take at body ++ l) b ∙ sym (append_assoc (take at body) (34 ∷ []) rest) ∙ ap (λ (l : List ℕ). (l ++ 34 ∷ []) ++ rest) (sym plain))
-
-pub plain_byte : (x : ℕ) → (x ≡ 34 → ⊥) → (x ≡ 92 → ⊥) → 32 ≤ x → escape_byte x ≡ x ∷ []
-plain_byte x quote slash above = escape_byte_plain x quote slash above
 
 pub word_is : (text front : List ℕ) (r : Option (Bor (List ℕ)))
     → MatchOption r (pointwise nat_eq (take (length front) text) front ≡ false) (λ x. (pointwise nat_eq (take (length front) text) front ≡ true) × (x.now ≡ drop (length front) text) × (length x.now + length front ≡ length text))

@@ -22,6 +22,7 @@ pub mod Hex
 pub mod Object
 pub mod RecordData
 pub mod Texts
+pub mod Writes
 pub mod Report
 pub mod Bodies
 pub mod Fits

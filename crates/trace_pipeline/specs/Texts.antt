@@ -63,6 +63,10 @@ told_members told.BadLine = refused_as (codes "BadLine") ∷ []
 told_members told.Later = refused_as (codes "Later") ∷ []
 told_members (told.Step why) = step_members why
 
+-- a refusal of which the name alone is told, with the number of its line
+abbrev pub named_refusal : ℕ → List ℕ → Data
+named_refusal line name = object (members ((codes "line", whole line) ∷ refused_as name ∷ []))
+
 -- a refusal, with the number of its line
 abbrev pub refusal_data : ℕ → Told → Data
 refusal_data line why = object (members ((codes "line", whole line) ∷ told_members why))

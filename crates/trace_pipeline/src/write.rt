@@ -1,114 +1,152 @@
 //! Writing lines: replies, records, refusals and the end line, each with its line feed. Each function answers `Memory`
 //! freely, and nothing else; the `append_` forms then drop what they were given. No Rust item stands behind these lines.
 ghost use Rattle.std.specs.Prelude.{◌≡◌, ◌≢◌, ◌++◌, IfOk, string_bytes};
+ghost use Rattle.std.specs.Str.{IsUtf8};
+ghost use Rattle.trace_pipeline.specs.Writes.{Writes};
 ghost use Rattle.trace_pipeline.specs.Texts.{reply_text, record_text, refusal_text, end_text};
 ghost use Rattle.trace_pipeline.specs.declared.reply.Refusal.{Refusal};
 
 mod attribute;
 mod end;
+pub(crate) mod escape;
 mod hex;
-mod line;
-mod member;
+mod pieces;
 mod record;
 mod refusal;
 mod reply;
 
 use crate::reply::{Reply, Told};
-use end::write_end;
-use json::Writer;
-use line::{add_line, text_of};
+use end::add_end;
 use otel_base::memory::Memory;
 use otel_base::record::Record;
-use record::write_record;
-use refusal::write_refusal;
-use reply::write_reply;
-use std::alloc::Global;
+use pieces::add;
+use record::add_record;
+use refusal::add_refusal;
+use reply::add_reply;
+use std::alloc::{AllocError, Global};
 
 // The bytes that most lines need, of records and of others.
 const LONG: usize = 512;
 
 const SHORT: usize = 128;
 
+// Adds the line of a reply.
+fn add_reply_line(out: &mut Vec<u8>, line: u64, reply: &Reply) -> Result<(), AllocError>
+    ensures { Writes result out.old out.new (reply_text line reply.now) }
+{
+    add_reply(out, line, reply)?;
+    add(out, "\n")?;
+    Ok(())
+}
+
+// Adds the line of a record.
+fn add_record_line(out: &mut Vec<u8>, number: u64, finished: &Record) -> Result<(), AllocError>
+    ensures { Writes result out.old out.new (record_text number finished.now) }
+{
+    add_record(out, number, finished)?;
+    add(out, "\n")?;
+    Ok(())
+}
+
+// Adds the line of a refusal.
+fn add_refusal_line(out: &mut Vec<u8>, line: u64, told: &Told) -> Result<(), AllocError>
+    ensures { Writes result out.old out.new (refusal_text line told.now) }
+{
+    add_refusal(out, line, told)?;
+    add(out, "\n")?;
+    Ok(())
+}
+
+// Adds the end line.
+fn add_end_line(out: &mut Vec<u8>, open_spans: u64, records: u64) -> Result<(), AllocError>
+    ensures { Writes result out.old out.new (end_text open_spans records) }
+{
+    add_end(out, open_spans, records)?;
+    add(out, "\n")?;
+    Ok(())
+}
+
+// The text that was written to a buffer of its own, without a copy.
+#[tactic(auto, using(crate::proofs::Hex::is_ok))]
+fn text_of(written: Vec<u8>) -> String
+    requires { IsUtf8 written.items }
+    ensures { string_bytes result ≡ written.items }
+{
+    String::from_utf8(written).unwrap()
+}
+
 /// The reply line of the request on a line.
-#[tactic(auto, using(crate::proofs::Written::line_written), unfolding(crate::specs::Texts::reply_text))]
 pub fn reply_line(alloc: Global, line: u64, reply: &Reply) -> Result<String, Memory>
     ensures { IfOk result (λ text. string_bytes text ≡ reply_text line reply.now) }
 {
-    let mut out = Writer::new(Vec::new(alloc));
-    write_reply(&mut out, line, reply)?;
-    Ok(text_of(out)?)
+    let mut out = Vec::with_capacity(alloc, SHORT)?;
+    add_reply_line(&mut out, line, reply)?;
+    Ok(text_of(out))
 }
 
 /// The line of the record with a number; what an exporter would be given.
-#[tactic(auto, using(crate::proofs::Written::line_written), unfolding(crate::specs::Texts::record_text))]
 pub fn record_line(alloc: Global, number: u64, finished: &Record) -> Result<String, Memory>
     ensures { IfOk result (λ text. string_bytes text ≡ record_text number finished.now) }
 {
-    let mut out = Writer::new(Vec::new(alloc));
-    write_record(&mut out, number, finished)?;
-    Ok(text_of(out)?)
+    let mut out = Vec::with_capacity(alloc, LONG)?;
+    add_record_line(&mut out, number, finished)?;
+    Ok(text_of(out))
 }
 
 /// The line that tells why a line is refused. Want of memory has no such line.
-#[tactic(auto, using(crate::proofs::Written::line_written), unfolding(crate::specs::Texts::refusal_text))]
 pub fn refusal_line(alloc: Global, line: u64, told: &Told) -> Result<String, Memory>
     requires { told.now ≢ Told.Step Refusal.Memory }
     ensures { IfOk result (λ text. string_bytes text ≡ refusal_text line told.now) }
 {
-    let mut out = Writer::new(Vec::new(alloc));
-    write_refusal(&mut out, line, told)?;
-    Ok(text_of(out)?)
+    let mut out = Vec::with_capacity(alloc, SHORT)?;
+    add_refusal_line(&mut out, line, told)?;
+    Ok(text_of(out))
 }
 
 /// The last line of a run.
-#[tactic(auto, using(crate::proofs::Written::line_written), unfolding(crate::specs::Texts::end_text))]
 pub fn end_line(alloc: Global, open_spans: u64, records: u64) -> Result<String, Memory>
     ensures { IfOk result (λ text. string_bytes text ≡ end_text open_spans records) }
 {
-    let mut out = Writer::new(Vec::new(alloc));
-    write_end(&mut out, open_spans, records)?;
-    Ok(text_of(out)?)
+    let mut out = Vec::with_capacity(alloc, SHORT)?;
+    add_end_line(&mut out, open_spans, records)?;
+    Ok(text_of(out))
 }
 
 /// Adds the reply line to what `before` holds, and gives it back.
-#[tactic(auto, using(crate::proofs::Written::line_written), unfolding(crate::specs::Texts::reply_text))]
 pub fn append_reply(before: Vec<u8>, line: u64, reply: &Reply) -> Result<Vec<u8>, Memory>
     ensures { IfOk result (λ out. out.items ≡ before.items ++ reply_text line reply.now) }
 {
-    let mut out = Writer::new(Vec::with_capacity(*before.allocator(), SHORT)?);
-    write_reply(&mut out, line, reply)?;
-    Ok(add_line(before, out)?)
+    let mut out = before;
+    add_reply_line(&mut out, line, reply)?;
+    Ok(out)
 }
 
 /// Adds the record line to what `before` holds, and gives it back.
-#[tactic(auto, using(crate::proofs::Written::line_written), unfolding(crate::specs::Texts::record_text))]
 pub fn append_record(before: Vec<u8>, number: u64, finished: &Record) -> Result<Vec<u8>, Memory>
     ensures { IfOk result (λ out. out.items ≡ before.items ++ record_text number finished.now) }
 {
-    let mut out = Writer::new(Vec::with_capacity(*before.allocator(), LONG)?);
-    write_record(&mut out, number, finished)?;
-    Ok(add_line(before, out)?)
+    let mut out = before;
+    add_record_line(&mut out, number, finished)?;
+    Ok(out)
 }
 
 /// Adds the refusal line to what `before` holds, and gives it back. Want of memory has no such line.
-#[tactic(auto, using(crate::proofs::Written::line_written), unfolding(crate::specs::Texts::refusal_text))]
 pub fn append_refusal(before: Vec<u8>, line: u64, told: &Told) -> Result<Vec<u8>, Memory>
     requires { told.now ≢ Told.Step Refusal.Memory }
     ensures { IfOk result (λ out. out.items ≡ before.items ++ refusal_text line told.now) }
 {
-    let mut out = Writer::new(Vec::with_capacity(*before.allocator(), SHORT)?);
-    write_refusal(&mut out, line, told)?;
-    Ok(add_line(before, out)?)
+    let mut out = before;
+    add_refusal_line(&mut out, line, told)?;
+    Ok(out)
 }
 
 /// Adds the end line to what `before` holds, and gives it back.
-#[tactic(auto, using(crate::proofs::Written::line_written), unfolding(crate::specs::Texts::end_text))]
 pub fn append_end(before: Vec<u8>, open_spans: u64, records: u64) -> Result<Vec<u8>, Memory>
     ensures { IfOk result (λ out. out.items ≡ before.items ++ end_text open_spans records) }
 {
-    let mut out = Writer::new(Vec::with_capacity(*before.allocator(), SHORT)?);
-    write_end(&mut out, open_spans, records)?;
-    Ok(add_line(before, out)?)
+    let mut out = before;
+    add_end_line(&mut out, open_spans, records)?;
+    Ok(out)
 }
 
 #[cfg(test)]

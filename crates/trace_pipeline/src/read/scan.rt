@@ -1,12 +1,13 @@
 //! One scan of compact JSON: numbers, texts with no escape, flags, and arrays and objects of these. None says nothing
 //! of what the text is.
-ghost use Rattle.std.specs.Prelude.{◌≡◌, ◌<◌, ◌^◌, ◌∷◌, ◌++◌, [], true, IfSome, decimal};
-ghost use Rattle.json.specs.Print.{quoted, escape_byte};
+ghost use Rattle.std.specs.Prelude.{◌≡◌, ◌<◌, ◌^◌, ◌∷◌, ◌++◌, IfSome, decimal};
+ghost use Rattle.json.specs.Print.{quoted};
 ghost use Rattle.serde_json.specs.Data.{Data, boolean};
 ghost use Rattle.serde_json.specs.Written.{compact_text};
 ghost use Rattle.trace_pipeline.specs.Compact.{plain_data, Begins, BeginsItems, BeginsMembers, BeginsNested};
 
 use crate::read::plain::Plain;
+use crate::write::escape::plain_run;
 
 /// How deep a value may nest.
 pub(crate) const DEEPEST: u32 = 16;
@@ -46,35 +47,14 @@ fn number(text: &[u8]) -> Option<(u64, &[u8])>
     Some((value, &text[at..]))
 }
 
-// Whether a byte stands for itself in a text.
-#[inline(always)]
-#[tactic(auto, using(crate::proofs::Plainly::plain_byte))]
-fn is_plain(byte: u8) -> bool
-    ensures { result ≡ true → escape_byte byte ≡ byte ∷ [] }
-{
-    if byte == b'"' {
-        return false;
-    }
-    if byte == b'\\' {
-        return false;
-    }
-    if byte < 0x20 {
-        return false;
-    }
-    true
-}
-
 /// A text with no escape, and what stands behind it.
 #[inline(always)]
-#[tactic(auto, using(crate::proofs::Plainly::escape_step, crate::proofs::Plainly::quoted_text))]
+#[tactic(auto, using(crate::proofs::Plainly::quoted_text))]
 pub(crate) fn text(bytes: &[u8]) -> Option<(&[u8], &[u8])>
     ensures { IfSome result (λ r. bytes.now ≡ quoted r.0.now ++ r.1.now) }
 {
     let body = behind(bytes, b'"')?;
-    let mut at = 0usize;
-    while at < body.len() && is_plain(body[at]) {
-        at += 1;
-    }
+    let at = plain_run(body);
     let rest = behind(&body[at..], b'"')?;
     Some((&body[..at], rest))
 }

@@ -1,72 +1,67 @@
 //! Attributes as JSON.
-ghost use Rattle.std.specs.Prelude.{◌≡◌, ◌∷◌, ◌++◌, OnOk, codes};
-ghost use Rattle.json.specs.Token.{key};
-ghost use Rattle.json.specs.Tree.{json_tokens};
+ghost use Rattle.std.specs.Prelude.{◌≡◌, ◌++◌};
 ghost use Rattle.serde_json.specs.Data.{string};
-ghost use Rattle.serde_json.specs.Written.{outline};
+ghost use Rattle.serde_json.specs.Written.{compact_text};
 ghost use Rattle.trace_pipeline.specs.Object.{array_of};
 ghost use Rattle.trace_pipeline.specs.RecordData.{value_data, attribute_data, attributes_data};
+ghost use Rattle.trace_pipeline.specs.Writes.{Writes};
 
-use json::Writer;
-use otel_base::list::Items;
+use super::pieces::{add, add_flag, add_integer, add_text, separator};
 use otel_base::text::Text;
 use otel_base::value::{KeyValue, OtelValue};
 use std::alloc::AllocError;
 
-/// Writes the member that has the attributes.
-pub fn attributes_member(out: &mut Writer, attributes: &Items<KeyValue>) -> Result<(), AllocError>
-    ensures ok { OnOk result (out.new.tokens ≡ out.old.tokens ++ key (codes "attributes") ∷ json_tokens (outline (attributes_data attributes.now))) }
-    ensures before { out.new.before ≡ out.old.before }
+/// Adds attributes.
+pub fn add_attributes(
+    out: &mut Vec<u8>,
+    front: &str,
+    attributes: &[KeyValue],
+) -> Result<(), AllocError>
+    ensures { Writes result out.old out.new (front.now ++ compact_text (attributes_data attributes.now)) }
 {
-    out.key("attributes")?;
-    write_attributes(out, attributes.as_slice())?;
-    Ok(())
-}
-
-fn write_attributes(out: &mut Writer, attributes: &[KeyValue]) -> Result<(), AllocError>
-    ensures ok { OnOk result (out.new.tokens ≡ out.old.tokens ++ json_tokens (outline (attributes_data attributes.now))) }
-    ensures before { out.new.before ≡ out.old.before }
-{
-    out.begin_array()?;
+    add(out, front)?;
+    add(out, "[")?;
+    let mut later = false;
     for attribute in attributes {
-        write_attribute(out, attribute)?;
+        add_attribute(out, separator(later), attribute)?;
+        later = true;
     }
-    out.end_array()?;
+    add(out, "]")?;
     Ok(())
 }
 
-fn write_attribute(out: &mut Writer, attribute: &KeyValue) -> Result<(), AllocError>
-    ensures ok { OnOk result (out.new.tokens ≡ out.old.tokens ++ json_tokens (outline (attribute_data attribute.now))) }
-    ensures before { out.new.before ≡ out.old.before }
+fn add_attribute(out: &mut Vec<u8>, front: &str, attribute: &KeyValue) -> Result<(), AllocError>
+    ensures { Writes result out.old out.new (front.now ++ compact_text (attribute_data attribute.now)) }
 {
-    out.begin_array()?;
-    out.string(attribute.key.as_str())?;
-    write_value(out, &attribute.value)?;
-    out.end_array()?;
+    add(out, front)?;
+    add_text(out, "[", attribute.key.as_str())?;
+    add_value(out, ",", &attribute.value)?;
+    add(out, "]")?;
     Ok(())
 }
 
 #[tactic(auto, using(crate::proofs::Written::integer_text))]
-fn write_value(out: &mut Writer, value: &OtelValue) -> Result<(), AllocError>
-    ensures ok { OnOk result (out.new.tokens ≡ out.old.tokens ++ json_tokens (outline (value_data value.now))) }
-    ensures before { out.new.before ≡ out.old.before }
+fn add_value(out: &mut Vec<u8>, front: &str, value: &OtelValue) -> Result<(), AllocError>
+    ensures { Writes result out.old out.new (front.now ++ compact_text (value_data value.now)) }
 {
     match value {
-        OtelValue::Bool(truth) => out.boolean(*truth),
-        OtelValue::I64(number) => out.i64(*number),
-        OtelValue::Str(text) => out.string(text.as_str()),
-        OtelValue::List(texts) => write_texts(out, texts.as_slice()),
+        OtelValue::Bool(truth) => add_flag(out, front, *truth),
+        OtelValue::I64(number) => add_integer(out, front, *number),
+        OtelValue::Str(text) => add_text(out, front, text.as_str()),
+        OtelValue::List(texts) => add_texts(out, front, texts.as_slice()),
     }
 }
 
-fn write_texts(out: &mut Writer, texts: &[Text]) -> Result<(), AllocError>
-    ensures ok { OnOk result (out.new.tokens ≡ out.old.tokens ++ json_tokens (outline (array_of string texts.now))) }
-    ensures before { out.new.before ≡ out.old.before }
+fn add_texts(out: &mut Vec<u8>, front: &str, texts: &[Text]) -> Result<(), AllocError>
+    ensures { Writes result out.old out.new (front.now ++ compact_text (array_of string texts.now)) }
 {
-    out.begin_array()?;
+    add(out, front)?;
+    add(out, "[")?;
+    let mut later = false;
     for text in texts {
-        out.string(text.as_str())?;
+        add_text(out, separator(later), text.as_str())?;
+        later = true;
     }
-    out.end_array()?;
+    add(out, "]")?;
     Ok(())
 }

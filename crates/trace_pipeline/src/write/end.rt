@@ -1,22 +1,17 @@
-//! The end of a run as JSON.
-ghost use Rattle.std.specs.Prelude.{◌≡◌, ◌++◌, OnOk};
-ghost use Rattle.json.specs.Tree.{json_tokens};
-ghost use Rattle.serde_json.specs.Written.{outline};
+//! The end line as JSON.
+ghost use Rattle.serde_json.specs.Written.{compact_text};
 ghost use Rattle.trace_pipeline.specs.Texts.{end_data};
+ghost use Rattle.trace_pipeline.specs.Writes.{Writes};
 
-use super::member::{bool_member, whole_member};
-use json::Writer;
+use super::pieces::{add, add_number};
 use std::alloc::AllocError;
 
-/// Writes how many spans are open, and how many records were written.
-pub fn write_end(out: &mut Writer, open_spans: u64, records: u64) -> Result<(), AllocError>
-    ensures ok { OnOk result (out.new.tokens ≡ out.old.tokens ++ json_tokens (outline (end_data open_spans records))) }
-    ensures before { out.new.before ≡ out.old.before }
+/// Adds how many spans are open and how many records were written.
+pub fn add_end(out: &mut Vec<u8>, open_spans: u64, records: u64) -> Result<(), AllocError>
+    ensures { Writes result out.old out.new (compact_text (end_data open_spans records)) }
 {
-    out.begin_object()?;
-    bool_member(out, "done", true)?;
-    whole_member(out, "open", open_spans)?;
-    whole_member(out, "records", records)?;
-    out.end_object()?;
+    add_number(out, "{\"done\":true,\"open\":", open_spans)?;
+    add_number(out, ",\"records\":", records)?;
+    add(out, "}")?;
     Ok(())
 }

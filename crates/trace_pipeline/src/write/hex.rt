@@ -1,31 +1,29 @@
 //! Ids in hexadecimal, written without an allocation.
-ghost use Rattle.std.specs.Prelude.{◌≡◌, ◌+◌, ◌<◌, ◌≤◌, [], ◌∷◌, ◌++◌, OnOk, drop, length, false};
+ghost use Rattle.std.specs.Prelude.{◌≡◌, ◌+◌, ◌<◌, ◌≤◌, ◌++◌, drop, length, false};
 ghost use Rattle.std.specs.Fmt.{digit_glyph};
 ghost use Rattle.std.specs.Str.{IsUtf8};
-ghost use Rattle.json.specs.Token.{key, string};
+ghost use Rattle.json.specs.Print.{quoted};
 ghost use Rattle.trace_pipeline.specs.Hex.{hex16, hex32};
+ghost use Rattle.trace_pipeline.specs.Writes.{Writes};
 
-use super::member::text_member;
-use json::Writer;
+use super::pieces::add_text;
 use std::alloc::AllocError;
 
-/// Writes a member whose value is an id of 64 bits.
-pub fn id_member(out: &mut Writer, name: &str, id: u64) -> Result<(), AllocError>
-    ensures ok { OnOk result (out.new.tokens ≡ out.old.tokens ++ key name.now ∷ string (hex16 id) ∷ []) }
-    ensures before { out.new.before ≡ out.old.before }
+/// Adds an id of 64 bits.
+pub fn add_id(out: &mut Vec<u8>, front: &str, id: u64) -> Result<(), AllocError>
+    ensures { Writes result out.old out.new (front.now ++ quoted (hex16 id)) }
 {
     let digits = digits_of(id);
-    text_member(out, name, as_text(&digits))?;
+    add_text(out, front, as_text(&digits))?;
     Ok(())
 }
 
-/// Writes a member whose value is an id of 128 bits.
-pub fn long_id_member(out: &mut Writer, name: &str, id: u128) -> Result<(), AllocError>
-    ensures ok { OnOk result (out.new.tokens ≡ out.old.tokens ++ key name.now ∷ string (hex32 id) ∷ []) }
-    ensures before { out.new.before ≡ out.old.before }
+/// Adds an id of 128 bits.
+pub fn add_long_id(out: &mut Vec<u8>, front: &str, id: u128) -> Result<(), AllocError>
+    ensures { Writes result out.old out.new (front.now ++ quoted (hex32 id)) }
 {
     let digits = digits_of_long(id);
-    text_member(out, name, as_text(&digits))?;
+    add_text(out, front, as_text(&digits))?;
     Ok(())
 }
 
@@ -74,7 +72,8 @@ fn put_digits(digits: &mut [u8], start: usize, id: u64)
     }
 }
 
-fn digit_of(value: u64) -> u8
+/// The digit of a value below 16.
+pub(crate) fn digit_of(value: u64) -> u8
     requires { value < 16 }
     ensures { result ≡ digit_glyph false value }
 {

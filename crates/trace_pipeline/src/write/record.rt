@@ -1,57 +1,35 @@
 //! Records as JSON.
-ghost use Rattle.std.specs.Prelude.{◌≡◌, [], ◌∷◌, ◌++◌, OnOk, codes, decimal};
-ghost use Rattle.json.specs.Token.{key, string, number, end_object};
-ghost use Rattle.json.specs.Tree.{json_tokens};
-ghost use Rattle.serde_json.specs.Written.{outline};
-ghost use Rattle.trace_pipeline.specs.Hex.{hex16, hex32};
+ghost use Rattle.std.specs.Prelude.{◌≡◌, ◌++◌};
+ghost use Rattle.serde_json.specs.Written.{compact_text};
 ghost use Rattle.trace_pipeline.specs.Object.{array_of};
 ghost use Rattle.trace_pipeline.specs.RecordData.{event_data, link_data, kind_name, status_data, record_data};
+ghost use Rattle.trace_pipeline.specs.Writes.{Writes};
 
-use super::attribute::attributes_member;
-use super::hex::{id_member, long_id_member};
-use super::member::{text_member, whole_member};
-use json::Writer;
-use otel_base::list::Items;
+use super::attribute::add_attributes;
+use super::hex::{add_id, add_long_id};
+use super::pieces::{add, add_number, add_text, separator};
 use otel_base::record::{Link, OtelEvent, Record, SpanKind};
 use otel_base::status::Status;
 use std::alloc::AllocError;
 
-/// Writes the record with a number.
+/// Adds the record with a number.
 #[tactic(auto, unfolding(crate::specs::RecordData::record_data))]
-pub fn write_record(out: &mut Writer, number: u64, finished: &Record) -> Result<(), AllocError>
-    ensures ok { OnOk result (out.new.tokens ≡ out.old.tokens ++ json_tokens (outline (record_data number finished.now))) }
-    ensures before { out.new.before ≡ out.old.before }
+pub fn add_record(out: &mut Vec<u8>, number: u64, finished: &Record) -> Result<(), AllocError>
+    ensures { Writes result out.old out.new (compact_text (record_data number finished.now)) }
 {
-    out.begin_object()?;
-    attributes_member(out, &finished.attributes)?;
-    whole_member(out, "end", finished.end)?;
-    events_member(out, &finished.events)?;
-    text_member(out, "kind", name_of(finished.kind))?;
-    links_member(out, &finished.links)?;
-    text_member(out, "name", finished.name.as_str())?;
-    end_record(out, number, finished)?;
-    Ok(())
-}
-
-// Writes what comes behind the name, and the end.
-fn end_record(out: &mut Writer, place: u64, finished: &Record) -> Result<(), AllocError>
-    ensures ok { OnOk result (out.new.tokens ≡ out.old.tokens
-        ++ key (codes "parent") ∷ string (hex16 finished.now.parent)
-        ∷ key (codes "record") ∷ number (decimal place)
-        ∷ key (codes "span") ∷ string (hex16 finished.now.context.span)
-        ∷ key (codes "start") ∷ number (decimal finished.now.start)
-        ∷ key (codes "status") ∷ (json_tokens (outline (status_data finished.now.status))
-        ++ key (codes "trace") ∷ string (hex32 finished.now.context.trace) ∷ end_object ∷ [])) }
-    ensures before { out.new.before ≡ out.old.before }
-{
-    id_member(out, "parent", finished.parent)?;
-    whole_member(out, "record", place)?;
-    id_member(out, "span", finished.context.span)?;
-    whole_member(out, "start", finished.start)?;
-    out.key("status")?;
-    write_status(out, &finished.status)?;
-    long_id_member(out, "trace", finished.context.trace)?;
-    out.end_object()?;
+    add_attributes(out, "{\"attributes\":", finished.attributes.as_slice())?;
+    add_number(out, ",\"end\":", finished.end)?;
+    add_events(out, ",\"events\":", finished.events.as_slice())?;
+    add_text(out, ",\"kind\":", name_of(finished.kind))?;
+    add_links(out, ",\"links\":", finished.links.as_slice())?;
+    add_text(out, ",\"name\":", finished.name.as_str())?;
+    add_id(out, ",\"parent\":", finished.parent)?;
+    add_number(out, ",\"record\":", number)?;
+    add_id(out, ",\"span\":", finished.context.span)?;
+    add_number(out, ",\"start\":", finished.start)?;
+    add_status(out, ",\"status\":", &finished.status)?;
+    add_long_id(out, ",\"trace\":", finished.context.trace)?;
+    add(out, "}")?;
     Ok(())
 }
 
@@ -67,84 +45,71 @@ fn name_of(kind: SpanKind) -> &'static str
     }
 }
 
-fn write_status(out: &mut Writer, status: &Status) -> Result<(), AllocError>
-    ensures ok { OnOk result (out.new.tokens ≡ out.old.tokens ++ json_tokens (outline (status_data status.now))) }
-    ensures before { out.new.before ≡ out.old.before }
+fn add_error(out: &mut Vec<u8>, front: &str, description: &str) -> Result<(), AllocError>
+    ensures { Writes result out.old out.new (front.now ++ compact_text (status_data (Status.Error description.now))) }
+{
+    add(out, front)?;
+    add_text(out, "{\"error\":", description)?;
+    add(out, "}")?;
+    Ok(())
+}
+
+fn add_status(out: &mut Vec<u8>, front: &str, status: &Status) -> Result<(), AllocError>
+    ensures { Writes result out.old out.new (front.now ++ compact_text (status_data status.now)) }
 {
     match status {
-        Status::Unset => out.string("unset"),
-        Status::Error { description } => {
-            out.begin_object()?;
-            text_member(out, "error", description.as_str())?;
-            out.end_object()?;
-            Ok(())
-        }
-        Status::Ok => out.string("ok"),
+        Status::Unset => add_text(out, front, "unset"),
+        Status::Error { description } => add_error(out, front, description.as_str()),
+        Status::Ok => add_text(out, front, "ok"),
     }
 }
 
-fn events_member(out: &mut Writer, events: &Items<OtelEvent>) -> Result<(), AllocError>
-    ensures ok { OnOk result (out.new.tokens ≡ out.old.tokens ++ key (codes "events") ∷ json_tokens (outline (array_of event_data events.now))) }
-    ensures before { out.new.before ≡ out.old.before }
+fn add_events(out: &mut Vec<u8>, front: &str, events: &[OtelEvent]) -> Result<(), AllocError>
+    ensures { Writes result out.old out.new (front.now ++ compact_text (array_of event_data events.now)) }
 {
-    out.key("events")?;
-    write_events(out, events.as_slice())?;
-    Ok(())
-}
-
-fn write_events(out: &mut Writer, events: &[OtelEvent]) -> Result<(), AllocError>
-    ensures ok { OnOk result (out.new.tokens ≡ out.old.tokens ++ json_tokens (outline (array_of event_data events.now))) }
-    ensures before { out.new.before ≡ out.old.before }
-{
-    out.begin_array()?;
+    add(out, front)?;
+    add(out, "[")?;
+    let mut later = false;
     for event in events {
-        write_event(out, event)?;
+        add_event(out, separator(later), event)?;
+        later = true;
     }
-    out.end_array()?;
+    add(out, "]")?;
     Ok(())
 }
 
-fn write_event(out: &mut Writer, event: &OtelEvent) -> Result<(), AllocError>
-    ensures ok { OnOk result (out.new.tokens ≡ out.old.tokens ++ json_tokens (outline (event_data event.now))) }
-    ensures before { out.new.before ≡ out.old.before }
+fn add_event(out: &mut Vec<u8>, front: &str, event: &OtelEvent) -> Result<(), AllocError>
+    ensures { Writes result out.old out.new (front.now ++ compact_text (event_data event.now)) }
 {
-    out.begin_object()?;
-    attributes_member(out, &event.attributes)?;
-    text_member(out, "name", event.name.as_str())?;
-    whole_member(out, "time", event.time)?;
-    out.end_object()?;
+    add(out, front)?;
+    add_attributes(out, "{\"attributes\":", event.attributes.as_slice())?;
+    add_text(out, ",\"name\":", event.name.as_str())?;
+    add_number(out, ",\"time\":", event.time)?;
+    add(out, "}")?;
     Ok(())
 }
 
-fn links_member(out: &mut Writer, links: &Items<Link>) -> Result<(), AllocError>
-    ensures ok { OnOk result (out.new.tokens ≡ out.old.tokens ++ key (codes "links") ∷ json_tokens (outline (array_of link_data links.now))) }
-    ensures before { out.new.before ≡ out.old.before }
+fn add_links(out: &mut Vec<u8>, front: &str, links: &[Link]) -> Result<(), AllocError>
+    ensures { Writes result out.old out.new (front.now ++ compact_text (array_of link_data links.now)) }
 {
-    out.key("links")?;
-    write_links(out, links.as_slice())?;
-    Ok(())
-}
-
-fn write_links(out: &mut Writer, links: &[Link]) -> Result<(), AllocError>
-    ensures ok { OnOk result (out.new.tokens ≡ out.old.tokens ++ json_tokens (outline (array_of link_data links.now))) }
-    ensures before { out.new.before ≡ out.old.before }
-{
-    out.begin_array()?;
+    add(out, front)?;
+    add(out, "[")?;
+    let mut later = false;
     for link in links {
-        write_link(out, link)?;
+        add_link(out, separator(later), link)?;
+        later = true;
     }
-    out.end_array()?;
+    add(out, "]")?;
     Ok(())
 }
 
-fn write_link(out: &mut Writer, link: &Link) -> Result<(), AllocError>
-    ensures ok { OnOk result (out.new.tokens ≡ out.old.tokens ++ json_tokens (outline (link_data link.now))) }
-    ensures before { out.new.before ≡ out.old.before }
+fn add_link(out: &mut Vec<u8>, front: &str, link: &Link) -> Result<(), AllocError>
+    ensures { Writes result out.old out.new (front.now ++ compact_text (link_data link.now)) }
 {
-    out.begin_object()?;
-    attributes_member(out, &link.attributes)?;
-    id_member(out, "span", link.context.span)?;
-    long_id_member(out, "trace", link.context.trace)?;
-    out.end_object()?;
+    add(out, front)?;
+    add_attributes(out, "{\"attributes\":", link.attributes.as_slice())?;
+    add_id(out, ",\"span\":", link.context.span)?;
+    add_long_id(out, ",\"trace\":", link.context.trace)?;
+    add(out, "}")?;
     Ok(())
 }

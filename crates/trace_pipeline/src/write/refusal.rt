@@ -1,61 +1,53 @@
 //! Refusals as JSON.
-ghost use Rattle.std.specs.Prelude.{◌≡◌, [], ◌∷◌, ◌++◌, decimal, OnOk, codes};
-ghost use Rattle.json.specs.Token.{key, string, number, end_object};
-ghost use Rattle.json.specs.Tree.{json_tokens, members_tokens};
-ghost use Rattle.serde_json.specs.Written.{outline, members_outline};
-ghost use Rattle.trace_pipeline.specs.Object.{members, whole};
-ghost use Rattle.trace_pipeline.specs.Texts.{refusal_data, step_members, what_name};
+ghost use Rattle.std.specs.Prelude.{◌≡◌};
+ghost use Rattle.serde_json.specs.Written.{compact_text};
+ghost use Rattle.trace_pipeline.specs.Texts.{refusal_data, named_refusal, what_name};
+ghost use Rattle.trace_pipeline.specs.Writes.{Writes};
 
-use super::member::{text_member, whole_member};
+use super::pieces::{add, add_number, add_text};
 use crate::reply::{Refusal, Told, What};
-use json::Writer;
 use std::alloc::AllocError;
 
-/// Writes why a line is refused.
-pub fn write_refusal(out: &mut Writer, line: u64, told: &Told) -> Result<(), AllocError>
-    ensures ok { OnOk result (out.new.tokens ≡ out.old.tokens ++ json_tokens (outline (refusal_data line told.now))) }
-    ensures before { out.new.before ≡ out.old.before }
+/// Adds why a line is refused.
+pub fn add_refusal(out: &mut Vec<u8>, line: u64, told: &Told) -> Result<(), AllocError>
+    ensures { Writes result out.old out.new (compact_text (refusal_data line told.now)) }
 {
-    out.begin_object()?;
     match told {
-        Told::BadLine => end_refused(out, line, "BadLine")?,
-        Told::Later => end_refused(out, line, "Later")?,
-        Told::Step { refusal } => end_step(out, line, *refusal)?,
+        Told::BadLine => add_named(out, line, "BadLine"),
+        Told::Later => add_named(out, line, "Later"),
+        Told::Step { refusal } => add_step(out, line, *refusal),
     }
+}
+
+// Adds which line's step is refused and why.
+fn add_step(out: &mut Vec<u8>, line: u64, refusal: Refusal) -> Result<(), AllocError>
+    ensures { Writes result out.old out.new (compact_text (refusal_data line (Told.Step refusal))) }
+{
+    match refusal {
+        Refusal::Later => add_named(out, line, "Later"),
+        Refusal::BadMoment { before, given } => add_moment(out, line, before, given),
+        Refusal::UnknownName { what } => add_unknown(out, line, what),
+        Refusal::InUse => add_named(out, line, "InUse"),
+        Refusal::Memory => add_named(out, line, "Memory"),
+    }
+}
+
+fn add_moment(out: &mut Vec<u8>, line: u64, before: u64, given: u64) -> Result<(), AllocError>
+    ensures { Writes result out.old out.new (compact_text (refusal_data line (Told.Step (Refusal.BadMoment before given)))) }
+{
+    add_number(out, "{\"before\":", before)?;
+    add_number(out, ",\"given\":", given)?;
+    add_number(out, ",\"line\":", line)?;
+    add(out, ",\"refused\":\"BadMoment\"}")?;
     Ok(())
 }
 
-// Writes which line's step is refused and why, and the end.
-fn end_step(out: &mut Writer, line: u64, refusal: Refusal) -> Result<(), AllocError>
-    ensures ok { OnOk result (out.new.tokens ≡ out.old.tokens
-        ++ members_tokens (members_outline (members ((codes "line", whole line) ∷ step_members refusal)))) }
-    ensures before { out.new.before ≡ out.old.before }
+fn add_unknown(out: &mut Vec<u8>, line: u64, what: What) -> Result<(), AllocError>
+    ensures { Writes result out.old out.new (compact_text (refusal_data line (Told.Step (Refusal.UnknownName what)))) }
 {
-    match refusal {
-        Refusal::Later => end_refused(out, line, "Later"),
-        Refusal::BadMoment { before, given } => {
-            whole_member(out, "before", before)?;
-            whole_member(out, "given", given)?;
-            end_refused(out, line, "BadMoment")?;
-            Ok(())
-        }
-        Refusal::UnknownName { what } => end_unknown(out, line, name_of(what)),
-        Refusal::InUse => end_refused(out, line, "InUse"),
-        Refusal::Memory => end_refused(out, line, "Memory"),
-    }
-}
-
-// Writes which line names what is unknown, and the end.
-fn end_unknown(out: &mut Writer, line: u64, what: &str) -> Result<(), AllocError>
-    ensures ok { OnOk result (out.new.tokens ≡ out.old.tokens
-        ++ key (codes "line") ∷ number (decimal line) ∷ key (codes "refused") ∷ string (codes "UnknownName")
-        ∷ key (codes "what") ∷ string what.now ∷ end_object ∷ []) }
-    ensures before { out.new.before ≡ out.old.before }
-{
-    whole_member(out, "line", line)?;
-    text_member(out, "refused", "UnknownName")?;
-    text_member(out, "what", what)?;
-    out.end_object()?;
+    add_number(out, "{\"line\":", line)?;
+    add_text(out, ",\"refused\":\"UnknownName\",\"what\":", name_of(what))?;
+    add(out, "}")?;
     Ok(())
 }
 
@@ -70,14 +62,12 @@ fn name_of(what: What) -> &'static str
     }
 }
 
-// Writes which line is refused and the refusal's name, and the end.
-fn end_refused(out: &mut Writer, line: u64, name: &str) -> Result<(), AllocError>
-    ensures ok { OnOk result (out.new.tokens ≡ out.old.tokens
-        ++ key (codes "line") ∷ number (decimal line) ∷ key (codes "refused") ∷ string name.now ∷ end_object ∷ []) }
-    ensures before { out.new.before ≡ out.old.before }
+// Adds which line is refused and the refusal's name.
+fn add_named(out: &mut Vec<u8>, line: u64, name: &str) -> Result<(), AllocError>
+    ensures { Writes result out.old out.new (compact_text (named_refusal line name.now)) }
 {
-    whole_member(out, "line", line)?;
-    text_member(out, "refused", name)?;
-    out.end_object()?;
+    add_number(out, "{\"line\":", line)?;
+    add_text(out, ",\"refused\":", name)?;
+    add(out, "}")?;
     Ok(())
 }

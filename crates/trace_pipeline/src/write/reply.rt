@@ -1,45 +1,56 @@
 //! Replies as JSON.
-ghost use Rattle.std.specs.Prelude.{◌≡◌, [], ◌∷◌, ◌++◌, decimal, OnOk, codes};
-ghost use Rattle.json.specs.Token.{key, number, end_object};
-ghost use Rattle.json.specs.Tree.{json_tokens};
-ghost use Rattle.serde_json.specs.Written.{outline};
+ghost use Rattle.serde_json.specs.Written.{compact_text};
 ghost use Rattle.trace_pipeline.specs.Texts.{reply_data};
+ghost use Rattle.trace_pipeline.specs.Writes.{Writes};
 
-use super::member::{bool_member, whole_member};
+use super::pieces::{add, add_flag, add_number};
 use crate::reply::Reply;
-use json::Writer;
 use std::alloc::AllocError;
 
-/// Writes the reply to the request on a line.
-pub fn write_reply(out: &mut Writer, line: u64, reply: &Reply) -> Result<(), AllocError>
-    ensures ok { OnOk result (out.new.tokens ≡ out.old.tokens ++ json_tokens (outline (reply_data line reply.now))) }
-    ensures before { out.new.before ≡ out.old.before }
+fn add_made(out: &mut Vec<u8>, line: u64, enabled: bool, handle: u64) -> Result<(), AllocError>
+    ensures { Writes result out.old out.new (compact_text (reply_data line (Reply.Made enabled handle))) }
 {
-    out.begin_object()?;
-    match reply {
-        Reply::Made { enabled, handle } => {
-            bool_member(out, "enabled", *enabled)?;
-            whole_member(out, "handle", *handle)?;
-            end_reply(out, line)
-        }
-        Reply::Guard { guard } => {
-            whole_member(out, "guard", *guard)?;
-            end_reply(out, line)
-        }
-        Reply::Done => end_reply(out, line),
-        Reply::Enabled { enabled } => {
-            bool_member(out, "enabled", *enabled)?;
-            end_reply(out, line)
-        }
-    }
+    add_flag(out, "{\"enabled\":", enabled)?;
+    add_number(out, ",\"handle\":", handle)?;
+    add_number(out, ",\"reply\":", line)?;
+    add(out, "}")?;
+    Ok(())
 }
 
-// Writes which line's reply it is, and the end.
-fn end_reply(out: &mut Writer, line: u64) -> Result<(), AllocError>
-    ensures ok { OnOk result (out.new.tokens ≡ out.old.tokens ++ key (codes "reply") ∷ number (decimal line) ∷ end_object ∷ []) }
-    ensures before { out.new.before ≡ out.old.before }
+fn add_guard(out: &mut Vec<u8>, line: u64, guard: u64) -> Result<(), AllocError>
+    ensures { Writes result out.old out.new (compact_text (reply_data line (Reply.Guard guard))) }
 {
-    whole_member(out, "reply", line)?;
-    out.end_object()?;
+    add_number(out, "{\"guard\":", guard)?;
+    add_number(out, ",\"reply\":", line)?;
+    add(out, "}")?;
     Ok(())
+}
+
+fn add_enabled(out: &mut Vec<u8>, line: u64, enabled: bool) -> Result<(), AllocError>
+    ensures { Writes result out.old out.new (compact_text (reply_data line (Reply.Enabled enabled))) }
+{
+    add_flag(out, "{\"enabled\":", enabled)?;
+    add_number(out, ",\"reply\":", line)?;
+    add(out, "}")?;
+    Ok(())
+}
+
+fn add_done(out: &mut Vec<u8>, line: u64) -> Result<(), AllocError>
+    ensures { Writes result out.old out.new (compact_text (reply_data line Reply.Done)) }
+{
+    add_number(out, "{\"reply\":", line)?;
+    add(out, "}")?;
+    Ok(())
+}
+
+/// Adds the reply to the request on a line.
+pub fn add_reply(out: &mut Vec<u8>, line: u64, reply: &Reply) -> Result<(), AllocError>
+    ensures { Writes result out.old out.new (compact_text (reply_data line reply.now)) }
+{
+    match reply {
+        Reply::Made { enabled, handle } => add_made(out, line, *enabled, *handle),
+        Reply::Guard { guard } => add_guard(out, line, *guard),
+        Reply::Done => add_done(out, line),
+        Reply::Enabled { enabled } => add_enabled(out, line, *enabled),
+    }
 }

@@ -1,0 +1,74 @@
+//! The pieces of lines: each is a text as it is given, and then a value.
+ghost use Rattle.std.specs.Prelude.{◌≡◌, ◌++◌, decimal, codes};
+ghost use Rattle.std.specs.Fmt.{signed_decimal};
+ghost use Rattle.json.specs.Print.{quoted};
+ghost use Rattle.serde_json.specs.Data.{boolean};
+ghost use Rattle.serde_json.specs.Written.{compact_text, comma_if};
+ghost use Rattle.trace_pipeline.specs.Writes.{Writes};
+
+use super::escape::add_escaped;
+use itoa::Buffer;
+use std::alloc::AllocError;
+
+/// Adds a text as it is.
+pub fn add(out: &mut Vec<u8>, front: &str) -> Result<(), AllocError>
+    ensures { Writes result out.old out.new front.now }
+{
+    out.extend_from_slice(front.as_bytes())?;
+    Ok(())
+}
+
+/// Adds a whole number.
+pub fn add_number(out: &mut Vec<u8>, front: &str, number: u64) -> Result<(), AllocError>
+    ensures { Writes result out.old out.new (front.now ++ decimal number) }
+{
+    let mut buffer = Buffer::new();
+    let digits = buffer.format(number);
+    add(out, front)?;
+    add(out, digits)?;
+    Ok(())
+}
+
+/// Adds an integer.
+pub fn add_integer(out: &mut Vec<u8>, front: &str, number: i64) -> Result<(), AllocError>
+    ensures { Writes result out.old out.new (front.now ++ signed_decimal number) }
+{
+    let mut buffer = Buffer::new();
+    let digits = buffer.format(number);
+    add(out, front)?;
+    add(out, digits)?;
+    Ok(())
+}
+
+fn flag_word(flag: bool) -> &'static str
+    ensures { result.now ≡ compact_text (boolean flag) }
+{
+    if flag { "true" } else { "false" }
+}
+
+/// Adds true or false.
+pub fn add_flag(out: &mut Vec<u8>, front: &str, flag: bool) -> Result<(), AllocError>
+    ensures { Writes result out.old out.new (front.now ++ compact_text (boolean flag)) }
+{
+    add(out, front)?;
+    add(out, flag_word(flag))?;
+    Ok(())
+}
+
+/// Adds a text in quotes.
+pub fn add_text(out: &mut Vec<u8>, front: &str, text: &str) -> Result<(), AllocError>
+    ensures { Writes result out.old out.new (front.now ++ quoted text.now) }
+{
+    add(out, front)?;
+    out.push(b'"')?;
+    add_escaped(out, text.as_bytes())?;
+    out.push(b'"')?;
+    Ok(())
+}
+
+/// What stands in front of an array's item.
+pub fn separator(later: bool) -> &'static str
+    ensures { result.now ≡ comma_if later }
+{
+    if later { "," } else { "" }
+}
