@@ -10,6 +10,7 @@ pub mod Written
 pub mod Digits
 pub mod Plainly
 pub mod Placing
+pub mod Ordered
 pub mod Values
 pub mod Adding
 pub mod Escapes

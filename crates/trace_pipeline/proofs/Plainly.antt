@@ -1,5 +1,5 @@
 -- What a compact text reads as, one value after another.
-use Rattle.std.proofs.Common.{◌≡◌, ℕ, suc, ◌<◌, ◌≤◌, ◌^◌, List, [], ◌∷◌, ◌++◌, length, get_or, take, drop, true, false, Bool, Some, None, Option, option_and_then, option_map, unwrap_or, refl, sym, ap, ◌∙◌, arith, append_assoc, append-nil, Bor, decimal, MatchOption, IfSome, ◌+◌, ◌-◌, nat_eq, length-append}
+use Rattle.std.proofs.Common.{negsuc, ◌≡◌, ℕ, suc, ◌<◌, ◌≤◌, ◌^◌, List, [], ◌∷◌, ◌++◌, length, get_or, take, drop, true, false, Bool, Some, None, Option, option_and_then, option_map, unwrap_or, refl, sym, ap, ◌∙◌, arith, append_assoc, append-nil, Bor, decimal, MatchOption, IfSome, ◌+◌, ◌-◌, nat_eq, length-append}
 use Rattle.std.specs.Prelude.{⊤}
 use Rattle.std.specs.Str.{IsUtf8}
 use Rattle.std.specs.Cmp.Lexicographic.{pointwise}
@@ -11,14 +11,14 @@ use Rattle.json.specs.Token.{Token}
 use Rattle.json.specs.Json.{value, if_last}
 use Rattle.json.specs.Tree.{json_tokens, depth, items_depth, members_depth, HasNumbers, ItemsHaveNumbers, MembersHaveNumbers}
 use Rattle.json.specs.Print.{escape, quoted}
-use Rattle.json.proofs.Printed.Decimals.{IsNumber-decimal}
+use Rattle.json.proofs.Printed.Decimals.{IsNumber-decimal, IsNumber-signed_decimal}
 use Rattle.json.proofs.Printed.Tokens.{tokens-print}
 use Rattle.json.proofs.Printed.Trees.{value-json_tokens, ArePrintable-json_tokens}
-use Rattle.serde_json.specs.Data.{Data, null, boolean, unsigned, number, string, array, object, Items, no_items, item, Members, no_members, member, put}
+use Rattle.serde_json.specs.Data.{Data, null, boolean, unsigned, negative, number, string, array, object, Items, no_items, item, Members, no_members, member, put}
 use Rattle.serde_json.specs.Find.{as_object}
 use Rattle.serde_json.specs.Read.{of_json, of_items, of_members, read, max_depth}
 use Rattle.serde_json.specs.Written.{outline, items_outline, members_outline, compact_text, items_text, members_text}
-use Rattle.serde_json.proofs.Numbers.{number_of-decimal}
+use Rattle.serde_json.proofs.Numbers.{number_of-decimal, number_of-negative}
 use Rattle.serde_json.proofs.Texts.{print-outline}
 use Rattle.trace_pipeline.specs.Spelled.{line_members, line_value}
 use Rattle.trace_pipeline.specs.Compact.{nested, plain_data, onto, Reads, Begins, BeginsItems, BeginsMembers, BeginsNested}
@@ -38,6 +38,10 @@ read_compact raw d numbers shallow is =
 
 pub whole_begins : (text rest : List ℕ) (n : ℕ) → text ≡ decimal n ++ rest → n < 2 ^ 64 → Begins 0 text (number (unsigned n)) rest
 whole_begins text rest n is fits = (number (unsigned n), is, (IsNumber-decimal n fits, omega arith, ap (option_map number) (number_of-decimal n fits)))
+
+pub below_begins : (text digits rest : List ℕ) (m n : ℕ) → text ≡ 45 ∷ digits → digits ≡ decimal m ++ rest → m ≡ suc n → n < 2 ^ 63 - 1 → Begins 0 text (number (negative (negsuc n))) rest
+below_begins text digits rest m n a b one fits =
+    (number (negative (negsuc n)), a ∙ ap (λ (l : List ℕ). 45 ∷ l) (b ∙ ap (λ k. decimal k ++ rest) one), (IsNumber-signed_decimal (negsuc n) (omega (arith, fits)), omega arith, ap (option_map number) (number_of-negative n (omega (arith, fits)))))
 
 pub text_begins : (text rest words : List ℕ) → text ≡ quoted words ++ rest → Begins 0 text (string words) rest
 text_begins text rest words is = (string words, is, (tt, omega arith, refl))

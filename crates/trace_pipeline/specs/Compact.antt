@@ -1,13 +1,13 @@
 -- What a compact text begins with: a value and its reading, apart from the tree.
-use Rattle.std.specs.Prelude.{◌≡◌, ◌≤◌, ◌++◌, List, ℕ, [], ◌∷◌, Some, false, unwrap_or}
+use Rattle.std.specs.Prelude.{◌≡◌, ◌≤◌, ◌++◌, List, ℕ, [], ◌∷◌, Some, false, negsuc, unwrap_or}
 use Rattle.std.specs.Borrow.{Bor}
 use Rattle.json.specs.Tree.{HasNumbers, ItemsHaveNumbers, MembersHaveNumbers, depth, items_depth, members_depth}
-use Rattle.serde_json.specs.Data.{Data, null, boolean, unsigned, number, string, array, object, Items, Members, no_members, member}
+use Rattle.serde_json.specs.Data.{Data, null, boolean, unsigned, negative, number, string, array, object, Items, Members, no_members, member}
 use Rattle.serde_json.specs.Read.{of_json, of_items, of_members}
 use Rattle.serde_json.specs.Written.{outline, items_outline, members_outline, compact_text, items_text, members_text}
 use Rattle.trace_pipeline.specs.Spelled.{line_value}
 use Rattle.trace_pipeline.specs.declared.read.plain.Plain.{Plain}
-use Rattle.trace_pipeline.specs.declared.read.plain.Plain.TheVariants.{Whole, Text, Flag, Nested}
+use Rattle.trace_pipeline.specs.declared.read.plain.Plain.TheVariants.{Whole, Below, Text, Flag, Nested}
 
 -- an array or an object as it is, and null in the place of another value
 abbrev pub nested : Data → Data
@@ -21,6 +21,7 @@ nested (object ms) = object ms
 -- the value that stands plainly, of which what nests is still a text
 abbrev pub plain_data : Plain → Data
 plain_data (Whole n) = number (unsigned n)
+plain_data (Below n) = number (negative (negsuc n))
 plain_data (Text s) = string s.now
 plain_data (Flag b) = boolean b
 plain_data (Nested s) = nested (unwrap_or (line_value s.now) null)

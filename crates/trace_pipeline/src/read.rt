@@ -203,4 +203,100 @@ mod tests {
             );
         }
     }
+
+    // A request read from an object, or why there is none, and its parts.
+    fn answer(
+        object: Result<Object<'_>, LineError>,
+    ) -> (Option<LineError>, u64, u64, (&'static str, u64)) {
+        let mut object = match object {
+            Ok(object) => object,
+            Err(why) => return (Some(why), 0, 0, ("", 0)),
+        };
+        let request = match request::request_members(&mut object) {
+            Ok(request) => request,
+            Err(why) => return (Some(why), 0, 0, ("", 0)),
+        };
+        match object.end() {
+            Ok(()) => (None, request.at, request.lane, parts(&request.call)),
+            Err(why) => (Some(why), 0, 0, ("", 0)),
+        }
+    }
+
+    // Whether a line is answered alike in both ways of reading.
+    fn is_same(alloc: Global, line: &[u8]) -> bool {
+        answer(Object::open(alloc, line)) == answer(object::tree_of(alloc, line))
+    }
+
+    // A line with one byte in the place of another.
+    fn damaged(alloc: Global, line: &[u8], place: usize, byte: u8) -> Result<Vec<u8>, Fail> {
+        let mut bytes = Vec::new(alloc);
+        bytes.extend_from_slice(line)?;
+        if let Some(there) = bytes.get_mut(place) {
+            *there = byte;
+        }
+        Ok(bytes)
+    }
+
+    // How many of a line's damaged copies are answered alike, and how many there are.
+    fn same_copies(alloc: Global, line: &[u8], bytes: &[u8]) -> Result<(u32, u32), Fail> {
+        let (mut same, mut all) = (0u32, 0u32);
+        for (place, _) in line.iter().enumerate() {
+            for byte in bytes {
+                let copy = damaged(alloc, line, place, *byte)?;
+                all = all.saturating_add(1);
+                if is_same(alloc, copy.as_slice()) {
+                    same = same.saturating_add(1);
+                }
+            }
+        }
+        Ok((same, all))
+    }
+
+    #[test]
+    fn both_ways_agree(rt: HostRuntime) -> Result<(), Fail> {
+        let alloc = rt.alloc();
+        for (line, all) in [
+            (r#"{"at":2,"do":"new","lane":0,"site":40}"#, 228),
+            (r#"{"lane":0,"do":"drop","handle":1,"at":3,"at":4}"#, 282),
+        ] {
+            let found = same_copies(alloc, line.as_bytes(), b"\"\\,}0\xff")?;
+            assert_eq!(rt; found, (all, all), "{line}");
+        }
+        for line in [
+            r#"{"at":18446744073709551616,"do":"drop","handle":1,"lane":0}"#,
+            r#"{"at":1e999,"do":"drop","handle":1,"lane":0}"#,
+            r#"{"at":-0,"do":"drop","handle":1,"lane":0}"#,
+            r#"{"at":01,"do":"drop","handle":1,"lane":0}"#,
+            r#"{"at":1,"do":"drop","handle":[[-1,"é"],{"a":[],"a":true}],"lane":0}"#,
+            r#"{"at":1,"do":"drop","handle":[[[[[[[[[[[[[[[[[]]]]]]]]]]]]]]]]],"lane":0}"#,
+            r#"{"at":1,"do":"drop","handle":1,"lane":0}}"#,
+            r#"{"at":1,"do":"dr\u006fp","handle":1,"lane":0}"#,
+            r#"{ "at":1,"do":"drop","handle":1,"lane":0}"#,
+            r#"{"at":1,"do":"drop","handle":1,"lane":0,}"#,
+            r#"{}"#,
+        ] {
+            assert!(rt; is_same(alloc, line.as_bytes()), "{line}");
+        }
+        Ok(())
+    }
+
+    // Whether a line is read with no tree.
+    fn is_quick(alloc: Global, line: &str) -> bool {
+        flat::members(alloc, line.as_bytes()).is_some()
+    }
+
+    #[test]
+    fn reads_without_a_tree(rt: HostRuntime) {
+        for line in [
+            SETTINGS,
+            r#"{"at":2,"do":"new","lane":0,"site":4}"#,
+            r#"{"site":4,"lane":0,"do":"new","at":2}"#,
+            r#"{"at":18446744073709551615,"do":"exit","guard":7,"lane":0}"#,
+            r#"{"at":0,"do":"new","fields":[["é",-1],["b",true],["c","d"]],"lane":0,"site":0}"#,
+            r#"{"at":0,"do":"set_status","handle":0,"lane":0,"status":{"error":"ü"}}"#,
+        ] {
+            assert!(rt; is_quick(rt.alloc(), line), "{line}");
+        }
+        assert!(rt; flat::items(rt.alloc(), r#"[["é",-1],["b",true]]"#.as_bytes()).is_some());
+    }
 }

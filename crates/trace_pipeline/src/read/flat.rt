@@ -11,7 +11,7 @@ ghost use Rattle.trace_pipeline.specs.Object.{items};
 ghost use Rattle.trace_pipeline.specs.Spelled.{line_value, line_members};
 ghost use Rattle.trace_pipeline.specs.Compact.{plain_data, members_of};
 ghost use Rattle.trace_pipeline.specs.Left.{value_data};
-ghost use Rattle.trace_pipeline.specs.Placed.{Finds, FitsIn};
+ghost use Rattle.trace_pipeline.specs.Placed.{Finds, FitsIn, InOrder, GoesLast};
 
 use crate::read::plain::Plain;
 use crate::read::scan::{behind, text, value};
@@ -122,14 +122,35 @@ fn place_for(members: &[(&[u8], Plain<'_>)], name: &[u8]) -> Option<usize>
     Some(at)
 }
 
-// Puts a member in its place. None where its name is there, or there is no memory.
+// Whether a name is known to come behind all that are there.
+fn is_last(members: &[(&[u8], Plain<'_>)], name: &[u8]) -> bool
+    requires { InOrder (members_of members.now) }
+    ensures { result ≡ true → GoesLast name.now members.now }
+{
+    if members.is_empty() {
+        return true;
+    }
+    let last = members.len() - 1;
+    match compare(name, members[last].0) {
+        Ordering::Less => false,
+        Ordering::Equal => false,
+        Ordering::Greater => true,
+    }
+}
+
+// Puts a member in its place, which mostly is the last. None where its name is there, or there is no memory.
 fn place<'a>(
     members: &mut Vec<(&'a [u8], Plain<'a>)>,
     name: &'a [u8],
     plain: Plain<'a>,
 ) -> Option<()>
+    requires { InOrder (members_of members.old.items) }
     ensures { IfSome result (λ _. members_of members.new.items ≡ put name.now (plain_data plain.entry) (members_of members.old.items)) }
 {
+    if is_last(members.as_slice(), name) {
+        members.push((name, plain)).ok()?;
+        return Some(());
+    }
     let at = place_for(members.as_slice(), name)?;
     members.insert(at, (name, plain)).ok()?;
     Some(())

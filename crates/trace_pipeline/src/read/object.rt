@@ -44,8 +44,8 @@ fn short(number: u64) -> Result<u32, LineError>
     u32::try_from(number).map_err(|_| LineError::Later)
 }
 
-// The object that a line is, as a tree.
-fn tree_of(alloc: Global, line: &[u8]) -> Result<Object<'_>, LineError>
+/// The object that a line is, as a tree.
+pub(crate) fn tree_of(alloc: Global, line: &[u8]) -> Result<Object<'_>, LineError>
     ensures { Opens left result (line_members line.now) }
 {
     match value_of(alloc, line)? {

@@ -9,6 +9,8 @@ ghost use Rattle.trace_pipeline.specs.Compact.{plain_data};
 pub(crate) enum Plain<'a> {
     /// A whole number.
     Whole(u64),
+    /// The whole number -1 less so much.
+    Below(u64),
     /// A text with no escape.
     Text(&'a str),
     /// True or false.
@@ -25,6 +27,7 @@ impl<'a> Plain<'a> {
     {
         match self {
             Plain::Whole(number) => Some(number),
+            Plain::Below(_) => None,
             Plain::Text(_) => None,
             Plain::Flag(_) => None,
             Plain::Nested(_) => None,
@@ -38,6 +41,7 @@ impl<'a> Plain<'a> {
     {
         match self {
             Plain::Whole(_) => None,
+            Plain::Below(_) => None,
             Plain::Text(_) => None,
             Plain::Flag(flag) => Some(flag),
             Plain::Nested(_) => None,
@@ -51,6 +55,7 @@ impl<'a> Plain<'a> {
     {
         match self {
             Plain::Whole(_) => None,
+            Plain::Below(_) => None,
             Plain::Text(words) => Some(words),
             Plain::Flag(_) => None,
             Plain::Nested(_) => None,

@@ -12,6 +12,9 @@ use crate::write::escape::plain_run;
 /// How deep a value may nest.
 pub(crate) const DEEPEST: u32 = 16;
 
+// How far below -1 a number may be.
+const MOST_BELOW: u64 = 9_223_372_036_854_775_807;
+
 // The most items that are taken of an array, and members of an object.
 const MOST: u32 = 65_536;
 
@@ -78,6 +81,19 @@ fn whole_value(bytes: &[u8]) -> Option<(Plain<'_>, &[u8])>
     Some((Plain::Whole(whole), rest))
 }
 
+// A number below zero that is no less than -2^63 + 1.
+fn below_value(bytes: &[u8]) -> Option<(Plain<'_>, &[u8])>
+    ensures { IfSome result (λ r. Begins 0 bytes.now (plain_data r.0) r.1.now) }
+{
+    let digits = behind(bytes, b'-')?;
+    let (whole, rest) = number(digits)?;
+    let less = whole.checked_sub(1)?;
+    if less >= MOST_BELOW {
+        return None;
+    }
+    Some((Plain::Below(less), rest))
+}
+
 #[tactic(auto, using(crate::proofs::Plainly::flag_begins))]
 fn flag_value(bytes: &[u8]) -> Option<(Plain<'_>, &[u8])>
     ensures { IfSome result (λ r. Begins 0 bytes.now (plain_data r.0) r.1.now) }
@@ -104,6 +120,7 @@ fn leaf(bytes: &[u8]) -> Option<(Plain<'_>, &[u8])>
     match *bytes.first()? {
         b'"' => text_value(bytes),
         b't' | b'f' => flag_value(bytes),
+        b'-' => below_value(bytes),
         _ => whole_value(bytes),
     }
 }

@@ -1,9 +1,11 @@
-use Rattle.std.proofs.Common.{◌≡◌, ◌++◌, [], ◌∷◌, Some, false, ap, sym, ◌∙◌, arith, rules}
+use Rattle.std.proofs.Common.{◌≡◌, ◌++◌, [], ◌∷◌, Some, false, ap, sym, subst, ◌∙◌, arith, rules}
 use Rattle.std.specs.Str.{IsUtf8}
 use Rattle.serde_json.specs.Data.{no_members, put}
 use Rattle.serde_json.specs.Written.{members_text}
 use Rattle.trace_pipeline.specs.Compact.{plain_data, members_of}
 use Rattle.trace_pipeline.specs.declared.read.scan.TheConstants.{DEEPEST}
+use Rattle.trace_pipeline.specs.Placed.{InOrder}
+use Rattle.trace_pipeline.proofs.Ordered.{held_in_order}
 use Rattle.trace_pipeline.proofs.Plainly.{Named, AllNamed-push, raw_members, held_push, members_first, members_on, members_text_end, object_read}
 use Rattle.trace_pipeline.proofs.read.flat.members.Goals as goal
 
@@ -11,6 +13,9 @@ pub loop-init : goal.loop-init
 loop-init c =
     let none : c.in_ok-members.members.items ≡ [] = search rules in
     ([], tt, members_first c.in_ok-rest.rest.now, ap members_of none)
+
+pub place-requires : goal.place-requires
+place-requires c = subst InOrder (sym c.loop.invariant.3) (held_in_order c.loop.invariant.0 no_members tt)
 
 pub returns-in-None : goal.returns-in-None
 returns-in-None c =

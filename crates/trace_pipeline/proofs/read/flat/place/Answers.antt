@@ -1,0 +1,15 @@
+use Rattle.std.proofs.Common.{◌≡◌, ◌++◌, [], ◌∷◌, List, ap, sym, subst, ◌∙◌, refl, rules}
+use Rattle.trace_pipeline.specs.Compact.{members_of}
+use Rattle.trace_pipeline.specs.Placed.{InOrder, GoesLast}
+use Rattle.trace_pipeline.proofs.Plainly.{Entry}
+use Rattle.trace_pipeline.proofs.Ordered.{put_at_end}
+use Rattle.trace_pipeline.proofs.read.flat.place.Goals as goal
+
+pub is_last-requires : goal.is_last-requires
+is_last-requires c = subst (λ (es : List Entry). InOrder (members_of es)) (sym c.as_slice.ensures.value) c.requires
+
+pub returns-then-is_last : goal.returns-then-is_last
+returns-then-is_last c =
+    let e : Entry = (c.args.name, c.args.plain) in
+    let pushed : c.push.new.self.items ≡ c.args.members.now.items ++ e ∷ [] = search rules in
+    ap members_of pushed ∙ put_at_end c.args.name.now c.args.members.now.items e (subst (GoesLast c.args.name.now) c.as_slice.ensures.value (c.is_last.ensures c.if-is_last.true)) refl
