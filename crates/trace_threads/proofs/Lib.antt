@@ -1,0 +1,10 @@
+pub mod Helds
+pub mod Opens
+pub mod Histories
+pub mod Keeping
+pub mod Seats
+pub mod Drawing
+pub mod Passing
+pub mod Meeting
+pub mod Beginning
+pub mod Entering

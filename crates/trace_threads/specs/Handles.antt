@@ -1,0 +1,60 @@
+-- What contracts see of a handle, and of what it leaves.
+use Rattle.std.specs.Prelude.{◌≡◌, ℕ, List, Option, Some, None, true, false}
+use Rattle.atomic_table.specs.Seated.{TableId}
+use Rattle.otel_base.specs.declared.record.Record.{Record}
+use Rattle.trace_threads.specs.declared.making.Making.{Making}
+use Rattle.trace_threads.specs.declared.history.Entry.{Entry}
+use Rattle.trace_threads.specs.declared.history.What.{What}
+use Rattle.otel_state.specs.declared.op.Op.{Op}
+use Rattle.otel_state.specs.declared.op.OpReply.{OpReply}
+use Rattle.trace_threads.specs.declared.turns.View.{View}
+use Rattle.trace_threads.specs.History.{is_closed, opens}
+use Rattle.trace_threads.specs.Shared.{content_of}
+use Rattle.trace_threads.specs.Turns.{Mine, IsSized}
+use Rattle.trace_threads.specs.Calls.{IsIdle, IsAtRest, Made, Called, LeftAsIs}
+
+-- a handle: of which span it is, its number, and what it knows
+pub record Held : Type 0 where
+  pub span : TableId
+  pub number : ℕ
+  pub view : View
+
+-- what is left of a handle that was released
+pub record Seen : Type 0 where
+  pub span : TableId
+  pub view : View
+
+-- what always holds of them
+pub record IsHandle (table seat : TableId) (me : Mine) (number entered : ℕ) : Type 0 where
+  pub sized : IsSized table
+  pub of_table : seat ≡ table
+  pub rests : IsAtRest me number
+  pub counts : entered ≡ opens me.0.mine
+
+pub record IsPass (table seat : TableId) (me : Mine) : Type 0 where
+  pub sized : IsSized table
+  pub of_table : seat ≡ table
+  pub idle : IsIdle me
+
+-- how many entries of a handle are open
+abbrev pub open_of : Held → ℕ
+open_of h = opens h.view.mine
+
+-- what a turn of a handle leaves: an entry more, a call's entry more, or, after Memory, none
+abbrev pub Enters : Held → Held → ℕ → What → Type 0
+Enters h g at what = Made h.view g.view h.number at what
+
+abbrev pub Calls : Held → Held → ℕ → Op → ℕ → OpReply → Type 0
+Calls h g at op place reply = Called h.view g.view h.number at op place reply
+
+abbrev pub Leaves : Held → Held → Type 0
+Leaves h g = LeftAsIs h.view g.view h.number
+
+abbrev pub IsSameHandle : Held → Held → Type 0
+IsSameHandle h g = (g.span ≡ h.span) × (g.number ≡ h.number)
+
+-- the history and the record come back exactly if no handle is held after this history, and are those of it all
+abbrev pub ClosedAs : Making → List Entry → Option (List Entry × Record) → Type 0
+ClosedAs making log None = is_closed making.made log ≡ false
+ClosedAs making log (Some last) =
+    (last.0 ≡ log) × (last.1 ≡ content_of making log) × (is_closed making.made log ≡ true)

@@ -1,0 +1,58 @@
+//! What a released handle has seen.
+ghost use Rattle.std.specs.Prelude.{◌≡◌};
+ghost use Rattle.std.specs.Arc.{arc_value};
+ghost use mathlib.Core.List.{IsPrefix};
+ghost use Rattle.trace_threads.specs.Turns.{IsSeatOf};
+ghost use Rattle.trace_threads.specs.Calls.{IsIdle};
+
+use crate::cell::{see_all, take_in};
+use crate::turns::{TurnSeat, Turns};
+use std::alloc::Global;
+use std::marker::Model;
+use std::sync::Arc;
+
+/// What a released handle has seen of its span. It may be dropped.
+#[derive(Drop)]
+pub struct Pass {
+    turns: Arc<Turns, Global>,
+    seat: TurnSeat,
+}
+
+impl Model for Pass {
+    ghost use Rattle.std.specs.Arc.{arc_value};
+    ghost use Rattle.trace_threads.specs.Handles.{Seen, IsPass};
+
+    ghost Value = { Seen };
+
+    ghost view = { λ p. record { span = p.seat.table_id; view = p.seat.me.0 } };
+
+    ghost invariant = { λ p. IsPass (arc_value p.turns).shared.table_id p.seat.table_id p.seat.me };
+}
+
+impl Pass {
+    // The pass of a seat that is idle.
+    pub(crate) fn of(turns: Arc<Turns, Global>, seat: TurnSeat) -> Pass
+        requires table { IsSeatOf (arc_value turns).shared.table_id seat.table_id }
+        requires idle { IsIdle seat.me }
+        ensures { (result.span ≡ seat.table_id) × (result.view ≡ seat.me.0) }
+    {
+        Pass { turns, seat }
+    }
+
+    /// Takes in another pass of the same span: what either had seen is seen afterwards. It takes no turn and no
+    /// memory, and never waits.
+    pub fn join(&mut self, other: Pass)
+        requires span { other.span ≡ self.old.span }
+        ensures span { self.new.span ≡ self.old.span }
+        ensures seen { IsPrefix self.old.view.seen self.new.view.seen }
+        ensures theirs { IsPrefix other.view.seen self.new.view.seen }
+    {
+        let Pass {
+            turns: _,
+            seat: theirs,
+        } = other;
+        let Pass { turns, seat } = self;
+        take_in(&turns.shared, seat, theirs);
+        see_all(&turns.shared, seat);
+    }
+}
