@@ -4,3 +4,4 @@ pub mod Lending
 pub mod Registering
 pub mod Stepping
 pub mod Tabling
+pub mod Unseeing

@@ -65,10 +65,10 @@ pub record DoesRegistry (old : Registered) (call : SubscriberCall) (new : Regist
 pub registry_same : (s t : Registered) (call : SubscriberCall) (u : Registered) → t ≡ s → DoesRegistry t call u → DoesRegistry s call u
 registry_same s t call u h d = subst (λ (x : Registered). DoesRegistry x call u) h d
 
-left_as_it_is : (a b : Lane) → b ≡ a → KeepsLane false a b
+pub left_as_it_is : (a b : Lane) → b ≡ a → KeepsLane false a b
 left_as_it_is a b e = record { id = ap (λ (l : Lane). l.id) e; name = ap (λ (l : Lane). l.name) e; default = ap (λ (l : Lane). l.default) e; as_it_is = λ no. e }
 
-nothing_kept : (a b : Lane) → b ≡ a → KeepsAttached (λ lane number. 0) a b (λ lane number. 0)
+pub nothing_kept : (a b : Lane) → b ≡ a → KeepsAttached (λ lane number. 0) a b (λ lane number. 0)
 nothing_kept a b e lane number = let y = ap (λ (l : Lane). attached_on lane number l) e in omega (arith, y)
 
 pub registry_lanes : (s : Registered) (call : SubscriberCall) (t : Registered) → DoesRegistry s call t → Lanes false (λ lane number. 0) call (λ lane number. 0)

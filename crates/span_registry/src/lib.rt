@@ -7,6 +7,8 @@ pub mod layer;
 pub mod layered;
 pub mod registry;
 mod table;
+#[cfg(test)]
+mod tests;
 
 pub use layered::Layered;
 pub use registry::Registry;
