@@ -1,4 +1,7 @@
 //! What a text is read as, in lines that are indented.
+ghost use Rattle.std.specs.Prelude.{◌≡◌};
+ghost use Rattle.explain_filter.specs.Told.{tables_text, asks_values, kind_text};
+
 use crate::reading::Reading;
 use env_directives::directive::ParseError;
 use env_directives::directive::set::DirectiveSet;
@@ -101,19 +104,29 @@ fn parts(alloc: Global, directive: &Directive) -> Result<String, Memory> {
     Ok(told)
 }
 
-// Whether a directive is judged by callsites alone, or by spans: a filter asks one with field names and no more for both.
-fn tables(directive: &Directive) -> &'static str {
-    let speaks_of_spans = directive.in_span().is_some();
-    let has_values = directive.fields().iter().any(|field| field.value.is_some());
-    match (speaks_of_spans || has_values, directive.fields().is_empty()) {
-        (true, _) => "dynamic",
-        (false, true) => "static",
-        (false, false) => "static and dynamic",
+// Whether a directive is judged by callsites alone, by spans, or both.
+fn tables(directive: &Directive) -> &'static str
+    ensures { result.now ≡ tables_text directive.now }
+{
+    if directive.in_span().is_some() || asks_values(directive.fields()) {
+        "dynamic"
+    } else if directive.fields().is_empty() {
+        "static"
+    } else {
+        "static and dynamic"
     }
 }
 
+fn asks_values(fields: &[Match]) -> bool
+    ensures { result ≡ asks_values fields.now }
+{
+    fields.iter().any(|field| field.value.is_some())
+}
+
 // Of which kind a field's value is.
-fn kind(field: &Match) -> &'static str {
+fn kind(field: &Match) -> &'static str
+    ensures { result.now ≡ kind_text field.now.value }
+{
     match &field.value {
         Some(ValueMatch::Bool(_)) => "truth value",
         Some(ValueMatch::U64(_)) => "number",

@@ -1,4 +1,6 @@
 //! As what a line's text is read.
+ghost use Rattle.std.specs.Prelude.{◌≡◌};
+ghost use Rattle.explain_filter.specs.Switches.{switched};
 
 /// As what a line's text is read. A line `# WORD` changes it for the lines behind it; other lines with `#` in front are
 /// comments.
@@ -17,7 +19,9 @@ pub enum Reading {
 
 impl Reading {
     /// The reading that a word names, or this one where it names none.
-    pub fn switched(self, word: &str) -> Reading {
+    pub fn switched(self, word: &str) -> Reading
+        ensures { result ≡ switched self word.now }
+    {
         match word {
             "filter" => Reading::Filter,
             "directive" => Reading::Directive,

@@ -1,0 +1,9 @@
+-- Which reading a line's word asks for.
+use Rattle.std.specs.Prelude.{ℕ, List, if◌then◌else◌, codes, bytes_eq}
+use Rattle.explain_filter.specs.declared.reading.Reading.{Reading}
+use Rattle.explain_filter.specs.declared.reading.Reading.TheVariants.{Filter, Directive, Fixed, Targets}
+
+-- the reading that a word names, the first argument where it names none
+abbrev pub switched : Reading → List ℕ → Reading
+switched reading word = if bytes_eq word (codes "filter") then Filter else if bytes_eq word (codes "directive") then Directive
+    else if bytes_eq word (codes "fixed") then Fixed else if bytes_eq word (codes "targets") then Targets else reading

@@ -1,0 +1,29 @@
+-- The words that tell of which kind a directive and a field's value are.
+use Rattle.std.specs.Prelude.{ℕ, List, [], ◌∷◌, if◌then◌else◌, Bool, ◌||◌, Option, None, Some, is_some, codes}
+use Rattle.std.specs.List.{list_any}
+use Rattle.env_directives.specs.declared.env.directive.Directive.{Directive}
+use Rattle.env_directives.specs.declared.env.field.Match.{Match}
+use Rattle.env_directives.specs.declared.env.field.ValueMatch.{ValueMatch}
+use Rattle.env_directives.specs.declared.env.field.ValueMatch.TheVariants.{Bool as Truth, U64, I64, Pat, Debug}
+
+-- the kind of the value that a field has to have
+abbrev pub kind_text : Option ValueMatch → List ℕ
+kind_text None = codes "any value"
+kind_text (Some (Truth a)) = codes "truth value"
+kind_text (Some (U64 a)) = codes "number"
+kind_text (Some (I64 a)) = codes "negative number"
+kind_text (Some (Pat a)) = codes "pattern"
+kind_text (Some (Debug a)) = codes "text"
+
+-- some field has to have a value
+abbrev pub asks_values : List Match → Bool
+asks_values fields = list_any (λ field. is_some field.value) fields
+
+-- a directive with neither a span name nor a value, in which no field stands or some do
+abbrev pub unbound_text : List Match → List ℕ
+unbound_text [] = codes "static"
+unbound_text (field ∷ fields) = codes "static and dynamic"
+
+-- static is what has neither a span name nor a value, dynamic what has a span name or a field
+abbrev pub tables_text : Directive → List ℕ
+tables_text d = if is_some d.in_span || asks_values d.fields then codes "dynamic" else unbound_text d.fields
