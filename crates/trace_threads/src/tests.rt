@@ -1,5 +1,5 @@
-//! One span shared by one thread, by two and by eight.
-ghost use Rattle.std.specs.Prelude.{◌≡◌, ◌≤◌, IfOk};
+//! One span that two handles share.
+ghost use Rattle.std.specs.Prelude.{◌≡◌, ◌≤◌};
 ghost use Rattle.otel_state.specs.declared.times.TheConstants.{GREATEST};
 ghost use Rattle.trace_threads.specs.Handles.{open_of, IsSameHandle};
 
@@ -9,18 +9,11 @@ use crate::making::Making;
 use crate::span::SharedSpan;
 use otel_base::context::{Context, SpanContext};
 use otel_base::list::Items;
-use otel_base::memory::Memory;
-use otel_base::record::Record;
 use otel_base::text::Text;
-use otel_base::value::{KeyValue, OtelValue};
-use otel_state::{Op, OpReply, SpanState, Update};
+use otel_state::{Op, OpReply, Update};
 use std::alloc::Global;
 use std::sync::Wait;
 use std::test::{Fail, *};
-use std::thread::{Threads, join_mut};
-
-// How many calls a thread makes.
-const CALLS: i64 = 1000;
 
 const OWN: SpanContext = SpanContext { trace: 7, span: 9 };
 
@@ -44,32 +37,6 @@ fn making(alloc: Global) -> Making
     }
 }
 
-fn pair(alloc: Global, n: i64) -> KeyValue {
-    KeyValue {
-        key: Text::from(String::new(alloc)),
-        value: OtelValue::I64(n),
-    }
-}
-
-// Adds one attribute.
-fn add_one<R: Wait>(rt: &R, alloc: Global, handle: &mut Handle, n: i64)
-    ensures same { IsSameHandle handle.old handle.new }
-    ensures idle { open_of handle.new ≡ open_of handle.old }
-{
-    let pair = pair(alloc, n);
-    let _ = handle.call(rt, 6, Op::SetAttribute { pair });
-}
-
-// Adds attributes with the numbers from 0 on.
-fn add_all<R: Wait>(rt: &R, alloc: Global, handle: &mut Handle)
-    ensures same { IsSameHandle handle.old handle.new }
-    ensures idle { open_of handle.new ≡ open_of handle.old }
-{
-    for n in 0..CALLS {
-        add_one(rt, alloc, handle, n);
-    }
-}
-
 // Joins another handle of the same span.
 fn meet<R: Wait>(rt: &R, handle: &mut Handle, other: Handle)
     requires span { other.span ≡ handle.old.span }
@@ -78,173 +45,6 @@ fn meet<R: Wait>(rt: &R, handle: &mut Handle, other: Handle)
     ensures idle { open_of handle.new ≡ open_of handle.old }
 {
     handle.join(rt, other, 6);
-}
-
-// Two threads add, each through a handle.
-fn add_by_two<R: Threads + Wait + Sync>(rt: &R, alloc: Global, handle: &mut Handle)
-    ensures same { IsSameHandle handle.old handle.new }
-    ensures idle { open_of handle.new ≡ open_of handle.old }
-{
-    let Ok(mut other) = handle.clone_handle(rt, 5) else {
-        return;
-    };
-    join_mut(
-        rt,
-        &mut || add_all(rt, alloc, handle),
-        &mut || add_all(rt, alloc, &mut other),
-    );
-    meet(rt, handle, other);
-}
-
-fn add_by_four<R: Threads + Wait + Sync>(rt: &R, alloc: Global, handle: &mut Handle)
-    ensures same { IsSameHandle handle.old handle.new }
-    ensures idle { open_of handle.new ≡ open_of handle.old }
-{
-    let Ok(mut other) = handle.clone_handle(rt, 5) else {
-        return;
-    };
-    join_mut(
-        rt,
-        &mut || add_by_two(rt, alloc, handle),
-        &mut || add_by_two(rt, alloc, &mut other),
-    );
-    meet(rt, handle, other);
-}
-
-fn add_by_eight<R: Threads + Wait + Sync>(rt: &R, alloc: Global, handle: &mut Handle)
-    ensures same { IsSameHandle handle.old handle.new }
-    ensures idle { open_of handle.new ≡ open_of handle.old }
-{
-    let Ok(mut other) = handle.clone_handle(rt, 5) else {
-        return;
-    };
-    join_mut(
-        rt,
-        &mut || add_by_four(rt, alloc, handle),
-        &mut || add_by_four(rt, alloc, &mut other),
-    );
-    meet(rt, handle, other);
-}
-
-// The number that an entry adds, if it adds one.
-fn number_of(entry: &Entry) -> Option<i64> {
-    match &entry.what {
-        What::Call {
-            op: Op::SetAttribute { pair },
-        } => match pair.value {
-            OtelValue::I64(n) => Some(n),
-            _ => None,
-        },
-        _ => None,
-    }
-}
-
-// Whether a handle's calls stand in the history in the order in which it made them, all of them.
-fn has_calls_of(history: &[Entry], caller: u64) -> bool {
-    let mut next = 0;
-    for entry in history {
-        if entry.caller == caller {
-            if let Some(n) = number_of(entry) {
-                if n != next || next == CALLS {
-                    return false;
-                }
-                next += 1;
-            }
-        }
-    }
-    next == CALLS
-}
-
-// The record that the ops of a history give one after another.
-fn record_of(alloc: Global, history: &[Entry]) -> Result<Record, Memory> {
-    let mut state = SpanState::new(
-        alloc,
-        "",
-        Context::empty(),
-        5,
-        Items::new(alloc),
-        false,
-        true,
-    )?;
-    let mut last = 5;
-    for entry in history {
-        if let What::Call { op } = &entry.what {
-            state.apply(entry.at, op.clone()?)?;
-        }
-        last = entry.at;
-    }
-    state.apply(last, Op::Start { own: OWN })?;
-    Ok(state.close(last))
-}
-
-fn same_pair(one: &KeyValue, other: &KeyValue) -> bool {
-    match (&one.value, &other.value) {
-        (OtelValue::I64(a), OtelValue::I64(b)) => one.key == other.key && *a == *b,
-        _ => false,
-    }
-}
-
-fn same_pairs(ones: &[KeyValue], others: &[KeyValue]) -> bool {
-    if ones.len() != others.len() {
-        return false;
-    }
-    for i in 0..ones.len() {
-        if !same_pair(&ones[i], &others[i]) {
-            return false;
-        }
-    }
-    true
-}
-
-fn same_record(one: &Record, other: &Record) -> bool {
-    one.context == other.context
-        && one.start == other.start
-        && one.end == other.end
-        && same_pairs(one.attributes.as_slice(), other.attributes.as_slice())
-}
-
-// Whether so many handles made all their calls, and the record is that of the history.
-fn is_whole(
-    alloc: Global,
-    history: &[Entry],
-    record: &Record,
-    handles: u64,
-) -> Result<bool, Memory> {
-    for caller in 0..handles {
-        if !has_calls_of(history, caller) {
-            return Ok(false);
-        }
-    }
-    Ok(same_record(record, &record_of(alloc, history)?))
-}
-
-// Releases the last handle, and tells whether what it leaves is whole.
-fn ends_whole<R: Wait>(rt: &R, alloc: Global, handle: Handle, handles: u64) -> Result<bool, Memory>
-    requires idle { open_of handle ≡ 0 }
-{
-    let Released { pass: _, closed } = handle.release(rt, 6);
-    match &closed {
-        Some((history, record)) => is_whole(alloc, history.as_slice(), record, handles),
-        None => Ok(false),
-    }
-}
-
-#[test]
-fn two_threads_share_a_span(rt: HostRuntime) -> Result<(), Fail> {
-    let mut handle = SharedSpan::make(rt.alloc(), making(rt.alloc()))?;
-    add_by_two(&rt, rt.alloc(), &mut handle);
-    let whole = ends_whole(&rt, rt.alloc(), handle, 2)?;
-    assert!(rt; whole);
-    Ok(())
-}
-
-#[test]
-fn eight_threads_share_a_span(rt: HostRuntime) -> Result<(), Fail> {
-    let mut handle = SharedSpan::make(rt.alloc(), making(rt.alloc()))?;
-    add_by_eight(&rt, rt.alloc(), &mut handle);
-    let whole = ends_whole(&rt, rt.alloc(), handle, 8)?;
-    assert!(rt; whole);
-    Ok(())
 }
 
 // What an entry is: its caller, its moment, and which kind, with the number of a handle that it makes or ends.
