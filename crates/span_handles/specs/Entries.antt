@@ -1,10 +1,12 @@
 -- Entries of handles.
-use Rattle.std.specs.Prelude.{◌≡◌, ◌<◌, ℕ, Bool, true, length, Option, Some, None, slice_get}
+use Rattle.std.specs.Prelude.{◌≡◌, ◌<◌, ℕ, Bool, true, length, Some, None}
 use Rattle.trace_base.specs.declared.lane.Lane.{Lane}
 use Rattle.trace_base.specs.Gate.{Worlds}
-use Rattle.trace_base.specs.Contexts.{IsFull}
+use Rattle.trace_base.specs.Contexts.{AreAttached, IsFull}
+use Rattle.trace_base.specs.Spans.{Spans, entries_on, times_in}
+use Rattle.trace_base.specs.Calls.{SubscriberCall, Enter}
 use Rattle.span_handles.specs.Worlds.{Has}
-use Rattle.span_handles.specs.Handles.{Handle, Held}
+use Rattle.span_handles.specs.Handles.{Handle, Held, IsKnown, HasOn, ReplacedOn}
 
 -- the subscriber of an enabled handle is there
 abbrev pub IsThere : {S : Type 0} → Worlds S → Held → Type 0
@@ -32,3 +34,24 @@ FullRefuses activates world lane (Some held) = Has (λ s. activates s held.1 ≡
 pub record Opened : Type 0 where
   pub span : Handle
   pub lane : ℕ
+
+-- the span of an enabled handle has an open entry on a lane
+abbrev pub IsOpenOn : {S : Type 0} → (S → Spans) → ℕ → Worlds S → Held → Type 0
+IsOpenOn spans lane world held = HasOn (λ s id. 0 < times_in id (entries_on lane (spans s).lanes)) world held
+
+-- what the subscriber of an enabled handle keeps attached to a lane is attached there
+abbrev pub IsStillOn : {S : Type 0} → (S → ℕ → ℕ → ℕ) → Lane → Worlds S → Held → Type 0
+IsStillOn kept lane world held = HasOn (λ s id. AreAttached (kept s) lane) world held
+
+-- inside a handle's span: it was entered, and nothing else happened
+pub record Begins {S : Type 0} (does : S → SubscriberCall → S → Type 0) (at : ℕ) (held : Held) (old : Worlds S) (before : Lane) (world : Worlds S) (lane : Lane) : Type 0 where
+  pub entered : ReplacedOn (λ id s t. does s (Enter id at before lane) t) old world held
+  pub none : held ≡ None → lane ≡ before
+
+-- what runs inside a handle's span keeps the handle known and its entry open, and what is kept attached stays so
+pub record Keeps {S : Type 0} (spans : S → Spans) (kept : S → ℕ → ℕ → ℕ) (is_whole : S → Type 0) (held : Held) (world : Worlds S) (lane : Lane) (later : Worlds S) (left : Lane) : Type 0 where
+  pub known : IsKnown spans world held → IsKnown spans later held
+  pub whole : HasOn (λ s id. is_whole s) world held → HasOn (λ s id. is_whole s) later held
+  pub lane_id : left.id ≡ lane.id
+  pub open_still : IsOpenOn spans lane.id world held → IsOpenOn spans lane.id later held
+  pub attached : IsStillOn kept lane world held → IsStillOn kept left later held

@@ -1,5 +1,5 @@
 -- Handles, and what a call on one makes of its world.
-use Rattle.std.specs.Prelude.{◌≡◌, ◌<◌, ◌==◌, ◌&&◌, ℕ, Bool, true, false, is_some, List, [], ◌∷◌, length, Option, Some, None, IfSome, option_map, slice_get}
+use Rattle.std.specs.Prelude.{◌≡◌, ◌<◌, ◌==◌, ◌&&◌, ℕ, Bool, false, [], ◌∷◌, length, Option, Some, None, IfSome, option_map, slice_get}
 use Rattle.trace_base.specs.declared.callsite.Callsite.{Callsite}
 use Rattle.trace_base.specs.declared.field.Field.{Field}
 use Rattle.trace_base.specs.declared.field.Value.{Value}

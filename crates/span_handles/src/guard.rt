@@ -5,7 +5,7 @@ ghost use Rattle.trace_base.specs.Calls.{Enter, Exit};
 ghost use Rattle.trace_base.specs.Conditions.{HasFewHolds, MayExit};
 ghost use Rattle.trace_base.specs.Contexts.{AreAttached};
 ghost use Rattle.span_handles.specs.Handles.{Handle, IsKnown, HasOn, ReplacedOn, id_of};
-ghost use Rattle.span_handles.specs.Entries.{IsThere, LeavesLane, FullOnly, FullRefuses};
+ghost use Rattle.span_handles.specs.Entries.{IsThere, IsStillOn, Begins, Keeps, LeavesLane, FullOnly, FullRefuses};
 
 use crate::entry::Entry;
 use crate::span::Span;
@@ -112,6 +112,36 @@ impl Span {
             }),
             Err(error) => Err((self, error)),
         }
+    }
+}
+
+/// Running inside spans.
+impl Span {
+    /// Runs a closure inside the span, which is entered before and exited after it; `Span::in_scope`. A disabled handle
+    /// runs it too. Its faults are those of `open_entry`, and then it isn't run.
+    pub fn in_scope<S: Subscriber, T, F: FnOnce(&mut World<S>, &mut Lane) -> T>(
+        &self,
+        world: &mut World<S>,
+        lane: &mut Lane,
+        at: u64,
+        f: F,
+    ) -> Result<T, EnterError>
+        requires known { IsKnown S.spans world.old self.now.held }
+        requires whole { HasOn (λ s id. S.is_whole s) world.old self.now.held }
+        requires few_holds { HasOn (λ s id. HasFewHolds (S.spans s).made id) world.old self.now.held }
+        requires still { IsStillOn S.kept lane.old world.old self.now.held }
+        requires callable { (w : _) (l : _) → Begins S.does at self.now.held world.old lane.old w.now l.now → F.pre f w l }
+        requires keeps { (w : _) (l : _) (r : T) (t : _) (m : _) → Begins S.does at self.now.held world.old lane.old w.now l.now → F.post f w l r t m → Keeps S.spans S.kept S.is_whole self.now.held w.now l.now t.now m.now }
+        ensures ok { IfOk result (λ answer. (w : _) × (l : _) × (t : _) × (m : _) × Begins S.does at self.now.held world.old lane.old w.now l.now × F.post f w l answer t m × ReplacedOn (λ id s u. S.does s (Exit id at m.now lane.new) u) t.now world.new self.now.held) }
+        ensures leaves { OnErr result (ReplacedOn (λ id s t. S.same s t) world.old world.new self.now.held) }
+        ensures lane_leaves { OnErr result (LeavesLane lane.old lane.new) }
+        ensures full { result ≡ Err Full → FullOnly S.attaches world.old lane.old self.now.held }
+        ensures full_refused { FullRefuses S.activates world.old lane.old self.now.held → IsErr result }
+    {
+        let entry = self.open_entry(world, lane, at)?;
+        let answer = f(world, lane);
+        self.close_entry(entry, world, lane, at);
+        Ok(answer)
     }
 }
 
