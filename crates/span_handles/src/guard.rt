@@ -132,7 +132,7 @@ impl Span {
         requires still { IsStillOn S.kept lane.old world.old self.now.held }
         requires callable { (w : _) (l : _) → Begins S.does at self.now.held world.old lane.old w.now l.now → F.pre f w l }
         requires keeps { (w : _) (l : _) (r : T) (t : _) (m : _) → Begins S.does at self.now.held world.old lane.old w.now l.now → F.post f w l r t m → Keeps S.spans S.kept S.is_whole self.now.held w.now l.now t.now m.now }
-        ensures ok { IfOk result (λ answer. (w : _) × (l : _) × (t : _) × (m : _) × Begins S.does at self.now.held world.old lane.old w.now l.now × F.post f w l answer t m × ReplacedOn (λ id s u. S.does s (Exit id at m.now lane.new) u) t.now world.new self.now.held) }
+        ensures ok { IfOk result (λ answer. (w : _) × (l : _) × (t : _) × (m : _) × Begins S.does at self.now.held world.old lane.old w.now l.now × F.post f w l answer t m × ReplacedOn (λ id s u. S.does s (Exit id at m.now lane.new) u) t.now world.new self.now.held × (self.now.held ≡ None → lane.new ≡ m.now)) }
         ensures leaves { OnErr result (ReplacedOn (λ id s t. S.same s t) world.old world.new self.now.held) }
         ensures lane_leaves { OnErr result (LeavesLane lane.old lane.new) }
         ensures full { result ≡ Err Full → FullOnly S.attaches world.old lane.old self.now.held }
