@@ -1,4 +1,5 @@
 pub mod Both
+pub mod Hearing
 pub mod Layering
 pub mod Lending
 pub mod Registering

@@ -7,8 +7,10 @@ pub mod layer;
 pub mod layered;
 pub mod registry;
 mod table;
+pub mod telling;
 #[cfg(test)]
 mod tests;
 
 pub use layered::Layered;
 pub use registry::Registry;
+pub use telling::{Heard, Telling, TellingLayer};
