@@ -9,8 +9,7 @@ use Rattle.trace_base.specs.Calls.{SubscriberCall, Enter, entered, after}
 use Rattle.trace_base.specs.Conditions.{HasOwnHold, MayExit}
 use Rattle.trace_base.specs.Contexts.{AreAttached, KeepsAttached, Lanes, attached_as}
 use Rattle.trace_base.proofs.Entering.{count_push, any_if_counted, with_same, made_if_held}
-use Rattle.span_registry.proofs.Lanes.{first_if_in}
-use Rattle.span_registry.proofs.Sound.{first_with, in_push_same, keeps_children, holds_set}
+use Rattle.trace_base.proofs.Holding.{first_if_in, first_with, in_push_same, keeps_children, holds_set}
 use Rattle.span_handles.specs.Worlds.{Has, Replaced}
 use Rattle.span_handles.specs.Handles.{Held, IsKnown, HasOn}
 use Rattle.span_handles.specs.Entries.{IsThere, IsOpenOn, IsStillOn, Begins, Keeps}

@@ -60,37 +60,6 @@ remove_is_last (x ∷ xs) id (suc at) within is last =
     ap (λ (ys : List ℕ). x ∷ ys) (remove_is_last xs id at (omega (arith, within)) is (λ k after below. last (suc k) (omega (arith, after)) (omega (arith, below))))
     ∙ sym (cond-true {A = List ℕ} (is_in id xs) _ _ some)
 
--- the current span is entered, and what is entered has a first entry
-pub current_in : (before : List ℕ) (now : Option ℕ) (ids : List ℕ) (p : ℕ) → current_from before now ids ≡ Some p → (now ≡ Some p) ⊎ (is_in p ids ≡ true)
-current_in before now [] p is = inl is
-current_in before now (s ∷ ids) p is =
-    let next = if is_in s before then now else Some s in
-    elim (current_in (before ++ s ∷ []) next ids p is) [
-      | inl here ↦ elim (cases_Bool (is_in s before)) [
-        | inl again ↦ inl (sym (cond-true {A = Option ℕ} (is_in s before) now (Some s) again) ∙ here)
-        | inr new ↦ (
-            let e : Some s ≡ Some p = sym (cond-false {A = Option ℕ} (is_in s before) now (Some s) new) ∙ here in
-            inr (ap (λ b. b || is_in p ids) (eq-eqb s p (cc e))))
-      ]
-      | inr later ↦ inr (elim (cases_Bool (s == p)) [
-        | inl here ↦ ap (λ b. b || is_in p ids) here
-        | inr not ↦ ap (λ b. b || is_in p ids) not ∙ later
-      ])
-    ]
-
-pub first_if_in : (es : List Entries) (lane id : ℕ) → is_in id (entries_on lane es) ≡ true → 0 < first_entries es id
-first_if_in [] lane id some = absurd (true≢false (sym some))
-first_if_in (e ∷ es) lane id some =
-    let count = count_cons (has_entry id) e es in
-    elim (cases_Bool (e.lane == lane)) [
-      | inl here ↦ (
-          let one = cond-true {A = ℕ} (has_entry id e) 1 0 (ap (is_in id) (sym (cond-true {A = List ℕ} (e.lane == lane) e.ids (entries_on lane es) here)) ∙ some) in
-          omega (arith, count, one))
-      | inr not ↦ (
-          let rest = first_if_in es lane id (ap (is_in id) (sym (cond-false {A = List ℕ} (e.lane == lane) e.ids (entries_on lane es) not)) ∙ some) in
-          omega (arith, count, rest))
-    ]
-
 -- the lanes with a change of what stands at the place of one
 pub set_entries : (lanes : List Entries) (lane at : ℕ) (seen : Entries) (f : List ℕ → List ℕ) (ids : List ℕ) → StandsAt lanes lane at → seen ≡ get_or lanes at seen → ids ≡ f seen.ids
     → ◌≡◌ {A = List Entries} (set lanes at (record { lane = seen.lane; ids = ids })) (with_entries lane (f (entries_on lane lanes)) lanes)

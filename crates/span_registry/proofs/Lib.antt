@@ -1,3 +1,4 @@
+pub mod Counting
 pub mod Lanes
 pub mod Slotting
 pub mod Sound

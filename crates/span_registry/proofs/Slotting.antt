@@ -9,7 +9,7 @@ use Rattle.trace_base.specs.Spans.{Span, no_span, span_at, less_held, held, held
 use Rattle.trace_base.specs.Conditions.{IsLive, HasFewHolds}
 use Rattle.trace_base.proofs.Entering.{count_push, made_if_held}
 use Rattle.span_registry.specs.Tabling.{Slotted, no_slot, slot_at, span_of, span_in, spans_to, is_live, live_spans, Tabled, tabled, IsPlace, IsTabled}
-use Rattle.span_registry.proofs.Sound.{less_last, less_more}
+use Rattle.trace_base.proofs.Holding.{less_last, less_more}
 
 -- the spans of a table, one by one
 pub length_to : (n : ℕ) (f : ℕ → Span) → length (spans_to n f) ≡ n

@@ -17,42 +17,8 @@ use Rattle.trace_base.specs.Hooks.{Seen}
 use Rattle.span_registry.specs.Both.{InStep, KnowsNone}
 use Rattle.span_registry.specs.Stepping.{in_step_start}
 use Rattle.span_registry.specs.Tabling.{Tabled}
-use Rattle.span_registry.proofs.Lanes.{current_in, first_if_in, one_with}
-
--- a span written
-children_set : (made : List Span) (id : ℕ) (now : Span) (q : ℕ) → id < length made → open_children (set made id now) q + cond {A = ℕ} (is_open_child q (span_at made id)) 1 0 ≡ open_children made q + cond {A = ℕ} (is_open_child q now) 1 0
-children_set made id now q within = sum_by-set (λ s. cond (is_open_child q s) 1 0) made id now no_span within
-
-same_child : (s t : Span) (q : ℕ) → t.parent ≡ s.parent → 0 < s.holds → 0 < t.holds → is_open_child q t ≡ is_open_child q s
-same_child s t q parent live now =
-    cond-false {A = Bool} (0 == t.holds) false (is_child_of q t.parent) (ne_eqb 0 t.holds (λ e. omega (arith, e, now)))
-    ∙ ap (is_child_of q) parent
-    ∙ sym (cond-false {A = Bool} (0 == s.holds) false (is_child_of q s.parent) (ne_eqb 0 s.holds (λ e. omega (arith, e, live))))
-
-pub keeps_children : (made : List Span) (id : ℕ) (now : Span) → id < length made → now.parent ≡ (span_at made id).parent → 0 < (span_at made id).holds → 0 < now.holds → (q : ℕ) → open_children (set made id now) q ≡ open_children made q
-keeps_children made id now within parent live still q =
-    let write = children_set made id now q within in
-    let same = ap (λ b. cond {A = ℕ} b 1 0) (same_child (span_at made id) now q parent live still) in
-    omega (arith, write, same)
-
--- a span with one hold less
-pub less_last : (s : Span) → s.holds ≡ 1 → less_held s ≡ no_span
-less_last s last = cond-true {A = Span} (s.holds == 1) no_span (record s { holds = s.holds - 1 }) (eq-eqb s.holds 1 last)
-
-pub less_more : (s : Span) → (s.holds ≡ 1 → ⊥) → less_held s ≡ record s { holds = s.holds - 1 }
-less_more s more = cond-false {A = Span} (s.holds == 1) no_span (record s { holds = s.holds - 1 }) (ne_eqb s.holds 1 more)
-
-pub less_holds : (s : Span) → (less_held s).holds ≡ s.holds - 1
-less_holds s = elim (cases_eq s.holds 1) [
-  | inl last ↦ (let e = ap (λ (t : Span). t.holds) (less_last s last) in omega (arith, e, last))
-  | inr more ↦ ap (λ (t : Span). t.holds) (less_more s more)
-]
-
-less_under : (s : Span) (p : ℕ) → (less_held s).parent ≡ Some p → s.parent ≡ Some p
-less_under s p is = elim (cases_eq s.holds 1) [
-  | inl last ↦ (let no : None ≡ Some p = sym (ap (λ (t : Span). t.parent) (less_last s last)) ∙ is in absurd (cc no))
-  | inr more ↦ sym (ap (λ (t : Span). t.parent) (less_more s more)) ∙ is
-]
+use Rattle.trace_base.proofs.Holding.{children_set, same_child, keeps_children, less_last, less_more, less_holds, less_under, holds_set, holds_other, first_with, in_push_other, in_push_same, in_by_times, times_without, current_in, first_if_in}
+use Rattle.span_registry.proofs.Lanes.{one_with}
 
 keeps_older : (made : List Span) (id : ℕ) (now : Span) → id < length made → ((p : ℕ) → now.parent ≡ Some p → (span_at made id).parent ≡ Some p) → ((q p : ℕ) → (span_at made q).parent ≡ Some p → p < q) → (q p : ℕ) → (span_at (set made id now) q).parent ≡ Some p → p < q
 keeps_older made id now within under older q p is =
@@ -62,12 +28,6 @@ keeps_older made id now within under older q p is =
           older q p (ap (λ (k : ℕ). (span_at made k).parent) here ∙ under p (sym (ap (λ (s : Span). s.parent) written) ∙ is)))
       | inr other ↦ older q p (ap (λ (s : Span). s.parent) (sym (get_or-set_other made id q now no_span other)) ∙ is)
     ]
-
-pub holds_set : (made : List Span) (id : ℕ) (now : Span) → id < length made → (q : ℕ) → q ≡ id → (span_at (set made id now) q).holds ≡ now.holds
-holds_set made id now within q here = ap (λ (k : ℕ). (span_at (set made id now) k).holds) here ∙ ap (λ (s : Span). s.holds) (get_or-set_same made id now no_span within)
-
-pub holds_other : (made : List Span) (id : ℕ) (now : Span) (q : ℕ) → (q ≡ id → ⊥) → (span_at (set made id now) q).holds ≡ (span_at made q).holds
-holds_other made id now q other = ap (λ (s : Span). s.holds) (get_or-set_other made id q now no_span other)
 
 pub sound_held : (spans : Spans) (id : ℕ) → IsSound spans → IsLive spans.made id → IsSound (record spans { made = held spans.made id })
 sound_held spans id sound live =
@@ -115,20 +75,6 @@ sound_released spans id sound own =
       older = keeps_older spans.made id now within (less_under was) sound.older;
       one_row = sound.one_row;
     }
-
--- first entries after the entries of a lane change
-pub first_with : (lanes : List Entries) (lane q : ℕ) (ids : List ℕ) → first_entries (with_entries lane ids lanes) q + cond {A = ℕ} (is_in q (entries_on lane lanes)) 1 0 ≡ first_entries lanes q + cond {A = ℕ} (is_in q ids) 1 0
-first_with lanes lane q ids = sum_with (λ xs. cond (is_in q xs) 1 0) lane ids lanes refl
-
-in_push : (ids : List ℕ) (id q : ℕ) → is_in q (ids ++ id ∷ []) ≡ (is_in q ids || (id == q || false))
-in_push ids id q = list_any-append (λ x. x == q) ids (id ∷ [])
-
-pub in_push_other : (ids : List ℕ) (id q : ℕ) → (q ≡ id → ⊥) → is_in q (ids ++ id ∷ []) ≡ is_in q ids
-in_push_other ids id q other =
-    in_push ids id q ∙ ap (λ b. is_in q ids || (b || false)) (ne_eqb id q (λ e. other (sym e))) ∙ elim (cases_Bool (is_in q ids)) [ inl t ↦ ap (λ b. b || false) t ∙ sym t | inr f ↦ ap (λ b. b || false) f ∙ sym f ]
-
-pub in_push_same : (ids : List ℕ) (id : ℕ) → is_in id (ids ++ id ∷ []) ≡ true
-in_push_same ids id = in_push ids id id ∙ ap (λ b. is_in id ids || (b || false)) (eq-eqb id id refl) ∙ or_right (is_in id ids) true refl
 
 pub sound_entered : (spans : Spans) (id lane : ℕ) → IsSound spans → IsLive spans.made id → IsSound (entered spans id lane)
 sound_entered spans id lane sound live =
@@ -180,19 +126,6 @@ sound_entered spans id lane sound live =
             one_row = rows;
           })
     ]
-
--- whether a span is among some entries, by how often
-pub in_by_times : (xs ys : List ℕ) (q : ℕ) → times_in q xs ≡ times_in q ys → is_in q xs ≡ is_in q ys
-in_by_times xs ys q e = elim (cases_Bool (is_in q xs)) [
-  | inl some ↦ some ∙ sym (any_if_counted (λ x. x == q) ys (let c = counted_if_any (λ x. x == q) xs some in omega (arith, c, e)))
-  | inr none ↦ none ∙ sym (elim (cases_Bool (is_in q ys)) [
-    | inl some ↦ absurd (let c = counted_if_any (λ x. x == q) ys some in let d = none_counted (λ x. x == q) xs none in omega (arith, c, d, e))
-    | inr not ↦ not
-  ])
-]
-
-pub times_without : (xs : List ℕ) (id q : ℕ) → 0 < times_in id xs → times_in q (without_last (λ x. x == id) xs) + cond {A = ℕ} (id == q) 1 0 ≡ times_in q xs
-times_without xs id q some = count_without_last (λ x. x == id) (λ x. x == q) (id == q) xs (λ x is. ap (λ (y : ℕ). y == q) (eqb-true x id is)) (any_if_counted (λ x. x == id) xs some)
 
 pub exit_live : (spans : Spans) (id lane : ℕ) → IsSound spans → MayExit spans id lane → IsLive spans.made id
 exit_live spans id lane sound may =

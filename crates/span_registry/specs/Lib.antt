@@ -1,5 +1,6 @@
 pub mod Both
 pub mod Hearing
+pub mod History
 pub mod Layering
 pub mod Lending
 pub mod Registering

@@ -3,6 +3,7 @@
 #![tactic(auto)]
 
 mod entries;
+pub mod laws;
 pub mod layer;
 pub mod layered;
 pub mod registry;

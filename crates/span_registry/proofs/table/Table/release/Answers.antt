@@ -7,7 +7,7 @@ use Rattle.std.proofs.lemmas.Bool.{cond-true, cond-false, eq-eqb, ne_eqb}
 use Rattle.std.proofs.lemmas.List.{get_or_default}
 use Rattle.trace_base.specs.Spans.{Span, span_at}
 use Rattle.span_registry.specs.Tabling.{Slotted, no_slot, slot_at}
-use Rattle.span_registry.proofs.Sound.{less_last, less_more}
+use Rattle.trace_base.proofs.Holding.{less_last, less_more}
 use Rattle.span_registry.proofs.Slotting.{no_place, shown_some, shown_set, shown_gone, tabled_set, tabled_gone, tabled_same, some_room}
 use Rattle.span_registry.proofs.table.Table.release.Goals as goal
 

@@ -1,0 +1,97 @@
+-- What the rules of holds and entries say after all calls so far.
+use Rattle.std.specs.Prelude.{◌≡◌, ℕ, ◌+◌, ◌<◌, ◌==◌, if◌then◌else◌, Bool, false, List, [], ◌∷◌, ◌++◌, length, fold, count_by, nat_lt, Option, Some, None, slice_index_or}
+use Rattle.trace_base.specs.Spans.{Span, Spans, no_span, span_at, entries_on, first_entries, without_last, place_on, is_child_of, next_of}
+use Rattle.trace_base.specs.Calls.{SubscriberCall, NewSpan, Records, Follows, Event, Enter, Exit, CloneSpan, TryClose}
+use Rattle.trace_base.specs.Hooks.{one_if}
+
+-- These calls were made of a subscriber, one after another, and no other call changed it; spare room may have grown.
+abbrev pub Runs : {S : Type 0} → (S → SubscriberCall → S → Type 0) → (S → S → Type 0) → S → List SubscriberCall → S → Type 0
+Runs does same s [] t = same s t
+Runs {S} does same s (call ∷ calls) t = (m : S) × does s call m × Runs does same m calls t
+
+-- the entries of a lane: an entry is appended, and an exit takes off the last one of its span
+abbrev pub entries_after : ℕ → List ℕ → SubscriberCall → List ℕ
+entries_after lane ids (Enter id at before later) = if before.id == lane then ids ++ id ∷ [] else ids
+entries_after lane ids (Exit id at before later) = if before.id == lane then without_last (λ x. x == id) ids else ids
+entries_after lane ids (NewSpan l at place site callsite values) = ids
+entries_after lane ids (Records id at callsite values) = ids
+entries_after lane ids (Follows id from at) = ids
+entries_after lane ids (Event l at place site callsite values) = ids
+entries_after lane ids (CloneSpan id) = ids
+entries_after lane ids (TryClose id at) = ids
+
+abbrev pub entries_told : ℕ → List SubscriberCall → List ℕ
+entries_told lane calls = fold (entries_after lane) [] calls
+
+-- what a span was made with
+pub record Making : Type 0 where
+  pub parent : Option ℕ
+  pub site : ℕ
+
+abbrev pub no_making : Making
+no_making = record { parent = None; site = 0 }
+
+-- the span that a call makes after others, if it makes one: its place is that on the lane then
+abbrev pub made_by : List SubscriberCall → SubscriberCall → List Making
+made_by before (NewSpan lane at place site callsite values) = record { parent = place_on (entries_told lane.id before) place; site = site } ∷ []
+made_by before (Records id at callsite values) = []
+made_by before (Follows id from at) = []
+made_by before (Event lane at place site callsite values) = []
+made_by before (Enter id at pre later) = []
+made_by before (Exit id at pre later) = []
+made_by before (CloneSpan id) = []
+made_by before (TryClose id at) = []
+
+abbrev pub made_from : List SubscriberCall → List SubscriberCall → List Making
+made_from before [] = []
+made_from before (call ∷ calls) = made_by before call ++ made_from (before ++ call ∷ []) calls
+
+-- all spans that were made, in order, and the one of an id
+abbrev pub made_told : List SubscriberCall → List Making
+made_told calls = made_from [] calls
+
+abbrev pub making_of : ℕ → List SubscriberCall → Making
+making_of id calls = slice_index_or (made_told calls) id no_making
+
+abbrev pub is_clone : ℕ → SubscriberCall → Bool
+is_clone q (CloneSpan id) = id == q
+is_clone q (NewSpan lane at place site callsite values) = false
+is_clone q (Records id at callsite values) = false
+is_clone q (Follows id from at) = false
+is_clone q (Event lane at place site callsite values) = false
+is_clone q (Enter id at before later) = false
+is_clone q (Exit id at before later) = false
+is_clone q (TryClose id at) = false
+
+abbrev pub is_release : ℕ → SubscriberCall → Bool
+is_release q (TryClose id at) = id == q
+is_release q (CloneSpan id) = false
+is_release q (NewSpan lane at place site callsite values) = false
+is_release q (Records id at callsite values) = false
+is_release q (Follows id from at) = false
+is_release q (Event lane at place site callsite values) = false
+is_release q (Enter id at before later) = false
+is_release q (Exit id at before later) = false
+
+-- how many handles of a span were made: one with it, and one more at each clone
+abbrev pub handles_made : ℕ → List SubscriberCall → ℕ
+handles_made id calls = one_if (nat_lt id (length (made_told calls))) + count_by (is_clone id) calls
+
+-- how many children of a span were made
+abbrev pub children_made : ℕ → List SubscriberCall → ℕ
+children_made id calls = count_by (λ m. is_child_of id m.parent) (made_told calls)
+
+-- how often a hold of it was released: that of a handle which was spent, or that of a child which closed
+abbrev pub releases_told : ℕ → List SubscriberCall → ℕ
+releases_told id calls = count_by (is_release id) calls
+
+-- The spans are what the rules say of some calls: a span has the holds of its handles and of its children, without
+-- those that were released, and one for each lane that it is entered on.
+pub record IsTold (calls : List SubscriberCall) (spans : Spans) : Type 0 where
+  pub made : length spans.made ≡ length (made_told calls)
+  pub holds : (id : ℕ) → (span_at spans.made id).holds + releases_told id calls ≡ handles_made id calls + children_made id calls + first_entries spans.lanes id
+  pub live : (id : ℕ) → 0 < (span_at spans.made id).holds → span_at spans.made id ≡ record { holds = (span_at spans.made id).holds; parent = (making_of id calls).parent; site = (making_of id calls).site }
+  pub closed : (id : ℕ) → (span_at spans.made id).holds ≡ 0 → span_at spans.made id ≡ no_span
+  pub older : (id p : ℕ) → (making_of id calls).parent ≡ Some p → p < id
+  pub next : (id : ℕ) → (span_at spans.made id).holds ≡ 1 → next_of spans.made id ≡ (making_of id calls).parent
+  pub entries : (lane : ℕ) → entries_on lane spans.lanes ≡ entries_told lane calls
