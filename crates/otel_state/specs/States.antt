@@ -1,5 +1,5 @@
 -- What a span's state has come to by its ops, one step for each op.
-use Rattle.std.specs.Prelude.{◌≡◌, ℕ, ◌+◌, ◌≤◌, min, max, if◌then◌else◌, Bool, true, false, List, [], ◌∷◌, ◌++◌, length, fold, Option, Some, None, Ok, Err, IfSome, is_some}
+use Rattle.std.specs.Prelude.{◌≡◌, ℕ, ◌+◌, ◌≤◌, ◌-◌, min, max, if◌then◌else◌, Bool, true, false, List, [], ◌∷◌, ◌++◌, length, fold, Option, Some, None, Ok, Err, IfSome, is_some}
 use Rattle.std.specs.Option.{option_to_list}
 use Rattle.otel_base.specs.declared.context.Context.{Context}
 use Rattle.otel_base.specs.declared.context.SpanContext.{SpanContext}
@@ -142,9 +142,13 @@ Appends at op before now = (making : Making) (ops : List Stamped) → Stands mak
 abbrev pub IsReadOff : {A : Type 0} → (Making → List Stamped → A) → Told → A → Type 0
 IsReadOff read told value = (making : Making) (ops : List Stamped) → Stands making ops told → value ≡ read making ops
 
--- a state without ops gets the parent and the moment of its making
+-- a state gets the parent and the moment of its making anew, and no time has passed since
+abbrev pub made_at : Context → ℕ → Told → Told
+made_at parent made told = record told { parent = parent; made = made; last = min made GREATEST; busy = 0; left = None }
+
+-- a state that stood for a making and no ops stands for the same making with another parent and moment, and no ops
 abbrev pub Begins : Context → ℕ → Told → Told → Type 0
-Begins parent made before now = (making : Making) → before ≡ begun making → now ≡ begun (record making { parent = parent; made = made })
+Begins parent made before now = (making : Making) → Stands making [] before → Stands (record making { parent = parent; made = made }) [] now
 
 -- a record is the content of the making and the ops that a state stands for, where moments don't fall
 abbrev pub IsContent : ℕ → Told → Record → Type 0
@@ -169,11 +173,25 @@ is_growing (ops.Link link) = true
 is_growing (ops.SetAttribute pair) = true
 is_growing _ = false
 
--- the room that an op fills
+-- there is the room that an op fills
 pub record HasRoom (room : Room) (op : Op) : Type 0 where
   pub attributes : length (deed op).attributes ≤ room.attributes
   pub events : length (option_to_list (deed op).event) ≤ room.events
   pub links : length (option_to_list (deed op).link) ≤ room.links
+
+-- the room that an op leaves of some room
+abbrev pub less : Room → Deed → Room
+less room d = record {
+  attributes = room.attributes - length d.attributes;
+  events = room.events - length (option_to_list d.event);
+  links = room.links - length (option_to_list d.link);
+}
+
+-- there still is so much room
+pub record Keeps (room now : Room) : Type 0 where
+  pub attributes : room.attributes ≤ now.attributes
+  pub events : room.events ≤ now.events
+  pub links : room.links ≤ now.links
 
 -- ---- the close
 

@@ -2,6 +2,7 @@
 //! Everything turns on `SpanState`: `apply` adds an op, and `close` answers the record that the ops define.
 #![tactic(auto)]
 
+mod closing;
 pub mod fields;
 pub mod laws;
 pub mod op;

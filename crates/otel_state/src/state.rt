@@ -1,17 +1,15 @@
 //! The state of a span from its making to its close.
-ghost use Rattle.std.specs.Prelude.{◌≡◌, ◌+◌, ◌≤◌, ◌<◌, ◌++◌, ◌∷◌, [], ℕ, List, Some, OnOk, OnErr, IfOk, IsTrue, false, length, vec_len, vec_capacity};
+ghost use Rattle.std.specs.Prelude.{◌≡◌, ◌+◌, ◌≤◌, ◌<◌, ◌++◌, ◌∷◌, [], ℕ, List, Some, OnOk, OnErr, IfOk, IsTrue, false, length};
 ghost use Rattle.std.specs.Option.{option_to_list};
 ghost use Rattle.std.specs.Ordering.{ord_max};
 ghost use Rattle.otel_base.specs.Statuses.{status_cmp};
-ghost use Rattle.otel_base.specs.Words.{word_text};
-ghost use Rattle.otel_state.specs.declared.times.TheConstants.{GREATEST};
-ghost use Rattle.otel_state.specs.Deeds.{written_by};
+ghost use Rattle.otel_state.specs.Deeds.{deed, nothing, written_by};
 ghost use Rattle.otel_state.specs.Opening.{own_of, parent_of};
 ghost use Rattle.otel_state.specs.Statuses.{greatest, error_in};
 ghost use Rattle.otel_state.specs.Times.{open_by};
-ghost use Rattle.otel_state.specs.Content.{closing_count, closing_times, number};
-ghost use Rattle.otel_state.specs.States.{passed, unless_started, with_all, did, changed, reply, reply_after, is_growing, record_of, Stands, Appends, Begins, IsReadOff, IsContent, HasRoom};
+ghost use Rattle.otel_state.specs.States.{passed, unless_started, with_all, did, changed, reply, reply_after, is_growing, record_of, made_at, less, Stands, Appends, Begins, IsReadOff, IsContent, HasRoom, Keeps};
 
+use crate::closing::{add_count, add_times};
 use crate::op::{Op, OpReply, SetParentError};
 use crate::times::{GREATEST, idle, moment_after, one_more};
 use crate::update::Update;
@@ -21,8 +19,7 @@ use otel_base::memory::Memory;
 use otel_base::record::{Link, Moment, OtelEvent, Record, SpanKind};
 use otel_base::status::Status;
 use otel_base::text::Text;
-use otel_base::value::{KeyValue, OtelValue};
-use otel_base::word::Word;
+use otel_base::value::KeyValue;
 use std::alloc::Global;
 use std::marker::Model;
 
@@ -182,11 +179,12 @@ impl SpanState {
         Ok(answer)
     }
 
-    /// Applies an op in room that was reserved for it.
+    /// Applies an op in room that was reserved for it. The rest of the room stays.
     pub fn put(&mut self, at: Moment, op: Op)
         requires room { HasRoom self.old.room op }
         ensures told { self.new.told ≡ changed self.old.told at op }
         ensures room { is_growing op ≡ false → self.new.room ≡ self.old.room }
+        ensures rest { Keeps (less self.old.room (deed op)) self.new.room }
     {
         self.pass(at);
         match op {
@@ -238,7 +236,7 @@ impl SpanState {
     fn put_update(&mut self, update: Update)
         requires { length update.attributes ≤ self.old.room.attributes }
         ensures told { self.new.told ≡ did self.old.told (written_by update) }
-        ensures room { self.new.room.events ≡ self.old.room.events }
+        ensures rest { Keeps (less self.old.room (written_by update)) self.new.room }
     {
         let Update {
             name,
@@ -307,7 +305,7 @@ impl SpanState {
     fn put_attributes(&mut self, attributes: Items<KeyValue>)
         requires { length attributes ≤ self.old.room.attributes }
         ensures told { self.new.told ≡ record self.old.told { attributes = with_all self.old.told.attributes attributes } }
-        ensures room { self.new.room.events ≡ self.old.room.events }
+        ensures rest { Keeps (less self.old.room (record nothing { attributes = attributes })) self.new.room }
     {
         let mut attributes = attributes.into_vec();
         match self.attributes.append(&mut attributes) {
@@ -318,7 +316,8 @@ impl SpanState {
 
     fn put_attribute(&mut self, pair: KeyValue)
         requires { 1 ≤ self.old.room.attributes }
-        ensures { self.new.told ≡ record self.old.told { attributes = self.old.told.attributes ++ pair ∷ [] } }
+        ensures told { self.new.told ≡ record self.old.told { attributes = self.old.told.attributes ++ pair ∷ [] } }
+        ensures rest { Keeps (less self.old.room (record nothing { attributes = pair ∷ [] })) self.new.room }
     {
         match self.attributes.push(pair) {
             Ok(()) => {}
@@ -328,7 +327,8 @@ impl SpanState {
 
     fn put_event(&mut self, event: OtelEvent)
         requires { 1 ≤ self.old.room.events }
-        ensures { self.new.told ≡ record self.old.told { events = self.old.told.events ++ event ∷ [] } }
+        ensures told { self.new.told ≡ record self.old.told { events = self.old.told.events ++ event ∷ [] } }
+        ensures rest { Keeps (less self.old.room (record nothing { event = Some event })) self.new.room }
     {
         match self.events.push(event) {
             Ok(()) => {}
@@ -338,7 +338,8 @@ impl SpanState {
 
     fn put_link(&mut self, link: Link)
         requires { 1 ≤ self.old.room.links }
-        ensures { self.new.told ≡ record self.old.told { links = self.old.told.links ++ link ∷ [] } }
+        ensures told { self.new.told ≡ record self.old.told { links = self.old.told.links ++ link ∷ [] } }
+        ensures rest { Keeps (less self.old.room (record nothing { link = Some link })) self.new.room }
     {
         match self.links.push(link) {
             Ok(()) => {}
@@ -346,9 +347,10 @@ impl SpanState {
         }
     }
 
-    /// Gives a state without ops its parent and the moment of its making.
+    /// Gives a state the parent and the moment of its making, where these weren't known when its room was taken.
     pub fn begin(&mut self, parent: Context, made: Moment)
-        ensures told { Begins parent made self.old.told self.new.told }
+        ensures told { self.new.told ≡ made_at parent made self.old.told }
+        ensures begins { Begins parent made self.old.told self.new.told }
         ensures room { self.new.room ≡ self.old.room }
     {
         self.opening.parent = parent;
@@ -374,9 +376,11 @@ impl SpanState {
         }
     }
 
-    /// Takes the room for an op. `Memory` only where the op adds attributes, an event or a link.
+    /// Takes the room for an op, where what is there isn't enough. `Memory` only where the op adds attributes, an event
+    /// or a link. For two ops `reserve_room` takes the room at once.
     pub fn reserve(&mut self, op: &Op) -> Result<(), Memory>
         ensures room { OnOk result (HasRoom self.new.room op.now) }
+        ensures keeps { Keeps self.old.room self.new.room }
         ensures memory { OnErr result (IsTrue (is_growing op.now)) }
         ensures leaves { self.new.told ≡ self.old.told }
     {
@@ -404,6 +408,7 @@ impl SpanState {
         ensures attributes { OnOk result (attributes ≤ self.new.room.attributes) }
         ensures events { OnOk result (events ≤ self.new.room.events) }
         ensures links { OnOk result (links ≤ self.new.room.links) }
+        ensures keeps { Keeps self.old.room self.new.room }
         ensures leaves { self.new.told ≡ self.old.told }
     {
         let all = attributes.checked_add(CLOSING).ok_or(Memory)?;
@@ -449,47 +454,5 @@ impl SpanState {
             links: Items::from(self.links),
             status: self.status,
         }
-    }
-}
-
-// Adds how many events were counted, where that is told, in room that is there.
-fn add_count(alloc: Global, attributes: &mut Vec<KeyValue>, counting: bool, counted: u64)
-    requires room { vec_len attributes.old + 3 ≤ vec_capacity attributes.old }
-    requires number { counted ≤ GREATEST }
-    ensures items { attributes.new.items ≡ attributes.old.items ++ closing_count counting counted }
-    ensures room { vec_len attributes.new + 2 ≤ vec_capacity attributes.new }
-{
-    if counting {
-        add_number(alloc, attributes, Word::EventCount, counted);
-    }
-}
-
-// Adds the times, where these are told, in room that is there.
-fn add_times(alloc: Global, attributes: &mut Vec<KeyValue>, inactivity: bool, busy: u64, idle: u64)
-    requires room { vec_len attributes.old + 2 ≤ vec_capacity attributes.old }
-    requires busy { busy ≤ GREATEST }
-    requires idle { idle ≤ GREATEST }
-    ensures { attributes.new.items ≡ attributes.old.items ++ closing_times inactivity busy idle }
-{
-    if inactivity {
-        add_number(alloc, attributes, Word::Busy, busy);
-        add_number(alloc, attributes, Word::Idle, idle);
-    }
-}
-
-// Adds an attribute that tells a number, in room that is there.
-fn add_number(alloc: Global, attributes: &mut Vec<KeyValue>, key: Word, told: u64)
-    requires room { vec_len attributes.old < vec_capacity attributes.old }
-    requires number { told ≤ GREATEST }
-    ensures items { attributes.new.items ≡ attributes.old.items ++ number (word_text key) told ∷ [] }
-    ensures len { vec_len attributes.new ≡ vec_len attributes.old + 1 }
-    ensures capacity { vec_capacity attributes.old ≤ vec_capacity attributes.new }
-{
-    match attributes.push(KeyValue {
-        key: Text::fixed(alloc, key),
-        value: OtelValue::I64(told as i64),
-    }) {
-        Ok(()) => {}
-        Err(_) => unreachable!(),
     }
 }
