@@ -1,14 +1,14 @@
 -- Busy and idle add up to the time from the making to the end.
-use Rattle.std.proofs.Common.{◌≡◌, ℕ, ◌+◌, ◌-◌, ◌<◌, ◌≤◌, List, [], ◌∷◌, Bool, true, false, Option, Some, None, refl, sym, ap, subst, ◌∙◌, arith, zero, suc}
-use Rattle.std.specs.Prelude.{if◌then◌else◌, ◌==◌, ◌||◌, min, fold, filter_map, unwrap_or}
+use Rattle.std.proofs.Common.{◌≡◌, ℕ, ◌+◌, ◌-◌, ◌<◌, ◌≤◌, List, [], ◌∷◌, ◌++◌, Bool, true, false, Option, Some, None, refl, sym, ap, subst, ◌∙◌, arith, append_assoc, zero, suc}
+use Rattle.std.specs.Prelude.{if◌then◌else◌, ◌==◌, ◌||◌, min, fold, filter_map, unwrap_or, IsTrue}
 use Rattle.std.specs.List.{cons_option}
 use Rattle.std.proofs.lemmas.Bool.{eqb-true}
 use Rattle.otel_state.specs.declared.times.TheConstants.{GREATEST}
 use Rattle.otel_state.specs.Deeds.{Deed, Stamped, deed}
 use Rattle.otel_state.specs.Times.{open_after, open_by, gap, busy_of, exit_in, last_exit, idle_of, InOrder}
-use Rattle.otel_state.specs.Content.{Making}
+use Rattle.otel_state.specs.Content.{Making, attributes_of, counted_of, closing_count, content}
 use Rattle.otel_state.specs.States.{Told, begun, moment, changed_by}
-use Rattle.otel_state.specs.Laws.{AddUp, was_entered}
+use Rattle.otel_state.specs.Laws.{TellsTimes, was_entered}
 use Rattle.otel_state.proofs.Summing.{folded, constant, busy_all, left_all, first_within}
 
 -- how far busy time may reach: to the last moment where an entry is open, else to the last exit or the making
@@ -114,11 +114,17 @@ reached making ops order shut =
     let left_made = ap (λ n. unwrap_or (fold changed_by start ops).left n) kept in
     omega (arith, reach, busy, left, kept, left_made)
 
-pub add_up : (making : Making) (ops : List Stamped) (closed : ℕ) → InOrder making.made ops → open_by 0 ops ≡ 0 → AddUp making ops closed
-add_up making ops closed order shut =
+pub tells_times : (making : Making) (ops : List Stamped) (closed : ℕ) → IsTrue making.inactivity → InOrder making.made ops → open_by 0 ops ≡ 0
+    → TellsTimes (was_entered ops) (last_exit ops) (content making ops closed)
+tells_times making ops closed tracked order shut =
     let reach = reached making ops order shut in
+    let busy = busy_of making.made ops in
+    let counted = closing_count making.counting (counted_of ops) in
     record {
-      entered = λ entered. sum_is making.made (busy_of making.made ops) closed (last_exit ops) (λ none. left_if_entered 0 ops None shut entered none) reach;
-      busy = λ none. no_busy making.made (busy_of making.made ops) (last_exit ops) none reach;
-      idle = λ none. no_idle making.made (busy_of making.made ops) (last_exit ops) none;
+      others = making.first ++ attributes_of ops ++ counted;
+      busy = busy;
+      idle = idle_of (last_exit ops) making.made busy;
+      told = simp (tracked, append_assoc) refl;
+      add_up = λ entered. sum_is making.made busy closed (last_exit ops) (λ none. left_if_entered 0 ops None shut entered none) reach;
+      are_none = λ none. (no_busy making.made busy (last_exit ops) none reach, no_idle making.made busy (last_exit ops) none);
     }

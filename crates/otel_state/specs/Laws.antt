@@ -1,16 +1,16 @@
 -- What holds of all lists of ops.
-use Rattle.std.specs.Prelude.{◌≡◌, ℕ, ◌+◌, List, ◌∷◌, ◌++◌, Bool, IsTrue, None}
+use Rattle.std.specs.Prelude.{◌≡◌, ℕ, ◌+◌, List, [], ◌∷◌, ◌++◌, Bool, IsTrue, Option, None, codes}
 use Rattle.std.specs.List.{list_any}
 use Rattle.std.specs.Ordering.{is_le}
 use Rattle.otel_base.specs.declared.context.SpanContext.{SpanContext}
 use Rattle.otel_base.specs.declared.record.Record.{Record}
+use Rattle.otel_base.specs.declared.value.KeyValue.{KeyValue}
 use Rattle.otel_base.specs.Statuses.{status_cmp}
 use Rattle.otel_state.specs.declared.op.Op.{Op}
 use Rattle.otel_state.specs.declared.op.Op.TheVariants as ops
 use Rattle.otel_state.specs.Deeds.{Deed, Stamped, deed}
 use Rattle.otel_state.specs.Statuses.{status_of}
-use Rattle.otel_state.specs.Times.{busy_of, idle_of, last_exit}
-use Rattle.otel_state.specs.Content.{Making, content}
+use Rattle.otel_state.specs.Content.{number}
 
 -- ---- busy and idle
 
@@ -18,12 +18,15 @@ use Rattle.otel_state.specs.Content.{Making, content}
 abbrev pub was_entered : List Stamped → Bool
 was_entered ops = list_any (λ op. (deed op.op).enters) ops
 
--- from the making on, busy and idle take up to the end, where the span was entered, and are both 0 where it was never left
-pub record AddUp (making : Making) (ops : List Stamped) (closed : ℕ) : Type 0 where
-  pub entered : IsTrue (was_entered ops)
-      → making.made + busy_of making.made ops + idle_of (last_exit ops) making.made (busy_of making.made ops) ≡ (content making ops closed).end
-  pub busy : last_exit ops ≡ None → busy_of making.made ops ≡ 0
-  pub idle : last_exit ops ≡ None → idle_of (last_exit ops) making.made (busy_of making.made ops) ≡ 0
+-- a record's last two attributes tell a busy and an idle time. They add up to the time from its start to its end where
+-- the span was entered, and are both 0 where it was never left
+pub record TellsTimes (entered : Bool) (left : Option ℕ) (r : Record) : Type 0 where
+  pub others : List KeyValue
+  pub busy : ℕ
+  pub idle : ℕ
+  pub told : r.attributes ≡ others ++ number (codes "busy_ns") busy ∷ number (codes "idle_ns") idle ∷ []
+  pub add_up : IsTrue entered → r.start + busy + idle ≡ r.end
+  pub are_none : left ≡ None → (busy ≡ 0) × (idle ≡ 0)
 
 -- ---- what is settled by the start
 

@@ -4,21 +4,21 @@ ghost use Rattle.otel_base.specs.declared.context.SpanContext.{SpanContext};
 ghost use Rattle.otel_state.specs.declared.op.Op.{Op};
 ghost use Rattle.otel_state.specs.Deeds.{Stamped};
 ghost use Rattle.otel_state.specs.Opening.{own_of};
-ghost use Rattle.otel_state.specs.Times.{InOrder, open_by};
+ghost use Rattle.otel_state.specs.Times.{InOrder, open_by, last_exit};
 ghost use Rattle.otel_state.specs.Content.{Making, content};
 ghost use Rattle.otel_state.specs.States.{Told, Appends, changed};
-ghost use Rattle.otel_state.specs.Laws.{AddUp, SameButSettled, SettlesNothing, start_at, with_early, with_late, SameButIds, NeverFalls};
+ghost use Rattle.otel_state.specs.Laws.{TellsTimes, was_entered, SameButSettled, SettlesNothing, start_at, with_early, with_late, SameButIds, NeverFalls};
 
 /// A state that stands for some ops stands, after one more, for these and that one.
 pub fn appends()
     ensures { (told : Told) (at : ℕ) (op : Op) → Appends at op told (changed told at op) }
 {}
 
-/// Where moments don't fall and no entry is left open, busy and idle add up to the time from the making to the end if
-/// the span was entered, and both are 0 if it was never left.
+/// Where inactivity is tracked, moments don't fall and no entry is left open, the record's busy and idle times add up to
+/// the time from its start to its end if the span was entered, and both are 0 if it was never left.
 pub fn times()
-    ensures { (making : Making) (ops : List Stamped) (closed : ℕ) → InOrder making.made ops → open_by 0 ops ≡ 0
-        → AddUp making ops closed }
+    ensures { (making : Making) (ops : List Stamped) (closed : ℕ) → IsTrue making.inactivity → InOrder making.made ops
+        → open_by 0 ops ≡ 0 → TellsTimes (was_entered ops) (last_exit ops) (content making ops closed) }
 {}
 
 /// A name, a kind or a parent that is written after the start leaves the record as it is.
