@@ -30,7 +30,7 @@ pub record KeepsLane (attaches : Bool) (before later : Lane) : Type 0 where
   pub default : later.default ≡ before.default
   pub as_it_is : attaches ≡ false → later ≡ before
 
--- the same, and the same contexts too: only their room may have grown
+-- the same, and the same contexts too: only their room may differ
 pub record KeepsLive (attaches : Bool) (before later : Lane) : Type 0 where
   pub keeps : KeepsLane attaches before later
   pub live : later.contexts.live ≡ before.contexts.live

@@ -52,10 +52,10 @@ pub enum TryInitError {
 }
 
 impl fmt::Display for TryInitError {
-    ghost output = { λ _. Some (codes "a global default trace dispatcher has already been set") };
+    ghost output = { λ _. Some (codes "a global default is already set") };
 
     fn fmt<W: fmt::Write>(&self, f: &mut fmt::Formatter<W>) -> fmt::Result {
-        f.write_str("a global default trace dispatcher has already been set")
+        f.write_str("a global default is already set")
     }
 }
 

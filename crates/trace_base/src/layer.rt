@@ -3,6 +3,7 @@ ghost use Rattle.std.specs.Prelude.{◌≡◌, ◌<◌, ℕ, Bool, Option, true,
 ghost use Rattle.otel_base.specs.Stack.{IsReady};
 ghost use Rattle.otel_base.specs.declared.enter_error.EnterError.TheVariants.{Full};
 ghost use Rattle.trace_base.specs.declared.callsite.Callsite.{Callsite};
+ghost use Rattle.trace_base.specs.declared.lane.Lane.{Lane};
 ghost use Rattle.trace_base.specs.declared.level.LevelFilter.{LevelFilter};
 ghost use Rattle.trace_base.specs.declared.subscriber.Interest.{Interest};
 ghost use Rattle.trace_base.specs.Contexts.{AreAttached, KeepsLane, KeepsLive, IsFull};
@@ -19,7 +20,7 @@ use otel_base::memory::Memory;
 
 /// What is told of spans and events beside a subscriber; `tracing_subscriber::Layer`. A hook that grows something has
 /// a `prepare_` beside it, which takes all memory first: it changes nothing but spare room, and the hook then can't
-/// fail. For a span that a layer doesn't know its hooks do nothing.
+/// fail.
 pub trait Layer {
     /// What a prepare made for its hook.
     type Ready: Drop;
@@ -151,14 +152,14 @@ pub trait Layer {
         requires ready { ready self.old (ForEvent reached callsite.now values.now) prepared }
         ensures { does self.old (OnEvent reached lane.now at callsite.now values.now) self.new };
 
-    /// Takes the memory of `on_enter`, and the lane's room for a context. `Full` only where it can attach one and the lane
-    /// has as many as may be.
+    /// Takes the memory of `on_enter`, and the lane's room for a context. `Full` only where it attaches one, for a span that
+    /// it knows, and the lane has as many as may be.
     fn prepare_enter(&mut self, id: Id, lane: &mut Lane) -> Result<Self::Ready, EnterError>
         ensures ready { IfOk result (ready self.new (ForEnter id lane.old.id)) }
         ensures room { OnOk result (attaches self.old ≡ true → (seen self.old).knows id ≡ true → IsReady lane.new.contexts) }
         ensures leaves { same self.old self.new }
         ensures lane_leaves { KeepsLive (attaches self.old) lane.old lane.new }
-        ensures full { result ≡ Err Full → (attaches self.old ≡ true) × IsFull lane.old };
+        ensures full { result ≡ Err Full → (attaches self.old ≡ true) × ((seen self.old).knows id ≡ true) × IsFull lane.old };
 
     /// A span was entered on a lane; `Layer::on_enter`.
     fn on_enter(&mut self, prepared: Self::Ready, id: Id, lane: &mut Lane, at: u64)
@@ -171,13 +172,13 @@ pub trait Layer {
     fn on_exit(&mut self, id: Id, lane: &mut Lane, at: u64)
         requires whole { is_whole self.old }
         requires open { (seen self.old).knows id ≡ true → 0 < (seen self.old).entries lane.old.id id }
-        requires still { AreAttached (kept self.old) lane.old }
+        requires still { (seen self.old).knows id ≡ true → AreAttached (kept self.old) lane.old }
         ensures { does self.old (OnExit id at lane.old lane.new) self.new };
 
     /// A span closed; `Layer::on_close`.
     fn on_close(&mut self, id: Id, at: u64)
         requires whole { is_whole self.old }
-        requires left { (lane : ℕ) → (seen self.old).entries lane id ≡ 0 }
+        requires left { (seen self.old).knows id ≡ true → (lane : ℕ) → (seen self.old).entries lane id ≡ 0 }
         ensures { does self.old (OnClose id at) self.new };
 
     /// Spare room is nothing that can be seen.
@@ -203,8 +204,11 @@ pub trait Layer {
     /// It keeps up with the spans that it knows and their entries.
     ghost sees: { (s : Self) (hook : Hook) (t : Self) → does s hook t → Sees (seen s) hook (seen t) };
 
-    /// It attaches and detaches what it keeps more or less, and nothing else on the lane changes.
+    /// As many contexts are attached or detached as it keeps more or less.
     ghost lanes: { (s : Self) (hook : Hook) (t : Self) → does s hook t → HookLanes (attaches s) (kept s) hook (kept t) };
+
+    /// An entry of a span that it doesn't know leaves a lane's contexts as they are.
+    ghost passive: { (s : Self) (id at : ℕ) (before later : Lane) (t : Self) → does s (OnEnter id at before later) t → (seen s).knows id ≡ false → later.contexts.live ≡ before.contexts.live };
 
     ghost keeps_attaches: { (s : Self) (hook : Hook) (t : Self) → does s hook t → attaches t ≡ attaches s };
 

@@ -1,7 +1,8 @@
 //! Subscribers: what is told of spans and events, and what it answers.
-ghost use Rattle.std.specs.Prelude.{◌≡◌, ◌↔◌, ◌<◌, ◌==◌, ℕ, Bool, Option, true, length, IfOk, OnOk, OnErr, IsErr, IfSome, Err, IsTrue};
+ghost use Rattle.std.specs.Prelude.{◌≡◌, ◌↔◌, ◌<◌, ◌==◌, ℕ, Bool, Option, true, false, length, IfOk, OnOk, OnErr, IsErr, IfSome, Err, IsTrue};
 ghost use Rattle.otel_base.specs.declared.enter_error.EnterError.TheVariants.{Full};
 ghost use Rattle.trace_base.specs.declared.callsite.Callsite.{Callsite};
+ghost use Rattle.trace_base.specs.declared.lane.Lane.{Lane};
 ghost use Rattle.trace_base.specs.declared.level.LevelFilter.{LevelFilter};
 ghost use Rattle.trace_base.specs.declared.subscriber.Interest.{Interest};
 ghost use Rattle.trace_base.specs.declared.subscriber.Interest.TheVariants as interest;
@@ -172,8 +173,8 @@ pub trait Subscriber {
         ensures did { OnOk result (does self.old (Event lane.now at parent site callsite.now values.now) self.new) }
         ensures memory_leaves { OnErr result (same self.old self.new) };
 
-    /// Enters a span on a lane; `Subscriber::enter`. `Full` only where the entry can attach a context and the lane has
-    /// as many as may be, and never Ok where it would attach one there.
+    /// Enters a span on a lane; `Subscriber::enter`. `Full` only where the entry attaches a context and the lane has as
+    /// many as may be, and never Ok there.
     fn enter(&mut self, id: Id, lane: &mut Lane, at: u64) -> Result<(), EnterError>
         requires whole { is_whole self.old }
         requires live { IsLive (spans self.old).made id }
@@ -181,7 +182,7 @@ pub trait Subscriber {
         ensures did { OnOk result (does self.old (Enter id at lane.old lane.new) self.new) }
         ensures leaves { OnErr result (same self.old self.new) }
         ensures lane_leaves { OnErr result (KeepsLive (attaches self.old) lane.old lane.new) }
-        ensures full { result ≡ Err Full → (attaches self.old ≡ true) × IsFull lane.old }
+        ensures full { result ≡ Err Full → (activates self.old id ≡ true) × IsFull lane.old }
         ensures full_refused { activates self.old id ≡ true → IsFull lane.old → IsErr result };
 
     /// Exits a span on a lane: its last entry there; `Subscriber::exit`.
@@ -241,8 +242,11 @@ pub trait Subscriber {
 
     ghost shows: { (s : Self) (call : SubscriberCall) (t : Self) → does s call t → spans t ≡ after (spans s) call };
 
-    /// It attaches and detaches what it keeps more or less, and nothing else on the lane changes.
+    /// As many contexts are attached or detached as it keeps more or less.
     ghost lanes: { (s : Self) (call : SubscriberCall) (t : Self) → does s call t → Lanes (attaches s) (kept s) call (kept t) };
+
+    /// An entry that attaches no context leaves a lane's contexts as they are.
+    ghost passive: { (s : Self) (id at : ℕ) (before later : Lane) (t : Self) → does s (Enter id at before later) t → activates s id ≡ false → later.contexts.live ≡ before.contexts.live };
 
     ghost keeps_attaches: { (s : Self) (call : SubscriberCall) (t : Self) → does s call t → attaches t ≡ attaches s };
 
