@@ -20,15 +20,10 @@ pub record LeavesLane (before later : Lane) : Type 0 where
   pub default : later.default ≡ before.default
   pub live : later.contexts.live ≡ before.contexts.live
 
--- an enabled handle's subscriber attaches contexts at entries, and the lane has as many as may be
-abbrev pub FullOnly : {S : Type 0} → (S → Bool) → Worlds S → Lane → Held → Type 0
-FullOnly attaches world lane None = ⊥
-FullOnly attaches world lane (Some held) = Has (λ s. attaches s ≡ true) world held.0 × IsFull lane
-
--- an entry of an enabled handle's span attaches one, and the lane has as many as may be
-abbrev pub FullRefuses : {S : Type 0} → (S → ℕ → Bool) → Worlds S → Lane → Held → Type 0
-FullRefuses activates world lane None = ⊥
-FullRefuses activates world lane (Some held) = Has (λ s. activates s held.1 ≡ true) world held.0 × IsFull lane
+-- an entry of an enabled handle's span attaches a context, and the lane has as many as may be
+abbrev pub MeetsFullLane : {S : Type 0} → (S → ℕ → Bool) → Worlds S → Lane → Held → Type 0
+MeetsFullLane activates world lane None = ⊥
+MeetsFullLane activates world lane (Some held) = Has (λ s. activates s held.1 ≡ true) world held.0 × IsFull lane
 
 -- a guard: the handle whose span was entered, and the lane
 pub record Opened : Type 0 where

@@ -3,10 +3,10 @@ ghost use Rattle.std.specs.Prelude.{◌≡◌, ◌<◌, ℕ, length, Some, None,
 ghost use Rattle.otel_base.specs.declared.enter_error.EnterError.TheVariants.{Full};
 ghost use Rattle.trace_base.specs.Calls.{Enter, Exit};
 ghost use Rattle.trace_base.specs.Conditions.{HasFewHolds, IsLive, MayExit};
-ghost use Rattle.trace_base.specs.Contexts.{AreAttached, KeepsLive, IsFull};
+ghost use Rattle.trace_base.specs.Contexts.{AreAttached, KeepsLive};
 ghost use Rattle.span_handles.specs.Worlds.{Has, Replaced};
 ghost use Rattle.span_handles.specs.Handles.{IsKnown, HasOn, ReplacedOn};
-ghost use Rattle.span_handles.specs.Entries.{IsThere, LeavesLane, FullOnly, FullRefuses};
+ghost use Rattle.span_handles.specs.Entries.{IsThere, LeavesLane, MeetsFullLane};
 
 use crate::span::Span;
 use otel_base::enter_error::EnterError;
@@ -55,8 +55,8 @@ impl Discard for Entry {
 }
 
 impl Span {
-    /// Enters the span on a lane, and nothing where the handle is disabled. `Full` only where the entry can attach a
-    /// context and the lane has as many as may be; it is never Ok where it would attach one there.
+    /// Enters the span on a lane, and nothing where the handle is disabled. `Full` only where the entry attaches a
+    /// context and the lane has as many as may be, and never Ok there.
     pub fn open_entry<S: Subscriber>(
         &self,
         world: &mut World<S>,
@@ -71,8 +71,8 @@ impl Span {
         ensures none { self.now.held ≡ None → lane.new ≡ lane.old }
         ensures leaves { OnErr result (ReplacedOn (λ id s t. S.same s t) world.old world.new self.now.held) }
         ensures lane_leaves { OnErr result (LeavesLane lane.old lane.new) }
-        ensures full { result ≡ Err Full → FullOnly S.attaches world.old lane.old self.now.held }
-        ensures full_refused { FullRefuses S.activates world.old lane.old self.now.held → IsErr result }
+        ensures full { result ≡ Err Full → MeetsFullLane S.activates world.old lane.old self.now.held }
+        ensures full_refused { MeetsFullLane S.activates world.old lane.old self.now.held → IsErr result }
     {
         match &self.held {
             None => Ok(Entry { held: None }),
@@ -123,8 +123,8 @@ fn enter<S: Subscriber>(
     ensures did { OnOk result (Replaced (λ s t. S.does s (Enter id at lane.old lane.new) t) world.old world.new dispatch) }
     ensures leaves { OnErr result (Replaced S.same world.old world.new dispatch) }
     ensures lane_leaves { OnErr result (LeavesLane lane.old lane.new) }
-    ensures full { result ≡ Err Full → FullOnly S.attaches world.old lane.old (Some (dispatch, id)) }
-    ensures full_refused { FullRefuses S.activates world.old lane.old (Some (dispatch, id)) → IsErr result }
+    ensures full { result ≡ Err Full → MeetsFullLane S.activates world.old lane.old (Some (dispatch, id)) }
+    ensures full_refused { MeetsFullLane S.activates world.old lane.old (Some (dispatch, id)) → IsErr result }
 {
     world.subscriber_mut(dispatch).enter(id, lane, at)
 }

@@ -5,7 +5,7 @@ ghost use Rattle.trace_base.specs.Calls.{Enter, Exit};
 ghost use Rattle.trace_base.specs.Conditions.{HasFewHolds, MayExit};
 ghost use Rattle.trace_base.specs.Contexts.{AreAttached};
 ghost use Rattle.span_handles.specs.Handles.{Handle, IsKnown, HasOn, ReplacedOn, id_of};
-ghost use Rattle.span_handles.specs.Entries.{IsThere, IsStillOn, Begins, Keeps, LeavesLane, FullOnly, FullRefuses};
+ghost use Rattle.span_handles.specs.Entries.{IsThere, IsStillOn, Begins, Keeps, LeavesLane, MeetsFullLane};
 
 use crate::entry::Entry;
 use crate::span::Span;
@@ -71,8 +71,8 @@ impl Span {
         ensures none { self.now.held ≡ None → lane.new ≡ lane.old }
         ensures leaves { OnErr result (ReplacedOn (λ id s t. S.same s t) world.old world.new self.now.held) }
         ensures lane_leaves { OnErr result (LeavesLane lane.old lane.new) }
-        ensures full { result ≡ Err Full → FullOnly S.attaches world.old lane.old self.now.held }
-        ensures full_refused { FullRefuses S.activates world.old lane.old self.now.held → IsErr result }
+        ensures full { result ≡ Err Full → MeetsFullLane S.activates world.old lane.old self.now.held }
+        ensures full_refused { MeetsFullLane S.activates world.old lane.old self.now.held → IsErr result }
     {
         let on = lane.id;
         let entry = self.open_entry(world, lane, at)?;
@@ -100,8 +100,8 @@ impl Span {
         ensures back { IfErr result (λ refused. refused.0 ≡ self) }
         ensures leaves { OnErr result (ReplacedOn (λ id s t. S.same s t) world.old world.new self.held) }
         ensures lane_leaves { OnErr result (LeavesLane lane.old lane.new) }
-        ensures full { IfErr result (λ refused. refused.1 ≡ Full → FullOnly S.attaches world.old lane.old self.held) }
-        ensures full_refused { FullRefuses S.activates world.old lane.old self.held → IsErr result }
+        ensures full { IfErr result (λ refused. refused.1 ≡ Full → MeetsFullLane S.activates world.old lane.old self.held) }
+        ensures full_refused { MeetsFullLane S.activates world.old lane.old self.held → IsErr result }
     {
         let on = lane.id;
         match self.open_entry(world, lane, at) {
@@ -135,8 +135,8 @@ impl Span {
         ensures ok { IfOk result (λ answer. (w : _) × (l : _) × (t : _) × (m : _) × Begins S.does at self.now.held world.old lane.old w.now l.now × F.post f w l answer t m × ReplacedOn (λ id s u. S.does s (Exit id at m.now lane.new) u) t.now world.new self.now.held × (self.now.held ≡ None → lane.new ≡ m.now)) }
         ensures leaves { OnErr result (ReplacedOn (λ id s t. S.same s t) world.old world.new self.now.held) }
         ensures lane_leaves { OnErr result (LeavesLane lane.old lane.new) }
-        ensures full { result ≡ Err Full → FullOnly S.attaches world.old lane.old self.now.held }
-        ensures full_refused { FullRefuses S.activates world.old lane.old self.now.held → IsErr result }
+        ensures full { result ≡ Err Full → MeetsFullLane S.activates world.old lane.old self.now.held }
+        ensures full_refused { MeetsFullLane S.activates world.old lane.old self.now.held → IsErr result }
     {
         let entry = self.open_entry(world, lane, at)?;
         let answer = f(world, lane);

@@ -132,6 +132,22 @@ both_lanes spans inner outer same attaches s t l m (TryClose id at) sa sk tk lk 
       | inr more ↦ kept_same lk mk sk tk (ss (d.open_still more)) (si _ d.first)
     ]
 
+one_is_off : {P : Type 0} (a k : Bool) → (a && k) ≡ false → (a ≡ false → P) → (k ≡ false → P) → P
+one_is_off true k off first second = second off
+one_is_off false k off first second = first refl
+
+-- an entry that attaches nothing in either part leaves the contexts as they are
+pub both_passive : {S L : Type 0} (inner : S → SubscriberCall → S → Type 0) (outer : L → Hook → L → Type 0) (attaches : Bool)
+    → (s t : S) (l m : L) (id at : ℕ) (before later : Lane) (seen : Seen) (activates : ℕ → Bool)
+    → ((b c : Lane) → inner s (Enter id at b c) t → activates id ≡ false → c.contexts.live ≡ b.contexts.live)
+    → ((b c : Lane) → outer l (OnEnter id at b c) m → attaches ≡ false → c ≡ b)
+    → ((b c : Lane) → outer l (OnEnter id at b c) m → seen.knows id ≡ false → c.contexts.live ≡ b.contexts.live)
+    → EntersBoth inner outer attaches s l id at before later t m → activates_both attaches seen activates id ≡ false → later.contexts.live ≡ before.contexts.live
+both_passive inner outer attaches s t l m id at before later seen activates si off unknown d no =
+    let parts = or_parts (attaches && seen.knows id) (activates id) no in
+    one_is_off attaches (seen.knows id) parts.0 (λ a. ap (λ (x : Lane). x.contexts.live) (off _ _ d.second a)) (λ k. unknown _ _ d.second k)
+    ∙ si _ _ d.first parts.1 ∙ d.room.live
+
 -- what each part keeps at a call
 pub both_keep : {S L : Type 0} (spans : S → Spans) (inner : S → SubscriberCall → S → Type 0) (outer : L → Hook → L → Type 0) (same : L → L → Type 0) (attaches : L → Bool)
     → (s t : S) (l m : L) (call : SubscriberCall) (P : Type 0) (Q : Type 0)

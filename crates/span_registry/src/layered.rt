@@ -2,7 +2,8 @@
 ghost use Rattle.std.specs.Prelude.{◌≡◌, ℕ, ◌+◌, ◌||◌, ◌&&◌, true, false, if◌then◌else◌};
 ghost use Rattle.trace_base.specs.Spans.{entries_on, place_on};
 ghost use Rattle.span_registry.specs.Both.{DoesBoth, InStep, IsWholeBoth, KnowsNone, picked, picked_both, hint_both, enables_both, activates_both};
-ghost use Rattle.span_registry.specs.Layering.{kept_same, or_same, whole_both, in_step_same, both_same, both_allowed, both_shows, both_lanes, both_keep, both_in_step, gate_both, enables_same, activates_same};
+ghost use Rattle.span_registry.specs.Layering.{kept_same, or_same, whole_both, in_step_same, both_same, both_allowed, both_shows, both_lanes, both_keep, both_in_step, gate_both, enables_same, activates_same, both_passive};
+ghost use Rattle.trace_base.specs.Hooks.{OnEnter};
 ghost use Rattle.std.specs.Borrow.{sem};
 ghost use Rattle.span_registry.specs.Lending.{LendsLayer, LendsInner};
 
@@ -149,6 +150,9 @@ impl<L: Layer, S: Subscriber> Subscriber for Layered<L, S> {
 
     ghost lanes = { λ s call t d. both_lanes S.spans S.does L.does L.same L.attaches s.inner t.inner s.layer t.layer call (S.attaches s.inner) (S.kept s.inner) (S.kept t.inner) (L.kept s.layer) (L.kept t.layer)
         (λ c. S.lanes s.inner c t.inner) (λ k. L.lanes s.layer k t.layer) (L.same_kept s.layer t.layer) d };
+
+    ghost passive = { λ s id at before later t d no. both_passive S.does L.does (L.attaches s.layer) s.inner t.inner s.layer t.layer id at before later (L.seen s.layer) (S.activates s.inner)
+        (λ b c. S.passive s.inner id at b c t.inner) (λ b c e a. (L.lanes s.layer (OnEnter id at b c) t.layer e).0.as_it_is a) (λ b c. L.passive s.layer id at b c t.layer) d no };
 
     ghost keeps_attaches = { λ s call t d. let e = both_keep S.spans S.does L.does L.same L.attaches s.inner t.inner s.layer t.layer call (S.attaches t.inner ≡ S.attaches s.inner) (L.attaches t.layer ≡ L.attaches s.layer)
         (λ c. S.keeps_attaches s.inner c t.inner) (λ k. L.keeps_attaches s.layer k t.layer) (L.same_attaches s.layer t.layer) d in or_same (L.attaches s.layer) (L.attaches t.layer) (S.attaches s.inner) (S.attaches t.inner) e.1 e.0 };

@@ -1,6 +1,7 @@
 //! The registry: who holds a span, when it closes, and which spans each lane has entered.
 ghost use Rattle.std.specs.Prelude.{◌≡◌, ◌<◌, ◌==◌, [], true, false, IfSome, None, if◌then◌else◌};
 ghost use Rattle.std.proofs.Common.{refl, ◌∙◌, ap};
+ghost use Rattle.trace_base.specs.declared.lane.Lane.{Lane};
 ghost use Rattle.trace_base.specs.declared.subscriber.Interest.TheVariants as interests;
 ghost use Rattle.trace_base.specs.Spans.{Spans, span_at, entries_on, place_on, held, released, next_of};
 ghost use Rattle.trace_base.specs.Conditions.{HasOwnHold, IsLive, HasFewHolds};
@@ -145,6 +146,8 @@ impl Subscriber for Registry {
     ghost shows = { λ s call t d. d.shows };
 
     ghost lanes = { registry_lanes };
+
+    ghost passive = { λ s id at before later t d no. ap (λ (l : Lane). l.contexts.live) d.lane };
 
     ghost keeps_attaches = { λ s call t d. refl };
 

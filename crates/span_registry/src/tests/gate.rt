@@ -1,6 +1,7 @@
 //! The gate of a world, the global subscriber, and the hooks of a layer, over a layer that answers what it is told to.
 ghost use Rattle.std.specs.Prelude.{◌≡◌, ◌<◌, ◌≤◌, length, IfOk, None, false};
 ghost use Rattle.std.proofs.Common.{refl, ap, ◌∙◌};
+ghost use Rattle.trace_base.specs.declared.lane.Lane.{Lane};
 ghost use Rattle.span_registry.specs.Unseeing.{unseeing, LeavesLanes, unseeing_sees, unseeing_lanes};
 
 use super::{callsite, lane};
@@ -77,6 +78,8 @@ impl Layer for Asked {
     ghost sees = { λ s hook t d. unseeing_sees hook };
 
     ghost lanes = { λ s hook t d. unseeing_lanes hook d.1 };
+
+    ghost passive = { λ s id at before later t d no. ap (λ (l : Lane). l.contexts.live) d.1 };
 
     ghost keeps_attaches = { λ s hook t d. refl };
 
