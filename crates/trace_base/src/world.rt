@@ -164,7 +164,8 @@ impl<S: Subscriber> World<S> {
         ensures global { self.new.global ≡ self.old.global }
         ensures memory_leaves { OnErr result (self.new.cached ≡ self.old.cached) }
     {
-        self.cached = ask_all(self.alloc, &mut self.subscribers, self.sites.as_slice())?;
+        let rows = ask_all(self.alloc, &mut self.subscribers, self.sites.as_slice())?;
+        self.cached = rows;
         Ok(())
     }
 
