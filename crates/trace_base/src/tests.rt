@@ -5,6 +5,7 @@ use std::test::Fail;
 
 mod defaults;
 mod fields;
+mod worlds;
 
 const LEVELS: [Level; 5] = [
     Level::ERROR,
