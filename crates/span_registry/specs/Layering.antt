@@ -143,8 +143,8 @@ pub both_passive : {S L : Type 0} (inner : S → SubscriberCall → S → Type 0
     → ((b c : Lane) → outer l (OnEnter id at b c) m → attaches ≡ false → c ≡ b)
     → ((b c : Lane) → outer l (OnEnter id at b c) m → seen.knows id ≡ false → c.contexts.live ≡ b.contexts.live)
     → EntersBoth inner outer attaches s l id at before later t m → activates_both attaches seen activates id ≡ false → later.contexts.live ≡ before.contexts.live
-both_passive inner outer attaches s t l m id at before later seen activates si off unknown d no =
-    let parts = or_parts (attaches && seen.knows id) (activates id) no in
+both_passive inner outer attaches s t l m id at before later seen activates si off unknown d neither =
+    let parts = or_parts (attaches && seen.knows id) (activates id) neither in
     one_is_off attaches (seen.knows id) parts.0 (λ a. ap (λ (x : Lane). x.contexts.live) (off _ _ d.second a)) (λ k. unknown _ _ d.second k)
     ∙ si _ _ d.first parts.1 ∙ d.room.live
 

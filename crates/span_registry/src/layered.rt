@@ -151,8 +151,8 @@ impl<L: Layer, S: Subscriber> Subscriber for Layered<L, S> {
     ghost lanes = { λ s call t d. both_lanes S.spans S.does L.does L.same L.attaches s.inner t.inner s.layer t.layer call (S.attaches s.inner) (S.kept s.inner) (S.kept t.inner) (L.kept s.layer) (L.kept t.layer)
         (λ c. S.lanes s.inner c t.inner) (λ k. L.lanes s.layer k t.layer) (L.same_kept s.layer t.layer) d };
 
-    ghost passive = { λ s id at before later t d no. both_passive S.does L.does (L.attaches s.layer) s.inner t.inner s.layer t.layer id at before later (L.seen s.layer) (S.activates s.inner)
-        (λ b c. S.passive s.inner id at b c t.inner) (λ b c e a. (L.lanes s.layer (OnEnter id at b c) t.layer e).0.as_it_is a) (λ b c. L.passive s.layer id at b c t.layer) d no };
+    ghost passive = { λ s id at before later t d neither. both_passive S.does L.does (L.attaches s.layer) s.inner t.inner s.layer t.layer id at before later (L.seen s.layer) (S.activates s.inner)
+        (λ b c. S.passive s.inner id at b c t.inner) (λ b c e a. (L.lanes s.layer (OnEnter id at b c) t.layer e).0.as_it_is a) (λ b c. L.passive s.layer id at b c t.layer) d neither };
 
     ghost keeps_attaches = { λ s call t d. let e = both_keep S.spans S.does L.does L.same L.attaches s.inner t.inner s.layer t.layer call (S.attaches t.inner ≡ S.attaches s.inner) (L.attaches t.layer ≡ L.attaches s.layer)
         (λ c. S.keeps_attaches s.inner c t.inner) (λ k. L.keeps_attaches s.layer k t.layer) (L.same_attaches s.layer t.layer) d in or_same (L.attaches s.layer) (L.attaches t.layer) (S.attaches s.inner) (S.attaches t.inner) e.1 e.0 };

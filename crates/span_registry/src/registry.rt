@@ -147,7 +147,7 @@ impl Subscriber for Registry {
 
     ghost lanes = { registry_lanes };
 
-    ghost passive = { λ s id at before later t d no. ap (λ (l : Lane). l.contexts.live) d.lane };
+    ghost passive = { λ s id at before later t d neither. ap (λ (l : Lane). l.contexts.live) d.lane };
 
     ghost keeps_attaches = { λ s call t d. refl };
 

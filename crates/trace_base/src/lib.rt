@@ -18,3 +18,19 @@ pub mod subscriber;
 #[cfg(test)]
 mod tests;
 pub mod world;
+
+pub use callsite::{Callsite, Kind, SiteId};
+pub use discard::Discard;
+pub use dispatcher::{
+    DefaultGuard, Dispatch, TryInitError, get_default, set_default, set_global_default, try_init,
+    with_default,
+};
+pub use field::{AsField, Field, Value, ValueSet};
+pub use filter::Filter;
+pub use lane::Lane;
+pub use layer::Layer;
+pub use level::{Level, LevelFilter, ParseLevelError, ParseLevelFilterError, STATIC_MAX_LEVEL};
+pub use no_subscriber::NoSubscriber;
+pub use span::{AsId, Closing, Id, Parent};
+pub use subscriber::{Interest, Subscriber};
+pub use world::World;

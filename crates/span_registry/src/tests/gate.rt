@@ -79,7 +79,7 @@ impl Layer for Asked {
 
     ghost lanes = { λ s hook t d. unseeing_lanes hook d.1 };
 
-    ghost passive = { λ s id at before later t d no. ap (λ (l : Lane). l.contexts.live) d.1 };
+    ghost passive = { λ s id at before later t d neither. ap (λ (l : Lane). l.contexts.live) d.1 };
 
     ghost keeps_attaches = { λ s hook t d. refl };
 

@@ -5,4 +5,4 @@ use Rattle.span_registry.specs.Stepping.{left_at_close}
 use Rattle.span_registry.proofs.layered.LayeredSubscriber.try_close.Goals as goal
 
 pub on_close-requires-clause-left : goal.on_close-requires-clause-left
-on_close-requires-clause-left g c = left_at_close _ _ c.requires.whole.in_step c.args.id c.requires.own (eqb-true _ 1 (sym c.try_close-closing.ensures.closed ∙ c.if-closing.true))
+on_close-requires-clause-left g c = λ known. left_at_close _ _ c.requires.whole.in_step c.args.id c.requires.own (eqb-true _ 1 (sym c.try_close-closing.ensures.closed ∙ c.if-closing.true))
