@@ -5,7 +5,7 @@ use std::test::Fail;
 
 mod defaults;
 mod fields;
-mod worlds;
+mod spans;
 
 const LEVELS: [Level; 5] = [
     Level::ERROR,

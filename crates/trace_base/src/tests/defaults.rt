@@ -11,7 +11,7 @@ use otel_base::stack::ContextStack;
 use otel_base::text::Text;
 use std::alloc::Global;
 
-pub(super) fn lane(alloc: Global) -> Lane {
+fn lane(alloc: Global) -> Lane {
     Lane {
         id: 1,
         name: None,
@@ -20,7 +20,7 @@ pub(super) fn lane(alloc: Global) -> Lane {
     }
 }
 
-pub(super) fn callsite(alloc: Global, level: Level) -> Callsite {
+fn callsite(alloc: Global, level: Level) -> Callsite {
     Callsite {
         name: Text::from(String::new(alloc)),
         target: Text::from(String::new(alloc)),
