@@ -1,6 +1,6 @@
 -- A lane's entries by the place where it stands.
-use Rattle.std.proofs.Common.{◌≡◌, ℕ, zero, suc, ◌+◌, ◌-◌, ◌<◌, ◌≤◌, ◌≢◌, List, [], ◌∷◌, ◌++◌, length, Bool, true, false, cond, count_by, sum_by, get_or, set, Option, Some, None, refl, sym, ap, subst, ◌∙◌, arith, inl, inr, ◌⊎◌}
-use Rattle.std.specs.Prelude.{if◌then◌else◌, ◌==◌, ◌||◌, slice_index_or}
+use Rattle.std.proofs.Common.{◌≡◌, ℕ, zero, suc, ◌+◌, ◌-◌, ◌<◌, ◌≤◌, ◌≢◌, List, [], ◌∷◌, ◌++◌, length, Bool, true, false, cond, count_by, sum_by, get_or, set, Option, Some, None, Result, Ok, Err, refl, sym, ap, subst, ◌∙◌, arith, inl, inr, ◌⊎◌}
+use Rattle.std.specs.Prelude.{if◌then◌else◌, ◌==◌, ◌||◌, OnOk, slice_index_or}
 use Rattle.std.specs.List.{list_any, remove}
 use Rattle.std.proofs.lemmas.Bool.{eqb-true, eqb-false, eq-eqb, ne_eqb, cases_eq, cases_Bool, cond-true, cond-false, or_cases, or_parts, true≢false}
 use Rattle.std.proofs.lemmas.List.{get_or_default}
@@ -96,3 +96,7 @@ one_with lane ids (e ∷ es) one =
       | inr differs ↦ subst OneEach (sym (cond-false {A = List Entries} (e.lane == lane) (record { lane = lane; ids = ids } ∷ es) (e ∷ with_entries lane ids es) differs))
           (has_none lane e.lane ids es one.0 (λ x. true≢false (sym (eq-eqb e.lane lane (sym x)) ∙ differs)), one_with lane ids es one.1)
     ]
+
+pub on_ok : {T E : Type 0} (result : Result T E) (P Q : Type 0) → (P → Q) → OnOk result P → OnOk result Q
+on_ok (Ok v) P Q f p = f p
+on_ok (Err e) P Q f p = tt

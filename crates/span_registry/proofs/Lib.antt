@@ -1,4 +1,5 @@
 pub mod Counting
 pub mod Lanes
+pub mod Nesting
 pub mod Slotting
 pub mod Sound

@@ -1,4 +1,5 @@
 pub mod Both
+pub mod Firsts
 pub mod Hearing
 pub mod History
 pub mod Layering

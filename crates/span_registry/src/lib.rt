@@ -3,6 +3,7 @@
 #![tactic(auto)]
 
 mod entries;
+mod lane_entries;
 pub mod laws;
 pub mod layer;
 pub mod layered;

@@ -7,7 +7,8 @@ ghost use Rattle.trace_base.specs.Spans.{Spans, span_at, entries_on, place_on, h
 ghost use Rattle.trace_base.specs.Conditions.{HasOwnHold, IsLive, HasFewHolds};
 ghost use Rattle.span_registry.specs.Registering.{Registered, IsSound, DoesRegistry, no_spans, registry_same, registry_lanes};
 
-use crate::entries::{LaneEntries, add_entry, current, entries, is_entered, is_only, remove_entry};
+use crate::entries::{add_entry, current, entries, remove_entry};
+use crate::lane_entries::LaneEntries;
 use crate::table::Table;
 use otel_base::enter_error::EnterError;
 use otel_base::memory::Memory;
@@ -207,15 +208,13 @@ impl Subscriber for Registry {
     }
 
     fn enter(&mut self, id: Id, lane: &mut Lane, _at: u64) -> Result<(), EnterError> {
-        let again = is_entered(self.lanes.as_slice(), lane.id, id);
-        add_entry(self.alloc, &mut self.lanes, lane.id, id)?;
+        let again = add_entry(self.alloc, &mut self.lanes, lane.id, id)?;
         hold_unless(again, &mut self.table, id);
         Ok(())
     }
 
     fn exit(&mut self, id: Id, lane: &mut Lane, _at: u64) {
-        let last = is_only(self.lanes.as_slice(), lane.id, id);
-        remove_entry(&mut self.lanes, lane.id, id);
+        let last = remove_entry(&mut self.lanes, lane.id, id);
         release_if(last, &mut self.table, id);
     }
 
@@ -228,7 +227,7 @@ impl Subscriber for Registry {
     }
 
     fn current_span(&self, lane: u64) -> Option<(Id, SiteId)> {
-        let id = current(entries(self.lanes.as_slice(), lane))?;
+        let id = current(self.lanes.as_slice(), lane)?;
         Some((id, self.table.site(id)))
     }
 }
@@ -243,7 +242,7 @@ fn place(lanes: &[LaneEntries], lane: u64, parent: Parent) -> Option<Id>
 {
     match parent {
         Parent::Root => None,
-        Parent::Current => current(entries(lanes, lane)),
+        Parent::Current => current(lanes, lane),
         Parent::Of(id) => Some(id),
     }
 }

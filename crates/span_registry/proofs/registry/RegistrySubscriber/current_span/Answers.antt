@@ -7,9 +7,9 @@ use Rattle.span_registry.proofs.Sound.{current_live}
 use Rattle.span_registry.proofs.registry.RegistrySubscriber.current_span.Goals as goal
 
 pub site-requires : goal.site-requires
-site-requires c = current_live (record { made = c.self.inside.table.made; lanes = c.self.inside.lanes.items }) c.args.lane c.in_ok-id.id c.self.invariant (rw (c.current.ensures, c.entries.ensures, c.as_slice.ensures.value) at c.in_ok-id.was)
+site-requires c = current_live (record { made = c.self.inside.table.made; lanes = c.self.inside.lanes.items }) c.args.lane c.in_ok-id.id c.self.invariant (rw (c.current.ensures, c.as_slice.ensures.value) at c.in_ok-id.was)
 
 pub returns-clause-live : goal.returns-clause-live
 returns-clause-live c =
     subst (λ (r : Registered). IsLive r.spans.made c.in_ok-id.id) c.self.view_is
-    (current_live (record { made = c.self.inside.table.made; lanes = c.self.inside.lanes.items }) c.args.lane c.in_ok-id.id c.self.invariant (rw (c.current.ensures, c.entries.ensures, c.as_slice.ensures.value) at c.in_ok-id.was))
+    (current_live (record { made = c.self.inside.table.made; lanes = c.self.inside.lanes.items }) c.args.lane c.in_ok-id.id c.self.invariant (rw (c.current.ensures, c.as_slice.ensures.value) at c.in_ok-id.was))

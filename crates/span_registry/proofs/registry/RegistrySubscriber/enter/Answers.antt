@@ -7,5 +7,5 @@ use Rattle.span_registry.proofs.registry.RegistrySubscriber.enter.Goals as goal
 
 pub invariant_of-self-2 : goal.invariant_of-self-2
 invariant_of-self-2 c =
-    rw (c.hold_unless.ensures.made, c.is_entered-again.ensures, c.as_slice.ensures.value, c.in_ok-add_entry.ensures.ok)
+    rw (c.hold_unless.ensures.made, c.in_ok-again.ensures.again, c.in_ok-again.ensures.ok)
     (sound_entered (record { made = c.self.inside.table.made; lanes = c.self.inside.lanes.items }) c.args.id c.args.lane.now.id c.self.invariant (subst (λ (s : Registered). IsLive s.spans.made c.args.id) (sym c.self.view_is) c.requires.live))

@@ -10,5 +10,5 @@ release_if-requires c = exit_live (record { made = c.self.inside.table.made; lan
 
 pub invariant_of-self : goal.invariant_of-self
 invariant_of-self c =
-    rw (c.release_if.ensures.made, c.is_only-last.ensures, c.as_slice.ensures.value, c.remove_entry.ensures)
+    rw (c.release_if.ensures.made, c.remove_entry-last.ensures.only, c.remove_entry-last.ensures.entries)
     (sound_exited (record { made = c.self.inside.table.made; lanes = c.self.inside.lanes.items }) c.args.id c.args.lane.now.id c.self.invariant (subst (λ (s : Registered). MayExit s.spans c.args.id c.args.lane.now.id) (sym c.self.view_is) c.requires.may))

@@ -1,7 +1,7 @@
 -- What is removed at the last place.
 use Rattle.std.proofs.Common.{◌∙◌, arith}
 use Rattle.span_registry.proofs.Lanes.{remove_is_last}
-use Rattle.span_registry.proofs.entries.remove_last.Goals as goal
+use Rattle.span_registry.proofs.lane_entries.remove_last.Goals as goal
 
 pub returns : goal.returns
 returns c = c.remove.ensures.items ∙ remove_is_last c.args.ids.now.items c.args.id c.last_place-at.result

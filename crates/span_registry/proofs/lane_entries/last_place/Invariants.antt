@@ -1,6 +1,6 @@
 -- None of those that were passed is the span.
 use Rattle.std.proofs.Common.{◌≡◌, ℕ, ◌<◌, ◌≤◌, length, get_or}
-use Rattle.span_registry.proofs.entries.last_place.Given as goal
+use Rattle.span_registry.proofs.lane_entries.last_place.Given as goal
 
 abbrev pub invariant-loop-above : goal.invariant-loop-above
 invariant-loop-above l = record { within : l.above ≤ length l.ids; passed : (k : ℕ) → l.above ≤ k → k < length l.ids → get_or l.ids k 0 ≡ l.id → ⊥ }

@@ -1,0 +1,16 @@
+-- The current span of a lane is that of the entries at its place.
+use Rattle.std.proofs.Common.{sym, ap, ◌∙◌, List, get_or, ◌≡◌, ℕ, refl}
+use Rattle.std.proofs.lemmas.List.{get_or_default}
+use Rattle.trace_base.specs.Spans.{Entries, current_of}
+use Rattle.span_registry.specs.Registering.{no_lane}
+use Rattle.span_registry.proofs.Lanes.{entries_at, entries_none}
+use Rattle.span_registry.proofs.entries.current.Goals as goal
+
+pub returns-in-Some : goal.returns-in-Some
+returns-in-Some c =
+    let stands = c.in-Some.ensures.some in
+    let read : get_or c.args.lanes.now c.in-Some.at c.index-lanes-at.result ≡ get_or c.args.lanes.now c.in-Some.at no_lane = get_or_default c.args.lanes.now c.in-Some.at c.index-lanes-at.result no_lane stands.within in
+    c.current.ensures ∙ ap (λ (e : Entries). current_of e.ids) (c.index-lanes-at.is ∙ read) ∙ ap current_of (sym (entries_at c.args.lanes.now c.args.lane c.in-Some.at stands.within stands.is stands.before))
+
+pub returns-in-None : goal.returns-in-None
+returns-in-None c = ap current_of (sym (entries_none c.args.lanes.now c.args.lane (c.in-None.ensures.none refl)))

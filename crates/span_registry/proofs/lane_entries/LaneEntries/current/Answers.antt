@@ -1,0 +1,10 @@
+-- The last of the spans that the lane is in.
+use Rattle.std.proofs.Common.{sym, ap, ◌∙◌, List, ℕ, None, []}
+use Rattle.std.specs.List.{last_or}
+use Rattle.trace_base.specs.Spans.{Entries, current_of}
+use Rattle.span_registry.proofs.Nesting.{current_last}
+use Rattle.span_registry.proofs.lane_entries.LaneEntries.current.Goals as goal
+
+pub returns : goal.returns
+returns c =
+    c.last.ensures ∙ ap (last_or None) c.as_slice.ensures.value ∙ ap (last_or None) c.self.invariant ∙ sym (current_last [] None c.self.inside.ids.items) ∙ ap (λ (e : Entries). current_of e.ids) c.self.view_is
