@@ -1,4 +1,5 @@
 pub mod Chaining
+pub mod Knowing
 pub mod Scoping
 pub mod Showing
 pub mod Telling

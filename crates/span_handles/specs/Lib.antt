@@ -1,3 +1,4 @@
 pub mod Entries
 pub mod Handles
+pub mod Knowing
 pub mod Worlds

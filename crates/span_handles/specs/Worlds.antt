@@ -41,12 +41,14 @@ kept_in kept world dispatch = seen kept (λ lane number. 0) world dispatch
 pub record Shown {S : Type 0} (spans : S → Spans) (attaches : S → Bool) (kept : S → ℕ → ℕ → ℕ) (is_whole : S → Type 0) (old new : Worlds S) (dispatch : ℕ) (call : SubscriberCall) : Type 0 where
   pub spans_after : spans_in spans new dispatch ≡ after (spans_in spans old dispatch) call
   pub lanes : Lanes (seen attaches false old dispatch) (kept_in kept old dispatch) call (kept_in kept new dispatch)
+  pub attaches_same : seen attaches false new dispatch ≡ seen attaches false old dispatch
   pub count : length new.subscribers ≡ length old.subscribers
   pub whole : Has is_whole old dispatch → Has is_whole new dispatch
 
 -- the plain data are the same
-pub record Alike {S : Type 0} (spans : S → Spans) (kept : S → ℕ → ℕ → ℕ) (is_whole : S → Type 0) (old new : Worlds S) (dispatch : ℕ) : Type 0 where
+pub record Alike {S : Type 0} (spans : S → Spans) (attaches : S → Bool) (kept : S → ℕ → ℕ → ℕ) (is_whole : S → Type 0) (old new : Worlds S) (dispatch : ℕ) : Type 0 where
   pub spans_same : spans_in spans new dispatch ≡ spans_in spans old dispatch
+  pub attaches_same : seen attaches false new dispatch ≡ seen attaches false old dispatch
   pub kept_same : kept_in kept new dispatch ≡ kept_in kept old dispatch
   pub count : length new.subscribers ≡ length old.subscribers
   pub whole : Has is_whole old dispatch → Has is_whole new dispatch
@@ -62,8 +64,9 @@ closed_in _ _ _ (all_released x) = []
 closed_in _ _ _ (releases id at x y own rest) = if (span_at x.made id).holds == 1 then id ∷ closed_in (next_of x.made id) (record x { made = released x.made id }) y rest else closed_in (next_of x.made id) (record x { made = released x.made id }) y rest
 
 -- what a chain of closes makes of the plain data
-pub record ChainShown {S : Type 0} (spans : S → Spans) (kept : S → ℕ → ℕ → ℕ) (is_whole : S → Type 0) (old new : Worlds S) (dispatch id : ℕ) : Type 0 where
+pub record ChainShown {S : Type 0} (spans : S → Spans) (attaches : S → Bool) (kept : S → ℕ → ℕ → ℕ) (is_whole : S → Type 0) (old new : Worlds S) (dispatch id : ℕ) : Type 0 where
   pub released : Released (Some id) (spans_in spans old dispatch) (spans_in spans new dispatch)
+  pub attaches_same : seen attaches false new dispatch ≡ seen attaches false old dispatch
   pub kept_same : kept_in kept new dispatch ≡ kept_in kept old dispatch
   pub count : length new.subscribers ≡ length old.subscribers
   pub whole : Has is_whole old dispatch → Has is_whole new dispatch

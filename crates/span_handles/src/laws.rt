@@ -3,7 +3,8 @@ ghost use Rattle.std.specs.Prelude.{◌≡◌, ℕ, Some, List, []};
 ghost use Rattle.trace_base.specs.Gate.{Worlds};
 ghost use Rattle.trace_base.specs.Spans.{span_at};
 ghost use Rattle.trace_base.specs.Calls.{SubscriberCall, TryClose};
-ghost use Rattle.span_handles.specs.Worlds.{Replaced, Shown, Alike, Chain, ChainShown, ToldChain, spans_in, seen};
+ghost use Rattle.span_handles.specs.Worlds.{Has, Replaced, Shown, Alike, Chain, ChainShown, ToldChain, spans_in, seen};
+ghost use Rattle.span_handles.specs.Knowing.{KeepsKnown, KeepsOthers, TakesNoHold};
 
 use trace_base::subscriber::Subscriber;
 
@@ -14,12 +15,22 @@ pub fn calls<S: Subscriber>()
 
 /// What is the same but for spare room has the same plain data.
 pub fn same<S: Subscriber>()
-    ensures { (old new : Worlds S) (dispatch : ℕ) → Replaced S.same old new dispatch → Alike S.spans S.kept S.is_whole old new dispatch }
+    ensures { (old new : Worlds S) (dispatch : ℕ) → Replaced S.same old new dispatch → Alike S.spans S.attaches S.kept S.is_whole old new dispatch }
 {}
 
 /// A chain of closes is a chain of the plain data.
 pub fn chains<S: Subscriber>()
-    ensures { (old new : Worlds S) (dispatch at id : ℕ) → Replaced (λ s t. Chain S.spans S.does at (Some id) s t) old new dispatch → ChainShown S.spans S.kept S.is_whole old new dispatch id }
+    ensures { (old new : Worlds S) (dispatch at id : ℕ) → Replaced (λ s t. Chain S.spans S.does at (Some id) s t) old new dispatch → ChainShown S.spans S.attaches S.kept S.is_whole old new dispatch id }
+{}
+
+/// Each call but a release keeps known the handles that were known, and a chain of closes those of other spans than the
+/// one that it begins with.
+pub fn keeps<S: Subscriber>()
+    ensures call { (old new : Worlds S) (dispatch : ℕ) (call : SubscriberCall) → Replaced (λ s t. S.does s call t) old new dispatch
+        → Has (λ s. TakesNoHold (S.spans s) call) old dispatch → KeepsKnown S.spans old new }
+    ensures same { (old new : Worlds S) (dispatch : ℕ) → Replaced S.same old new dispatch → KeepsKnown S.spans old new }
+    ensures chain { (old new : Worlds S) (dispatch at id : ℕ) → Replaced (λ s t. Chain S.spans S.does at (Some id) s t) old new dispatch
+        → KeepsOthers S.spans old new dispatch id }
 {}
 
 /// What a close makes of something that the subscriber keeps, the chain makes of it for each span that closes, in order.

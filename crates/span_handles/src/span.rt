@@ -305,7 +305,7 @@ impl Span {
     /// What a closure makes of the span's id and its subscriber, and none exactly where the handle is disabled;
     /// `Span::with_subscriber`.
     pub fn with_subscriber<T, F: FnOnce((Id, Dispatch)) -> T>(&self, f: F) -> Option<T>
-        requires { F.IsAlwaysCallable f }
+        requires { IfSome self.now.held (λ held. F.pre f (held.1, held.0)) }
         ensures none { self.now.held ≡ None → result ≡ None }
         ensures some { IfSome self.now.held (λ held. (answer : T) × (result ≡ Some answer) × F.post f (held.1, held.0) answer) }
     {

@@ -1,5 +1,6 @@
 pub mod Counting
 pub mod Lanes
+pub mod Moving
 pub mod Nesting
 pub mod Slotting
 pub mod Sound
