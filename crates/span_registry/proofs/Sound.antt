@@ -320,3 +320,20 @@ sound_in_step spans seen sound fresh =
 pub err_made : {T E : Type 0} (result : Result T E) (now old : Tabled) → OnErr result (now ≡ old) → OnErr result (now.made ≡ old.made)
 err_made (Ok v) now old e = tt
 err_made (Err v) now old e = ap (λ (t : Tabled). t.made) e
+
+-- a root that is made has a hold of its own
+pub made_own : (x y : Spans) (site : ℕ) → IsSound x → y ≡ with_span x None site → HasOwnHold y (length x.made)
+made_own x y site sound is =
+    let new : Span = record { holds = 1; parent = None; site = site } in
+    let n = length x.made in
+    let children = count_push (is_open_child n) x.made new in
+    let past = ap (λ (s : Span). s.holds) (get_or_past x.made n no_span (omega arith)) in
+    let bound = sound.bound n in
+    let h = ap (λ (s : Span). s.holds) (get_or_push x.made new no_span n refl) in
+    subst (λ (z : Spans). HasOwnHold z n) (sym is) (omega (arith, children, past, bound, h))
+
+pub made_count : (x y z : Spans) (site id : ℕ) → y ≡ with_span x None site → z.made ≡ released y.made id → length z.made ≡ length x.made + 1
+made_count x y z site id is closed =
+    let new : Span = record { holds = 1; parent = None; site = site } in
+    let longer = length_push x.made new in
+    ap (λ (made : List Span). length made) closed ∙ length-set y.made id _ ∙ ap (λ (w : Spans). length w.made) is ∙ omega (arith, longer)

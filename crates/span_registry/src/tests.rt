@@ -13,7 +13,8 @@ mod gate;
 mod spans;
 
 fn lane(alloc: Global) -> Lane
-    ensures { result.default ≡ None }
+    ensures id { result.id ≡ 1 }
+    ensures default { result.default ≡ None }
 {
     Lane {
         id: 1,
