@@ -32,7 +32,8 @@ pub(crate) fn current(lanes: &[LaneEntries], lane: u64) -> Option<Id>
 // The place of a lane.
 fn find(lanes: &[LaneEntries], lane: u64) -> Option<usize>
     ensures some { IfSome result (StandsAt lanes.now lane) }
-    ensures none { IsNone result → (k : ℕ) → k < length lanes.now → (slice_index_or lanes.now k no_lane).lane ≢ lane }
+    ensures none { IsNone result → (k : ℕ) → k < length lanes.now
+        → (slice_index_or lanes.now k no_lane).lane ≢ lane }
 {
     for (at, entries) in lanes.iter().enumerate() {
         if entries.lane() == lane {
@@ -51,7 +52,8 @@ pub(crate) fn add_entry(
 ) -> Result<bool, EnterError>
     ensures not_full { ¬ (result ≡ Err Full) }
     ensures again { IfOk result (λ again. again ≡ is_in id (entries_on lane lanes.old.items)) }
-    ensures ok { OnOk result (lanes.new.items ≡ with_entries lane (entries_on lane lanes.old.items ++ id ∷ []) lanes.old.items) }
+    ensures ok { OnOk result
+        (lanes.new.items ≡ with_entries lane (entries_on lane lanes.old.items ++ id ∷ []) lanes.old.items) }
     ensures memory_leaves { OnErr result (lanes.new.items ≡ lanes.old.items) }
 {
     match find(lanes.as_slice(), lane) {
@@ -69,7 +71,8 @@ pub(crate) fn add_entry(
 pub(crate) fn remove_entry(lanes: &mut Vec<LaneEntries>, lane: u64, id: Id) -> bool
     requires { 0 < times_in id (entries_on lane lanes.old.items) }
     ensures only { result ≡ (times_in id (entries_on lane lanes.old.items) == 1) }
-    ensures entries { lanes.new.items ≡ with_entries lane (without_last (λ x. x == id) (entries_on lane lanes.old.items)) lanes.old.items }
+    ensures entries { lanes.new.items ≡ with_entries lane
+        (without_last (λ x. x == id) (entries_on lane lanes.old.items)) lanes.old.items }
 {
     let Some(at) = find(lanes.as_slice(), lane) else {
         unreachable!()

@@ -128,7 +128,8 @@ fn push_unless(again: bool, spans: &mut Vec<Id>, id: Id)
 // Removes the span, if it has no entry left.
 fn remove_if(only: bool, spans: &mut Vec<Id>, id: Id)
     requires { only ≡ true → 0 < times_in id spans.old.items }
-    ensures { spans.new.items ≡ (if only then without_last (λ x. x == id) spans.old.items else spans.old.items) }
+    ensures { spans.new.items ≡
+        (if only then without_last (λ x. x == id) spans.old.items else spans.old.items) }
 {
     if only {
         remove_last(spans, id);

@@ -9,5 +9,6 @@ use trace_base::subscriber::Subscriber;
 /// After any calls of a subscriber that began without spans, these and the entries on each lane are what the rules of
 /// holds and entries say of the calls.
 pub fn history<S: Subscriber>()
-    ensures { (s : _) (calls : List SubscriberCall) (t : _) → S.spans s ≡ no_spans → Runs S.does S.same s calls t → IsTold calls (S.spans t) }
+    ensures { (s : _) (calls : List SubscriberCall) (t : _) → S.spans s ≡ no_spans
+        → Runs S.does S.same s calls t → IsTold calls (S.spans t) }
 {}

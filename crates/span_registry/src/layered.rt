@@ -47,7 +47,8 @@ impl<L: Layer, S: Subscriber> Layered<L, S> {
         requires whole { ⟦<Layered<L, S> as Subscriber>⟧.is_whole self }
         requires layer_whole { M.is_whole layer }
         requires knows_none { KnowsNone (M.seen layer) }
-        requires one_attaches { (M.attaches layer && (L.attaches self.layer || S.attaches self.inner)) ≡ false }
+        requires one_attaches { (M.attaches layer && (L.attaches self.layer || S.attaches self.inner)) ≡
+            false }
         ensures layer { result.layer ≡ layer }
         ensures inner { result.inner ≡ self }
         ensures whole { ⟦<Layered<M, Layered<L, S>> as Subscriber>⟧.is_whole result }

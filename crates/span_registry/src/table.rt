@@ -123,7 +123,9 @@ impl Table {
         requires few_holds { IfSome above (HasFewHolds self.old.made) }
         requires few { length self.old.made < 2 ^ 63 }
         ensures id { IfOk result (λ id. id ≡ length self.old.made) }
-        ensures ok { OnOk result (self.new.made ≡ held_by_child self.old.made above ++ record { holds = 1; parent = above; site = site } ∷ []) }
+        ensures ok { OnOk result
+            (self.new.made ≡ held_by_child self.old.made above ++ record
+            { holds = 1; parent = above; site = site } ∷ []) }
         ensures slots { OnOk result (self.new.slots ≡ max self.old.slots (live_spans self.new.made)) }
         ensures memory_leaves { OnErr result (self.new ≡ self.old) }
     {
@@ -136,7 +138,8 @@ impl Table {
     fn push(&mut self, above: Option<Id>, site: SiteId) -> Result<Id, Memory>
         requires { length self.old.made < 2 ^ 63 }
         ensures id { IfOk result (λ id. id ≡ length self.old.made) }
-        ensures ok { OnOk result (self.new.made ≡ self.old.made ++ record { holds = 1; parent = above; site = site } ∷ []) }
+        ensures ok { OnOk result
+            (self.new.made ≡ self.old.made ++ record { holds = 1; parent = above; site = site } ∷ []) }
         ensures slots { OnOk result (self.new.slots ≡ max self.old.slots (live_spans self.new.made)) }
         ensures memory_leaves { OnErr result (self.new ≡ self.old) }
     {
@@ -218,7 +221,8 @@ fn find(places: &BTreeMap<u64, usize>, id: Id) -> Option<usize>
 
 // A place for a span more.
 fn put(places: &mut BTreeMap<u64, usize>, id: Id, place: usize) -> Result<(), Memory>
-    ensures ok { OnOk result ((q : ℕ) → get nat_cmp places.new q ≡ (if id == q then Some place else get nat_cmp places.old q)) }
+    ensures ok { OnOk result
+        ((q : ℕ) → get nat_cmp places.new q ≡ (if id == q then Some place else get nat_cmp places.old q)) }
     ensures memory_leaves { OnErr result ((q : ℕ) → get nat_cmp places.new q ≡ get nat_cmp places.old q) }
 {
     places.insert(id.place(), place)?;
@@ -234,13 +238,16 @@ fn take_out(places: &mut BTreeMap<u64, usize>, id: Id)
 
 // The place of the last slot that is free, else of a new one, for which it takes all memory.
 fn choose(slots: &mut Vec<Slot>, free: &mut Vec<usize>) -> Result<usize, Memory>
-    ensures used { IfOk result (λ place. 0 < length free.old.items → place ≡ slice_index_or free.old.items (length free.old.items - 1) 0) }
+    ensures used { IfOk result
+        (λ place. 0 < length free.old.items
+        → place ≡ slice_index_or free.old.items (length free.old.items - 1) 0) }
     ensures new { IfOk result (λ place. length free.old.items ≡ 0 → place ≡ length slots.old.items) }
     ensures slots { slots.new.items ≡ slots.old.items }
     ensures free { free.new.items ≡ free.old.items }
     ensures capacity { vec_capacity free.old ≤ vec_capacity free.new }
     ensures room { OnOk result (length free.old.items ≡ 0 → vec_len slots.new < vec_capacity slots.new) }
-    ensures free_room { OnOk result (length free.old.items ≡ 0 → length slots.old.items + 1 ≤ vec_capacity free.new) }
+    ensures free_room { OnOk result
+        (length free.old.items ≡ 0 → length slots.old.items + 1 ≤ vec_capacity free.new) }
 {
     if free.len() > 0 {
         return Ok(free[free.len() - 1]);
@@ -252,9 +259,12 @@ fn choose(slots: &mut Vec<Slot>, free: &mut Vec<usize>) -> Result<usize, Memory>
 
 // Puts a span into the last slot that is free, else into a new one.
 fn fill(slots: &mut Vec<Slot>, free: &mut Vec<usize>, slot: Slot)
-    requires within { 0 < length free.old.items → slice_index_or free.old.items (length free.old.items - 1) 0 < length slots.old.items }
+    requires within { 0 < length free.old.items
+        → slice_index_or free.old.items (length free.old.items - 1) 0 < length slots.old.items }
     requires room { length free.old.items ≡ 0 → vec_len slots.old < vec_capacity slots.old }
-    ensures used { 0 < length free.old.items → slots.new.items ≡ slice_set slots.old.items (slice_index_or free.old.items (length free.old.items - 1) 0) slot }
+    ensures used { 0 < length free.old.items
+        → slots.new.items ≡ slice_set slots.old.items
+        (slice_index_or free.old.items (length free.old.items - 1) 0) slot }
     ensures new { length free.old.items ≡ 0 → slots.new.items ≡ slots.old.items ++ slot ∷ [] }
     ensures free { free.new.items ≡ take (length free.old.items - 1) free.old.items }
     ensures capacity { vec_capacity free.new ≡ vec_capacity free.old }

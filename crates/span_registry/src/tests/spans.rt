@@ -48,7 +48,9 @@ fn make(registry: &mut Registry, making: &Making, parent: Parent) -> Result<Id, 
     requires few { AreFew registry.old.spans }
     requires few_holds { HasFewHoldsAbove registry.old.spans making.now.lane.id parent }
     ensures id { IfOk result (λ id. id ≡ length registry.old.spans.made) }
-    ensures spans { OnOk result (registry.new.spans ≡ with_span registry.old.spans (place_on (entries_on making.now.lane.id registry.old.spans.lanes) parent) making.now.site) }
+    ensures spans { OnOk result
+        (registry.new.spans ≡ with_span registry.old.spans
+        (place_on (entries_on making.now.lane.id registry.old.spans.lanes) parent) making.now.site) }
 {
     registry.new_span(
         &making.lane,
@@ -64,7 +66,13 @@ fn make(registry: &mut Registry, making: &Making, parent: Parent) -> Result<Id, 
 fn three(registry: &mut Registry, making: &Making) -> Result<[Id; 3], Memory>
     requires { registry.old ≡ record { spans = no_spans; slots = 0 } }
     ensures ids { IfOk result (λ ids. ids ≡ 0 ∷ 1 ∷ 2 ∷ []) }
-    ensures spans { OnOk result (registry.new.spans ≡ record { made = record { holds = 2; parent = None; site = making.now.site } ∷ record { holds = 2; parent = Some 0; site = making.now.site } ∷ record { holds = 1; parent = Some 1; site = making.now.site } ∷ []; lanes = [] }) }
+    ensures spans { OnOk result
+        (registry.new.spans ≡ record {
+          made = record { holds = 2; parent = None; site = making.now.site } ∷ record
+              { holds = 2; parent = Some 0; site = making.now.site } ∷ record
+              { holds = 1; parent = Some 1; site = making.now.site } ∷ [];
+          lanes = [];
+        }) }
 {
     let top = make(registry, making, Parent::Current)?;
     let middle = make(registry, making, Parent::Of(top))?;
