@@ -29,7 +29,8 @@ pub(crate) fn make_if<S: Subscriber>(
 ) -> Result<Span, Memory>
     requires site { site < length world.old.sites }
     requires may { MayMakeIf S.spans S.is_whole world.old lane.now.id parent dispatch }
-    ensures ok { IfOk result (MakesIf S.spans S.does world.old world.new lane.now at parent site values.now dispatch) }
+    ensures ok { IfOk result
+        (MakesIf S.spans S.does world.old world.new lane.now at parent site values.now dispatch) }
     ensures memory_leaves { OnErr result (ReplacedIf S.same world.old world.new dispatch) }
 {
     match dispatch {
@@ -50,7 +51,8 @@ pub(crate) fn make<S: Subscriber>(
 ) -> Result<Span, Memory>
     requires site { site < length world.old.sites }
     requires may { MayMake S.spans S.is_whole world.old lane.now.id parent dispatch }
-    ensures ok { IfOk result (Makes S.spans S.does world.old world.new lane.now at parent site values.now dispatch) }
+    ensures ok { IfOk result
+        (Makes S.spans S.does world.old world.new lane.now at parent site values.now dispatch) }
     ensures memory_leaves { OnErr result (Replaced S.same world.old world.new dispatch) }
 {
     let (subscriber, callsite) = world.subscriber_and_site(dispatch, site);
@@ -135,7 +137,9 @@ pub(crate) fn record<S: Subscriber>(
     requires site { site < length world.old.sites }
     requires whole { Has S.is_whole world.old dispatch }
     requires live { Has (λ s. IsLive (S.spans s).made id) world.old dispatch }
-    ensures did { OnOk result (RecordsAt S.does world.old world.new at values.now (Some (dispatch, id)) (slice_get world.old.sites site)) }
+    ensures did { OnOk result
+        (RecordsAt S.does world.old world.new at values.now (Some (dispatch, id))
+        (slice_get world.old.sites site)) }
     ensures memory_leaves { OnErr result (Replaced S.same world.old world.new dispatch) }
 {
     let (subscriber, callsite) = world.subscriber_and_site(dispatch, site);
@@ -154,7 +158,8 @@ pub(crate) fn follow<S: Subscriber>(
     requires whole { Has S.is_whole world.old dispatch }
     requires live { Has (λ s. IsLive (S.spans s).made id) world.old dispatch }
     requires from_live { Has (λ s. IsLive (S.spans s).made from) world.old dispatch }
-    ensures did { OnOk result (Replaced (λ s t. S.does s (Follows id from at) t) world.old world.new dispatch) }
+    ensures did { OnOk result
+        (Replaced (λ s t. S.does s (Follows id from at) t) world.old world.new dispatch) }
     ensures memory_leaves { OnErr result (Replaced S.same world.old world.new dispatch) }
 {
     world

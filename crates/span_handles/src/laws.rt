@@ -10,17 +10,22 @@ use trace_base::subscriber::Subscriber;
 
 /// One call is one step of the plain data.
 pub fn calls<S: Subscriber>()
-    ensures { (old new : Worlds S) (dispatch : ℕ) (call : SubscriberCall) → Replaced (λ s t. S.does s call t) old new dispatch → Shown S.spans S.attaches S.kept S.is_whole old new dispatch call }
+    ensures { (old new : Worlds S) (dispatch : ℕ) (call : SubscriberCall)
+        → Replaced (λ s t. S.does s call t) old new dispatch
+        → Shown S.spans S.attaches S.kept S.is_whole old new dispatch call }
 {}
 
 /// What is the same but for spare room has the same plain data.
 pub fn same<S: Subscriber>()
-    ensures { (old new : Worlds S) (dispatch : ℕ) → Replaced S.same old new dispatch → Alike S.spans S.attaches S.kept S.is_whole old new dispatch }
+    ensures { (old new : Worlds S) (dispatch : ℕ) → Replaced S.same old new dispatch
+        → Alike S.spans S.attaches S.kept S.is_whole old new dispatch }
 {}
 
 /// A chain of closes is a chain of the plain data.
 pub fn chains<S: Subscriber>()
-    ensures { (old new : Worlds S) (dispatch at id : ℕ) → Replaced (λ s t. Chain S.spans S.does at (Some id) s t) old new dispatch → ChainShown S.spans S.attaches S.kept S.is_whole old new dispatch id }
+    ensures { (old new : Worlds S) (dispatch at id : ℕ)
+        → Replaced (λ s t. Chain S.spans S.does at (Some id) s t) old new dispatch
+        → ChainShown S.spans S.attaches S.kept S.is_whole old new dispatch id }
 {}
 
 /// Each call but a release keeps known the handles that were known, and a chain of closes those of other spans than the
@@ -28,7 +33,8 @@ pub fn chains<S: Subscriber>()
 pub fn keeps<S: Subscriber>()
     ensures call { (old new : Worlds S) (dispatch : ℕ) (call : SubscriberCall) → Replaced (λ s t. S.does s call t) old new dispatch
         → Has (λ s. TakesNoHold (S.spans s) call) old dispatch → KeepsKnown S.spans old new }
-    ensures same { (old new : Worlds S) (dispatch : ℕ) → Replaced S.same old new dispatch → KeepsKnown S.spans old new }
+    ensures same { (old new : Worlds S) (dispatch : ℕ) → Replaced S.same old new dispatch
+        → KeepsKnown S.spans old new }
     ensures chain { (old new : Worlds S) (dispatch at id : ℕ) → Replaced (λ s t. Chain S.spans S.does at (Some id) s t) old new dispatch
         → KeepsOthers S.spans old new dispatch id }
 {}

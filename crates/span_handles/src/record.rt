@@ -23,8 +23,11 @@ impl Span {
         requires site { IsSite world.old self.now.site }
         requires whole { HasOn (λ s id. S.is_whole s) world.old self.now.held }
         ensures value { IfOk result (λ handle. handle.now ≡ self.now) }
-        ensures did { OnOk result (RecordsField S.does world.old world.new at (field_in (Q.field_of field.now) world.old self.now.site) value self.now) }
-        ensures memory_leaves { OnErr result (ReplacedOn (λ id s t. S.same s t) world.old world.new self.now.held) }
+        ensures did { OnOk result
+            (RecordsField S.does world.old world.new at
+            (field_in (Q.field_of field.now) world.old self.now.site) value self.now) }
+        ensures memory_leaves { OnErr result
+            (ReplacedOn (λ id s t. S.same s t) world.old world.new self.now.held) }
     {
         let Some(found) = self.field(world, field) else {
             return Ok(self);
@@ -46,7 +49,8 @@ impl Span {
         requires whole { HasOn (λ s id. S.is_whole s) world.old self.now.held }
         ensures value { IfOk result (λ handle. handle.now ≡ self.now) }
         ensures did { OnOk result (RecordsOn S.does world.old world.new at values.now self.now) }
-        ensures memory_leaves { OnErr result (ReplacedOn (λ id s t. S.same s t) world.old world.new self.now.held) }
+        ensures memory_leaves { OnErr result
+            (ReplacedOn (λ id s t. S.same s t) world.old world.new self.now.held) }
     {
         match (&self.held, &self.site) {
             (Some((dispatch, id)), Some(site)) => {
@@ -70,7 +74,8 @@ impl Span {
         requires whole { HasOn (λ s id. S.is_whole s) world.old self.now.held }
         ensures value { IfOk result (λ handle. handle.now ≡ self.now) }
         ensures did { OnOk result (FollowsOn S.does world.old world.new at self.now.held from.now.held) }
-        ensures memory_leaves { OnErr result (ReplacedOn (λ id s t. S.same s t) world.old world.new self.now.held) }
+        ensures memory_leaves { OnErr result
+            (ReplacedOn (λ id s t. S.same s t) world.old world.new self.now.held) }
     {
         if let Some((dispatch, id)) = &self.held {
             if let Some((_, from)) = &from.held {

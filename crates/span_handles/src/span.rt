@@ -47,9 +47,13 @@ impl Span {
     ) -> Result<Span, Memory>
         requires own { IsOwn world.old lane.now.default }
         requires site { site < length world.old.sites }
-        requires may { MayMakeIf S.spans S.is_whole world.old lane.now.id parent.Current (dispatch_on lane.now.default world.old.global) }
-        ensures ok { IfOk result (MakesIf S.spans S.does world.old world.new lane.now at parent.Current site values.now (dispatch_on lane.now.default world.old.global)) }
-        ensures memory_leaves { OnErr result (ReplacedIf S.same world.old world.new (dispatch_on lane.now.default world.old.global)) }
+        requires may { MayMakeIf S.spans S.is_whole world.old lane.now.id parent.Current
+            (dispatch_on lane.now.default world.old.global) }
+        ensures ok { IfOk result
+            (MakesIf S.spans S.does world.old world.new lane.now at parent.Current site values.now
+            (dispatch_on lane.now.default world.old.global)) }
+        ensures memory_leaves { OnErr result
+            (ReplacedIf S.same world.old world.new (dispatch_on lane.now.default world.old.global)) }
     {
         let dispatch = get_default(world, lane);
         make_if(world, dispatch, lane, at, Parent::Current, site, values)
@@ -65,9 +69,13 @@ impl Span {
     ) -> Result<Span, Memory>
         requires own { IsOwn world.old lane.now.default }
         requires site { site < length world.old.sites }
-        requires may { MayMakeIf S.spans S.is_whole world.old lane.now.id parent.Root (dispatch_on lane.now.default world.old.global) }
-        ensures ok { IfOk result (MakesIf S.spans S.does world.old world.new lane.now at parent.Root site values.now (dispatch_on lane.now.default world.old.global)) }
-        ensures memory_leaves { OnErr result (ReplacedIf S.same world.old world.new (dispatch_on lane.now.default world.old.global)) }
+        requires may { MayMakeIf S.spans S.is_whole world.old lane.now.id parent.Root
+            (dispatch_on lane.now.default world.old.global) }
+        ensures ok { IfOk result
+            (MakesIf S.spans S.does world.old world.new lane.now at parent.Root site values.now
+            (dispatch_on lane.now.default world.old.global)) }
+        ensures memory_leaves { OnErr result
+            (ReplacedIf S.same world.old world.new (dispatch_on lane.now.default world.old.global)) }
     {
         let dispatch = get_default(world, lane);
         make_if(world, dispatch, lane, at, Parent::Root, site, values)
@@ -85,9 +93,13 @@ impl Span {
         requires own { IsOwn world.old lane.now.default }
         requires of_dispatch { IfSome (dispatch_on lane.now.default world.old.global) (IsOf parent.now.held) }
         requires site { site < length world.old.sites }
-        requires may { MayMakeIf S.spans S.is_whole world.old lane.now.id (place_under parent.now.held) (dispatch_on lane.now.default world.old.global) }
-        ensures ok { IfOk result (MakesIf S.spans S.does world.old world.new lane.now at (place_under parent.now.held) site values.now (dispatch_on lane.now.default world.old.global)) }
-        ensures memory_leaves { OnErr result (ReplacedIf S.same world.old world.new (dispatch_on lane.now.default world.old.global)) }
+        requires may { MayMakeIf S.spans S.is_whole world.old lane.now.id (place_under parent.now.held)
+            (dispatch_on lane.now.default world.old.global) }
+        ensures ok { IfOk result
+            (MakesIf S.spans S.does world.old world.new lane.now at (place_under parent.now.held) site
+            values.now (dispatch_on lane.now.default world.old.global)) }
+        ensures memory_leaves { OnErr result
+            (ReplacedIf S.same world.old world.new (dispatch_on lane.now.default world.old.global)) }
     {
         let dispatch = get_default(world, lane);
         make_if(world, dispatch, lane, at, parent.place(), site, values)
@@ -104,7 +116,8 @@ impl Span {
     ) -> Result<Span, Memory>
         requires site { site < length world.old.sites }
         requires may { MayMake S.spans S.is_whole world.old lane.now.id parent.Current dispatch }
-        ensures ok { IfOk result (Makes S.spans S.does world.old world.new lane.now at parent.Current site values.now dispatch) }
+        ensures ok { IfOk result
+            (Makes S.spans S.does world.old world.new lane.now at parent.Current site values.now dispatch) }
         ensures memory_leaves { OnErr result (Replaced S.same world.old world.new dispatch) }
     {
         make(world, dispatch, lane, at, Parent::Current, site, values)
@@ -121,7 +134,8 @@ impl Span {
     ) -> Result<Span, Memory>
         requires site { site < length world.old.sites }
         requires may { MayMake S.spans S.is_whole world.old lane.now.id parent.Root dispatch }
-        ensures ok { IfOk result (Makes S.spans S.does world.old world.new lane.now at parent.Root site values.now dispatch) }
+        ensures ok { IfOk result
+            (Makes S.spans S.does world.old world.new lane.now at parent.Root site values.now dispatch) }
         ensures memory_leaves { OnErr result (Replaced S.same world.old world.new dispatch) }
     {
         make(world, dispatch, lane, at, Parent::Root, site, values)
@@ -139,8 +153,11 @@ impl Span {
     ) -> Result<Span, Memory>
         requires of_dispatch { IsOf parent.now.held dispatch }
         requires site { site < length world.old.sites }
-        requires may { MayMake S.spans S.is_whole world.old lane.now.id (place_under parent.now.held) dispatch }
-        ensures ok { IfOk result (Makes S.spans S.does world.old world.new lane.now at (place_under parent.now.held) site values.now dispatch) }
+        requires may { MayMake S.spans S.is_whole world.old lane.now.id (place_under parent.now.held)
+            dispatch }
+        ensures ok { IfOk result
+            (Makes S.spans S.does world.old world.new lane.now at (place_under parent.now.held) site
+            values.now dispatch) }
         ensures memory_leaves { OnErr result (Replaced S.same world.old world.new dispatch) }
     {
         make(world, dispatch, lane, at, parent.place(), site, values)
@@ -170,8 +187,10 @@ impl Span {
     pub fn current<S: Subscriber>(world: &mut World<S>, lane: &Lane) -> Span
         requires own { IsOwn world.old lane.now.default }
         requires whole { HasIf S.is_whole world.old (dispatch_on lane.now.default world.old.global) }
-        requires few_holds { HasIf (λ s. HasFewHoldsAbove (S.spans s) lane.now.id parent.Current) world.old (dispatch_on lane.now.default world.old.global) }
-        ensures { IsCurrent S.spans S.does world.old world.new lane.now.id (dispatch_on lane.now.default world.old.global) result }
+        requires few_holds { HasIf (λ s. HasFewHoldsAbove (S.spans s) lane.now.id parent.Current) world.old
+            (dispatch_on lane.now.default world.old.global) }
+        ensures { IsCurrent S.spans S.does world.old world.new lane.now.id
+            (dispatch_on lane.now.default world.old.global) result }
     {
         match get_default(world, lane) {
             None => Span::none(),
@@ -183,9 +202,12 @@ impl Span {
     pub fn or_current<S: Subscriber>(self, world: &mut World<S>, lane: &Lane) -> Span
         requires own { IsOwn world.old lane.now.default }
         requires whole { HasIf S.is_whole world.old (dispatch_on lane.now.default world.old.global) }
-        requires few_holds { HasIf (λ s. HasFewHoldsAbove (S.spans s) lane.now.id parent.Current) world.old (dispatch_on lane.now.default world.old.global) }
+        requires few_holds { HasIf (λ s. HasFewHoldsAbove (S.spans s) lane.now.id parent.Current) world.old
+            (dispatch_on lane.now.default world.old.global) }
         ensures enabled { IfSome self.held (λ held. (result ≡ self) × (world.new ≡ world.old)) }
-        ensures disabled { self.held ≡ None → IsCurrent S.spans S.does world.old world.new lane.now.id (dispatch_on lane.now.default world.old.global) result }
+        ensures disabled { self.held ≡ None
+            → IsCurrent S.spans S.does world.old world.new lane.now.id
+            (dispatch_on lane.now.default world.old.global) result }
     {
         if self.held.is_some() {
             return self;
@@ -221,7 +243,8 @@ impl Span {
         requires known { IsKnown S.spans world.old self.held }
         requires whole { HasOn (λ s id. S.is_whole s) world.old self.held }
         ensures value { ClosesOn S.spans world.old self.held result }
-        ensures did { ReplacedOn (λ id s t. Chain S.spans S.does at (Some id) s t) world.old world.new self.held }
+        ensures did { ReplacedOn (λ id s t. Chain S.spans S.does at (Some id) s t) world.old world.new
+            self.held }
     {
         let Span { held, site: _ } = self;
         match held {
@@ -307,7 +330,8 @@ impl Span {
     pub fn with_subscriber<T, F: FnOnce((Id, Dispatch)) -> T>(&self, f: F) -> Option<T>
         requires { IfSome self.now.held (λ held. F.pre f (held.1, held.0)) }
         ensures none { self.now.held ≡ None → result ≡ None }
-        ensures some { IfSome self.now.held (λ held. (answer : T) × (result ≡ Some answer) × F.post f (held.1, held.0) answer) }
+        ensures some { IfSome self.now.held
+            (λ held. (answer : T) × (result ≡ Some answer) × F.post f (held.1, held.0) answer) }
     {
         match &self.held {
             Some((dispatch, id)) => Some(f((*id, *dispatch))),
