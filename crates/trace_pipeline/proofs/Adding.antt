@@ -27,6 +27,11 @@ quoted_added old a b d new front s x begin body close utf8 =
     parts : (old front body : List ℕ) → (((old ++ front) ++ 34 ∷ []) ++ body) ++ 34 ∷ [] ≡ old ++ (front ++ 34 ∷ (body ++ 34 ∷ []))
     parts old front body = simp append_assoc
 
+-- the same of a text that needs no escape
+pub quoted_plain : (old a b d new front s : List ℕ) → Adds old a front → b ≡ a ++ 34 ∷ [] → Adds b d s → new ≡ d ++ 34 ∷ [] → escape s ≡ s → Adds old new (front ++ quoted s)
+quoted_plain old a b d new front s x begin body close plain =
+    quoted_added old a b d new front s x begin (body.0 ∙ ap (λ (l : List ℕ). b ++ l) (sym plain)) close body.1
+
 -- a text that was added to none
 pub alone : (old new s : List ℕ) → old ≡ [] → Adds old new s → new ≡ s
 alone old new s none x = x.0 ∙ ap (λ (l : List ℕ). l ++ s) none

@@ -8,7 +8,7 @@ use Rattle.json.proofs.Printed.Strings.{escape_byte_plain}
 pub plain_byte : (x : ℕ) → (x ≡ 34 → ⊥) → (x ≡ 92 → ⊥) → 32 ≤ x → escape_byte x ≡ x ∷ []
 plain_byte x quote slash above = escape_byte_plain x quote slash above
 
-escape_append : (xs ys : List ℕ) → escape (xs ++ ys) ≡ escape xs ++ escape ys
+pub escape_append : (xs ys : List ℕ) → escape (xs ++ ys) ≡ escape xs ++ escape ys
 escape_append [] ys = refl
 escape_append (x ∷ xs) ys = ap (λ (l : List ℕ). escape_byte x ++ l) (escape_append xs ys) ∙ sym (append_assoc (escape_byte x) (escape xs) (escape ys))
 

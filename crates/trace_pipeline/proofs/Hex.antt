@@ -9,7 +9,9 @@ use Rattle.std.proofs.lemmas.Str.Ascii.{IsAscii-nil, IsAscii-cons}
 use Rattle.std.proofs.lemmas.List.{drop-set}
 use Rattle.std.proofs.lemmas.Bool.{eqb-true}
 use Rattle.std.proofs.lemmas.Bool.Decides.{nat_tests}
+use Rattle.json.specs.Print.{escape, escape_byte}
 use Rattle.trace_pipeline.specs.Hex.{hex16, hex32}
+use Rattle.trace_pipeline.proofs.Escapes.{plain_byte, escape_append}
 
 -- the last k digits of n, in front of some text
 unfoldable pub last_digits : ℕ → ℕ → List ℕ → List ℕ
@@ -83,6 +85,29 @@ hex16_utf8 id below = IsUtf8-from_ascii (hex16 id) (subst IsAscii (last_digits-h
 pub hex32_utf8 : (id : ℕ) → id < 2 ^ 128 → IsUtf8 (hex32 id)
 hex32_utf8 id below = IsUtf8-append _ _ (hex16_utf8 (id / 2 ^ 64) (omega (arith, below))) (hex16_utf8 (id % 2 ^ 64) (omega arith))
 
+-- ---- the digits need no escape
+
+glyph_plain : (d : ℕ) → d < 16 → escape_byte (digit_glyph false d) ≡ digit_glyph false d ∷ []
+glyph_plain d small =
+    plain_byte (digit_glyph false d) (λ quote. grind (arith, nat_tests, small, quote)) (λ slash. grind (arith, nat_tests, small, slash)) (grind (arith, nat_tests, small))
+
+last_digits_plain : (k n : ℕ) (text : List ℕ) → escape text ≡ text → escape (last_digits k n text) ≡ last_digits k n text
+unfolding last_digits
+last_digits_plain zero n text plain = plain
+last_digits_plain (suc k) n text plain =
+    let glyph = digit_glyph false (n % 16) in
+    last_digits_plain k (n / 16) (glyph ∷ text)
+    (ap (λ (l : List ℕ). l ++ escape text) (glyph_plain (n % 16) (omega arith)) ∙ ap (λ (l : List ℕ). glyph ∷ l) plain)
+
+hex16_plain : (id : ℕ) → id < 2 ^ 64 → escape (hex16 id) ≡ hex16 id
+hex16_plain id below = subst (λ (l : List ℕ). escape l ≡ l) (last_digits-hex16 id below) (last_digits_plain 16 id [] refl)
+
+hex32_plain : (id : ℕ) → id < 2 ^ 128 → escape (hex32 id) ≡ hex32 id
+hex32_plain id below =
+    escape_append (hex16 (id / 2 ^ 64)) (hex16 (id % 2 ^ 64))
+    ∙ ap (λ (l : List ℕ). l ++ escape (hex16 (id % 2 ^ 64))) (hex16_plain (id / 2 ^ 64) (omega (arith, below)))
+    ∙ ap (λ (l : List ℕ). hex16 (id / 2 ^ 64) ++ l) (hex16_plain (id % 2 ^ 64) (omega arith))
+
 -- ---- in the buffers
 
 pub is_ok : {S E : Type 0} (r : Result S E) (P : S → Type 0) (U : Type 0) (Q : E → Type 0) → MatchResult r P (λ e. (U → ⊥) × Q e) → U → IsOk r
@@ -116,3 +141,9 @@ buffer_utf8 digits id is below = subst IsUtf8 (sym (whole_list digits id is)) (h
 
 pub long_buffer_utf8 : (digits low : List ℕ) (id : ℕ) → drop 16 low ≡ hex16 (id % 2 ^ 64) ++ [] → drop 0 digits ≡ hex16 (id / 2 ^ 64) ++ drop 16 low → id < 2 ^ 128 → IsUtf8 digits
 long_buffer_utf8 digits low id is_low is below = subst IsUtf8 (sym (both_halves digits low id is_low is)) (hex32_utf8 id below)
+
+pub buffer_plain : (digits : List ℕ) (id : ℕ) → drop 0 digits ≡ hex16 id ++ [] → id < 2 ^ 64 → escape digits ≡ digits
+buffer_plain digits id is below = subst (λ (l : List ℕ). escape l ≡ l) (sym (whole_list digits id is)) (hex16_plain id below)
+
+pub long_buffer_plain : (digits low : List ℕ) (id : ℕ) → drop 16 low ≡ hex16 (id % 2 ^ 64) ++ [] → drop 0 digits ≡ hex16 (id / 2 ^ 64) ++ drop 16 low → id < 2 ^ 128 → escape digits ≡ digits
+long_buffer_plain digits low id is_low is below = subst (λ (l : List ℕ). escape l ≡ l) (sym (both_halves digits low id is_low is)) (hex32_plain id below)

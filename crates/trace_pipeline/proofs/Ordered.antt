@@ -1,12 +1,24 @@
 -- Members in the order of their names.
-use Rattle.std.proofs.Common.{◌≡◌, ℕ, zero, suc, ◌+◌, ◌-◌, List, [], ◌∷◌, ◌++◌, length, get_or, Ordering, Less, Equal, Greater, nat_cmp, refl, sym, ap, ◌∙◌, arith}
+use Rattle.std.proofs.Common.{◌≡◌, ℕ, zero, suc, ◌+◌, ◌<◌, List, [], ◌∷◌, ◌++◌, length, get_or, Ordering, Less, Equal, Greater, nat_cmp, refl, sym, ap, ◌∙◌, arith}
 use Rattle.std.proofs.lemmas.Cmp.{nat_list_cmp_total}
 use Rattle.std.specs.Cmp.Lexicographic.{slice_cmp}
-use Rattle.std.specs.Ordering.{match_ordering, ordering_reverse}
+use Rattle.std.specs.Cmp.{nat_cmp_is}
+use Rattle.std.specs.Ordering.{match_ordering, ordering_reverse, ordering_then}
 use Rattle.serde_json.specs.Data.{Data, Members, no_members, member, put}
 use Rattle.trace_pipeline.specs.Compact.{plain_data, onto, members_of}
 use Rattle.trace_pipeline.specs.Placed.{Before, InOrder, GoesLast}
 use Rattle.trace_pipeline.proofs.Plainly.{Entry, Named, held, onto_push}
+
+-- the first bytes tell how names compare, where they differ
+pub first_less : (k l : List ℕ) → 0 < length k → 0 < length l → get_or k 0 0 < get_or l 0 0 → Less ≡ slice_cmp nat_cmp k l
+first_less [] l some there less = absurd (omega (arith, some))
+first_less (x ∷ k) [] some there less = absurd (omega (arith, there))
+first_less (x ∷ k) (y ∷ l) some there less = ap (λ o. ordering_then o (slice_cmp nat_cmp k l)) (nat_cmp_is x y Less less)
+
+pub first_greater : (k l : List ℕ) → 0 < length k → 0 < length l → get_or l 0 0 < get_or k 0 0 → Greater ≡ slice_cmp nat_cmp k l
+first_greater [] l some there greater = absurd (omega (arith, some))
+first_greater (x ∷ k) [] some there greater = absurd (omega (arith, there))
+first_greater (x ∷ k) (y ∷ l) some there greater = ap (λ o. ordering_then o (slice_cmp nat_cmp k l)) (nat_cmp_is x y Greater greater)
 
 after : (k l : List ℕ) → slice_cmp nat_cmp k l ≡ Greater → slice_cmp nat_cmp l k ≡ Less
 after k l is = nat_list_cmp_total.antisymm l k ∙ ap ordering_reverse is

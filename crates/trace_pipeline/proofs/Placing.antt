@@ -1,6 +1,7 @@
 -- Where a member stands.
-use Rattle.std.proofs.Common.{◌≡◌, ℕ, zero, suc, ◌+◌, ◌<◌, ◌≤◌, List, [], ◌∷◌, ◌++◌, length, get_or, take, drop, Some, None, Ordering, Less, Equal, Greater, is_eq, Bool, true, false, true≢false, bytes_eq, nat_cmp, refl, sym, ap, subst, ◌∙◌, arith}
+use Rattle.std.proofs.Common.{◌≡◌, ℕ, zero, suc, ◌+◌, ◌<◌, ◌≤◌, List, [], ◌∷◌, ◌++◌, length, get_or, take, drop, remove, Some, None, Ordering, Less, Equal, Greater, is_eq, Bool, true, false, true≢false, bytes_eq, nat_cmp, refl, sym, ap, subst, ◌∙◌, arith}
 use Rattle.std.proofs.Math.Seq.{drop-cons}
+use Rattle.std.proofs.lemmas.List.{get_or-drop, length-drop}
 use Rattle.std.proofs.lemmas.Cmp.{nat_list_cmp_total, tied_itself}
 use Rattle.std.proofs.lemmas.Map.Text.{is_eq-slice_cmp}
 use Rattle.std.proofs.lemmas.Slice.Eq.{bytes_eq-Decides}
@@ -9,7 +10,7 @@ use Rattle.std.specs.Ordering.{match_ordering}
 use Rattle.serde_json.specs.Data.{Data, Members, no_members, member, put}
 use Rattle.serde_json.specs.Find.{get_member}
 use Rattle.trace_pipeline.specs.Forms.{without}
-use Rattle.trace_pipeline.specs.Compact.{plain_data, onto}
+use Rattle.trace_pipeline.specs.Compact.{plain_data, onto, members_of}
 use Rattle.trace_pipeline.specs.Placed.{Finds, FitsIn}
 use Rattle.trace_pipeline.proofs.Plainly.{Entry, onto_push}
 
@@ -97,6 +98,53 @@ not_found name es at past passed = (
     drop_of_length-le [] (suc at) h = refl
     drop_of_length-le (e ∷ es) zero h = absurd (omega arith)
     drop_of_length-le (e ∷ es) (suc at) h = drop_of_length-le es at (omega arith)
+
+-- ---- what is left behind the first members
+
+drop_one : (n : ℕ) (es : List Entry) → n < length es → drop (n + 1) es ≡ drop 1 (drop n es)
+drop_one zero es within = refl
+drop_one (suc n) [] within = absurd (omega arith)
+drop_one (suc n) (e ∷ es) within =
+    let next : suc n + 1 ≡ suc (n + 1) = omega arith in
+    ap (λ (k : ℕ). drop k (e ∷ es)) next ∙ drop_one n es (omega arith)
+
+drop_remove : (n at : ℕ) (es : List Entry) → n + at < length es → drop n (remove es (n + at)) ≡ remove (drop n es) at
+drop_remove zero at es within =
+    let same : 0 + at ≡ at = omega arith in
+    ap (λ (k : ℕ). remove es k) same
+drop_remove (suc n) at [] within = absurd (omega arith)
+drop_remove (suc n) at (e ∷ es) within =
+    let next : suc n + at ≡ suc (n + at) = omega arith in
+    ap (λ (k : ℕ). drop (suc n) (remove (e ∷ es) k)) next ∙ drop_remove n at es (omega arith)
+
+-- the first of those left is taken
+pub takes_first : (name : List ℕ) (es left : List Entry) (taken at : ℕ) → left ≡ drop taken es → at ≡ 0 → Finds name left (Some at)
+    → (taken < length es) × ((d : Entry) → get_member name (members_of (drop taken es)) ≡ Some (plain_data (get_or es taken d).1))
+    × (members_of (drop (taken + 1) es) ≡ without name (members_of (drop taken es)))
+takes_first name es left taken at is first found =
+    let some : at < length (drop taken es) = subst (λ (xs : List Entry). at < length xs) is found.0 in
+    let within : taken < length es = omega (arith, some, length-drop taken es) in (
+      within,
+      λ d. ap (λ (xs : List Entry). get_member name (members_of xs)) (sym is) ∙ found.1 d
+          ∙ ap (λ (xs : List Entry). Some (plain_data (get_or xs at d).1)) is ∙ ap (λ (e : Entry). Some (plain_data e.1)) (get_or-drop taken es at d)
+          ∙ ap (λ (i : ℕ). Some (plain_data (get_or es i d).1)) (omega (arith, first)),
+      ap members_of (drop_one taken es within) ∙ ap (λ (xs : List Entry). members_of (remove xs 0)) (sym is)
+          ∙ ap (λ (i : ℕ). members_of (remove left i)) (sym first) ∙ sym found.2 ∙ ap (λ (xs : List Entry). without name (members_of xs)) is,
+    )
+
+-- another one of those left is taken
+pub takes_other : (name : List ℕ) (es left : List Entry) (taken at : ℕ) → left ≡ drop taken es → Finds name left (Some at)
+    → (taken + at < length es) × ((d : Entry) → get_member name (members_of (drop taken es)) ≡ Some (plain_data (get_or es (taken + at) d).1))
+    × (members_of (drop taken (remove es (taken + at))) ≡ without name (members_of (drop taken es)))
+takes_other name es left taken at is found =
+    let some : at < length (drop taken es) = subst (λ (xs : List Entry). at < length xs) is found.0 in
+    let within : taken + at < length es = omega (arith, some, length-drop taken es) in (
+      within,
+      λ d. ap (λ (xs : List Entry). get_member name (members_of xs)) (sym is) ∙ found.1 d
+          ∙ ap (λ (xs : List Entry). Some (plain_data (get_or xs at d).1)) is ∙ ap (λ (e : Entry). Some (plain_data e.1)) (get_or-drop taken es at d),
+      ap members_of (drop_remove taken at es within) ∙ ap (λ (xs : List Entry). members_of (remove xs at)) (sym is)
+          ∙ sym found.2 ∙ ap (λ (xs : List Entry). without name (members_of xs)) is,
+    )
 
 -- ---- where a member goes
 

@@ -21,7 +21,7 @@ filter_word word =
 abbrev pub in_force : Settings → LevelFilter
 in_force settings = unwrap_or (filter_word settings.filter) filter.OFF
 
--- The gate admits a callsite whose level is within the filter in force. The filters that are built ask neither for what
--- came before nor for the lane.
+-- The gate admits a callsite whose level is within the filter in force. The filters that are built ask
+-- neither for what came before nor for the lane.
 abbrev pub admits : Settings → History → ℕ → Callsite → Bool
 admits settings h lane callsite = is_within callsite.level (in_force settings)

@@ -61,13 +61,14 @@ span_entered at span =
 
 abbrev pub span_exited : ℕ → Span → Span
 span_exited at span =
-    record span { times = record (times_at span.times at) { entered = span.times.entered - 1; last_exit = Some at } }
+    let passed = times_at span.times at in
+    record span { times = record passed { entered = span.times.entered - 1; last_exit = Some at } }
 
 abbrev pub span_recorded : Bool → ℕ → Span → Span
 span_recorded is_error at span =
     record span { failed = span.failed || is_error; times = times_at span.times at }
 
--- ---- the list of spans, and the number of starts, after an entry, an exit and a release of what a handle stands for
+-- ---- the list of spans, and the number of starts, after what is done to what a handle stands for
 
 abbrev pub spans_entered : ℕ → ℕ → Handle → List Span → List Span
 spans_entered started at Disabled spans = spans
@@ -142,40 +143,47 @@ name_at callsites site = option_map_or (λ callsite. callsite.name) (slice_get c
 -- ---- a drop of what a handle stands for
 
 -- whether the hold is the last one
-abbrev pub is_last : Span → Bool
-is_last span = nat_lt span.holds 2
+abbrev pub is_last_hold : Span → Bool
+is_last_hold span = nat_lt span.holds 2
 
 abbrev pub span_dropped : ℕ → ℕ → Span → Span
 span_dropped started at span =
-    if is_last span then span_closed started at span else record span { holds = span.holds - 1 }
+    if is_last_hold span then span_closed started at span else record span { holds = span.holds - 1 }
 
 abbrev pub spans_dropped : ℕ → ℕ → Handle → List Span → List Span
 spans_dropped started at Disabled spans = spans
 spans_dropped started at (Enabled s) spans = slice_set spans s (span_dropped started at (span_at spans s))
 
-abbrev pub closes : ℕ → List Span → Bool
-closes s spans = nat_lt s (length spans) && is_last (span_at spans s)
+abbrev pub drop_closes : ℕ → List Span → Bool
+drop_closes s spans = nat_lt s (length spans) && is_last_hold (span_at spans s)
 
 abbrev pub started_dropped : ℕ → Handle → List Span → ℕ
 started_dropped started Disabled spans = started
 started_dropped started (Enabled s) spans =
-    if closes s spans then started_after started (span_at spans s) else started
+    if drop_closes s spans then started_after started (span_at spans s) else started
 
 -- the events of a span that closes are taken
 abbrev pub events_dropped : Handle → List Span → List (List OtelEvent) → List (List OtelEvent)
 events_dropped Disabled spans events = events
-events_dropped (Enabled s) spans events = if closes s spans then slice_set events s [] else events
+events_dropped (Enabled s) spans events = if drop_closes s spans then slice_set events s [] else events
+
+-- the record of a span with these events that closes
+abbrev pub record_closed : List Callsite → ℕ → ℕ → Span → List OtelEvent → Record
+record_closed callsites started at span events =
+    record_by (name_at callsites span.site) (span_closed started at span) events at
 
 abbrev pub records_dropped : List Callsite → ℕ → ℕ → Handle → List Span → List (List OtelEvent) → List Record
 records_dropped callsites started at Disabled spans events = []
 records_dropped callsites started at (Enabled s) spans events =
-    if closes s spans then record_by (name_at callsites (span_at spans s).site) (span_closed started at (span_at spans s)) (events_at events s) at ∷ [] else []
+    if drop_closes s spans then
+    record_closed callsites started at (span_at spans s) (events_at events s) ∷ [] else []
 
 -- the times of a record fit its attributes
 abbrev pub IsShort : ℕ → ℕ → Handle → List Span → Type 0
 IsShort started at Disabled spans = Unit {0}
 IsShort started at (Enabled s) spans =
-    ((span_closed started at (span_at spans s)).times.busy ≤ LAST_MOMENT) × (idle_by (span_closed started at (span_at spans s)) ≤ LAST_MOMENT)
+    ((span_closed started at (span_at spans s)).times.busy ≤ LAST_MOMENT)
+    × (idle_by (span_closed started at (span_at spans s)) ≤ LAST_MOMENT)
 
 -- a span with a hold is open
 abbrev pub is_held : Span → Bool

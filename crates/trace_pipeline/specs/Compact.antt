@@ -35,7 +35,8 @@ onto (e ∷ es) ms = member e.0.now (plain_data e.1) (onto es ms)
 abbrev pub members_of : List (Bor (List ℕ) × Plain) → Members
 members_of es = onto es no_members
 
--- What is written as `raw`, with members in any order and more than once, is read as d; it nests so deep at the most.
+-- What is written as `raw`, with members in any order and more than once, is read as d. It nests so deep at
+-- the most.
 abbrev pub Reads : ℕ → Data → Data → Type 0
 Reads deep raw d = HasNumbers (outline raw) × (depth (outline raw) ≤ deep) × (of_json (outline raw) ≡ Some d)
 
@@ -47,13 +48,15 @@ Begins deep text d rest = (raw : Data) × (text ≡ compact_text raw ++ rest) ×
 abbrev pub BeginsItems : ℕ → List ℕ → List ℕ → Type 0
 BeginsItems deep text rest =
     (raw : Items) × (ds : Items) × (text ≡ items_text false raw ++ rest)
-    × ItemsHaveNumbers (items_outline raw) × (items_depth (items_outline raw) ≤ deep) × (of_items (items_outline raw) ≡ Some ds)
+    × ItemsHaveNumbers (items_outline raw) × (items_depth (items_outline raw) ≤ deep)
+    × (of_items (items_outline raw) ≡ Some ds)
 
 -- the text begins with the members of an object and its closing bracket
 abbrev pub BeginsMembers : ℕ → List ℕ → List ℕ → Type 0
 BeginsMembers deep text rest =
     (raw : Members) × (ms : Members) × (text ≡ members_text false raw ++ rest)
-    × MembersHaveNumbers (members_outline raw) × (members_depth (members_outline raw) ≤ deep) × (of_members (members_outline raw) no_members ≡ Some ms)
+    × MembersHaveNumbers (members_outline raw) × (members_depth (members_outline raw) ≤ deep)
+    × (of_members (members_outline raw) no_members ≡ Some ms)
 
 -- the text begins with an array or an object
 abbrev pub BeginsNested : ℕ → List ℕ → List ℕ → Type 0

@@ -69,7 +69,14 @@ has_error os = list_any (λ op. is_error_event op.op) os
 -- what is kept of a span with a making, an id, a number of handles that hold it, and these ops
 abbrev pub span_by : Made → ℕ → ℕ → List Stamped → Span
 span_by made id below os =
-    record { site = made.site; made = made.at; id = id; holds = below; failed = has_error os; times = times_of os }
+    record {
+      site = made.site;
+      made = made.at;
+      id = id;
+      holds = below;
+      failed = has_error os;
+      times = times_of os;
+    }
 
 abbrev pub is_started : Span → Bool
 is_started span = nat_lt 0 span.id
@@ -90,9 +97,11 @@ pub record IsTimed (times : Timings) (last guards : ℕ) : Type 0 where
 abbrev pub starts_at : ℕ → Context → List SpanContext
 starts_at place context = if place == 0 then [] else recorder_ids place (ids_of context) ∷ []
 
--- The spans fit the makings, the order of the starts, the numbers of holds and the ops: for each number, past the
--- end too, what is kept of a span is what these give.
-pub record SpansFit (spans : List Span) (started : ℕ) (ms : List Made) (order : List ℕ) (below : ℕ → ℕ) (os : ℕ → List Stamped) (last guards : ℕ) : Type 0 where
+-- The spans fit the makings, the order of the starts, the numbers of holds and the ops: for each number, past
+-- the end too, what is kept of a span is what these give.
+pub record SpansFit
+    (spans : List Span) (started : ℕ) (ms : List Made) (order : List ℕ)
+    (below : ℕ → ℕ) (os : ℕ → List Stamped) (last guards : ℕ) : Type 0 where
   pub count : length spans ≡ length ms
   pub each : (s : ℕ) → span_at spans s ≡ span_by (made_of ms s) (place_in order s) (below s) (os s)
   pub starts : started ≡ length order
@@ -102,7 +111,8 @@ pub record SpansFit (spans : List Span) (started : ℕ) (ms : List Made) (order 
   pub unmade : (s : ℕ) → length ms ≤ s → os s ≡ []
 
 -- The events fit the ops of each span that some handle holds.
-pub record EventsFit (kept : List (List OtelEvent)) (made : ℕ) (below : ℕ → ℕ) (os : ℕ → List Stamped) : Type 0 where
+pub record EventsFit
+    (kept : List (List OtelEvent)) (made : ℕ) (below : ℕ → ℕ) (os : ℕ → List Stamped) : Type 0 where
   pub count : length kept ≡ made
   pub each : (s : ℕ) → 0 < below s → events_at kept s ≡ events (os s)
 
@@ -118,7 +128,9 @@ entered_by None = []
 entered_by (Some guarded) = option_to_list (own guarded.scope)
 
 -- The guards fit their table, in which at most one is open, and the lane's entries.
-pub record GuardsFit (kept : List (Option Guard)) (open_guard : Option Guard) (gs : List (Option Guarded)) (es : List ℕ) : Type 0 where
+pub record GuardsFit
+    (kept : List (Option Guard)) (open_guard : Option Guard)
+    (gs : List (Option Guarded)) (es : List ℕ) : Type 0 where
   pub slots : kept ≡ map (option_map guard_of) gs
   pub only : open_guard ≡ option_map guard_of (open_of gs)
   pub one : count_by is_some gs ≤ 1
@@ -132,12 +144,14 @@ held hs s = count_by (holds s) hs
 pub record Fits (k : State) (t : Tables) : Type 0 where
   pub handle_slots : k.handles ≡ map (option_map handle_of) t.handles
   pub guards_fit : GuardsFit k.guards k.open_guard t.guards (t.entries 0)
-  pub spans_fit : SpansFit k.spans k.started t.made t.started (held t.handles) t.ops t.moment (length t.guards)
+  pub spans_fit :
+      SpansFit k.spans k.started t.made t.started (held t.handles) t.ops t.moment (length t.guards)
   pub events_fit : EventsFit k.events (length t.made) (held t.handles) t.ops
   pub latest : k.moment ≡ t.moment
   -- facts of each history that lead here
   pub named : (n : ℕ) (scope : Scope) → slot_at t.handles n ≡ Some scope → IsMade (length t.made) scope
-  pub kept : (n : ℕ) (guarded : Guarded) → slot_at t.guards n ≡ Some guarded → IsMade (length t.made) guarded.scope
+  pub kept : (n : ℕ) (guarded : Guarded)
+      → slot_at t.guards n ≡ Some guarded → IsMade (length t.made) guarded.scope
   pub scopes : (s : ℕ) → s < length t.made → (made_of t.made s).scope ≡ s ∷ []
   pub contexts : (s : ℕ) → (made_of t.made s).context ≡ no_context
   pub early : t.moment ≤ LAST_MOMENT
@@ -150,7 +164,9 @@ pub record StandsFor (k : State) (settings : Settings) (h : History) : Type 0 wh
 
 -- A reply is served where the request has an effect: the reply and the new records are the effect's, and the
 -- state stands for one effect more.
-pub record Served (resolved : Resolved) (settings : Settings) (h : History) (old new : Kept) (reply : Reply) : Type 0 where
+pub record Served
+    (resolved : Resolved) (settings : Settings) (h : History)
+    (old new : Kept) (reply : Reply) : Type 0 where
   pub effect : Effect
   pub is : resolved ≡ Ok effect
   pub reply_is : reply ≡ effect.reply
@@ -161,8 +177,8 @@ pub record Served (resolved : Resolved) (settings : Settings) (h : History) (old
 abbrev pub IsRefusal : Resolved → Refusal → Type 0
 IsRefusal resolved refusal = refusal ≢ Memory → resolved ≡ Err refusal
 
--- A call on the first lane is served: an Ok at a moment in order comes with the reply, the records and the state of
--- its effect.
+-- A call on the first lane is served: an Ok at a moment in order comes with the reply, the records and the
+-- state of its effect.
 abbrev pub Serves : Kept → ℕ → Call → Result Reply Refusal → Kept → Type 0
 Serves old at call result new =
     (settings : Settings) (h : History) → StandsFor old.state settings h → moment h ≤ at → at ≤ LAST_MOMENT

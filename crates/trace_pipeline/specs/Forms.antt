@@ -12,7 +12,8 @@ Form A = Members → Option (A × Members)
 
 -- one form after another
 infixl 10 ◌>>=◌
-abbrev pub ◌>>=◌ : {A B : Type 0} → (Members → Option (A × Members)) → (A → Members → Option (B × Members)) → Members → Option (B × Members)
+abbrev pub ◌>>=◌ : {A B : Type 0}
+    → (Members → Option (A × Members)) → (A → Members → Option (B × Members)) → Members → Option (B × Members)
 (f >>= g) ms = option_and_then (λ x. g x.0 x.1) (f ms)
 
 -- takes nothing
@@ -30,7 +31,9 @@ provided b = if b then Some tt else None
 -- the members without the one of a name
 abbrev pub without : List ℕ → Members → Members
 without k no_members = no_members
-without k (json.member l d ms) = match_ordering (slice_cmp nat_cmp k l) (json.member l d (without k ms)) ms (json.member l d (without k ms))
+without k (json.member l d ms) =
+    match_ordering (slice_cmp nat_cmp k l)
+    (json.member l d (without k ms)) ms (json.member l d (without k ms))
 
 -- the member of a name, which has to be there
 abbrev pub member : List ℕ → Members → Option (Data × Members)

@@ -33,7 +33,8 @@ pub record Guarded : Type 0 where
   pub lane : ℕ
   pub scope : Scope
 
--- What is done to a span after its making: whether it starts, enters or exits it, and the event that it records.
+-- What is done to a span after its making: whether it starts, enters or exits it, and the event that it
+-- records.
 pub record Op : Type 0 where
   -- the span's own ids, if it starts the span
   pub start : Option SpanContext
@@ -71,9 +72,10 @@ pub record Begun : Type 0 where
   pub span : ℕ
   pub ids : SpanContext
 
--- A request's effect: its moment and lane, what it changed, and its reply. Of the combinations these occur: a span is
--- made only with a handle of it, spans close only where a handle of their scope is spent, and what starts hadn't been
--- started. `IsStep` in proofs/step/EffectsLemmas says so, and `step_of` proves it of each request.
+-- A request's effect: its moment and lane, what it changed, and its reply. Of the combinations these occur: a
+-- span is made only with a handle of it, spans close only where a handle of their scope is spent, and what
+-- starts hadn't been started. `IsStep` in proofs/step/EffectsLemmas says so, and `step_of` proves it of each
+-- request.
 pub record Effect : Type 0 where
   pub at : ℕ
   pub lane : ℕ
@@ -125,12 +127,12 @@ with_new xs None = xs
 with_new xs (Some x) = xs ++ x ∷ []
 
 -- names without one that is spent, if there is one
-abbrev pub without : {A : Type 0} → List (Option A) → Option ℕ → List (Option A)
-without slots None = slots
-without slots (Some n) = slice_set slots n None
+abbrev pub spend : {A : Type 0} → List (Option A) → Option ℕ → List (Option A)
+spend slots None = slots
+spend slots (Some n) = slice_set slots n None
 
 abbrev pub slots_after : {A : Type 0} → List (Option A) → Option A → Option ℕ → List (Option A)
-slots_after slots new spent = without (with_new slots (option_map Some new)) spent
+slots_after slots new spent = spend (with_new slots (option_map Some new)) spent
 
 -- The handles in the order of making: each the scope of what it names, none once it is spent.
 abbrev pub handles : History → List (Option Scope)
@@ -214,7 +216,8 @@ abbrev pub newly : List ℕ → List ℕ → List ℕ
 newly order [] = []
 newly order (s ∷ ss) = if place_in order s == 0 then s ∷ newly (order ++ s ∷ []) ss else newly order ss
 
--- Spans that start, the first as the k-th: each gets the ids that a recorder gives it under its context at making.
+-- Spans that start, the first as the k-th: each gets the ids that a recorder gives it under its context at
+-- making.
 abbrev pub begun : List Made → ℕ → List ℕ → List Begun
 begun makings k [] = []
 begun makings k (s ∷ ss) =

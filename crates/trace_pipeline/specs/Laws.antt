@@ -12,7 +12,8 @@ use Rattle.trace_pipeline.specs.Texts.{end_text}
 -- A history is legal if each effect in it is that of some request, at the effects before it.
 pub data IsHistory (settings : Settings) : History → Type 0 where
   none : IsHistory settings []
-  more : (h : History) (request : Request) (e : Effect) → IsHistory settings h → effect_of settings h request ≡ Ok e → IsHistory settings (h ++ e ∷ [])
+  more : (h : History) (request : Request) (e : Effect)
+      → IsHistory settings h → effect_of settings h request ≡ Ok e → IsHistory settings (h ++ e ∷ [])
 
 -- how often a span stands in a list
 abbrev pub occurrences : ℕ → List ℕ → ℕ

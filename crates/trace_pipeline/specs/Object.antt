@@ -4,9 +4,9 @@ use Rattle.serde_json.specs.Data.{Data, unsigned, number, array, Items, no_items
 use Rattle.serde_json.specs.Written.{compact_text}
 
 -- the members of an object, which stand in the order of their names
-abbrev pub members : List (List ℕ × Data) → Members
-members [] = no_members
-members (m ∷ ms) = put m.0 m.1 (members ms)
+abbrev pub by_name : List (List ℕ × Data) → Members
+by_name [] = no_members
+by_name (m ∷ ms) = put m.0 m.1 (by_name ms)
 
 -- the items of an array, each given by an element of a list
 abbrev pub items : {A : Type 0} → (A → Data) → List A → Items
@@ -18,8 +18,8 @@ abbrev pub array_of : {A : Type 0} → (A → Data) → List A → Data
 array_of f xs = array (items f xs)
 
 -- a whole number that isn't negative
-abbrev pub whole : ℕ → Data
-whole n = number (unsigned n)
+abbrev pub whole_number : ℕ → Data
+whole_number n = number (unsigned n)
 
 -- a value's text on a line of its own
 unfoldable pub line_of : Data → List ℕ

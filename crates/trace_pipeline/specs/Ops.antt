@@ -51,7 +51,8 @@ entered_after n op = if op.exits then n - 1 else (if op.enters then n + 1 else n
 abbrev pub gap : ℕ → ℕ → ℕ → ℕ
 gap entered last at = if nat_lt 0 entered then at - last else 0
 
--- Busy is the sum of the gaps between ops that follow one another, at which more entries than exits came before.
+-- Busy is the sum of the gaps between ops that follow one another, at which more entries than exits came
+-- before.
 abbrev pub busy_from : ℕ → ℕ → List Stamped → ℕ
 busy_from entered last [] = 0
 busy_from entered last (op ∷ more) =
@@ -91,7 +92,8 @@ events os = flat_map (λ op. event_in op.op) os
 abbrev pub status_in : Op → List Status
 status_in op = if op.is_error then Error [] ∷ [] else []
 
--- the greater of two statuses: `Unset` is the least, errors are ordered by their descriptions, `Ok` is the greatest
+-- the greater of two statuses: `Unset` is the least, errors are ordered by their descriptions, `Ok` is the
+-- greatest
 abbrev pub greater : Status → Status → Status
 greater one other = match_ordering (status_cmp one other) other one one
 

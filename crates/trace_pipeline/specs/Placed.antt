@@ -14,7 +14,8 @@ use Rattle.trace_pipeline.specs.declared.read.plain.Plain.{Plain}
 abbrev pub Finds : List ℕ → List (Bor (List ℕ) × Plain) → Option ℕ → Type 0
 Finds name es None = (get_member name (members_of es) ≡ None) × (without name (members_of es) ≡ members_of es)
 Finds name es (Some i) =
-    (i < length es) × ((d : Bor (List ℕ) × Plain) → get_member name (members_of es) ≡ Some (plain_data (get_or es i d).1))
+    (i < length es)
+    × ((d : Bor (List ℕ) × Plain) → get_member name (members_of es) ≡ Some (plain_data (get_or es i d).1))
     × (without name (members_of es) ≡ members_of (remove es i))
 
 -- the name comes before all the members, which is that it comes before the first
@@ -33,4 +34,7 @@ GoesLast name es = (d : Data) → put name d (members_of es) ≡ onto es (member
 
 -- where a member of a new name goes
 abbrev pub FitsIn : List ℕ → List (Bor (List ℕ) × Plain) → ℕ → Type 0
-FitsIn name es i = (i ≤ length es) × ((e : Bor (List ℕ) × Plain) → e.0.now ≡ name → put name (plain_data e.1) (members_of es) ≡ members_of (insert es i e))
+FitsIn name es i =
+    (i ≤ length es)
+    × ((e : Bor (List ℕ) × Plain) → e.0.now ≡ name
+    → put name (plain_data e.1) (members_of es) ≡ members_of (insert es i e))

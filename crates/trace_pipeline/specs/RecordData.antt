@@ -13,18 +13,19 @@ use Rattle.otel_base.specs.declared.value.KeyValue.{KeyValue}
 use Rattle.otel_base.specs.declared.value.OtelValue.{OtelValue}
 use Rattle.otel_base.specs.declared.value.OtelValue.TheVariants as otel
 use Rattle.trace_pipeline.specs.Hex.{hex16, hex32}
-use Rattle.trace_pipeline.specs.Object.{members, array_of, whole}
+use Rattle.trace_pipeline.specs.Object.{by_name, array_of, whole_number}
 
 -- an attribute's value
-abbrev pub value_data : OtelValue → Data
-value_data (otel.Bool b) = boolean b
-value_data (otel.I64 z) = number (of_integer z)
-value_data (otel.Str text) = string text
-value_data (otel.List texts) = array_of string texts
+abbrev pub attribute_value : OtelValue → Data
+attribute_value (otel.Bool b) = boolean b
+attribute_value (otel.I64 z) = number (of_integer z)
+attribute_value (otel.Str text) = string text
+attribute_value (otel.List texts) = array_of string texts
 
 -- an attribute: its key and its value
 abbrev pub attribute_data : KeyValue → Data
-attribute_data attribute = array (item (string attribute.key) (item (value_data attribute.value) no_items))
+attribute_data attribute =
+    array (item (string attribute.key) (item (attribute_value attribute.value) no_items))
 
 -- attributes, in order
 abbrev pub attributes_data : List KeyValue → Data
@@ -32,14 +33,14 @@ attributes_data attributes = array_of attribute_data attributes
 
 -- an event: its attributes, its name and its time
 abbrev pub event_data : OtelEvent → Data
-event_data event = object (members (
+event_data event = object (by_name (
     (codes "name", string event.name)
-    ∷ (codes "time", whole event.time)
+    ∷ (codes "time", whole_number event.time)
     ∷ (codes "attributes", attributes_data event.attributes) ∷ []))
 
 -- a link: its attributes and the ids of the other span
 abbrev pub link_data : Link → Data
-link_data link = object (members (
+link_data link = object (by_name (
     (codes "trace", string (hex32 link.context.trace))
     ∷ (codes "span", string (hex16 link.context.span))
     ∷ (codes "attributes", attributes_data link.attributes) ∷ []))
@@ -55,20 +56,20 @@ kind_name Internal = codes "internal"
 -- a status: its name, or the description of the error
 abbrev pub status_data : Status → Data
 status_data status.Unset = string (codes "unset")
-status_data (status.Error description) = object (members ((codes "error", string description) ∷ []))
+status_data (status.Error description) = object (by_name ((codes "error", string description) ∷ []))
 status_data status.Ok = string (codes "ok")
 
 -- the record with a number
 unfoldable pub record_data : ℕ → Record → Data
-record_data n finished = object (members (
-    (codes "record", whole n)
+record_data n finished = object (by_name (
+    (codes "record", whole_number n)
     ∷ (codes "name", string finished.name)
     ∷ (codes "kind", string (kind_name finished.kind))
     ∷ (codes "trace", string (hex32 finished.context.trace))
     ∷ (codes "span", string (hex16 finished.context.span))
     ∷ (codes "parent", string (hex16 finished.parent))
-    ∷ (codes "start", whole finished.start)
-    ∷ (codes "end", whole finished.end)
+    ∷ (codes "start", whole_number finished.start)
+    ∷ (codes "end", whole_number finished.end)
     ∷ (codes "attributes", attributes_data finished.attributes)
     ∷ (codes "events", array_of event_data finished.events)
     ∷ (codes "links", array_of link_data finished.links)

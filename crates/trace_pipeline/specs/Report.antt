@@ -1,6 +1,7 @@
 -- What a run writes for its input, and whether it accepts it.
-use Rattle.std.specs.Prelude.{◌≡◌, ℕ, ◌+◌, ◌^◌, ◌≤◌, List, [], ◌∷◌, ◌++◌, length, Bool, true, false, if◌then◌else◌, Result, Ok, Err}
+use Rattle.std.specs.Prelude.{◌≡◌, ℕ, ◌+◌, ◌≤◌, List, [], ◌∷◌, ◌++◌, length, Bool, true, false, if◌then◌else◌, Result, Ok, Err}
 use Rattle.otel_base.specs.declared.record.Record.{Record}
+use Rattle.trace_pipeline.specs.declared.limits.TheConstants.{MAX_INPUT}
 use Rattle.trace_pipeline.specs.declared.settings.Settings.{Settings}
 use Rattle.trace_pipeline.specs.declared.reply.Told.{Told}
 use Rattle.trace_pipeline.specs.declared.reply.Told.TheVariants as told
@@ -32,7 +33,8 @@ record_lines number (finished ∷ more) = record_text number finished ++ record_
 
 -- what is written for the request on a line: its reply, and the records of the spans that it closed
 abbrev pub answer_text : Settings → History → ℕ → Effect → List ℕ
-answer_text settings h line effect = reply_text line effect.reply ++ record_lines (length (closed h) + 1) (records_of settings h effect)
+answer_text settings h line effect =
+    reply_text line effect.reply ++ record_lines (length (closed h) + 1) (records_of settings h effect)
 
 -- why the step is refused, as the line's refusal
 abbrev pub told_step : Resolved → Result Effect Told
@@ -57,7 +59,8 @@ report_on settings h n [] = record { written = end_text (open_spans h) (length (
 report_on settings h n (text ∷ lines) =
     if is_blank text then report_on settings h (n + 1) lines else
     following (effect_of_line settings h text)
-    (λ effect. behind (answer_text settings h (n + 1) effect) (report_on settings (h ++ effect ∷ []) (n + 1) lines)) (n + 1)
+    (λ effect. behind (answer_text settings h (n + 1) effect)
+    (report_on settings (h ++ effect ∷ []) (n + 1) lines)) (n + 1)
 
 abbrev pub opening : Result Settings Told → (Settings → Report) → ℕ → Report
 opening (Ok settings) go line = go settings
@@ -77,9 +80,10 @@ report bytes = report_from 0 (lines_of bytes)
 abbrev pub output : List ℕ → List ℕ
 output bytes = (report bytes).written
 
--- Bytes are valid if they are at most 2 ^ 26, have a settings line, and none of their lines is refused.
+-- Bytes are valid if they are no more than an input may have, have a settings line, and none of their lines
+-- is refused.
 pub record IsValid (bytes : List ℕ) : Type 0 where
-  pub short : length bytes ≤ 2 ^ 26
+  pub short : length bytes ≤ MAX_INPUT
   pub accepted : (report bytes).accepted ≡ true
 
 -- some line is refused, or the input ends without a settings line

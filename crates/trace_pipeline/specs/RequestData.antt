@@ -28,12 +28,12 @@ name_of (Exit guard) = (codes "guard", guard)
 name_of (Event site) = (codes "site", site)
 
 -- the members of an object, from their names and values
-abbrev pub members : List (List ℕ × Data) → Members
-members pairs = fold (λ ms pair. put pair.0 pair.1 ms) no_members pairs
+abbrev pub put_all : List (List ℕ × Data) → Members
+put_all pairs = fold (λ ms pair. put pair.0 pair.1 ms) no_members pairs
 
 -- the value of a request
 abbrev pub request_data : Request → Data
-request_data request = object (members (
+request_data request = object (put_all (
     (codes "at", number (unsigned request.at)) ∷
     (codes "lane", number (unsigned request.lane)) ∷
     (codes "do", string (word_of request.call)) ∷

@@ -5,7 +5,7 @@ use Rattle.trace_pipeline.specs.declared.read.request.Verb.TheVariants as verb
 use Rattle.trace_pipeline.specs.declared.request.Request.{Request}
 use Rattle.trace_pipeline.specs.declared.request.Call.{Call}
 use Rattle.trace_pipeline.specs.declared.request.Call.TheVariants.{New, Clone, Drop, Enter, Exit, Event}
-use Rattle.trace_pipeline.specs.Forms.{Form, ◌>>=◌, give, when, whole, whole_to, text}
+use Rattle.trace_pipeline.specs.Forms.{Form, ◌>>=◌, give, when, whole, text}
 
 -- the words of `do` that are built
 abbrev pub verb_word : List ℕ → Option Verb
@@ -47,7 +47,7 @@ exit_form = do
   guard ← whole (codes "guard")
   give (Exit guard)
 
--- `event` tells an event of a callsite
+-- `event` records an event of a callsite
 unfoldable pub event_form : Form Call
 event_form = do
   site ← whole (codes "site")
@@ -62,11 +62,11 @@ call_form verb.Enter = enter_form
 call_form verb.Exit = exit_form
 call_form verb.Event = event_form
 
--- the lane is the first one
+-- a moment, a lane, and what a word of `do` goes on with
 unfoldable pub request_form : Form Request
 request_form = do
   at ← whole (codes "at")
-  lane ← whole_to 0 (codes "lane")
+  lane ← whole (codes "lane")
   word ← text (codes "do")
   verb ← when (verb_word word)
   call ← call_form verb

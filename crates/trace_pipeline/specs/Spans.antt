@@ -40,9 +40,13 @@ abbrev pub clones : History → ℕ → ℕ → Scope → Effect
 clones h at lane scope =
     record (quiet at lane (reply.Made (is_some (own scope)) (length (handles h)))) { new_handle = Some scope }
 
--- The spans that close are those that no unspent handle holds any more; a close starts a span that hasn't been
--- started.
+-- The spans that close are those that no unspent handle holds any more; a close starts a span that hasn't
+-- been started.
 abbrev pub drops : History → ℕ → ℕ → ℕ → Scope → Effect
 drops h at lane handle scope =
     let closing = closed_of (slice_set (handles h) handle None) scope in
-    record (quiet at lane reply.Done) { spent_handle = Some handle; starts = starting h closing; closes = closing }
+    record (quiet at lane reply.Done) {
+      spent_handle = Some handle;
+      starts = starting h closing;
+      closes = closing;
+    }

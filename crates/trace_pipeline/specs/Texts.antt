@@ -10,21 +10,22 @@ use Rattle.trace_pipeline.specs.declared.reply.Refusal.{Refusal}
 use Rattle.trace_pipeline.specs.declared.reply.Refusal.TheVariants as refusal
 use Rattle.trace_pipeline.specs.declared.reply.Told.{Told}
 use Rattle.trace_pipeline.specs.declared.reply.Told.TheVariants as told
-use Rattle.trace_pipeline.specs.Object.{members, whole, line_of}
+use Rattle.trace_pipeline.specs.Object.{by_name, whole_number, line_of}
 use Rattle.trace_pipeline.specs.RecordData.{record_data}
 
 -- ---- replies
 
 -- what a reply line tells of the reply
 abbrev pub reply_members : Reply → List (List ℕ × Data)
-reply_members (reply.Made enabled handle) = (codes "enabled", boolean enabled) ∷ (codes "handle", whole handle) ∷ []
-reply_members (reply.Guard guard) = (codes "guard", whole guard) ∷ []
+reply_members (reply.Made enabled handle) =
+    (codes "enabled", boolean enabled) ∷ (codes "handle", whole_number handle) ∷ []
+reply_members (reply.Guard guard) = (codes "guard", whole_number guard) ∷ []
 reply_members reply.Done = []
 reply_members (reply.Enabled enabled) = (codes "enabled", boolean enabled) ∷ []
 
 -- a reply, with the number of its request's line
 abbrev pub reply_data : ℕ → Reply → Data
-reply_data line answer = object (members ((codes "reply", whole line) ∷ reply_members answer))
+reply_data line answer = object (by_name ((codes "reply", whole_number line) ∷ reply_members answer))
 
 -- the reply line of the request on a line
 unfoldable pub reply_text : ℕ → Reply → List ℕ
@@ -49,11 +50,15 @@ what_name what.Guard = codes "guard"
 abbrev pub refused_as : List ℕ → List ℕ × Data
 refused_as name = (codes "refused", string name)
 
--- What a refusal line tells of a step's refusal. Want of memory has no such line: its row stands for none that is written.
+-- What a refusal line tells of a step's refusal. Want of memory has no such line: its row stands for none
+-- that is written.
 abbrev pub step_members : Refusal → List (List ℕ × Data)
 step_members refusal.Later = refused_as (codes "Later") ∷ []
-step_members (refusal.UnknownName unknown) = refused_as (codes "UnknownName") ∷ (codes "what", string (what_name unknown)) ∷ []
-step_members (refusal.BadMoment before given) = refused_as (codes "BadMoment") ∷ (codes "before", whole before) ∷ (codes "given", whole given) ∷ []
+step_members (refusal.UnknownName unknown) =
+    refused_as (codes "UnknownName") ∷ (codes "what", string (what_name unknown)) ∷ []
+step_members (refusal.BadMoment before given) =
+    refused_as (codes "BadMoment")
+    ∷ (codes "before", whole_number before) ∷ (codes "given", whole_number given) ∷ []
 step_members refusal.InUse = refused_as (codes "InUse") ∷ []
 step_members refusal.Memory = refused_as (codes "Memory") ∷ []
 
@@ -65,11 +70,11 @@ told_members (told.Step why) = step_members why
 
 -- a refusal of which the name alone is told, with the number of its line
 abbrev pub named_refusal : ℕ → List ℕ → Data
-named_refusal line name = object (members ((codes "line", whole line) ∷ refused_as name ∷ []))
+named_refusal line name = object (by_name ((codes "line", whole_number line) ∷ refused_as name ∷ []))
 
 -- a refusal, with the number of its line
 abbrev pub refusal_data : ℕ → Told → Data
-refusal_data line why = object (members ((codes "line", whole line) ∷ told_members why))
+refusal_data line why = object (by_name ((codes "line", whole_number line) ∷ told_members why))
 
 -- the line that tells why a line is refused
 unfoldable pub refusal_text : ℕ → Told → List ℕ
@@ -79,10 +84,10 @@ refusal_text line why = line_of (refusal_data line why)
 
 -- the end of a run
 abbrev pub end_data : ℕ → ℕ → Data
-end_data open_spans records = object (members (
+end_data open_spans records = object (by_name (
     (codes "done", boolean true)
-    ∷ (codes "open", whole open_spans)
-    ∷ (codes "records", whole records) ∷ []))
+    ∷ (codes "open", whole_number open_spans)
+    ∷ (codes "records", whole_number records) ∷ []))
 
 -- the last line, which tells how many spans are open and how many records were written
 unfoldable pub end_text : ℕ → ℕ → List ℕ

@@ -9,6 +9,7 @@ mod finish;
 mod handles;
 pub mod laws;
 mod level_words;
+pub mod limits;
 pub mod pipeline;
 pub mod read;
 pub mod reply;
@@ -19,6 +20,7 @@ mod spans;
 mod timings;
 pub mod write;
 
+pub use limits::MAX_INPUT;
 pub use pipeline::{OpenError, Pipeline};
 pub use read::{LineError, read_request, read_settings};
 pub use reply::{Refusal, Reply, Told, What};

@@ -169,7 +169,8 @@ impl Pipeline {
 
     fn is_later(&self, lane: u64, call: &Call) -> bool
         ensures refused { (settings : SettingsValue) (h : History) (at : ℕ)
-            → StandsFor self.now.state settings h → result ≡ is_later h (record { at = at; lane = lane; call = call.now }) }
+            → StandsFor self.now.state settings h
+            → result ≡ is_later h (record { at = at; lane = lane; call = call.now }) }
         ensures built { result ≡ false → CanWait call.now self.now.state.open_guard }
     {
         is_unbuilt(lane, self.open_guard, call)

@@ -145,7 +145,8 @@ impl Spans {
             ≡ started_dropped self.old.started handle self.old.list.items) }
         ensures finished { OnOk result (IsShort self.old.started at handle self.old.list.items
             → finished.new.items ≡ finished.old.items
-            ++ records_dropped callsites.now self.old.started at handle self.old.list.items self.old.events.items) }
+            ++ records_dropped callsites.now self.old.started at handle
+            self.old.list.items self.old.events.items) }
         ensures list_stays { OnErr result (self.new.list.items ≡ self.old.list.items) }
         ensures events_stay { OnErr result (self.new.events.items ≡ self.old.events.items) }
         ensures started_stays { OnErr result (self.new.started ≡ self.old.started) }

@@ -1,10 +1,9 @@
 -- One line more is answered, and the lines end.
-use Rattle.std.proofs.Common.{◌≡◌, ℕ, List, [], ◌∷◌, ◌++◌, length, refl, sym, ap, subst, ◌∙◌, append_assoc, ◌+◌, inl, inr}
+use Rattle.std.proofs.Common.{◌≡◌, ℕ, List, [], ◌∷◌, ◌++◌, length, refl, sym, ap, ◌∙◌, append_assoc, ◌+◌, inl, inr}
 use Rattle.std.specs.Prelude.{Result, Ok, Err, IfOk, IsErrOf, Bool, true, false}
 use Rattle.std.proofs.lemmas.List.{append-nil, length-append, length-map}
 use Rattle.std.proofs.lemmas.List.Folds.{list_all-append}
 use Rattle.std.proofs.lemmas.Grind.{flat_map-append}
-use Rattle.otel_base.specs.declared.memory.Memory.{Memory}
 use Rattle.otel_base.specs.declared.record.Record.{Record}
 use Rattle.trace_pipeline.specs.declared.settings.Settings.{Settings}
 use Rattle.trace_pipeline.specs.declared.request.Request.{Request}
@@ -22,13 +21,12 @@ use Rattle.trace_pipeline.specs.Spelled.{settings_spelled, request_spelled}
 use Rattle.trace_pipeline.specs.Texts.{reply_text, refusal_text, end_text}
 use Rattle.trace_pipeline.specs.Fits.{Kept, StandsFor, Answered}
 use Rattle.trace_pipeline.specs.Report.{Report, behind, refused, effect_of_line, effect_of_request, answer_text, record_lines, report_on, report_from}
-use Rattle.trace_tool.specs.declared.answers.Answers.{Answers}
 use Rattle.trace_tool.specs.declared.answers.Stage.{Stage}
 use Rattle.trace_tool.specs.declared.answers.Stage.TheVariants as stage
 use Rattle.trace_tool.specs.declared.answers.Written.{Written}
 use Rattle.trace_tool.specs.Streams.{IsFront}
 use Rattle.trace_tool.specs.Breaks.{are_blank}
-use Rattle.trace_tool.specs.Answers.{IsSpelled, Opens, Runs, Stops, AnswersAt, AnswersTo, is_refused, Cuts}
+use Rattle.trace_tool.specs.Answers.{IsSpelled, Opens, Runs, Stops, AnswersAt, is_refused, Cuts}
 
 -- ---- what a line spells
 
@@ -54,12 +52,6 @@ unfolding effect_of_line
 stepped settings h text request effect is does = rw (is, does) refl
 
 -- ---- one line more
-
--- a refusal line ends the answers
-pub refuses : (r : Result Answers Memory) (lines : List (List ℕ)) (text : List ℕ) → IfOk r (λ a. a.written.text.items ≡ text)
-    → IfOk r (λ a. a.stage ≡ stage.Refused) → Stops lines text → IfOk r (λ a. AnswersTo lines a)
-refuses (Ok a) lines text is at stops = rw at (subst (λ (t : List ℕ). Stops lines t) (sym is) stops)
-refuses (Err e) lines text is at stops = tt
 
 -- the report goes on behind one line more
 on_line : (lines more : List (List ℕ)) (line : List ℕ) (r : Report) → report_from 0 (lines ++ line ∷ more) ≡ r → report_from 0 ((lines ++ line ∷ []) ++ more) ≡ r

@@ -9,7 +9,7 @@ use Rattle.trace_pipeline.specs.Report.{Report, report_from, report, output}
 use Rattle.trace_tool.specs.declared.answers.Output.{Output}
 use Rattle.trace_tool.specs.declared.input.End.{End}
 use Rattle.trace_tool.specs.declared.input.End.TheVariants as end
-use Rattle.trace_tool.specs.declared.input.TheConstants.{MAX_INPUT}
+use Rattle.trace_pipeline.specs.declared.limits.TheConstants.{MAX_INPUT}
 use Rattle.trace_tool.specs.declared.status.Status.{Status}
 use Rattle.trace_tool.specs.declared.status.Status.TheVariants as ends
 use Rattle.trace_tool.specs.Streams.{Takes, IsFront, Puts, PutsFront}

@@ -15,8 +15,8 @@ use Rattle.trace_tool.specs.declared.answers.Stage.{Stage}
 use Rattle.trace_tool.specs.declared.answers.Stage.TheVariants as stage
 use Rattle.trace_tool.specs.declared.answers.Written.{Written}
 
--- Settings came, the pipeline stands for the requests so far, their records are taken and counted, and behind what
--- is written comes the report on the lines that follow.
+-- Settings came, the pipeline stands for the requests so far, their records are taken and counted, and behind
+-- what is written comes the report on the lines that follow.
 pub record Runs (lines : List (List ℕ)) (count : ℕ) (kept : Kept) (written : Written) : Type 0 where
   pub settings : Settings
   pub history : History
@@ -44,6 +44,11 @@ abbrev pub AnswersAt : Stage → List (List ℕ) → ℕ → Written → Type 0
 AnswersAt stage.Opening lines count written = Opens lines count written
 AnswersAt (stage.Running pipeline) lines count written = Runs lines count pipeline written
 AnswersAt stage.Refused lines count written = Stops lines written.text.items
+
+-- how a run stands behind a request, by whether it was served
+abbrev pub Goes : Bool → List (List ℕ) → ℕ → Kept → Written → Type 0
+Goes true lines count kept written = Runs lines count kept written
+Goes false lines count kept written = Stops lines written.text.items
 
 -- the answers to these lines
 abbrev pub AnswersTo : List (List ℕ) → Answers → Type 0

@@ -2,7 +2,7 @@
 use Rattle.std.specs.Prelude.{◌≡◌, ℕ, ◌<◌, ◌≤◌, List, [], ◌++◌, length, take, Bool, true, false, not, Option, Some, None, IfSome}
 use Rattle.std.proofs.Common.{◌⊎◌}
 use Rattle.trace_pipeline.specs.Report.{Report, report, output, IsValid, IsRefused}
-use Rattle.trace_tool.specs.declared.input.TheConstants.{MAX_INPUT}
+use Rattle.trace_pipeline.specs.declared.limits.TheConstants.{MAX_INPUT}
 use Rattle.trace_tool.specs.Streams.{HasFault, IsQuiet, IsFront, Takes, Puts, PutsFront}
 use Rattle.trace_tool.specs.Breaks.{whole_lines, HasRefused, AnswersAll}
 use Rattle.trace_tool.specs.Answers.{Cuts}
@@ -18,8 +18,8 @@ use Rattle.trace_tool.specs.declared.status.Status.TheVariants as ends
 abbrev pub RunsWhole : List ℕ → Option (List ℕ) → Option (List ℕ) → Option (List ℕ) → Type 0
 RunsWhole bytes left before now = IsValid bytes × (left ≡ Some []) × Puts before now (output bytes)
 
--- They are refused, at a whole line within the longest input or where they ended, and the sink gained the lines up
--- to the refusal.
+-- They are refused, at a whole line within the longest input or where they ended, and the sink gained the
+-- lines up to the refusal.
 pub record StopsRefused (bytes : List ℕ) (left before now : Option (List ℕ)) : Type 0 where
   pub refused : IsRefused bytes
   pub read : List ℕ
@@ -35,8 +35,8 @@ pub record BreaksOff (bytes : List ℕ) (left before now : Option (List ℕ)) : 
   pub answered : AnswersAll (whole_lines read) text
   pub put : Puts before now text
 
--- More than the longest input came, no whole line within that is refused, and the sink gained what those lines are
--- answered.
+-- More than the longest input came, no whole line within that is refused, and the sink gained what those
+-- lines are answered.
 pub record RunsOver (bytes : List ℕ) (left before now : Option (List ℕ)) : Type 0 where
   pub read : List ℕ
   pub took : Takes (Some bytes) left read

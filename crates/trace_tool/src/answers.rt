@@ -2,15 +2,16 @@
 ghost use Rattle.std.specs.Prelude.{◌≡◌, ◌≢◌, ℕ, List, [], ◌∷◌, ◌++◌, ◌+◌, length, not, false, Ok, Err, IfOk, IfErr, OnOk};
 ghost use Rattle.trace_pipeline.specs.Lines.{lines_of, is_blank};
 ghost use Rattle.trace_pipeline.specs.Report.{record_lines, report_from};
-ghost use Rattle.trace_pipeline.specs.Texts.{refusal_text};
-ghost use Rattle.trace_tool.specs.Answers.{IsSpelled, Opens, Runs, AnswersTo, Cuts, is_refused};
+ghost use Rattle.trace_pipeline.specs.Texts.{reply_text, refusal_text};
+ghost use Rattle.trace_tool.specs.Answers.{IsSpelled, Opens, Runs, AnswersAt, Goes, AnswersTo, Cuts, is_refused};
 
 use crate::lines::{first_line, is_blank};
 use otel_base::memory::Memory;
 use std::alloc::Global;
+use std::mem;
 use trace_pipeline::pipeline::Pipeline;
 use trace_pipeline::read::{LineError, read_request, read_settings};
-use trace_pipeline::reply::{Refusal, Told};
+use trace_pipeline::reply::{Refusal, Reply, Told};
 use trace_pipeline::write::{append_end, append_record, append_refusal, append_reply};
 
 /// What is written so far.
@@ -66,33 +67,31 @@ impl Answers {
         }
     }
 
-    /// The answers to one line more. Behind a refused line nothing is written. `Memory` freely.
-    pub fn line(self, alloc: Global, line: &[u8]) -> Result<Answers, Memory>
-        ensures { (lines : List (List ℕ)) → AnswersTo lines self
-            → IfOk result (λ answers. AnswersTo (lines ++ line.now ∷ []) answers) }
+    /// Answers one line more. Behind a refused line nothing is written. `Memory` freely; what is left then answers
+    /// no lines.
+    pub fn line(&mut self, alloc: Global, line: &[u8]) -> Result<(), Memory>
+        ensures { (lines : List (List ℕ)) → AnswersTo lines self.old
+            → OnOk result (AnswersTo (lines ++ line.now ∷ []) self.new) }
     {
-        let Answers {
-            written,
-            lines,
-            stage,
-        } = self;
         // No input has so many lines that the sum wraps.
-        let lines = lines.checked_add(1).ok_or(Memory)?;
+        let number = self.lines.checked_add(1).ok_or(Memory)?;
+        self.lines = number;
         if is_blank(line) {
-            return Ok(Answers {
-                written,
-                lines,
-                stage,
-            });
+            return Ok(());
         }
-        match stage {
-            Stage::Opening => open(alloc, written, lines, line),
-            Stage::Running { pipeline } => answer(alloc, pipeline, written, lines, line),
-            Stage::Refused => Ok(Answers {
-                written,
-                lines,
-                stage: Stage::Refused,
-            }),
+        match &mut self.stage {
+            Stage::Opening => {
+                self.stage = open(alloc, &mut self.written, number, line)?;
+                Ok(())
+            }
+            Stage::Running { pipeline } => {
+                let served = answer(alloc, pipeline, &mut self.written, number, line)?;
+                if !served {
+                    self.stage = Stage::Refused;
+                }
+                Ok(())
+            }
+            Stage::Refused => Ok(()),
         }
     }
 
@@ -153,61 +152,61 @@ pub fn answer_lines(alloc: Global, bytes: &[u8]) -> Result<Answers, Memory>
     let mut rest = bytes;
     while !rest.is_empty() && !answers.is_refused() {
         let (line, after) = first_line(rest);
-        answers = answers.line(alloc, line)?;
+        answers.line(alloc, line)?;
         rest = after;
     }
     Ok(answers)
 }
 
-// Opens the run at the first line that isn't blank.
-fn open(alloc: Global, written: Written, lines: u64, line: &[u8]) -> Result<Answers, Memory>
-    ensures { (before : List (List ℕ)) (count : ℕ) → Opens before count written → lines ≡ count + 1
-        → is_blank line.now ≡ false → IfOk result (λ answers. AnswersTo (before ++ line.now ∷ []) answers) }
+// Opens the run at the first line that isn't blank, and tells where it stands then.
+fn open(alloc: Global, written: &mut Written, lines: u64, line: &[u8]) -> Result<Stage, Memory>
+    ensures { (before : List (List ℕ)) (count : ℕ) → Opens before count written.old → lines ≡ count + 1
+        → is_blank line.now ≡ false
+        → IfOk result (λ stage. AnswersAt stage (before ++ line.now ∷ []) lines written.new) }
 {
     let settings = match spelled(read_settings(alloc, line))? {
         Ok(settings) => settings,
-        Err(told) => return refuse(written, lines, &told),
+        Err(told) => {
+            refuse(alloc, written, lines, &told)?;
+            return Ok(Stage::Refused);
+        }
     };
     let Ok(pipeline) = Pipeline::open(alloc, settings) else {
         return Err(Memory);
     };
-    let stage = Stage::Running { pipeline };
-    Ok(Answers {
-        written,
-        lines,
-        stage,
-    })
+    Ok(Stage::Running { pipeline })
 }
 
-// Answers the request on a line.
+// Answers the request on a line, and tells whether it was served.
 fn answer(
     alloc: Global,
-    pipeline: Pipeline,
-    written: Written,
+    pipeline: &mut Pipeline,
+    written: &mut Written,
     lines: u64,
     line: &[u8],
-) -> Result<Answers, Memory>
-    ensures { (before : List (List ℕ)) (count : ℕ) → Runs before count pipeline written → lines ≡ count + 1
-        → is_blank line.now ≡ false → IfOk result (λ answers. AnswersTo (before ++ line.now ∷ []) answers) }
+) -> Result<bool, Memory>
+    ensures { (before : List (List ℕ)) (count : ℕ) → Runs before count pipeline.old written.old
+        → lines ≡ count + 1 → is_blank line.now ≡ false
+        → IfOk result (λ served. Goes served (before ++ line.now ∷ []) lines pipeline.new written.new) }
 {
-    let mut pipeline = pipeline;
     let request = match spelled(read_request(alloc, line))? {
         Ok(request) => request,
-        Err(told) => return refuse(written, lines, &told),
+        Err(told) => {
+            refuse(alloc, written, lines, &told)?;
+            return Ok(false);
+        }
     };
     match pipeline.step(request) {
         Ok(reply) => {
-            let Written { text, records } = written;
-            let text = append_reply(text, lines, &reply)?;
-            let written = write_records(&mut pipeline, Written { text, records })?;
-            let stage = Stage::Running { pipeline };
-            Ok(Answers {
-                written,
-                lines,
-                stage,
-            })
+            write_reply(alloc, written, lines, &reply)?;
+            write_records(alloc, pipeline, written)?;
+            Ok(true)
         }
-        Err(refusal) => refuse(written, lines, &told_of(refusal)?),
+        Err(refusal) => {
+            let told = told_of(refusal)?;
+            refuse(alloc, written, lines, &told)?;
+            Ok(false)
+        }
     }
 }
 
@@ -222,20 +221,30 @@ fn told_of(refusal: Refusal) -> Result<Told, Memory>
     }
 }
 
-// Ends the answers with the refusal line of the last line.
-fn refuse(written: Written, lines: u64, told: &Told) -> Result<Answers, Memory>
+// Writes the refusal line of the last line.
+fn refuse(alloc: Global, written: &mut Written, lines: u64, told: &Told) -> Result<(), Memory>
     requires { told.now ≢ Told.Step Refusal.Memory }
-    ensures text { IfOk result (λ answers.
-        answers.written.text.items ≡ written.text.items ++ refusal_text lines told.now) }
-    ensures stage { IfOk result (λ answers. answers.stage ≡ Stage.Refused) }
+    ensures { OnOk result (written.new.text.items ≡ written.old.text.items ++ refusal_text lines told.now) }
 {
-    let Written { text, records } = written;
-    let text = append_refusal(text, lines, told)?;
-    Ok(Answers {
-        written: Written { text, records },
-        lines,
-        stage: Stage::Refused,
-    })
+    let text = mem::replace(&mut written.text, Vec::new(alloc));
+    written.text = append_refusal(text, lines, told)?;
+    Ok(())
+}
+
+// Writes the reply line of the last line.
+fn write_reply(
+    alloc: Global,
+    written: &mut Written,
+    lines: u64,
+    reply: &Reply,
+) -> Result<(), Memory>
+    ensures text { OnOk result (
+        written.new.text.items ≡ written.old.text.items ++ reply_text lines reply.now) }
+    ensures count { written.new.records ≡ written.old.records }
+{
+    let text = mem::replace(&mut written.text, Vec::new(alloc));
+    written.text = append_reply(text, lines, reply)?;
+    Ok(())
 }
 
 // What a line spells, or what its refusal line tells. Want of memory has no such line.
@@ -252,21 +261,23 @@ fn spelled<T: Drop>(read: Result<T, LineError>) -> Result<Result<T, Told>, Memor
 }
 
 // Takes the finished records, and writes their lines.
-fn write_records(pipeline: &mut Pipeline, written: Written) -> Result<Written, Memory>
-    ensures lines { IfOk result (λ new.
-        new.text.items ≡ written.text.items ++ record_lines (written.records + 1) pipeline.old.finished) }
-    ensures count { IfOk result (λ new. new.records ≡ written.records + length pipeline.old.finished) }
+fn write_records(
+    alloc: Global,
+    pipeline: &mut Pipeline,
+    written: &mut Written,
+) -> Result<(), Memory>
+    ensures lines { OnOk result (written.new.text.items
+        ≡ written.old.text.items ++ record_lines (written.old.records + 1) pipeline.old.finished) }
+    ensures count { OnOk result (written.new.records ≡ written.old.records + length pipeline.old.finished) }
     ensures taken { OnOk result (pipeline.new.finished ≡ []) }
     ensures state { pipeline.new.state ≡ pipeline.old.state }
 {
-    let Written {
-        mut text,
-        mut records,
-    } = written;
     while let Some(finished) = pipeline.take_record() {
         // No run has so many records that the sum wraps.
-        records = records.checked_add(1).ok_or(Memory)?;
-        text = append_record(text, records, &finished)?;
+        let number = written.records.checked_add(1).ok_or(Memory)?;
+        let text = mem::replace(&mut written.text, Vec::new(alloc));
+        written.text = append_record(text, number, &finished)?;
+        written.records = number;
     }
-    Ok(Written { text, records })
+    Ok(())
 }

@@ -7,9 +7,7 @@ use crate::failed::Failed;
 use crate::source::Source;
 use otel_base::memory::Memory;
 use std::alloc::{AllocError, Global};
-
-/// The most bytes that an input may have.
-pub const MAX_INPUT: usize = 67_108_864;
+use trace_pipeline::limits::MAX_INPUT;
 
 // How many bytes are asked for at once.
 const BLOCK: usize = 65_536;

@@ -6,13 +6,14 @@ ghost use Rattle.trace_tool.specs.Ends.{Leaves, Ends, Causes, Completes, status_
 
 use crate::answers::{Output, answer_lines};
 use crate::failed::Failed;
-use crate::input::{End, Input, MAX_INPUT, read_all};
+use crate::input::{End, Input, read_all};
 use crate::lines::whole_part;
 use crate::sink::{Sink, write_all};
 use crate::source::Source;
 use crate::status::Status;
 use otel_base::memory::Memory;
 use std::alloc::Global;
+use trace_pipeline::limits::MAX_INPUT;
 
 /// What a call of the program asks for.
 #[derive(Clone, Copy, Debug, PartialEq, Eq)]

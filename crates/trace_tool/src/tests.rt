@@ -1,8 +1,8 @@
 //! Runs of the program over sources and sinks in memory.
 
+mod lines;
 mod runs;
 
-use crate::input::MAX_INPUT;
 use crate::sink::{MemSink, Sink, StdSink, SureSink};
 use crate::source::{MemSource, Source, StdSource, SureSource};
 use crate::status::Status;
@@ -13,6 +13,7 @@ use std::process::Abort;
 use std::sync::Wait;
 use std::test::Fail;
 use std::thread::Threads;
+use trace_pipeline::limits::MAX_INPUT;
 
 const SETTINGS: &str =
     r#"{"callsites":[{"fields":["a","f","otel.status_code"],"kind":"span","level":"info","name":"s","target":"app"},{"fields":["error","message"],"kind":"event","level":"info","name":"e","target":"app"},{"fields":["error","message"],"kind":"event","level":"error","name":"x","target":"app"},{"fields":[],"kind":"event","level":"debug","name":"d","target":"app"},{"fields":[],"kind":"span","level":"trace","name":"t","target":"app"}],"filter":"info","lanes":[{"id":1,"name":"main"},{"id":2}],"layer":{"location":false,"target":false,"threads":false}}"#;

@@ -4,7 +4,7 @@ use Rattle.std.proofs.lemmas.List.{append-nil, length_push, get_or_push}
 use Rattle.std.proofs.lemmas.Bool.{cases_eq, cases_lt}
 use Rattle.std.proofs.lemmas.Bool.Decides.{nat_tests}
 use Rattle.trace_pipeline.specs.declared.settings.Settings.{Settings}
-use Rattle.trace_pipeline.specs.History.{Scope, Made, Guarded, History, with_new, without, slots_after, handles, guards, slot_at, made, no_making, no_context, made_of, closed, closed_of, holds, is_in, is_open}
+use Rattle.trace_pipeline.specs.History.{Scope, Made, Guarded, History, with_new, spend, slots_after, handles, guards, slot_at, made, no_making, no_context, made_of, closed, closed_of, holds, is_in, is_open}
 use Rattle.trace_pipeline.proofs.step.FitsLemmas.{held_push}
 use Rattle.trace_pipeline.proofs.step.DropsLemmas.{held_set}
 use Rattle.trace_pipeline.specs.Laws.{IsHistory, none, more, occurrences}
@@ -118,7 +118,7 @@ module _ (hs : List (Option Scope)) (gs : List (Option Guarded)) (ms : List Made
     ended = sound.ended;
   }
 
-  fewer_guards : (spent_guard : Option ℕ) → Sound hs (without gs spent_guard) ms cs
+  fewer_guards : (spent_guard : Option ℕ) → Sound hs (spend gs spent_guard) ms cs
   fewer_guards None = sound
   fewer_guards (Some guard) = record { named = sound.named; kept = λ k guarded there. sound.kept k guarded (named_set gs guard k guarded there); scopes = sound.scopes; ended = sound.ended }
 
@@ -158,7 +158,7 @@ sound_names h at gs _ _ before now (another scope known opened) = more_names (ha
 sound_names h at gs _ _ before now (new_root site) =
     more_spans (handles h) gs (made h) (closed h) now (record { site = site; scope = length (made h) ∷ []; at = at; context = no_context }) (root_is_new (handles h) (length (made h)) (length (made h) ∷ []) refl)
 
-sound_spent : (hs : List (Option Scope)) (gs : List (Option Guarded)) (ms : List Made) (cs : List ℕ) (o : Option ℕ) (closes : List ℕ) → Sound hs gs ms cs → Spends hs o closes → Sound (without hs o) gs ms (cs ++ closes)
+sound_spent : (hs : List (Option Scope)) (gs : List (Option Guarded)) (ms : List Made) (cs : List ℕ) (o : Option ℕ) (closes : List ℕ) → Sound hs gs ms cs → Spends hs o closes → Sound (spend hs o) gs ms (cs ++ closes)
 sound_spent hs gs ms cs _ _ now no_spending = rw (append-nil cs) now
 sound_spent hs gs ms cs _ _ now (one_spent k scope there) = fewer_names hs gs ms cs now k scope there
 

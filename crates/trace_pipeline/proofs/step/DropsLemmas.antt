@@ -18,7 +18,7 @@ use Rattle.std.proofs.Common.{zero, suc, slice_get}
 use Rattle.trace_pipeline.specs.Ops.{Stamped, start_ids, events}
 use Rattle.trace_pipeline.specs.Content.{content}
 use Rattle.trace_pipeline.specs.Tables.{Tables}
-use Rattle.trace_pipeline.specs.Bodies.{no_span, span_at, span_started, started_after, span_closed, spans_dropped, started_dropped, events_dropped, events_at, records_dropped, record_by, name_at, is_last, closes, IsShort, idle_by}
+use Rattle.trace_pipeline.specs.Bodies.{no_span, span_at, span_started, started_after, span_closed, spans_dropped, started_dropped, events_dropped, events_at, records_dropped, record_by, name_at, is_last_hold, drop_closes, IsShort, idle_by}
 use Rattle.trace_pipeline.specs.Fits.{State, Fits, SpansFit, EventsFit, has_error, held, IsMade, IsTimed, handle_of, span_by, times_of, is_started, starts_at}
 use Rattle.trace_pipeline.proofs.step.SlotsLemmas.{named_within, any_counted}
 use Rattle.trace_pipeline.proofs.step.SpanListLemmas.{span_is, spans_written}
@@ -106,12 +106,12 @@ module _ (k : State) (now : Tables) (at handle : ℕ)
       let inside : s < length k.spans = (let n = fits.spans_fit.count in omega arith) in
       elim (cases_eq (held (slice_set now.handles handle None) s) 0) [
         | inl none ↦
-            (let last_one : is_last (span_at k.spans s) ≡ true = lt-ltb _ 2 (omega (arith, less, were, none)) in
+            (let last_one : is_last_hold (span_at k.spans s) ≡ true = lt-ltb _ 2 (omega (arith, less, were, none)) in
             let shut : is_open (slice_set now.handles handle None) s ≡ false = open_now ∙ ap (nat_lt 0) none in
             rw (last_one, shut, lt-ltb s (length k.spans) inside)
             (closes_fit k.spans k.started now.made now.started (held now.handles) (held (slice_set now.handles handle None)) now.ops now.moment at (length now.guards) s fits.spans_fit within before early short less (same_others s there) none))
         | inr some ↦
-            (let not_last : is_last (span_at k.spans s) ≡ false = le-ltb _ 2 (omega (arith, less, were, some)) in
+            (let not_last : is_last_hold (span_at k.spans s) ≡ false = le-ltb _ 2 (omega (arith, less, were, some)) in
             let still : is_open (slice_set now.handles handle None) s ≡ true = open_now ∙ lt-ltb 0 _ (omega (arith, some)) in
             rw (not_last, still, lt-ltb s (length k.spans) inside)
             (stays_fit k.spans k.started now.made now.started (held now.handles) (held (slice_set now.handles handle None)) now.ops now.moment at (length now.guards) s fits.spans_fit within before early short less (same_others s there)))
@@ -138,7 +138,7 @@ module _ (k : State) (now : Tables) (at handle : ℕ)
   and_false false = refl
 
   -- a span that some handle still holds doesn't close
-  still_held : (s : ℕ) (scope : Scope) → IsMade (length now.made) (s ∷ scope) → slot_at now.handles handle ≡ Some (s ∷ scope) → 0 < held (slice_set now.handles handle None) s → closes s k.spans ≡ false
+  still_held : (s : ℕ) (scope : Scope) → IsMade (length now.made) (s ∷ scope) → slot_at now.handles handle ≡ Some (s ∷ scope) → 0 < held (slice_set now.handles handle None) s → drop_closes s k.spans ≡ false
   still_held s scope made there some =
       let less = one_less s (there ∙ ap (λ (rest : Scope). Some (s ∷ rest)) made.1) in
       let were = holds_are s in
@@ -158,7 +158,7 @@ module _ (k : State) (now : Tables) (at handle : ℕ)
 
       by_count : (scope : Scope) → length (events_dropped (handle_of scope) k.spans k.events) ≡ length k.events
       by_count [] = refl
-      by_count (s ∷ scope) = count_if (closes s k.spans) s
+      by_count (s ∷ scope) = count_if (drop_closes s k.spans) s
 
       other_if : (b : Bool) (s t : ℕ) → t ≢ s → events_at (cond b (slice_set k.events s []) k.events) t ≡ events_at k.events t
       other_if true s t other = get_or-set_other k.events s t [] [] other
@@ -170,7 +170,7 @@ module _ (k : State) (now : Tables) (at handle : ℕ)
         | inl same ↦ (let kept = still_held s scope made there (subst (λ n. 0 < held (slice_set now.handles handle None) n) same some) in
             ap (λ (xs : List (List OtelEvent)). events_at xs t) (ap (λ b. cond b (slice_set k.events s []) k.events) kept)
             ∙ fits.events_fit.each t (let change = held_set now.handles handle (s ∷ scope) t there in omega (arith, change)))
-        | inr other ↦ other_if (closes s k.spans) s t other ∙ fits.events_fit.each t (let change = held_set now.handles handle (s ∷ scope) t there in omega (arith, change))
+        | inr other ↦ other_if (drop_closes s k.spans) s t other ∙ fits.events_fit.each t (let change = held_set now.handles handle (s ∷ scope) t there in omega (arith, change))
       ]
 
   -- ---- the record
@@ -193,7 +193,7 @@ module _ (k : State) (now : Tables) (at handle : ℕ)
       let inside : s < length k.spans = (let n = fits.spans_fit.count in omega arith) in
       elim (cases_eq (held (slice_set now.handles handle None) s) 0) [
         | inl none ↦
-            (let last_one : is_last (span_at k.spans s) ≡ true = lt-ltb _ 2 (omega (arith, less, were, none)) in
+            (let last_one : is_last_hold (span_at k.spans s) ≡ true = lt-ltb _ 2 (omega (arith, less, were, none)) in
             let shut : is_open (slice_set now.handles handle None) s ≡ false = open_now ∙ ap (nat_lt 0) none in
             let fit = closes_fit k.spans k.started now.made now.started (held now.handles) (held (slice_set now.handles handle None)) now.ops now.moment at (length now.guards) s fits.spans_fit within before early short less (same_others s there) none in
             let mine = sym (get_or-set_same k.spans s (span_closed k.started at (span_at k.spans s)) no_span inside) ∙ fit.each s in
@@ -211,7 +211,7 @@ module _ (k : State) (now : Tables) (at handle : ℕ)
             ∙ ap (λ (p : ℕ). record finished { parent = p; status = failed_status (has_error (dropped_ops now.made now.started now.ops at fresh s)) } ∷ []) (sym (ap (λ (c : Context). parent_id (ids_of c)) (fits.contexts s)))
             ∙ ap (λ (v : Status). record finished { status = v } ∷ []) (sym (status_is (dropped_ops now.made now.started now.ops at fresh s)))))
         | inr some ↦
-            (let not_last : is_last (span_at k.spans s) ≡ false = le-ltb _ 2 (omega (arith, less, were, some)) in
+            (let not_last : is_last_hold (span_at k.spans s) ≡ false = le-ltb _ 2 (omega (arith, less, were, some)) in
             let still : is_open (slice_set now.handles handle None) s ≡ true = open_now ∙ lt-ltb 0 _ (omega (arith, some)) in
             rw (not_last, still, lt-ltb s (length k.spans) inside) refl)
       ]

@@ -25,7 +25,7 @@ use Rattle.trace_pipeline.proofs.step.RefusesLemmas.{in_order}
 use Rattle.trace_pipeline.proofs.step.SlotsLemmas.{any_at, named_within}
 use Rattle.std.proofs.lemmas.Bool.{lt-ltb}
 
--- a scope that a history adds_event of
+-- a scope that a history knows of
 pub data IsKnown (h : History) : Scope → Type 0 where
   no_scope : IsKnown h []
   of_handle : (k : ℕ) (scope : Scope) → slot_at (handles h) k ≡ Some scope → IsKnown h scope

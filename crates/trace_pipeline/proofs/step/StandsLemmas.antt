@@ -5,7 +5,7 @@ use Rattle.std.proofs.lemmas.Bool.{cases_eq, cases_lt}
 use Rattle.std.proofs.lemmas.List.{get_or_past}
 use Rattle.trace_pipeline.specs.declared.request.TheConstants.{LAST_MOMENT}
 use Rattle.trace_pipeline.specs.declared.settings.Settings.{Settings}
-use Rattle.trace_pipeline.specs.History.{Scope, Made, Guarded, Effect, History, with_new, without, slots_after, handles, guards, slot_at, made, no_making, no_context, made_of}
+use Rattle.trace_pipeline.specs.History.{Scope, Made, Guarded, Effect, History, with_new, spend, slots_after, handles, guards, slot_at, made, no_making, no_context, made_of}
 use Rattle.trace_pipeline.specs.Fits.{State, Fits, SpansFit, EventsFit, GuardsFit, StandsFor, IsMade, handle_of, held}
 use Rattle.trace_pipeline.proofs.step.SlotsLemmas.{named_push, named_set}
 use Rattle.trace_pipeline.specs.Tables.{tables, after}
@@ -21,11 +21,11 @@ slots_map f xs new spent = without_map (with_new xs (option_map Some new)) (with
     new_map None = refl
     new_map (Some x) = sym (map_push (option_map f) xs (Some x))
 
-    without_map : (ys : List (Option _)) (zs : List (Option _)) → zs ≡ map (option_map f) ys → (spent : Option ℕ) → without zs spent ≡ map (option_map f) (without ys spent)
+    without_map : (ys : List (Option _)) (zs : List (Option _)) → zs ≡ map (option_map f) ys → (spent : Option ℕ) → spend zs spent ≡ map (option_map f) (spend ys spent)
     without_map ys zs same None = same
     without_map ys zs same (Some n) = ap (λ xs. slice_set xs n None) same ∙ sym (map-set (option_map f) ys n None)
 
-still_named : {A : Type 0} (slots : List (Option A)) (spent : Option ℕ) (n : ℕ) (x : A) → slot_at (without slots spent) n ≡ Some x → slot_at slots n ≡ Some x
+still_named : {A : Type 0} (slots : List (Option A)) (spent : Option ℕ) (n : ℕ) (x : A) → slot_at (spend slots spent) n ≡ Some x → slot_at slots n ≡ Some x
 still_named slots None n x there = there
 still_named slots (Some k) n x there = named_set slots k n x there
 

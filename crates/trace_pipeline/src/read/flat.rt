@@ -1,6 +1,6 @@
 //! The members of a compact object, and the items of a compact array, as lists of plain values. The names are slices
 //! of the text. None says nothing of what the text is.
-ghost use Rattle.std.specs.Prelude.{◌≡◌, [], ◌∷◌, ◌++◌, true, Some, IfSome, Decides, option_map};
+ghost use Rattle.std.specs.Prelude.{◌≡◌, [], ◌∷◌, ◌++◌, length, true, Some, IfSome, Decides, option_map};
 ghost use Rattle.std.specs.Cmp.Lexicographic.{slice_cmp};
 ghost use Rattle.std.specs.Ordering.{nat_cmp};
 ghost use Rattle.std.specs.Str.{IsUtf8};
@@ -100,9 +100,21 @@ fn ends(rest: &[u8]) -> Option<()>
     if rest.is_empty() { Some(()) } else { None }
 }
 
+// How two names compare. Mostly their first bytes tell.
+#[inline(always)]
+#[tactic(auto, using(crate::proofs::Ordered::first_less, crate::proofs::Ordered::first_greater))]
 fn compare(one: &[u8], other: &[u8]) -> Ordering
     ensures { result ≡ slice_cmp nat_cmp one.now other.now }
 {
+    if one.is_empty() || other.is_empty() {
+        return one.cmp(other);
+    }
+    if one[0] < other[0] {
+        return Ordering::Less;
+    }
+    if one[0] > other[0] {
+        return Ordering::Greater;
+    }
     one.cmp(other)
 }
 
@@ -145,7 +157,8 @@ fn place<'a>(
     plain: Plain<'a>,
 ) -> Option<()>
     requires { InOrder (members_of members.old.items) }
-    ensures { IfSome result (λ _. members_of members.new.items ≡ put name.now (plain_data plain.entry) (members_of members.old.items)) }
+    ensures { IfSome result (λ _.
+        members_of members.new.items ≡ put name.now (plain_data plain.entry) (members_of members.old.items)) }
 {
     if is_last(members.as_slice(), name) {
         members.push((name, plain)).ok()?;
@@ -156,13 +169,15 @@ fn place<'a>(
     Some(())
 }
 
+#[inline(always)]
 fn is_same(one: &[u8], other: &[u8]) -> bool
     ensures { Decides result (one.now ≡ other.now) }
 {
-    one == other
+    one.len() == other.len() && one == other
 }
 
 // Where the member of a name stands.
+#[inline(always)]
 #[tactic(auto, using(crate::proofs::Placing::passed_first, crate::proofs::Placing::passed_more, crate::proofs::Placing::is_found, crate::proofs::Placing::not_found))]
 fn place_of(members: &[(&[u8], Plain<'_>)], name: &[u8]) -> Option<usize>
     ensures { Finds name.now members.now result }
@@ -177,13 +192,51 @@ fn place_of(members: &[(&[u8], Plain<'_>)], name: &[u8]) -> Option<usize>
     None
 }
 
-/// Takes the member of a name, if it is there.
-pub(crate) fn take<'a>(members: &mut Vec<(&'a [u8], Plain<'a>)>, name: &[u8]) -> Option<Plain<'a>>
-    ensures found { option_map plain_data result ≡ get_member name.now (members_of members.old.items) }
-    ensures left { members_of members.new.items ≡ without name.now (members_of members.old.items) }
-{
-    match place_of(members.as_slice(), name) {
-        Some(at) => Some(members.remove(at).1),
-        None => None,
+/// The members of an object that are left, in the order of their names.
+#[derive(Drop)]
+pub(crate) struct FlatMembers<'a> {
+    members: Vec<(&'a [u8], Plain<'a>)>,
+    // How many at the front are taken.
+    taken: usize,
+}
+
+impl<'a> FlatMembers<'a> {
+    ghost use Rattle.trace_pipeline.specs.Left.{flat_left};
+
+    /// Those of a list, of which none is taken.
+    pub(crate) fn new(members: Vec<(&'a [u8], Plain<'a>)>) -> FlatMembers<'a>
+        ensures { flat_left result ≡ members.entry.items }
+    {
+        FlatMembers { members, taken: 0 }
+    }
+
+    #[tactic(auto, using(std::proofs::lemmas::List::drop_min))]
+    fn left(&self) -> &[(&'a [u8], Plain<'a>)]
+        ensures { result.now ≡ flat_left self.now }
+    {
+        let taken = self.taken.min(self.members.len());
+        &self.members[taken..]
+    }
+
+    /// Whether all are taken.
+    pub(crate) fn is_empty(&self) -> bool
+        ensures { Decides result (length (flat_left self.now) ≡ 0) }
+    {
+        self.left().is_empty()
+    }
+
+    /// Takes the member of a name, if it is there. The first is taken with no move of the others.
+    #[inline(always)]
+    pub(crate) fn take(&mut self, name: &[u8]) -> Option<Plain<'a>>
+        ensures found { option_map plain_data result ≡ get_member name.now (members_of (flat_left self.old)) }
+        ensures left { members_of (flat_left self.new) ≡ without name.now (members_of (flat_left self.old)) }
+    {
+        let at = place_of(self.left(), name)?;
+        if at == 0 {
+            let plain = self.members[self.taken].1;
+            self.taken += 1;
+            return Some(plain);
+        }
+        Some(self.members.remove(self.taken + at).1)
     }
 }

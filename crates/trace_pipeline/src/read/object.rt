@@ -8,7 +8,7 @@ ghost use Rattle.trace_pipeline.specs.Forms.{at_most};
 ghost use Rattle.trace_pipeline.specs.Object.{items};
 
 use crate::read::LineError;
-use crate::read::flat::{self, take};
+use crate::read::flat::{self, FlatMembers};
 use crate::read::plain::Plain;
 use crate::read::tree::value_of;
 use crate::read::value::Value;
@@ -21,7 +21,7 @@ use std::alloc::Global;
 #[derive(Drop)]
 pub(crate) enum Object<'a> {
     /// They stand plainly in the text.
-    Flat(Vec<(&'a [u8], Plain<'a>)>),
+    Flat(FlatMembers<'a>),
     /// They were read to a tree.
     Tree(Map<String, Json>),
 }
@@ -74,7 +74,7 @@ impl<'a> Object<'a> {
         ensures { Opens left result (line_members line.now) }
     {
         match flat::members(alloc, line) {
-            Some(members) => Ok(Object::Flat(members)),
+            Some(members) => Ok(Object::Flat(FlatMembers::new(members))),
             None => tree_of(alloc, line),
         }
     }
@@ -92,13 +92,14 @@ impl<'a> Object<'a> {
     }
 
     // Takes a member, if it is there.
+    #[inline(always)]
     #[tactic(auto, using(crate::proofs::Members::found, crate::proofs::Members::kept))]
     fn optional(&mut self, name: &str) -> Option<Value<'a>>
         ensures found { option_map value_data result ≡ get_member name.now (left self.old) }
         ensures left { left self.new ≡ without name.now (left self.old) }
     {
         match self {
-            Object::Flat(members) => match take(members, name.as_bytes()) {
+            Object::Flat(members) => match members.take(name.as_bytes()) {
                 Some(plain) => Some(Value::Plain(plain)),
                 None => None,
             },
@@ -110,6 +111,7 @@ impl<'a> Object<'a> {
     }
 
     /// Takes a member.
+    #[inline(always)]
     pub(crate) fn member(&mut self, name: &str) -> Result<Value<'a>, LineError>
         ensures { Gives (λ v. (value_data v, left self.new)) result (member name.now (left self.old)) }
     {
@@ -120,6 +122,7 @@ impl<'a> Object<'a> {
     }
 
     /// Takes a whole number.
+    #[inline(always)]
     pub(crate) fn whole(&mut self, name: &str) -> Result<u64, LineError>
         ensures { Gives (λ n. (n, left self.new)) result (whole name.now (left self.old)) }
     {
@@ -149,7 +152,8 @@ impl<'a> Object<'a> {
 
     /// Takes an array.
     pub(crate) fn array(&mut self, alloc: Global, name: &str) -> Result<Vec<Value<'a>>, LineError>
-        ensures { Gives (λ v. (items value_data v.items, left self.new)) result (array name.now (left self.old)) }
+        ensures { Gives (λ v. (items value_data v.items, left self.new)) result
+            (array name.now (left self.old)) }
     {
         self.member(name)?.into_array(alloc)
     }

@@ -100,7 +100,7 @@ pub(crate) fn request_members(object: &mut Object) -> Result<Request, LineError>
     ensures { Gives (λ r. (r, left object.new)) result (request_form (left object.old)) }
 {
     let at = object.whole("at")?;
-    let lane = object.whole_to(0, "lane")?;
+    let lane = object.whole("lane")?;
     let word = object.member("do")?;
     let verb = verb_of(word.word()?).ok_or(LineError::Later)?;
     let call = call(verb, object)?;

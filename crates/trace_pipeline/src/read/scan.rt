@@ -117,7 +117,10 @@ fn word<'a>(text: &'a [u8], word: &[u8]) -> Option<&'a [u8]>
 fn leaf(bytes: &[u8]) -> Option<(Plain<'_>, &[u8])>
     ensures { IfSome result (λ r. Begins 0 bytes.now (plain_data r.0) r.1.now) }
 {
-    match *bytes.first()? {
+    if bytes.is_empty() {
+        return None;
+    }
+    match bytes[0] {
         b'"' => text_value(bytes),
         b't' | b'f' => flag_value(bytes),
         b'-' => below_value(bytes),

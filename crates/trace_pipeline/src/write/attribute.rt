@@ -3,7 +3,7 @@ ghost use Rattle.std.specs.Prelude.{◌≡◌, ◌++◌};
 ghost use Rattle.serde_json.specs.Data.{string};
 ghost use Rattle.serde_json.specs.Written.{compact_text};
 ghost use Rattle.trace_pipeline.specs.Object.{array_of};
-ghost use Rattle.trace_pipeline.specs.RecordData.{value_data, attribute_data, attributes_data};
+ghost use Rattle.trace_pipeline.specs.RecordData.{attribute_value, attribute_data, attributes_data};
 ghost use Rattle.trace_pipeline.specs.Writes.{Writes};
 
 use super::pieces::{add, add_flag, add_integer, add_text, separator};
@@ -42,7 +42,7 @@ fn add_attribute(out: &mut Vec<u8>, front: &str, attribute: &KeyValue) -> Result
 
 #[tactic(auto, using(crate::proofs::Written::integer_text))]
 fn add_value(out: &mut Vec<u8>, front: &str, value: &OtelValue) -> Result<(), AllocError>
-    ensures { Writes result out.old out.new (front.now ++ compact_text (value_data value.now)) }
+    ensures { Writes result out.old out.new (front.now ++ compact_text (attribute_value value.now)) }
 {
     match value {
         OtelValue::Bool(truth) => add_flag(out, front, *truth),

@@ -2,11 +2,11 @@
 ghost use Rattle.std.specs.Prelude.{◌≡◌, ◌+◌, ◌<◌, ◌≤◌, ◌++◌, drop, length, false};
 ghost use Rattle.std.specs.Fmt.{digit_glyph};
 ghost use Rattle.std.specs.Str.{IsUtf8};
-ghost use Rattle.json.specs.Print.{quoted};
+ghost use Rattle.json.specs.Print.{escape, quoted};
 ghost use Rattle.trace_pipeline.specs.Hex.{hex16, hex32};
 ghost use Rattle.trace_pipeline.specs.Writes.{Writes};
 
-use super::pieces::add_text;
+use super::pieces::add_plain;
 use std::alloc::AllocError;
 
 /// Adds an id of 64 bits.
@@ -14,7 +14,7 @@ pub fn add_id(out: &mut Vec<u8>, front: &str, id: u64) -> Result<(), AllocError>
     ensures { Writes result out.old out.new (front.now ++ quoted (hex16 id)) }
 {
     let digits = digits_of(id);
-    add_text(out, front, as_text(&digits))?;
+    add_plain(out, front, as_text(&digits))?;
     Ok(())
 }
 
@@ -23,7 +23,7 @@ pub fn add_long_id(out: &mut Vec<u8>, front: &str, id: u128) -> Result<(), Alloc
     ensures { Writes result out.old out.new (front.now ++ quoted (hex32 id)) }
 {
     let digits = digits_of_long(id);
-    add_text(out, front, as_text(&digits))?;
+    add_plain(out, front, as_text(&digits))?;
     Ok(())
 }
 
@@ -40,6 +40,7 @@ fn as_text(digits: &[u8]) -> &str
 fn digits_of(id: u64) -> [u8; 16]
     ensures value { result ≡ hex16 id }
     ensures utf8 { IsUtf8 result }
+    ensures plain { escape result ≡ result }
 {
     let mut digits = [b'0'; 16];
     put_digits(&mut digits, 0, id);
@@ -50,6 +51,7 @@ fn digits_of(id: u64) -> [u8; 16]
 fn digits_of_long(id: u128) -> [u8; 32]
     ensures value { result ≡ hex32 id }
     ensures utf8 { IsUtf8 result }
+    ensures plain { escape result ≡ result }
 {
     let mut digits = [b'0'; 32];
     put_digits(&mut digits, 16, (id % (1 << 64)) as u64);

@@ -1,7 +1,7 @@
 //! The pieces of lines: each is a text as it is given, and then a value.
 ghost use Rattle.std.specs.Prelude.{◌≡◌, ◌++◌, decimal, codes};
 ghost use Rattle.std.specs.Fmt.{signed_decimal};
-ghost use Rattle.json.specs.Print.{quoted};
+ghost use Rattle.json.specs.Print.{escape, quoted};
 ghost use Rattle.serde_json.specs.Data.{boolean};
 ghost use Rattle.serde_json.specs.Written.{compact_text, comma_if};
 ghost use Rattle.trace_pipeline.specs.Writes.{Writes};
@@ -11,6 +11,7 @@ use itoa::Buffer;
 use std::alloc::AllocError;
 
 /// Adds a text as it is.
+#[inline(always)]
 pub fn add(out: &mut Vec<u8>, front: &str) -> Result<(), AllocError>
     ensures { Writes result out.old out.new front.now }
 {
@@ -19,6 +20,7 @@ pub fn add(out: &mut Vec<u8>, front: &str) -> Result<(), AllocError>
 }
 
 /// Adds a whole number.
+#[inline(always)]
 pub fn add_number(out: &mut Vec<u8>, front: &str, number: u64) -> Result<(), AllocError>
     ensures { Writes result out.old out.new (front.now ++ decimal number) }
 {
@@ -40,6 +42,7 @@ pub fn add_integer(out: &mut Vec<u8>, front: &str, number: i64) -> Result<(), Al
     Ok(())
 }
 
+#[inline(always)]
 fn flag_word(flag: bool) -> &'static str
     ensures { result.now ≡ compact_text (boolean flag) }
 {
@@ -47,6 +50,7 @@ fn flag_word(flag: bool) -> &'static str
 }
 
 /// Adds true or false.
+#[inline(always)]
 pub fn add_flag(out: &mut Vec<u8>, front: &str, flag: bool) -> Result<(), AllocError>
     ensures { Writes result out.old out.new (front.now ++ compact_text (boolean flag)) }
 {
@@ -62,6 +66,18 @@ pub fn add_text(out: &mut Vec<u8>, front: &str, text: &str) -> Result<(), AllocE
     add(out, front)?;
     out.push(b'"')?;
     add_escaped(out, text.as_bytes())?;
+    out.push(b'"')?;
+    Ok(())
+}
+
+/// Adds a text in quotes that needs no escape.
+pub fn add_plain(out: &mut Vec<u8>, front: &str, text: &str) -> Result<(), AllocError>
+    requires { escape text.now ≡ text.now }
+    ensures { Writes result out.old out.new (front.now ++ quoted text.now) }
+{
+    add(out, front)?;
+    out.push(b'"')?;
+    add(out, text)?;
     out.push(b'"')?;
     Ok(())
 }

@@ -46,7 +46,8 @@ fn name_of(kind: SpanKind) -> &'static str
 }
 
 fn add_error(out: &mut Vec<u8>, front: &str, description: &str) -> Result<(), AllocError>
-    ensures { Writes result out.old out.new (front.now ++ compact_text (status_data (Status.Error description.now))) }
+    ensures { Writes result out.old out.new
+        (front.now ++ compact_text (status_data (Status.Error description.now))) }
 {
     add(out, front)?;
     add_text(out, "{\"error\":", description)?;

@@ -33,7 +33,8 @@ fn add_step(out: &mut Vec<u8>, line: u64, refusal: Refusal) -> Result<(), AllocE
 }
 
 fn add_moment(out: &mut Vec<u8>, line: u64, before: u64, given: u64) -> Result<(), AllocError>
-    ensures { Writes result out.old out.new (compact_text (refusal_data line (Told.Step (Refusal.BadMoment before given)))) }
+    ensures { Writes result out.old out.new
+        (compact_text (refusal_data line (Told.Step (Refusal.BadMoment before given)))) }
 {
     add_number(out, "{\"before\":", before)?;
     add_number(out, ",\"given\":", given)?;
@@ -43,7 +44,8 @@ fn add_moment(out: &mut Vec<u8>, line: u64, before: u64, given: u64) -> Result<(
 }
 
 fn add_unknown(out: &mut Vec<u8>, line: u64, what: What) -> Result<(), AllocError>
-    ensures { Writes result out.old out.new (compact_text (refusal_data line (Told.Step (Refusal.UnknownName what)))) }
+    ensures { Writes result out.old out.new
+        (compact_text (refusal_data line (Told.Step (Refusal.UnknownName what)))) }
 {
     add_number(out, "{\"line\":", line)?;
     add_text(out, ",\"refused\":\"UnknownName\",\"what\":", name_of(what))?;

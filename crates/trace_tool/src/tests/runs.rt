@@ -192,6 +192,16 @@ P
 < {"at":0,"do":"event","lane":0,"site":9}
 > {"line":2,"refused":"UnknownName","what":"site"}
 = 2
+# the second lane
+P
+< {"at":0,"do":"new","lane":1,"site":0}
+> {"line":2,"refused":"Later"}
+= 2
+# a guard that is not there
+P
+< {"at":0,"do":"exit","guard":0,"lane":0}
+> {"line":2,"refused":"UnknownName","what":"guard"}
+= 2
 # a further member
 P
 < {"at":0,"do":"new","lane":0,"more":1,"site":0}
@@ -232,6 +242,18 @@ P
 = 2
 # a filter of directives
 < {"callsites":[],"filter":"app=info","lanes":[],"layer":{"location":false,"target":false,"threads":false}}
+> {"line":1,"refused":"Later"}
+= 2
+# two lanes of one id
+< {"callsites":[],"filter":"info","lanes":[{"id":1},{"id":2},{"id":1}],"layer":{"location":false,"target":false,"threads":false}}
+> {"line":1,"refused":"Later"}
+= 2
+# no layer
+< {"callsites":[],"filter":"info","lanes":[]}
+> {"line":1,"refused":"Later"}
+= 2
+# a callsite's line above 2^32 - 1
+< {"callsites":[{"fields":[],"kind":"span","level":"info","line":4294967296,"name":"s","target":"app"}],"filter":"info","lanes":[],"layer":{"location":false,"target":false,"threads":false}}
 > {"line":1,"refused":"Later"}
 = 2
 # a lane that is not there

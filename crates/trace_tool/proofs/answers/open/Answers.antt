@@ -5,5 +5,5 @@ use Rattle.trace_tool.proofs.answers.open.Goals as goal
 pub returns : goal.returns
 returns c before count opens next other =
     let read = c.read_settings.ensures in
-    opened before count c.args.lines c.args.written c.args.line.now c.in-Ok.settings c.in-Ok-open.pipeline opens next other
+    opened before count c.args.lines c.args.written.now c.args.line.now c.in-Ok.settings c.in-Ok-open.pipeline opens next other
     (spelled_as _ _ _ c.in_ok-settings.ensures.same read.ok read.bad_line read.later ∙ c.in-Ok.is) c.in-Ok-open.ensures.stands c.in-Ok-open.ensures.records

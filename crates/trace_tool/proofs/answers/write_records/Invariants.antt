@@ -4,8 +4,8 @@ use Rattle.trace_tool.proofs.answers.write_records.Given as goal
 
 abbrev pub invariant-loop-finished : goal.invariant-loop-finished
 invariant-loop-finished l = record {
-  lines : l.text.items ++ record_lines (l.records + 1) l.pipeline.finished ≡ l.initial.text.items ++ record_lines (l.initial.records + 1) l.initial.pipeline.finished;
-  count : l.records + length l.pipeline.finished ≡ l.initial.records + length l.initial.pipeline.finished;
+  lines : l.written.text.items ++ record_lines (l.written.records + 1) l.pipeline.finished ≡ l.initial.written.text.items ++ record_lines (l.initial.written.records + 1) l.initial.pipeline.finished;
+  count : l.written.records + length l.pipeline.finished ≡ l.initial.written.records + length l.initial.pipeline.finished;
   state : l.pipeline.state ≡ l.initial.pipeline.state;
 }
 

@@ -1,4 +1,5 @@
-use Rattle.std.proofs.Common.{◌+◌, ◌-◌, ◌^◌, ◌≤◌, length}
+use Rattle.std.proofs.Common.{◌+◌, ◌-◌, ◌≤◌, length}
+use Rattle.trace_pipeline.specs.declared.limits.TheConstants.{MAX_INPUT}
 use Rattle.trace_tool.specs.Streams.{Takes}
 use Rattle.trace_tool.proofs.input.read_all.Given as goal
 
@@ -9,4 +10,4 @@ invariant-loop-block g l = record {
 }
 
 abbrev pub decreases-loop-block : goal.decreases-loop-block
-decreases-loop-block g l = 2 ^ 26 + 1 - length l.bytes.items
+decreases-loop-block g l = MAX_INPUT + 1 - length l.bytes.items
