@@ -1,6 +1,6 @@
 -- One line more is answered, and the lines end.
 use Rattle.std.proofs.Common.{◌≡◌, ℕ, List, [], ◌∷◌, ◌++◌, length, refl, sym, ap, ◌∙◌, append_assoc, ◌+◌, inl, inr}
-use Rattle.std.specs.Prelude.{Result, Ok, Err, IfOk, IsErrOf, Bool, true, false}
+use Rattle.std.specs.Prelude.{Result, Ok, Err, IfOk, IsErrOf, true, false}
 use Rattle.std.proofs.lemmas.List.{append-nil, length-append, length-map}
 use Rattle.std.proofs.lemmas.List.Folds.{list_all-append}
 use Rattle.std.proofs.lemmas.Grind.{flat_map-append}
@@ -20,11 +20,10 @@ use Rattle.trace_pipeline.specs.Lines.{is_blank}
 use Rattle.trace_pipeline.specs.Spelled.{settings_spelled, request_spelled}
 use Rattle.trace_pipeline.specs.Texts.{reply_text, refusal_text, end_text}
 use Rattle.trace_pipeline.specs.Fits.{Kept, StandsFor, Answered}
-use Rattle.trace_pipeline.specs.Report.{Report, behind, refused, effect_of_line, effect_of_request, answer_text, record_lines, report_on, report_from}
+use Rattle.trace_pipeline.specs.Report.{Report, behind, effect_of_line, effect_of_request, answer_text, record_lines, report_on, report_from}
 use Rattle.trace_tool.specs.declared.answers.Stage.{Stage}
 use Rattle.trace_tool.specs.declared.answers.Stage.TheVariants as stage
 use Rattle.trace_tool.specs.declared.answers.Written.{Written}
-use Rattle.trace_tool.specs.Streams.{IsFront}
 use Rattle.trace_tool.specs.Breaks.{are_blank}
 use Rattle.trace_tool.specs.Answers.{IsSpelled, Opens, Runs, Stops, AnswersAt, is_refused, Cuts}
 

@@ -15,7 +15,7 @@ use Rattle.trace_tool.specs.declared.status.Status.TheVariants as ends
 use Rattle.trace_tool.specs.Streams.{Takes, IsFront, Puts, PutsFront}
 use Rattle.trace_tool.specs.Breaks.{whole_part, whole_lines, HasRefused, AnswersAll}
 use Rattle.trace_tool.specs.Answers.{Stops, Cuts}
-use Rattle.trace_tool.specs.Ends.{StopsRefused, BreaksOff, RunsOver, Leaves, Ends, Causes, Completes, status_of, Tells}
+use Rattle.trace_tool.specs.Ends.{Leaves, Ends, Causes, Completes, status_of, Tells}
 use Rattle.trace_tool.proofs.LinesLemmas.{lines_on}
 use Rattle.trace_tool.proofs.AnswersLemmas.{stops_end}
 

@@ -7,7 +7,7 @@ use Rattle.trace_pipeline.specs.declared.reply.Told.{Told}
 use Rattle.trace_pipeline.specs.declared.reply.Told.TheVariants as told
 use Rattle.trace_pipeline.specs.History.{History, closed}
 use Rattle.trace_pipeline.specs.Fits.{Kept, StandsFor}
-use Rattle.trace_pipeline.specs.Report.{Report, behind, report_on, report_from}
+use Rattle.trace_pipeline.specs.Report.{behind, report_on, report_from}
 use Rattle.trace_tool.specs.Streams.{IsFront}
 use Rattle.trace_tool.specs.Breaks.{are_blank, AnswersAll}
 use Rattle.trace_tool.specs.declared.answers.Answers.{Answers}

@@ -4,7 +4,7 @@ use Rattle.std.specs.List.{list_all, list_any}
 use Rattle.std.proofs.Common.{◌⊎◌}
 use Rattle.trace_pipeline.specs.Lines.{lines_of, is_blank}
 use Rattle.trace_pipeline.specs.Texts.{end_text}
-use Rattle.trace_pipeline.specs.Report.{Report, report_from}
+use Rattle.trace_pipeline.specs.Report.{report_from}
 
 -- whether a line feed is among the bytes
 abbrev pub has_feed : List ℕ → Bool

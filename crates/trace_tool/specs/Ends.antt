@@ -1,9 +1,9 @@
 -- How a run ends.
-use Rattle.std.specs.Prelude.{◌≡◌, ℕ, ◌<◌, ◌≤◌, List, [], ◌++◌, length, take, Bool, true, false, not, Option, Some, None, IfSome}
+use Rattle.std.specs.Prelude.{◌≡◌, ℕ, ◌<◌, ◌≤◌, List, [], length, take, Bool, true, false, not, Option, Some, IfSome}
 use Rattle.std.proofs.Common.{◌⊎◌}
-use Rattle.trace_pipeline.specs.Report.{Report, report, output, IsValid, IsRefused}
+use Rattle.trace_pipeline.specs.Report.{report, output, IsValid, IsRefused}
 use Rattle.trace_pipeline.specs.declared.limits.TheConstants.{MAX_INPUT}
-use Rattle.trace_tool.specs.Streams.{HasFault, IsQuiet, IsFront, Takes, Puts, PutsFront}
+use Rattle.trace_tool.specs.Streams.{HasFault, IsQuiet, Takes, Puts, PutsFront}
 use Rattle.trace_tool.specs.Breaks.{whole_lines, HasRefused, AnswersAll}
 use Rattle.trace_tool.specs.Answers.{Cuts}
 use Rattle.trace_tool.specs.declared.answers.Output.{Output}

@@ -1,4 +1,4 @@
-use Rattle.std.proofs.Common.{arith, sym, ◌+◌}
+use Rattle.std.proofs.Common.{sym, ◌+◌}
 use Rattle.std.proofs.lemmas.Bool.{eqb-true}
 use Rattle.trace_tool.proofs.LinesLemmas.{part_at, part_none, feedless_from}
 use Rattle.trace_tool.proofs.lines.whole_part.Goals as goal
