@@ -1,5 +1,5 @@
 //! Records of states, by the ops that were applied, and the vectors of a stack of values.
-use crate::op::{Op, OpReply};
+use crate::op::{Op, OpReply, SetParentError};
 use crate::stack::IdValueStack;
 use crate::state::SpanState;
 use crate::update::Update;
@@ -123,6 +123,13 @@ fn closes_to_the_record_of_its_ops(rt: HostRuntime) -> Result<(), Fail> {
     for (ops, wanted) in CASES {
         assert_eq!(rt; told(rt.alloc(), ops)?.as_str(), wanted);
     }
+    let layer = SetParentError::LayerNotFound;
+    let span = SetParentError::SpanDisabled;
+    let texts = format!(in rt.alloc(); "{layer}; {span}")?;
+    assert_eq!(rt;
+        texts.as_str(),
+        "OpenTelemetry layer not found; Span disabled"
+    );
     Ok(())
 }
 

@@ -5,8 +5,8 @@ use otel_base::status::Status;
 use otel_base::text::Text;
 use otel_base::value::KeyValue;
 
-/// What the fields of one call write on a span; `tracing_opentelemetry::layer::SpanBuilderUpdates`. Those of an event
-/// write no name and no kind.
+/// What the fields of one call write on a span; `tracing_opentelemetry::layer::SpanBuilderUpdates`. `event_op` writes no
+/// name and no kind.
 #[derive(Clone, Drop)]
 pub struct Update {
     /// The name, if they write one.

@@ -26,65 +26,65 @@ const SPANS: [(&str, &str, &str); 22] = [
     (
         "",
         "otel.name=s:GET http://example.com",
-        "name GET http://example.com,",
+        "GET http://example.com - -",
     ),
-    ("", "otel.name=s:a;otel.name=d:b", "name b,"),
+    ("", "otel.name=s:a;otel.name=d:b", "b - -"),
     (
         "",
         "otel.kind=s:server;otel.status_description=s:message",
-        "kind server, error message,",
+        "- server error message",
     ),
-    ("", "otel.kind=d:SerVer", "kind server,"),
-    ("", "otel.kind=s:CLIENT", "kind client,"),
-    ("", "otel.kind=s:producer", "kind producer,"),
-    ("", "otel.kind=s:consumer", "kind consumer,"),
-    ("", "otel.kind=s:internal", "kind internal,"),
-    ("", "otel.kind=s:server;otel.kind=s:robot", ""),
-    ("", "otel.kind=s:robot;otel.kind=s:server", "kind server,"),
-    ("", "otel.status_code=s:OK", "ok,"),
-    ("", "otel.status_code=d:Error", "error ,"),
-    ("", "otel.status_code=s:okay", "unset,"),
+    ("", "otel.kind=d:SerVer", "- server -"),
+    ("", "otel.kind=s:CLIENT", "- client -"),
+    ("", "otel.kind=s:producer", "- producer -"),
+    ("", "otel.kind=s:consumer", "- consumer -"),
+    ("", "otel.kind=s:internal", "- internal -"),
+    ("", "otel.kind=s:server;otel.kind=s:robot", "- - -"),
+    ("", "otel.kind=s:robot;otel.kind=s:server", "- server -"),
+    ("", "otel.status_code=s:OK", "- - ok"),
+    ("", "otel.status_code=d:Error", "- - error "),
+    ("", "otel.status_code=s:okay", "- - unset"),
     (
         "",
         "otel.status_code=s:ok;otel.status_description=d:late",
-        "error late,",
+        "- - error late",
     ),
     (
         "",
         "otel.status_description=s:late;otel.status_code=s:ok",
-        "ok,",
+        "- - ok",
     ),
     (
         "",
         "a=u:9223372036854775808;b=i:-5;c=b:true;d=I:-9;e=U:7;f=d:x",
-        " a=9223372036854775808 b=-5 c=true d=-9 e=7 f=x",
+        "- - - a=9223372036854775808 b=-5 c=true d=-9 e=7 f=x",
     ),
     (
         "",
         "otel.name=u:12;otel.kind=i:3;otel.status_code=b:false",
-        "name 12, otel.kind=3 otel.status_code=false",
+        "12 - - otel.kind=3 otel.status_code=false",
     ),
     (
         "",
         "message=s:m;error=s:x;a=s:1;a=s:2",
-        " message=m error=x a=1 a=2",
+        "- - - message=m error=x a=1 a=2",
     ),
     (
         "",
         "error=e:user error|intermediate error|base error",
-        " exception.message=user error exception.stacktrace=intermediate error|base error| error=user error error.chain=intermediate error|base error|",
+        "- - - exception.message=user error exception.stacktrace=intermediate error|base error| error=user error error.chain=intermediate error|base error|",
     ),
     (
         "f",
         "a=i:1;error=e:user error|base error",
-        " a=1 error=user error error.chain=base error|",
+        "- - - a=1 error=user error error.chain=base error|",
     ),
     (
         "",
         "otel.name=e:boom",
-        " exception.message=boom exception.stacktrace= otel.name=boom otel.name.chain=",
+        "- - - exception.message=boom exception.stacktrace= otel.name=boom otel.name.chain=",
     ),
-    ("", "", ""),
+    ("", "", "- - -"),
 ];
 
 // The same of an event: its name, its attributes, and what it writes on its span.
@@ -92,110 +92,122 @@ const EVENTS: [(&str, &str, &str); 24] = [
     (
         "l",
         "message=s:event name 1",
-        "event name 1: level=WARN target=app;",
+        "event name 1: level=WARN target=app; - - -",
     ),
-    ("l", "field1=s:x", "site: level=WARN target=app field1=x;"),
+    (
+        "l",
+        "field1=s:x",
+        "site: level=WARN target=app field1=x; - - -",
+    ),
     (
         "l",
         "error=s:field2",
-        "exception: level=WARN target=app exception.message=\"field2\"; error \"field2\",",
+        "exception: level=WARN target=app exception.message=\"field2\"; - - error \"field2\"",
     ),
-    ("l", "message=s:field3", "field3: level=WARN target=app;"),
+    (
+        "l",
+        "message=s:field3",
+        "field3: level=WARN target=app; - - -",
+    ),
     (
         "l",
         "name=s:field4",
-        "site: level=WARN target=app name=field4;",
+        "site: level=WARN target=app name=field4; - - -",
     ),
     (
         "l",
         "error=s:a\"\u{7f}",
-        "exception: level=WARN target=app exception.message=\"a\\\"\\u{7f}\"; error \"a\\\"\\u{7f}\",",
+        "exception: level=WARN target=app exception.message=\"a\\\"\\u{7f}\"; - - error \"a\\\"\\u{7f}\"",
     ),
     (
         "l",
         "error=d:x",
-        "exception: level=WARN target=app exception.message=x; error x,",
+        "exception: level=WARN target=app exception.message=x; - - error x",
     ),
     (
         "lx",
         "error=d:x",
-        "site: level=WARN target=app error=x; error x,",
+        "site: level=WARN target=app error=x; - - error x",
     ),
     (
         "ls",
         "error=d:x",
-        "exception: level=WARN target=app exception.message=x;",
+        "exception: level=WARN target=app exception.message=x; - - -",
     ),
-    ("lxs", "error=u:7", "site: level=WARN target=app error=7;"),
+    (
+        "lxs",
+        "error=u:7",
+        "site: level=WARN target=app error=7; - - -",
+    ),
     (
         "l",
         "message=s:m;error=s:z",
-        "m: level=WARN target=app error=z;",
+        "m: level=WARN target=app error=z; - - -",
     ),
     (
         "l",
         "error=d:a;error=d:b",
-        "exception: level=WARN target=app exception.message=a error=b; error a,",
+        "exception: level=WARN target=app exception.message=a error=b; - - error a",
     ),
     (
         "lx",
         "error=d:a;error=d:b",
-        "site: level=WARN target=app error=a error=b; error b,",
+        "site: level=WARN target=app error=a error=b; - - error b",
     ),
     (
         "l",
         "message=d:;error=d:a",
-        "exception: level=WARN target=app exception.message=a; error a,",
+        "exception: level=WARN target=app exception.message=a; - - error a",
     ),
     (
         "l",
         "message=i:-5;error=i:5",
-        "-5: level=WARN target=app error=5;",
+        "-5: level=WARN target=app error=5; - - -",
     ),
     (
         "l",
         "error=b:true;message=b:false",
-        "false: level=WARN target=app error=true;",
+        "false: level=WARN target=app error=true; - - -",
     ),
     (
         "l",
         "message=U:7;a=I:-8;b=d:y;c=i:3;d=b:true",
-        "7: level=WARN target=app a=-8 b=y c=3 d=true;",
+        "7: level=WARN target=app a=-8 b=y c=3 d=true; - - -",
     ),
     (
         "l",
         "otel.name=s:x;otel.kind=s:server",
-        "site: level=WARN target=app otel.name=x otel.kind=server;",
+        "site: level=WARN target=app otel.name=x otel.kind=server; - - -",
     ),
     (
         "l",
         "cause=e:boom|base",
-        "site: level=WARN target=app exception.message=boom exception.stacktrace=base| cause=boom cause.chain=base|; exception.message=boom exception.stacktrace=base|",
+        "site: level=WARN target=app exception.message=boom exception.stacktrace=base| cause=boom cause.chain=base|; - - - exception.message=boom exception.stacktrace=base|",
     ),
     (
         "lf",
         "cause=e:boom|base",
-        "site: level=WARN target=app cause=boom cause.chain=base|; exception.message=boom exception.stacktrace=base|",
+        "site: level=WARN target=app cause=boom cause.chain=base|; - - - exception.message=boom exception.stacktrace=base|",
     ),
     (
         "lr",
         "message=e:boom",
-        "site: level=WARN target=app exception.message=boom exception.stacktrace= message=boom message.chain=;",
+        "site: level=WARN target=app exception.message=boom exception.stacktrace= message=boom message.chain=; - - -",
     ),
     (
         "lfr",
         "error=e:boom",
-        "site: level=WARN target=app error=boom error.chain=;",
+        "site: level=WARN target=app error=boom error.chain=; - - -",
     ),
     (
         "",
         "a=s:1",
-        "site: level=WARN target=app a=1 code.file.path=a.rs code.line.number=3;",
+        "site: level=WARN target=app a=1 code.file.path=a.rs code.line.number=3; - - -",
     ),
     (
         "E",
         "",
-        "error site: level=ERROR target=app code.file.path=a.rs code.line.number=3;",
+        "error site: level=ERROR target=app code.file.path=a.rs code.line.number=3; - - -",
     ),
 ];
 
@@ -250,24 +262,26 @@ fn of_event(alloc: Global, flags: &str, fields: &str) -> Result<String, Fail> {
     let (callsite, values) = given(alloc, flags, fields)?;
     let mut told = String::new(alloc);
     let op = event_op(alloc, &callsite, &values, &settings(flags), 40)?;
-    if let Op::Event {
+    tell_event(&mut told, &op)?;
+    Ok(told)
+}
+
+// An event of level ERROR is told as one, and one at another moment than 40 as late.
+fn tell_event(told: &mut String, op: &Op) -> Result<(), Fail> {
+    let Op::Event {
         is_error,
         update,
         event,
-    } = &op
-    {
-        if *is_error {
-            told.push_str("error ")?;
-        }
-        if event.time != 40 {
-            told.push_str("late ")?;
-        }
-        write!(told, "{}:", event.name.as_str())?;
-        tell_pairs(&mut told, &event.attributes)?;
-        told.push_str(";")?;
-        tell_update(&mut told, update)?;
-    }
-    Ok(told)
+    } = op
+    else {
+        return Ok(());
+    };
+    let level = if *is_error { "error " } else { "" };
+    let moment = if event.time == 40 { "" } else { "late " };
+    write!(told, "{level}{moment}{}:", event.name.as_str())?;
+    tell_pairs(told, &event.attributes)?;
+    told.push_str("; ")?;
+    tell_update(told, update)
 }
 
 fn at_first(alloc: Global, flags: &str) -> Result<String, Fail> {
@@ -355,38 +369,38 @@ fn value_of(alloc: Global, value: &str) -> Result<Value, Fail> {
     })
 }
 
-// An error by its message and those of its sources, with `|` between them.
+// An error by its message and those of its sources, with `|` before each.
 fn error_of(alloc: Global, told: &str) -> Result<Value, Memory> {
-    let mut message = text(alloc, "")?;
+    let (message, sources) = told.split_once("|").unwrap_or((told, ""));
     let mut chain = Items::new(alloc);
-    let mut is_first = true;
-    for part in told.split("|") {
-        if is_first {
-            message = text(alloc, part)?;
-        } else {
-            chain.push(text(alloc, part)?)?;
+    for source in sources.split("|") {
+        if !source.is_empty() {
+            chain.push(text(alloc, source)?)?;
         }
-        is_first = false;
     }
-    Ok(Value::Error { message, chain })
+    Ok(Value::Error {
+        message: text(alloc, message)?,
+        chain,
+    })
 }
 
+// The name, the kind and the status that are written, with `-` for none, and the attributes.
 fn tell_update(told: &mut String, update: &Update) -> Result<(), Fail> {
-    if let Some(name) = &update.name {
-        write!(told, "name {},", name.as_str())?;
-    }
-    if let Some(kind) = update.kind {
-        let space = if told.is_empty() { "" } else { " " };
-        write!(told, "{space}kind {},", kind_word(kind))?;
-    }
-    if let Some(status) = &update.status {
-        if !told.is_empty() {
-            told.push_str(" ")?;
-        }
-        tell_status(told, status)?;
-        told.push_str(",")?;
+    tell_name(told, &update.name)?;
+    told.push_str(kind_word(update.kind))?;
+    match &update.status {
+        Some(status) => tell_status(told, status)?,
+        None => told.push_str("-")?,
     }
     tell_pairs(told, &update.attributes)
+}
+
+fn tell_name(told: &mut String, name: &Option<Text>) -> Result<(), Fail> {
+    match name {
+        Some(name) => write!(told, "{} ", name.as_str())?,
+        None => told.push_str("- ")?,
+    }
+    Ok(())
 }
 
 fn tell_pairs(told: &mut String, pairs: &Items<KeyValue>) -> Result<(), Fail> {
@@ -396,12 +410,13 @@ fn tell_pairs(told: &mut String, pairs: &Items<KeyValue>) -> Result<(), Fail> {
     Ok(())
 }
 
-fn kind_word(kind: SpanKind) -> &'static str {
+fn kind_word(kind: Option<SpanKind>) -> &'static str {
     match kind {
-        SpanKind::Server => "server",
-        SpanKind::Client => "client",
-        SpanKind::Producer => "producer",
-        SpanKind::Consumer => "consumer",
-        SpanKind::Internal => "internal",
+        Some(SpanKind::Server) => "server ",
+        Some(SpanKind::Client) => "client ",
+        Some(SpanKind::Producer) => "producer ",
+        Some(SpanKind::Consumer) => "consumer ",
+        Some(SpanKind::Internal) => "internal ",
+        None => "- ",
     }
 }
