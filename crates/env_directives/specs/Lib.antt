@@ -1,6 +1,7 @@
 pub mod Cares
 pub mod Choice
 pub mod Cuts
+pub mod Deciding
 pub mod DirectiveLaws
 pub mod DirectiveOrder
 pub mod Faults

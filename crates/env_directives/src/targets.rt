@@ -25,6 +25,8 @@ use std::fmt;
 use std::marker::Model;
 use trace_base::level::{Level, LevelFilter};
 
+mod layer;
+
 /// Targets with the levels that are let through for them; `tracing_subscriber::filter::targets::Targets`.
 #[derive(Drop)]
 pub struct Targets {

@@ -16,6 +16,8 @@ use std::marker::Model;
 use trace_base::callsite::Callsite;
 use trace_base::level::{Level, LevelFilter};
 
+mod clone;
+
 /// Directives in their order, of which no two are equal, and the greatest level that was ever added;
 /// `tracing_subscriber::filter::directive::DirectiveSet`.
 #[derive(Drop)]

@@ -29,7 +29,7 @@ use trace_base::level::{Level, LevelFilter};
 mod parse;
 
 /// What part of a program is traced, and how verbosely; `tracing_subscriber::filter::Directive`.
-#[derive(Drop)]
+#[derive(Clone, Drop)]
 pub struct Directive {
     /// The name of the spans that it speaks of, any if there is none.
     pub in_span: Option<Text>,
