@@ -1,0 +1,13 @@
+-- The op is the one that was prepared.
+use Rattle.std.proofs.Common.{subst}
+use Rattle.trace_base.specs.Hooks.{OnRecord, ForRecord}
+use Rattle.otel_layer.specs.Steps.{all_events}
+use Rattle.otel_layer.specs.Ready.{IsReadyOtel}
+use Rattle.otel_layer.specs.Rooming.{stepped}
+use Rattle.otel_layer.proofs.Hooking.{op_is}
+use Rattle.otel_layer.proofs.hooks.OpenTelemetryLayerLayer.on_record.Goals as goal
+
+pub returns : goal.returns
+returns g c =
+    let ready = subst (λ r. IsReadyOtel c.args.self.now (ForRecord c.args.id c.args._callsite.now c.args._values.now) r) c.in-Happened.is c.requires.ready in
+    stepped g.T.Tracer.does all_events c.args.self.now.core (OnRecord c.args.id c.args.at c.args._callsite.now c.args._values.now) _ (op_is c.args.self.now.core _ c.args.id c.args.at _ _ ready.0 c.put_op.ensures.core)

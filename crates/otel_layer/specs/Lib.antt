@@ -1,0 +1,10 @@
+pub mod Core
+pub mod Keeping
+pub mod Laning
+pub mod Lending
+pub mod Ready
+pub mod Rooming
+pub mod Seeing
+pub mod Steps
+pub mod Table
+pub mod Taking

@@ -1,0 +1,187 @@
+-- What each hook makes of a layer.
+use Rattle.std.specs.Prelude.{◌≡◌, ℕ, ◌+◌, ◌-◌, ◌<◌, ◌==◌, ◌^◌, suc, zero, if◌then◌else◌, Bool, true, false, List, [], ◌∷◌, ◌++◌, length, Option, Some, None}
+use Rattle.std.specs.Map.{remove_entry}
+use Rattle.otel_base.specs.declared.context.Context.{Context}
+use Rattle.otel_base.specs.declared.context.SpanContext.{SpanContext}
+use Rattle.otel_base.specs.Ids.{ids_of}
+use Rattle.otel_base.specs.Stack.{without, last_context, empty_context}
+use Rattle.otel_base.specs.Tracer.{TracerCall, Start, Reserve, Finish}
+use Rattle.trace_base.specs.declared.callsite.Callsite.{Callsite}
+use Rattle.trace_base.specs.declared.field.ValueSet.{ValueSet}
+use Rattle.trace_base.specs.declared.lane.Lane.{Lane}
+use Rattle.trace_base.specs.declared.span.Parent.{Parent}
+use Rattle.trace_base.specs.declared.span.Parent.TheVariants as parent
+use Rattle.trace_base.specs.Spans.{without_last}
+use Rattle.trace_base.specs.Contexts.{KeepsLane, attached_as}
+use Rattle.trace_base.specs.Hooks.{Hook, OnNewSpan, OnRecord, OnFollows, OnEvent, OnEnter, OnExit, OnClose}
+use Rattle.otel_state.specs.declared.op.Op.TheVariants as ops
+use Rattle.otel_state.specs.declared.settings.LayerSettings.{LayerSettings}
+use Rattle.otel_state.specs.EventFields.{event_of}
+use Rattle.otel_state.specs.FirstAttributes.{first_attributes}
+use Rattle.otel_state.specs.SpanFields.{span_update}
+use Rattle.otel_state.specs.Stack.{last_passing}
+use Rattle.otel_state.specs.States.{Told, begun, changed, record_of}
+use Rattle.otel_layer.specs.declared.tokens.Token.{Token}
+use Rattle.otel_layer.specs.Table.{told_at, knows_span, with_span, update, with_op, waits, own_or, ids_at, is_id}
+use Rattle.otel_layer.specs.Core.{Core, is_token}
+
+-- ---- room
+
+-- so many rooms are reserved with a tracer
+abbrev pub Reserves : {T : Type 0} → (T → TracerCall → T → Type 0) → ℕ → T → T → Type 0
+Reserves does zero s t = t ≡ s
+Reserves {T} does (suc n) s t = (m : T) × does s Reserve m × Reserves does n m t
+
+-- the same but for room
+pub record SameCore {T : Type 0} (does : T → TracerCall → T → Type 0) (c d : Core T) : Type 0 where
+  pub count : ℕ
+  pub reserves : Reserves does count c.tracer d.tracer
+  pub rest : d ≡ record c { tracer = d.tracer; reserved = c.reserved + count }
+
+-- ---- starts
+
+-- a span starts under a context, if there is one to start under: one that is known and hasn't started has one
+abbrev pub StartsIf : {T : Type 0} → (T → TracerCall → T → Type 0) → Option Context → ℕ → ℕ → Core T → Core T → Type 0
+StartsIf does None id at c d = d ≡ c
+StartsIf does (Some under) id at c d =
+    (given : SpanContext) × does c.tracer (Start (ids_of under) given) d.tracer × (d ≡ record c { tracer = d.tracer; spans = with_op id at (ops.Start given) c.spans })
+
+abbrev pub Starts : {T : Type 0} → (T → TracerCall → T → Type 0) → ℕ → ℕ → Core T → Core T → Type 0
+Starts does id at c d = StartsIf does (waits (told_at id c.spans)) id at c d
+
+-- the span that is named starts, if one is
+abbrev pub StartsAny : {T : Type 0} → (T → TracerCall → T → Type 0) → Option ℕ → ℕ → Core T → Core T → Type 0
+StartsAny does None at c d = d ≡ c
+StartsAny does (Some id) at c d = Starts does id at c d
+
+-- ---- a making
+
+-- the span that a new one gets its parent's context from: an explicit parent, or without activation the current span
+abbrev pub above : Bool → Parent → Option ℕ → Option ℕ
+above activation parent.Root current = None
+above activation (parent.Of id) current = Some id
+above true parent.Current current = None
+above false parent.Current current = current
+
+-- the context where there is no such span: the lane's current one for a contextual span, else the empty one
+abbrev pub around : Lane → Parent → Context
+around lane parent.Root = empty_context
+around lane (parent.Of id) = empty_context
+around lane parent.Current = last_context empty_context lane.contexts.live
+
+abbrev pub context_from : List (ℕ × Told) → Context → Option ℕ → Context
+context_from spans other None = other
+context_from spans other (Some id) = own_or other (told_at id spans)
+
+-- a span that was just made: its first attributes, then what its fields write
+abbrev pub made_told : Callsite → Lane → ValueSet → Context → ℕ → LayerSettings → Bool → Told
+made_told callsite lane values context at settings counting = changed
+    (begun (record { name = callsite.name; parent = context; made = at; first = first_attributes callsite lane settings; counting = counting; inactivity = settings.inactivity }))
+    at
+    (ops.Update (span_update callsite values settings))
+
+-- the span that gives the parent's context starts, and the new one is added
+pub record MakesSpan {T : Type 0} (does : T → TracerCall → T → Type 0) (c : Core T) (id : ℕ) (lane : Lane) (at : ℕ) (place : Parent) (current : Option ℕ) (callsite : Callsite) (values : ValueSet) (d : Core T) : Type 0 where
+  pub between : Core T
+  pub spare : length c.spans < c.reserved
+  pub few : c.made + 1 < 2 ^ 62
+  pub starts : StartsAny does (above c.settings.activation place current) at c between
+  pub rest : d ≡ record between {
+    spans = with_span id (made_told callsite lane values (context_from between.spans (around lane place) (above c.settings.activation place current)) at c.settings c.counting) between.spans;
+    made = between.made + 1;
+  }
+
+-- ---- follows
+
+-- a link to a span's own context, none where it isn't known
+abbrev pub with_link : ℕ → ℕ → Option SpanContext → List (ℕ × Told) → List (ℕ × Told)
+with_link id at None spans = spans
+with_link id at (Some context) spans = with_op id at (ops.Link (record { context = context; attributes = [] })) spans
+
+-- the followed span starts, and the other is linked to it
+pub record FollowsSpan {T : Type 0} (does : T → TracerCall → T → Type 0) (c : Core T) (id from at : ℕ) (d : Core T) : Type 0 where
+  pub between : Core T
+  pub starts : Starts does from at c between
+  pub rest : d ≡ record between { spans = with_link id at (ids_at (told_at from between.spans)) between.spans }
+
+-- ---- events
+
+-- what an event makes of the span that it reaches, by settings, lane, moment, callsite and values
+abbrev pub Events : Type 0
+Events = LayerSettings → ℕ → ℕ → Callsite → ValueSet → Told → Told
+
+-- each event is told to its span
+abbrev pub all_events : Events
+all_events settings lane at callsite values told = changed told at (event_of callsite values settings at)
+
+-- ---- entries and exits
+
+-- a context is attached to a lane, and one is detached
+pub record AttachesContext (own : Context) (before later : Lane) (attached : Option ℕ) : Type 0 where
+  pub number : ℕ
+  pub is : attached ≡ Some number
+  pub keeps : KeepsLane true before later
+  pub live : later.contexts.live ≡ before.contexts.live ++ (number, own) ∷ []
+
+pub record DetachesContext (number : ℕ) (before later : Lane) : Type 0 where
+  pub keeps : KeepsLane true before later
+  pub attached : 0 < attached_as number before
+  pub live : later.contexts.live ≡ without number before.contexts.live
+
+abbrev pub LeavesLane : Option ℕ → Lane → Lane → Type 0
+LeavesLane None before later = later ≡ before
+LeavesLane (Some number) before later = DetachesContext number before later
+
+-- with activation the span's own context is attached
+abbrev pub EntersLane : Bool → Context → Lane → Lane → Option ℕ → Type 0
+EntersLane true own before later attached = AttachesContext own before later attached
+EntersLane false own before later attached = (later ≡ before) × (attached ≡ None)
+
+-- an entry with activation starts the span
+pub record EntersSpan {T : Type 0} (does : T → TracerCall → T → Type 0) (c : Core T) (id at : ℕ) (before later : Lane) (d : Core T) : Type 0 where
+  pub between : Core T
+  pub attached : Option ℕ
+  pub starts : StartsAny does (if c.settings.activation then Some id else None) at c between
+  pub lane : EntersLane c.settings.activation (own_or empty_context (told_at id between.spans)) before later attached
+  pub rest : d ≡ record between { spans = with_op id at ops.Enter between.spans; tokens = between.tokens ++ record { lane = before.id; id = id; attached = attached } ∷ [] }
+
+-- an exit takes off the span's last entry on the lane, and with activation detaches what that attached
+pub record ExitsSpan {T : Type 0} (c : Core T) (id at : ℕ) (before later : Lane) (d : Core T) : Type 0 where
+  pub token : Token
+  pub last : last_passing (is_token before.id id) c.tokens ≡ Some token
+  pub leaves : LeavesLane (if c.settings.activation then token.attached else None) before later
+  pub rest : d ≡ record c { spans = with_op id at ops.Exit c.spans; tokens = without_last (is_token before.id id) c.tokens }
+
+-- ---- a close
+
+-- the span starts, and its record is finished
+pub record ClosesSpan {T : Type 0} (does : T → TracerCall → T → Type 0) (c : Core T) (id at : ℕ) (d : Core T) : Type 0 where
+  pub between : Core T
+  pub told : Told
+  pub starts : Starts does id at c between
+  pub is : told_at id between.spans ≡ Some told
+  pub finishes : does between.tracer (Finish (record_of told at)) d.tracer
+  pub rest : d ≡ record between { spans = remove_entry (is_id id) between.spans; reserved = between.reserved - 1; tracer = d.tracer }
+
+-- ---- all hooks
+
+-- nothing where the span isn't known
+pub record IfKnown (known : Bool) (does nothing : Type 0) : Type 0 where
+  pub is_known : known ≡ true → does
+  pub isnt : known ≡ false → nothing
+
+abbrev pub Step : {T : Type 0} → (T → TracerCall → T → Type 0) → Events → Core T → Hook → Core T → Type 0
+Step does events c (OnNewSpan id lane at place current callsite values) d = MakesSpan does c id lane at place current callsite values d
+Step does events c (OnRecord id at callsite values) d = d ≡ record c { spans = with_op id at (ops.Update (span_update callsite values c.settings)) c.spans }
+Step does events c (OnFollows id from at) d = FollowsSpan does c id from at d
+Step does events c (OnEvent None lane at callsite values) d = d ≡ c
+Step does events c (OnEvent (Some id) lane at callsite values) d = d ≡ record c { spans = update id (events c.settings lane.id at callsite values) c.spans }
+Step does events c (OnEnter id at before later) d = IfKnown (knows_span id c.spans) (EntersSpan does c id at before later d) ((d ≡ c) × (later ≡ before))
+Step does events c (OnExit id at before later) d = IfKnown (knows_span id c.spans) (ExitsSpan c id at before later d) ((d ≡ c) × (later ≡ before))
+Step does events c (OnClose id at) d = IfKnown (knows_span id c.spans) (ClosesSpan does c id at d) (d ≡ c)
+
+-- a hook, whatever room was taken before
+pub record DoesHook {T : Type 0} (does : T → TracerCall → T → Type 0) (events : Events) (c : Core T) (hook : Hook) (d : Core T) : Type 0 where
+  pub prepared : Core T
+  pub room : SameCore does c prepared
+  pub step : Step does events prepared hook d

@@ -1,0 +1,85 @@
+-- The spans that a layer knows, by id, with what each has come to.
+use Rattle.std.specs.Prelude.{◌≡◌, ℕ, ◌+◌, ◌==◌, if◌then◌else◌, Bool, List, [], ◌∷◌, ◌++◌, Option, Some, None, map}
+use Rattle.std.specs.List.{list_any}
+use Rattle.std.specs.Map.{lookup, keys_of}
+use Rattle.otel_base.specs.declared.context.Context.{Context}
+use Rattle.otel_base.specs.declared.context.SpanContext.{SpanContext}
+use Rattle.otel_base.specs.Ids.{ids_of}
+use Rattle.otel_base.specs.declared.record.Link.{Link}
+use Rattle.otel_state.specs.declared.op.Op.{Op}
+use Rattle.otel_state.specs.declared.op.Op.TheVariants as ops
+use Rattle.otel_state.specs.States.{Told, Room, changed, HasRoom}
+use Rattle.otel_layer.specs.declared.table.Entry.{Entry}
+
+-- a table: the spans, the spare room of each, and how many more spans there is room for
+pub record Tabled : Type 0 where
+  pub spans : List (ℕ × Told)
+  pub rooms : List (ℕ × Room)
+  pub room : ℕ
+
+abbrev pub told_entry : Entry → ℕ × Told
+told_entry e = (e.id, e.state.told)
+
+abbrev pub room_entry : Entry → ℕ × Room
+room_entry e = (e.id, e.state.room)
+
+abbrev pub tabled : List Entry → ℕ → Tabled
+tabled entries room = record { spans = map told_entry entries; rooms = map room_entry entries; room = room }
+
+abbrev pub is_id : ℕ → ℕ → Bool
+is_id id = λ k. k == id
+
+-- what a span has come to, if it is known
+abbrev pub told_at : ℕ → List (ℕ × Told) → Option Told
+told_at id spans = lookup (is_id id) spans
+
+abbrev pub knows_span : ℕ → List (ℕ × Told) → Bool
+knows_span id spans = list_any (is_id id) (keys_of spans)
+
+-- one span more
+abbrev pub with_span : ℕ → Told → List (ℕ × Told) → List (ℕ × Told)
+with_span id told spans = spans ++ (id, told) ∷ []
+
+-- the spans with one of them changed; nothing changes where it isn't known
+abbrev pub update : ℕ → (Told → Told) → List (ℕ × Told) → List (ℕ × Told)
+update id f [] = []
+update id f (e ∷ es) = if e.0 == id then (e.0, f e.1) ∷ es else e ∷ update id f es
+
+abbrev pub with_op : ℕ → ℕ → Op → List (ℕ × Told) → List (ℕ × Told)
+with_op id at op spans = update id (λ told. changed told at op) spans
+
+-- how many spans haven't started
+abbrev pub one_waiting : Option SpanContext → ℕ
+one_waiting None = 1
+one_waiting (Some own) = 0
+
+abbrev pub waiting_in : List (ℕ × Told) → ℕ
+waiting_in [] = 0
+waiting_in (e ∷ es) = one_waiting e.1.own + waiting_in es
+
+-- the context that a span will start under, if it is known and hasn't started
+abbrev pub waits_by : Option SpanContext → Context → Option Context
+waits_by None context = Some context
+waits_by (Some own) context = None
+
+abbrev pub waits : Option Told → Option Context
+waits None = None
+waits (Some told) = waits_by told.own told.parent
+
+-- the own context of a span, the other one where it isn't known
+abbrev pub own_or : Context → Option Told → Context
+own_or other None = other
+own_or other (Some told) = record { span = told.own }
+
+-- the ids of a span, if it is known
+abbrev pub ids_at : Option Told → Option SpanContext
+ids_at None = None
+ids_at (Some told) = Some (ids_of (record { span = told.own }))
+
+-- the room for one op at a span
+abbrev pub RoomFor : ℕ → Op → List (ℕ × Room) → Type 0
+RoomFor id op rooms = (room : Room) → lookup (is_id id) rooms ≡ Some room → HasRoom room op
+
+-- the room for a link at a span, whichever it is
+pub record RoomForLink (id : ℕ) (rooms : List (ℕ × Room)) : Type 0 where
+  pub any : (link : Link) → RoomFor id (ops.Link link) rooms

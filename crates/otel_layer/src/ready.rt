@@ -1,0 +1,37 @@
+//! What the hooks of a layer need, and is made before them.
+ghost use Rattle.std.specs.Prelude.{◌≡◌};
+ghost use Rattle.otel_layer.specs.Ready.{retimed};
+
+use otel_base::record::OtelEvent;
+use otel_state::op::Op;
+use otel_state::state::SpanState;
+use otel_state::update::Update;
+
+/// What a prepare of the layer made for its hook.
+#[derive(Drop)]
+pub enum Ready {
+    /// The state of a new span, and what its fields write.
+    Made { state: SpanState, update: Update },
+    /// The op of fields, or that of an event without its moment.
+    Happened { op: Op },
+    /// All room is in the layer.
+    Light,
+}
+
+// The op of an event at another moment.
+pub(crate) fn at_moment(op: Op, at: u64) -> Op
+    ensures { result ≡ retimed at op }
+{
+    match op {
+        Op::Event {
+            is_error,
+            update,
+            event,
+        } => Op::Event {
+            is_error,
+            update,
+            event: OtelEvent { time: at, ..event },
+        },
+        other => other,
+    }
+}

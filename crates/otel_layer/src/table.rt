@@ -1,0 +1,237 @@
+//! The states of the spans that a layer knows.
+ghost use Rattle.std.specs.Prelude.{◌≡◌, ◌==◌, ℕ, ◌<◌, ◌≤◌, ◌^◌, [], true, false, length, map, OnOk};
+ghost use Rattle.std.specs.List.{position, list_any};
+ghost use Rattle.std.specs.Map.{lookup, remove_entry};
+ghost use Rattle.otel_state.specs.States.{is_growing};
+ghost use Rattle.otel_layer.specs.Table.{told_entry, room_entry, is_id, told_at, knows_span, with_op, with_span, waits, own_or, ids_at, RoomFor, RoomForLink};
+
+use otel_base::context::{Context, SpanContext};
+use otel_base::memory::Memory;
+use otel_state::op::Op;
+use otel_state::state::SpanState;
+use std::alloc::Global;
+use std::marker::Model;
+use trace_base::span::Id;
+
+// The state of a span.
+#[derive(Drop)]
+pub(crate) struct Entry {
+    id: Id,
+    state: SpanState,
+}
+
+// The states of spans, in the order in which the layer came to know them.
+#[derive(Drop)]
+pub(crate) struct Table {
+    entries: Vec<Entry>,
+}
+
+impl Model for Table {
+    ghost use Rattle.std.specs.Prelude.{◌-◌, length, vec_capacity};
+    ghost use Rattle.otel_layer.specs.Table.{Tabled, tabled};
+
+    ghost Value = { Tabled };
+
+    ghost view = { λ t. tabled t.entries.items (vec_capacity t.entries - length t.entries.items) };
+}
+
+impl Table {
+    // A table without spans, which takes no memory yet.
+    pub(crate) fn new(alloc: Global) -> Table
+        ensures spans { result.spans ≡ [] }
+    {
+        Table {
+            entries: Vec::new(alloc),
+        }
+    }
+
+    // How many spans there are.
+    pub(crate) fn len(&self) -> u64
+        ensures value { result ≡ length self.now.spans }
+        ensures most { result < 2 ^ 63 }
+    {
+        self.entries.len() as u64
+    }
+
+    // Whether a span is there.
+    pub(crate) fn knows(&self, id: Id) -> bool
+        ensures { result ≡ knows_span id self.now.spans }
+    {
+        is_known(self.entries.as_slice(), id)
+    }
+
+    // The context that a span will start under, if it is there and hasn't started.
+    pub(crate) fn waits(&self, id: Id) -> Option<Context>
+        ensures { result ≡ waits (told_at id self.now.spans) }
+    {
+        waiting_context(self.entries.as_slice(), id)
+    }
+
+    // The own context of a span, the other one where it isn't there.
+    pub(crate) fn own_or(&self, id: Id, other: Context) -> Context
+        ensures { result ≡ own_or other (told_at id self.now.spans) }
+    {
+        own_context(self.entries.as_slice(), id, other)
+    }
+
+    // The ids of a span that is there.
+    pub(crate) fn ids(&self, id: Id) -> Option<SpanContext>
+        ensures { result ≡ ids_at (told_at id self.now.spans) }
+    {
+        own_ids(self.entries.as_slice(), id)
+    }
+
+    // Applies an op to a span, if it is there, in room that was reserved.
+    pub(crate) fn put(&mut self, id: Id, at: u64, op: Op)
+        requires { RoomFor id op self.old.rooms }
+        ensures spans { self.new.spans ≡ with_op id at op self.old.spans }
+        ensures rooms { is_growing op ≡ false → self.new.rooms ≡ self.old.rooms }
+        ensures room { self.new.room ≡ self.old.room }
+    {
+        put(self.entries.as_mut_slice(), id, at, op);
+    }
+
+    // Takes the room for an op in the state of a span, if it is there.
+    pub(crate) fn reserve_op(&mut self, id: Id, op: &Op) -> Result<(), Memory>
+        ensures spans { self.new.spans ≡ self.old.spans }
+        ensures ok { OnOk result (RoomFor id op.now self.new.rooms) }
+        ensures room { self.new.room ≡ self.old.room }
+    {
+        reserve_op(self.entries.as_mut_slice(), id, op)
+    }
+
+    // Takes the room for a link in the state of a span, if it is there.
+    pub(crate) fn reserve_link(&mut self, id: Id) -> Result<(), Memory>
+        ensures spans { self.new.spans ≡ self.old.spans }
+        ensures ok { OnOk result (RoomForLink id self.new.rooms) }
+        ensures room { self.new.room ≡ self.old.room }
+    {
+        reserve_link(self.entries.as_mut_slice(), id)
+    }
+
+    // Takes room for one more span.
+    pub(crate) fn reserve(&mut self) -> Result<(), Memory>
+        ensures spans { self.new.spans ≡ self.old.spans }
+        ensures rooms { self.new.rooms ≡ self.old.rooms }
+        ensures ok { OnOk result (0 < self.new.room) }
+    {
+        self.entries.reserve(1)?;
+        Ok(())
+    }
+
+    // Adds a span, in room that was reserved.
+    pub(crate) fn add(&mut self, id: Id, state: SpanState)
+        requires { 0 < self.old.room }
+        ensures { self.new.spans ≡ with_span id state.told self.old.spans }
+    {
+        match self.entries.push(Entry { id, state }) {
+            Ok(()) => {}
+            Err(_) => unreachable!(),
+        }
+    }
+
+    // Takes out the state of a span.
+    pub(crate) fn remove(&mut self, id: Id) -> SpanState
+        requires { knows_span id self.old.spans ≡ true }
+        ensures told { told_at id self.old.spans ≡ Some result.told }
+        ensures spans { self.new.spans ≡ remove_entry (is_id id) self.old.spans }
+    {
+        remove(&mut self.entries, id)
+    }
+}
+
+// Where the entry of a span stands.
+fn find(entries: &[Entry], id: Id) -> Option<usize>
+    ensures { result ≡ position (λ e. e.id == id) entries.now }
+{
+    entries.iter().position(|e| e.id == id)
+}
+
+fn is_known(entries: &[Entry], id: Id) -> bool
+    ensures { result ≡ list_any (λ e. e.id == id) entries.now }
+{
+    entries.iter().any(|e| e.id == id)
+}
+
+fn waiting_context(entries: &[Entry], id: Id) -> Option<Context>
+    ensures { result ≡ waits (told_at id (map told_entry entries.now)) }
+{
+    match find(entries, id) {
+        Some(place) => {
+            let state = &entries[place].state;
+            match state.started() {
+                Some(_) => None,
+                None => Some(state.parent()),
+            }
+        }
+        None => None,
+    }
+}
+
+fn own_context(entries: &[Entry], id: Id, other: Context) -> Context
+    ensures { result ≡ own_or other (told_at id (map told_entry entries.now)) }
+{
+    match find(entries, id) {
+        Some(place) => Context {
+            span: entries[place].state.started(),
+        },
+        None => other,
+    }
+}
+
+fn own_ids(entries: &[Entry], id: Id) -> Option<SpanContext>
+    ensures { result ≡ ids_at (told_at id (map told_entry entries.now)) }
+{
+    match find(entries, id) {
+        Some(place) => Some(Context {
+            span: entries[place].state.started(),
+        }
+        .span_context()),
+        None => None,
+    }
+}
+
+fn put(entries: &mut [Entry], id: Id, at: u64, op: Op)
+    requires { RoomFor id op (map room_entry entries.old) }
+    ensures told { map told_entry entries.new ≡ with_op id at op (map told_entry entries.old) }
+    ensures rooms { is_growing op ≡ false → map room_entry entries.new ≡ map room_entry entries.old }
+{
+    match find(entries, id) {
+        Some(place) => entries[place].state.put(at, op),
+        None => {}
+    }
+}
+
+fn reserve_op(entries: &mut [Entry], id: Id, op: &Op) -> Result<(), Memory>
+    ensures told { map told_entry entries.new ≡ map told_entry entries.old }
+    ensures room { OnOk result (RoomFor id op.now (map room_entry entries.new)) }
+{
+    match find(entries, id) {
+        Some(place) => entries[place].state.reserve(op),
+        None => Ok(()),
+    }
+}
+
+fn reserve_link(entries: &mut [Entry], id: Id) -> Result<(), Memory>
+    ensures told { map told_entry entries.new ≡ map told_entry entries.old }
+    ensures room { OnOk result (RoomForLink id (map room_entry entries.new)) }
+{
+    match find(entries, id) {
+        Some(place) => entries[place].state.reserve_room(0, 0, 1),
+        None => Ok(()),
+    }
+}
+
+fn remove(entries: &mut Vec<Entry>, id: Id) -> SpanState
+    requires { list_any (λ e. e.id == id) entries.old.items ≡ true }
+    ensures told { told_at id (map told_entry entries.old.items) ≡ Some result.told }
+    ensures rest { map told_entry entries.new.items ≡ remove_entry (is_id id) (map told_entry entries.old.items) }
+{
+    match find(entries.as_slice(), id) {
+        Some(place) => {
+            let Entry { id: _, state } = entries.remove(place);
+            state
+        }
+        None => unreachable!(),
+    }
+}
