@@ -7,3 +7,10 @@ pub mod laws;
 pub mod targets;
 #[cfg(test)]
 mod tests;
+
+pub use directive::set::{DirectiveIter, DirectiveSet, DirectivesFor};
+pub use directive::{Match, ParseError, StaticDirective};
+pub use env::directive::Directive;
+pub use env::field::{BadFieldName, BadName, Match as FieldMatch, MatchDebug, ValueMatch};
+pub use env::pattern::MatchPattern;
+pub use targets::Targets;

@@ -1,6 +1,8 @@
--- The words that tell of which kind a directive and a field's value are.
-use Rattle.std.specs.Prelude.{ℕ, List, [], ◌∷◌, if◌then◌else◌, Bool, ◌||◌, Option, None, Some, is_some, codes}
+-- The lines that tell of directives, and the words that tell of which kind one and a field's value are.
+use Rattle.std.specs.Prelude.{ℕ, List, [], ◌∷◌, ◌++◌, if◌then◌else◌, Bool, ◌||◌, Option, None, Some, is_some, codes, flat_map}
 use Rattle.std.specs.List.{list_any}
+use Rattle.trace_base.specs.Level.{filter_text}
+use Rattle.env_directives.specs.Printed.{directive_text, match_text}
 use Rattle.env_directives.specs.declared.env.directive.Directive.{Directive}
 use Rattle.env_directives.specs.declared.env.field.Match.{Match}
 use Rattle.env_directives.specs.declared.env.field.ValueMatch.{ValueMatch}
@@ -27,3 +29,20 @@ unbound_text (field ∷ fields) = codes "static and dynamic"
 -- static is what has neither a span name nor a value, dynamic what has a span name or a field
 abbrev pub tables_text : Directive → List ℕ
 tables_text d = if is_some d.in_span || asks_values d.fields then codes "dynamic" else unbound_text d.fields
+
+-- the target, the span name and a field with the kind of its value, as the line of a directive has them
+abbrev pub target_part : Option (List ℕ) → List ℕ
+target_part None = []
+target_part (Some target) = codes " target " ++ target
+
+abbrev pub span_part : Option (List ℕ) → List ℕ
+span_part None = []
+span_part (Some name) = codes " span `" ++ (name ++ codes "`")
+
+abbrev pub field_part : Match → List ℕ
+field_part field = codes " field " ++ (match_text field ++ (codes " (" ++ (kind_text field.value ++ codes ")")))
+
+-- the line of a directive: its tables, its parts, and how it prints
+abbrev pub directive_line : Directive → List ℕ
+directive_line d = codes "  " ++ (tables_text d ++ (target_part d.target ++ (span_part d.in_span ++ (flat_map field_part d.fields
+    ++ (codes " level " ++ (filter_text d.level ++ (codes ": " ++ (directive_text d ++ codes "\n"))))))))

@@ -1,13 +1,9 @@
 //! What a text is read as, in lines that are indented.
-ghost use Rattle.std.specs.Prelude.{◌≡◌};
-ghost use Rattle.explain_filter.specs.Told.{tables_text, asks_values, kind_text};
+ghost use Rattle.std.specs.Prelude.{◌≡◌, ◌++◌, flat_map, string_bytes, IfOk, OnOk};
+ghost use Rattle.explain_filter.specs.Told.{tables_text, asks_values, kind_text, directive_line, target_part, span_part, field_part};
 
 use crate::reading::Reading;
-use env_directives::directive::ParseError;
-use env_directives::directive::set::DirectiveSet;
-use env_directives::env::directive::Directive;
-use env_directives::env::field::{Match, ValueMatch};
-use env_directives::targets::Targets;
+use env_directives::{Directive, DirectiveSet, FieldMatch, ParseError, Targets, ValueMatch};
 use otel_base::memory::Memory;
 use std::alloc::Global;
 
@@ -25,7 +21,7 @@ pub fn explain(alloc: Global, reading: Reading, text: &str) -> Result<String, Me
 fn directive(alloc: Global, text: &str, patterns: bool) -> Result<String, Memory> {
     let mut told = String::new(alloc);
     match Directive::parse(alloc, text, patterns) {
-        Ok(directive) => told.push_str(parts(alloc, &directive)?.as_str())?,
+        Ok(directive) => push_directive(alloc, &mut told, &directive)?,
         Err(fault) => told.push_str(fault_line(alloc, fault)?.as_str())?,
     }
     Ok(told)
@@ -54,10 +50,13 @@ fn filter(alloc: Global, text: &str) -> Result<String, Memory> {
     Ok(told)
 }
 
-fn listed(alloc: Global, set: &DirectiveSet<Directive>) -> Result<String, Memory> {
+// A line for each directive of a set, in order.
+fn listed(alloc: Global, set: &DirectiveSet<Directive>) -> Result<String, Memory>
+    ensures { IfOk result (λ told. string_bytes told ≡ flat_map directive_line set.now.directives) }
+{
     let mut told = String::new(alloc);
     for directive in set.as_slice() {
-        told.push_str(parts(alloc, directive)?.as_str())?;
+        push_directive(alloc, &mut told, directive)?;
     }
     Ok(told)
 }
@@ -87,21 +86,58 @@ fn fault_line(alloc: Global, fault: ParseError) -> Result<String, Memory> {
     Ok(format!(in alloc; "  {fault:?}, {fault}\n")?)
 }
 
-// A directive's tables and parts, and how it prints.
-fn parts(alloc: Global, directive: &Directive) -> Result<String, Memory> {
-    let mut told = format!(in alloc; "  {}", tables(directive))?;
-    if let Some(target) = directive.target() {
-        told.push_str(format!(in alloc; " target {target}")?.as_str())?;
-    }
-    if let Some(span) = directive.in_span() {
-        told.push_str(format!(in alloc; " span `{span}`")?.as_str())?;
-    }
-    for field in directive.fields() {
-        told.push_str(format!(in alloc; " field {field} ({})", kind(field))?.as_str())?;
-    }
+// The line of a directive: its tables and parts, and how it prints.
+fn push_directive(alloc: Global, told: &mut String, directive: &Directive) -> Result<(), Memory>
+    ensures { OnOk result (string_bytes told.new ≡ string_bytes told.old ++ directive_line directive.now) }
+{
+    told.push_str("  ")?;
+    told.push_str(tables(directive))?;
+    push_target(told, directive)?;
+    push_span(told, directive)?;
+    push_fields(alloc, told, directive.fields())?;
     let level = directive.level();
-    told.push_str(format!(in alloc; " level {level}: {directive}\n")?.as_str())?;
-    Ok(told)
+    let end = format!(in alloc; " level {level}: {directive}\n")?;
+    told.push_str(end.as_str())?;
+    Ok(())
+}
+
+fn push_target(told: &mut String, directive: &Directive) -> Result<(), Memory>
+    ensures { OnOk result (string_bytes told.new ≡ string_bytes told.old ++ target_part directive.now.target) }
+{
+    if let Some(target) = directive.target() {
+        told.push_str(" target ")?;
+        told.push_str(target)?;
+    }
+    Ok(())
+}
+
+fn push_span(told: &mut String, directive: &Directive) -> Result<(), Memory>
+    ensures { OnOk result (string_bytes told.new ≡ string_bytes told.old ++ span_part directive.now.in_span) }
+{
+    if let Some(span) = directive.in_span() {
+        told.push_str(" span `")?;
+        told.push_str(span)?;
+        told.push_str("`")?;
+    }
+    Ok(())
+}
+
+// Each field, with the kind of its value.
+fn push_fields(alloc: Global, told: &mut String, fields: &[FieldMatch]) -> Result<(), Memory>
+    ensures { OnOk result (string_bytes told.new ≡ string_bytes told.old ++ flat_map field_part fields.now) }
+{
+    for field in fields {
+        push_field(alloc, told, field)?;
+    }
+    Ok(())
+}
+
+fn push_field(alloc: Global, told: &mut String, field: &FieldMatch) -> Result<(), Memory>
+    ensures { OnOk result (string_bytes told.new ≡ string_bytes told.old ++ field_part field.now) }
+{
+    let part = format!(in alloc; " field {field} ({})", kind(field))?;
+    told.push_str(part.as_str())?;
+    Ok(())
 }
 
 // Whether a directive is judged by callsites alone, by spans, or both.
@@ -117,14 +153,14 @@ fn tables(directive: &Directive) -> &'static str
     }
 }
 
-fn asks_values(fields: &[Match]) -> bool
+fn asks_values(fields: &[FieldMatch]) -> bool
     ensures { result ≡ asks_values fields.now }
 {
     fields.iter().any(|field| field.value.is_some())
 }
 
 // Of which kind a field's value is.
-fn kind(field: &Match) -> &'static str
+fn kind(field: &FieldMatch) -> &'static str
     ensures { result.now ≡ kind_text field.now.value }
 {
     match &field.value {
