@@ -1,185 +1,67 @@
-//! One span that two handles share.
-ghost use Rattle.std.specs.Prelude.{◌≡◌, ◌≤◌};
-ghost use Rattle.otel_state.specs.declared.times.TheConstants.{GREATEST};
-ghost use Rattle.trace_threads.specs.Handles.{open_of, IsSameHandle};
+//! Spans that handles share, in one thread and in several.
+ghost use Rattle.std.specs.Prelude.{◌≡◌, IfOk};
+ghost use Rattle.trace_threads.specs.Handles.{open_of};
 
-use crate::handle::{Handle, Released};
-use crate::history::{Entry, What};
-use crate::making::Making;
+use crate::handle::Handle;
 use crate::span::SharedSpan;
 use otel_base::context::{Context, SpanContext};
 use otel_base::list::Items;
+use otel_base::memory::Memory;
+use otel_base::stack::ContextStack;
 use otel_base::text::Text;
-use otel_state::{Op, OpReply, Update};
+use otel_state::LayerSettings;
 use std::alloc::Global;
-use std::sync::Wait;
-use std::test::{Fail, *};
+use trace_base::callsite::{Callsite, Kind};
+use trace_base::field::{Value, ValueSet};
+use trace_base::lane::Lane;
+use trace_base::level::Level;
+
+mod one;
 
 const OWN: SpanContext = SpanContext { trace: 7, span: 9 };
 
-// What a span is made of, at moment 5, with nothing to tell.
-fn making(alloc: Global) -> Making
-    ensures { result.made ≤ GREATEST }
+// The first handle of a span that is made at moment 5 on the lane 4, with 3 in its field `a`.
+fn span(alloc: Global) -> Result<Handle, Memory>
+    ensures { IfOk result (λ h. open_of h ≡ 0) }
 {
-    Making {
-        name: Text::from(String::new(alloc)),
-        parent: Context::empty(),
-        made: 5,
-        first: Items::new(alloc),
-        inactivity: true,
-        own: OWN,
-        update: Update {
-            name: None,
-            kind: None,
-            status: None,
-            attributes: Items::new(alloc),
-        },
+    SharedSpan::make(
+        alloc,
+        &callsite(alloc)?,
+        &lane(alloc),
+        &LayerSettings::default(),
+        5,
+        OWN,
+        Context::empty(),
+        &values(alloc)?,
+    )
+}
+
+fn lane(alloc: Global) -> Lane {
+    Lane {
+        id: 4,
+        name: None,
+        default: None,
+        contexts: ContextStack::new(alloc),
     }
 }
 
-// Joins another handle of the same span.
-fn meet<R: Wait>(rt: &R, handle: &mut Handle, other: Handle)
-    requires span { other.span ≡ handle.old.span }
-    requires idle { open_of other ≡ 0 }
-    ensures same { IsSameHandle handle.old handle.new }
-    ensures idle { open_of handle.new ≡ open_of handle.old }
-{
-    handle.join(rt, other, 6);
+fn values(alloc: Global) -> Result<ValueSet, Memory> {
+    let mut pairs = Items::new(alloc);
+    pairs.push((0, Value::I64(3)))?;
+    Ok(ValueSet { pairs })
 }
 
-// What an entry is: its caller, its moment, and which kind, with the number of a handle that it makes or ends.
-fn code_of(entry: &Entry) -> (u64, u64, u8, u64) {
-    match &entry.what {
-        What::Clone { new } => (entry.caller, entry.at, 0, *new),
-        What::Call { op: Op::Enter } => (entry.caller, entry.at, 1, 0),
-        What::Call { op: Op::Exit } => (entry.caller, entry.at, 2, 0),
-        What::Call { op: _ } => (entry.caller, entry.at, 3, 0),
-        What::Join { ended } => (entry.caller, entry.at, 4, *ended),
-        What::Release => (entry.caller, entry.at, 5, 0),
-    }
-}
-
-fn has_codes(history: &[Entry], wanted: &[(u64, u64, u8, u64)]) -> bool {
-    if history.len() != wanted.len() {
-        return false;
-    }
-    for i in 0..history.len() {
-        if code_of(&history[i]) != wanted[i] {
-            return false;
-        }
-    }
-    true
-}
-
-// Enters and exits in two turns.
-fn enter_and_exit<R: Wait>(rt: &R, handle: &mut Handle) -> bool
-    requires idle { open_of handle.old ≡ 0 }
-    ensures same { IsSameHandle handle.old handle.new }
-    ensures idle { open_of handle.new ≡ 0 }
-{
-    if handle.call(rt, 8, Op::Enter).is_err() {
-        return false;
-    }
-    handle.entries() == 1 && handle.call(rt, 9, Op::Exit).is_ok()
-}
-
-// Sets the parent at a moment long past, and tells at which place, and whether it was set.
-fn set_parent<R: Wait>(rt: &R, handle: &mut Handle) -> Option<(u64, bool)>
-    ensures same { IsSameHandle handle.old handle.new }
-    ensures idle { open_of handle.new ≡ open_of handle.old }
-{
-    let context = Context { span: Some(OWN) };
-    match handle.call(rt, 1, Op::SetParent { context }) {
-        Ok(called) => Some((called.place, called.reply == OpReply::Parent(Ok(())))),
-        Err(_) => None,
-    }
-}
-
-// Starts the span, with ids that aren't its own.
-fn start<R: Wait>(rt: &R, handle: &mut Handle)
-    ensures same { IsSameHandle handle.old handle.new }
-    ensures idle { open_of handle.new ≡ open_of handle.old }
-{
-    let own = SpanContext { trace: 1, span: 1 };
-    let _ = handle.call(rt, 9, Op::Start { own });
-}
-
-// Two handles of one thread call by turns, and are joined.
-fn calls_by_turns<R: Wait>(rt: &R, mut first: Handle, mut second: Handle) -> bool
-    requires span { second.span ≡ first.span }
-    requires idle { (open_of first ≡ 0) × (open_of second ≡ 0) }
-{
-    let entered = enter_and_exit(rt, &mut first);
-    let before = set_parent(rt, &mut second);
-    start(rt, &mut second);
-    let after = set_parent(rt, &mut first);
-    let numbers = (first.number(), second.number());
-    meet(rt, &mut first, second);
-    let Released { pass: _, closed } = first.release(rt, 11);
-    let told = match &closed {
-        Some((history, record)) => {
-            record.context == OWN
-                && record.start == 5
-                && record.end == 9
-                && has_codes(
-                    history.as_slice(),
-                    &[
-                        (0, 7, 0, 1),
-                        (0, 8, 1, 0),
-                        (0, 9, 2, 0),
-                        (1, 9, 3, 0),
-                        (1, 9, 3, 0),
-                        (0, 9, 3, 0),
-                        (0, 9, 4, 1),
-                        (0, 11, 5, 0),
-                    ],
-                )
-        }
-        None => false,
-    };
-    told && entered && before == Some((3, true)) && after == Some((5, false)) && numbers == (0, 1)
-}
-
-#[test]
-fn one_thread_clones_calls_and_joins(rt: HostRuntime) -> Result<(), Fail> {
-    let mut first = SharedSpan::make(rt.alloc(), making(rt.alloc()))?;
-    let told = match first.clone_handle(&rt, 7) {
-        Ok(second) => calls_by_turns(&rt, first, second),
-        Err(_) => {
-            drop(first.release(&rt, 7));
-            false
-        }
-    };
-    assert!(rt; told);
-    Ok(())
-}
-
-// Releases two handles, and tells whether the last release alone closed the span.
-fn closes_at_the_last<R: Wait>(rt: &R, first: Handle, second: Handle) -> bool
-    requires span { second.span ≡ first.span }
-    requires idle { (open_of first ≡ 0) × (open_of second ≡ 0) }
-{
-    let one = first.release(rt, 7);
-    let other = second.release(rt, 7);
-    let Released { mut pass, closed } = one;
-    let Released {
-        pass: theirs,
-        closed: last,
-    } = other;
-    pass.join(theirs);
-    closed.is_none() && last.is_some()
-}
-
-#[test]
-fn the_last_release_closes(rt: HostRuntime) -> Result<(), Fail> {
-    let mut first = SharedSpan::make(rt.alloc(), making(rt.alloc()))?;
-    let told = match first.clone_handle(&rt, 7) {
-        Ok(second) => closes_at_the_last(&rt, first, second),
-        Err(_) => {
-            drop(first.release(&rt, 7));
-            false
-        }
-    };
-    assert!(rt; told);
-    Ok(())
+fn callsite(alloc: Global) -> Result<Callsite, Memory> {
+    let mut fields = Items::new(alloc);
+    fields.push(Text::from(String::from_str(alloc, "a")?))?;
+    Ok(Callsite {
+        name: Text::from(String::from_str(alloc, "s")?),
+        target: Text::from(String::from_str(alloc, "app")?),
+        level: Level::INFO,
+        kind: Kind::Span,
+        file: None,
+        module_path: None,
+        line: None,
+        fields,
+    })
 }
