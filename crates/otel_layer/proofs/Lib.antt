@@ -1,2 +1,3 @@
+pub mod Attaching
 pub mod Hooking
 pub mod Placing

@@ -1,10 +1,10 @@
 -- A table of states, seen as the list of what its spans have come to.
-use Rattle.std.proofs.Common.{◌≡◌, ℕ, suc, zero, ◌+◌, ◌<◌, ◌≤◌, List, [], ◌∷◌, ◌++◌, length, Bool, true, false, cond, get_or, map, Option, Some, None, refl, sym, ap, subst, ◌∙◌, arith, inl, inr}
-use Rattle.std.specs.Prelude.{Result, Ok, Err, OnOk, OnErr, unwrap_or, if◌then◌else◌, ◌||◌, ◌==◌, nat_lt, slice_set}
+use Rattle.std.proofs.Common.{◌≡◌, ℕ, suc, zero, ◌+◌, ◌<◌, ◌≤◌, List, [], ◌∷◌, length, Bool, true, false, cond, get_or, map, Option, Some, None, refl, sym, ap, ◌∙◌, arith, inl, inr}
+use Rattle.std.specs.Prelude.{Result, Ok, Err, OnOk, OnErr, unwrap_or, ◌||◌, ◌==◌, nat_lt, slice_set}
 use Rattle.std.specs.List.{position, position_or_len, list_any}
-use Rattle.std.specs.Map.{keys_of, remove_entry, lookup}
+use Rattle.std.specs.Map.{remove_entry, lookup}
 use Rattle.std.specs.List.{remove}
-use Rattle.std.proofs.lemmas.Bool.{or_parts, true≢false, cases_Bool, cond-true, cond-false, ltb-false}
+use Rattle.std.proofs.lemmas.Bool.{or_parts, cases_Bool, cond-true, cond-false, ltb-false}
 use Rattle.std.proofs.lemmas.List.Quantifiers.{position-Some}
 use Rattle.std.proofs.lemmas.List.Recursion.{is_position_or_len}
 use Rattle.otel_base.specs.declared.context.Context.{Context}

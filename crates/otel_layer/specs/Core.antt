@@ -1,5 +1,5 @@
 -- What a layer stands for: the spans that it knows, its open entries, its tracer and its settings.
-use Rattle.std.specs.Prelude.{◌≡◌, ℕ, ◌+◌, ◌<◌, ◌≤◌, ◌==◌, ◌^◌, ◌&&◌, if◌then◌else◌, Bool, true, false, List, [], length, Option, Some, None, count_by}
+use Rattle.std.specs.Prelude.{ℕ, ◌+◌, ◌<◌, ◌≤◌, ◌==◌, ◌^◌, ◌&&◌, if◌then◌else◌, Bool, false, List, [], length, Option, Some, None, count_by}
 use Rattle.std.specs.List.{list_any}
 use Rattle.std.specs.Map.{keys_of}
 use Rattle.trace_base.specs.Hooks.{Seen}

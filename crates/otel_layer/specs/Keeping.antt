@@ -1,12 +1,9 @@
 -- What the hooks keep: the laws of the layer.
-use Rattle.std.proofs.Common.{length-append, ◌≡◌, ℕ, suc, zero, ◌+◌, ◌-◌, ◌<◌, ◌≤◌, ◌^◌, List, [], ◌∷◌, ◌++◌, length, Bool, true, false, cond, count_by, sum_by, get_or, map, Option, Some, None, refl, sym, ap, subst, ◌∙◌, arith, inl, inr, ◌⊎◌, add-zero, add_assoc}
-use Rattle.std.specs.Prelude.{if◌then◌else◌, ◌==◌, ◌||◌, ◌&&◌, unwrap_or}
-use Rattle.std.specs.List.{list_any}
-use Rattle.std.specs.Map.{lookup, remove_entry, keys_of}
-use Rattle.std.proofs.lemmas.List.{map-append}
-use Rattle.std.proofs.lemmas.List.Folds.{list_any-append}
+use Rattle.std.proofs.Common.{length-append, ◌≡◌, ℕ, suc, zero, ◌+◌, ◌≤◌, List, [], ◌∷◌, ◌++◌, length, Bool, true, false, Option, Some, None, refl, sym, ap, ◌∙◌, arith, inl, inr, add-zero}
+use Rattle.std.specs.Prelude.{if◌then◌else◌, ◌==◌, ◌||◌, unwrap_or}
+use Rattle.std.specs.Map.{remove_entry, keys_of}
 use Rattle.std.proofs.lemmas.Map.Entries.{length-keys_of}
-use Rattle.std.proofs.lemmas.Bool.{true≢false, cases_Bool, cases_eq, eqb-true, eq-eqb, ne_eqb, and_parts, and_from, and_left, and_right, or_cases, or_parts, cond-true, cond-false}
+use Rattle.std.proofs.lemmas.Bool.{true≢false, cases_Bool, eqb-true, or_cases, or_parts, cond-true, cond-false}
 use Rattle.otel_base.specs.declared.context.Context.{Context}
 use Rattle.otel_base.specs.declared.context.SpanContext.{SpanContext}
 use Rattle.otel_base.specs.Ids.{ids_of}
@@ -15,18 +12,16 @@ use Rattle.otel_base.specs.Tracer.{Starts as CountsStarts}
 use Rattle.trace_base.specs.declared.callsite.Callsite.{Callsite}
 use Rattle.trace_base.specs.declared.lane.Lane.{Lane}
 use Rattle.trace_base.specs.declared.span.Parent.{Parent}
-use Rattle.trace_base.specs.Contexts.{attached_as, attached_on, KeepsAttached, KeepsLane, AreAttached}
-use Rattle.trace_base.specs.Hooks.{Hook, OnNewSpan, OnRecord, OnFollows, OnEvent, OnEnter, OnExit, OnClose, Seen, Sees, HookLanes, comes, goes, one_if, makes, closes}
+use Rattle.trace_base.specs.Hooks.{Hook, OnNewSpan, OnRecord, OnFollows, OnEvent, OnEnter, OnExit, OnClose}
 use Rattle.otel_state.specs.declared.op.Op.{Op}
 use Rattle.otel_state.specs.declared.op.Op.TheVariants as ops
 use Rattle.otel_state.specs.States.{Told, changed, first_start, record_of}
 use Rattle.otel_state.specs.declared.settings.LayerSettings.{LayerSettings}
 use Rattle.otel_state.specs.SpanFields.{span_update}
 use Rattle.trace_base.specs.declared.field.ValueSet.{ValueSet}
-use Rattle.trace_base.proofs.Entering.{count_push}
-use Rattle.otel_layer.specs.Table.{is_id, told_at, knows_span, with_span, update, with_op, one_waiting, waiting_in, waits_by, waits, ids_at}
+use Rattle.otel_layer.specs.Table.{is_id, told_at, knows_span, update, with_op, one_waiting, waiting_in, waits_by, waits, ids_at}
 use Rattle.otel_layer.specs.Core.{Core, IsWholeCore}
-use Rattle.otel_layer.specs.Steps.{Reserves, SameCore, StartsIf, Starts, StartsAny, above, around, context_from, MakesSpan, made_told, with_link, FollowsSpan, Events, all_events, EntersSpan, ExitsSpan, ClosesSpan, IfKnown, Step, DoesHook}
+use Rattle.otel_layer.specs.Steps.{Reserves, SameCore, StartsIf, Starts, StartsAny, above, around, context_from, MakesSpan, made_told, with_link, Events, all_events, EntersSpan, ExitsSpan, ClosesSpan, Step, DoesHook}
 
 -- one span changed
 pub update_keys : (id : ℕ) (f : Told → Told) (spans : List (ℕ × Told)) → keys_of (update id f spans) ≡ keys_of spans

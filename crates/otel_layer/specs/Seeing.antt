@@ -1,38 +1,31 @@
 -- What the hooks make of the spans and entries that are known.
-use Rattle.std.proofs.Common.{length-append, ◌≡◌, ℕ, suc, zero, ◌+◌, ◌-◌, ◌<◌, ◌≤◌, ◌^◌, List, [], ◌∷◌, ◌++◌, length, Bool, true, false, cond, count_by, sum_by, get_or, map, Option, Some, None, refl, sym, ap, subst, ◌∙◌, arith, inl, inr, ◌⊎◌, add-zero, zero-add, add_assoc}
-use Rattle.std.specs.Prelude.{if◌then◌else◌, ◌==◌, ◌||◌, ◌&&◌, unwrap_or}
+use Rattle.std.proofs.Common.{◌≡◌, ℕ, ◌+◌, List, [], ◌∷◌, ◌++◌, true, false, Option, Some, None, refl, sym, ap, subst, ◌∙◌, arith, inl, inr}
+use Rattle.std.specs.Prelude.{if◌then◌else◌, ◌==◌, ◌&&◌}
 use Rattle.std.specs.List.{list_any}
-use Rattle.std.specs.Map.{lookup, remove_entry, keys_of}
+use Rattle.std.specs.Map.{remove_entry, keys_of}
 use Rattle.std.proofs.lemmas.List.{map-append}
 use Rattle.std.proofs.lemmas.List.Folds.{list_any-append}
-use Rattle.std.proofs.lemmas.Map.Entries.{length-keys_of}
-use Rattle.std.proofs.lemmas.Bool.{true≢false, cases_Bool, cases_eq, eqb-true, eq-eqb, ne_eqb, and_parts, and_from, and_left, and_right, or_cases, or_parts, cond-true, cond-false}
+use Rattle.std.proofs.lemmas.Bool.{true≢false, cases_Bool, eqb-true, eq-eqb, ne_eqb, and_parts, and_right, or_cases, or_parts, cond-false}
 use Rattle.otel_base.specs.declared.context.Context.{Context}
 use Rattle.otel_base.specs.declared.context.SpanContext.{SpanContext}
-use Rattle.otel_base.specs.Ids.{ids_of}
-use Rattle.otel_base.specs.Tracer.{TracerCall, Start, Reserve, Finish, Spares}
-use Rattle.otel_base.specs.Tracer.{Starts as CountsStarts}
+use Rattle.otel_base.specs.Tracer.{TracerCall}
 use Rattle.trace_base.specs.declared.callsite.Callsite.{Callsite}
 use Rattle.trace_base.specs.declared.lane.Lane.{Lane}
 use Rattle.trace_base.specs.declared.span.Parent.{Parent}
-use Rattle.trace_base.specs.Contexts.{attached_as, attached_on, KeepsAttached, KeepsLane, AreAttached}
-use Rattle.trace_base.specs.Hooks.{Hook, OnNewSpan, OnRecord, OnFollows, OnEvent, OnEnter, OnExit, OnClose, Seen, Sees, HookLanes, comes, goes, one_if, makes, closes}
-use Rattle.trace_base.proofs.Entering.{count_cons, count_push}
+use Rattle.trace_base.specs.Hooks.{Hook, OnNewSpan, OnRecord, OnFollows, OnEvent, OnEnter, OnExit, OnClose, Seen, Sees, comes, goes, one_if}
+use Rattle.trace_base.proofs.Entering.{count_push}
 use Rattle.trace_base.specs.Spans.{without_last}
 use Rattle.otel_state.specs.Stack.{last_passing}
 use Rattle.otel_state.specs.declared.op.Op.{Op}
 use Rattle.otel_state.specs.declared.op.Op.TheVariants as ops
 use Rattle.otel_layer.specs.declared.tokens.Token.{Token}
 use Rattle.otel_state.specs.States.{Told, changed}
-use Rattle.otel_state.specs.declared.settings.LayerSettings.{LayerSettings}
 use Rattle.otel_state.specs.SpanFields.{span_update}
-use Rattle.trace_base.specs.declared.field.ValueSet.{ValueSet}
-use Rattle.otel_layer.specs.Table.{is_id, told_at, knows_span, with_span, update, with_op, waits, own_or, ids_at}
-use Rattle.otel_layer.specs.Core.{Core, is_token, entries_by, is_number, keeps_as, kept_by, seen_by, seen_in, kept_in}
-use Rattle.otel_layer.specs.Steps.{Reserves, SameCore, StartsIf, Starts, StartsAny, above, around, context_from, MakesSpan, made_told, with_link, FollowsSpan, Events, AttachesContext, DetachesContext, LeavesLane, EntersLane, EntersSpan, ExitsSpan, ClosesSpan, IfKnown, Step, DoesHook}
-use Rattle.otel_base.specs.Stack.{without, empty_context}
+use Rattle.otel_layer.specs.Table.{is_id, told_at, knows_span, update, with_op, waits, ids_at}
+use Rattle.otel_layer.specs.Core.{Core, is_token, entries_by, seen_by, seen_in}
+use Rattle.otel_layer.specs.Steps.{StartsIf, Starts, StartsAny, above, around, context_from, made_told, with_link, FollowsSpan, Events, EntersSpan, ExitsSpan, Step, DoesHook}
 use Rattle.otel_layer.specs.Taking.{last_passes, last_counted}
-use Rattle.otel_layer.specs.Keeping.{update_keys, removed_knows, removed_other, or_right_true}
+use Rattle.otel_layer.specs.Keeping.{update_keys, removed_knows, removed_other}
 
 -- the tokens and the keys that a start leaves
 starts_if_tokens : {T : Type 0} (does : T → TracerCall → T → Type 0) (under : Option Context) (id at : ℕ) (c d : Core T) → StartsIf does under id at c d → d.tokens ≡ c.tokens

@@ -194,7 +194,7 @@ impl<T: Tracer> OpenTelemetryLayer<T> {
     // Exits a span, if it is known.
     pub(crate) fn exit_if_known(&mut self, id: Id, lane: &mut Lane, at: u64)
         requires open { knows_span id self.old.core.spans ≡ true → 0 < entries_by self.old.core.tokens lane.old.id id }
-        requires still { AreAttached (kept_in self.old.core) lane.old }
+        requires still { knows_span id self.old.core.spans ≡ true → AreAttached (kept_in self.old.core) lane.old }
         ensures { IfKnown (knows_span id self.old.core.spans) (ExitsSpan self.old.core id at lane.old lane.new self.new.core) ((self.new.core ≡ self.old.core) × (lane.new ≡ lane.old)) }
     {
         if self.table.knows(id) {

@@ -7,7 +7,7 @@ ghost use Rattle.otel_layer.specs.Steps.{SameCore, DoesHook, all_events};
 ghost use Rattle.otel_layer.specs.Ready.{IsReadyOtel};
 ghost use Rattle.otel_layer.specs.Keeping.{does_whole, same_whole_core, all_keep_own};
 ghost use Rattle.otel_layer.specs.Seeing.{does_sees};
-ghost use Rattle.otel_layer.specs.Laning.{does_lanes, does_settings};
+ghost use Rattle.otel_layer.specs.Laning.{does_lanes, does_passive, does_settings};
 ghost use Rattle.otel_layer.specs.Rooming.{same_core_refl, same_core_trans, same_core_does};
 
 use crate::layer::OpenTelemetryLayer;
@@ -68,6 +68,8 @@ impl<T: Tracer> Layer for OpenTelemetryLayer<T> {
     ghost sees = { λ s hook t d. does_sees T.does all_events s.core hook t.core d };
 
     ghost lanes = { λ s hook t d. does_lanes T.does all_events s.core hook t.core d };
+
+    ghost passive = { λ s id at before later t d unknown. does_passive T.does all_events s.core id at before later t.core d unknown };
 
     ghost keeps_attaches = { λ s hook t d. ap (λ x. x.activation) (does_settings T.does all_events s.core hook t.core d) };
 

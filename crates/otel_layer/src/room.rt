@@ -112,7 +112,7 @@ impl<T: Tracer> OpenTelemetryLayer<T> {
     pub(crate) fn prepare_lane(&self, id: Id, lane: &mut Lane) -> Result<(), EnterError>
         ensures room { OnOk result (self.now.core.settings.activation ≡ true → knows_span id self.now.core.spans ≡ true → IsReady lane.new.contexts) }
         ensures leaves { KeepsLive self.now.core.settings.activation lane.old lane.new }
-        ensures full { result ≡ Err Full → (self.now.core.settings.activation ≡ true) × IsFull lane.old }
+        ensures full { result ≡ Err Full → (self.now.core.settings.activation ≡ true) × (knows_span id self.now.core.spans ≡ true) × IsFull lane.old }
     {
         if self.settings.activation && self.table.knows(id) {
             lane.contexts.reserve()

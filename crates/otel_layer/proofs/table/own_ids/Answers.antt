@@ -1,7 +1,7 @@
 -- The span is found, or isn't known.
 use Rattle.std.proofs.Common.{sym, ap, ◌∙◌}
 use Rattle.otel_base.specs.declared.context.SpanContext.{SpanContext}
-use Rattle.std.specs.Prelude.{Option, Some}
+use Rattle.std.specs.Prelude.{Some}
 use Rattle.otel_layer.specs.Table.{ids_at}
 use Rattle.otel_layer.proofs.Placing.{found_told, not_here, ids_known}
 use Rattle.otel_layer.proofs.table.own_ids.Goals as goal

@@ -1,7 +1,7 @@
 -- The span is found, or isn't known.
-use Rattle.std.proofs.Common.{sym, ap, ◌∙◌, refl}
+use Rattle.std.proofs.Common.{sym, ◌∙◌, refl}
 use Rattle.otel_state.specs.States.{changed}
-use Rattle.otel_layer.proofs.Placing.{found_told, found_room, found_update, found_rooms, none_found, none_update}
+use Rattle.otel_layer.proofs.Placing.{found_room, found_update, found_rooms, none_found, none_update}
 use Rattle.otel_layer.proofs.table.put.Goals as goal
 
 pub put-requires : goal.put-requires

@@ -1,6 +1,6 @@
 -- The op is the one that was prepared, at the hook's moment.
 use Rattle.std.proofs.Common.{ap, subst, sym, ◌∙◌, refl}
-use Rattle.std.specs.Prelude.{Some, None}
+use Rattle.std.specs.Prelude.{Some}
 use Rattle.trace_base.specs.Hooks.{OnEvent, ForEvent}
 use Rattle.otel_state.specs.EventFields.{event_of}
 use Rattle.otel_layer.specs.Steps.{Step, all_events}

@@ -1,5 +1,5 @@
 -- An entry, step by step.
-use Rattle.std.proofs.Common.{ap, ◌∙◌, sym}
+use Rattle.std.proofs.Common.{ap}
 use Rattle.otel_layer.proofs.Hooking.{enters}
 use Rattle.otel_layer.proofs.layer.OpenTelemetryLayer.enter_known.Goals as goal
 

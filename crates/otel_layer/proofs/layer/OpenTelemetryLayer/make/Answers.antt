@@ -1,5 +1,5 @@
 -- A making, step by step.
-use Rattle.std.proofs.Common.{ap, ◌∙◌, [], sym}
+use Rattle.std.proofs.Common.{ap, ◌∙◌}
 use Rattle.otel_base.specs.Stack.{empty_context}
 use Rattle.otel_state.specs.FirstAttributes.{first_attributes}
 use Rattle.otel_layer.specs.Steps.{context_from}
