@@ -1,4 +1,4 @@
-//! Calls on disabled handles, and handles made where no subscriber serves the lane.
+//! Calls on disabled handles, handles made where no subscriber serves the lane, and the text of a second global default.
 ghost use Rattle.std.specs.Prelude.{◌≡◌, ◌<◌, length, [], None};
 
 use crate::span::Span;
@@ -12,6 +12,7 @@ use std::alloc::Global;
 use std::test::Fail;
 use trace_base::callsite::{Callsite, Kind, SiteId};
 use trace_base::discard::Discard;
+use trace_base::dispatcher::TryInitError;
 use trace_base::field::{Value, ValueSet};
 use trace_base::lane::Lane;
 use trace_base::level::Level;
@@ -181,9 +182,13 @@ fn all(
 }
 
 #[test]
-fn calls_nothing_on_disabled_handles(rt: HostRuntime) {
+fn calls_nothing_on_disabled_handles(rt: HostRuntime) -> Result<(), Fail> {
     let mut world = World::new(rt.alloc());
     let answers = all(rt.alloc(), &mut world);
     world.discard();
     assert_eq!(rt; answers, Ok(([true; 5], [true; 9], true, [1, 7, 1, 1])));
+    let refused = TryInitError::AlreadySet;
+    let text = format!(in rt.alloc(); "{refused}")?;
+    assert_eq!(rt; text.as_str(), "a global default is already set");
+    Ok(())
 }
