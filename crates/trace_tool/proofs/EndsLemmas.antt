@@ -183,3 +183,12 @@ completes ends.TooLong (Some bytes) left before now reads reads' writes writes' 
     λ valid quiet still.
     let size : length bytes ≡ length ended.read + length ended.took.0 = ap length ended.took.2 ∙ length-append ended.read ended.took.0 in
     absurd (omega (arith, ended.long, valid.short))
+
+-- ---- faults
+
+-- a fault of the source is told of no other end
+pub fault_of : (refused : Bool) (ending : End) → status_of refused ending ≡ ends.ReadFault → ending ≡ end.Fault
+fault_of true ending told = cc
+fault_of false end.Whole told = cc
+fault_of false end.Fault told = refl
+fault_of false end.TooLong told = cc

@@ -45,5 +45,8 @@ pub puts_stuck : (a b c : Option (List ℕ)) (piece rest : List ℕ) (at n : ℕ
 puts_stuck a b c piece rest at n none first second =
     puts_front a b c piece at first (subst (λ (k : ℕ). Puts b c (take k rest)) none second)
 
+pub puts_nothing : (a b : Option (List ℕ)) (piece : List ℕ) (n : ℕ) → n ≡ 0 → Puts a b (take n piece) → Puts a b []
+puts_nothing a b piece n none puts = subst (λ (k : ℕ). Puts a b (take k piece)) none puts
+
 pub length_rest : (xs : List ℕ) (i : ℕ) → length (take (length xs - i) (drop i xs)) ≡ length xs - i
 length_rest xs i = ap length (take_rest xs i) ∙ length-drop i xs

@@ -1,7 +1,7 @@
 //! The input of a run, which is read before its first line is handled.
 ghost use Rattle.std.specs.Prelude.{◌≡◌, ◌≢◌, ◌<◌, ◌≤◌, length, IfOk, vec_len};
 ghost use Rattle.std.specs.Io.KnownBytes.{IsAtEnd};
-ghost use Rattle.trace_tool.specs.Streams.{HasFault, Takes};
+ghost use Rattle.trace_tool.specs.Streams.{HasFault, Takes, StopsReading};
 
 use crate::failed::Failed;
 use crate::source::Source;
@@ -42,6 +42,9 @@ pub fn read_all<R: Source>(alloc: Global, source: &mut R) -> Result<Input, Memor
     ensures fault { IfOk result (λ input. input.end ≡ End.Fault
         → HasFault (R.faults source.old) (R.faults source.new)) }
     ensures count { R.faults source.old ≤ R.faults source.new }
+    ensures sure { IfOk result (λ input. input.end ≢ End.Fault → R.faults source.new ≡ R.faults source.old) }
+    ensures stops { IfOk result (λ input. input.end ≡ End.Fault
+        → StopsReading R.faults R.remaining source.old source.new) }
 {
     let mut bytes = Vec::new(alloc);
     let mut room = zeros(alloc, BLOCK)?;

@@ -1,6 +1,10 @@
 //! Runs scripts of span calls: it reads a settings line and requests, and writes replies and records.
 #![tactic(auto)]
 
+ghost use Rattle.std.specs.Prelude.{◌≡◌};
+ghost use Rattle.std.specs.Process.{exit_status};
+ghost use Rattle.trace_tool.specs.Words.{number_of};
+
 mod answers;
 mod failed;
 mod input;
@@ -32,6 +36,13 @@ fn main(rt: HostRuntime) -> ExitCode {
         Err(error) if error.kind() == ErrorKind::OutOfMemory => Status::Memory,
         Err(_) => Status::Usage,
     };
+    exit_code(status)
+}
+
+// What the process ends with at a status.
+fn exit_code(status: Status) -> ExitCode
+    ensures { exit_status result ≡ number_of status }
+{
     ExitCode::from(status.number())
 }
 

@@ -1,7 +1,7 @@
 //! Running a script: all of its input is read, then answered, and then the answers are written.
 ghost use Rattle.std.specs.Prelude.{◌≡◌, ◌≢◌, [], IfSome, IfOk, OnErr};
 ghost use Rattle.trace_pipeline.specs.Report.{output};
-ghost use Rattle.trace_tool.specs.Streams.{HasFault, Puts, PutsFront};
+ghost use Rattle.trace_tool.specs.Streams.{HasFault, Puts, PutsFront, StopsReading, StopsWriting};
 ghost use Rattle.trace_tool.specs.Ends.{Leaves, Ends, Causes, Completes, status_of, Tells};
 
 use crate::answers::{Output, answer_lines};
@@ -38,6 +38,8 @@ pub fn run_script<R: Source, W: Sink>(
     ensures complete { IfSome (R.remaining source.old) (λ bytes.
         Completes result bytes (R.faults source.old) (R.faults source.new)
         (W.faults sink.old) (W.faults sink.new)) }
+    ensures read_stops { result ≡ Status.ReadFault → StopsReading R.faults R.remaining source.old source.new }
+    ensures write_stops { result ≡ Status.WriteFault → StopsWriting W.faults W.holds sink.old sink.new }
     ensures usage { result ≢ Status.Usage }
 {
     match command {
@@ -58,6 +60,10 @@ fn run<R: Source, W: Sink>(alloc: Global, source: &mut R, sink: &mut W) -> Resul
     ensures memory { OnErr result (Puts (W.holds sink.old) (W.holds sink.new) []) }
     ensures causes { IfOk result (λ status.
         Causes status (R.faults source.old) (R.faults source.new) (W.faults sink.old) (W.faults sink.new)) }
+    ensures read_stops { IfOk result (λ status. status ≡ Status.ReadFault
+        → StopsReading R.faults R.remaining source.old source.new) }
+    ensures write_stops { IfOk result (λ status. status ≡ Status.WriteFault
+        → StopsWriting W.faults W.holds sink.old sink.new) }
     ensures other { IfOk result (λ status. (status ≢ Status.Usage) × (status ≢ Status.Memory)) }
 {
     let input = read_all(alloc, source)?;

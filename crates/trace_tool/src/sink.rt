@@ -1,7 +1,7 @@
 //! Sinks: where a run's output goes.
 ghost use Rattle.std.specs.Prelude.{◌≡◌, ℕ, ◌<◌, ◌≤◌, List, [], Option, Some, length, take, IfOk, OnOk, OnErr};
 ghost use Rattle.std.proofs.Common.{◌⊎◌};
-ghost use Rattle.trace_tool.specs.Streams.{HasFault, Puts, PutsFront};
+ghost use Rattle.trace_tool.specs.Streams.{HasFault, Puts, PutsFront, StopsWriting, KeepsTurn, first_turn, later_turns};
 
 use crate::failed::Failed;
 use crate::turns::{Turn, next_turn};
@@ -37,6 +37,7 @@ pub fn write_all<W: Sink>(sink: &mut W, piece: &[u8]) -> Result<(), Failed>
     ensures sure { OnOk result (W.faults sink.new ≡ W.faults sink.old) }
     ensures count { W.faults sink.old ≤ W.faults sink.new }
     ensures cause { OnErr result (HasFault (W.faults sink.old) (W.faults sink.new)) }
+    ensures stops { OnErr result (StopsWriting W.faults W.holds sink.old sink.new) }
 {
     let mut at = 0;
     while at < piece.len() {
@@ -129,7 +130,20 @@ impl<'a> Sink for MemSink<'a> {
 
     ghost faults = { λ s. s.faults };
 
-    fn write(&mut self, piece: &[u8]) -> Result<usize, Failed> {
+    fn write(&mut self, piece: &[u8]) -> Result<usize, Failed>
+        ensures bound { IfOk result (λ n. n ≤ length piece.now) }
+        ensures bytes { IfOk result (λ n.
+            Puts (Some self.old.bytes.bytes.items) (Some self.new.bytes.bytes.items) (take n piece.now)) }
+        ensures stuck { IfOk result (λ n. n ≡ 0 → 0 < length piece.now
+            → HasFault self.old.faults self.new.faults) }
+        ensures moved { IfOk result (λ n. 0 < n → self.new.faults ≡ self.old.faults) }
+        ensures kept { OnErr result
+            (Puts (Some self.old.bytes.bytes.items) (Some self.new.bytes.bytes.items) []) }
+        ensures count { self.old.faults ≤ self.new.faults }
+        ensures cause { OnErr result (HasFault self.old.faults self.new.faults) }
+        ensures turns { self.new.turns.now ≡ later_turns self.old.turns.now }
+        ensures turn { KeepsTurn (first_turn self.old.turns.now) result }
+    {
         let (turn, turns) = next_turn(self.turns);
         self.turns = turns;
         let taken = match turn {

@@ -1,7 +1,8 @@
 //! Sources: where a run's input comes from.
-ghost use Rattle.std.specs.Prelude.{◌≡◌, ℕ, ◌<◌, ◌≤◌, List, [], Option, Some, length, take, IfOk, OnErr};
+ghost use Rattle.std.specs.Prelude.{◌≡◌, ℕ, ◌<◌, ◌≤◌, List, [], Option, Some, length, take, IfOk, OnErr, IsErr};
 ghost use Rattle.std.specs.Io.KnownBytes.{IsAtEnd};
-ghost use Rattle.trace_tool.specs.Streams.{HasFault, Takes};
+ghost use Rattle.trace_tool.specs.declared.turns.Turn.TheVariants.{Fails};
+ghost use Rattle.trace_tool.specs.Streams.{HasFault, Takes, KeepsTurn, moving, first_turn, later_turns};
 
 use crate::failed::Failed;
 use crate::turns::{Turn, next_turn};
@@ -21,6 +22,7 @@ pub trait Source {
         ensures bound { IfOk result (λ n. n ≤ length buf.new) }
         ensures bytes { IfOk result (λ n. Takes (remaining self.old) (remaining self.new) (take n buf.new)) }
         ensures end { IfOk result (λ n. n ≡ 0 → 0 < length buf.new → IsAtEnd (remaining self.new)) }
+        ensures moved { IfOk result (λ _. faults self.new ≡ faults self.old) }
         ensures kept { OnErr result (Takes (remaining self.old) (remaining self.new) []) }
         ensures count { faults self.old ≤ faults self.new }
         ensures cause { OnErr result (HasFault (faults self.old) (faults self.new)) };
@@ -83,7 +85,21 @@ impl<'a> Source for MemSource<'a> {
 
     ghost faults = { λ s. s.faults };
 
-    fn read(&mut self, buf: &mut [u8]) -> Result<usize, Failed> {
+    fn read(&mut self, buf: &mut [u8]) -> Result<usize, Failed>
+        ensures bound { IfOk result (λ n. n ≤ length buf.new) }
+        ensures bytes { IfOk result (λ n.
+            Takes (Some self.old.bytes.rest.now) (Some self.new.bytes.rest.now) (take n buf.new)) }
+        ensures end { IfOk result (λ n. n ≡ 0 → 0 < length buf.new
+            → IsAtEnd (Some self.new.bytes.rest.now)) }
+        ensures kept { OnErr result
+            (Takes (Some self.old.bytes.rest.now) (Some self.new.bytes.rest.now) []) }
+        ensures count { self.old.faults ≤ self.new.faults }
+        ensures cause { OnErr result (HasFault self.old.faults self.new.faults) }
+        ensures moved { IfOk result (λ _. self.new.faults ≡ self.old.faults) }
+        ensures turns { self.new.turns.now ≡ later_turns self.old.turns.now }
+        ensures turn { KeepsTurn (moving (first_turn self.old.turns.now)) result }
+        ensures fails { IsErr result → first_turn self.old.turns.now ≡ Fails }
+    {
         let (turn, turns) = next_turn(self.turns);
         self.turns = turns;
         match turn {

@@ -1,7 +1,7 @@
 //! The entry point of the program, over any source and any sink.
 ghost use Rattle.std.specs.Prelude.{◌≡◌, map, None, IsSome, IfSome, string_bytes};
 ghost use Rattle.trace_pipeline.specs.Report.{output};
-ghost use Rattle.trace_tool.specs.Streams.{PutsFront};
+ghost use Rattle.trace_tool.specs.Streams.{PutsFront, StopsReading, StopsWriting};
 ghost use Rattle.trace_tool.specs.Ends.{Ends, Causes, Completes};
 ghost use Rattle.trace_tool.specs.Words.{command_of};
 
@@ -31,6 +31,8 @@ pub fn top<H: Threads + Wait + Sync, R: Source, W: Sink>(
         (R.faults source.old) (R.faults source.new) (W.faults sink.old) (W.faults sink.new) }
     ensures front { IfSome (R.remaining source.old) (λ bytes.
         PutsFront (W.holds sink.old) (W.holds sink.new) (output bytes)) }
+    ensures read_stops { result ≡ Status.ReadFault → StopsReading R.faults R.remaining source.old source.new }
+    ensures write_stops { result ≡ Status.WriteFault → StopsWriting W.faults W.holds sink.old sink.new }
     ensures complete { IsSome (command_of (map string_bytes words.now))
         → IfSome (R.remaining source.old) (λ bytes.
         Completes result bytes (R.faults source.old) (R.faults source.new)

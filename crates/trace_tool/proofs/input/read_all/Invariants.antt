@@ -1,4 +1,4 @@
-use Rattle.std.proofs.Common.{◌+◌, ◌-◌, ◌≤◌, length}
+use Rattle.std.proofs.Common.{◌≡◌, ◌+◌, ◌-◌, length}
 use Rattle.trace_pipeline.specs.declared.limits.TheConstants.{MAX_INPUT}
 use Rattle.trace_tool.specs.Streams.{Takes}
 use Rattle.trace_tool.proofs.input.read_all.Given as goal
@@ -6,7 +6,7 @@ use Rattle.trace_tool.proofs.input.read_all.Given as goal
 abbrev pub invariant-loop-block : goal.invariant-loop-block
 invariant-loop-block g l = record {
   told : Takes (g.R.Source.remaining l.fn.source) (g.R.Source.remaining l.source) l.bytes.items;
-  count : g.R.Source.faults l.fn.source ≤ g.R.Source.faults l.source;
+  sure : g.R.Source.faults l.source ≡ g.R.Source.faults l.fn.source;
 }
 
 abbrev pub decreases-loop-block : goal.decreases-loop-block

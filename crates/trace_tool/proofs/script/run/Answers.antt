@@ -1,4 +1,5 @@
-use Rattle.trace_tool.proofs.EndsLemmas.{front_ends, puts_whole, written_ends}
+use Rattle.std.proofs.Common.{sym, ◌∙◌}
+use Rattle.trace_tool.proofs.EndsLemmas.{front_ends, puts_whole, written_ends, fault_of}
 use Rattle.trace_tool.proofs.script.run.Goals as goal
 
 pub returns-in-Ok-clause-ends : goal.returns-in-Ok-clause-ends
@@ -22,3 +23,7 @@ pub returns-clause-front : goal.returns-clause-front
 returns-clause-front g c =
     front_ends _ _ _ _ c.in_ok-input.input.end c.in_ok-output.output c.in_ok-input.input.bytes.items c.in_ok-input.ensures.bytes c.in_ok-input.ensures.whole
     c.in_ok-output.ensures (rw c.as_slice.ensures.value at c.in-Err.ensures.err)
+
+pub returns-in-Ok-clause-read_stops : goal.returns-in-Ok-clause-read_stops
+returns-in-Ok-clause-read_stops g c =
+    λ told. c.in_ok-input.ensures.stops (fault_of c.in_ok-output.output.refused c.in_ok-input.input.end (sym c.status_of.ensures ∙ told))
