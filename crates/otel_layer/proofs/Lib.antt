@@ -1,3 +1,5 @@
+pub mod Applying
 pub mod Attaching
 pub mod Hooking
 pub mod Placing
+pub mod Setting

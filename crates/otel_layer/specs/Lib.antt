@@ -1,10 +1,13 @@
+pub mod Asking
 pub mod Core
 pub mod Keeping
 pub mod Laning
 pub mod Lending
+pub mod Parts
 pub mod Ready
 pub mod Rooming
 pub mod Seeing
 pub mod Steps
 pub mod Table
 pub mod Taking
+pub mod Touching

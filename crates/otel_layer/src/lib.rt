@@ -4,12 +4,17 @@
 
 mod calls;
 mod hooks;
+pub mod laws;
 pub mod layer;
+pub mod part;
 pub mod ready;
 mod room;
+pub mod span_ext;
 mod table;
 #[cfg(test)]
 mod tests;
 mod tokens;
 
 pub use layer::OpenTelemetryLayer;
+pub use part::OtelPart;
+pub use span_ext::{OpenTelemetrySpanExt, get_otel_context};

@@ -3,11 +3,12 @@ ghost use Rattle.std.specs.Prelude.{◌≡◌, ◌==◌, ℕ, ◌<◌, ◌≤◌
 ghost use Rattle.std.specs.List.{position, list_any};
 ghost use Rattle.std.specs.Map.{lookup, remove_entry};
 ghost use Rattle.otel_state.specs.States.{is_growing};
+ghost use Rattle.otel_layer.specs.Parts.{AppliesTo, context_at};
 ghost use Rattle.otel_layer.specs.Table.{told_entry, room_entry, is_id, told_at, knows_span, with_op, with_span, waits, own_or, ids_at, RoomFor, RoomForLink};
 
 use otel_base::context::{Context, SpanContext};
 use otel_base::memory::Memory;
-use otel_state::op::Op;
+use otel_state::op::{Op, OpReply};
 use otel_state::state::SpanState;
 use std::alloc::Global;
 use std::marker::Model;
@@ -28,6 +29,7 @@ pub(crate) struct Table {
 
 impl Model for Table {
     ghost use Rattle.std.specs.Prelude.{◌-◌, length, vec_capacity};
+    ghost use Rattle.otel_layer.specs.Parts.{AppliesTo, context_at};
     ghost use Rattle.otel_layer.specs.Table.{Tabled, tabled};
 
     ghost Value = { Tabled };
@@ -89,6 +91,20 @@ impl Table {
         ensures room { self.new.room ≡ self.old.room }
     {
         put(self.entries.as_mut_slice(), id, at, op);
+    }
+
+    // Applies an op to a span, and answers it; none where it isn't there.
+    pub(crate) fn apply(&mut self, id: Id, at: u64, op: Op) -> Option<Result<OpReply, Memory>>
+        ensures { AppliesTo (told_at id self.old.spans) self.old.spans id at op result self.new.spans }
+    {
+        apply(self.entries.as_mut_slice(), id, at, op)
+    }
+
+    // The own context of a span, none where it isn't there.
+    pub(crate) fn context(&self, id: Id) -> Option<Context>
+        ensures { result ≡ context_at (told_at id self.now.spans) }
+    {
+        shown_context(self.entries.as_slice(), id)
     }
 
     // Takes the room for an op in the state of a span, if it is there.
@@ -233,5 +249,25 @@ fn remove(entries: &mut Vec<Entry>, id: Id) -> SpanState
             state
         }
         None => unreachable!(),
+    }
+}
+
+fn apply(entries: &mut [Entry], id: Id, at: u64, op: Op) -> Option<Result<OpReply, Memory>>
+    ensures { AppliesTo (told_at id (map told_entry entries.old)) (map told_entry entries.old) id at op result (map told_entry entries.new) }
+{
+    match find(entries, id) {
+        Some(place) => Some(entries[place].state.apply(at, op)),
+        None => None,
+    }
+}
+
+fn shown_context(entries: &[Entry], id: Id) -> Option<Context>
+    ensures { result ≡ context_at (told_at id (map told_entry entries.now)) }
+{
+    match find(entries, id) {
+        Some(place) => Some(Context {
+            span: entries[place].state.started(),
+        }),
+        None => None,
     }
 }

@@ -1,0 +1,61 @@
+-- What handles ask of the layer of their stack, and what its answers say to them.
+use Rattle.std.specs.Prelude.{◌≡◌, ℕ, Bool, true, false, Option, Some, None, Result, Ok, Err, is_some, if◌then◌else◌}
+use Rattle.otel_base.specs.declared.context.Context.{Context}
+use Rattle.otel_base.specs.declared.memory.Memory.{Memory}
+use Rattle.otel_base.specs.Stack.{empty_context}
+use Rattle.trace_base.specs.Gate.{Worlds}
+use Rattle.otel_state.specs.declared.op.Op.{Op}
+use Rattle.otel_state.specs.declared.op.OpReply.{OpReply}
+use Rattle.otel_state.specs.declared.op.OpReply.TheVariants as replies
+use Rattle.otel_state.specs.declared.op.SetParentError.{SetParentError}
+use Rattle.otel_state.specs.declared.op.SetParentError.TheVariants as refusals
+use Rattle.otel_state.specs.States.{Told}
+use Rattle.span_handles.specs.Worlds.{Replaced}
+use Rattle.span_handles.specs.Handles.{Held}
+use Rattle.otel_layer.specs.Parts.{PartCall, Applies, Shows}
+
+-- an op is applied by the subscriber of an enabled handle, and nothing happens on a disabled one
+abbrev pub AppliesOn : {S : Type 0} → (S → PartCall → S → Type 0) → Worlds S → Worlds S → ℕ → Op → Held → Option (Result OpReply Memory) → Type 0
+AppliesOn touches old new at op None answer = (answer ≡ None) × (new ≡ old)
+AppliesOn touches old new at op (Some held) answer = Replaced (λ s t. touches s (Applies held.1 at op answer) t) old new held.0
+
+-- an op is applied, and the result is read off its answer
+pub record Asks {S R : Type 0} (touches : S → PartCall → S → Type 0) (old new : Worlds S) (at : ℕ) (op : Op) (held : Held) (read : Option (Result OpReply Memory) → R) (result : R) : Type 0 where
+  pub answer : Option (Result OpReply Memory)
+  pub did : AppliesOn touches old new at op held answer
+  pub is : result ≡ read answer
+
+-- whether memory was wanted
+abbrev pub done_answer : Option (Result OpReply Memory) → Result (Unit {0}) Memory
+done_answer (Some (Err memory)) = Err memory
+done_answer (Some (Ok reply)) = Ok tt
+done_answer None = Ok tt
+
+-- whether the parent was set: a handle that is disabled has no span, and where nothing is answered there is no layer
+abbrev pub parent_reply : OpReply → Result (Unit {0}) SetParentError
+parent_reply (replies.Parent set) = set
+parent_reply replies.Done = Err refusals.LayerNotFound
+
+abbrev pub parent_answer : Held → Option (Result OpReply Memory) → Result (Unit {0}) SetParentError
+parent_answer None answer = Err refusals.SpanDisabled
+parent_answer (Some held) None = Err refusals.LayerNotFound
+parent_answer (Some held) (Some (Err memory)) = Err refusals.LayerNotFound
+parent_answer (Some held) (Some (Ok reply)) = parent_reply reply
+
+-- the own context of the span of an enabled handle is answered, which starts it
+abbrev pub ShowsOn : {S : Type 0} → (S → PartCall → S → Type 0) → Worlds S → Worlds S → ℕ → Held → Option Context → Type 0
+ShowsOn touches old new at None answer = (answer ≡ None) × (new ≡ old)
+ShowsOn touches old new at (Some held) answer = Replaced (λ s t. touches s (Shows held.1 at answer) t) old new held.0
+
+abbrev pub context_or_empty : Option Context → Context
+context_or_empty None = empty_context
+context_or_empty (Some context) = context
+
+pub record AsksContext {S : Type 0} (touches : S → PartCall → S → Type 0) (old new : Worlds S) (at : ℕ) (held : Held) (result : Context) : Type 0 where
+  pub answer : Option Context
+  pub did : ShowsOn touches old new at held answer
+  pub is : result ≡ context_or_empty answer
+
+-- the parent of an enabled handle's span is set exactly while it isn't started, if the stack shows a layer
+abbrev pub set_while_waiting : Told → Result (Unit {0}) SetParentError
+set_while_waiting told = if is_some told.own then Err refusals.AlreadyStarted else Ok tt

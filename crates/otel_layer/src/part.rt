@@ -1,0 +1,189 @@
+//! What a stack shows of its OpenTelemetry layer to handles.
+ghost use Rattle.std.specs.Prelude.{◌≡◌, ◌||◌, ◌^◌, ◌<◌, if◌then◌else◌, ℕ, Bool, true, false, List, Option, None, Some};
+ghost use Rattle.std.proofs.Common.{refl, ap};
+ghost use Rattle.std.proofs.lemmas.Bool.{true≢false};
+ghost use Rattle.otel_state.specs.States.{Told};
+ghost use Rattle.otel_layer.specs.Parts.{PartCall, Applies, Shows, IsOutside, Touches, TouchesNone, TouchesFirst, TellsIf, IsUnanswered, StaysLayer, StaysStack};
+ghost use Rattle.otel_layer.specs.Touching.{touches_tell, core_stays, layer_can_start, first_tells, first_none, first_has, layered_is};
+
+use crate::layer::OpenTelemetryLayer;
+use otel_base::context::Context;
+use otel_base::memory::Memory;
+use otel_base::tracer::Tracer;
+use otel_state::op::{Op, OpReply};
+use span_registry::layered::Layered;
+use span_registry::registry::Registry;
+use trace_base::layer::Layer;
+use trace_base::span::Id;
+use trace_base::subscriber::Subscriber;
+
+/// A part of a stack that may have an OpenTelemetry layer, for what handles ask of that: the downcast to the layer that
+/// `tracing_opentelemetry` makes.
+pub trait OtelPart {
+    /// Whether it has a layer.
+    ghost has: { Self → Bool };
+
+    /// What the spans that the layer knows have come to, where that is told.
+    ghost told: { Self → Option (List (ℕ × Told)) };
+
+    /// A call, and what it makes of it.
+    ghost touches: { Self → PartCall → Self → Type 0 };
+
+    /// Spans can be started.
+    ghost can_start: { Self → Type 0 };
+
+    /// Whether it has a layer.
+    fn has_otel(&self) -> bool
+        ensures { result ≡ has self.now };
+
+    /// Applies an op from outside to a span, and answers it; none exactly where there is no layer or the layer doesn't
+    /// know the span.
+    fn otel_apply(&mut self, id: Id, at: u64, op: Op) -> Option<Result<OpReply, Memory>>
+        requires { IsOutside op }
+        ensures { touches self.old (Applies id at op result) self.new };
+
+    /// Starts a span, and answers its own context; none exactly where there is no layer or the layer doesn't know the
+    /// span.
+    fn otel_context(&mut self, id: Id, at: u64) -> Option<Context>
+        requires { can_start self.old }
+        ensures { touches self.old (Shows id at result) self.new };
+
+    /// Without a layer nothing is answered, and nothing changes.
+    ghost none: { (s : Self) (call : PartCall) (t : Self) → touches s call t → has s ≡ false → IsUnanswered call × (t ≡ s) };
+
+    /// What is told is told again after a call, as the call makes it.
+    ghost tells: { (s : Self) (call : PartCall) (t : Self) → touches s call t → TellsIf (told s) call (told t) };
+
+    ghost keeps_has: { (s : Self) (call : PartCall) (t : Self) → touches s call t → has t ≡ has s };
+}
+
+/// A layer that calls from outside leave whole, with the same spans and entries.
+pub trait OtelLayer: Layer + OtelPart {
+    ghost stays: { (s : Self) (call : PartCall) (t : Self) → Self.OtelPart.touches s call t
+        → StaysLayer Self.Layer.seen Self.Layer.kept Self.Layer.attaches Self.Layer.is_whole s t };
+
+    ghost starts: { (s : Self) → Self.Layer.is_whole s → Self.OtelPart.can_start s };
+}
+
+/// The same of a subscriber.
+pub trait OtelSubscriber: Subscriber + OtelPart {
+    ghost stays: { (s : Self) (call : PartCall) (t : Self) → Self.OtelPart.touches s call t
+        → StaysStack Self.Subscriber.spans Self.Subscriber.kept Self.Subscriber.attaches Self.Subscriber.is_whole s t };
+
+    ghost starts: { (s : Self) → Self.Subscriber.is_whole s → Self.OtelPart.can_start s };
+}
+
+impl<T: Tracer> OtelPart for OpenTelemetryLayer<T> {
+    ghost has = { λ s. true };
+
+    ghost told = { λ s. Some s.core.spans };
+
+    ghost touches = { λ s call t. Touches T.does s.core call t.core };
+
+    ghost can_start = { λ s. T.started s.core.tracer < 2 ^ 63 };
+
+    ghost none = { λ s call t d h. absurd (true≢false h) };
+
+    ghost tells = { λ s call t d. touches_tell T.does s.core call t.core d };
+
+    ghost keeps_has = { λ s call t d. refl };
+
+    fn has_otel(&self) -> bool {
+        true
+    }
+
+    fn otel_apply(&mut self, id: Id, at: u64, op: Op) -> Option<Result<OpReply, Memory>> {
+        self.table.apply(id, at, op)
+    }
+
+    fn otel_context(&mut self, id: Id, at: u64) -> Option<Context> {
+        self.start(id, at);
+        self.table.context(id)
+    }
+}
+
+impl<T: Tracer> OtelLayer for OpenTelemetryLayer<T> {
+    ghost stays = { λ s call t d.
+        let k = core_stays T.does T.spare T.started T.counts s.core call t.core d in
+        record { seen_same = k.0; kept_same = k.1; attaches_same = k.2; whole = k.3 } };
+
+    ghost starts = { λ s w. layer_can_start T.spare T.started s.core w };
+}
+
+/// It has none.
+impl OtelPart for Registry {
+    ghost has = { λ s. false };
+
+    ghost told = { λ s. None };
+
+    ghost touches = { λ s call t. TouchesNone s call t };
+
+    ghost can_start = { λ s. Unit {0} };
+
+    ghost none = { λ s call t d h. d };
+
+    ghost tells = { λ s call t d. refl };
+
+    ghost keeps_has = { λ s call t d. refl };
+
+    fn has_otel(&self) -> bool {
+        false
+    }
+
+    fn otel_apply(&mut self, _id: Id, _at: u64, _op: Op) -> Option<Result<OpReply, Memory>> {
+        None
+    }
+
+    fn otel_context(&mut self, _id: Id, _at: u64) -> Option<Context> {
+        None
+    }
+}
+
+impl OtelSubscriber for Registry {
+    ghost stays = { λ s call t d.
+        record { spans_same = ap (λ r. r.spans) d.1; kept_same = refl; attaches_same = refl; whole = λ w. tt } };
+
+    ghost starts = { λ s w. tt };
+}
+
+/// The outer part is asked first.
+impl<L: Layer + OtelPart, S: Subscriber + OtelPart> OtelPart for Layered<L, S> {
+    ghost has = { λ s. L.has s.layer || S.has s.inner };
+
+    ghost told = { λ s. if L.has s.layer then L.told s.layer else S.told s.inner };
+
+    ghost touches = { λ s call t. TouchesFirst (L.has s.layer) L.touches S.touches s.layer s.inner call t.layer t.inner };
+
+    ghost can_start = { λ s. L.can_start s.layer × S.can_start s.inner };
+
+    ghost none = { λ s call t d h.
+        let n = first_none L.has S.has L.touches S.touches s.layer s.inner call t.layer t.inner L.none S.none d h in
+        (n.0, layered_is s t n.1 n.2) };
+
+    ghost tells = { λ s call t d.
+        first_tells L.has S.has L.touches S.touches L.keeps_has L.told S.told L.tells S.tells
+        s.layer s.inner call t.layer t.inner d };
+
+    ghost keeps_has = { λ s call t d.
+        first_has L.has S.has L.touches S.touches L.keeps_has s.layer s.inner call t.layer t.inner S.keeps_has d };
+
+    fn has_otel(&self) -> bool {
+        self.layer().has_otel() || self.inner().has_otel()
+    }
+
+    fn otel_apply(&mut self, id: Id, at: u64, op: Op) -> Option<Result<OpReply, Memory>> {
+        if self.layer().has_otel() {
+            self.layer_mut().otel_apply(id, at, op)
+        } else {
+            self.inner_mut().otel_apply(id, at, op)
+        }
+    }
+
+    fn otel_context(&mut self, id: Id, at: u64) -> Option<Context> {
+        if self.layer().has_otel() {
+            self.layer_mut().otel_context(id, at)
+        } else {
+            self.inner_mut().otel_context(id, at)
+        }
+    }
+}
