@@ -1,0 +1,9 @@
+pub mod Fixing
+pub mod Leveling
+pub mod Readings
+pub mod Refusals
+pub mod Rising
+pub mod Told
+pub mod Watches
+pub mod Wholes
+pub mod Worlds

@@ -1,0 +1,17 @@
+-- The levels are those of the entries.
+use Rattle.std.proofs.Common.{◌≡◌, ◌∙◌, ap, refl, List, [], ◌∷◌, map, Bool}
+use Rattle.std.specs.Prelude.{◌||◌}
+use Rattle.std.specs.List.{list_any}
+use Rattle.trace_base.specs.declared.level.Level.{Level}
+use Rattle.trace_base.specs.declared.level.LevelFilter.{LevelFilter}
+use Rattle.trace_base.specs.Level.{is_within}
+use Rattle.env_filter.specs.Levels.{Opened}
+use Rattle.env_filter.specs.Filtering.{is_open}
+use Rattle.env_filter.proofs.filter.EnvFilter.is_open.Goals as goal
+
+open_mapped : (level : Level) (es : List Opened) → list_any (λ (f : LevelFilter). is_within level f) (map (λ (e : Opened). e.level) es) ≡ is_open level es
+open_mapped level [] = refl
+open_mapped level (e ∷ es) = ap (λ (b : Bool). is_within level e.level || b) (open_mapped level es)
+
+pub returns : goal.returns
+returns c = c.is_open.ensures ∙ ap (λ (fs : List LevelFilter). list_any (λ (f : LevelFilter). is_within c.args.level f) fs) c.levels.ensures.value ∙ open_mapped c.args.level _

@@ -1,0 +1,9 @@
+-- Those that were passed are written.
+use Rattle.std.proofs.Common.{◌++◌, codes, flat_map, take}
+use Rattle.std.specs.Fmt.{HasWritten, IsPlainFormatter}
+use Rattle.env_directives.specs.StaticPrinted.{static_text}
+use Rattle.env_filter.proofs.filter.text.write_statics.Given as goal
+
+abbrev pub invariant-loop-directive : goal.invariant-loop-directive
+invariant-loop-directive g l =
+    IsPlainFormatter l.initial.f → HasWritten g.W.Write.write_str_gives l.initial.f (flat_map (λ d. codes "," ++ static_text d) (take l.directive-index l.directives)) l.f

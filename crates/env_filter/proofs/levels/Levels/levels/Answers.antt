@@ -1,0 +1,8 @@
+-- The levels are those of the pairs.
+use Rattle.std.proofs.Common.{◌∙◌, ap, map}
+use Rattle.env_filter.specs.Levels.{Opened, Leveled}
+use Rattle.env_filter.proofs.Leveling.{pair_levels}
+use Rattle.env_filter.proofs.levels.Levels.levels.Goals as goal
+
+pub returns : goal.returns
+returns c = c.as_slice.ensures.value ∙ pair_levels c.self.inside.spans.items c.self.inside.levels.items c.self.invariant ∙ ap (λ (l : Leveled). map (λ (e : Opened). e.level) l.opened) c.self.view_is

@@ -1,0 +1,9 @@
+-- The pieces that are there, and those that come.
+use Rattle.std.specs.Prelude.{◌≡◌, ℕ, List, ◌++◌}
+use Rattle.env_directives.specs.Separators.{comma_pieces}
+use Rattle.env_directives.proofs.Pieces.{Gives}
+use Rattle.env_filter.specs.Pieces.{shown}
+use Rattle.env_filter.proofs.pieces.pieces.Given as goal
+
+abbrev pub invariant-loop-piece : goal.invariant-loop-piece
+invariant-loop-piece l = (left : List (List ℕ)) × Gives l.piece-iterator left × (comma_pieces l.text ≡ shown l.pieces.items ++ left)

@@ -1,0 +1,10 @@
+-- The layer is there.
+use Rattle.std.proofs.Common.{subst, Option, ◌≡◌, true}
+use Rattle.span_registry.specs.Unseeing.{unseeing}
+use Rattle.trace_base.specs.Contexts.{AreAttached}
+use Rattle.env_filter.specs.Reloading.{if_there, none_kept}
+use Rattle.env_filter.proofs.reload.hooks.LayerLayer.on_exit.Goals as goal
+
+pub on_exit-requires-clause-still : goal.on_exit-requires-clause-still
+on_exit-requires-clause-still g c =
+    subst (λ (o : Option g.row.L.Denot). (if_there unseeing g.L.Layer.seen o).knows c.args.id ≡ true → AreAttached (if_there none_kept g.L.Layer.kept o) c.args.lane.now) c.in-Some.is c.requires.still

@@ -1,0 +1,7 @@
+-- What was found of those that were passed.
+use Rattle.std.proofs.Common.{◌≡◌, take}
+use Rattle.env_filter.specs.Watching.{found_in}
+use Rattle.env_filter.proofs.watch.found.Given as goal
+
+abbrev pub invariant-loop-care : goal.invariant-loop-care
+invariant-loop-care l = l.found.items ≡ found_in l.values (take l.care-index l.cares)

@@ -1,0 +1,150 @@
+-- A filter: its tables, the matches of spans, the levels of lanes, and what each hook makes of them.
+use Rattle.std.specs.Prelude.{◌≡◌, ℕ, ◌<◌, ◌≤◌, ◌==◌, ◌&&◌, ◌||◌, if◌then◌else◌, Bool, true, false, not, List, [], ◌∷◌, length, Option, Some, None, is_some, count_by, IfSome}
+use Rattle.std.specs.List.{list_any}
+use Rattle.std.specs.Option.{option_map}
+use Rattle.trace_base.specs.declared.callsite.Callsite.{Callsite}
+use Rattle.trace_base.specs.declared.level.Level.{Level}
+use Rattle.trace_base.specs.declared.level.LevelFilter.{LevelFilter}
+use Rattle.trace_base.specs.declared.level.LevelFilter.TheVariants.{TRACE, OFF}
+use Rattle.trace_base.specs.declared.subscriber.Interest.{Interest}
+use Rattle.trace_base.specs.declared.subscriber.Interest.TheVariants as interests
+use Rattle.trace_base.specs.Level.{is_within, greatest_verbosity}
+use Rattle.trace_base.specs.Hooks.{Hook, OnNewSpan, OnRecord, OnFollows, OnEvent, OnEnter, OnExit, OnClose, Preparation, ForNewSpan, ForRecord, ForFollows, ForEvent, ForEnter, Seen}
+use Rattle.span_registry.specs.Both.{KnowsNone}
+use Rattle.env_filter.specs.Keyed.{put}
+use Rattle.env_filter.specs.Levels.{Opened, Leveled, is_of}
+use Rattle.env_filter.specs.Kept.{watched_in, levels_in, room_in, opened, closed}
+use Rattle.env_directives.specs.declared.directive.StaticDirective.{StaticDirective}
+use Rattle.env_directives.specs.declared.env.directive.Directive.{Directive}
+use Rattle.env_directives.specs.declared.env.field.Match.{Match}
+use Rattle.env_directives.specs.Cares.{cares_for_span, is_span}
+use Rattle.env_directives.specs.Choice.{admits}
+use Rattle.env_directives.specs.Table.{Table, more_verbose}
+use Rattle.env_filter.specs.Watching.{Watched, watched, recorded, level_of, found_in}
+use Rattle.env_filter.specs.declared.watch.Care.{Care}
+use Rattle.env_filter.specs.declared.filter.hooks.Ready.{Ready}
+
+-- Whether patterns are taken, the tables in force, the matches of the live spans that were made under them and cared for,
+-- and each lane's levels.
+pub record Filtered : Type 0 where
+  pub patterns : Bool
+  pub statics : Table StaticDirective
+  pub dynamics : Table Directive
+  pub spans : ℕ → Option Watched
+  pub lanes : ℕ → List Opened
+
+-- what a filter has: the same, with what it keeps of spans and of lanes in lists, and room
+pub record Filtering : Type 0 where
+  pub patterns : Bool
+  pub statics : Table StaticDirective
+  pub dynamics : Table Directive
+  pub watches : List (ℕ × Watched)
+  pub lanes : List (ℕ × Leveled)
+  pub span_room : ℕ
+
+-- the same without room
+abbrev pub plain : Filtering → Filtered
+plain s = record { patterns = s.patterns; statics = s.statics; dynamics = s.dynamics; spans = watched_in s.watches; lanes = levels_in s.lanes }
+
+-- the same tables, with no span and no level
+abbrev pub fresh : Filtered → Filtered
+fresh f = record f { spans = λ id. None; lanes = λ lane. [] }
+
+abbrev pub span_level : Filtered → ℕ → Option LevelFilter
+span_level f id = option_map level_of (f.spans id)
+
+-- what a hook makes of a filter
+abbrev pub after : Filtered → Hook → Filtered
+after f (OnNewSpan id lane at parent current callsite values) = record f { spans = put f.spans id (watched f.dynamics.directives callsite values.pairs) }
+after f (OnRecord id at callsite values) = record f { spans = put f.spans id (option_map (recorded values.pairs) (f.spans id)) }
+after f (OnFollows id from at) = f
+after f (OnEvent reached lane at callsite values) = f
+after f (OnEnter id at before later) = record f { lanes = put f.lanes before.id (opened (span_level f id) id (f.lanes before.id)) }
+after f (OnExit id at before later) = record f { lanes = put f.lanes before.id (closed (is_some (f.spans id)) id (f.lanes before.id)) }
+after f (OnClose id at) = record f { spans = put f.spans id None }
+
+abbrev pub knows_in : Filtered → ℕ → Bool
+knows_in f id = is_some (f.spans id)
+
+abbrev pub entries_in : Filtered → ℕ → ℕ → ℕ
+entries_in f lane id = count_by (is_of id) (f.lanes lane)
+
+abbrev pub seen_in : Filtered → Seen
+seen_in f = record { knows = knows_in f; entries = entries_in f }
+
+-- what a hook was allowed to take for granted, and that lanes stay as they are
+abbrev pub Given : Filtered → Hook → Type 0
+Given f (OnNewSpan id lane at parent current callsite values) = knows_in f id ≡ false
+Given f (OnRecord id at callsite values) = Unit {0}
+Given f (OnFollows id from at) = Unit {0}
+Given f (OnEvent reached lane at callsite values) = Unit {0}
+Given f (OnEnter id at before later) = later ≡ before
+Given f (OnExit id at before later) = (later ≡ before) × (knows_in f id ≡ true → 0 < entries_in f before.id id)
+Given f (OnClose id at) = Unit {0}
+
+pub record DoesFilter (s : Filtering) (hook : Hook) (t : Filtering) : Type 0 where
+  pub given : Given (plain s) hook
+  pub now : (plain t) ≡ after (plain s) hook
+
+abbrev pub IsReadyFilter : Filtering → Preparation → Ready → Type 0
+IsReadyFilter s (ForNewSpan lane callsite values) r = (r.made ≡ watched (plain s).dynamics.directives callsite values.pairs) × (0 < s.span_room)
+IsReadyFilter s (ForRecord id callsite values) r = (w : Watched) → (plain s).spans id ≡ Some w → r.found ≡ found_in values.pairs w.cares
+IsReadyFilter s (ForFollows id from) r = Unit {0}
+IsReadyFilter s (ForEvent reached callsite values) r = Unit {0}
+IsReadyFilter s (ForEnter id lane) r = knows_in (plain s) id ≡ true → 0 < room_in s.lanes lane
+
+-- The gate.
+abbrev pub is_cared : Filtered → Callsite → Bool
+is_cared f c = is_span c.kind && list_any (λ d. cares_for_span d c) f.dynamics.directives
+
+abbrev pub has_dynamics : Filtered → Bool
+has_dynamics f = not (length f.dynamics.directives == 0)
+
+abbrev pub interest_in : Filtered → Callsite → Interest
+interest_in f c = if is_cared f c || admits f.statics.directives c then interests.Always else if has_dynamics f then interests.Sometimes else interests.Never
+
+-- whether some dynamic directive asks for a value
+abbrev pub asks_value : Match → Bool
+asks_value field = is_some field.value
+
+abbrev pub asks_values : List Directive → Bool
+asks_values ds = list_any (λ d. list_any asks_value d.fields) ds
+
+abbrev pub hint_in : Filtered → LevelFilter
+hint_in f = if asks_values f.dynamics.directives then TRACE else more_verbose f.statics.greatest f.dynamics.greatest
+
+-- the level is within some level on the lane's list
+abbrev pub is_open : Level → List Opened → Bool
+is_open level levels = list_any (λ e. is_within level e.level) levels
+
+abbrev pub enables_in : Filtered → ℕ → Callsite → Bool
+enables_in f lane c =
+    (has_dynamics f && (is_within c.level f.dynamics.greatest && (is_cared f c || is_open c.level (f.lanes lane))))
+    || (is_within c.level f.statics.greatest && admits f.statics.directives c)
+
+-- what is admitted on a lane
+abbrev pub is_admitted : Filtered → ℕ → Callsite → Bool
+is_admitted f lane c = admits f.statics.directives c || ((is_cared f c && is_within c.level (hint_in f)) || is_open c.level (f.lanes lane))
+
+-- each item of a list
+abbrev pub Each : {X : Type 0} → (X → Type 0) → List X → Type 0
+Each P [] = Unit {0}
+Each P (x ∷ xs) = P x × Each P xs
+
+-- What the gate stands on: no level of a directive, of a care or on a lane is above the greatest of its table, and
+-- without dynamic directives that is OFF.
+abbrev pub IsBelow : LevelFilter → LevelFilter → Type 0
+IsBelow most level = greatest_verbosity level ≤ greatest_verbosity most
+
+pub record AreWhole (f : Filtered) : Type 0 where
+  pub statics : Each (λ (d : StaticDirective). IsBelow f.statics.greatest d.level) f.statics.directives
+  pub dynamics : Each (λ (d : Directive). IsBelow f.dynamics.greatest d.level) f.dynamics.directives
+  pub spans : (id : ℕ) → IfSome (f.spans id) (λ w. Each (λ (care : Care). IsBelow f.dynamics.greatest care.level) w.cares)
+  pub lanes : (lane : ℕ) → Each (λ (e : Opened). IsBelow f.dynamics.greatest e.level) (f.lanes lane)
+  pub none : length f.dynamics.directives ≡ 0 → f.dynamics.greatest ≡ OFF
+
+-- A filter that was just made: with its tables alone.
+pub record IsNew (f : Filtered) : Type 0 where
+  pub whole : AreWhole f
+  pub none : KnowsNone (seen_in f)
+  pub alone : f ≡ fresh f

@@ -1,0 +1,17 @@
+pub mod Building
+pub mod Filtering
+pub mod FromVariables
+pub mod Gating
+pub mod Histories
+pub mod Hooking
+pub mod Kept
+pub mod Keyed
+pub mod Levels
+pub mod Pieces
+pub mod Printing
+pub mod Puts
+pub mod Reading
+pub mod Reloading
+pub mod Tables
+pub mod Watching
+pub mod Worlds

@@ -1,0 +1,92 @@
+-- A layer that can be exchanged, and that does nothing once it was retired.
+use Rattle.std.proofs.Common.{◌≡◌, ℕ, ◌+◌, Bool, true, false, Option, Some, None, refl, sym, ap}
+use Rattle.trace_base.specs.declared.callsite.Callsite.{Callsite}
+use Rattle.trace_base.specs.declared.subscriber.Interest.{Interest}
+use Rattle.trace_base.specs.declared.subscriber.Interest.TheVariants as interests
+use Rattle.trace_base.specs.declared.lane.Lane.{Lane}
+use Rattle.trace_base.specs.Hooks.{Hook, OnEnter, Seen, Sees, HookLanes}
+use Rattle.span_registry.specs.Unseeing.{unseeing, LeavesLanes, unseeing_sees, unseeing_lanes}
+
+abbrev pub if_there : {L V : Type 0} → V → (L → V) → Option L → V
+if_there none value None = none
+if_there none value (Some l) = value l
+
+abbrev pub HoldsIfThere : {L : Type 0} → (L → Type 0) → Option L → Type 0
+HoldsIfThere P None = Unit {0}
+HoldsIfThere P (Some l) = P l
+
+-- both are there and related, or neither is there
+abbrev pub Both : {L M : Type 0} → (L → M → Type 0) → Type 0 → Option L → Option M → Type 0
+Both R none None None = none
+Both R none None (Some m) = ⊥
+Both R none (Some l) None = ⊥
+Both R none (Some l) (Some m) = R l m
+
+-- the one that is in place goes out, and the other comes in; a retired layer stays, and so does the other
+abbrev pub Swaps : {L : Type 0} → Option L → L → Option L → L → Type 0
+Swaps None other now out = (now ≡ None) × (out ≡ other)
+Swaps (Some filter) other now out = (now ≡ Some other) × (out ≡ filter)
+
+pub both_refl : {L : Type 0} (R : L → L → Type 0) → ((l : L) → R l l) → (o : Option L) → Both R (Unit {0}) o o
+both_refl R r None = tt
+both_refl R r (Some l) = r l
+
+pub both_trans : {L : Type 0} (R : L → L → Type 0) → ((l m n : L) → R l m → R m n → R l n) → (o p q : Option L) → Both R (Unit {0}) o p → Both R (Unit {0}) p q → Both R (Unit {0}) o q
+both_trans R r None None None h k = tt
+both_trans R r None None (Some n) h k = k
+both_trans R r None (Some m) q h k = absurd h
+both_trans R r (Some l) None q h k = absurd h
+both_trans R r (Some l) (Some m) None h k = k
+both_trans R r (Some l) (Some m) (Some n) h k = r l m n h k
+
+-- a part that related ones have alike
+pub both_alike : {L V : Type 0} (R : L → L → Type 0) (N : Type 0) (none : V) (value : L → V) → ((l m : L) → R l m → value m ≡ value l) → (o p : Option L) → Both R N o p → if_there none value p ≡ if_there none value o
+both_alike R N none value same None None h = refl
+both_alike R N none value same None (Some m) h = absurd h
+both_alike R N none value same (Some l) None h = absurd h
+both_alike R N none value same (Some l) (Some m) h = same l m h
+
+pub both_keep : {L : Type 0} (R : L → L → Type 0) (N : Type 0) (P : L → Type 0) → ((l m : L) → R l m → P l → P m) → (o p : Option L) → Both R N o p → HoldsIfThere P o → HoldsIfThere P p
+both_keep R N P keeps None None h w = tt
+both_keep R N P keeps None (Some m) h w = absurd h
+both_keep R N P keeps (Some l) None h w = absurd h
+both_keep R N P keeps (Some l) (Some m) h w = keeps l m h w
+
+pub both_compose : {L : Type 0} (R S : L → L → Type 0) (N : Type 0) → ((l m n : L) → R l m → S m n → S l n) → (o p q : Option L) → Both R (Unit {0}) o p → Both S N p q → Both S N o q
+both_compose R S N r None None q h k = k
+both_compose R S N r None (Some m) q h k = absurd h
+both_compose R S N r (Some l) None q h k = absurd h
+both_compose R S N r (Some l) (Some m) None h k = k
+both_compose R S N r (Some l) (Some m) (Some n) h k = r l m n h k
+
+pub both_see : {L : Type 0} (seen : L → Seen) (does : L → Hook → L → Type 0) (N : Type 0) (hook : Hook) → ((l m : L) → does l hook m → Sees (seen l) hook (seen m)) → (o p : Option L) → Both (λ l m. does l hook m) N o p
+    → Sees (if_there unseeing seen o) hook (if_there unseeing seen p)
+both_see seen does N hook sees None None h = unseeing_sees hook
+both_see seen does N hook sees None (Some m) h = absurd h
+both_see seen does N hook sees (Some l) None h = absurd h
+both_see seen does N hook sees (Some l) (Some m) h = sees l m h
+
+-- what a retired layer keeps attached, and answers
+abbrev pub none_kept : ℕ → ℕ → ℕ
+none_kept lane number = 0
+
+pub both_lanes : {L : Type 0} (attaches : L → Bool) (kept : L → ℕ → ℕ → ℕ) (does : L → Hook → L → Type 0) (hook : Hook) → ((l m : L) → does l hook m → HookLanes (attaches l) (kept l) hook (kept m))
+    → (o p : Option L) → Both (λ l m. does l hook m) (LeavesLanes hook) o p → HookLanes (if_there false attaches o) (if_there none_kept kept o) hook (if_there none_kept kept p)
+both_lanes attaches kept does hook lanes None None h = unseeing_lanes hook h
+both_lanes attaches kept does hook lanes None (Some m) h = absurd h
+both_lanes attaches kept does hook lanes (Some l) None h = absurd h
+both_lanes attaches kept does hook lanes (Some l) (Some m) h = lanes l m h
+
+-- an entry that a retired layer is told of leaves the lane as it is
+pub both_passive : {L : Type 0} (seen : L → Seen) (does : L → Hook → L → Type 0) (id at : ℕ) (before later : Lane) → ((l m : L) → does l (OnEnter id at before later) m → (seen l).knows id ≡ false → later.contexts.live ≡ before.contexts.live) → (o p : Option L)
+    → Both (λ l m. does l (OnEnter id at before later) m) (later ≡ before) o p → (if_there unseeing seen o).knows id ≡ false → later.contexts.live ≡ before.contexts.live
+both_passive seen does id at before later passive None None h unknown = ap (λ (l : Lane). l.contexts.live) h
+both_passive seen does id at before later passive None (Some m) h unknown = absurd h
+both_passive seen does id at before later passive (Some l) None h unknown = absurd h
+both_passive seen does id at before later passive (Some l) (Some m) h unknown = passive l m h unknown
+
+abbrev pub sometimes : Callsite → Interest
+sometimes c = interests.Sometimes
+
+abbrev pub never_enabled : ℕ → Callsite → Bool
+never_enabled lane c = false

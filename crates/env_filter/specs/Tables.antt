@@ -1,0 +1,76 @@
+-- The two tables of a filter: which directives go where.
+use Rattle.std.specs.Prelude.{ℕ, ◌==◌, ◌&&◌, ◌||◌, if◌then◌else◌, Bool, List, [], ◌∷◌, length, map, not, Option, Some, None, is_some}
+use Rattle.std.specs.List.{list_any, filter}
+use Rattle.std.specs.Option.{option_map}
+use Rattle.env_directives.specs.declared.directive.StaticDirective.{StaticDirective}
+use Rattle.env_directives.specs.declared.env.directive.Directive.{Directive}
+use Rattle.env_directives.specs.declared.env.field.Match.{Match}
+use Rattle.env_directives.specs.declared.env.field.ValueMatch.{ValueMatch}
+use Rattle.env_directives.specs.declared.env.field.ValueMatch.TheVariants.{Bool as Truth, U64, I64, Pat, Debug}
+use Rattle.env_directives.specs.DirectiveOrder.{directive_cmp}
+use Rattle.env_directives.specs.StaticOrder.{most_specific_first}
+use Rattle.env_directives.specs.Table.{Table, empty_table, with_added, with_all_added}
+use Rattle.env_filter.specs.Filtering.{Filtered, asks_value}
+
+-- a static directive can be judged by a callsite alone: it has no span name and asks for no value
+abbrev pub is_static : Directive → Bool
+is_static d = not (is_some d.in_span) && not (list_any asks_value d.fields)
+
+-- a dynamic one may speak of spans: it has a span name or a field; so a directive can be both
+abbrev pub is_dynamic : Directive → Bool
+is_dynamic d = is_some d.in_span || not (length d.fields == 0)
+
+abbrev pub static_of : Directive → StaticDirective
+static_of d = record { target = d.target; field_names = map (λ field. field.name) d.fields; level = d.level }
+
+-- a table after the static ones of some directives were added in turn
+abbrev pub all_static : List Directive → Table StaticDirective → Table StaticDirective
+all_static ds t = with_all_added most_specific_first (λ d. d.level) (map static_of (filter is_static ds)) t
+
+-- the tables of some directives, in the order in which their text gave them
+abbrev pub statics_of : List Directive → Table StaticDirective
+statics_of ds = all_static ds empty_table
+
+abbrev pub dynamics_of : List Directive → Table Directive
+dynamics_of ds = with_all_added directive_cmp (λ d. d.level) (filter is_dynamic ds) empty_table
+
+-- a pattern as the fixed text of its bytes
+abbrev pub fixed : ValueMatch → ValueMatch
+fixed (Pat pattern) = Debug pattern
+fixed (Truth truth) = Truth truth
+fixed (U64 number) = U64 number
+fixed (I64 number) = I64 number
+fixed (Debug text) = Debug text
+
+abbrev pub fixed_field : Match → Match
+fixed_field m = record m { value = option_map fixed m.value }
+
+abbrev pub fixed_directive : Directive → Directive
+fixed_directive d = record d { fields = map fixed_field d.fields }
+
+-- a filter with one directive more, which goes to the static ones where it can, else to the dynamic ones
+abbrev pub placed_in : Filtered → Directive → Filtered
+placed_in f d =
+    if is_static d then record f { statics = with_added most_specific_first (λ e. e.level) (static_of d) f.statics }
+    else record f { dynamics = with_added directive_cmp (λ e. e.level) d f.dynamics }
+
+-- and where patterns aren't taken, its patterns are fixed texts
+abbrev pub with_directive : Filtered → Directive → Filtered
+with_directive f d = placed_in f (if f.patterns then d else fixed_directive d)
+
+-- a filter with these tables, and no span and no level
+abbrev pub with_tables : Bool → Table StaticDirective → Table Directive → Filtered
+with_tables patterns statics dynamics = record { patterns = patterns; statics = statics; dynamics = dynamics; spans = λ id. None; lanes = λ lane. [] }
+
+-- whether both tables are empty
+abbrev pub has_none : Filtered → Bool
+has_none f = length f.statics.directives == 0 && length f.dynamics.directives == 0
+
+-- a filter that has a default directive, if there is one, where it would have none
+abbrev pub or_default : Option Directive → Filtered → Filtered
+or_default None f = f
+or_default (Some d) f = if has_none f then with_directive f d else f
+
+-- the filter of some directives
+abbrev pub filter_of : Bool → Option Directive → List Directive → Filtered
+filter_of patterns default ds = or_default default (with_tables patterns (statics_of ds) (dynamics_of ds))

@@ -1,0 +1,166 @@
+//! Filters from variables.
+ghost use Rattle.std.specs.Prelude.{◌≡◌, [], Some, None, IfOk, IfErr, option_map, string_bytes, codes};
+ghost use Rattle.env_filter.specs.Building.{default_builder, errors_builder};
+ghost use Rattle.env_filter.specs.Filtering.{plain, IsNew};
+ghost use Rattle.env_filter.specs.FromVariables.{IsReadAs, IsSomeReadAs, IsOfVariable, IsRequiredAs, IsRefusedFrom, IsRefusedIn, IsRequiredFault, IsParsed, env_text};
+ghost use Rattle.env_filter.specs.declared.builder.env.FromEnvError.TheVariants as fault;
+
+use crate::builder::Builder;
+use crate::filter::EnvFilter;
+use crate::filter::text::errors_builder;
+use crate::pieces::Ignored;
+use crate::vars::Vars;
+use env_directives::directive::ParseError;
+use otel_base::memory::Memory;
+use std::alloc::Global;
+use std::error::Error;
+use std::fmt;
+
+impl Builder {
+    /// The filter of the builder's variable, each piece of which has to be a directive; `Builder::from_env`. A variable
+    /// that isn't set counts as empty.
+    pub fn from_env<V: Vars>(&self, vars: &V) -> Result<EnvFilter, FromEnvError>
+        ensures ok { IfOk result (λ f. IsReadAs (V.told vars.now) self.now [] (plain f)) }
+        ensures new { IfOk result (λ f. IsNew (plain f)) }
+        ensures refused { IfErr result (IsRefusedFrom (V.told vars.now) self.now) }
+    {
+        match vars.read(self.variable())? {
+            Some(text) => parsed(self.parse(text.as_str())),
+            None => parsed(self.parse("")),
+        }
+    }
+
+    /// The filter of those pieces of the builder's variable that are directives, and the others;
+    /// `Builder::from_env_lossy`. A variable that isn't set counts as empty.
+    pub fn from_env_lossy<V: Vars>(&self, vars: &V) -> Result<(EnvFilter, Vec<Ignored>), Memory>
+        ensures ok { IfOk result (λ r. IsReadAs (V.told vars.now) self.now r.1.items (plain r.0)) }
+        ensures new { IfOk result (λ r. IsNew (plain r.0)) }
+    {
+        match vars.read(self.variable())? {
+            Some(text) => self.parse_lossy(text.as_str()),
+            None => self.parse_lossy(""),
+        }
+    }
+
+    /// The filter of the builder's variable, which has to be set, and each piece of which has to be a directive;
+    /// `Builder::try_from_env`.
+    pub fn try_from_env<V: Vars>(&self, vars: &V) -> Result<EnvFilter, FromEnvError>
+        ensures ok { IfOk result (λ f. IsRequiredAs (V.told vars.now) self.now (plain f)) }
+        ensures new { IfOk result (λ f. IsNew (plain f)) }
+        ensures refused { IfErr result (IsRequiredFault (V.told vars.now) self.now) }
+    {
+        self.from_var(vars.read(self.variable())?)
+    }
+
+    /// The filter of what a variable gave, each piece of which has to be a directive. `Env` where it gave nothing.
+    pub fn from_var(&self, read: Option<String>) -> Result<EnvFilter, FromEnvError>
+        ensures ok { IfOk result (λ f. IsOfVariable self.now (option_map string_bytes read) (plain f)) }
+        ensures new { IfOk result (λ f. IsNew (plain f)) }
+        ensures refused { IfErr result (IsRefusedIn self.now.patterns (option_map string_bytes read)) }
+    {
+        match read {
+            Some(text) => parsed(self.parse(text.as_str())),
+            None => Err(FromEnvError::Env),
+        }
+    }
+}
+
+impl EnvFilter {
+    /// The filter of those pieces of `RUST_LOG` that are directives, and of errors alone where there is none;
+    /// `EnvFilter::from_default_env`.
+    pub fn from_default_env<V: Vars>(alloc: Global, vars: &V) -> Result<EnvFilter, Memory>
+        ensures ok { IfOk result (λ f. IsSomeReadAs (V.told vars.now) errors_builder (plain f)) }
+        ensures new { IfOk result (λ f. IsNew (plain f)) }
+    {
+        let (filter, _) = errors_builder(alloc).from_env_lossy(vars)?;
+        Ok(filter)
+    }
+
+    /// The same of the variable of a name; `EnvFilter::from_env`.
+    pub fn from_env<V: Vars>(alloc: Global, name: &str, vars: &V) -> Result<EnvFilter, Memory>
+        ensures ok { IfOk result (λ f. IsSomeReadAs (V.told vars.now) (record errors_builder { variable = name.now }) (plain f)) }
+        ensures new { IfOk result (λ f. IsNew (plain f)) }
+    {
+        let name = named(alloc, name)?;
+        let (filter, _) = errors_builder(alloc)
+            .with_env_var(name)
+            .from_env_lossy(vars)?;
+        Ok(filter)
+    }
+
+    /// The filter of `RUST_LOG`, which has to be set, and each piece of which has to be a directive;
+    /// `EnvFilter::try_from_default_env`.
+    pub fn try_from_default_env<V: Vars>(alloc: Global, vars: &V) -> Result<EnvFilter, FromEnvError>
+        ensures ok { IfOk result (λ f. IsRequiredAs (V.told vars.now) default_builder (plain f)) }
+        ensures new { IfOk result (λ f. IsNew (plain f)) }
+        ensures refused { IfErr result (IsRequiredFault (V.told vars.now) default_builder) }
+    {
+        EnvFilter::builder(alloc).try_from_env(vars)
+    }
+
+    /// The same of the variable of a name; `EnvFilter::try_from_env`.
+    pub fn try_from_env<V: Vars>(
+        alloc: Global,
+        name: &str,
+        vars: &V,
+    ) -> Result<EnvFilter, FromEnvError>
+        ensures ok { IfOk result (λ f. IsRequiredAs (V.told vars.now) (record default_builder { variable = name.now }) (plain f)) }
+        ensures new { IfOk result (λ f. IsNew (plain f)) }
+        ensures refused { IfErr result (IsRequiredFault (V.told vars.now) (record default_builder { variable = name.now })) }
+    {
+        let name = named(alloc, name)?;
+        EnvFilter::builder(alloc)
+            .with_env_var(name)
+            .try_from_env(vars)
+    }
+}
+
+fn named(alloc: Global, name: &str) -> Result<String, Memory>
+    ensures { IfOk result (λ s. string_bytes s ≡ name.now) }
+{
+    Ok(String::from_str(alloc, name)?)
+}
+
+/// Why a variable gives no filter; `tracing_subscriber::filter::FromEnvError`.
+#[derive(Clone, Copy, Debug, PartialEq, Eq)]
+pub enum FromEnvError {
+    /// A piece of its text is no directive; never for want of memory.
+    Parse(ParseError),
+    /// It isn't set.
+    Env,
+    /// No memory was to be had.
+    Memory,
+}
+
+impl fmt::Display for FromEnvError {
+    ghost output = { env_text ⟦<ParseError as fmt::Display>⟧.output };
+
+    fn fmt<W: fmt::Write>(&self, f: &mut fmt::Formatter<W>) -> fmt::Result {
+        match self {
+            FromEnvError::Parse(fault) => fmt::Display::fmt(fault, f),
+            FromEnvError::Env => f.write_str("environment variable not found"),
+            FromEnvError::Memory => f.write_str("out of memory"),
+        }
+    }
+}
+
+impl Error for FromEnvError {}
+
+impl From<Memory> for FromEnvError {
+    ghost from_gives = { λ _ e. e ≡ fault.Memory };
+
+    fn from(_error: Memory) -> FromEnvError {
+        FromEnvError::Memory
+    }
+}
+
+// What a text gave, with its fault as one of its variable.
+fn parsed(filter: Result<EnvFilter, ParseError>) -> Result<EnvFilter, FromEnvError>
+    ensures { IsParsed filter result }
+{
+    match filter {
+        Ok(filter) => Ok(filter),
+        Err(ParseError::Memory) => Err(FromEnvError::Memory),
+        Err(fault) => Err(FromEnvError::Parse(fault)),
+    }
+}

@@ -1,0 +1,111 @@
+//! Filters that are made of tables, and filters with a directive more.
+ghost use Rattle.std.specs.Prelude.{◌≡◌, true, IfOk, IfErr, OnOk, OnErr};
+ghost use Rattle.env_directives.specs.Table.{empty_table};
+ghost use Rattle.env_filter.specs.Filtering.{plain, fresh, AreWhole, IsNew};
+ghost use Rattle.env_filter.specs.Tables.{with_directive, placed_in, with_tables, has_none};
+
+use crate::filter::EnvFilter;
+use crate::tables;
+use env_directives::directive::StaticDirective;
+use env_directives::directive::set::DirectiveSet;
+use env_directives::env::directive::Directive;
+use otel_base::memory::Memory;
+use std::alloc::Global;
+use std::collections::HashMap;
+
+impl EnvFilter {
+    /// A filter without directives, which takes patterns and lets nothing through; `EnvFilter::default`.
+    pub fn default(alloc: Global) -> EnvFilter
+        ensures is { plain result ≡ with_tables true empty_table empty_table }
+        ensures new { IsNew (plain result) }
+    {
+        EnvFilter::with_tables(
+            alloc,
+            true,
+            DirectiveSet::new(alloc),
+            DirectiveSet::new(alloc),
+        )
+    }
+
+    /// The filter with a directive more, which takes the place of its equal; `EnvFilter::add_directive`. It goes to the
+    /// static ones where it can be judged by a callsite alone, and its patterns are fixed texts in a filter that takes
+    /// none. `Memory` hands the filter back as it was.
+    pub fn add_directive(self, directive: Directive) -> Result<EnvFilter, (EnvFilter, Memory)>
+        ensures ok { IfOk result (λ f. plain f ≡ with_directive (plain self) directive) }
+        ensures whole { AreWhole (plain self) → IfOk result (λ f. AreWhole (plain f)) }
+        ensures new { IsNew (plain self) → IfOk result (λ f. IsNew (plain f)) }
+        ensures memory_leaves { IfErr result (λ e. plain e.0 ≡ plain self) }
+    {
+        let directive = if self.patterns {
+            directive
+        } else {
+            tables::fixed_directive(directive)
+        };
+        let mut filter = self;
+        match filter.place(directive) {
+            Ok(()) => Ok(filter),
+            Err(memory) => Err((filter, memory)),
+        }
+    }
+
+    /// A filter with the same tables, whose patterns share what they were compiled to, and with no span and no level;
+    /// it stands for the `Clone` of tracing-subscriber's type.
+    pub fn clone_filter(&self) -> Result<EnvFilter, Memory>
+        ensures is { IfOk result (λ f. plain f ≡ fresh (plain self.now)) }
+        ensures new { AreWhole (plain self.now) → IfOk result (λ f. IsNew (plain f)) }
+    {
+        let copy = self.copy()?;
+        Ok(copy)
+    }
+
+    fn copy(&self) -> Result<EnvFilter, Memory>
+        ensures { IfOk result (λ f. plain f ≡ fresh (plain self.now)) }
+    {
+        Ok(EnvFilter::with_tables(
+            self.alloc,
+            self.patterns,
+            self.statics.clone_set()?,
+            self.dynamics.clone_set()?,
+        ))
+    }
+
+    // A filter with these tables.
+    pub(crate) fn with_tables(
+        alloc: Global,
+        patterns: bool,
+        statics: DirectiveSet<StaticDirective>,
+        dynamics: DirectiveSet<Directive>,
+    ) -> EnvFilter
+        ensures { plain result ≡ with_tables patterns statics dynamics }
+    {
+        EnvFilter {
+            alloc,
+            patterns,
+            statics,
+            dynamics,
+            spans: HashMap::new(alloc),
+            lanes: HashMap::new(alloc),
+        }
+    }
+
+    // Whether it has no directive.
+    pub(crate) fn has_none(&self) -> bool
+        ensures { result ≡ has_none (plain self.now) }
+    {
+        self.statics.is_empty() && self.dynamics.is_empty()
+    }
+
+    // Adds a directive to its table.
+    fn place(&mut self, directive: Directive) -> Result<(), Memory>
+        ensures ok { OnOk result (plain self.new ≡ placed_in (plain self.old) directive) }
+        ensures memory_leaves { OnErr result (plain self.new ≡ plain self.old) }
+    {
+        if tables::is_static(&directive) {
+            self.statics
+                .add(tables::static_of(self.alloc, &directive)?)?;
+        } else {
+            self.dynamics.add(directive)?;
+        }
+        Ok(())
+    }
+}

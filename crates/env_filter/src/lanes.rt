@@ -1,0 +1,69 @@
+//! The levels of each lane, by the lane's id.
+ghost use Rattle.std.specs.Prelude.{◌≡◌, ◌<◌, ◌++◌, ◌∷◌, [], OnOk, map, None};
+ghost use Rattle.trace_base.specs.Spans.{without_last};
+ghost use Rattle.env_filter.specs.Keyed.{at_key, put};
+ghost use Rattle.env_filter.specs.Levels.{Opened, is_of};
+ghost use Rattle.env_filter.specs.Kept.{levels_in, room_in};
+
+use crate::levels::Levels;
+use otel_base::memory::Memory;
+use std::alloc::Global;
+use std::collections::HashMap;
+use trace_base::level::LevelFilter;
+use trace_base::span::Id;
+
+// The levels of a lane in order.
+pub(crate) fn levels_on(lanes: &HashMap<u64, Levels>, lane: u64) -> &[LevelFilter]
+    ensures { result.now ≡ map (λ (e : Opened). e.level) (levels_in lanes.now.entries lane) }
+{
+    match lanes.get(&lane) {
+        Some(levels) => levels.levels(),
+        None => &[],
+    }
+}
+
+// Takes the room for one level more on a lane.
+pub(crate) fn prepare(
+    alloc: Global,
+    lanes: &mut HashMap<u64, Levels>,
+    lane: u64,
+) -> Result<(), Memory>
+    ensures leaves { levels_in lanes.new.entries ≡ levels_in lanes.old.entries }
+    ensures room { OnOk result (0 < room_in lanes.new.entries lane) }
+{
+    if let Some(levels) = lanes.get_mut(&lane) {
+        return levels.reserve();
+    }
+    add(alloc, lanes, lane)
+}
+
+// Adds a lane without levels, with the room for one.
+fn add(alloc: Global, lanes: &mut HashMap<u64, Levels>, lane: u64) -> Result<(), Memory>
+    requires { at_key lanes.old.entries lane ≡ None }
+    ensures leaves { levels_in lanes.new.entries ≡ levels_in lanes.old.entries }
+    ensures room { OnOk result (0 < room_in lanes.new.entries lane) }
+{
+    let mut levels = Levels::new(alloc);
+    levels.reserve()?;
+    lanes.insert(lane, levels)?;
+    Ok(())
+}
+
+// Appends the level of an entry, for which there is room.
+pub(crate) fn append(lanes: &mut HashMap<u64, Levels>, lane: u64, id: Id, level: LevelFilter)
+    requires { 0 < room_in lanes.old.entries lane }
+    ensures { levels_in lanes.new.entries ≡ put (levels_in lanes.old.entries) lane (levels_in lanes.old.entries lane ++ record { span = id; level = level } ∷ []) }
+{
+    if let Some(levels) = lanes.get_mut(&lane) {
+        levels.append(id, level);
+    }
+}
+
+// Takes off the newest level that an entry of the span appended.
+pub(crate) fn take_off(lanes: &mut HashMap<u64, Levels>, lane: u64, id: Id)
+    ensures { levels_in lanes.new.entries ≡ put (levels_in lanes.old.entries) lane (without_last (is_of id) (levels_in lanes.old.entries lane)) }
+{
+    if let Some(levels) = lanes.get_mut(&lane) {
+        levels.take_off(id);
+    }
+}
