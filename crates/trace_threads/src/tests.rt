@@ -16,6 +16,7 @@ use trace_base::field::{Value, ValueSet};
 use trace_base::lane::Lane;
 use trace_base::level::Level;
 
+mod many;
 mod one;
 
 const OWN: SpanContext = SpanContext { trace: 7, span: 9 };
