@@ -26,7 +26,7 @@ pub enum SpanKind {
 /// Something that happened within a span; `opentelemetry::trace::Event`.
 #[derive(Clone, Drop)]
 pub struct OtelEvent {
-    /// The name of its callsite.
+    /// Its message, or the name of its callsite where it has none.
     pub name: Text,
     /// When it happened, in nanoseconds.
     pub time: u64,
@@ -68,7 +68,7 @@ pub struct SpanBuilder {
 /// A finished span; `opentelemetry_sdk::trace::SpanData`.
 #[derive(Clone, Drop)]
 pub struct Record {
-    /// The name of its callsite.
+    /// The name of its callsite, or that which it was given.
     pub name: Text,
     /// The part that it played.
     pub kind: SpanKind,

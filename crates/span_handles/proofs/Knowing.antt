@@ -9,7 +9,7 @@ use Rattle.trace_base.specs.Calls.{SubscriberCall, NewSpan, Records, Follows, Ev
 use Rattle.trace_base.specs.Conditions.{Allowed, IsLive, HasOwnHold, MayExit}
 use Rattle.trace_base.proofs.Entering.{count_push, made_if_held}
 use Rattle.trace_base.proofs.Holding.{children_set, same_child, keeps_children, less_last, less_more, less_holds, holds_set, holds_other}
-use Rattle.span_registry.proofs.Moving.{entry_moves, exit_moves}
+use Rattle.trace_base.proofs.Moving.{entry_moves, exit_moves}
 use Rattle.span_handles.specs.Worlds.{Has, Replaced, Chain, Released, all_released, releases, Chain, ended, closes}
 use Rattle.span_handles.specs.Handles.{Held, IsKnown}
 use Rattle.span_handles.specs.Knowing.{KeepsKnown, KeepsOthers, TakesNoHold}

@@ -1,7 +1,7 @@
 -- What the calls so far say of the spans, one call more at a time.
-use Rattle.std.proofs.Common.{◌≡◌, ℕ, zero, suc, ◌+◌, ◌-◌, ◌<◌, ◌≤◌, List, [], ◌∷◌, ◌++◌, length, Bool, true, false, cond, count_by, get_or, set, Option, Some, None, refl, sym, ap, subst, ◌∙◌, arith, inl, inr, ◌⊎◌}
-use Rattle.std.specs.Prelude.{if◌then◌else◌, ◌==◌, nat_lt, IfSome, fold}
-use Rattle.std.proofs.lemmas.Bool.{eqb-true, eqb-false, eq-eqb, ne_eqb, cases_eq, cases_Bool, cases_lt, cond-true, cond-false, lt-ltb, le-ltb}
+use Rattle.std.proofs.Common.{◌≡◌, ℕ, ◌+◌, ◌-◌, ◌<◌, List, [], ◌∷◌, ◌++◌, length, Bool, true, false, cond, count_by, get_or, set, Option, Some, None, refl, sym, ap, subst, ◌∙◌, arith, inl, inr}
+use Rattle.std.specs.Prelude.{if◌then◌else◌, ◌==◌, nat_lt, IfSome}
+use Rattle.std.proofs.lemmas.Bool.{eq-eqb, ne_eqb, cases_eq, cases_lt, cond-true, cond-false, lt-ltb, le-ltb}
 use Rattle.std.proofs.lemmas.List.{length-set, length_push, append_assoc, append-nil, get_or_past, get_or_push, get_or_append_left, get_or-set_same, get_or-set_other}
 use Rattle.std.proofs.lemmas.List.Sums.{fold-append}
 use Rattle.trace_base.specs.declared.lane.Lane.{Lane}
@@ -10,14 +10,15 @@ use Rattle.trace_base.specs.declared.callsite.Callsite.{Callsite}
 use Rattle.trace_base.specs.declared.field.ValueSet.{ValueSet}
 use Rattle.trace_base.specs.Spans.{Span, Entries, Spans, no_span, span_at, entries_on, with_entries, is_in, times_in, first_entries, is_child_of, without_last, held, less_held, released, held_by_child, place_on, next_of}
 use Rattle.trace_base.specs.Calls.{SubscriberCall, NewSpan, Records, Follows, Event, Enter, Exit, CloneSpan, TryClose, after, with_span, entered, exited}
-use Rattle.trace_base.specs.Conditions.{Allowed, IsLive, HasOwnHold, MayExit}
+use Rattle.trace_base.specs.Conditions.{Allowed, IsLive}
 use Rattle.trace_base.specs.Hooks.{one_if}
-use Rattle.trace_base.proofs.Entering.{count_push, counted_if_any, any_if_counted, made_if_held, length_held, with_same, with_other}
+use Rattle.trace_base.proofs.Entering.{count_push, made_if_held, length_held, with_same, with_other}
 use Rattle.trace_base.proofs.Holding.{less_last, less_more, less_holds, holds_set, holds_other}
-use Rattle.span_registry.proofs.Moving.{entry_moves, exit_moves}
-use Rattle.span_registry.specs.Registering.{IsSound, no_spans}
-use Rattle.span_registry.specs.History.{Runs, entries_after, entries_told, Making, no_making, made_by, made_from, made_told, making_of, is_clone, is_release, handles_made, children_made, releases_told, IsTold}
-use Rattle.span_registry.proofs.Sound.{sound_held, sound_released, sound_entered, sound_exited, sound_new, place_live, exit_live}
+use Rattle.trace_base.proofs.Moving.{entry_moves, exit_moves}
+use Rattle.trace_base.specs.Sound.{IsSound}
+use Rattle.trace_base.proofs.Sound.{place_live, exit_live, sound_call}
+use Rattle.span_registry.specs.Registering.{no_spans}
+use Rattle.span_registry.specs.History.{Runs, entries_after, entries_told, Making, no_making, made_by, made_from, made_told, making_of, is_clone, is_release, IsTold}
 
 -- a span is what it was made with, or closed
 record Fits (m : Making) (s : Span) : Type 0 where
@@ -285,16 +286,6 @@ told_call before (TryClose id at) x sound allowed told =
           omega (arith, h, c))
     ])
     (fits_released (λ q. making_of q before) x.made id live (told_fits before x told)) (λ lane. refl) told
-
-sound_call : (x : Spans) (call : SubscriberCall) → IsSound x → Allowed x call → IsSound (after x call)
-sound_call x (NewSpan lane at place site callsite values) sound allowed = sound_new x (place_on (entries_on lane.id x.lanes) place) site sound (place_live x lane.id place sound allowed)
-sound_call x (Records id at callsite values) sound allowed = sound
-sound_call x (Follows id from at) sound allowed = sound
-sound_call x (Event lane at place site callsite values) sound allowed = sound
-sound_call x (Enter id at pre later) sound allowed = sound_entered x id pre.id sound allowed
-sound_call x (Exit id at pre later) sound allowed = sound_exited x id pre.id sound allowed
-sound_call x (CloneSpan id) sound allowed = sound_held x id sound allowed
-sound_call x (TryClose id at) sound allowed = sound_released x id sound allowed
 
 -- nothing was called
 told_none : IsTold [] no_spans

@@ -1,12 +1,11 @@
 -- A lane's entries by the place where it stands.
-use Rattle.std.proofs.Common.{◌≡◌, ℕ, zero, suc, ◌+◌, ◌-◌, ◌<◌, ◌≤◌, ◌≢◌, List, [], ◌∷◌, ◌++◌, length, Bool, true, false, cond, count_by, sum_by, get_or, set, Option, Some, None, Result, Ok, Err, refl, sym, ap, subst, ◌∙◌, arith, inl, inr, ◌⊎◌}
-use Rattle.std.specs.Prelude.{if◌then◌else◌, ◌==◌, ◌||◌, OnOk, slice_index_or}
-use Rattle.std.specs.List.{list_any, remove}
-use Rattle.std.proofs.lemmas.Bool.{eqb-true, eqb-false, eq-eqb, ne_eqb, cases_eq, cases_Bool, cond-true, cond-false, or_cases, or_parts, true≢false}
+use Rattle.std.proofs.Common.{◌≡◌, ℕ, zero, suc, ◌<◌, List, [], ◌∷◌, ◌++◌, length, true, false, get_or, set, Result, Ok, Err, refl, sym, ap, ◌∙◌, arith, inl, inr}
+use Rattle.std.specs.Prelude.{◌==◌, ◌||◌, OnOk}
+use Rattle.std.specs.List.{remove}
+use Rattle.std.proofs.lemmas.Bool.{eqb-true, eq-eqb, ne_eqb, cases_Bool, cond-true, cond-false, or_cases, true≢false}
 use Rattle.std.proofs.lemmas.List.{get_or_default}
-use Rattle.trace_base.specs.Spans.{Entries, entries_on, with_entries, is_in, times_in, first_entries, has_entry, without_last, current_from, current_of}
-use Rattle.trace_base.proofs.Entering.{count_cons, counted_if_any, any_if_counted}
-use Rattle.span_registry.specs.Registering.{StandsAt, no_lane, OneEach, has_lane}
+use Rattle.trace_base.specs.Spans.{Entries, entries_on, with_entries, is_in, without_last}
+use Rattle.span_registry.specs.Registering.{StandsAt, no_lane}
 
 pub entries_at : (es : List Entries) (lane at : ℕ) → at < length es → (get_or es at no_lane).lane ≡ lane → ((k : ℕ) → k < at → (get_or es k no_lane).lane ≡ lane → ⊥) → entries_on lane es ≡ (get_or es at no_lane).ids
 entries_at [] lane at within is before = absurd (omega (arith, within))
@@ -74,28 +73,6 @@ set_entries lanes lane at seen f ids stands is change =
 pub seen_entries : (lanes : List Entries) (lane at : ℕ) (seen : Entries) → StandsAt lanes lane at → seen ≡ get_or lanes at seen → seen.ids ≡ entries_on lane lanes
 seen_entries lanes lane at seen stands is =
     ap (λ (e : Entries). e.ids) (is ∙ get_or_default lanes at seen no_lane stands.within) ∙ sym (entries_at lanes lane at stands.within stands.is stands.before)
-
--- each lane still has one row
-or_none : (a b : Bool) → a ≡ false → b ≡ false → (a || b) ≡ false
-or_none a b e f = ap (λ c. c || b) e ∙ f
-
-has_none : (lane l : ℕ) (ids : List ℕ) (es : List Entries) → has_lane l es ≡ false → (lane ≡ l → ⊥) → has_lane l (with_entries lane ids es) ≡ false
-has_none lane l ids [] none other = or_none (lane == l) false (ne_eqb lane l other) refl
-has_none lane l ids (e ∷ es) none other =
-    let parts = or_parts (e.lane == l) (has_lane l es) none in
-    elim (cases_Bool (e.lane == lane)) [
-      | inl same ↦ ap (has_lane l) (cond-true {A = List Entries} (e.lane == lane) (record { lane = lane; ids = ids } ∷ es) (e ∷ with_entries lane ids es) same) ∙ or_none (lane == l) (has_lane l es) (ne_eqb lane l other) parts.1
-      | inr differs ↦ ap (has_lane l) (cond-false {A = List Entries} (e.lane == lane) (record { lane = lane; ids = ids } ∷ es) (e ∷ with_entries lane ids es) differs) ∙ or_none (e.lane == l) (has_lane l (with_entries lane ids es)) parts.0 (has_none lane l ids es parts.1 other)
-    ]
-
-pub one_with : (lane : ℕ) (ids : List ℕ) (es : List Entries) → OneEach es → OneEach (with_entries lane ids es)
-one_with lane ids [] one = (refl, tt)
-one_with lane ids (e ∷ es) one =
-    elim (cases_Bool (e.lane == lane)) [
-      | inl same ↦ subst OneEach (sym (cond-true {A = List Entries} (e.lane == lane) (record { lane = lane; ids = ids } ∷ es) (e ∷ with_entries lane ids es) same)) (ap (λ (l : ℕ). has_lane l es) (sym (eqb-true e.lane lane same)) ∙ one.0, one.1)
-      | inr differs ↦ subst OneEach (sym (cond-false {A = List Entries} (e.lane == lane) (record { lane = lane; ids = ids } ∷ es) (e ∷ with_entries lane ids es) differs))
-          (has_none lane e.lane ids es one.0 (λ x. true≢false (sym (eq-eqb e.lane lane (sym x)) ∙ differs)), one_with lane ids es one.1)
-    ]
 
 pub on_ok : {T E : Type 0} (result : Result T E) (P Q : Type 0) → (P → Q) → OnOk result P → OnOk result Q
 on_ok (Ok v) P Q f p = f p

@@ -1,6 +1,5 @@
 pub mod Counting
 pub mod Lanes
-pub mod Moving
 pub mod Nesting
 pub mod Slotting
 pub mod Sound

@@ -1,11 +1,11 @@
 -- The spans that a lane is in, after an entry and an exit.
-use Rattle.std.proofs.Common.{◌≡◌, ℕ, zero, suc, ◌+◌, ◌-◌, ◌<◌, ◌≤◌, List, [], ◌∷◌, ◌++◌, length, Bool, true, false, cond, count_by, get_or, Option, Some, None, refl, sym, ap, subst, ◌∙◌, arith, inl, inr, ◌⊎◌}
+use Rattle.std.proofs.Common.{◌≡◌, ℕ, ◌-◌, ◌<◌, List, [], ◌∷◌, ◌++◌, length, Bool, true, false, get_or, Option, Some, None, refl, sym, ap, ◌∙◌, arith, inl, inr}
 use Rattle.std.specs.Prelude.{if◌then◌else◌, ◌==◌, ◌||◌}
-use Rattle.std.specs.List.{list_any, last_or}
-use Rattle.std.proofs.lemmas.Bool.{eqb-true, eqb-false, eq-eqb, ne_eqb, cases_eq, cases_Bool, cond-true, cond-false, or_cases, or_right, or_parts, true≢false}
+use Rattle.std.specs.List.{last_or}
+use Rattle.std.proofs.lemmas.Bool.{eqb-true, eqb-false, eq-eqb, ne_eqb, cases_eq, cases_Bool, cond-true, cond-false, or_right, or_parts, true≢false}
 use Rattle.std.proofs.lemmas.List.{append_assoc, append-nil}
-use Rattle.trace_base.specs.Spans.{is_in, times_in, without_last, current_from, current_of}
-use Rattle.trace_base.proofs.Entering.{count_cons, counted_if_any, any_if_counted, none_counted}
+use Rattle.trace_base.specs.Spans.{is_in, times_in, without_last, current_from}
+use Rattle.trace_base.proofs.Entering.{count_cons, counted_if_any, any_if_counted}
 use Rattle.trace_base.proofs.Holding.{in_push_same, in_push_other}
 use Rattle.span_registry.specs.Firsts.{firsts_from, firsts_of}
 

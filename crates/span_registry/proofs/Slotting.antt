@@ -1,15 +1,14 @@
 -- The table of spans after one change.
-use Rattle.std.proofs.Common.{◌≡◌, ℕ, zero, suc, ◌+◌, ◌-◌, ◌<◌, ◌≤◌, ◌≢◌, List, [], ◌∷◌, ◌++◌, length, take, max, Bool, true, false, cond, count_by, sum_by, get_or, set, Option, Some, None, refl, sym, ap, subst, ◌∙◌, arith, inl, inr, ◌⊎◌}
-use Rattle.std.specs.Prelude.{if◌then◌else◌, ◌==◌, nat_lt, IfSome}
-use Rattle.std.proofs.lemmas.Bool.{cases_eq, cases_lt, cond-true, cond-false, eq-eqb, ne_eqb, lt-ltb, le-ltb}
+use Rattle.std.proofs.Common.{◌≡◌, ℕ, zero, suc, ◌+◌, ◌-◌, ◌<◌, ◌≤◌, List, [], ◌∷◌, ◌++◌, length, take, max, cond, get_or, set, Option, Some, None, refl, sym, ap, subst, ◌∙◌, arith, inl, inr, ◌⊎◌}
+use Rattle.std.specs.Prelude.{if◌then◌else◌, ◌==◌, IfSome}
+use Rattle.std.proofs.lemmas.Bool.{cases_eq, cases_lt, cond-true, cond-false, eq-eqb, ne_eqb, lt-ltb}
 use Rattle.std.proofs.lemmas.List.{length-set, length_push, length-take-le, get_or-set_same, get_or-set_other, get_or_past, get_or_push, get_or_append_left, get_or-take, set-append_left, ext_get_or}
 use Rattle.std.proofs.Math.Nat.{max-eq_left, max-eq_right}
 use Rattle.std.proofs.lemmas.List.Sums.{sum_by-set, get_or-le-sum_by}
-use Rattle.trace_base.specs.Spans.{Span, no_span, span_at, less_held, held, held_by_child, released}
+use Rattle.trace_base.specs.Spans.{Span, no_span, span_at, held_by_child}
 use Rattle.trace_base.specs.Conditions.{IsLive, HasFewHolds}
 use Rattle.trace_base.proofs.Entering.{count_push, made_if_held}
-use Rattle.span_registry.specs.Tabling.{Slotted, no_slot, slot_at, span_of, span_in, spans_to, is_live, live_spans, Tabled, tabled, IsPlace, IsTabled}
-use Rattle.trace_base.proofs.Holding.{less_last, less_more}
+use Rattle.span_registry.specs.Tabling.{Slotted, no_slot, slot_at, span_of, span_in, spans_to, is_live, live_spans, Tabled, tabled, IsTabled}
 
 -- the spans of a table, one by one
 pub length_to : (n : ℕ) (f : ℕ → Span) → length (spans_to n f) ≡ n

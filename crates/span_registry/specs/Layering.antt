@@ -1,7 +1,7 @@
 -- The laws of a layer over a subscriber, by those of its parts.
-use Rattle.std.proofs.Common.{◌≡◌, ℕ, ◌+◌, ◌-◌, ◌<◌, ◌≤◌, List, length, Bool, true, false, cond, count_by, Option, refl, sym, ap, subst, ◌∙◌, arith, inl, inr, ◌⊎◌}
-use Rattle.std.specs.Prelude.{if◌then◌else◌, ◌==◌, ◌||◌, ◌&&◌}
-use Rattle.std.proofs.lemmas.Bool.{or_parts, cases_eq, cases_Bool, cond-true, cond-false, eq-eqb, ne_eqb}
+use Rattle.std.proofs.Common.{◌≡◌, ℕ, ◌+◌, List, length, Bool, true, false, count_by, Option, refl, sym, ap, subst, ◌∙◌, arith, inl, inr}
+use Rattle.std.specs.Prelude.{◌==◌, ◌||◌, ◌&&◌}
+use Rattle.std.proofs.lemmas.Bool.{or_parts, cases_eq, cond-true, cond-false, eq-eqb, ne_eqb}
 use Rattle.otel_base.specs.declared.context.Context.{Context}
 use Rattle.trace_base.specs.declared.callsite.Callsite.{Callsite}
 use Rattle.trace_base.specs.declared.level.LevelFilter.{LevelFilter}
@@ -10,10 +10,10 @@ use Rattle.trace_base.specs.declared.lane.Lane.{Lane}
 use Rattle.trace_base.specs.Spans.{Spans, span_at, entries_on, place_on, current_of, released, held}
 use Rattle.trace_base.specs.Calls.{SubscriberCall, NewSpan, Records, Follows, Event, Enter, Exit, CloneSpan, TryClose, after, entered, exited}
 use Rattle.trace_base.specs.Conditions.{Allowed}
-use Rattle.trace_base.specs.Hooks.{Hook, OnNewSpan, OnRecord, OnFollows, OnEvent, OnEnter, OnExit, OnClose, Seen, Sees, HookLanes}
+use Rattle.trace_base.specs.Hooks.{Hook, OnNewSpan, OnFollows, OnEvent, OnEnter, OnExit, Seen, Sees, HookLanes}
 use Rattle.trace_base.specs.Contexts.{attached_as, attached_on, KeepsAttached, KeepsLane, KeepsLive, Lanes}
 use Rattle.std.proofs.lemmas.List.{length-set}
-use Rattle.span_registry.specs.Both.{DoesBoth, EntersBoth, ExitsBoth, ClosesBoth, InStep, IsWholeBoth, picked_both, hint_both, enables_both, activates_both}
+use Rattle.span_registry.specs.Both.{DoesBoth, EntersBoth, InStep, IsWholeBoth, picked_both, hint_both, enables_both, activates_both}
 use Rattle.span_registry.specs.Stepping.{in_step, tracks_new, tracks_record, tracks_follows, tracks_event, tracks_enter, tracks_exit, tracks_close, tracks_quiet, sees_quiet}
 
 -- what a call does after room was taken

@@ -7,4 +7,3 @@ pub mod Lending
 pub mod Registering
 pub mod Stepping
 pub mod Tabling
-pub mod Unseeing

@@ -1,12 +1,13 @@
 -- The registry does what every subscriber's spans show, and nothing more.
-use Rattle.std.specs.Prelude.{◌≡◌, ◌≢◌, ℕ, ◌+◌, ◌<◌, ◌≤◌, ◌==◌, ◌||◌, Bool, true, false, List, [], ◌∷◌, length, max, Option, Some, slice_index_or, refl}
-use Rattle.std.proofs.Common.{ap, sym, subst, ◌∙◌, arith}
-use Rattle.trace_base.specs.declared.lane.Lane.{Lane}
-use Rattle.trace_base.specs.Spans.{Span, Spans, Entries, span_at, bound_holds}
+use Rattle.std.specs.Prelude.{◌≡◌, ◌≢◌, ℕ, ◌<◌, false, List, [], length, max, slice_index_or, refl}
+use Rattle.std.proofs.Common.{subst}
+use Rattle.trace_base.specs.Spans.{Span, Spans, Entries}
 use Rattle.trace_base.specs.Calls.{SubscriberCall, NewSpan, Records, Follows, Event, Enter, Exit, CloneSpan, TryClose, after}
 use Rattle.trace_base.specs.Conditions.{Allowed}
+use Rattle.trace_base.specs.Sound.{IsSound}
 use Rattle.span_registry.specs.Tabling.{live_spans}
-use Rattle.trace_base.specs.Contexts.{Lanes, KeepsLane, KeepsAttached, attached_on}
+use Rattle.trace_base.specs.Contexts.{Lanes}
+use Rattle.trace_base.specs.Unseeing.{left_as_it_is, nothing_kept}
 
 -- what a registry stands for: its spans, and how many slots it has for live ones
 pub record Registered : Type 0 where
@@ -16,22 +17,6 @@ pub record Registered : Type 0 where
 -- no span was made, and nothing was entered
 abbrev pub no_spans : Spans
 no_spans = record { made = []; lanes = [] }
-
--- each lane has one row
-abbrev pub has_lane : ℕ → List Entries → Bool
-has_lane lane [] = false
-has_lane lane (e ∷ es) = e.lane == lane || has_lane lane es
-
-abbrev pub OneEach : List Entries → Type 0
-OneEach [] = Unit {0}
-OneEach (e ∷ es) = (has_lane e.lane es ≡ false) × OneEach es
-
--- A span has at least the holds of its entries and its open children, each parent is older than its child, and each
--- lane has one row.
-pub record IsSound (spans : Spans) : Type 0 where
-  pub bound : (id : ℕ) → bound_holds spans id ≤ (span_at spans.made id).holds
-  pub older : (id p : ℕ) → (span_at spans.made id).parent ≡ Some p → p < id
-  pub one_row : OneEach spans.lanes
 
 -- an entry and an exit leave the lane as it is
 abbrev pub LeavesLane : SubscriberCall → Type 0
@@ -57,6 +42,7 @@ slots_after slots (TryClose id at) made = slots
 
 -- it does what every subscriber does to its spans, and attaches nothing
 pub record DoesRegistry (old : Registered) (call : SubscriberCall) (new : Registered) : Type 0 where
+  pub sound : IsSound old.spans
   pub allowed : Allowed old.spans call
   pub shows : new.spans ≡ after old.spans call
   pub slots : new.slots ≡ slots_after old.slots call new.spans.made
@@ -64,12 +50,6 @@ pub record DoesRegistry (old : Registered) (call : SubscriberCall) (new : Regist
 
 pub registry_same : (s t : Registered) (call : SubscriberCall) (u : Registered) → t ≡ s → DoesRegistry t call u → DoesRegistry s call u
 registry_same s t call u h d = subst (λ (x : Registered). DoesRegistry x call u) h d
-
-pub left_as_it_is : (a b : Lane) → b ≡ a → KeepsLane false a b
-left_as_it_is a b e = record { id = ap (λ (l : Lane). l.id) e; name = ap (λ (l : Lane). l.name) e; default = ap (λ (l : Lane). l.default) e; as_it_is = λ no. e }
-
-pub nothing_kept : (a b : Lane) → b ≡ a → KeepsAttached (λ lane number. 0) a b (λ lane number. 0)
-nothing_kept a b e lane number = let y = ap (λ (l : Lane). attached_on lane number l) e in omega (arith, y)
 
 pub registry_lanes : (s : Registered) (call : SubscriberCall) (t : Registered) → DoesRegistry s call t → Lanes false (λ lane number. 0) call (λ lane number. 0)
 registry_lanes s (Enter id at before later) t d = (left_as_it_is before later d.lane, nothing_kept before later d.lane)

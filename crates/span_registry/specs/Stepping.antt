@@ -1,13 +1,13 @@
 -- The layer stays in step with the subscriber at each call.
-use Rattle.std.proofs.Common.{◌≡◌, ℕ, ◌+◌, ◌-◌, ◌<◌, ◌≤◌, List, [], ◌∷◌, ◌++◌, length, Bool, true, false, cond, count_by, Option, Some, None, refl, sym, ap, subst, ◌∙◌, arith, inl, inr, ◌⊎◌}
+use Rattle.std.proofs.Common.{◌≡◌, ℕ, ◌+◌, ◌<◌, ◌≤◌, List, [], ◌∷◌, ◌++◌, length, true, Option, refl, sym, ap, ◌∙◌, arith, inl, inr}
 use Rattle.std.specs.Prelude.{if◌then◌else◌, ◌==◌, ◌&&◌}
-use Rattle.std.proofs.lemmas.Bool.{eqb-true, eqb-false, eq-eqb, ne_eqb, cases_eq, cases_Bool, cond-true, cond-false, true≢false, and_from, and_left, and_right}
-use Rattle.std.proofs.lemmas.List.{length-set, length-append, length_push}
+use Rattle.std.proofs.lemmas.Bool.{eqb-true, eq-eqb, ne_eqb, cases_eq, cases_Bool, cond-true, cond-false, true≢false, and_from, and_left, and_right}
+use Rattle.std.proofs.lemmas.List.{length-set, length_push}
 use Rattle.trace_base.specs.declared.lane.Lane.{Lane}
 use Rattle.trace_base.specs.declared.span.Parent.{Parent}
 use Rattle.trace_base.specs.declared.callsite.Callsite.{Callsite}
 use Rattle.trace_base.specs.declared.field.ValueSet.{ValueSet}
-use Rattle.trace_base.specs.Spans.{Span, Entries, Spans, span_at, entries_on, with_entries, is_in, times_in, first_entries, without_last, held, less_held, released, held_by_child, bound_holds, open_children, place_on}
+use Rattle.trace_base.specs.Spans.{Span, Entries, Spans, span_at, entries_on, is_in, times_in, without_last, held, less_held, released, held_by_child}
 use Rattle.trace_base.specs.Calls.{with_span, entered, exited}
 use Rattle.trace_base.specs.Conditions.{IsLive, MayExit, HasOwnHold}
 use Rattle.trace_base.specs.Hooks.{Hook, OnNewSpan, OnRecord, OnFollows, OnEvent, OnEnter, OnExit, OnClose, Seen, Sees, makes, closes, comes, goes, one_if}

@@ -1,6 +1,7 @@
 //! A layer over a subscriber.
 ghost use Rattle.std.specs.Prelude.{◌≡◌, ℕ, ◌+◌, ◌||◌, ◌&&◌, true, false, if◌then◌else◌};
 ghost use Rattle.trace_base.specs.Spans.{entries_on, place_on};
+ghost use Rattle.trace_base.specs.Sound.{IsSound};
 ghost use Rattle.span_registry.specs.Both.{DoesBoth, InStep, IsWholeBoth, KnowsNone, picked, picked_both, hint_both, enables_both, activates_both};
 ghost use Rattle.span_registry.specs.Layering.{kept_same, or_same, whole_both, in_step_same, both_same, both_allowed, both_shows, both_lanes, both_keep, both_in_step, gate_both, enables_same, activates_same, both_passive};
 ghost use Rattle.trace_base.specs.Hooks.{OnEnter};
@@ -144,6 +145,8 @@ impl<L: Layer, S: Subscriber> Subscriber for Layered<L, S> {
 
     ghost same_does = { λ s t call u h d. both_same S.spans S.does L.does L.same L.attaches s.inner t.inner s.layer t.layer call u.inner u.layer (S.same_spans s.inner t.inner h.0) (L.same_attaches s.layer t.layer h.1)
         (λ c. S.same_does s.inner t.inner c u.inner h.0) (λ k. L.same_does s.layer t.layer k u.layer h.1) (L.same_trans s.layer t.layer u.layer h.1) d };
+
+    ghost sound = { λ s call t d. (both_keep S.spans S.does L.does L.same L.attaches s.inner t.inner s.layer t.layer call (IsSound (S.spans s.inner)) (Unit {0}) (λ c. S.sound s.inner c t.inner) (λ k e. tt) (λ e. tt) d).0 };
 
     ghost allowed = { λ s call t d. both_allowed S.spans S.does L.does L.same L.attaches s.inner t.inner s.layer t.layer call (λ c. S.allowed s.inner c t.inner) d };
 

@@ -5,7 +5,8 @@ ghost use Rattle.trace_base.specs.declared.lane.Lane.{Lane};
 ghost use Rattle.trace_base.specs.declared.subscriber.Interest.TheVariants as interests;
 ghost use Rattle.trace_base.specs.Spans.{Spans, span_at, entries_on, place_on, held, released, next_of};
 ghost use Rattle.trace_base.specs.Conditions.{HasOwnHold, IsLive, HasFewHolds};
-ghost use Rattle.span_registry.specs.Registering.{Registered, IsSound, DoesRegistry, no_spans, registry_same, registry_lanes};
+ghost use Rattle.trace_base.specs.Sound.{IsSound};
+ghost use Rattle.span_registry.specs.Registering.{Registered, DoesRegistry, no_spans, registry_same, registry_lanes};
 
 use crate::entries::{add_entry, current, entries, remove_entry};
 use crate::lane_entries::LaneEntries;
@@ -32,7 +33,8 @@ pub struct Registry {
 }
 
 impl Model for Registry {
-    ghost use Rattle.span_registry.specs.Registering.{Registered, IsSound};
+    ghost use Rattle.trace_base.specs.Sound.{IsSound};
+    ghost use Rattle.span_registry.specs.Registering.{Registered};
 
     ghost Value = { Registered };
 
@@ -142,6 +144,8 @@ impl Subscriber for Registry {
 
     ghost same_does = { registry_same };
 
+    ghost sound = { λ s call t d. d.sound };
+
     ghost allowed = { λ s call t d. d.allowed };
 
     ghost shows = { λ s call t d. d.shows };
@@ -188,10 +192,12 @@ impl Subscriber for Registry {
         _callsite: &Callsite,
         _values: &ValueSet,
     ) -> Result<(), Memory> {
+        self.sound();
         Ok(())
     }
 
     fn record_follows_from(&mut self, _id: Id, _from: Id, _at: u64) -> Result<(), Memory> {
+        self.sound();
         Ok(())
     }
 
@@ -204,6 +210,7 @@ impl Subscriber for Registry {
         _callsite: &Callsite,
         _values: &ValueSet,
     ) -> Result<(), Memory> {
+        self.sound();
         Ok(())
     }
 

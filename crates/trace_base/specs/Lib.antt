@@ -10,4 +10,6 @@ pub mod Lending
 pub mod Level
 pub mod LevelWords
 pub mod Quote
+pub mod Sound
 pub mod Spans
+pub mod Unseeing

@@ -9,6 +9,7 @@ ghost use Rattle.trace_base.specs.declared.subscriber.Interest.TheVariants as in
 ghost use Rattle.trace_base.specs.Spans.{Spans, span_at, current_on, next_of};
 ghost use Rattle.trace_base.specs.Calls.{SubscriberCall, NewSpan, Records, Follows, Event, Enter, Exit, CloneSpan, TryClose, after};
 ghost use Rattle.trace_base.specs.Conditions.{Allowed, IsLive, IsLivePlace, HasFewHolds, HasFewHoldsAbove, AreFew, MayExit, HasOwnHold};
+ghost use Rattle.trace_base.specs.Sound.{IsSound};
 ghost use Rattle.trace_base.specs.Contexts.{AreAttached, KeepsLane, KeepsLive, IsFull, Lanes};
 
 use crate::callsite::{Callsite, SiteId};
@@ -237,7 +238,9 @@ pub trait Subscriber {
     /// It may have been taken before a call.
     ghost same_does: { (s t : Self) (call : SubscriberCall) (u : Self) → same s t → does t call u → does s call u };
 
-    /// A call was allowed, and makes of the plain data what it makes of them in every subscriber.
+    /// A call finds the spans sound and was allowed, and makes of the plain data what it makes of them in every subscriber.
+    ghost sound: { (s : Self) (call : SubscriberCall) (t : Self) → does s call t → IsSound (spans s) };
+
     ghost allowed: { (s : Self) (call : SubscriberCall) (t : Self) → does s call t → Allowed (spans s) call };
 
     ghost shows: { (s : Self) (call : SubscriberCall) (t : Self) → does s call t → spans t ≡ after (spans s) call };

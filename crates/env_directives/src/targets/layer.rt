@@ -3,7 +3,8 @@ ghost use Rattle.std.specs.Prelude.{◌≡◌, Some, false};
 ghost use Rattle.std.proofs.Common.{refl, ap, ◌∙◌};
 ghost use Rattle.trace_base.specs.declared.lane.Lane.{Lane};
 ghost use Rattle.env_directives.specs.Choice.{admits};
-ghost use Rattle.env_directives.specs.Deciding.{interest_in, enables_in, no_spans, LeavesLanes, sees_none, leaves_lanes};
+ghost use Rattle.trace_base.specs.Unseeing.{unseeing, LeavesLanes, unseeing_sees, unseeing_lanes};
+ghost use Rattle.env_directives.specs.Deciding.{interest_in, enables_in};
 
 use crate::targets::Targets;
 use otel_base::enter_error::EnterError;
@@ -59,7 +60,7 @@ impl Filter for Targets {
 impl Layer for Targets {
     type Ready = Ready;
 
-    ghost seen = { λ t. no_spans };
+    ghost seen = { λ t. unseeing };
 
     ghost kept = { λ t lane number. 0 };
 
@@ -97,9 +98,9 @@ impl Layer for Targets {
 
     ghost same_does = { λ s t hook u h d. (d.0 ∙ h, d.1) };
 
-    ghost sees = { λ s hook t d. sees_none hook };
+    ghost sees = { λ s hook t d. unseeing_sees hook };
 
-    ghost lanes = { λ s hook t d. leaves_lanes hook d.1 };
+    ghost lanes = { λ s hook t d. unseeing_lanes hook d.1 };
 
     ghost passive = { λ s id at before later t d unknown. ap (λ (l : Lane). l.contexts.live) d.1 };
 

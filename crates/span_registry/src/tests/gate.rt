@@ -2,7 +2,7 @@
 ghost use Rattle.std.specs.Prelude.{◌≡◌, ◌<◌, ◌≤◌, length, IfOk, None, false};
 ghost use Rattle.std.proofs.Common.{refl, ap, ◌∙◌};
 ghost use Rattle.trace_base.specs.declared.lane.Lane.{Lane};
-ghost use Rattle.span_registry.specs.Unseeing.{unseeing, LeavesLanes, unseeing_sees, unseeing_lanes};
+ghost use Rattle.trace_base.specs.Unseeing.{unseeing, LeavesLanes, unseeing_sees, unseeing_lanes};
 
 use super::{callsite, lane};
 use crate::layered::Layered;

@@ -1,5 +1,5 @@
 -- The current span of a lane is that of the entries at its place.
-use Rattle.std.proofs.Common.{sym, ap, ◌∙◌, List, get_or, ◌≡◌, ℕ, refl}
+use Rattle.std.proofs.Common.{sym, ap, ◌∙◌, get_or, ◌≡◌, refl}
 use Rattle.std.proofs.lemmas.List.{get_or_default}
 use Rattle.trace_base.specs.Spans.{Entries, current_of}
 use Rattle.span_registry.specs.Registering.{no_lane}

@@ -1,5 +1,5 @@
 -- What is removed at the last place.
-use Rattle.std.proofs.Common.{◌∙◌, arith}
+use Rattle.std.proofs.Common.{◌∙◌}
 use Rattle.span_registry.proofs.Lanes.{remove_is_last}
 use Rattle.span_registry.proofs.lane_entries.remove_last.Goals as goal
 

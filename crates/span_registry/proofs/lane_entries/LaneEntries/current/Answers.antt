@@ -1,5 +1,5 @@
 -- The last of the spans that the lane is in.
-use Rattle.std.proofs.Common.{sym, ap, ◌∙◌, List, ℕ, None, []}
+use Rattle.std.proofs.Common.{sym, ap, ◌∙◌, None, []}
 use Rattle.std.specs.List.{last_or}
 use Rattle.trace_base.specs.Spans.{Entries, current_of}
 use Rattle.span_registry.proofs.Nesting.{current_last}

@@ -1,9 +1,8 @@
 -- The current span is live.
-use Rattle.std.proofs.Common.{◌≡◌, Some, subst}
-use Rattle.trace_base.specs.Spans.{current_of, entries_on}
+use Rattle.std.proofs.Common.{subst}
 use Rattle.trace_base.specs.Conditions.{IsLive}
 use Rattle.span_registry.specs.Registering.{Registered}
-use Rattle.span_registry.proofs.Sound.{current_live}
+use Rattle.trace_base.proofs.Sound.{current_live}
 use Rattle.span_registry.proofs.registry.RegistrySubscriber.current_span.Goals as goal
 
 pub site-requires : goal.site-requires

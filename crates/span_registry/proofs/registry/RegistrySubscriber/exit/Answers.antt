@@ -2,7 +2,7 @@
 use Rattle.std.proofs.Common.{sym, subst}
 use Rattle.trace_base.specs.Conditions.{MayExit}
 use Rattle.span_registry.specs.Registering.{Registered}
-use Rattle.span_registry.proofs.Sound.{sound_exited, exit_live}
+use Rattle.trace_base.proofs.Sound.{sound_exited, exit_live}
 use Rattle.span_registry.proofs.registry.RegistrySubscriber.exit.Goals as goal
 
 pub release_if-requires : goal.release_if-requires

@@ -1,9 +1,11 @@
 -- The parent is live, and the spans stay sound.
-use Rattle.std.proofs.Common.{sym, subst, List, ap, ◌∙◌}
+use Rattle.std.proofs.Common.{sym, subst, List}
 use Rattle.trace_base.specs.Spans.{Span, Spans}
 use Rattle.trace_base.specs.Conditions.{IsLivePlace}
-use Rattle.span_registry.specs.Registering.{Registered, IsSound}
-use Rattle.span_registry.proofs.Sound.{place_live, sound_new, either_way, err_made}
+use Rattle.trace_base.specs.Sound.{IsSound}
+use Rattle.span_registry.specs.Registering.{Registered}
+use Rattle.trace_base.proofs.Sound.{place_live, sound_new}
+use Rattle.span_registry.proofs.Sound.{either_way, err_made}
 use Rattle.span_registry.proofs.registry.RegistrySubscriber.new_span.Goals as goal
 
 pub add-requires-clause-live : goal.add-requires-clause-live

@@ -2,7 +2,7 @@
 use Rattle.std.proofs.Common.{sym, subst}
 use Rattle.trace_base.specs.Conditions.{HasOwnHold}
 use Rattle.span_registry.specs.Registering.{Registered}
-use Rattle.span_registry.proofs.Sound.{sound_released, next_own}
+use Rattle.trace_base.proofs.Sound.{sound_released, next_own}
 use Rattle.span_registry.proofs.registry.RegistrySubscriber.try_close.Goals as goal
 
 pub invariant_of-self : goal.invariant_of-self

@@ -1,7 +1,6 @@
 -- The parent is held alike before and after its child is added.
-use Rattle.std.proofs.Common.{◌∙◌, sym, ap, List, ◌++◌, ◌∷◌, []}
-use Rattle.trace_base.specs.Spans.{Span, held_by_child}
-use Rattle.span_registry.proofs.Slotting.{held_push, live_push, few_push, live_held}
+use Rattle.std.proofs.Common.{◌∙◌}
+use Rattle.span_registry.proofs.Slotting.{held_push, live_push, few_push}
 use Rattle.span_registry.proofs.table.Table.add.Goals as goal
 
 pub hold_parent-requires-clause-live : goal.hold_parent-requires-clause-live

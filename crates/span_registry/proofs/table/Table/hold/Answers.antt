@@ -1,10 +1,10 @@
 -- The slot of the span has one hold more.
-use Rattle.std.proofs.Common.{◌≡◌, ◌<◌, ◌+◌, ◌^◌, ◌∙◌, sym, ap, arith, length, subst, ℕ}
+use Rattle.std.proofs.Common.{◌+◌, ◌∙◌, sym, ap, arith}
 use Rattle.std.specs.Ordering.{nat_cmp}
 use Rattle.std.specs.BTreeMap.{get}
 use Rattle.std.proofs.lemmas.List.{get_or_default}
 use Rattle.trace_base.specs.Spans.{Span}
-use Rattle.span_registry.specs.Tabling.{Slotted, no_slot, slot_at}
+use Rattle.span_registry.specs.Tabling.{Slotted, no_slot}
 use Rattle.span_registry.proofs.Slotting.{no_place, shown_some, shown_set, tabled_set}
 use Rattle.span_registry.proofs.table.Table.hold.Goals as goal
 

@@ -1,9 +1,8 @@
 -- One span more has a slot, or nothing but room changed.
-use Rattle.std.proofs.Common.{◌≡◌, ℕ, ◌<◌, ◌≤◌, ◌∙◌, sym, ap, arith, length, refl, inl, inr, subst, List, rules}
+use Rattle.std.proofs.Common.{◌∙◌, sym, arith, refl}
 use Rattle.std.specs.Ordering.{nat_cmp}
 use Rattle.std.specs.BTreeMap.{get}
-use Rattle.std.proofs.lemmas.Bool.{cases_eq}
-use Rattle.span_registry.proofs.Slotting.{shown_count, tabled_same, shown_same, filled, pushed}
+use Rattle.span_registry.proofs.Slotting.{shown_count, tabled_same, filled, pushed}
 use Rattle.span_registry.proofs.table.Table.push.Goals as goal
 
 pub at-id-requires : goal.at-id-requires

@@ -1,12 +1,12 @@
 -- The slot of the span has one hold less, or is free.
-use Rattle.std.proofs.Common.{◌≡◌, ◌<◌, ◌+◌, ◌-◌, ◌∙◌, sym, ap, arith, length, refl, ℕ, List, [], ◌∷◌, ◌++◌, Option, None}
+use Rattle.std.proofs.Common.{◌≡◌, ◌-◌, ◌∙◌, sym, ap, arith, refl, ℕ, [], ◌∷◌, ◌++◌, Option, None}
 use Rattle.std.specs.Prelude.{◌==◌, is_ok}
 use Rattle.std.specs.Ordering.{nat_cmp}
 use Rattle.std.specs.BTreeMap.{get}
 use Rattle.std.proofs.lemmas.Bool.{cond-true, cond-false, eq-eqb, ne_eqb}
 use Rattle.std.proofs.lemmas.List.{get_or_default}
 use Rattle.trace_base.specs.Spans.{Span, span_at}
-use Rattle.span_registry.specs.Tabling.{Slotted, no_slot, slot_at}
+use Rattle.span_registry.specs.Tabling.{Slotted, no_slot}
 use Rattle.trace_base.proofs.Holding.{less_last, less_more}
 use Rattle.span_registry.proofs.Slotting.{no_place, shown_some, shown_set, shown_gone, tabled_set, tabled_gone, tabled_same, some_room}
 use Rattle.span_registry.proofs.table.Table.release.Goals as goal

@@ -1,5 +1,4 @@
 -- Each turn takes an item out.
-use Rattle.std.proofs.Common.{ℕ}
 use Rattle.trace_base.proofs.discard.VecDiscard.discard.Given as goal
 
 abbrev pub decreases-loop-item : goal.decreases-loop-item

@@ -1,9 +1,10 @@
 -- A layer that knows no span and attaches nothing: what it has to show of its hooks.
-use Rattle.std.specs.Prelude.{◌≡◌, ℕ, Bool, true, false}
-use Rattle.std.proofs.Common.{refl, sym}
+use Rattle.std.specs.Prelude.{◌≡◌, false}
+use Rattle.std.proofs.Common.{refl, sym, ap, arith}
 use Rattle.std.proofs.lemmas.Bool.{true≢false}
+use Rattle.trace_base.specs.declared.lane.Lane.{Lane}
+use Rattle.trace_base.specs.Contexts.{KeepsLane, KeepsAttached, attached_on}
 use Rattle.trace_base.specs.Hooks.{Hook, OnNewSpan, OnRecord, OnFollows, OnEvent, OnEnter, OnExit, OnClose, Seen, Sees, HookLanes}
-use Rattle.span_registry.specs.Registering.{left_as_it_is, nothing_kept}
 
 abbrev pub unseeing : Seen
 unseeing = record { knows = λ id. false; entries = λ lane id. 0 }
@@ -25,6 +26,13 @@ unseeing_sees hook = record {
   known = λ lane id knew. absurd (true≢false (sym knew));
   unknown = λ lane id not. refl;
 }
+
+-- a lane that was left as it is
+pub left_as_it_is : (a b : Lane) → b ≡ a → KeepsLane false a b
+left_as_it_is a b e = record { id = ap (λ (l : Lane). l.id) e; name = ap (λ (l : Lane). l.name) e; default = ap (λ (l : Lane). l.default) e; as_it_is = λ no. e }
+
+pub nothing_kept : (a b : Lane) → b ≡ a → KeepsAttached (λ lane number. 0) a b (λ lane number. 0)
+nothing_kept a b e lane number = let y = ap (λ (l : Lane). attached_on lane number l) e in omega (arith, y)
 
 pub unseeing_lanes : (hook : Hook) → LeavesLanes hook → HookLanes false (λ lane number. 0) hook (λ lane number. 0)
 unseeing_lanes (OnEnter id at before later) left = (left_as_it_is before later left, nothing_kept before later left)
