@@ -88,6 +88,18 @@ impl<S: Subscriber> World<S> {
         Ok(site)
     }
 
+    /// The name of the callsite at a place, if there is one.
+    pub fn site_at(&self, place: u64) -> Option<SiteId>
+        ensures some { IfSome result (λ site. (site ≡ place) × (place < length self.now.sites)) }
+        ensures none { result ≡ None → length self.now.sites ≤ place }
+    {
+        if place < self.sites.len() as u64 {
+            Some(SiteId::at(place))
+        } else {
+            None
+        }
+    }
+
     /// A callsite.
     pub fn site(&self, site: SiteId) -> &Callsite
         requires { site < length self.now.sites }
