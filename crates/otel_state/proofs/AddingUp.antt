@@ -1,6 +1,6 @@
 -- Busy and idle add up to the time from the making to the end.
 use Rattle.std.proofs.Common.{◌≡◌, ℕ, ◌+◌, ◌-◌, ◌<◌, ◌≤◌, List, [], ◌∷◌, ◌++◌, Bool, true, false, Option, Some, None, refl, sym, ap, subst, ◌∙◌, arith, append_assoc, zero, suc}
-use Rattle.std.specs.Prelude.{if◌then◌else◌, ◌==◌, ◌||◌, min, fold, filter_map, unwrap_or, IsTrue}
+use Rattle.std.specs.Prelude.{if◌then◌else◌, ◌==◌, ◌||◌, min, fold, filter_map, unwrap_or, is_some, IsTrue}
 use Rattle.std.specs.List.{cons_option}
 use Rattle.std.proofs.lemmas.Bool.{eqb-true}
 use Rattle.otel_state.specs.declared.times.TheConstants.{GREATEST}
@@ -89,9 +89,13 @@ left_if_entered entries (op ∷ ops) left shut entered none = by_op (λ n. left_
 
 -- ---- the law
 
-sum_is : (made busy closed : ℕ) (left : Option ℕ) → (left ≡ None → ⊥) → busy + made ≤ unwrap_or left made → made + busy + idle_of left made busy ≡ unwrap_or left closed
-sum_is made busy closed None never reach = absurd (never refl)
-sum_is made busy closed (Some end) never reach = omega (arith, reach)
+some_unless : (left : Option ℕ) → (left ≡ None → ⊥) → is_some left ≡ true
+some_unless None never = absurd (never refl)
+some_unless (Some end) never = refl
+
+sum_is : (made busy closed : ℕ) (left : Option ℕ) → is_some left ≡ true → busy + made ≤ unwrap_or left made → made + busy + idle_of left made busy ≡ unwrap_or left closed
+sum_is made busy closed None has reach = cc
+sum_is made busy closed (Some end) has reach = omega (arith, reach)
 
 no_idle : (made busy : ℕ) (left : Option ℕ) → left ≡ None → idle_of left made busy ≡ 0
 no_idle made busy left is = ap (λ l. idle_of l made busy) is
@@ -125,6 +129,7 @@ tells_times making ops closed tracked order shut =
       busy = busy;
       idle = idle_of (last_exit ops) making.made busy;
       told = simp (tracked, append_assoc) refl;
-      add_up = λ entered. sum_is making.made busy closed (last_exit ops) (λ none. left_if_entered 0 ops None shut entered none) reach;
+      was_left = λ entered. some_unless (last_exit ops) (λ none. left_if_entered 0 ops None shut entered none);
+      add_up = λ has. sum_is making.made busy closed (last_exit ops) has reach;
       are_none = λ none. (no_busy making.made busy (last_exit ops) none reach, no_idle making.made busy (last_exit ops) none);
     }

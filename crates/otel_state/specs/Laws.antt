@@ -1,5 +1,5 @@
 -- What holds of all lists of ops.
-use Rattle.std.specs.Prelude.{◌≡◌, ℕ, ◌+◌, List, [], ◌∷◌, ◌++◌, Bool, IsTrue, Option, None, codes}
+use Rattle.std.specs.Prelude.{◌≡◌, ℕ, ◌+◌, List, [], ◌∷◌, ◌++◌, Bool, IsTrue, Option, None, is_some, codes}
 use Rattle.std.specs.List.{list_any}
 use Rattle.std.specs.Ordering.{is_le}
 use Rattle.otel_base.specs.declared.context.SpanContext.{SpanContext}
@@ -19,13 +19,14 @@ abbrev pub was_entered : List Stamped → Bool
 was_entered ops = list_any (λ op. (deed op.op).enters) ops
 
 -- a record's last two attributes tell a busy and an idle time. They add up to the time from its start to its end where
--- the span was entered, and are both 0 where it was never left
+-- the span was left, as it was wherever it was entered, and are both 0 where it was never left
 pub record TellsTimes (entered : Bool) (left : Option ℕ) (r : Record) : Type 0 where
   pub others : List KeyValue
   pub busy : ℕ
   pub idle : ℕ
   pub told : r.attributes ≡ others ++ number (codes "busy_ns") busy ∷ number (codes "idle_ns") idle ∷ []
-  pub add_up : IsTrue entered → r.start + busy + idle ≡ r.end
+  pub was_left : IsTrue entered → IsTrue (is_some left)
+  pub add_up : IsTrue (is_some left) → r.start + busy + idle ≡ r.end
   pub are_none : left ≡ None → (busy ≡ 0) × (idle ≡ 0)
 
 -- ---- what is settled by the start

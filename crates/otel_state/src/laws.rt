@@ -14,8 +14,8 @@ pub fn appends()
     ensures { (told : Told) (at : ℕ) (op : Op) → Appends at op told (changed told at op) }
 {}
 
-/// Where inactivity is tracked, moments don't fall and no entry is left open, the record's busy and idle times add up to
-/// the time from its start to its end if the span was entered, and both are 0 if it was never left.
+/// Where inactivity is tracked, moments don't fall and no entry is left open: the record's busy and idle times add up to
+/// the time from its start to its end if the span was left, as each is that was entered; else both are 0.
 pub fn times()
     ensures { (making : Making) (ops : List Stamped) (closed : ℕ) → IsTrue making.inactivity → InOrder making.made ops
         → open_by 0 ops ≡ 0 → TellsTimes (was_entered ops) (last_exit ops) (content making ops closed) }
@@ -29,8 +29,8 @@ pub fn late_writes()
         ≡ content making (before ++ record { at = at; op = b } ∷ after) closed }
 {}
 
-/// A start may come early or late: where no name, kind or parent is written between the two places, the records differ
-/// in their ids alone.
+/// A start may come early or late: where moments don't fall in either order, no entry is left open, and no name, kind or
+/// parent is written between the two places, the records differ in their ids alone.
 pub fn early_starts()
     ensures { (making : Making) (before between after : List Stamped) (early late : ℕ) (own given : SpanContext)
         (closed : ℕ) → All SettlesNothing between → open_by 0 (before ++ between ++ after) ≡ 0

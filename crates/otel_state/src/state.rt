@@ -1,5 +1,5 @@
 //! The state of a span from its making to its close.
-ghost use Rattle.std.specs.Prelude.{◌≡◌, ◌+◌, ◌≤◌, ◌<◌, ◌++◌, ◌∷◌, [], ℕ, List, Some, OnOk, OnErr, IfOk, IsTrue, false, length};
+ghost use Rattle.std.specs.Prelude.{◌≡◌, ◌+◌, ◌≤◌, ◌<◌, ◌^◌, ◌++◌, ◌∷◌, [], ℕ, List, Some, OnOk, OnErr, IfOk, IsOk, IsTrue, false, length};
 ghost use Rattle.std.specs.Option.{option_to_list};
 ghost use Rattle.std.specs.Ordering.{ord_max};
 ghost use Rattle.otel_base.specs.Statuses.{status_cmp};
@@ -162,8 +162,8 @@ impl SpanState {
         self.entries
     }
 
-    /// Applies an op at a moment, and answers it. `Memory` only where the op adds attributes, an event or a link; the
-    /// state then stays as it is.
+    /// Applies an op at a moment, and answers it; the room that the op doesn't fill stays. `Memory` comes only for the ops
+    /// that may grow the state (`is_growing`), and leaves all as it is.
     #[tactic(auto, using(crate::proofs::Summing::appended))]
     pub fn apply(&mut self, at: Moment, op: Op) -> Result<OpReply, Memory>
         ensures appends { OnOk result (Appends at op self.old.told self.new.told) }
@@ -172,6 +172,8 @@ impl SpanState {
         ensures listed { IfOk result (IsReadOff (λ _ ops. reply_after (own_of ops) op) self.old.told) }
         ensures memory_leaves { OnErr result (self.new.told ≡ self.old.told) }
         ensures memory { OnErr result (IsTrue (is_growing op)) }
+        ensures rest { OnOk result (Keeps (less self.old.room (deed op)) self.new.room) }
+        ensures keeps { OnErr result (Keeps self.old.room self.new.room) }
     {
         let answer = self.answer(&op);
         self.reserve(&op)?;
@@ -347,7 +349,8 @@ impl SpanState {
         }
     }
 
-    /// Gives a state the parent and the moment of its making, where these weren't known when its room was taken.
+    /// Gives a state the parent and the moment of its making, where these weren't known when its room was taken. Its last
+    /// moment, its busy time and its last exit start anew; all else stays.
     pub fn begin(&mut self, parent: Context, made: Moment)
         ensures told { self.new.told ≡ made_at parent made self.old.told }
         ensures begins { Begins parent made self.old.told self.new.told }
@@ -376,12 +379,13 @@ impl SpanState {
         }
     }
 
-    /// Takes the room for an op, where what is there isn't enough. `Memory` only where the op adds attributes, an event
-    /// or a link. For two ops `reserve_room` takes the room at once.
+    /// Takes the room for an op. `Memory` comes only for the ops that may grow the state (`is_growing`), and only where
+    /// there isn't the room yet. For two ops `reserve_room` takes the room at once.
     pub fn reserve(&mut self, op: &Op) -> Result<(), Memory>
         ensures room { OnOk result (HasRoom self.new.room op.now) }
         ensures keeps { Keeps self.old.room self.new.room }
         ensures memory { OnErr result (IsTrue (is_growing op.now)) }
+        ensures had_room { HasRoom self.old.room op.now → IsOk result }
         ensures leaves { self.new.told ≡ self.old.told }
     {
         match op {
@@ -398,7 +402,8 @@ impl SpanState {
         }
     }
 
-    /// Takes room for so many attributes, events and links, beside that of the close.
+    /// Takes room for so many attributes, events and links, beside that of the close. `Memory` comes only where there
+    /// isn't so much room yet, or for attributes that no `usize` counts together with those of the close.
     pub fn reserve_room(
         &mut self,
         attributes: usize,
@@ -409,6 +414,8 @@ impl SpanState {
         ensures events { OnOk result (events ≤ self.new.room.events) }
         ensures links { OnOk result (links ≤ self.new.room.links) }
         ensures keeps { Keeps self.old.room self.new.room }
+        ensures had_room { attributes ≤ self.old.room.attributes → events ≤ self.old.room.events
+            → links ≤ self.old.room.links → attributes + 3 < 2 ^ 64 → IsOk result }
         ensures leaves { self.new.told ≡ self.old.told }
     {
         let all = attributes.checked_add(CLOSING).ok_or(Memory)?;
