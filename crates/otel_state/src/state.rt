@@ -163,7 +163,8 @@ impl SpanState {
     }
 
     /// Applies an op at a moment, and answers it; the room that the op doesn't fill stays. `Memory` comes only for the ops
-    /// that may grow the state (`is_growing`), and leaves all as it is.
+    /// that may grow the state (`is_growing`) and where there wasn't the room; the state then tells the same, and no room is
+    /// lost.
     #[tactic(auto, using(crate::proofs::Summing::appended))]
     pub fn apply(&mut self, at: Moment, op: Op) -> Result<OpReply, Memory>
         ensures appends { OnOk result (Appends at op self.old.told self.new.told) }
@@ -172,6 +173,7 @@ impl SpanState {
         ensures listed { IfOk result (IsReadOff (λ _ ops. reply_after (own_of ops) op) self.old.told) }
         ensures memory_leaves { OnErr result (self.new.told ≡ self.old.told) }
         ensures memory { OnErr result (IsTrue (is_growing op)) }
+        ensures had_room { HasRoom self.old.room op → IsOk result }
         ensures rest { OnOk result (Keeps (less self.old.room (deed op)) self.new.room) }
         ensures keeps { OnErr result (Keeps self.old.room self.new.room) }
     {
@@ -379,8 +381,8 @@ impl SpanState {
         }
     }
 
-    /// Takes the room for an op. `Memory` comes only for the ops that may grow the state (`is_growing`), and only where
-    /// there isn't the room yet. For two ops `reserve_room` takes the room at once.
+    /// Takes the room for an op. `Memory` comes only for the ops that may grow the state (`is_growing`) and where there
+    /// isn't the room yet. For two ops `reserve_room` takes the room at once.
     pub fn reserve(&mut self, op: &Op) -> Result<(), Memory>
         ensures room { OnOk result (HasRoom self.new.room op.now) }
         ensures keeps { Keeps self.old.room self.new.room }
