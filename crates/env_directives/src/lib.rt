@@ -5,8 +5,6 @@ pub mod directive;
 pub mod env;
 pub mod laws;
 pub mod targets;
-#[cfg(test)]
-mod tests;
 
 pub use directive::set::{DirectiveIter, DirectiveSet, DirectivesFor};
 pub use directive::{Match, ParseError, StaticDirective};

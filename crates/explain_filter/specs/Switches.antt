@@ -1,9 +1,10 @@
 -- Which reading a line's word asks for.
 use Rattle.std.specs.Prelude.{ℕ, List, if◌then◌else◌, codes, bytes_eq}
 use Rattle.explain_filter.specs.declared.reading.Reading.{Reading}
-use Rattle.explain_filter.specs.declared.reading.Reading.TheVariants.{Filter, Directive, Fixed, Targets}
+use Rattle.explain_filter.specs.declared.reading.Reading.TheVariants.{Filter, Directive, Fixed, Targets, Levels}
 
 -- the reading that a word names, the first argument where it names none
 abbrev pub switched : Reading → List ℕ → Reading
 switched reading word = if bytes_eq word (codes "filter") then Filter else if bytes_eq word (codes "directive") then Directive
-    else if bytes_eq word (codes "fixed") then Fixed else if bytes_eq word (codes "targets") then Targets else reading
+    else if bytes_eq word (codes "fixed") then Fixed else if bytes_eq word (codes "targets") then Targets
+    else if bytes_eq word (codes "levels") then Levels else reading

@@ -1,6 +1,8 @@
 //! Explains texts of directives: reads texts, one a line, and prints behind each what it was read as, or its fault.
 #![tactic(auto)]
 
+mod answer;
+mod asked;
 mod explain;
 mod reading;
 

@@ -15,6 +15,8 @@ pub enum Reading {
     Fixed,
     /// `# targets`: a list of directives without spans, as `Targets` has them.
     Targets,
+    /// `# levels`: the word or number of a level.
+    Levels,
 }
 
 impl Reading {
@@ -27,6 +29,7 @@ impl Reading {
             "directive" => Reading::Directive,
             "fixed" => Reading::Fixed,
             "targets" => Reading::Targets,
+            "levels" => Reading::Levels,
             _ => self,
         }
     }

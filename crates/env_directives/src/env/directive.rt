@@ -150,8 +150,8 @@ impl Directive {
 }
 
 impl Directive {
-    /// Reads `target[span{field,field=value}]=level`, of which parts may be left out; the values of texts are patterns
-    /// where those are wanted. The error is the first fault from the left; `Pattern` comes only at the value of a text;
+    /// Reads `target[span{field,field=value}]=level`, of which parts may be left out. The error is a fault of the text,
+    /// without `patterns` the first from the left; `Pattern` comes only with them, at the value of a text. It stands for
     /// the parser behind `tracing_subscriber::filter::env::Builder::parse`.
     pub fn parse(alloc: Global, text: &str, patterns: bool) -> Result<Directive, ParseError>
         ensures ok { IfOk result (IsDirective patterns (trim text.now)) }
