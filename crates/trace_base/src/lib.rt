@@ -15,8 +15,6 @@ pub mod no_subscriber;
 pub mod quote;
 pub mod span;
 pub mod subscriber;
-#[cfg(test)]
-mod tests;
 pub mod world;
 
 pub use callsite::{Callsite, Kind, SiteId};
