@@ -1,4 +1,0 @@
-pub mod Families
-pub mod Measures
-pub mod Instruments
-pub mod Waiting
