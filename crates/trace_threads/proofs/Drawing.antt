@@ -159,5 +159,5 @@ notices making slots id me idle live = allows making slots (λ n. n) 0 id me (No
       keeps,
       tt,
       record { turns = turns; owner = owner; place = place; tickets = tickets; home = home; words = refl; homes = refl; ruled = ruled },
-      record { view = refl; begins = f.begins; before = f.before },
+      record { view = refl; begins = f.begins; before = f.before; legal = r.legal },
     ))

@@ -160,6 +160,7 @@ pub record AllSeen (m : Mine) (w : Mine) : Type 0 where
   pub view : w ≡ (view m.0.origin w.0.seen [] m.0.number m.0.mine m.0.other m.0.theirs Idle, m.1)
   pub begins : IsPrefix m.0.seen w.0.seen
   pub before : AllBegin m.0.earlier w.0.seen
+  pub legal : IsLegal m.0.origin.made (entries w.0.seen)
 
 abbrev pub Noticed : Step Slot → Mine → ℕ → Mine → Type 0
 Noticed st m n w = AllSeen m w

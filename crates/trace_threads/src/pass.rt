@@ -2,7 +2,8 @@
 ghost use Rattle.std.specs.Prelude.{◌≡◌};
 ghost use Rattle.std.specs.Arc.{arc_value};
 ghost use mathlib.Core.List.{IsPrefix};
-ghost use Rattle.trace_threads.specs.Turns.{IsSeatOf};
+ghost use Rattle.trace_threads.specs.History.{IsLegal};
+ghost use Rattle.trace_threads.specs.Turns.{IsSeatOf, entries};
 ghost use Rattle.trace_threads.specs.Calls.{IsIdle};
 
 use crate::cell::{see_all, take_in};
@@ -39,13 +40,15 @@ impl Pass {
         Pass { turns, seat }
     }
 
-    /// Takes in another pass of the same span: what either had seen is seen afterwards. It takes no turn and no
-    /// memory, and never waits.
+    /// Takes in another pass of the same span: what either had seen is seen afterwards, and is the beginning of its
+    /// history. It takes no turn and no memory, and never waits.
     pub fn join(&mut self, other: Pass)
         requires span { other.span ≡ self.old.span }
         ensures span { self.new.span ≡ self.old.span }
         ensures seen { IsPrefix self.old.view.seen self.new.view.seen }
         ensures theirs { IsPrefix other.view.seen self.new.view.seen }
+        ensures same { self.new.view.origin ≡ self.old.view.origin }
+        ensures legal { IsLegal self.old.view.origin.made (entries self.new.view.seen) }
     {
         let Pass {
             turns: _,

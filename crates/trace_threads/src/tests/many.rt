@@ -64,6 +64,46 @@ fn by_two<R: Threads + Wait + Sync>(rt: &R, alloc: Global, handle: &mut Handle) 
     }
 }
 
+// The same in four threads.
+#[tactic(auto, using(crate::proofs::Crossing::handle_send))]
+fn by_four<R: Threads + Wait + Sync>(rt: &R, alloc: Global, handle: &mut Handle) -> bool
+    ensures same { IsSameHandle handle.old handle.new }
+    ensures idle { open_of handle.new ≡ open_of handle.old }
+{
+    match handle.clone_handle(rt, 7) {
+        Ok(mut other) => {
+            let (one, two) = join_mut(
+                rt,
+                &mut || by_two(rt, alloc, handle),
+                &mut || by_two(rt, alloc, &mut other),
+            );
+            handle.join(rt, other, 7);
+            one && two
+        }
+        Err(_) => false,
+    }
+}
+
+// The same in eight threads.
+#[tactic(auto, using(crate::proofs::Crossing::handle_send))]
+fn by_eight<R: Threads + Wait + Sync>(rt: &R, alloc: Global, handle: &mut Handle) -> bool
+    ensures same { IsSameHandle handle.old handle.new }
+    ensures idle { open_of handle.new ≡ open_of handle.old }
+{
+    match handle.clone_handle(rt, 7) {
+        Ok(mut other) => {
+            let (one, two) = join_mut(
+                rt,
+                &mut || by_four(rt, alloc, handle),
+                &mut || by_four(rt, alloc, &mut other),
+            );
+            handle.join(rt, other, 7);
+            one && two
+        }
+        Err(_) => false,
+    }
+}
+
 // The state of a span that is made as the shared one, with nobody to share it.
 fn alone(alloc: Global) -> Result<SpanState, Memory> {
     let settings = LayerSettings::default();
@@ -145,18 +185,26 @@ fn is_same(one: &KeyValue, other: &KeyValue) -> bool {
         }
 }
 
-#[test]
-fn two_threads_write(rt: HostRuntime) -> Result<(), Fail> {
-    let mut first = span(rt.alloc())?;
-    let is_done = by_two(&rt, rt.alloc(), &mut first);
-    let Released { pass: _, closed } = first.release(&rt, 11);
-    assert!(rt; is_done);
-    if let Some((history, record)) = closed {
-        let mut next = [0, 0];
-        assert!(rt; is_in_turn(rt.alloc(), history, &record, &mut next)?);
-        assert!(rt; next == [1000, 1000]);
-    } else {
-        assert!(rt; false);
+// Whether a release gave a history that has all writes of each handle in order, and the record that they give.
+fn is_told(alloc: Global, released: Released, next: &mut [i64]) -> Result<bool, Memory> {
+    match released.closed {
+        Some((history, record)) => is_in_turn(alloc, history, &record, next),
+        None => Ok(false),
     }
+}
+
+#[test]
+fn threads_write(rt: HostRuntime) -> Result<(), Fail> {
+    let alloc = rt.alloc();
+    let mut first = span(alloc)?;
+    let is_done = by_two(&rt, alloc, &mut first);
+    let mut next = [0; 2];
+    let is_told_by_two = is_told(alloc, first.release(&rt, 11), &mut next)?;
+    assert!(rt; is_done && is_told_by_two && next == [1000; 2]);
+    let mut first = span(alloc)?;
+    let is_done = by_eight(&rt, alloc, &mut first);
+    let mut next = [0; 8];
+    let is_told_by_eight = is_told(alloc, first.release(&rt, 11), &mut next)?;
+    assert!(rt; is_done && is_told_by_eight && next == [1000; 8]);
     Ok(())
 }
