@@ -187,7 +187,8 @@ fn is_same(one: &KeyValue, other: &KeyValue) -> bool {
 
 // Whether a release gave a history that has all writes of each handle in order, and the record that they give.
 fn is_told(alloc: Global, released: Released, next: &mut [i64]) -> Result<bool, Memory> {
-    match released.closed {
+    let Released { pass: _, closed } = released;
+    match closed {
         Some((history, record)) => is_in_turn(alloc, history, &record, next),
         None => Ok(false),
     }
