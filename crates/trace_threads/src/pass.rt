@@ -40,8 +40,8 @@ impl Pass {
         Pass { turns, seat }
     }
 
-    /// Takes in another pass of the same span: what either had seen is seen afterwards, and is the beginning of its
-    /// history. It takes no turn and no memory, and never waits.
+    /// Takes in another pass of the same span: what it has seen afterwards begins with what either had seen, and is a
+    /// legal history of the span. It takes no turn and no memory, and never waits.
     pub fn join(&mut self, other: Pass)
         requires span { other.span ≡ self.old.span }
         ensures span { self.new.span ≡ self.old.span }

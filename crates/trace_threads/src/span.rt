@@ -15,8 +15,8 @@ use trace_base::callsite::Callsite;
 use trace_base::field::ValueSet;
 use trace_base::lane::Lane;
 
-/// A span that threads share. Handles stand for it: there is no value of this type but to name `make`, and the span
-/// lasts as long as one of its handles is held.
+/// A span that threads share. It lasts as long as one of its handles is held; this type has no value that stands for it,
+/// and only names `make`.
 pub struct SharedSpan;
 
 impl SharedSpan {
