@@ -15,8 +15,8 @@ use Rattle.trace_base.specs.Hooks.{one_if}
 use Rattle.trace_base.proofs.Entering.{count_push, made_if_held, length_held, with_same, with_other}
 use Rattle.trace_base.proofs.Holding.{less_last, less_more, less_holds, holds_set, holds_other}
 use Rattle.trace_base.proofs.Moving.{entry_moves, exit_moves}
-use Rattle.trace_base.specs.Sound.{IsSound}
-use Rattle.trace_base.proofs.Sound.{place_live, exit_live, sound_call}
+use Rattle.trace_base.specs.Sound.{IsSound, OneEach}
+use Rattle.trace_base.proofs.Sound.{place_live, exit_live, sound_entered, sound_exited, sound_call}
 use Rattle.span_registry.specs.Registering.{no_spans}
 use Rattle.span_registry.specs.History.{Runs, entries_after, entries_told, Making, no_making, made_by, made_from, made_told, making_of, is_clone, is_release, IsTold}
 
@@ -99,8 +99,8 @@ told_step : (before : List SubscriberCall) (call : SubscriberCall) (x y : Spans)
     → ((q : ℕ) → (span_at y.made q).holds + cond {A = ℕ} (is_release q call) 1 0 + first_entries x.lanes q ≡ (span_at x.made q).holds + cond {A = ℕ} (is_clone q call) 1 0 + first_entries y.lanes q)
     → ((q : ℕ) → Fits (making_of q before) (span_at y.made q))
     → ((lane : ℕ) → entries_on lane y.lanes ≡ entries_after lane (entries_on lane x.lanes) call)
-    → IsTold before x → IsTold (before ++ call ∷ []) y
-told_step before call x y none long moves fits entries told =
+    → OneEach y.lanes → IsTold before x → IsTold (before ++ call ∷ []) y
+told_step before call x y none long moves fits entries rows told =
     let ms : made_told (before ++ call ∷ []) ≡ made_told before = made_push [] before call ∙ ap (λ (ms : List Making). made_told before ++ ms) none ∙ append-nil (made_told before) in
     let fit : (q : ℕ) → Fits (making_of q (before ++ call ∷ [])) (span_at y.made q) = λ q. subst (λ (xs : List Making). Fits (get_or xs q no_making) (span_at y.made q)) (sym ms) (fits q) in
     record {
@@ -116,6 +116,7 @@ told_step before call x y none long moves fits entries told =
       older = λ q p is. told.older q p (ap (λ (xs : List Making). (get_or xs q no_making).parent) (sym ms) ∙ is);
       next = λ q last. next_told (making_of q (before ++ call ∷ [])) y.made q (fit q) last;
       entries = λ lane. entries lane ∙ ap (λ (ids : List ℕ). entries_after lane ids call) (told.entries lane) ∙ sym (entries_push lane before call);
+      one_row = rows;
     }
 
 -- a span made holds one more of its parent
@@ -214,6 +215,7 @@ told_new before lane at place site callsite values x above is live told =
       older = λ q p e. older_push (made_told before) m told.older (λ p e. (let b = live_under x.made above live p e in omega (arith, b, told.made))) q p (ap (λ (xs : List Making). (get_or xs q no_making).parent) (sym ms) ∙ e);
       next = λ q last. next_told (making_of q (before ++ call ∷ [])) y.made q (fit q) last;
       entries = λ l. told.entries l ∙ sym (entries_push l before call);
+      one_row = told.one_row;
     }
 
 -- the entries of each lane after those of one changed
@@ -234,16 +236,16 @@ if_change f b lane es = elim (cases_eq b.id lane) [
 told_call : (before : List SubscriberCall) (call : SubscriberCall) (x : Spans) → IsSound x → Allowed x call → IsTold before x → IsTold (before ++ call ∷ []) (after x call)
 told_call before (NewSpan lane at place site callsite values) x sound allowed told =
     told_new before lane at place site callsite values x (place_on (entries_on lane.id x.lanes) place) refl (place_live x lane.id place sound allowed) told
-told_call before (Records id at callsite values) x sound allowed told = told_step before (Records id at callsite values) x x refl refl (λ q. omega arith) (told_fits before x told) (λ lane. refl) told
-told_call before (Follows id from at) x sound allowed told = told_step before (Follows id from at) x x refl refl (λ q. omega arith) (told_fits before x told) (λ lane. refl) told
-told_call before (Event lane at place site callsite values) x sound allowed told = told_step before (Event lane at place site callsite values) x x refl refl (λ q. omega arith) (told_fits before x told) (λ lane. refl) told
+told_call before (Records id at callsite values) x sound allowed told = told_step before (Records id at callsite values) x x refl refl (λ q. omega arith) (told_fits before x told) (λ lane. refl) sound.one_row told
+told_call before (Follows id from at) x sound allowed told = told_step before (Follows id from at) x x refl refl (λ q. omega arith) (told_fits before x told) (λ lane. refl) sound.one_row told
+told_call before (Event lane at place site callsite values) x sound allowed told = told_step before (Event lane at place site callsite values) x x refl refl (λ q. omega arith) (told_fits before x told) (λ lane. refl) sound.one_row told
 told_call before (Enter id at pre later) x sound allowed told =
     let ids = entries_on pre.id x.lanes in
     let fits = told_fits before x told in
     told_step before (Enter id at pre later) x (entered x id pre.id) refl (length_if (is_in id ids) x.made (held x.made id) (length x.made) refl (length-set x.made id _))
     (λ q. (let m = entry_moves x id pre.id q allowed in omega (arith, m)))
     (fits_if (λ q. making_of q before) (is_in id ids) x.made (held x.made id) fits (fits_held (λ q. making_of q before) x.made id allowed fits))
-    (λ lane. entries_set pre lane (ids ++ id ∷ []) x.lanes ∙ if_change (λ xs. xs ++ id ∷ []) pre lane x.lanes) told
+    (λ lane. entries_set pre lane (ids ++ id ∷ []) x.lanes ∙ if_change (λ xs. xs ++ id ∷ []) pre lane x.lanes) (sound_entered x id pre.id sound allowed).one_row told
 told_call before (Exit id at pre later) x sound allowed told =
     let ids = entries_on pre.id x.lanes in
     let fits = told_fits before x told in
@@ -251,7 +253,7 @@ told_call before (Exit id at pre later) x sound allowed told =
     told_step before (Exit id at pre later) x (exited x id pre.id) refl (length_if (times_in id ids == 1) (released x.made id) x.made (length x.made) (length-set x.made id _) refl)
     (λ q. (let m = exit_moves x id pre.id q live allowed in omega (arith, m)))
     (fits_if (λ q. making_of q before) (times_in id ids == 1) (released x.made id) x.made (fits_released (λ q. making_of q before) x.made id live fits) fits)
-    (λ lane. entries_set pre lane (without_last (λ x. x == id) ids) x.lanes ∙ if_change (λ xs. without_last (λ x. x == id) xs) pre lane x.lanes) told
+    (λ lane. entries_set pre lane (without_last (λ x. x == id) ids) x.lanes ∙ if_change (λ xs. without_last (λ x. x == id) xs) pre lane x.lanes) (sound_exited x id pre.id sound allowed).one_row told
 told_call before (CloneSpan id) x sound allowed told =
     let within = made_if_held x.made id allowed in
     let now : Span = record (span_at x.made id) { holds = (span_at x.made id).holds + 1 } in
@@ -267,7 +269,7 @@ told_call before (CloneSpan id) x sound allowed told =
           let c = cond-false {A = ℕ} (id == q) 1 0 (ne_eqb id q (λ e. other (sym e))) in
           omega (arith, h, c))
     ])
-    (fits_held (λ q. making_of q before) x.made id allowed (told_fits before x told)) (λ lane. refl) told
+    (fits_held (λ q. making_of q before) x.made id allowed (told_fits before x told)) (λ lane. refl) sound.one_row told
 told_call before (TryClose id at) x sound allowed told =
     let live : 0 < (span_at x.made id).holds = omega (arith, allowed) in
     let within = made_if_held x.made id live in
@@ -285,7 +287,7 @@ told_call before (TryClose id at) x sound allowed told =
           let c = cond-false {A = ℕ} (id == q) 1 0 (ne_eqb id q (λ e. other (sym e))) in
           omega (arith, h, c))
     ])
-    (fits_released (λ q. making_of q before) x.made id live (told_fits before x told)) (λ lane. refl) told
+    (fits_released (λ q. making_of q before) x.made id live (told_fits before x told)) (λ lane. refl) sound.one_row told
 
 -- nothing was called
 told_none : IsTold [] no_spans
@@ -297,6 +299,7 @@ told_none = record {
   older = λ q p e. absurd (cc e);
   next = λ q last. absurd (omega (arith, last));
   entries = λ lane. refl;
+  one_row = tt;
 }
 
 sound_none : IsSound no_spans

@@ -3,6 +3,7 @@ use Rattle.std.specs.Prelude.{◌≡◌, ℕ, ◌+◌, ◌<◌, ◌==◌, if◌t
 use Rattle.trace_base.specs.Spans.{Spans, no_span, span_at, entries_on, first_entries, without_last, place_on, is_child_of, next_of}
 use Rattle.trace_base.specs.Calls.{SubscriberCall, NewSpan, Records, Follows, Event, Enter, Exit, CloneSpan, TryClose}
 use Rattle.trace_base.specs.Hooks.{one_if}
+use Rattle.trace_base.specs.Sound.{OneEach}
 
 -- These calls were made of a subscriber, one after another, and no other call changed it; spare room may have grown.
 abbrev pub Runs : {S : Type 0} → (S → SubscriberCall → S → Type 0) → (S → S → Type 0) → S → List SubscriberCall → S → Type 0
@@ -86,7 +87,8 @@ abbrev pub releases_told : ℕ → List SubscriberCall → ℕ
 releases_told id calls = count_by (is_release id) calls
 
 -- The spans are what the rules say of some calls: a span has the holds of its handles and of its children, without
--- those that were released, and one for each lane that it is entered on.
+-- those that were released, and one for each lane that it is entered on. A lane that something was entered on has one
+-- row, with the entries that the calls tell.
 pub record IsTold (calls : List SubscriberCall) (spans : Spans) : Type 0 where
   pub made : length spans.made ≡ length (made_told calls)
   pub holds : (id : ℕ) → (span_at spans.made id).holds + releases_told id calls ≡ handles_made id calls + children_made id calls + first_entries spans.lanes id
@@ -95,3 +97,4 @@ pub record IsTold (calls : List SubscriberCall) (spans : Spans) : Type 0 where
   pub older : (id p : ℕ) → (making_of id calls).parent ≡ Some p → p < id
   pub next : (id : ℕ) → (span_at spans.made id).holds ≡ 1 → next_of spans.made id ≡ (making_of id calls).parent
   pub entries : (lane : ℕ) → entries_on lane spans.lanes ≡ entries_told lane calls
+  pub one_row : OneEach spans.lanes

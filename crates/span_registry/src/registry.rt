@@ -1,9 +1,10 @@
 //! The registry: who holds a span, when it closes, and which spans each lane has entered.
-ghost use Rattle.std.specs.Prelude.{◌≡◌, ◌<◌, ◌==◌, [], true, false, IfSome, None, if◌then◌else◌};
+ghost use Rattle.std.specs.Prelude.{◌≡◌, ℕ, ◌<◌, ◌==◌, [], true, false, IfSome, None, if◌then◌else◌};
 ghost use Rattle.std.proofs.Common.{refl, ◌∙◌, ap};
 ghost use Rattle.trace_base.specs.declared.lane.Lane.{Lane};
 ghost use Rattle.trace_base.specs.declared.subscriber.Interest.TheVariants as interests;
 ghost use Rattle.trace_base.specs.Spans.{Spans, span_at, entries_on, place_on, held, released, next_of};
+ghost use Rattle.trace_base.specs.Calls.{TryClose};
 ghost use Rattle.trace_base.specs.Conditions.{HasOwnHold, IsLive, HasFewHolds};
 ghost use Rattle.trace_base.specs.Sound.{IsSound};
 ghost use Rattle.span_registry.specs.Registering.{Registered, DoesRegistry, no_spans, registry_same, registry_lanes};
@@ -98,6 +99,7 @@ impl Registry {
         ensures spans { self.new.spans ≡ record self.old.spans { made = released self.old.spans.made id } }
         ensures slots { self.new.slots ≡ self.old.slots }
         ensures next_held { IfSome result (λ p. (p < id) × HasOwnHold self.new.spans p) }
+        ensures did { (at : ℕ) → DoesRegistry self.old (TryClose id at) self.new }
     {
         self.table.release(id).next
     }
