@@ -1,4 +1,4 @@
-//! The registry, and the gate of a world over a layer and a registry.
+//! The registry, the hooks of layers over it, and the gate of a world over a layer and a registry.
 ghost use Rattle.std.specs.Prelude.{◌≡◌, None};
 
 use otel_base::list::Items;
@@ -9,7 +9,9 @@ use trace_base::callsite::{Callsite, Kind};
 use trace_base::lane::Lane;
 use trace_base::level::Level;
 
+mod asked;
 mod gate;
+mod order;
 mod spans;
 
 fn lane(alloc: Global) -> Lane

@@ -1,182 +1,19 @@
-//! The gate of a world, the global subscriber, and the hooks of a layer, over a layer that answers what it is told to.
-ghost use Rattle.std.specs.Prelude.{◌≡◌, ◌<◌, ◌≤◌, length, IfOk, None, false};
-ghost use Rattle.std.proofs.Common.{refl, ap, ◌∙◌};
-ghost use Rattle.trace_base.specs.declared.lane.Lane.{Lane};
-ghost use Rattle.trace_base.specs.Unseeing.{unseeing, LeavesLanes, unseeing_sees, unseeing_lanes};
+//! The gate of a world, and the global subscriber, over a layer that answers what it is told to.
+ghost use Rattle.std.specs.Prelude.{◌≡◌, ◌<◌, ◌≤◌, [], length, IfOk};
 
+use super::asked::Asked;
 use super::{callsite, lane};
 use crate::layered::Layered;
 use crate::registry::Registry;
-use otel_base::enter_error::EnterError;
 use otel_base::memory::Memory;
 use std::alloc::Global;
 use std::test::Fail;
-use trace_base::callsite::Callsite;
 use trace_base::discard::Discard;
 use trace_base::dispatcher::{Dispatch, TryInitError, get_default, set_global_default, try_init};
-use trace_base::field::ValueSet;
 use trace_base::lane::Lane;
-use trace_base::layer::Layer;
 use trace_base::level::{Level, LevelFilter};
-use trace_base::span::{Id, Parent};
 use trace_base::subscriber::Interest;
 use trace_base::world::World;
-
-// Answers what it is told to answer, and knows no span.
-#[derive(Drop)]
-struct Asked {
-    interest: Interest,
-    enables: bool,
-    hint: Option<LevelFilter>,
-}
-
-// What a prepare made: nothing.
-#[derive(Drop)]
-struct Prepared {}
-
-impl Layer for Asked {
-    type Ready = Prepared;
-
-    ghost seen = { λ s. unseeing };
-
-    ghost kept = { λ s lane number. 0 };
-
-    ghost attaches = { λ s. false };
-
-    ghost interest = { λ s c. s.interest };
-
-    ghost enables = { λ s lane c. s.enables };
-
-    ghost hint = { λ s. s.hint };
-
-    ghost is_whole = { λ s. Unit {0} };
-
-    ghost same = { λ s t. t ≡ s };
-
-    ghost does = { λ s hook t. (t ≡ s) × LeavesLanes hook };
-
-    ghost ready = { λ s preparation r. Unit {0} };
-
-    ghost same_refl = { λ s. refl };
-
-    ghost same_trans = { λ s t u h k. k ∙ h };
-
-    ghost same_seen = { λ s t h. refl };
-
-    ghost same_kept = { λ s t h. refl };
-
-    ghost same_attaches = { λ s t h. refl };
-
-    ghost same_gate = { λ s t h. (ap (λ r c. r.interest) h, ap (λ r. r.hint) h) };
-
-    ghost same_enables = { λ s t h. ap (λ r lane c. r.enables) h };
-
-    ghost same_whole = { λ s t h w. w };
-
-    ghost same_does = { λ s t hook u h d. (d.0 ∙ h, d.1) };
-
-    ghost sees = { λ s hook t d. unseeing_sees hook };
-
-    ghost lanes = { λ s hook t d. unseeing_lanes hook d.1 };
-
-    ghost passive = { λ s id at before later t d neither. ap (λ (l : Lane). l.contexts.live) d.1 };
-
-    ghost keeps_attaches = { λ s hook t d. refl };
-
-    ghost keeps_gate = { λ s hook t d. (ap (λ r c. r.interest) d.0, ap (λ r. r.hint) d.0) };
-
-    ghost keeps_whole = { λ s hook t d w. w };
-
-    fn register_callsite(&self, _callsite: &Callsite) -> Interest {
-        self.interest
-    }
-
-    fn enabled(&self, _lane: u64, _callsite: &Callsite) -> bool {
-        self.enables
-    }
-
-    fn max_level_hint(&self) -> Option<LevelFilter> {
-        self.hint
-    }
-
-    fn prepare_new_span(
-        &mut self,
-        _lane: &Lane,
-        _callsite: &Callsite,
-        _values: &ValueSet,
-    ) -> Result<Prepared, Memory> {
-        Ok(Prepared {})
-    }
-
-    fn on_new_span(
-        &mut self,
-        _prepared: Prepared,
-        _id: Id,
-        _lane: &Lane,
-        _at: u64,
-        _parent: Parent,
-        _current: Option<Id>,
-        _callsite: &Callsite,
-        _values: &ValueSet,
-    ) {}
-
-    fn prepare_record(
-        &mut self,
-        _id: Id,
-        _callsite: &Callsite,
-        _values: &ValueSet,
-    ) -> Result<Prepared, Memory> {
-        Ok(Prepared {})
-    }
-
-    fn on_record(
-        &mut self,
-        _prepared: Prepared,
-        _id: Id,
-        _at: u64,
-        _callsite: &Callsite,
-        _values: &ValueSet,
-    ) {}
-
-    fn prepare_follows_from(&mut self, _id: Id, _from: Id) -> Result<Prepared, Memory> {
-        Ok(Prepared {})
-    }
-
-    fn on_follows_from(&mut self, _prepared: Prepared, _id: Id, _from: Id, _at: u64) {}
-
-    fn prepare_event(
-        &mut self,
-        _reached: Option<Id>,
-        _callsite: &Callsite,
-        _values: &ValueSet,
-    ) -> Result<Prepared, Memory> {
-        Ok(Prepared {})
-    }
-
-    fn on_event(
-        &mut self,
-        _prepared: Prepared,
-        _reached: Option<Id>,
-        _lane: &Lane,
-        _at: u64,
-        _callsite: &Callsite,
-        _values: &ValueSet,
-    ) {}
-
-    fn prepare_enter(&mut self, _id: Id, _lane: &mut Lane) -> Result<Prepared, EnterError> {
-        Ok(Prepared {})
-    }
-
-    fn on_enter(&mut self, _prepared: Prepared, _id: Id, _lane: &mut Lane, _at: u64) {}
-
-    fn on_exit(&mut self, _id: Id, _lane: &mut Lane, _at: u64) {}
-
-    fn on_close(&mut self, _id: Id, _at: u64) {}
-}
-
-impl Discard for Asked {
-    fn discard(self) {}
-}
 
 // The registry with such a layer over it, added to a world.
 fn add(
@@ -202,6 +39,7 @@ fn always() -> Asked {
         interest: Interest::Always,
         enables: true,
         hint: None,
+        notes: None,
     }
 }
 
@@ -273,17 +111,20 @@ fn admits_by_interest_hint_and_answer(rt: HostRuntime) {
             interest,
             enables,
             hint,
+            notes: None,
         };
         assert_eq!(rt; gated(rt.alloc(), layer), Ok(wanted));
     }
 }
 
-// The gate's answers without a subscriber, with one, after its interest changed, and after a rebuild.
-fn rebuilt(
-    alloc: Global,
-    world: &mut World<Layered<Asked, Registry>>,
-) -> Result<[bool; 4], Memory> {
+// The gate's answers without a subscriber, with one, after its interest changed, and after a rebuild; and whether the
+// place of the callsite names it, and it and the subscriber are read back.
+fn rebuilt(alloc: Global, world: &mut World<Layered<Asked, Registry>>) -> Result<[bool; 7], Memory>
+    requires { world.old.sites ≡ [] }
+{
     let site = world.add_site(callsite(alloc, Level::INFO))?;
+    let named = world.site_at(0) == Some(site) && world.site_at(1) == None;
+    let found = world.site(site).level == Level::INFO;
     let mut lane = lane(alloc);
     let none = world.admits(&lane, site);
     let dispatch = add(alloc, world, always())?;
@@ -291,8 +132,10 @@ fn rebuilt(
     let fresh = world.admits(&lane, site);
     world.subscriber_mut(dispatch).layer_mut().interest = Interest::Never;
     let stale = world.admits(&lane, site);
+    let answers = world.subscriber(dispatch).layer().interest == Interest::Never;
     world.rebuild_interest()?;
-    Ok([none, fresh, stale, world.admits(&lane, site)])
+    let rebuilt = world.admits(&lane, site);
+    Ok([none, fresh, stale, rebuilt, named, found, answers])
 }
 
 #[test]
@@ -300,5 +143,5 @@ fn caches_interests_until_they_are_rebuilt(rt: HostRuntime) {
     let mut world = World::new(rt.alloc());
     let told = rebuilt(rt.alloc(), &mut world);
     world.discard();
-    assert_eq!(rt; told, Ok([false, true, true, false]));
+    assert_eq!(rt; told, Ok([false, true, true, false, true, true, true]));
 }

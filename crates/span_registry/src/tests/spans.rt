@@ -22,14 +22,14 @@ use trace_base::world::World;
 
 // What a span is made of.
 #[derive(Drop)]
-struct Making {
-    lane: Lane,
-    site: SiteId,
-    callsite: Callsite,
-    values: ValueSet,
+pub(super) struct Making {
+    pub(super) lane: Lane,
+    pub(super) site: SiteId,
+    pub(super) callsite: Callsite,
+    pub(super) values: ValueSet,
 }
 
-fn prepared(alloc: Global, sites: &mut World<Registry>) -> Result<Making, Memory>
+pub(super) fn prepared(alloc: Global, sites: &mut World<Registry>) -> Result<Making, Memory>
     ensures { IfOk result (λ making. making.lane.id ≡ 1) }
 {
     Ok(Making {
