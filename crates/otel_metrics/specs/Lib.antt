@@ -1,0 +1,4 @@
+pub mod Families
+pub mod Measures
+pub mod Instruments
+pub mod Waiting

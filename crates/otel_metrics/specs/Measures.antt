@@ -1,0 +1,111 @@
+-- What the values of an event are: numbers for instruments, attributes, or nothing.
+use Rattle.std.specs.Prelude.{ℕ, ℤ, pos, negsuc, List, [], Option, None, Some, if◌then◌else◌, slice_get, nat_lt, ◌^◌, map, flat_map, option_map}
+use Rattle.std.specs.Option.{option_to_list, option_map_or}
+use Rattle.std.specs.Fmt.{decimal, signed_decimal}
+use Rattle.otel_base.specs.declared.value.KeyValue.{KeyValue}
+use Rattle.otel_base.specs.declared.value.OtelValue.{OtelValue}
+use Rattle.otel_base.specs.declared.value.OtelValue.TheVariants as told
+use Rattle.trace_base.specs.declared.callsite.Callsite.{Callsite}
+use Rattle.trace_base.specs.declared.field.Value.{Value}
+use Rattle.trace_base.specs.declared.field.Value.TheVariants as given
+use Rattle.trace_base.specs.declared.field.ValueSet.{ValueSet}
+use Rattle.otel_metrics.specs.declared.family.Family.{Family}
+use Rattle.otel_metrics.specs.declared.family.Family.TheVariants.{Gauge, MonotonicCounter, Counter, Histogram}
+use Rattle.otel_metrics.specs.declared.measure.Measure.{Measure}
+use Rattle.otel_metrics.specs.declared.measure.MetricKind.{MetricKind}
+use Rattle.otel_metrics.specs.declared.measure.MetricKind.TheVariants.{CounterU64, UpDownCounterI64, HistogramU64, GaugeU64, GaugeI64}
+use Rattle.otel_metrics.specs.declared.visitor.Number.{Number}
+use Rattle.otel_metrics.specs.Families.{family_of, is_metrics_event}
+
+-- whether a number is one of 63 bits
+abbrev pub if_short : {A : Type 0} → ℕ → A → Option A
+if_short n a = if nat_lt n (2 ^ 63) then Some a else None
+
+-- ---- numbers
+
+-- what a number from 0 on is to an instrument of a family
+abbrev pub natural_told : Family → ℕ → Option (MetricKind × ℤ)
+natural_told Gauge n = Some (GaugeU64, pos n)
+natural_told MonotonicCounter n = Some (CounterU64, pos n)
+natural_told Counter n = if_short n (UpDownCounterI64, pos n)
+natural_told Histogram n = Some (HistogramU64, pos n)
+
+-- what a signed number is to one: a monotonic counter doesn't fall, and no signed number is one of a histogram
+abbrev pub signed_told : Family → ℤ → Option (MetricKind × ℤ)
+signed_told Gauge z = Some (GaugeI64, z)
+signed_told MonotonicCounter (pos n) = Some (CounterU64, pos n)
+signed_told MonotonicCounter (negsuc n) = None
+signed_told Counter z = Some (UpDownCounterI64, z)
+signed_told Histogram z = None
+
+abbrev pub number_told : Family → Value → Option (MetricKind × ℤ)
+number_told family (given.U64 n) = natural_told family n
+number_told family (given.I64 z) = signed_told family z
+number_told family _ = None
+
+abbrev pub named : List ℕ → MetricKind × ℤ → Number
+named name n = record { kind = n.0; name = name; value = n.1 }
+
+-- the number of a field of a family
+abbrev pub number_of : Option (Family × List ℕ) → Value → Option Number
+number_of None value = None
+number_of (Some family) value = option_map (named family.1) (number_told family.0 value)
+
+-- ---- attributes
+
+-- a number is an attribute where no instrument takes it for its name
+abbrev pub natural_kept : Option Family → ℕ → Option OtelValue
+natural_kept None n = if_short n (told.I64 (pos n))
+natural_kept (Some family) n = None
+
+abbrev pub signed_kept : Option Family → ℤ → Option OtelValue
+signed_kept None z = Some (told.I64 z)
+signed_kept (Some Histogram) z = Some (told.I64 z)
+signed_kept (Some family) z = None
+
+-- all else is an attribute as it is, or by its text
+abbrev pub kept : Option Family → Value → Option OtelValue
+kept family (given.U64 n) = natural_kept family n
+kept family (given.I64 z) = signed_kept family z
+kept family (given.Bool b) = Some (told.Bool b)
+kept family (given.Str text) = Some (told.Str text)
+kept family (given.Debug text) = Some (told.Str text)
+kept family (given.I128 z) = Some (told.Str (signed_decimal z))
+kept family (given.U128 n) = Some (told.Str (decimal n))
+kept family (given.Error message chain) = Some (told.Str message)
+
+abbrev pub keyed : List ℕ → OtelValue → KeyValue
+keyed name value = record { key = name; value = value }
+
+abbrev pub attribute_in : Option Family → List ℕ → Value → Option KeyValue
+attribute_in family name value = option_map (keyed name) (kept family value)
+
+-- the attribute of a field, under its whole name
+abbrev pub attribute_of : List ℕ → Value → Option KeyValue
+attribute_of name value = attribute_in (option_map (λ f. f.0) (family_of name)) name value
+
+-- ---- events
+
+-- what the value at a place of a callsite's fields is; one at a place past the fields is nothing
+abbrev pub at_place : {A : Type 0} → (List ℕ → Value → Option A) → Callsite → ℕ × Value → List A
+at_place of c pair = option_map_or (λ name. option_to_list (of name pair.1)) (slice_get c.fields pair.0) []
+
+abbrev pub number_at : Callsite → ℕ × Value → List Number
+number_at = at_place (λ name value. number_of (family_of name) value)
+
+abbrev pub attribute_at : Callsite → ℕ × Value → List KeyValue
+attribute_at = at_place attribute_of
+
+-- the numbers and the attributes of an event, in the order of its values
+abbrev pub numbers : Callsite → ValueSet → List Number
+numbers c values = flat_map (number_at c) values.pairs
+
+abbrev pub attributes : Callsite → ValueSet → List KeyValue
+attributes c values = flat_map (attribute_at c) values.pairs
+
+-- the measures: each number, with all attributes of the event
+abbrev pub measure_of : List KeyValue → Number → Measure
+measure_of attributes n = record { kind = n.kind; name = n.name; value = n.value; attributes = attributes }
+
+abbrev pub measures : Callsite → ValueSet → List Measure
+measures c values = if is_metrics_event c then map (measure_of (attributes c values)) (numbers c values) else []
