@@ -1,12 +1,18 @@
 -- Which handles a world goes on to know.
-use Rattle.std.proofs.Common.{◌≡◌, ℕ, zero, suc, ◌+◌, ◌-◌, ◌<◌, ◌≤◌, List, [], ◌∷◌, ◌++◌, length, Bool, true, false, cond, get_or, Option, Some, None, refl, sym, ap, subst, ◌∙◌, arith, inl, inr, slice_get, slice_set}
-use Rattle.std.specs.Prelude.{if◌then◌else◌, ◌==◌, IfSome}
+use Rattle.std.proofs.Common.{◌≡◌, ℕ, zero, suc, ◌+◌, ◌-◌, ◌<◌, ◌≤◌, List, [], ◌∷◌, ◌++◌, length, Bool, true, false, cond, get_or, Option, Some, None, Result, Ok, Err, refl, sym, ap, subst, ◌∙◌, arith, inl, inr, slice_get, slice_set}
+use Rattle.std.specs.Prelude.{if◌then◌else◌, ◌==◌, IfSome, OnOk, OnErr}
 use Rattle.std.proofs.lemmas.Bool.{cases_Bool, cases_eq, cond-true, cond-false, eq-eqb, ne_eqb, eqb-true, eqb-false}
 use Rattle.std.proofs.lemmas.List.{get_or_append_left}
+use Rattle.trace_base.specs.declared.callsite.Callsite.{Callsite}
+use Rattle.trace_base.specs.declared.field.ValueSet.{ValueSet}
+use Rattle.trace_base.specs.declared.lane.Lane.{Lane}
+use Rattle.trace_base.specs.declared.span.Parent.{Parent}
 use Rattle.trace_base.specs.Gate.{Worlds}
 use Rattle.trace_base.specs.Spans.{Span, Spans, no_span, span_at, entries_on, is_in, times_in, is_child_of, is_open_child, open_children, bound_holds, held, less_held, released, held_by_child, place_on, next_of}
 use Rattle.trace_base.specs.Calls.{SubscriberCall, NewSpan, Records, Follows, Event, Enter, Exit, CloneSpan, TryClose, after, with_span, entered, exited}
 use Rattle.trace_base.specs.Conditions.{Allowed, IsLive, HasOwnHold, MayExit}
+use Rattle.trace_base.specs.Sound.{IsSound}
+use Rattle.trace_base.proofs.Sound.{place_live, exit_live, new_own, clone_own}
 use Rattle.trace_base.proofs.Entering.{count_push, made_if_held}
 use Rattle.trace_base.proofs.Holding.{children_set, same_child, keeps_children, less_last, less_more, less_holds, holds_set, holds_other}
 use Rattle.trace_base.proofs.Moving.{entry_moves, exit_moves}
@@ -61,9 +67,9 @@ push_own x new q own =
     let h = ap (λ (s : Span). s.holds) (get_or_append_left x.made (new ∷ []) no_span q within) in
     omega (arith, children, h, own)
 
-new_own : (x : Spans) (above : Option ℕ) (site q : ℕ) → IfSome above (λ p. IsLive x.made p) → HasOwnHold x q → HasOwnHold (with_span x above site) q
-new_own x None site q live own = push_own x (record { holds = 1; parent = None; site = site }) q (omega (arith, own))
-new_own x (Some p) site q live own =
+new_keeps : (x : Spans) (above : Option ℕ) (site q : ℕ) → IfSome above (λ p. IsLive x.made p) → HasOwnHold x q → HasOwnHold (with_span x above site) q
+new_keeps x None site q live own = push_own x (record { holds = 1; parent = None; site = site }) q (omega (arith, own))
+new_keeps x (Some p) site q live own =
     let within = made_if_held x.made p live in
     let now : Span = record (span_at x.made p) { holds = (span_at x.made p).holds + 1 } in
     let children = keeps_children x.made p now within refl live (omega arith) q in
@@ -80,15 +86,15 @@ new_own x (Some p) site q live own =
     ])
 
 -- a call that isn't a release
-call_own : (x : Spans) (call : SubscriberCall) (q : ℕ) → Allowed x call → TakesNoHold x call → HasOwnHold x q → HasOwnHold (after x call) q
-call_own x (NewSpan lane at place site callsite values) q allowed takes own = new_own x (place_on (entries_on lane.id x.lanes) place) site q takes own
-call_own x (Records id at callsite values) q allowed takes own = own
-call_own x (Follows id from at) q allowed takes own = own
-call_own x (Event lane at place site callsite values) q allowed takes own = own
-call_own x (Enter id at before later) q allowed takes own = (let m = entry_moves x id before.id q allowed in let c = entered_children x id before.id q allowed in omega (arith, m, c, own))
-call_own x (Exit id at before later) q allowed takes own = (let m = exit_moves x id before.id q takes allowed in let c = exited_children x id before.id q allowed in omega (arith, m, c, own))
-call_own x (CloneSpan id) q allowed takes own = held_own x id q allowed own
-call_own x (TryClose id at) q allowed takes own = absurd takes
+call_own : (x : Spans) (call : SubscriberCall) (q : ℕ) → IsSound x → Allowed x call → TakesNoHold call → HasOwnHold x q → HasOwnHold (after x call) q
+call_own x (NewSpan lane at place site callsite values) q sound allowed takes own = new_keeps x (place_on (entries_on lane.id x.lanes) place) site q (place_live x lane.id place sound allowed) own
+call_own x (Records id at callsite values) q sound allowed takes own = own
+call_own x (Follows id from at) q sound allowed takes own = own
+call_own x (Event lane at place site callsite values) q sound allowed takes own = own
+call_own x (Enter id at before later) q sound allowed takes own = (let m = entry_moves x id before.id q allowed in let c = entered_children x id before.id q allowed in omega (arith, m, c, own))
+call_own x (Exit id at before later) q sound allowed takes own = (let m = exit_moves x id before.id q (exit_live x id before.id sound allowed) allowed in let c = exited_children x id before.id q allowed in omega (arith, m, c, own))
+call_own x (CloneSpan id) q sound allowed takes own = held_own x id q allowed own
+call_own x (TryClose id at) q sound allowed takes own = absurd takes
 
 -- a span has a hold of its own, and another one where it is released next
 record OwnUnder (next : Option ℕ) (x : Spans) (q : ℕ) : Type 0 where
@@ -178,19 +184,27 @@ module _ {S : Type 0} (spans : S → Spans) (R : S → S → Type 0) (old new : 
     ],
   )
 
-pub keeps_call : {S : Type 0} (spans : S → Spans) (does : S → SubscriberCall → S → Type 0) → ((s : S) (call : SubscriberCall) (t : S) → does s call t → Allowed (spans s) call)
+pub keeps_call : {S : Type 0} (spans : S → Spans) (does : S → SubscriberCall → S → Type 0) → ((s : S) (call : SubscriberCall) (t : S) → does s call t → IsSound (spans s)) → ((s : S) (call : SubscriberCall) (t : S) → does s call t → Allowed (spans s) call)
     → ((s : S) (call : SubscriberCall) (t : S) → does s call t → spans t ≡ after (spans s) call)
-    → (old new : Worlds S) (dispatch : ℕ) (call : SubscriberCall) → Replaced (λ s t. does s call t) old new dispatch → Has (λ s. TakesNoHold (spans s) call) old dispatch → KeepsKnown spans old new
-keeps_call spans does allowed shows old new dispatch call r takes None known = tt
-keeps_call {S} spans does allowed shows old new dispatch call r takes (Some h) known =
+    → (old new : Worlds S) (dispatch : ℕ) (call : SubscriberCall) → Replaced (λ s t. does s call t) old new dispatch → TakesNoHold call → KeepsKnown spans old new
+keeps_call spans does sound allowed shows old new dispatch call r takes None known = tt
+keeps_call {S} spans does sound allowed shows old new dispatch call r takes (Some h) known =
     let R : S → S → Type 0 = λ s t. does s call t in
     known_by spans R old new dispatch r h.0 h.1
-    (λ here own. subst (λ (x : Spans). HasOwnHold x h.1) (sym (shows r.before call r.later r.did)) (call_own (spans r.before) call h.1 (allowed r.before call r.later r.did) (takes r.before r.there) own)) known
+    (λ here own. subst (λ (x : Spans). HasOwnHold x h.1) (sym (shows r.before call r.later r.did)) (call_own (spans r.before) call h.1 (sound r.before call r.later r.did) (allowed r.before call r.later r.did) takes own)) known
 
 pub keeps_same : {S : Type 0} (spans : S → Spans) (same : S → S → Type 0) → ((s t : S) → same s t → spans t ≡ spans s) → (old new : Worlds S) (dispatch : ℕ) → Replaced same old new dispatch → KeepsKnown spans old new
 keeps_same spans same same_spans old new dispatch r None known = tt
 keeps_same spans same same_spans old new dispatch r (Some h) known =
     known_by spans same old new dispatch r h.0 h.1 (λ here own. subst (λ (x : Spans). HasOwnHold x h.1) (sym (same_spans r.before r.later r.did)) own) known
+
+-- an entry, whether it was refused or not
+pub keeps_entry : {S T E : Type 0} (spans : S → Spans) (does : S → SubscriberCall → S → Type 0) → ((s : S) (call : SubscriberCall) (t : S) → does s call t → IsSound (spans s)) → ((s : S) (call : SubscriberCall) (t : S) → does s call t → Allowed (spans s) call)
+    → ((s : S) (call : SubscriberCall) (t : S) → does s call t → spans t ≡ after (spans s) call) → (same : S → S → Type 0) → ((s t : S) → same s t → spans t ≡ spans s)
+    → (old : Worlds S) (dispatch : ℕ) (s t : S) (call : SubscriberCall) → slice_get old.subscribers dispatch ≡ Some s → (result : Result T E) → OnOk result (does s call t) → TakesNoHold call → OnErr result (same s t)
+    → KeepsKnown spans old (record old { subscribers = slice_set old.subscribers dispatch t })
+keeps_entry spans does sound allowed shows same same_spans old dispatch s t call there (Ok x) did takes left = keeps_call spans does sound allowed shows old (record old { subscribers = slice_set old.subscribers dispatch t }) dispatch call (record { before = s; later = t; there = there; did = did; others = refl }) takes
+keeps_entry spans does sound allowed shows same same_spans old dispatch s t call there (Err e) did takes left = keeps_same spans same same_spans old (record old { subscribers = slice_set old.subscribers dispatch t }) dispatch (record { before = s; later = t; there = there; did = left; others = refl })
 
 pub keeps_chain : {S : Type 0} (spans : S → Spans) (does : S → SubscriberCall → S → Type 0) → ((s : S) (call : SubscriberCall) (t : S) → does s call t → Allowed (spans s) call)
     → ((s : S) (call : SubscriberCall) (t : S) → does s call t → spans t ≡ after (spans s) call)
@@ -199,3 +213,30 @@ keeps_chain {S} spans does allowed shows old new dispatch at id r d q apart know
     let R : S → S → Type 0 = λ s t. Chain spans does at (Some id) s t in
     known_by spans R old new dispatch r d q
     (λ here own. chain_own spans does allowed shows at (Some id) r.before r.later r.did q (record { own = own; two = λ e. absurd (apart here (let k : q ≡ id = cc e in k)) })) known
+
+-- a handle just made is known, and so is a copy
+module _ {S : Type 0} (spans : S → Spans) (does : S → SubscriberCall → S → Type 0) (sound : (s : S) (call : SubscriberCall) (t : S) → does s call t → IsSound (spans s))
+    (allowed : (s : S) (call : SubscriberCall) (t : S) → does s call t → Allowed (spans s) call) (shows : (s : S) (call : SubscriberCall) (t : S) → does s call t → spans t ≡ after (spans s) call)
+    (old new : Worlds S) (dispatch id : ℕ) (there : dispatch < length old.subscribers) where
+  pub made_known : (lane : Lane) (at : ℕ) (place : Parent) (site : ℕ) (callsite : Callsite) (values : ValueSet)
+      → Replaced (λ s t. (id ≡ length (spans s).made) × does s (NewSpan lane at place site callsite values) t) old new dispatch → IsKnown spans new (Some (dispatch, id))
+  made_known lane at place site callsite values r =
+      let call : SubscriberCall = NewSpan lane at place site callsite values in
+      let R : S → S → Type 0 = λ s t. (id ≡ length (spans s).made) × does s call t in
+      let x = spans r.before in
+      let above = place_on (entries_on lane.id x.lanes) place in
+      let fine = sound r.before call r.later r.did.1 in
+      let own = new_own x above site fine (place_live x lane.id place fine (allowed r.before call r.later r.did.1)) in
+      let own_id = subst (λ (k : ℕ). HasOwnHold (with_span x above site) k) (sym r.did.0) own in (
+        (let n = as_many R old new dispatch r in omega (arith, n, there)),
+        λ s here. subst (λ (t : S). HasOwnHold (spans t) id) (the_later spans R old new dispatch r s here) (subst (λ (y : Spans). HasOwnHold y id) (sym (shows r.before call r.later r.did.1)) own_id),
+      )
+
+  pub copy_known : Replaced (λ s t. does s (CloneSpan id) t) old new dispatch → IsKnown spans new (Some (dispatch, id))
+  copy_known r =
+      let call : SubscriberCall = CloneSpan id in
+      let R : S → S → Type 0 = λ s t. does s call t in
+      let own = clone_own (spans r.before) id (sound r.before call r.later r.did) (allowed r.before call r.later r.did) in (
+        (let n = as_many R old new dispatch r in omega (arith, n, there)),
+        λ s here. subst (λ (t : S). HasOwnHold (spans t) id) (the_later spans R old new dispatch r s here) (subst (λ (y : Spans). HasOwnHold y id) (sym (shows r.before call r.later r.did)) own),
+      )

@@ -6,13 +6,13 @@ use Rattle.trace_base.specs.Gate.{Worlds}
 use Rattle.trace_base.specs.Spans.{Spans, next_of, span_at}
 use Rattle.trace_base.specs.Calls.{SubscriberCall, TryClose, after}
 use Rattle.trace_base.specs.Conditions.{Allowed}
-use Rattle.span_handles.specs.Worlds.{Replaced, seen, Chain, ended, closes, all_released, releases, closed_in, no_spans, ToldChain}
+use Rattle.span_handles.specs.Worlds.{Replaced, seen, Chain, ended, closes, all_released, releases, closed_in, no_spans, ToldChain, AreToldBy}
 use Rattle.span_handles.proofs.Showing.{seen_before, seen_later}
 
-module _ {S : Type 0} (spans : S → Spans) (does : S → SubscriberCall → S → Type 0)
+module _ {S A : Type 0} (spans : S → Spans) (does : S → SubscriberCall → S → Type 0)
     (allowed : (s : S) (call : SubscriberCall) (t : S) → does s call t → Allowed (spans s) call) (shows : (s : S) (call : SubscriberCall) (t : S) → does s call t → spans t ≡ after (spans s) call)
-    (read : S → List ℕ) (close : List ℕ → ℕ → List ℕ)
-    (tells : (s : S) (id at : ℕ) (t : S) → does s (TryClose id at) t → ((span_at (spans s).made id).holds ≡ 1 → read t ≡ close (read s) id) × (((span_at (spans s).made id).holds ≡ 1 → ⊥) → read t ≡ read s)) (at : ℕ) where
+    (read : S → A) (none : A) (close : A → ℕ → A)
+    (tells : AreToldBy spans does read close) (at : ℕ) where
   told_chain : (next : Option ℕ) (s t : S) → Chain spans does at next s t → (x : Spans) → x ≡ spans s → ToldChain close next x (spans t) (read s) (read t)
   told_chain _ _ _ (ended s) x is = subst (λ (z : Spans). ToldChain close None z (spans s) (read s) (read s)) (sym is) (record { chain = all_released (spans s); told = refl })
   told_chain _ _ _ (closes id s m t did rest) x is =
@@ -26,13 +26,13 @@ module _ {S : Type 0} (spans : S → Spans) (does : S → SubscriberCall → S �
       record {
         chain = releases id at (spans s) (spans t) (allowed s (TryClose id at) m did) more.chain;
         told = elim (cases_eq holds 1) [
-          | inl last ↦ more.told ∙ ap (λ (l : List ℕ). fold close l those) (says.0 last) ∙ ap (λ (ids : List ℕ). fold close (read s) ids) (sym (cond-true {A = List ℕ} (holds == 1) (id ∷ those) those (eq-eqb holds 1 last)))
-          | inr several ↦ more.told ∙ ap (λ (l : List ℕ). fold close l those) (says.1 several) ∙ ap (λ (ids : List ℕ). fold close (read s) ids) (sym (cond-false {A = List ℕ} (holds == 1) (id ∷ those) those (ne_eqb holds 1 several)))
+          | inl last ↦ more.told ∙ ap (λ (l : A). fold close l those) (says.0 last) ∙ ap (λ (ids : List ℕ). fold close (read s) ids) (sym (cond-true {A = List ℕ} (holds == 1) (id ∷ those) those (eq-eqb holds 1 last)))
+          | inr several ↦ more.told ∙ ap (λ (l : A). fold close l those) (says.1 several) ∙ ap (λ (ids : List ℕ). fold close (read s) ids) (sym (cond-false {A = List ℕ} (holds == 1) (id ∷ those) those (ne_eqb holds 1 several)))
         ];
       })
 
   pub told_world : (old new : Worlds S) (dispatch id : ℕ) → Replaced (λ s t. Chain spans does at (Some id) s t) old new dispatch
-      → ToldChain close (Some id) (seen spans no_spans old dispatch) (seen spans no_spans new dispatch) (seen read [] old dispatch) (seen read [] new dispatch)
+      → ToldChain close (Some id) (seen spans no_spans old dispatch) (seen spans no_spans new dispatch) (seen read none old dispatch) (seen read none new dispatch)
   told_world old new dispatch id r =
       let R : S → S → Type 0 = λ s t. Chain spans does at (Some id) s t in
-      rw (seen_before R old new dispatch r spans no_spans, seen_later R old new dispatch r spans no_spans, seen_before R old new dispatch r read [], seen_later R old new dispatch r read []) (told_chain (Some id) r.before r.later r.did (spans r.before) refl)
+      rw (seen_before R old new dispatch r spans no_spans, seen_later R old new dispatch r spans no_spans, seen_before R old new dispatch r read none, seen_later R old new dispatch r read none) (told_chain (Some id) r.before r.later r.did (spans r.before) refl)

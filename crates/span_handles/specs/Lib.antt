@@ -1,4 +1,5 @@
 pub mod Entries
 pub mod Handles
 pub mod Knowing
+pub mod Single
 pub mod Worlds

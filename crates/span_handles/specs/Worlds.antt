@@ -72,6 +72,11 @@ pub record ChainShown {S : Type 0} (spans : S → Spans) (attaches : S → Bool)
   pub whole : Has is_whole old dispatch → Has is_whole new dispatch
 
 -- what the closes of a chain make of something else that a subscriber keeps: one change for each span that closes, in order
-pub record ToldChain (close : List ℕ → ℕ → List ℕ) (next : Option ℕ) (x y : Spans) (before later : List ℕ) : Type 0 where
+pub record ToldChain {A : Type 0} (close : A → ℕ → A) (next : Option ℕ) (x y : Spans) (before later : A) : Type 0 where
   pub chain : Released next x y
   pub told : later ≡ fold close before (closed_in next x y chain)
+
+-- a close of a span changes what is read of a subscriber once, and a release of another hold leaves it
+abbrev pub AreToldBy : {S A : Type 0} → (S → Spans) → (S → SubscriberCall → S → Type 0) → (S → A) → (A → ℕ → A) → Type 0
+AreToldBy {S} spans does read close = (s : S) (id at : ℕ) (t : S) → does s (TryClose id at) t
+    → ((span_at (spans s).made id).holds ≡ 1 → read t ≡ close (read s) id) × (((span_at (spans s).made id).holds ≡ 1 → ⊥) → read t ≡ read s)

@@ -5,7 +5,7 @@ ghost use Rattle.trace_base.specs.Calls.{CloneSpan, Follows};
 ghost use Rattle.trace_base.specs.declared.span.Parent.TheVariants as parent;
 ghost use Rattle.trace_base.specs.Conditions.{HasFewHolds, HasFewHoldsAbove, HasOwnHold, IsLive};
 ghost use Rattle.span_handles.specs.Worlds.{Has, Replaced, Chain};
-ghost use Rattle.span_handles.specs.Handles.{MayMake, MayMakeIf, Makes, MakesIf, IsCurrent, ReplacedIf, RecordsAt, ClosesOn};
+ghost use Rattle.span_handles.specs.Handles.{IsKnown, MayMake, MayMakeIf, Makes, MakesIf, IsCurrent, ReplacedIf, RecordsAt, ClosesOn};
 
 use crate::span::Span;
 use otel_base::memory::Memory;
@@ -31,6 +31,7 @@ pub(crate) fn make_if<S: Subscriber>(
     requires may { MayMakeIf S.spans S.is_whole world.old lane.now.id parent dispatch }
     ensures ok { IfOk result
         (MakesIf S.spans S.does world.old world.new lane.now at parent site values.now dispatch) }
+    ensures known { IfOk result (λ handle. IsKnown S.spans world.new handle.held) }
     ensures memory_leaves { OnErr result (ReplacedIf S.same world.old world.new dispatch) }
 {
     match dispatch {
@@ -53,6 +54,7 @@ pub(crate) fn make<S: Subscriber>(
     requires may { MayMake S.spans S.is_whole world.old lane.now.id parent dispatch }
     ensures ok { IfOk result
         (Makes S.spans S.does world.old world.new lane.now at parent site values.now dispatch) }
+    ensures known { IfOk result (λ handle. IsKnown S.spans world.new handle.held) }
     ensures memory_leaves { OnErr result (Replaced S.same world.old world.new dispatch) }
 {
     let (subscriber, callsite) = world.subscriber_and_site(dispatch, site);
@@ -68,7 +70,8 @@ pub(crate) fn current_in<S: Subscriber>(world: &mut World<S>, dispatch: Dispatch
     requires there { dispatch < length world.old.subscribers }
     requires whole { Has S.is_whole world.old dispatch }
     requires few_holds { Has (λ s. HasFewHoldsAbove (S.spans s) lane parent.Current) world.old dispatch }
-    ensures { IsCurrent S.spans S.does world.old world.new lane (Some dispatch) result }
+    ensures value { IsCurrent S.spans S.does world.old world.new lane (Some dispatch) result }
+    ensures known { IsKnown S.spans world.new result.held }
 {
     match world.subscriber(dispatch).current_span(lane) {
         None => Span::none(),
@@ -88,7 +91,8 @@ pub(crate) fn hold<S: Subscriber>(world: &mut World<S>, dispatch: Dispatch, id: 
     requires whole { Has S.is_whole world.old dispatch }
     requires live { Has (λ s. IsLive (S.spans s).made id) world.old dispatch }
     requires few_holds { Has (λ s. HasFewHolds (S.spans s).made id) world.old dispatch }
-    ensures { Replaced (λ s t. S.does s (CloneSpan id) t) world.old world.new dispatch }
+    ensures did { Replaced (λ s t. S.does s (CloneSpan id) t) world.old world.new dispatch }
+    ensures known { IsKnown S.spans world.new (Some (dispatch, id)) }
 {
     world.subscriber_mut(dispatch).clone_span(id);
 }

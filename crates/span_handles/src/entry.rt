@@ -6,6 +6,7 @@ ghost use Rattle.trace_base.specs.Conditions.{HasFewHolds, IsLive, MayExit};
 ghost use Rattle.trace_base.specs.Contexts.{AreAttached, KeepsLive};
 ghost use Rattle.span_handles.specs.Worlds.{Has, Replaced};
 ghost use Rattle.span_handles.specs.Handles.{IsKnown, HasOn, ReplacedOn};
+ghost use Rattle.span_handles.specs.Knowing.{KeepsKnown};
 ghost use Rattle.span_handles.specs.Entries.{IsThere, LeavesLane, MeetsFullLane};
 
 use crate::span::Span;
@@ -71,6 +72,7 @@ impl Span {
             (ReplacedOn (λ id s t. S.does s (Enter id at lane.old lane.new) t) world.old world.new
             self.now.held) }
         ensures none { self.now.held ≡ None → lane.new ≡ lane.old }
+        ensures known { IsKnown S.spans world.new self.now.held }
         ensures leaves { OnErr result (ReplacedOn (λ id s t. S.same s t) world.old world.new self.now.held) }
         ensures lane_leaves { OnErr result (LeavesLane lane.old lane.new) }
         ensures full { result ≡ Err Full → MeetsFullLane S.activates world.old lane.old self.now.held }
@@ -103,6 +105,7 @@ impl Span {
         ensures did { ReplacedOn (λ id s t. S.does s (Exit id at lane.old lane.new) t) world.old world.new
             self.now.held }
         ensures none { self.now.held ≡ None → lane.new ≡ lane.old }
+        ensures known { IsKnown S.spans world.old self.now.held → IsKnown S.spans world.new self.now.held }
     {
         match entry.spend() {
             None => {}
@@ -125,6 +128,7 @@ fn enter<S: Subscriber>(
     requires few_holds { Has (λ s. HasFewHolds (S.spans s).made id) world.old dispatch }
     ensures did { OnOk result
         (Replaced (λ s t. S.does s (Enter id at lane.old lane.new) t) world.old world.new dispatch) }
+    ensures keeps { KeepsKnown S.spans world.old world.new }
     ensures leaves { OnErr result (Replaced S.same world.old world.new dispatch) }
     ensures lane_leaves { OnErr result (LeavesLane lane.old lane.new) }
     ensures full { result ≡ Err Full → MeetsFullLane S.activates world.old lane.old (Some (dispatch, id)) }
@@ -139,7 +143,8 @@ fn exit<S: Subscriber>(world: &mut World<S>, dispatch: Dispatch, id: Id, lane: &
     requires whole { Has S.is_whole world.old dispatch }
     requires may { Has (λ s. MayExit (S.spans s) id lane.old.id) world.old dispatch }
     requires still { Has (λ s. AreAttached (S.kept s) lane.old) world.old dispatch }
-    ensures { Replaced (λ s t. S.does s (Exit id at lane.old lane.new) t) world.old world.new dispatch }
+    ensures did { Replaced (λ s t. S.does s (Exit id at lane.old lane.new) t) world.old world.new dispatch }
+    ensures keeps { KeepsKnown S.spans world.old world.new }
 {
     world.subscriber_mut(dispatch).exit(id, lane, at);
 }

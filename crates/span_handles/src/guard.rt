@@ -71,6 +71,7 @@ impl Span {
             (ReplacedOn (λ id s t. S.does s (Enter id at lane.old lane.new) t) world.old world.new
             self.now.held) }
         ensures none { self.now.held ≡ None → lane.new ≡ lane.old }
+        ensures known { IsKnown S.spans world.new self.now.held }
         ensures leaves { OnErr result (ReplacedOn (λ id s t. S.same s t) world.old world.new self.now.held) }
         ensures lane_leaves { OnErr result (LeavesLane lane.old lane.new) }
         ensures full { result ≡ Err Full → MeetsFullLane S.activates world.old lane.old self.now.held }
@@ -101,6 +102,7 @@ impl Span {
             (ReplacedOn (λ id s t. S.does s (Enter id at lane.old lane.new) t) world.old world.new
             self.held) }
         ensures none { self.held ≡ None → lane.new ≡ lane.old }
+        ensures known { IsKnown S.spans world.new self.held }
         ensures back { IfErr result (λ refused. refused.0 ≡ self) }
         ensures leaves { OnErr result (ReplacedOn (λ id s t. S.same s t) world.old world.new self.held) }
         ensures lane_leaves { OnErr result (LeavesLane lane.old lane.new) }
@@ -197,6 +199,7 @@ impl EnteredSpan {
         ensures did { ReplacedOn (λ id s t. S.does s (Exit id at lane.old lane.new) t) world.old world.new
             self.span.held }
         ensures none { self.span.held ≡ None → lane.new ≡ lane.old }
+        ensures known { IsKnown S.spans world.old self.span.held → IsKnown S.spans world.new self.span.held }
     {
         let EnteredSpan {
             span,

@@ -1,9 +1,8 @@
 //! What the calls of a subscriber in a world make of its plain data.
-ghost use Rattle.std.specs.Prelude.{◌≡◌, ℕ, Some, List, []};
+ghost use Rattle.std.specs.Prelude.{ℕ, Some};
 ghost use Rattle.trace_base.specs.Gate.{Worlds};
-ghost use Rattle.trace_base.specs.Spans.{span_at};
-ghost use Rattle.trace_base.specs.Calls.{SubscriberCall, TryClose};
-ghost use Rattle.span_handles.specs.Worlds.{Has, Replaced, Shown, Alike, Chain, ChainShown, ToldChain, spans_in, seen};
+ghost use Rattle.trace_base.specs.Calls.{SubscriberCall};
+ghost use Rattle.span_handles.specs.Worlds.{Replaced, Shown, Alike, Chain, ChainShown, ToldChain, AreToldBy, spans_in, seen};
 ghost use Rattle.span_handles.specs.Knowing.{KeepsKnown, KeepsOthers, TakesNoHold};
 
 use trace_base::subscriber::Subscriber;
@@ -31,18 +30,21 @@ pub fn chains<S: Subscriber>()
 /// Each call but a release keeps known the handles that were known, and a chain of closes those of other spans than the
 /// one that it begins with.
 pub fn keeps<S: Subscriber>()
-    ensures call { (old new : Worlds S) (dispatch : ℕ) (call : SubscriberCall) → Replaced (λ s t. S.does s call t) old new dispatch
-        → Has (λ s. TakesNoHold (S.spans s) call) old dispatch → KeepsKnown S.spans old new }
+    ensures call { (old new : Worlds S) (dispatch : ℕ) (call : SubscriberCall)
+        → Replaced (λ s t. S.does s call t) old new dispatch → TakesNoHold call
+        → KeepsKnown S.spans old new }
     ensures same { (old new : Worlds S) (dispatch : ℕ) → Replaced S.same old new dispatch
         → KeepsKnown S.spans old new }
-    ensures chain { (old new : Worlds S) (dispatch at id : ℕ) → Replaced (λ s t. Chain S.spans S.does at (Some id) s t) old new dispatch
+    ensures chain { (old new : Worlds S) (dispatch at id : ℕ)
+        → Replaced (λ s t. Chain S.spans S.does at (Some id) s t) old new dispatch
         → KeepsOthers S.spans old new dispatch id }
 {}
 
 /// What a close makes of something that the subscriber keeps, the chain makes of it for each span that closes, in order.
-pub fn told<S: Subscriber>()
-    ensures { (read : S → List ℕ) (close : List ℕ → ℕ → List ℕ)
-        → ((s : S) (id at : ℕ) (t : S) → S.does s (TryClose id at) t → ((span_at (S.spans s).made id).holds ≡ 1 → read t ≡ close (read s) id) × (((span_at (S.spans s).made id).holds ≡ 1 → ⊥) → read t ≡ read s))
-        → (old new : Worlds S) (dispatch at id : ℕ) → Replaced (λ s t. Chain S.spans S.does at (Some id) s t) old new dispatch
-        → ToldChain close (Some id) (spans_in S.spans old dispatch) (spans_in S.spans new dispatch) (seen read [] old dispatch) (seen read [] new dispatch) }
+pub fn told<S: Subscriber, A>()
+    ensures { (read : S → A) (none : A) (close : A → ℕ → A) → AreToldBy S.spans S.does read close
+        → (old new : Worlds S) (dispatch at id : ℕ)
+        → Replaced (λ s t. Chain S.spans S.does at (Some id) s t) old new dispatch
+        → ToldChain close (Some id) (spans_in S.spans old dispatch) (spans_in S.spans new dispatch)
+        (seen read none old dispatch) (seen read none new dispatch) }
 {}

@@ -1,5 +1,5 @@
 //! What is recorded on the span of a handle.
-ghost use Rattle.std.specs.Prelude.{◌≡◌, IfOk, OnOk, OnErr};
+ghost use Rattle.std.specs.Prelude.{◌≡◌, None, IfOk, IsOk, OnOk, OnErr};
 ghost use Rattle.span_handles.specs.Handles.{IsKnown, HasOn, IsSite, AreOfOne, ReplacedOn, RecordsOn, RecordsField, FollowsOn, field_in};
 
 use crate::calls;
@@ -11,7 +11,8 @@ use trace_base::subscriber::Subscriber;
 use trace_base::world::World;
 
 impl Span {
-    /// Records the value of a field, and changes nothing where the callsite declares no such field; `Span::record`.
+    /// Records the value of a field, and changes nothing where the callsite declares no such field; `Span::record`. On a
+    /// disabled handle it takes no memory.
     pub fn record<S: Subscriber, Q: AsField>(
         &self,
         world: &mut World<S>,
@@ -23,6 +24,7 @@ impl Span {
         requires site { IsSite world.old self.now.site }
         requires whole { HasOn (λ s id. S.is_whole s) world.old self.now.held }
         ensures value { IfOk result (λ handle. handle.now ≡ self.now) }
+        ensures disabled { self.now.held ≡ None → IsOk result }
         ensures did { OnOk result
             (RecordsField S.does world.old world.new at
             (field_in (Q.field_of field.now) world.old self.now.site) value self.now) }
@@ -32,9 +34,14 @@ impl Span {
         let Some(found) = self.field(world, field) else {
             return Ok(self);
         };
-        let mut pairs = Items::new(world.allocator());
-        pairs.push((found.place, value))?;
-        self.record_all(world, at, &ValueSet { pairs })
+        match &self.held {
+            None => Ok(self),
+            Some(_) => {
+                let mut pairs = Items::new(world.allocator());
+                pairs.push((found.place, value))?;
+                self.record_all(world, at, &ValueSet { pairs })
+            }
+        }
     }
 
     /// Records the values of some fields; `Span::record_all`.
@@ -48,6 +55,7 @@ impl Span {
         requires site { IsSite world.old self.now.site }
         requires whole { HasOn (λ s id. S.is_whole s) world.old self.now.held }
         ensures value { IfOk result (λ handle. handle.now ≡ self.now) }
+        ensures disabled { self.now.held ≡ None → IsOk result }
         ensures did { OnOk result (RecordsOn S.does world.old world.new at values.now self.now) }
         ensures memory_leaves { OnErr result
             (ReplacedOn (λ id s t. S.same s t) world.old world.new self.now.held) }
@@ -73,6 +81,7 @@ impl Span {
         requires of_one { AreOfOne self.now.held from.now.held }
         requires whole { HasOn (λ s id. S.is_whole s) world.old self.now.held }
         ensures value { IfOk result (λ handle. handle.now ≡ self.now) }
+        ensures disabled { self.now.held ≡ None → IsOk result }
         ensures did { OnOk result (FollowsOn S.does world.old world.new at self.now.held from.now.held) }
         ensures memory_leaves { OnErr result
             (ReplacedOn (λ id s t. S.same s t) world.old world.new self.now.held) }

@@ -52,6 +52,7 @@ impl Span {
         ensures ok { IfOk result
             (MakesIf S.spans S.does world.old world.new lane.now at parent.Current site values.now
             (dispatch_on lane.now.default world.old.global)) }
+        ensures known { IfOk result (λ handle. IsKnown S.spans world.new handle.held) }
         ensures memory_leaves { OnErr result
             (ReplacedIf S.same world.old world.new (dispatch_on lane.now.default world.old.global)) }
     {
@@ -74,6 +75,7 @@ impl Span {
         ensures ok { IfOk result
             (MakesIf S.spans S.does world.old world.new lane.now at parent.Root site values.now
             (dispatch_on lane.now.default world.old.global)) }
+        ensures known { IfOk result (λ handle. IsKnown S.spans world.new handle.held) }
         ensures memory_leaves { OnErr result
             (ReplacedIf S.same world.old world.new (dispatch_on lane.now.default world.old.global)) }
     {
@@ -98,6 +100,7 @@ impl Span {
         ensures ok { IfOk result
             (MakesIf S.spans S.does world.old world.new lane.now at (place_under parent.now.held) site
             values.now (dispatch_on lane.now.default world.old.global)) }
+        ensures known { IfOk result (λ handle. IsKnown S.spans world.new handle.held) }
         ensures memory_leaves { OnErr result
             (ReplacedIf S.same world.old world.new (dispatch_on lane.now.default world.old.global)) }
     {
@@ -118,6 +121,7 @@ impl Span {
         requires may { MayMake S.spans S.is_whole world.old lane.now.id parent.Current dispatch }
         ensures ok { IfOk result
             (Makes S.spans S.does world.old world.new lane.now at parent.Current site values.now dispatch) }
+        ensures known { IfOk result (λ handle. IsKnown S.spans world.new handle.held) }
         ensures memory_leaves { OnErr result (Replaced S.same world.old world.new dispatch) }
     {
         make(world, dispatch, lane, at, Parent::Current, site, values)
@@ -136,6 +140,7 @@ impl Span {
         requires may { MayMake S.spans S.is_whole world.old lane.now.id parent.Root dispatch }
         ensures ok { IfOk result
             (Makes S.spans S.does world.old world.new lane.now at parent.Root site values.now dispatch) }
+        ensures known { IfOk result (λ handle. IsKnown S.spans world.new handle.held) }
         ensures memory_leaves { OnErr result (Replaced S.same world.old world.new dispatch) }
     {
         make(world, dispatch, lane, at, Parent::Root, site, values)
@@ -158,6 +163,7 @@ impl Span {
         ensures ok { IfOk result
             (Makes S.spans S.does world.old world.new lane.now at (place_under parent.now.held) site
             values.now dispatch) }
+        ensures known { IfOk result (λ handle. IsKnown S.spans world.new handle.held) }
         ensures memory_leaves { OnErr result (Replaced S.same world.old world.new dispatch) }
     {
         make(world, dispatch, lane, at, parent.place(), site, values)
@@ -189,8 +195,9 @@ impl Span {
         requires whole { HasIf S.is_whole world.old (dispatch_on lane.now.default world.old.global) }
         requires few_holds { HasIf (λ s. HasFewHoldsAbove (S.spans s) lane.now.id parent.Current) world.old
             (dispatch_on lane.now.default world.old.global) }
-        ensures { IsCurrent S.spans S.does world.old world.new lane.now.id
+        ensures value { IsCurrent S.spans S.does world.old world.new lane.now.id
             (dispatch_on lane.now.default world.old.global) result }
+        ensures known { IsKnown S.spans world.new result.held }
     {
         match get_default(world, lane) {
             None => Span::none(),
@@ -208,6 +215,7 @@ impl Span {
         ensures disabled { self.held ≡ None
             → IsCurrent S.spans S.does world.old world.new lane.now.id
             (dispatch_on lane.now.default world.old.global) result }
+        ensures known { IsKnown S.spans world.old self.held → IsKnown S.spans world.new result.held }
     {
         if self.held.is_some() {
             return self;
@@ -223,6 +231,7 @@ impl Span {
         requires few_holds { HasOn (λ s id. HasFewHolds (S.spans s).made id) world.old self.now.held }
         ensures value { result ≡ self.now }
         ensures did { ReplacedOn (λ id s t. S.does s (CloneSpan id) t) world.old world.new self.now.held }
+        ensures known { IsKnown S.spans world.new result.held }
     {
         let site = again(&self.site);
         match &self.held {

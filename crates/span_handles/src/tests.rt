@@ -19,6 +19,8 @@ use trace_base::level::Level;
 use trace_base::span::Id;
 use trace_base::world::World;
 
+mod enabled;
+
 fn callsite(alloc: Global) -> Callsite {
     Callsite {
         name: Text::from(String::new(alloc)),
@@ -33,7 +35,8 @@ fn callsite(alloc: Global) -> Callsite {
 }
 
 fn lane(alloc: Global) -> Lane
-    ensures { result.default ≡ None }
+    ensures id { result.id ≡ 1 }
+    ensures default { result.default ≡ None }
 {
     Lane {
         id: 1,
