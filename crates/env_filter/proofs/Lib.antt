@@ -3,6 +3,7 @@ pub mod Leveling
 pub mod Readings
 pub mod Refusals
 pub mod Rising
+pub mod Stacked
 pub mod Told
 pub mod Watches
 pub mod Wholes

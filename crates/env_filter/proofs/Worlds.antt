@@ -1,32 +1,53 @@
--- A filter over a registry admits by the rule of the gate.
+-- A filter over a subscriber that takes everything admits by the rule of the gate.
 use Rattle.std.proofs.Common.{◌≡◌, ℕ, Bool, true, false, Option, None, Some, refl, ap, ◌∙◌}
 use Rattle.std.specs.Prelude.{◌&&◌}
 use Rattle.trace_base.specs.declared.callsite.Callsite.{Callsite}
+use Rattle.trace_base.specs.declared.level.Level.{Level}
 use Rattle.trace_base.specs.declared.level.LevelFilter.{LevelFilter}
 use Rattle.trace_base.specs.declared.subscriber.Interest.{Interest}
 use Rattle.trace_base.specs.declared.subscriber.Interest.TheVariants as interests
 use Rattle.trace_base.specs.Gate.{Worlds, gate, AdmitsFresh}
-use Rattle.span_registry.specs.Both.{picked}
-use Rattle.env_filter.specs.Filtering.{Filtering, plain, interest_in, hint_in, enables_in}
+use Rattle.span_registry.specs.Both.{picked, hint_both}
+use Rattle.env_filter.specs.Filtering.{Filtering, plain, AreWhole, interest_in, hint_in, enables_in}
 use Rattle.env_filter.specs.Gating.{admitted}
-use Rattle.env_filter.specs.Worlds.{AreAllWhole, IsAdmittedOn}
+use Rattle.env_filter.specs.Reloading.{if_there, sometimes, never_enabled}
+use Rattle.env_filter.specs.Worlds.{ComesTo, filter_rule, in_place_rule, IsWholeInPlace, EachSubscriber, AdmitsBy}
 
-pub picked_always : (i : Interest) → picked i interests.Always ≡ i
+picked_always : (i : Interest) → picked i interests.Always ≡ i
 picked_always interests.Never = refl
 picked_always interests.Sometimes = refl
 picked_always interests.Always = refl
 
-pub and_true : (b : Bool) → (b && true) ≡ b
+hint_alone : (h : Option LevelFilter) → hint_both h None ≡ h
+hint_alone None = refl
+hint_alone (Some f) = refl
+
+and_true : (b : Bool) → (b && true) ≡ b
 and_true true = refl
 and_true false = refl
 
-pub admits_by : {S : Type 0} (filter_of : S → Filtering) (interest : S → Callsite → Interest) (hint : S → Option LevelFilter) (enables : S → ℕ → Callsite → Bool)
-    → ((s : S) (c : Callsite) → interest s c ≡ interest_in (plain (filter_of s)) c) → ((s : S) → hint s ≡ Some (hint_in (plain (filter_of s)))) → ((s : S) (lane : ℕ) (c : Callsite) → enables s lane c ≡ enables_in (plain (filter_of s)) lane c)
-    → (world : Worlds S) (lane site : ℕ) (own : Option ℕ) (answer : Bool) → AdmitsFresh interest hint enables world lane site own answer → AreAllWhole filter_of world → IsAdmittedOn filter_of world lane site own answer
-admits_by filter_of interest hint enables i h e world lane site None answer admits whole = admits
-admits_by filter_of interest hint enables i h e world lane site (Some d) answer admits whole = λ s c there at.
-    admits s c there at
-    ∙ ap (λ (x : Interest). gate x (hint s) (enables s lane c) c.level) (i s c)
-    ∙ ap (λ (x : Option LevelFilter). gate (interest_in (plain (filter_of s)) c) x (enables s lane c) c.level) (h s)
-    ∙ ap (λ (x : Bool). gate (interest_in (plain (filter_of s)) c) (Some (hint_in (plain (filter_of s)))) x c.level) (e s lane c)
-    ∙ admitted (plain (filter_of s)) lane c (whole d s there)
+-- what takes everything adds nothing to the gate
+gate_alone : (i under : Interest) (h below : Option LevelFilter) (e takes : Bool) (l : Level) → under ≡ interests.Always → below ≡ None → takes ≡ true
+    → gate (picked i under) (hint_both h below) (e && takes) l ≡ gate i h e l
+gate_alone i under h below e takes l a n t =
+    ap (λ (x : Interest). gate (picked i x) (hint_both h below) (e && takes) l) a
+    ∙ ap (λ (x : Option LevelFilter). gate (picked i interests.Always) (hint_both h x) (e && takes) l) n
+    ∙ ap (λ (x : Bool). gate (picked i interests.Always) (hint_both h None) (e && x) l) t
+    ∙ ap (λ (x : Interest). gate x (hint_both h None) (e && true) l) (picked_always i)
+    ∙ ap (λ (x : Option LevelFilter). gate i x (e && true) l) (hint_alone h)
+    ∙ ap (λ (x : Bool). gate i h x l) (and_true e)
+
+pub over_all : (f : Filtering) (under : Interest) (below : Option LevelFilter) (takes : Bool) (lane : ℕ) (c : Callsite) → under ≡ interests.Always → below ≡ None → takes ≡ true → AreWhole (plain f)
+    → gate (picked (interest_in (plain f) c) under) (hint_both (Some (hint_in (plain f))) below) (enables_in (plain f) lane c && takes) c.level ≡ filter_rule f lane c
+over_all f under below takes lane c a n t w =
+    gate_alone (interest_in (plain f) c) under (Some (hint_in (plain f))) below (enables_in (plain f) lane c) takes c.level a n t ∙ admitted (plain f) lane c w
+
+pub over_all_in_place : (o : Option Filtering) (under : Interest) (below : Option LevelFilter) (takes : Bool) (lane : ℕ) (c : Callsite) → under ≡ interests.Always → below ≡ None → takes ≡ true → IsWholeInPlace o
+    → gate (picked (if_there sometimes (λ f. interest_in (plain f)) o c) under) (hint_both (if_there None (λ f. Some (hint_in (plain f))) o) below) (if_there never_enabled (λ f. enables_in (plain f)) o lane c && takes) c.level ≡ in_place_rule o lane c
+over_all_in_place None under below takes lane c a n t w = gate_alone interests.Sometimes under None below false takes c.level a n t
+over_all_in_place (Some f) under below takes lane c a n t w = over_all f under below takes lane c a n t w
+
+pub admits_by : {S : Type 0} (interest : S → Callsite → Interest) (hint : S → Option LevelFilter) (enables : S → ℕ → Callsite → Bool) (holds : S → Type 0) (rule : S → ℕ → Callsite → Bool) → ComesTo interest hint enables holds rule
+    → (world : Worlds S) (lane site : ℕ) (own : Option ℕ) (answer : Bool) → AdmitsFresh interest hint enables world lane site own answer → EachSubscriber holds world → AdmitsBy rule world lane site own answer
+admits_by interest hint enables holds rule law world lane site None answer admits all = admits
+admits_by interest hint enables holds rule law world lane site (Some d) answer admits all = λ s c there at. admits s c there at ∙ law s lane c (all d s there)

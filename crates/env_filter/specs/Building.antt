@@ -23,11 +23,19 @@ default_builder = record { patterns = true; default = None; variable = codes "RU
 abbrev pub errors_builder : Building
 errors_builder = record default_builder { default = Some (target_at [] ERROR) }
 
+-- a builder that reads another variable
+abbrev pub with_variable : Building → List ℕ → Building
+with_variable b name = record b { variable = name }
+
+-- the filter that it makes of some directives
+abbrev pub filter_by : Building → List Directive → Filtered
+filter_by b ds = filter_of b.patterns b.default ds
+
 -- a filter is that of the directives of a text, of which some pieces are left out
 pub record IsFilterOf (b : Building) (text : List ℕ) (ignored : List Ignored) (f : Filtered) : Type 0 where
   pub directives : List Directive
   pub reads : ReadsText b.patterns text directives ignored
-  pub is : f ≡ filter_of b.patterns b.default directives
+  pub is : f ≡ filter_by b directives
 
 -- whichever those are
 pub record IsSomeFilterOf (b : Building) (text : List ℕ) (f : Filtered) : Type 0 where

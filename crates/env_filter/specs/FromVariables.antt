@@ -37,7 +37,8 @@ IsRefusedIn patterns None (Parse fault) = ⊥
 IsRefusedIn patterns (Some text) (Parse fault) = (fault ≢ cause.Memory) × IsRefused patterns text fault
 IsRefusedIn patterns None Env = Unit {0}
 IsRefusedIn patterns (Some text) Env = ⊥
-IsRefusedIn patterns read Memory = Unit {0}
+IsRefusedIn patterns None Memory = ⊥
+IsRefusedIn patterns (Some text) Memory = Unit {0}
 
 -- what the builder's variable gave is refused; an absent one counts as empty
 abbrev pub IsRefusedFrom : Told → Building → FromEnvError → Type 0

@@ -1,15 +1,17 @@
 -- What the calls so far say of a span's level and of a lane's levels.
-use Rattle.std.specs.Prelude.{◌≡◌, ℕ, ◌==◌, if◌then◌else◌, Bool, false, List, [], ◌∷◌, ◌++◌, Option, Some, None, is_some, flat_map}
+use Rattle.std.specs.Prelude.{◌≡◌, ℕ, ◌≤◌, ◌==◌, if◌then◌else◌, Bool, false, List, [], ◌∷◌, ◌++◌, Option, Some, None, is_some, flat_map, fold}
 use Rattle.std.specs.List.{list_any, list_all, filter}
 use Rattle.trace_base.specs.declared.callsite.Callsite.{Callsite}
 use Rattle.trace_base.specs.declared.field.Value.{Value}
 use Rattle.trace_base.specs.declared.level.LevelFilter.{LevelFilter}
 use Rattle.trace_base.specs.declared.level.LevelFilter.TheVariants.{OFF}
+use Rattle.trace_base.specs.Level.{greatest_verbosity}
 use Rattle.trace_base.specs.Hooks.{Hook, OnNewSpan, OnRecord, OnFollows, OnEvent, OnEnter, OnExit, OnClose}
 use Rattle.env_directives.specs.declared.env.directive.Directive.{Directive}
 use Rattle.env_directives.specs.Table.{more_verbose}
 use Rattle.env_filter.specs.declared.watch.Care.{Care}
-use Rattle.env_filter.specs.Levels.{Opened}
+use Rattle.env_filter.specs.Levels.{Opened, levels_of}
+use Rattle.env_filter.specs.Filtering.{Filtered, fresh, after}
 use Rattle.env_filter.specs.Kept.{opened, closed}
 use Rattle.env_filter.specs.Watching.{is_given, cares_of}
 
@@ -116,3 +118,21 @@ IsNext past (OnClose id at) = Unit {0}
 abbrev pub AreInOrder : List Hook → List Hook → Type 0
 AreInOrder past [] = Unit {0}
 AreInOrder past (call ∷ calls) = IsNext past call × AreInOrder (past ++ call ∷ []) calls
+
+-- the calls since a filter had no span
+pub record HasHeard (f : Filtered) (calls : List Hook) : Type 0 where
+  pub order : AreInOrder [] calls
+  pub now : f ≡ fold after (fresh f) calls
+
+-- a span's level, and a lane's levels, are what those calls tell
+abbrev pub IsLevelTold : Filtered → ℕ → Option LevelFilter → Type 0
+IsLevelTold f id level = (calls : List Hook) → HasHeard f calls → level ≡ level_told f.dynamics.directives id calls
+
+abbrev pub AreLevelsTold : Filtered → ℕ → List LevelFilter → Type 0
+AreLevelsTold f lane levels =
+    (calls : List Hook) → HasHeard f calls → levels ≡ levels_of (levels_told f.dynamics.directives lane calls)
+
+-- where a level is there before and later, it isn't lower later
+abbrev pub NeverFalls : Option LevelFilter → Option LevelFilter → Type 0
+NeverFalls before later =
+    (l m : LevelFilter) → before ≡ Some l → later ≡ Some m → greatest_verbosity l ≤ greatest_verbosity m

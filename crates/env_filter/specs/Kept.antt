@@ -1,15 +1,22 @@
 -- What a filter keeps of spans and of lanes.
-use Rattle.std.specs.Prelude.{ℕ, if◌then◌else◌, Bool, List, [], ◌∷◌, ◌++◌, Option, Some, None}
-use Rattle.std.specs.Option.{option_map_or}
+use Rattle.std.specs.Prelude.{ℕ, if◌then◌else◌, Bool, List, [], ◌∷◌, ◌++◌, Option, Some, None, is_some}
+use Rattle.std.specs.Option.{option_map, option_map_or}
 use Rattle.trace_base.specs.declared.level.LevelFilter.{LevelFilter}
 use Rattle.trace_base.specs.Spans.{without_last}
 use Rattle.env_filter.specs.Keyed.{at_key}
 use Rattle.env_filter.specs.Levels.{Opened, Leveled, is_of}
-use Rattle.env_filter.specs.Watching.{Watched, more_met}
+use Rattle.env_filter.specs.Watching.{Watched, more_met, level_of}
 
 -- the matches of a span
 abbrev pub watched_in : List (ℕ × Watched) → ℕ → Option Watched
 watched_in spans id = at_key spans id
+
+-- whether there are some, and the level that they come to
+abbrev pub is_watched : List (ℕ × Watched) → ℕ → Bool
+is_watched spans id = is_some (watched_in spans id)
+
+abbrev pub level_in : List (ℕ × Watched) → ℕ → Option LevelFilter
+level_in spans id = option_map level_of (watched_in spans id)
 
 -- the levels of a lane, and its room for more
 abbrev pub levels_in : List (ℕ × Leveled) → ℕ → List Opened

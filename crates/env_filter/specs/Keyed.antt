@@ -6,6 +6,9 @@ use Rattle.std.specs.Map.{lookup}
 abbrev pub at_key : {V : Type 0} → List (ℕ × V) → ℕ → Option V
 at_key entries k = lookup (nat_eq k) entries
 
--- a function with another value at a number
+-- a function with another value at a number, and one that is made from its own there
 abbrev pub put : {V : Type 0} → (ℕ → V) → ℕ → V → ℕ → V
 put f k value = λ other. if nat_eq k other then value else f other
+
+abbrev pub changed : {V : Type 0} → (ℕ → V) → ℕ → (V → V) → ℕ → V
+changed f k step = put f k (step (f k))

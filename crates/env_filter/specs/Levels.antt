@@ -1,5 +1,5 @@
 -- The levels that entries appended on a lane, with the span of each.
-use Rattle.std.specs.Prelude.{ℕ, ◌==◌, Bool, List, [], ◌∷◌}
+use Rattle.std.specs.Prelude.{ℕ, ◌==◌, Bool, List, [], ◌∷◌, map}
 use Rattle.trace_base.specs.declared.level.LevelFilter.{LevelFilter}
 
 -- a level that an entry of a span appended
@@ -11,6 +11,10 @@ pub record Opened : Type 0 where
 pub record Leveled : Type 0 where
   pub opened : List Opened
   pub room : ℕ
+
+-- the levels alone
+abbrev pub levels_of : List Opened → List LevelFilter
+levels_of entries = map (λ e. e.level) entries
 
 abbrev pub paired : List ℕ → List LevelFilter → List Opened
 paired [] levels = []

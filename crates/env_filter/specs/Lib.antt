@@ -12,6 +12,7 @@ pub mod Printing
 pub mod Puts
 pub mod Reading
 pub mod Reloading
+pub mod Stacked
 pub mod Tables
 pub mod Watching
 pub mod Worlds

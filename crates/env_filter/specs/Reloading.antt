@@ -22,10 +22,18 @@ Both R none None (Some m) = ⊥
 Both R none (Some l) None = ⊥
 Both R none (Some l) (Some m) = R l m
 
+-- what is in place was lent, or changed
+abbrev pub IsLent : {L : Type 0} → (L → Type 0) → Option L → Type 0
+IsLent P None = ⊥
+IsLent P (Some l) = P l
+
+abbrev pub IsChanged : {L : Type 0} → (L → L → Type 0) → Option L → Option L → Type 0
+IsChanged R old new = Both R ⊥ old new
+
 -- the one that is in place goes out, and the other comes in; a retired layer stays, and so does the other
 abbrev pub Swaps : {L : Type 0} → Option L → L → Option L → L → Type 0
 Swaps None other now out = (now ≡ None) × (out ≡ other)
-Swaps (Some filter) other now out = (now ≡ Some other) × (out ≡ filter)
+Swaps (Some layer) other now out = (now ≡ Some other) × (out ≡ layer)
 
 pub both_refl : {L : Type 0} (R : L → L → Type 0) → ((l : L) → R l l) → (o : Option L) → Both R (Unit {0}) o o
 both_refl R r None = tt

@@ -1,14 +1,41 @@
 -- The rule of the gate in a world of filters.
-use Rattle.std.specs.Prelude.{◌≡◌, ℕ, Bool, false, Option, None, Some, slice_get}
+use Rattle.std.specs.Prelude.{◌≡◌, ℕ, Bool, true, false, Option, None, Some, slice_get}
 use Rattle.trace_base.specs.declared.callsite.Callsite.{Callsite}
-use Rattle.trace_base.specs.Gate.{Worlds}
+use Rattle.trace_base.specs.declared.level.LevelFilter.{LevelFilter}
+use Rattle.trace_base.specs.declared.subscriber.Interest.{Interest}
+use Rattle.trace_base.specs.declared.subscriber.Interest.TheVariants as interests
+use Rattle.trace_base.specs.Gate.{Worlds, gate}
 use Rattle.env_filter.specs.Filtering.{Filtering, plain, AreWhole, is_admitted}
 
-abbrev pub AreAllWhole : {S : Type 0} → (S → Filtering) → Worlds S → Type 0
-AreAllWhole {S} filter_of world = (d : ℕ) (s : S) → slice_get world.subscribers d ≡ Some s → AreWhole (plain (filter_of s))
+-- interest, hint and `enabled` come to a rule, where something holds
+abbrev pub ComesTo : {S : Type 0} → (S → Callsite → Interest) → (S → Option LevelFilter) → (S → ℕ → Callsite → Bool) → (S → Type 0) → (S → ℕ → Callsite → Bool) → Type 0
+ComesTo {S} interest hint enables holds rule =
+    (s : S) (lane : ℕ) (c : Callsite) → holds s → gate (interest s c) (hint s) (enables s lane c) c.level ≡ rule s lane c
 
--- the answer for a callsite on a lane: no without a subscriber, else by the rule of its filter
-abbrev pub IsAdmittedOn : {S : Type 0} → (S → Filtering) → Worlds S → ℕ → ℕ → Option ℕ → Bool → Type 0
-IsAdmittedOn filter_of world lane site None answer = answer ≡ false
-IsAdmittedOn {S} filter_of world lane site (Some dispatch) answer =
-    (s : S) (c : Callsite) → slice_get world.subscribers dispatch ≡ Some s → slice_get world.sites site ≡ Some c → answer ≡ is_admitted (plain (filter_of s)) lane c
+-- a subscriber that takes whatever a layer over it takes
+pub record TakesAll {S : Type 0} (interest : S → Callsite → Interest) (hint : S → Option LevelFilter) (enables : S → ℕ → Callsite → Bool) : Type 0 where
+  pub always : (s : S) (c : Callsite) → interest s c ≡ interests.Always
+  pub no_hint : (s : S) → hint s ≡ None
+  pub enabled : (s : S) (lane : ℕ) (c : Callsite) → enables s lane c ≡ true
+
+-- the rule of a filter, and of one that can be exchanged: a retired one admits nothing
+abbrev pub filter_rule : Filtering → ℕ → Callsite → Bool
+filter_rule f lane c = is_admitted (plain f) lane c
+
+abbrev pub in_place_rule : Option Filtering → ℕ → Callsite → Bool
+in_place_rule None lane c = false
+in_place_rule (Some f) lane c = filter_rule f lane c
+
+abbrev pub IsWholeInPlace : Option Filtering → Type 0
+IsWholeInPlace None = Unit {0}
+IsWholeInPlace (Some f) = AreWhole (plain f)
+
+-- each subscriber of a world
+abbrev pub EachSubscriber : {S : Type 0} → (S → Type 0) → Worlds S → Type 0
+EachSubscriber {S} P world = (d : ℕ) (s : S) → slice_get world.subscribers d ≡ Some s → P s
+
+-- the answer for a callsite on a lane: no without a subscriber, else by a rule of its subscriber
+abbrev pub AdmitsBy : {S : Type 0} → (S → ℕ → Callsite → Bool) → Worlds S → ℕ → ℕ → Option ℕ → Bool → Type 0
+AdmitsBy rule world lane site None answer = answer ≡ false
+AdmitsBy {S} rule world lane site (Some dispatch) answer =
+    (s : S) (c : Callsite) → slice_get world.subscribers dispatch ≡ Some s → slice_get world.sites site ≡ Some c → answer ≡ rule s lane c

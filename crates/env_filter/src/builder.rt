@@ -1,8 +1,8 @@
 //! What filters are built by.
 ghost use Rattle.std.specs.Prelude.{◌≡◌, [], Some, IfOk, IfErr, string_bytes};
-ghost use Rattle.env_filter.specs.Building.{default_builder, IsFilterOf, IsRefused, IsRefusedAt};
+ghost use Rattle.env_filter.specs.Building.{default_builder, filter_by, IsFilterOf, IsRefused, IsRefusedAt};
 ghost use Rattle.env_filter.specs.Filtering.{plain, IsNew};
-ghost use Rattle.env_filter.specs.Tables.{filter_of, or_default};
+ghost use Rattle.env_filter.specs.Tables.{or_default};
 
 use crate::filter::EnvFilter;
 use crate::pieces::{self, Ignored};
@@ -15,9 +15,6 @@ use std::alloc::Global;
 use std::marker::Model;
 
 pub mod env;
-
-/// The variable that is read where no other is named; `EnvFilter::DEFAULT_ENV`.
-pub const DEFAULT_ENV: &str = "RUST_LOG";
 
 /// What a filter is built by; `tracing_subscriber::filter::Builder`.
 #[derive(Drop)]
@@ -137,13 +134,13 @@ impl Builder {
     {
         match &self.env {
             Some(name) => name.as_str(),
-            None => DEFAULT_ENV,
+            None => EnvFilter::DEFAULT_ENV,
         }
     }
 
     // The filter of some directives.
     fn from_directives(&self, directives: Vec<Directive>) -> Result<EnvFilter, Memory>
-        ensures is { IfOk result (λ f. plain f ≡ filter_of self.now.patterns self.now.default directives.items) }
+        ensures is { IfOk result (λ f. plain f ≡ filter_by self.now directives.items) }
         ensures new { IfOk result (λ f. IsNew (plain f)) }
     {
         let statics = tables::statics(self.alloc, directives.as_slice())?;

@@ -1,11 +1,11 @@
 //! Filters by directives.
-ghost use Rattle.std.specs.Prelude.{◌≡◌, [], ◌==◌, ◌&&◌, ℕ, map, Some, is_some, fold};
+ghost use Rattle.std.specs.Prelude.{◌≡◌, ◌==◌, ◌&&◌, Some, is_some};
 ghost use Rattle.std.specs.List.{list_any};
 ghost use Rattle.trace_base.specs.Level.{is_within};
 ghost use Rattle.env_directives.specs.Cares.{cares_for_span, is_span};
-ghost use Rattle.env_filter.specs.Levels.{Opened};
-ghost use Rattle.env_filter.specs.Filtering.{Filtering, plain, fresh, AreWhole, after, span_level, is_cared, has_dynamics, interest_in, asks_values, hint_in, is_open, enables_in};
-ghost use Rattle.env_filter.specs.Histories.{AreInOrder, level_told, levels_told};
+ghost use Rattle.env_filter.specs.Levels.{levels_of};
+ghost use Rattle.env_filter.specs.Filtering.{Filtering, plain, span_level, is_cared, has_dynamics, interest_in, asks_values, hint_in, is_open, enables_in};
+ghost use Rattle.env_filter.specs.Histories.{IsLevelTold, AreLevelsTold};
 
 use crate::levels::Levels;
 use crate::watch::{Matches, more_verbose};
@@ -17,6 +17,7 @@ use std::alloc::Global;
 use std::collections::HashMap;
 use std::marker::Model;
 use trace_base::callsite::{Callsite, Kind};
+use trace_base::discard::Discard;
 use trace_base::filter::Filter;
 use trace_base::level::{Level, LevelFilter};
 use trace_base::span::Id;
@@ -93,7 +94,7 @@ impl EnvFilter {
     /// of those directives each of whose values was met by some value given so far, else OFF.
     pub fn level(&self, id: Id) -> Option<LevelFilter>
         ensures value { result ≡ span_level (plain self.now) id }
-        ensures told { (calls : _) → AreInOrder [] calls → plain self.now ≡ fold after (fresh (plain self.now)) calls → result ≡ level_told self.now.dynamics.directives id calls }
+        ensures told { IsLevelTold (plain self.now) id result }
     {
         spans::level_of(&self.spans, id)
     }
@@ -101,8 +102,8 @@ impl EnvFilter {
     /// The levels of a lane: each entry of a span that has a level appended that of its moment, and each exit took off
     /// the newest that an entry of its own span appended.
     pub fn levels(&self, lane: u64) -> &[LevelFilter]
-        ensures value { result.now ≡ map (λ (e : Opened). e.level) ((plain self.now).lanes lane) }
-        ensures told { (calls : _) → AreInOrder [] calls → plain self.now ≡ fold after (fresh (plain self.now)) calls → result.now ≡ map (λ (e : Opened). e.level) (levels_told self.now.dynamics.directives lane calls) }
+        ensures value { result.now ≡ levels_of ((plain self.now).lanes lane) }
+        ensures told { AreLevelsTold (plain self.now) lane result.now }
     {
         lanes::levels_on(&self.lanes, lane)
     }
@@ -176,4 +177,9 @@ impl Filter for EnvFilter {
     fn max_level_hint(&self) -> Option<LevelFilter> {
         self.max_level_hint()
     }
+}
+
+/// It holds nothing that has to be spent.
+impl Discard for EnvFilter {
+    fn discard(self) {}
 }

@@ -1,9 +1,8 @@
 //! The levels of each lane, by the lane's id.
-ghost use Rattle.std.specs.Prelude.{◌≡◌, ◌<◌, ◌++◌, ◌∷◌, [], OnOk, map, None};
-ghost use Rattle.trace_base.specs.Spans.{without_last};
-ghost use Rattle.env_filter.specs.Keyed.{at_key, put};
-ghost use Rattle.env_filter.specs.Levels.{Opened, is_of};
-ghost use Rattle.env_filter.specs.Kept.{levels_in, room_in};
+ghost use Rattle.std.specs.Prelude.{◌≡◌, ◌<◌, OnOk, true, None, Some};
+ghost use Rattle.env_filter.specs.Keyed.{at_key, changed};
+ghost use Rattle.env_filter.specs.Levels.{levels_of};
+ghost use Rattle.env_filter.specs.Kept.{levels_in, room_in, opened, closed};
 
 use crate::levels::Levels;
 use otel_base::memory::Memory;
@@ -14,7 +13,7 @@ use trace_base::span::Id;
 
 // The levels of a lane in order.
 pub(crate) fn levels_on(lanes: &HashMap<u64, Levels>, lane: u64) -> &[LevelFilter]
-    ensures { result.now ≡ map (λ (e : Opened). e.level) (levels_in lanes.now.entries lane) }
+    ensures { result.now ≡ levels_of (levels_in lanes.now.entries lane) }
 {
     match lanes.get(&lane) {
         Some(levels) => levels.levels(),
@@ -52,7 +51,7 @@ fn add(alloc: Global, lanes: &mut HashMap<u64, Levels>, lane: u64) -> Result<(),
 // Appends the level of an entry, for which there is room.
 pub(crate) fn append(lanes: &mut HashMap<u64, Levels>, lane: u64, id: Id, level: LevelFilter)
     requires { 0 < room_in lanes.old.entries lane }
-    ensures { levels_in lanes.new.entries ≡ put (levels_in lanes.old.entries) lane (levels_in lanes.old.entries lane ++ record { span = id; level = level } ∷ []) }
+    ensures { levels_in lanes.new.entries ≡ changed (levels_in lanes.old.entries) lane (opened (Some level) id) }
 {
     if let Some(levels) = lanes.get_mut(&lane) {
         levels.append(id, level);
@@ -61,7 +60,7 @@ pub(crate) fn append(lanes: &mut HashMap<u64, Levels>, lane: u64, id: Id, level:
 
 // Takes off the newest level that an entry of the span appended.
 pub(crate) fn take_off(lanes: &mut HashMap<u64, Levels>, lane: u64, id: Id)
-    ensures { levels_in lanes.new.entries ≡ put (levels_in lanes.old.entries) lane (without_last (is_of id) (levels_in lanes.old.entries lane)) }
+    ensures { levels_in lanes.new.entries ≡ changed (levels_in lanes.old.entries) lane (closed true id) }
 {
     if let Some(levels) = lanes.get_mut(&lane) {
         levels.take_off(id);

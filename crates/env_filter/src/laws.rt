@@ -1,19 +1,18 @@
 //! What holds of every filter.
-ghost use Rattle.std.specs.Prelude.{◌≡◌, ◌≤◌, ◌<◌, IfSome, length, ◌++◌, ◌∷◌, [], ℕ, List, Some};
-ghost use Rattle.env_directives.specs.declared.env.directive.Directive.{Directive};
-ghost use Rattle.trace_base.specs.declared.level.LevelFilter.{LevelFilter};
+ghost use Rattle.std.specs.Prelude.{◌≡◌, ◌<◌, length, ◌++◌, ◌∷◌, [], ℕ, List, Some, option_map};
+ghost use Rattle.trace_base.specs.Calls.{SubscriberCall};
+ghost use Rattle.trace_base.specs.Gate.{IsFresh, IsOwn, dispatch_on};
 ghost use Rattle.trace_base.specs.Hooks.{Hook};
-ghost use Rattle.trace_base.specs.Level.{greatest_verbosity};
-ghost use Rattle.env_filter.specs.Histories.{level_told};
-ghost use Rattle.trace_base.specs.declared.callsite.Callsite.{Callsite};
-ghost use Rattle.trace_base.specs.Gate.{gate, IsFresh, dispatch_on};
-ghost use Rattle.env_filter.specs.Worlds.{AreAllWhole, IsAdmittedOn};
-ghost use Rattle.env_filter.specs.Filtering.{Filtering, plain, AreWhole, is_admitted};
-ghost use Rattle.env_filter.specs.Gating.{admitted};
+ghost use Rattle.span_registry.specs.History.{Runs};
+ghost use Rattle.env_directives.specs.declared.env.directive.Directive.{Directive};
+ghost use Rattle.env_filter.specs.Filtering.{Filtered, plain, AreWhole, IsNew, is_admitted};
+ghost use Rattle.env_filter.specs.Histories.{level_told, NeverFalls};
+ghost use Rattle.env_filter.specs.Stacked.{HearsCalls, HearsInPlace};
+ghost use Rattle.env_filter.specs.Worlds.{ComesTo, TakesAll, filter_rule, in_place_rule, IsWholeInPlace, EachSubscriber, AdmitsBy};
 
 use crate::filter::EnvFilter;
+use crate::reload;
 use span_registry::layered::Layered;
-use span_registry::registry::Registry;
 use trace_base::callsite::SiteId;
 use trace_base::lane::Lane;
 use trace_base::layer::Layer;
@@ -21,23 +20,65 @@ use trace_base::subscriber::Subscriber;
 use trace_base::world::World;
 
 /// Interest, hint and `enabled` together are the rule of the gate.
-#[tactic(auto, using(crate::specs::Gating::admitted))]
 pub fn gates()
-    ensures { (f : Filtering) (lane : ℕ) (c : Callsite) → AreWhole (plain f) → gate (⟦<EnvFilter as Layer>⟧.interest f c) (⟦<EnvFilter as Layer>⟧.hint f) (⟦<EnvFilter as Layer>⟧.enables f lane c) c.level ≡ is_admitted (plain f) lane c }
+    ensures { ComesTo ⟦<EnvFilter as Layer>⟧.interest ⟦<EnvFilter as Layer>⟧.hint ⟦<EnvFilter as Layer>⟧.enables
+        (λ f. AreWhole (plain f)) filter_rule }
 {}
 
 /// While a filter is in force no call lowers the level of a span.
 pub fn rises()
-    ensures { (ds : List Directive) (q : ℕ) (past : List Hook) (call : Hook) (l m : LevelFilter) → level_told ds q past ≡ Some l → level_told ds q (past ++ call ∷ []) ≡ Some m → greatest_verbosity l ≤ greatest_verbosity m }
+    ensures { (ds : List Directive) (id : ℕ) (past : List Hook) (call : Hook)
+        → NeverFalls (level_told ds id past) (level_told ds id (past ++ call ∷ [])) }
 {}
 
-/// A callsite is admitted on a lane by the rule of the gate, where the cache is fresh.
-pub fn admits(world: &World<Layered<EnvFilter, Registry>>, lane: &Lane, site: SiteId) -> bool
+/// A filter that had no span hears the hooks of all calls of the subscriber below it, each span's making once and
+/// first; so the levels of spans and lanes are what the rules say of these calls.
+pub fn hears<S: Subscriber>()
+    ensures { (s : _) (calls : List SubscriberCall) (t : _) → IsNew (plain s.layer)
+        → Runs ⟦<Layered<EnvFilter, S> as Subscriber>⟧.does ⟦<Layered<EnvFilter, S> as Subscriber>⟧.same s calls t
+        → HearsCalls (S.spans s.inner) calls (plain s.layer) (plain t.layer) }
+{}
+
+/// The same of a filter that can be exchanged, from the moment at which it was put in place.
+pub fn hears_in_place<S: Subscriber>()
+    ensures { (s : _) (calls : List SubscriberCall) (t : _) (f : Filtered)
+        → option_map plain s.layer.inner ≡ Some f → IsNew f
+        → Runs ⟦<Layered<reload::Layer<EnvFilter>, S> as Subscriber>⟧.does
+        ⟦<Layered<reload::Layer<EnvFilter>, S> as Subscriber>⟧.same s calls t
+        → HearsInPlace (S.spans s.inner) calls f t.layer.inner }
+{}
+
+/// A callsite is admitted on a lane by the rule of the gate, where the cache is fresh and the subscriber below takes
+/// everything.
+pub fn admits<S: Subscriber>(
+    world: &World<Layered<EnvFilter, S>>,
+    lane: &Lane,
+    site: SiteId,
+) -> bool
     requires site { site < length world.now.sites }
-    requires own { IfSome lane.now.default (λ d. d < length world.now.subscribers) }
-    requires fresh { IsFresh ⟦<Layered<EnvFilter, Registry> as Subscriber>⟧.interest world.now }
-    requires whole { AreAllWhole (λ s. s.layer) world.now }
-    ensures { IsAdmittedOn (λ s. s.layer) world.now lane.now.id site (dispatch_on lane.now.default world.now.global) result }
+    requires own { IsOwn world.now lane.now.default }
+    requires fresh { IsFresh ⟦<Layered<EnvFilter, S> as Subscriber>⟧.interest world.now }
+    requires whole { EachSubscriber (λ s. AreWhole (plain s.layer)) world.now }
+    requires below { TakesAll S.interest S.hint S.enables }
+    ensures { AdmitsBy (λ s. filter_rule s.layer) world.now lane.now.id site
+        (dispatch_on lane.now.default world.now.global) result }
+{
+    world.admits(lane, site)
+}
+
+/// The same where the filter can be exchanged: by the one that is in place, and no where it was retired.
+pub fn admits_in_place<S: Subscriber>(
+    world: &World<Layered<reload::Layer<EnvFilter>, S>>,
+    lane: &Lane,
+    site: SiteId,
+) -> bool
+    requires site { site < length world.now.sites }
+    requires own { IsOwn world.now lane.now.default }
+    requires fresh { IsFresh ⟦<Layered<reload::Layer<EnvFilter>, S> as Subscriber>⟧.interest world.now }
+    requires whole { EachSubscriber (λ s. IsWholeInPlace s.layer.inner) world.now }
+    requires below { TakesAll S.interest S.hint S.enables }
+    ensures { AdmitsBy (λ s. in_place_rule s.layer.inner) world.now lane.now.id site
+        (dispatch_on lane.now.default world.now.global) result }
 {
     world.admits(lane, site)
 }

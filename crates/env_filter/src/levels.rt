@@ -1,8 +1,8 @@
 //! The levels of a lane: each entry of a span that has a level appends it.
-ghost use Rattle.std.specs.Prelude.{◌≡◌, ◌≢◌, ◌==◌, ◌<◌, ℕ, [], ◌∷◌, ◌++◌, OnOk, map, length, IfSome, IsNone, slice_index_or, vec_len, vec_capacity};
+ghost use Rattle.std.specs.Prelude.{◌≡◌, ◌≢◌, ◌==◌, ◌<◌, ℕ, [], ◌∷◌, ◌++◌, OnOk, length, IfSome, IsNone, slice_index_or, vec_len, vec_capacity};
 ghost use Rattle.std.specs.List.{remove};
 ghost use Rattle.trace_base.specs.Spans.{without_last};
-ghost use Rattle.env_filter.specs.Levels.{Opened, Leveled, paired, is_of};
+ghost use Rattle.env_filter.specs.Levels.{Leveled, levels_of, paired, is_of};
 
 use otel_base::memory::Memory;
 use std::alloc::Global;
@@ -41,7 +41,7 @@ impl Levels {
 
     /// The levels in order.
     pub fn levels(&self) -> &[LevelFilter]
-        ensures { result.now ≡ map (λ (e : Opened). e.level) self.now.opened }
+        ensures { result.now ≡ levels_of self.now.opened }
     {
         self.levels.as_slice()
     }

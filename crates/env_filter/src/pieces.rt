@@ -58,7 +58,8 @@ fn read_piece(
     ignored: &mut Vec<Ignored>,
 ) -> Result<(), Memory>
     requires { at < 2 ^ 63 }
-    ensures { OnOk result (AddsPiece patterns (at + 1) piece.now directives.old.items ignored.old.items directives.new.items ignored.new.items) }
+    ensures { OnOk result (AddsPiece patterns (at + 1) piece.now directives.old.items ignored.old.items
+        directives.new.items ignored.new.items) }
 {
     if piece.is_empty() {
         return Ok(());

@@ -1,14 +1,15 @@
 //! Layers that can be exchanged while they are in use.
-ghost use Rattle.std.specs.Prelude.{◌≡◌, true, false, Some, None, OnOk, OnErr, IfOk, codes};
+ghost use Rattle.std.specs.Prelude.{◌≡◌, true, false, Some, None, is_some, OnOk, OnErr, IfOk, codes};
 ghost use Rattle.std.specs.Fn.{FnOnceReturnsAt, FnOnceReturnsAtMut};
 ghost use Rattle.env_directives.specs.declared.targets.Targets.{Targets};
 ghost use Rattle.env_filter.specs.Filtering.{plain, fresh};
-ghost use Rattle.env_filter.specs.Reloading.{Swaps, Both};
+ghost use Rattle.env_filter.specs.Reloading.{Swaps, Both, IsLent, IsChanged};
 
 use crate::filter::EnvFilter;
 use env_directives::targets::Targets;
 use otel_base::memory::Memory;
 use std::{error, fmt, mem};
+use trace_base::discard::Discard;
 
 mod hooks;
 
@@ -38,7 +39,8 @@ impl<L> Layer<L> {
     /// Changes the layer in place; `reload::Handle::modify`. An error where it was retired.
     pub fn modify<F: FnOnce(&mut L)>(&mut self, f: F) -> Result<(), Error>
         requires { F.IsAlwaysCallable f }
-        ensures ok { OnOk result ((l : L) × (m : L) × (self.old.inner ≡ Some l) × (self.new.inner ≡ Some m) × FnOnceReturnsAtMut F.FnOnce f l tt m) }
+        ensures ok { OnOk result
+            (IsChanged (λ l m. FnOnceReturnsAtMut F.FnOnce f l tt m) self.old.inner self.new.inner) }
         ensures retired { OnErr result ((self.old.inner ≡ None) × (self.new.inner ≡ None)) }
     {
         match &mut self.inner {
@@ -53,7 +55,7 @@ impl<L> Layer<L> {
     /// Lends the layer to a closure; `reload::Handle::with_current`. An error where it was retired.
     pub fn with_current<T, F: FnOnce(&L) -> T>(&self, f: F) -> Result<T, Error>
         requires { F.IsAlwaysCallable f }
-        ensures ok { IfOk result (λ r. (l : L) × (self.now.inner ≡ Some l) × FnOnceReturnsAt F.FnOnce f l r) }
+        ensures ok { IfOk result (λ r. IsLent (λ l. FnOnceReturnsAt F.FnOnce f l r) self.now.inner) }
         ensures retired { OnErr result (self.now.inner ≡ None) }
     {
         match &self.inner {
@@ -66,6 +68,7 @@ impl<L> Layer<L> {
     /// and nothing changes then.
     pub fn exchange(&mut self, other: &mut L) -> Result<(), Error>
         ensures swaps { Swaps self.old.inner other.old self.new.inner other.new }
+        ensures ok { OnOk result (is_some self.old.inner ≡ true) }
         ensures retired { OnErr result (self.old.inner ≡ None) }
     {
         match &mut self.inner {
@@ -81,7 +84,7 @@ impl<L> Layer<L> {
 impl<L: Drop> Layer<L> {
     /// Puts another layer in place; `reload::Handle::reload`. An error where it was retired.
     pub fn reload(&mut self, layer: L) -> Result<(), Error>
-        ensures ok { OnOk result (self.new.inner ≡ Some layer) }
+        ensures ok { OnOk result ((is_some self.old.inner ≡ true) × (self.new.inner ≡ Some layer)) }
         ensures retired { OnErr result ((self.old.inner ≡ None) × (self.new.inner ≡ None)) }
     {
         if self.inner.is_none() {
@@ -89,6 +92,13 @@ impl<L: Drop> Layer<L> {
         }
         self.inner = Some(layer);
         Ok(())
+    }
+}
+
+/// It gives the layer in place up.
+impl<L: Discard> Discard for Layer<L> {
+    fn discard(self) {
+        self.inner.discard();
     }
 }
 

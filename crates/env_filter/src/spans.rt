@@ -2,9 +2,9 @@
 ghost use Rattle.std.specs.Prelude.{◌≡◌, ◌<◌, IfOk, Some, None};
 ghost use Rattle.std.specs.HashMap.{spare};
 ghost use Rattle.std.specs.Option.{option_map};
-ghost use Rattle.env_filter.specs.Keyed.{put};
-ghost use Rattle.env_filter.specs.Kept.{watched_in, with_met};
-ghost use Rattle.env_filter.specs.Watching.{Watched, level_of, found_in};
+ghost use Rattle.env_filter.specs.Keyed.{put, changed};
+ghost use Rattle.env_filter.specs.Kept.{watched_in, level_in, with_met};
+ghost use Rattle.env_filter.specs.Watching.{Watched, found_in};
 
 use crate::watch::Matches;
 use otel_base::list::Items;
@@ -17,7 +17,7 @@ use trace_base::span::Id;
 
 // The level of a span, if it has one.
 pub(crate) fn level_of(spans: &HashMap<u64, Matches>, id: Id) -> Option<LevelFilter>
-    ensures { result ≡ option_map level_of (watched_in spans.now.entries id) }
+    ensures { result ≡ level_in spans.now.entries id }
 {
     match spans.get(&id.place()) {
         Some(matches) => Some(matches.level()),
@@ -32,7 +32,8 @@ pub(crate) fn found_for(
     id: Id,
     values: &ValueSet,
 ) -> Result<Items<bool>, Memory>
-    ensures { IfOk result (λ found. (w : Watched) → watched_in spans.now.entries id ≡ Some w → found ≡ found_in values.now.pairs w.cares) }
+    ensures { IfOk result (λ found. (w : Watched) → watched_in spans.now.entries id ≡ Some w
+        → found ≡ found_in values.now.pairs w.cares) }
 {
     match spans.get(&id.place()) {
         Some(matches) => Ok(Items::from(matches.found(alloc, values)?)),
@@ -42,7 +43,8 @@ pub(crate) fn found_for(
 
 // Notes what was found for a span.
 pub(crate) fn note(spans: &mut HashMap<u64, Matches>, id: Id, found: &[bool])
-    ensures { watched_in spans.new.entries ≡ put (watched_in spans.old.entries) id (option_map (with_met found.now) (watched_in spans.old.entries id)) }
+    ensures { watched_in spans.new.entries
+        ≡ changed (watched_in spans.old.entries) id (option_map (with_met found.now)) }
 {
     if let Some(matches) = spans.get_mut(&id.place()) {
         matches.note(found);

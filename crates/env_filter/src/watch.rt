@@ -144,7 +144,8 @@ fn add_ask(
     field: &Match,
     later: &[Match],
 ) -> Result<(), Memory>
-    ensures { IfOk result (λ _. (more : List Ask) → asks.new.items ++ more ≡ asks.old.items ++ and_ask (ask_of callsite.now field.now later.now) more) }
+    ensures { IfOk result (λ _. (more : List Ask) → asks.new.items ++ more
+        ≡ asks.old.items ++ and_ask (ask_of callsite.now field.now later.now) more) }
 {
     if let Some(ask) = ask_of(callsite, field, later)? {
         asks.push(ask)?;

@@ -1,6 +1,6 @@
 //! Filters from variables.
 ghost use Rattle.std.specs.Prelude.{◌≡◌, [], Some, None, IfOk, IfErr, option_map, string_bytes, codes};
-ghost use Rattle.env_filter.specs.Building.{default_builder, errors_builder};
+ghost use Rattle.env_filter.specs.Building.{default_builder, errors_builder, with_variable};
 ghost use Rattle.env_filter.specs.Filtering.{plain, IsNew};
 ghost use Rattle.env_filter.specs.FromVariables.{IsReadAs, IsSomeReadAs, IsOfVariable, IsRequiredAs, IsRefusedFrom, IsRefusedIn, IsRequiredFault, IsParsed, env_text};
 ghost use Rattle.env_filter.specs.declared.builder.env.FromEnvError.TheVariants as fault;
@@ -52,7 +52,7 @@ impl Builder {
         self.from_var(vars.read(self.variable())?)
     }
 
-    /// The filter of what a variable gave, each piece of which has to be a directive. `Env` where it gave nothing.
+    /// The filter of what a variable gave, each piece of which has to be a directive. `Env` exactly where it gave nothing.
     pub fn from_var(&self, read: Option<String>) -> Result<EnvFilter, FromEnvError>
         ensures ok { IfOk result (λ f. IsOfVariable self.now (option_map string_bytes read) (plain f)) }
         ensures new { IfOk result (λ f. IsNew (plain f)) }
@@ -78,7 +78,8 @@ impl EnvFilter {
 
     /// The same of the variable of a name; `EnvFilter::from_env`.
     pub fn from_env<V: Vars>(alloc: Global, name: &str, vars: &V) -> Result<EnvFilter, Memory>
-        ensures ok { IfOk result (λ f. IsSomeReadAs (V.told vars.now) (record errors_builder { variable = name.now }) (plain f)) }
+        ensures ok { IfOk result
+            (λ f. IsSomeReadAs (V.told vars.now) (with_variable errors_builder name.now) (plain f)) }
         ensures new { IfOk result (λ f. IsNew (plain f)) }
     {
         let name = named(alloc, name)?;
@@ -104,9 +105,11 @@ impl EnvFilter {
         name: &str,
         vars: &V,
     ) -> Result<EnvFilter, FromEnvError>
-        ensures ok { IfOk result (λ f. IsRequiredAs (V.told vars.now) (record default_builder { variable = name.now }) (plain f)) }
+        ensures ok { IfOk result
+            (λ f. IsRequiredAs (V.told vars.now) (with_variable default_builder name.now) (plain f)) }
         ensures new { IfOk result (λ f. IsNew (plain f)) }
-        ensures refused { IfErr result (IsRequiredFault (V.told vars.now) (record default_builder { variable = name.now })) }
+        ensures refused { IfErr result
+            (IsRequiredFault (V.told vars.now) (with_variable default_builder name.now)) }
     {
         let name = named(alloc, name)?;
         EnvFilter::builder(alloc)

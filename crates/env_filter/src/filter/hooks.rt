@@ -1,10 +1,8 @@
 //! The hooks of a filter.
-ghost use Rattle.std.specs.Prelude.{◌≡◌, ◌<◌, true, is_some};
-ghost use Rattle.std.specs.Option.{option_map};
+ghost use Rattle.std.specs.Prelude.{◌≡◌, ◌<◌, true};
 ghost use Rattle.trace_base.specs.Hooks.{OnNewSpan, OnRecord, OnEnter, OnExit, OnClose, ForNewSpan, ForRecord, ForEnter};
-ghost use Rattle.env_filter.specs.Keyed.{put};
-ghost use Rattle.env_filter.specs.Kept.{watched_in, levels_in, room_in, opened, closed};
-ghost use Rattle.env_filter.specs.Watching.{level_of};
+ghost use Rattle.env_filter.specs.Keyed.{changed};
+ghost use Rattle.env_filter.specs.Kept.{is_watched, level_in, levels_in, room_in, opened, closed};
 ghost use Rattle.env_filter.specs.Filtering.{plain, after, IsReadyFilter};
 
 use crate::filter::EnvFilter;
@@ -41,7 +39,8 @@ impl EnvFilter {
         _values: &ValueSet,
     )
         requires { IsReadyFilter self.old (ForNewSpan _lane.now _callsite.now _values.now) prepared }
-        ensures { plain self.new ≡ after (plain self.old) (OnNewSpan id _lane.now _at _parent _current _callsite.now _values.now) }
+        ensures { plain self.new ≡ after (plain self.old)
+            (OnNewSpan id _lane.now _at _parent _current _callsite.now _values.now) }
     {
         let Ready { made, found: _ } = prepared;
         match made {
@@ -93,8 +92,9 @@ impl EnvFilter {
 
 // Appends the level of a span, if it has one.
 fn open_entry(spans: &HashMap<u64, Matches>, lanes: &mut HashMap<u64, Levels>, lane: u64, id: Id)
-    requires { is_some (watched_in spans.now.entries id) ≡ true → 0 < room_in lanes.old.entries lane }
-    ensures { levels_in lanes.new.entries ≡ put (levels_in lanes.old.entries) lane (opened (option_map level_of (watched_in spans.now.entries id)) id (levels_in lanes.old.entries lane)) }
+    requires { is_watched spans.now.entries id ≡ true → 0 < room_in lanes.old.entries lane }
+    ensures { levels_in lanes.new.entries
+        ≡ changed (levels_in lanes.old.entries) lane (opened (level_in spans.now.entries id) id) }
 {
     if let Some(level) = spans::level_of(spans, id) {
         lanes::append(lanes, lane, id, level);
@@ -103,7 +103,8 @@ fn open_entry(spans: &HashMap<u64, Matches>, lanes: &mut HashMap<u64, Levels>, l
 
 // Takes the newest level of the span off, if it has one.
 fn close_entry(spans: &HashMap<u64, Matches>, lanes: &mut HashMap<u64, Levels>, lane: u64, id: Id)
-    ensures { levels_in lanes.new.entries ≡ put (levels_in lanes.old.entries) lane (closed (is_some (watched_in spans.now.entries id)) id (levels_in lanes.old.entries lane)) }
+    ensures { levels_in lanes.new.entries
+        ≡ changed (levels_in lanes.old.entries) lane (closed (is_watched spans.now.entries id) id) }
 {
     if spans::level_of(spans, id).is_some() {
         lanes::take_off(lanes, lane, id);

@@ -1,9 +1,9 @@
 //! A filter as a layer.
-ghost use Rattle.std.specs.Prelude.{◌≡◌, ◌<◌, false, true, Some, is_some, OnOk, Err};
+ghost use Rattle.std.specs.Prelude.{◌≡◌, ◌<◌, false, true, Some, OnOk, Err};
 ghost use Rattle.std.proofs.Common.{refl, ap, ◌∙◌};
 ghost use Rattle.otel_base.specs.declared.enter_error.EnterError.TheVariants.{Full};
 ghost use Rattle.trace_base.specs.declared.lane.Lane.{Lane};
-ghost use Rattle.env_filter.specs.Kept.{watched_in, levels_in, room_in};
+ghost use Rattle.env_filter.specs.Kept.{is_watched, levels_in, room_in};
 ghost use Rattle.env_filter.specs.Filtering.{plain, AreWhole, seen_in, interest_in, hint_in, enables_in, DoesFilter, IsReadyFilter};
 ghost use Rattle.env_filter.specs.Hooking.{same_seen, same_does, filter_sees, filter_lanes, keeps_gate, keeps_whole, same_gate, same_enables, same_whole};
 
@@ -201,7 +201,8 @@ fn prepare_entry(
 ) -> Result<(), EnterError>
     ensures not_full { ¬ (result ≡ Err Full) }
     ensures leaves { levels_in lanes.new.entries ≡ levels_in lanes.old.entries }
-    ensures room { OnOk result (is_some (watched_in spans.now.entries id) ≡ true → 0 < room_in lanes.new.entries lane) }
+    ensures room { OnOk result
+        (is_watched spans.now.entries id ≡ true → 0 < room_in lanes.new.entries lane) }
 {
     if spans::level_of(spans, id).is_some() {
         if let Err(Memory) = lanes::prepare(alloc, lanes, lane) {

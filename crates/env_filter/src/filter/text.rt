@@ -17,6 +17,9 @@ use std::fmt;
 use trace_base::level::LevelFilter;
 
 impl EnvFilter {
+    /// The variable that is read where no other is named; `EnvFilter::DEFAULT_ENV`.
+    pub const DEFAULT_ENV: &'static str = "RUST_LOG";
+
     /// What filters are built by; `EnvFilter::builder`.
     pub fn builder(alloc: Global) -> Builder
         ensures { result ≡ default_builder }

@@ -5,5 +5,5 @@ use Rattle.env_filter.proofs.Told.{level_is_told}
 use Rattle.env_filter.proofs.filter.EnvFilter.level.Goals as goal
 
 pub returns-clause-told : goal.returns-clause-told
-returns-clause-told c = λ calls order is.
-    c.level_of.ensures ∙ ap (λ (s : Filtering). span_level (plain s) c.args.id) c.self.view_is ∙ level_is_told (plain c.args.self.now) calls c.args.id order is
+returns-clause-told c = λ calls heard.
+    c.level_of.ensures ∙ ap (λ (s : Filtering). span_level (plain s) c.args.id) c.self.view_is ∙ level_is_told (plain c.args.self.now) calls c.args.id heard.order heard.now

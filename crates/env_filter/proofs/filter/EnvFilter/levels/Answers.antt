@@ -6,6 +6,6 @@ use Rattle.env_filter.proofs.Told.{levels_are_told}
 use Rattle.env_filter.proofs.filter.EnvFilter.levels.Goals as goal
 
 pub returns-clause-told : goal.returns-clause-told
-returns-clause-told c = λ calls order is.
+returns-clause-told c = λ calls heard.
     c.levels_on.ensures ∙ ap (λ (s : Filtering). map (λ (e : Opened). e.level) ((plain s).lanes c.args.lane)) c.self.view_is
-    ∙ ap (λ (es : List Opened). map (λ (e : Opened). e.level) es) (levels_are_told (plain c.args.self.now) calls c.args.lane order is)
+    ∙ ap (λ (es : List Opened). map (λ (e : Opened). e.level) es) (levels_are_told (plain c.args.self.now) calls c.args.lane heard.order heard.now)
