@@ -3,7 +3,7 @@ use Rattle.std.proofs.Common.{◌≡◌, Option, Some, List, ap, refl, ◌∙◌
 use Rattle.std.specs.Prelude.{fold}
 use Rattle.std.specs.Option.{option_map}
 use Rattle.trace_base.specs.Hooks.{Hook}
-use Rattle.span_registry.specs.Unseeing.{LeavesLanes}
+use Rattle.trace_base.specs.Unseeing.{LeavesLanes}
 use Rattle.env_filter.specs.Filtering.{Filtered, Filtering, plain, after, DoesFilter}
 use Rattle.env_filter.specs.Reloading.{Both, if_there}
 use Rattle.env_filter.proofs.Stacked.{over_all_calls, heard, step_in_place, does_in_place, same_in_place, fold_in_place}
