@@ -2,4 +2,6 @@ pub mod Applying
 pub mod Attaching
 pub mod Hooking
 pub mod Placing
+pub mod Recalling
+pub mod Replaying
 pub mod Setting

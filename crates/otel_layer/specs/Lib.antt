@@ -5,6 +5,7 @@ pub mod Laning
 pub mod Lending
 pub mod Parts
 pub mod Ready
+pub mod Recording
 pub mod Rooming
 pub mod Seeing
 pub mod Steps

@@ -8,6 +8,7 @@ pub mod laws;
 pub mod layer;
 pub mod part;
 pub mod ready;
+pub mod recording;
 mod room;
 pub mod span_ext;
 mod table;

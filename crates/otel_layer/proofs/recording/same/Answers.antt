@@ -1,0 +1,6 @@
+-- By what room leaves.
+use Rattle.otel_layer.proofs.Replaying.{same_recording}
+use Rattle.otel_layer.proofs.recording.same.Goals as goal
+
+pub returns : goal.returns
+returns c = λ old new dispatch r. same_recording old new dispatch r

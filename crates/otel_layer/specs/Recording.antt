@@ -1,0 +1,196 @@
+-- What a layer over a recorder keeps, but for its room, and what each hook and each call makes of it.
+use Rattle.std.specs.Prelude.{◌≡◌, ℕ, ◌+◌, ◌==◌, if◌then◌else◌, Bool, true, false, List, [], ◌∷◌, ◌++◌, length, fold, Option, Some, None}
+use Rattle.std.specs.Map.{remove_entry}
+use Rattle.otel_base.specs.declared.context.Context.{Context}
+use Rattle.otel_base.specs.declared.record.Record.{Record}
+use Rattle.otel_base.specs.Ids.{ids_of}
+use Rattle.otel_base.specs.Recorder.{Recorded}
+use Rattle.otel_base.specs.RecorderIds.{recorder_ids}
+use Rattle.otel_base.specs.Stack.{without, empty_context}
+use Rattle.trace_base.specs.declared.callsite.Callsite.{Callsite}
+use Rattle.trace_base.specs.declared.field.ValueSet.{ValueSet}
+use Rattle.trace_base.specs.declared.lane.Lane.{Lane}
+use Rattle.trace_base.specs.declared.span.Parent.{Parent}
+use Rattle.trace_base.specs.Calls.{SubscriberCall, NewSpan, Records, Follows, Event, Enter, Exit, CloneSpan, TryClose}
+use Rattle.trace_base.specs.Gate.{Worlds}
+use Rattle.trace_base.specs.Hooks.{Hook, OnNewSpan, OnRecord, OnFollows, OnEvent, OnEnter, OnExit, OnClose}
+use Rattle.trace_base.specs.Spans.{Spans, span_at, entries_on, current_of, place_on, without_last}
+use Rattle.span_registry.specs.declared.layered.Layered.{Layered}
+use Rattle.span_registry.specs.Registering.{Registered}
+use Rattle.span_handles.specs.Worlds.{seen, Released, closed_in}
+use Rattle.otel_state.specs.declared.op.Op.{Op}
+use Rattle.otel_state.specs.declared.op.Op.TheVariants as ops
+use Rattle.otel_state.specs.declared.settings.LayerSettings.{LayerSettings}
+use Rattle.otel_state.specs.EventFields.{event_of}
+use Rattle.otel_state.specs.Settings.{default_settings}
+use Rattle.otel_state.specs.SpanFields.{span_update}
+use Rattle.otel_state.specs.Stack.{last_passing}
+use Rattle.otel_state.specs.States.{Told, record_of}
+use Rattle.otel_layer.specs.declared.tokens.Token.{Token}
+use Rattle.otel_layer.specs.Core.{Core, Roomed, is_token}
+use Rattle.otel_layer.specs.Steps.{IfKnown, above, around, context_from, made_told, with_link}
+use Rattle.otel_layer.specs.Table.{told_at, knows_span, with_span, with_op, waits, own_or, ids_at, is_id}
+
+-- the spans that are known, with what each has come to, the open entries, how many spans the recorder has started, the
+-- finished ones that weren't taken, and the settings
+pub record Recording : Type 0 where
+  pub spans : List (ℕ × Told)
+  pub tokens : List Token
+  pub started : ℕ
+  pub finished : List Record
+  pub settings : LayerSettings
+  pub counting : Bool
+
+abbrev pub recording_of : Core Recorded → Recording
+recording_of c = record {
+  spans = c.spans;
+  tokens = c.tokens;
+  started = c.tracer.started;
+  finished = c.tracer.finished;
+  settings = c.settings;
+  counting = c.counting;
+}
+
+abbrev pub no_recording : Recording
+no_recording = record { spans = []; tokens = []; started = 0; finished = []; settings = default_settings; counting = false }
+
+-- ---- what hooks make of it
+
+abbrev pub with_applied : ℕ → ℕ → Op → Recording → Recording
+with_applied id at op r = record r { spans = with_op id at op r.spans }
+
+-- a span starts under a context as the recorder's next one
+abbrev pub started_under : Option Context → ℕ → ℕ → Recording → Recording
+started_under None id at r = r
+started_under (Some under) id at r = record r {
+  started = r.started + 1;
+  spans = with_op id at (ops.Start (recorder_ids (r.started + 1) (ids_of under))) r.spans;
+}
+
+-- a span starts, if it is known and hasn't
+abbrev pub with_start : ℕ → ℕ → Recording → Recording
+with_start id at r = started_under (waits (told_at id r.spans)) id at r
+
+-- the span that is named starts, if one is
+abbrev pub with_starts : Option ℕ → ℕ → Recording → Recording
+with_starts None at r = r
+with_starts (Some id) at r = with_start id at r
+
+-- a span is made, after the one started that gives its parent's context
+abbrev pub made_under : Option ℕ → ℕ → Lane → ℕ → Parent → Callsite → ValueSet → LayerSettings → Bool → Recording → Recording
+made_under source id lane at place callsite values settings counting r = record r {
+  spans = with_span id (made_told callsite lane values (context_from r.spans (around lane place) source) at settings counting) r.spans;
+}
+
+abbrev pub with_made : ℕ → Lane → ℕ → Parent → Option ℕ → Callsite → ValueSet → Recording → Recording
+with_made id lane at place current callsite values r =
+    let source = above r.settings.activation place current in
+    made_under source id lane at place callsite values r.settings r.counting (with_starts source at r)
+
+-- a span is linked to another, which is started
+abbrev pub linked : ℕ → ℕ → ℕ → Recording → Recording
+linked id from at r = record r { spans = with_link id at (ids_at (told_at from r.spans)) r.spans }
+
+abbrev pub with_follow : ℕ → ℕ → ℕ → Recording → Recording
+with_follow id from at r = linked id from at (with_start from at r)
+
+-- an event is told to the span that it reaches
+abbrev pub with_event : Option ℕ → ℕ → Callsite → ValueSet → Recording → Recording
+with_event None at callsite values r = r
+with_event (Some id) at callsite values r = with_applied id at (event_of callsite values r.settings at) r
+
+-- the span that an entry starts
+abbrev pub source_of : Bool → ℕ → Option ℕ
+source_of activation id = if activation then Some id else None
+
+-- an entry, which attached a context as that number, or none
+abbrev pub entered : ℕ → ℕ → ℕ → Option ℕ → Recording → Recording
+entered id lane at attached r = record r {
+  spans = with_op id at ops.Enter r.spans;
+  tokens = r.tokens ++ record { lane = lane; id = id; attached = attached } ∷ [];
+}
+
+abbrev pub with_entry : ℕ → ℕ → ℕ → Option ℕ → Recording → Recording
+with_entry id lane at attached r = entered id lane at attached (with_starts (source_of r.settings.activation id) at r)
+
+-- an exit takes off the span's last entry on the lane
+abbrev pub with_exit : ℕ → ℕ → ℕ → Recording → Recording
+with_exit id lane at r = record r {
+  spans = with_op id at ops.Exit r.spans;
+  tokens = without_last (is_token lane id) r.tokens;
+}
+
+-- a known span's record is the next that is finished
+abbrev pub closed : Option Told → ℕ → ℕ → Recording → Recording
+closed None id at r = r
+closed (Some told) id at r = record r { spans = remove_entry (is_id id) r.spans; finished = r.finished ++ record_of told at ∷ [] }
+
+abbrev pub closed_started : ℕ → ℕ → Recording → Recording
+closed_started id at r = closed (told_at id r.spans) id at r
+
+-- a span starts, if it hasn't, and closes
+abbrev pub with_close : ℕ → ℕ → Recording → Recording
+with_close id at r = closed_started id at (with_start id at r)
+
+-- ---- lanes
+
+-- with activation the span's own context is attached to the lane
+abbrev pub Attaches : Bool → Context → Lane → Lane → Option ℕ → Type 0
+Attaches true own before later attached = (number : ℕ) × (attached ≡ Some number) × (later.contexts.live ≡ before.contexts.live ++ (number, own) ∷ [])
+Attaches false own before later attached = (later.contexts.live ≡ before.contexts.live) × (attached ≡ None)
+
+-- what an entry attached is detached
+abbrev pub Detaches : Option ℕ → Lane → Lane → Type 0
+Detaches None before later = later.contexts.live ≡ before.contexts.live
+Detaches (Some number) before later = later.contexts.live ≡ without number before.contexts.live
+
+pub record Enters (r : Recording) (id at : ℕ) (before later : Lane) (t : Recording) : Type 0 where
+  pub attached : Option ℕ
+  pub lane : Attaches r.settings.activation (own_or empty_context (told_at id (with_starts (source_of r.settings.activation id) at r).spans)) before later attached
+  pub is : t ≡ with_entry id before.id at attached r
+
+pub record Exits (r : Recording) (id at : ℕ) (before later : Lane) (t : Recording) : Type 0 where
+  pub token : Token
+  pub last : last_passing (is_token before.id id) r.tokens ≡ Some token
+  pub lane : Detaches (if r.settings.activation then token.attached else None) before later
+  pub is : t ≡ with_exit id before.id at r
+
+-- nothing happens
+abbrev pub Stays : Recording → Lane → Lane → Recording → Type 0
+Stays r before later t = (t ≡ r) × (later.contexts.live ≡ before.contexts.live)
+
+-- ---- all hooks and all calls
+
+abbrev pub RecordsHook : Recording → Hook → Recording → Type 0
+RecordsHook r (OnNewSpan id lane at place current callsite values) t = t ≡ with_made id lane at place current callsite values r
+RecordsHook r (OnRecord id at callsite values) t = t ≡ with_applied id at (ops.Update (span_update callsite values r.settings)) r
+RecordsHook r (OnFollows id from at) t = t ≡ with_follow id from at r
+RecordsHook r (OnEvent reached lane at callsite values) t = t ≡ with_event reached at callsite values r
+RecordsHook r (OnEnter id at before later) t = IfKnown (knows_span id r.spans) (Enters r id at before later t) (Stays r before later t)
+RecordsHook r (OnExit id at before later) t = IfKnown (knows_span id r.spans) (Exits r id at before later t) (Stays r before later t)
+RecordsHook r (OnClose id at) t = t ≡ with_close id at r
+
+-- a call is its hook; a release is one where the span closes
+abbrev pub RecordsCall : Spans → Recording → SubscriberCall → Recording → Type 0
+RecordsCall spans r (NewSpan lane at place site callsite values) t = RecordsHook r (OnNewSpan (length spans.made) lane at place (current_of (entries_on lane.id spans.lanes)) callsite values) t
+RecordsCall spans r (Records id at callsite values) t = RecordsHook r (OnRecord id at callsite values) t
+RecordsCall spans r (Follows id from at) t = RecordsHook r (OnFollows id from at) t
+RecordsCall spans r (Event lane at place site callsite values) t = RecordsHook r (OnEvent (place_on (entries_on lane.id spans.lanes) place) lane at callsite values) t
+RecordsCall spans r (Enter id at before later) t = RecordsHook r (OnEnter id at before later) t
+RecordsCall spans r (Exit id at before later) t = RecordsHook r (OnExit id at before later) t
+RecordsCall spans r (CloneSpan id) t = t ≡ r
+RecordsCall spans r (TryClose id at) t = t ≡ (if (span_at spans.made id).holds == 1 then with_close id at r else r)
+
+-- a chain of closes: each span that closes, in order
+pub record RecordsChain (at : ℕ) (next : Option ℕ) (x y : Spans) (before later : Recording) : Type 0 where
+  pub chain : Released next x y
+  pub is : later ≡ fold (λ r id. with_close id at r) before (closed_in next x y chain)
+
+-- ---- the stack
+
+-- what the layer straight over the registry keeps
+abbrev pub recorded : Layered (Roomed Recorded) Registered → Recording
+recorded s = recording_of s.layer.core
+
+abbrev pub recording_in : Worlds (Layered (Roomed Recorded) Registered) → ℕ → Recording
+recording_in world dispatch = seen recorded no_recording world dispatch
