@@ -1,5 +1,6 @@
 pub mod Applying
 pub mod Attaching
+pub mod Finding
 pub mod Hooking
 pub mod Placing
 pub mod Recalling

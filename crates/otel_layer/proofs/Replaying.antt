@@ -1,6 +1,7 @@
 -- What the calls of a stack make of what its layer over a recorder keeps.
-use Rattle.std.proofs.Common.{◌≡◌, ◌<◌, ℕ, List, [], ◌∷◌, ◌++◌, length, Bool, true, false, Option, Some, None, refl, sym, ap, subst, ◌∙◌, inl, inr, arith}
+use Rattle.std.proofs.Common.{◌≡◌, ◌<◌, ℕ, List, [], ◌∷◌, ◌++◌, length, Bool, true, false, Option, Some, None, slice_get, refl, sym, ap, subst, ◌∙◌, inl, inr, arith}
 use Rattle.std.specs.Prelude.{◌==◌, if◌then◌else◌, fold}
+use Rattle.std.specs.Option.{option_map_or}
 use Rattle.std.proofs.lemmas.Bool.{cases_eq, cases_Bool, true≢false, eq-eqb, ne_eqb, cond-true, cond-false}
 use Rattle.otel_base.specs.declared.context.Context.{Context}
 use Rattle.otel_base.specs.Recorder.{Recorded}
@@ -13,16 +14,17 @@ use Rattle.trace_base.specs.Spans.{Spans, next_of, span_at}
 use Rattle.trace_base.specs.Calls.{SubscriberCall, NewSpan, Records, Follows, Event, Enter, Exit, CloneSpan, TryClose, after}
 use Rattle.trace_base.specs.Conditions.{Allowed}
 use Rattle.span_registry.specs.declared.layered.Layered.{Layered}
-use Rattle.span_registry.specs.Both.{DoesBoth}
+use Rattle.span_registry.specs.Both.{DoesBoth, InStep}
 use Rattle.span_registry.specs.Layering.{both_allowed, both_shows}
 use Rattle.span_registry.specs.Registering.{Registered, DoesRegistry}
 use Rattle.span_handles.specs.Worlds.{Replaced, seen, Chain, ended, closes, all_released, releases, closed_in, no_spans}
 use Rattle.span_handles.proofs.Showing.{seen_before, seen_later}
 use Rattle.otel_state.specs.Stack.{last_passing}
-use Rattle.otel_layer.specs.Core.{Core, Roomed, is_token}
+use Rattle.otel_layer.specs.Core.{Core, Roomed, is_token, seen_in}
 use Rattle.otel_layer.specs.Steps.{IfKnown, SameCore, DoesHook, all_events}
 use Rattle.otel_layer.specs.Table.{told_at, knows_span, own_or}
 use Rattle.otel_layer.specs.Recording.{Recording, recording_of, no_recording, with_starts, source_of, with_entry, with_exit, with_close, Attaches, Detaches, Enters, Exits, Stays, RecordsCall, RecordsChain, recorded}
+use Rattle.otel_layer.proofs.Finding.{told_at_next}
 use Rattle.otel_layer.proofs.Recalling.{room_recording, hook_recording}
 
 -- ---- a lane with the same id and contexts
@@ -169,3 +171,11 @@ pub same_recording : (old new : Worlds Stack) (dispatch : ℕ) → Replaced (λ 
 same_recording old new dispatch r =
     let R : Stack → Stack → Type 0 = λ s t. (t.inner ≡ s.inner) × same_layer s.layer t.layer in
     seen_later R old new dispatch r recorded no_recording ∙ room_recording r.before.layer.core r.later.layer.core r.did.1 ∙ sym (seen_before R old new dispatch r recorded no_recording)
+
+-- no span is known yet under the id of the next one
+pub next_untold : (world : Worlds Stack) (dispatch : ℕ) (s : Stack) → slice_get world.subscribers dispatch ≡ Some s → InStep s.inner.spans (seen_in s.layer.core)
+    → told_at (length (seen stack_spans no_spans world dispatch).made) (seen recorded no_recording world dispatch).spans ≡ None
+next_untold world dispatch s there step =
+    let spans = ap (λ (o : Option Stack). option_map_or stack_spans o no_spans) there in
+    let own = ap (λ (o : Option Stack). option_map_or recorded o no_recording) there in
+    rw (spans, own) (told_at_next (length s.inner.spans.made) s.layer.core.spans (step.made (length s.inner.spans.made)))

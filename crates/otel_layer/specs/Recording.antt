@@ -1,7 +1,8 @@
 -- What a layer over a recorder keeps, but for its room, and what each hook and each call makes of it.
-use Rattle.std.specs.Prelude.{◌≡◌, ℕ, ◌+◌, ◌==◌, if◌then◌else◌, Bool, true, false, List, [], ◌∷◌, ◌++◌, length, fold, Option, Some, None}
+use Rattle.std.specs.Prelude.{◌≡◌, ◌≢◌, ℕ, ◌+◌, ◌==◌, if◌then◌else◌, Bool, true, false, List, [], ◌∷◌, ◌++◌, length, fold, Option, Some, None}
 use Rattle.std.specs.Map.{remove_entry}
 use Rattle.otel_base.specs.declared.context.Context.{Context}
+use Rattle.otel_base.specs.declared.context.SpanContext.{SpanContext}
 use Rattle.otel_base.specs.declared.record.Record.{Record}
 use Rattle.otel_base.specs.Ids.{ids_of}
 use Rattle.otel_base.specs.Recorder.{Recorded}
@@ -25,7 +26,7 @@ use Rattle.otel_state.specs.EventFields.{event_of}
 use Rattle.otel_state.specs.Settings.{default_settings}
 use Rattle.otel_state.specs.SpanFields.{span_update}
 use Rattle.otel_state.specs.Stack.{last_passing}
-use Rattle.otel_state.specs.States.{Told, record_of}
+use Rattle.otel_state.specs.States.{Told, changed, record_of}
 use Rattle.otel_layer.specs.declared.tokens.Token.{Token}
 use Rattle.otel_layer.specs.Core.{Core, Roomed, is_token}
 use Rattle.otel_layer.specs.Steps.{IfKnown, above, around, context_from, made_told, with_link}
@@ -194,3 +195,34 @@ recorded s = recording_of s.layer.core
 
 abbrev pub recording_in : Worlds (Layered (Roomed Recorded) Registered) → ℕ → Recording
 recording_in world dispatch = seen recorded no_recording world dispatch
+
+-- ---- the state of any span
+
+-- what an op of one span makes of the state of any
+abbrev pub told_after : Bool → ℕ → Op → Option Told → Option Told
+told_after false at op told = told
+told_after true at op None = None
+told_after true at op (Some told) = Some (changed told at op)
+
+-- the same for a start as the recorder's next span, if there is a context to start under
+abbrev pub told_started : Option Context → Bool → ℕ → ℕ → Option Told → Option Told
+told_started None same count at told = told
+told_started (Some under) same count at told = told_after same at (ops.Start (recorder_ids (count + 1) (ids_of under))) told
+
+-- a state with a start as the recorder's next span, where it hasn't started
+abbrev pub started_by : Option SpanContext → ℕ → ℕ → Told → Told
+started_by (Some own) count at told = told
+started_by None count at told = changed told at (ops.Start (recorder_ids (count + 1) (ids_of told.parent)))
+
+abbrev pub count_after : Option SpanContext → ℕ → ℕ
+count_after (Some own) count = count
+count_after None count = count + 1
+
+-- what a close of a known span leaves
+pub record Closes (id at : ℕ) (r : Recording) (told : Told) (t : Recording) : Type 0 where
+  pub finished : t.finished ≡ r.finished ++ record_of (started_by told.own r.started at told) at ∷ []
+  pub started : t.started ≡ count_after told.own r.started
+  pub tokens : t.tokens ≡ r.tokens
+  pub settings : t.settings ≡ r.settings
+  pub counting : t.counting ≡ r.counting
+  pub others : (other : ℕ) → other ≢ id → told_at other t.spans ≡ told_at other r.spans

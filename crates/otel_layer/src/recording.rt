@@ -1,14 +1,18 @@
 //! What a layer over a recorder keeps, read through the stack and the world around it. Each law is a function that does
 //! nothing.
-ghost use Rattle.std.specs.Prelude.{◌≡◌, ℕ, Some};
+ghost use Rattle.std.specs.Prelude.{◌≡◌, ◌≢◌, ◌==◌, if◌then◌else◌, ℕ, List, Option, None, Some, length, slice_get};
+ghost use Rattle.std.specs.Map.{remove_entry};
 ghost use Rattle.otel_base.specs.Recorder.{Recorded};
 ghost use Rattle.trace_base.specs.Gate.{Worlds};
 ghost use Rattle.trace_base.specs.Calls.{SubscriberCall};
 ghost use Rattle.span_registry.specs.declared.layered.Layered.{Layered as LayeredValue};
 ghost use Rattle.span_registry.specs.Registering.{Registered};
 ghost use Rattle.span_handles.specs.Worlds.{Replaced, Chain, spans_in};
+ghost use Rattle.otel_state.specs.declared.op.Op.{Op};
+ghost use Rattle.otel_state.specs.States.{Told};
 ghost use Rattle.otel_layer.specs.Core.{Roomed};
-ghost use Rattle.otel_layer.specs.Recording.{RecordsCall, RecordsChain, recording_in};
+ghost use Rattle.otel_layer.specs.Table.{told_at, with_op, with_span, waits, is_id};
+ghost use Rattle.otel_layer.specs.Recording.{Recording, RecordsCall, RecordsChain, recording_in, with_start, with_close, told_after, told_started, Closes};
 
 use crate::layer::OpenTelemetryLayer;
 use otel_base::recorder::Recorder;
@@ -42,4 +46,26 @@ pub fn chains()
         → RecordsChain at (Some id) (spans_in ⟦<RecordedStack as Subscriber>⟧.spans old dispatch)
         (spans_in ⟦<RecordedStack as Subscriber>⟧.spans new dispatch) (recording_in old dispatch)
         (recording_in new dispatch) }
+{}
+
+/// What each change makes of the state of any span.
+pub fn states()
+    ensures op { (id other at : ℕ) (op : Op) (spans : List (ℕ × Told))
+        → told_at other (with_op id at op spans) ≡ told_after (other == id) at op (told_at other spans) }
+    ensures start { (id other at : ℕ) (r : Recording) → told_at other (with_start id at r).spans
+        ≡ told_started (waits (told_at id r.spans)) (other == id) r.started at (told_at other r.spans) }
+    ensures made { (id other : ℕ) (told : Told) (spans : List (ℕ × Told)) → told_at id spans ≡ None
+        → told_at other (with_span id told spans) ≡ (if other == id then Some told else told_at other spans) }
+    ensures removed { (id other : ℕ) (spans : List (ℕ × Told)) → other ≢ id
+        → told_at other (remove_entry (is_id id) spans) ≡ told_at other spans }
+    ensures closes { (id at : ℕ) (r : Recording) (told : Told) → told_at id r.spans ≡ Some told
+        → Closes id at r told (with_close id at r) }
+{}
+
+/// No span is known yet under the id of the next one.
+pub fn next()
+    ensures { (world : Worlds (LayeredValue (Roomed Recorded) Registered)) (dispatch : ℕ) (s : _)
+        → slice_get world.subscribers dispatch ≡ Some s → ⟦<RecordedStack as Subscriber>⟧.is_whole s
+        → told_at (length (spans_in ⟦<RecordedStack as Subscriber>⟧.spans world dispatch).made)
+        (recording_in world dispatch).spans ≡ None }
 {}
