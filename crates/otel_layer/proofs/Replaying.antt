@@ -21,11 +21,12 @@ use Rattle.span_handles.specs.Worlds.{Replaced, seen, Chain, ended, closes, all_
 use Rattle.span_handles.proofs.Showing.{seen_before, seen_later}
 use Rattle.otel_state.specs.Stack.{last_passing}
 use Rattle.otel_layer.specs.Core.{Core, Roomed, is_token, seen_in}
+use Rattle.otel_layer.specs.Parts.{PartCall, Applies, Shows, Touches, TouchesFirst, TouchesNone}
 use Rattle.otel_layer.specs.Steps.{IfKnown, SameCore, DoesHook, all_events}
 use Rattle.otel_layer.specs.Table.{told_at, knows_span, own_or}
-use Rattle.otel_layer.specs.Recording.{Recording, recording_of, no_recording, with_starts, source_of, with_entry, with_exit, with_close, Attaches, Detaches, Enters, Exits, Stays, RecordsCall, RecordsChain, recorded}
+use Rattle.otel_layer.specs.Recording.{Recording, recording_of, no_recording, with_starts, source_of, with_entry, with_exit, with_close, Attaches, Detaches, Enters, Exits, Stays, RecordsCall, RecordsChain, RecordsPart, recorded}
 use Rattle.otel_layer.proofs.Finding.{told_at_next}
-use Rattle.otel_layer.proofs.Recalling.{room_recording, hook_recording}
+use Rattle.otel_layer.proofs.Recalling.{room_recording, start_recording, hook_recording}
 
 -- ---- a lane with the same id and contexts
 
@@ -179,3 +180,17 @@ next_untold world dispatch s there step =
     let spans = ap (λ (o : Option Stack). option_map_or stack_spans o no_spans) there in
     let own = ap (λ (o : Option Stack). option_map_or recorded o no_recording) there in
     rw (spans, own) (told_at_next (length s.inner.spans.made) s.layer.core.spans (step.made (length s.inner.spans.made)))
+
+-- a call from outside
+part_recording : (c : Core Recorded) (call : PartCall) (d : Core Recorded) → Touches RecordsBy c call d → RecordsPart (recording_of c) call (recording_of d)
+part_recording c (Applies id at op answer) d h = (h.1, ap recording_of h.2)
+part_recording c (Shows id at answer) d h = (start_recording id at c d h.0, h.1)
+
+abbrev StackTouches : Stack → PartCall → Stack → Type 0
+StackTouches s call t = TouchesFirst true (λ (l : Roomed Recorded) (c : PartCall) (m : Roomed Recorded). Touches RecordsBy l.core c m.core) (λ (x : Registered) (c : PartCall) (y : Registered). TouchesNone x c y) s.layer s.inner call t.layer t.inner
+
+pub asks_recording : (old new : Worlds Stack) (dispatch : ℕ) (call : PartCall) → Replaced (λ s t. StackTouches s call t) old new dispatch
+    → RecordsPart (seen recorded no_recording old dispatch) call (seen recorded no_recording new dispatch)
+asks_recording old new dispatch call r =
+    let R : Stack → Stack → Type 0 = λ s t. StackTouches s call t in
+    rw (seen_before R old new dispatch r recorded no_recording, seen_later R old new dispatch r recorded no_recording) (part_recording r.before.layer.core call r.later.layer.core r.did.0)

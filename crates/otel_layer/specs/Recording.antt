@@ -29,6 +29,7 @@ use Rattle.otel_state.specs.Stack.{last_passing}
 use Rattle.otel_state.specs.States.{Told, changed, record_of}
 use Rattle.otel_layer.specs.declared.tokens.Token.{Token}
 use Rattle.otel_layer.specs.Core.{Core, Roomed, is_token}
+use Rattle.otel_layer.specs.Parts.{PartCall, Applies, Shows, AppliesTo, context_at}
 use Rattle.otel_layer.specs.Steps.{IfKnown, above, around, context_from, made_told, with_link}
 use Rattle.otel_layer.specs.Table.{told_at, knows_span, with_span, with_op, waits, own_or, ids_at, is_id}
 
@@ -186,6 +187,11 @@ RecordsCall spans r (TryClose id at) t = t ≡ (if (span_at spans.made id).holds
 pub record RecordsChain (at : ℕ) (next : Option ℕ) (x y : Spans) (before later : Recording) : Type 0 where
   pub chain : Released next x y
   pub is : later ≡ fold (λ r id. with_close id at r) before (closed_in next x y chain)
+
+-- a call from outside: an op is applied, or a span starts whose own context is shown
+abbrev pub RecordsPart : Recording → PartCall → Recording → Type 0
+RecordsPart r (Applies id at op answer) t = AppliesTo (told_at id r.spans) r.spans id at op answer t.spans × (t ≡ record r { spans = t.spans })
+RecordsPart r (Shows id at answer) t = (t ≡ with_start id at r) × (answer ≡ context_at (told_at id t.spans))
 
 -- ---- the stack
 

@@ -8,6 +8,7 @@ use Rattle.otel_base.specs.declared.context.SpanContext.{SpanContext}
 use Rattle.otel_base.specs.declared.memory.Memory.{Memory}
 use Rattle.otel_base.specs.Tracer.{TracerCall, Spares}
 use Rattle.otel_base.specs.Tracer.{Starts as CountsStarts}
+use Rattle.trace_base.specs.Hooks.{Seen}
 use Rattle.trace_base.specs.Spans.{Spans}
 use Rattle.span_registry.specs.declared.layered.Layered.{Layered}
 use Rattle.otel_state.specs.declared.op.Op.{Op}
@@ -17,7 +18,7 @@ use Rattle.otel_state.specs.States.{Told, changed}
 use Rattle.otel_layer.specs.Table.{told_at, with_op, waits, waiting_in}
 use Rattle.otel_layer.specs.Core.{Core, seen_in, kept_in, seen_by, IsWholeCore}
 use Rattle.otel_layer.specs.Steps.{StartsIf, Starts}
-use Rattle.otel_layer.specs.Parts.{PartCall, Applies, Shows, IsOutside, AppliesTo, context_at, Touches, ShowsIn, TellsIf, IsUnanswered, TouchesFirst, StaysStack}
+use Rattle.otel_layer.specs.Parts.{PartCall, Applies, Shows, IsOutside, AppliesTo, context_at, Touches, ShowsIn, TellsIf, IsUnanswered, TouchesFirst, StaysLayer, StaysStack}
 use Rattle.otel_layer.specs.Keeping.{Kin, update_keys, update_waiting_same, whole_kin, starts_kin}
 use Rattle.otel_layer.specs.Seeing.{Quiet, starts_quiet}
 
@@ -120,3 +121,19 @@ module _ {L S : Type 0} (l_has : L → Bool) (s_has : S → Bool) (outer : L →
 
 pub layered_is : {L S : Type 0} (s t : Layered L S) → t.layer ≡ s.layer → t.inner ≡ s.inner → t ≡ s
 layered_is {L} {S} s t l i = ap (λ (x : L). let r : Layered L S = record { layer = x; inner = t.inner } in r) l ∙ ap (λ (y : S). let r : Layered L S = record { layer = s.layer; inner = y } in r) i
+
+-- ---- what stays of a stack
+
+still_layer : {L : Type 0} (seen : L → Seen) (kept : L → ℕ → ℕ → ℕ) (attaches : L → Bool) (is_whole : L → Type 0) (l m : L) → m ≡ l → StaysLayer seen kept attaches is_whole l m
+still_layer seen kept attaches is_whole l m e = record { seen_same = ap seen e; kept_same = ap kept e; attaches_same = ap attaches e; whole = λ w. subst is_whole (sym e) w }
+
+still_stack : {S : Type 0} (spans : S → Spans) (kept : S → ℕ → ℕ → ℕ) (attaches : S → Bool) (is_whole : S → Type 0) (s t : S) → t ≡ s → StaysStack spans kept attaches is_whole s t
+still_stack spans kept attaches is_whole s t e = record { spans_same = ap spans e; kept_same = ap kept e; attaches_same = ap attaches e; whole = λ w. subst is_whole (sym e) w }
+
+-- the part that isn't asked stays as it is
+pub first_stay : {L S : Type 0} (b : Bool) (outer : L → PartCall → L → Type 0) (inner : S → PartCall → S → Type 0) (seen : L → Seen) (kept : L → ℕ → ℕ → ℕ) (attaches : L → Bool) (is_whole : L → Type 0)
+    → (spans : S → Spans) (below : S → ℕ → ℕ → ℕ) (inner_attaches : S → Bool) (inner_whole : S → Type 0) (l : L) (s : S) (call : PartCall) (m : L) (t : S)
+    → (outer l call m → StaysLayer seen kept attaches is_whole l m) → (inner s call t → StaysStack spans below inner_attaches inner_whole s t)
+    → TouchesFirst b outer inner l s call m t → StaysLayer seen kept attaches is_whole l m × StaysStack spans below inner_attaches inner_whole s t
+first_stay true outer inner seen kept attaches is_whole spans below inner_attaches inner_whole l s call m t l_stays s_stays d = (l_stays d.0, still_stack spans below inner_attaches inner_whole s t d.1)
+first_stay false outer inner seen kept attaches is_whole spans below inner_attaches inner_whole l s call m t l_stays s_stays d = (still_layer seen kept attaches is_whole l m d.0, s_stays d.1)

@@ -4,7 +4,8 @@ ghost use Rattle.std.proofs.Common.{refl, ap};
 ghost use Rattle.std.proofs.lemmas.Bool.{true≢false};
 ghost use Rattle.otel_state.specs.States.{Told};
 ghost use Rattle.otel_layer.specs.Parts.{PartCall, Applies, Shows, IsOutside, Touches, TouchesNone, TouchesFirst, TellsIf, IsUnanswered, StaysLayer, StaysStack};
-ghost use Rattle.otel_layer.specs.Touching.{touches_tell, core_stays, layer_can_start, first_tells, first_none, first_has, layered_is};
+ghost use Rattle.otel_layer.specs.Touching.{touches_tell, core_stays, layer_can_start, first_tells, first_none, first_has, first_stay, layered_is};
+ghost use Rattle.span_registry.specs.Layering.{kept_same, or_same, whole_both, in_step_same};
 
 use crate::layer::OpenTelemetryLayer;
 use otel_base::context::Context;
@@ -186,4 +187,20 @@ impl<L: Layer + OtelPart, S: Subscriber + OtelPart> OtelPart for Layered<L, S> {
             self.inner_mut().otel_context(id, at)
         }
     }
+}
+
+impl<L: OtelLayer, S: OtelSubscriber> OtelSubscriber for Layered<L, S> {
+    ghost stays = { λ s call t d.
+        let both = first_stay (L.has s.layer) L.touches S.touches L.seen L.kept L.attaches L.is_whole S.spans S.kept S.attaches S.is_whole
+        s.layer s.inner call t.layer t.inner (L.stays s.layer call t.layer) (S.stays s.inner call t.inner) d in
+        record {
+        spans_same = both.1.spans_same;
+        kept_same = kept_same (L.kept s.layer) (L.kept t.layer) (S.kept s.inner) (S.kept t.inner) both.0.kept_same both.1.kept_same;
+        attaches_same = or_same (L.attaches s.layer) (L.attaches t.layer) (S.attaches s.inner) (S.attaches t.inner) both.0.attaches_same both.1.attaches_same;
+        whole = λ w. whole_both (S.is_whole s.inner) (S.is_whole t.inner) (L.is_whole s.layer) (L.is_whole t.layer) (S.spans s.inner) (S.spans t.inner) (L.seen s.layer) (L.seen t.layer)
+        (S.attaches s.inner) (S.attaches t.inner) (L.attaches s.layer) (L.attaches t.layer) both.1.whole both.0.whole
+        (in_step_same (S.spans s.inner) (S.spans t.inner) (L.seen s.layer) (L.seen t.layer) both.1.spans_same both.0.seen_same) both.1.attaches_same both.0.attaches_same w;
+        } };
+
+    ghost starts = { λ s w. (L.starts s.layer w.outer, S.starts s.inner w.inner) };
 }

@@ -7,14 +7,16 @@ ghost use Rattle.trace_base.specs.Gate.{Worlds};
 ghost use Rattle.trace_base.specs.Calls.{SubscriberCall};
 ghost use Rattle.span_registry.specs.declared.layered.Layered.{Layered as LayeredValue};
 ghost use Rattle.span_registry.specs.Registering.{Registered};
-ghost use Rattle.span_handles.specs.Worlds.{Replaced, Chain, spans_in};
+ghost use Rattle.span_handles.specs.Worlds.{Replaced, Alike, Chain, spans_in};
 ghost use Rattle.otel_state.specs.declared.op.Op.{Op};
 ghost use Rattle.otel_state.specs.States.{Told};
 ghost use Rattle.otel_layer.specs.Core.{Roomed};
+ghost use Rattle.otel_layer.specs.Parts.{PartCall};
 ghost use Rattle.otel_layer.specs.Table.{told_at, with_op, with_span, waits, is_id};
-ghost use Rattle.otel_layer.specs.Recording.{Recording, RecordsCall, RecordsChain, recording_in, with_start, with_close, told_after, told_started, Closes};
+ghost use Rattle.otel_layer.specs.Recording.{Recording, RecordsCall, RecordsChain, RecordsPart, recording_in, with_start, with_close, told_after, told_started, Closes};
 
 use crate::layer::OpenTelemetryLayer;
+use crate::part::{OtelPart, OtelSubscriber};
 use otel_base::recorder::Recorder;
 use span_registry::layered::Layered;
 use span_registry::registry::Registry;
@@ -68,4 +70,18 @@ pub fn next()
         → slice_get world.subscribers dispatch ≡ Some s → ⟦<RecordedStack as Subscriber>⟧.is_whole s
         → told_at (length (spans_in ⟦<RecordedStack as Subscriber>⟧.spans world dispatch).made)
         (recording_in world dispatch).spans ≡ None }
+{}
+
+/// A call from outside is one step of what the layer keeps.
+pub fn asks()
+    ensures { (old new : Worlds (LayeredValue (Roomed Recorded) Registered)) (dispatch : ℕ) (call : PartCall)
+        → Replaced (λ s t. ⟦<RecordedStack as OtelPart>⟧.touches s call t) old new dispatch
+        → RecordsPart (recording_in old dispatch) call (recording_in new dispatch) }
+{}
+
+/// It leaves the plain data of every subscriber.
+pub fn leaves<S: OtelSubscriber>()
+    ensures { (old new : Worlds S) (dispatch : ℕ) (call : PartCall)
+        → Replaced (λ s t. S.touches s call t) old new dispatch
+        → Alike S.spans S.attaches S.kept S.is_whole old new dispatch }
 {}
