@@ -55,7 +55,7 @@ starts_recording (Some id) at c d h = start_recording id at c d h
 -- ---- lanes
 
 attaches : (active : Bool) (own : Context) (before later : Lane) (attached : Option ℕ) → EntersLane active own before later attached → Attaches active own before later attached
-attaches true own before later attached h = (h.number, h.is, h.live)
+attaches true own before later attached h = record { number = h.number; is = h.is; fresh = h.fresh; live = h.live }
 attaches false own before later attached h = (ap (λ (l : Lane). l.contexts.live) h.0, h.1)
 
 detaches : (o : Option ℕ) (before later : Lane) → LeavesLane o before later → Detaches o before later

@@ -6,7 +6,7 @@ use Rattle.std.proofs.lemmas.Bool.{cases_eq, cases_Bool, true≢false, eq-eqb, n
 use Rattle.otel_base.specs.declared.context.Context.{Context}
 use Rattle.otel_base.specs.Recorder.{Recorded}
 use Rattle.otel_base.specs.Recorder.{Records as RecordsBy}
-use Rattle.otel_base.specs.Stack.{without, empty_context}
+use Rattle.otel_base.specs.Stack.{has, without, empty_context}
 use Rattle.trace_base.specs.declared.lane.Lane.{Lane}
 use Rattle.trace_base.specs.Gate.{Worlds}
 use Rattle.trace_base.specs.Hooks.{Hook}
@@ -31,7 +31,12 @@ use Rattle.otel_layer.proofs.Recalling.{room_recording, start_recording, hook_re
 -- ---- a lane with the same id and contexts
 
 attaches_from : (active : Bool) (own : Context) (between before later : Lane) (attached : Option ℕ) → between.contexts.live ≡ before.contexts.live → Attaches active own between later attached → Attaches active own before later attached
-attaches_from true own between before later attached e h = (h.0, h.1, h.2 ∙ ap (λ (live : List (ℕ × Context)). live ++ (h.0, own) ∷ []) e)
+attaches_from true own between before later attached e h = record {
+  number = h.number;
+  is = h.is;
+  fresh = ap (has h.number) (sym e) ∙ h.fresh;
+  live = h.live ∙ ap (λ (live : List (ℕ × Context)). live ++ (h.number, own) ∷ []) e;
+}
 attaches_from false own between before later attached e h = (h.0 ∙ e, h.1)
 
 detaches_from : (o : Option ℕ) (between before later : Lane) → between.contexts.live ≡ before.contexts.live → Detaches o between later → Detaches o before later

@@ -7,7 +7,7 @@ use Rattle.otel_base.specs.declared.record.Record.{Record}
 use Rattle.otel_base.specs.Ids.{ids_of}
 use Rattle.otel_base.specs.Recorder.{Recorded}
 use Rattle.otel_base.specs.RecorderIds.{recorder_ids}
-use Rattle.otel_base.specs.Stack.{without, empty_context}
+use Rattle.otel_base.specs.Stack.{has, without, empty_context}
 use Rattle.trace_base.specs.declared.callsite.Callsite.{Callsite}
 use Rattle.trace_base.specs.declared.field.ValueSet.{ValueSet}
 use Rattle.trace_base.specs.declared.lane.Lane.{Lane}
@@ -136,9 +136,16 @@ with_close id at r = closed_started id at (with_start id at r)
 
 -- ---- lanes
 
+-- a context is attached above all others, under a number that none of them has
+pub record AttachesAs (own : Context) (before later : Lane) (attached : Option ℕ) : Type 0 where
+  pub number : ℕ
+  pub is : attached ≡ Some number
+  pub fresh : has number before.contexts.live ≡ false
+  pub live : later.contexts.live ≡ before.contexts.live ++ (number, own) ∷ []
+
 -- with activation the span's own context is attached to the lane
 abbrev pub Attaches : Bool → Context → Lane → Lane → Option ℕ → Type 0
-Attaches true own before later attached = (number : ℕ) × (attached ≡ Some number) × (later.contexts.live ≡ before.contexts.live ++ (number, own) ∷ [])
+Attaches true own before later attached = AttachesAs own before later attached
 Attaches false own before later attached = (later.contexts.live ≡ before.contexts.live) × (attached ≡ None)
 
 -- what an entry attached is detached

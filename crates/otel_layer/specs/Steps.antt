@@ -4,7 +4,7 @@ use Rattle.std.specs.Map.{remove_entry}
 use Rattle.otel_base.specs.declared.context.Context.{Context}
 use Rattle.otel_base.specs.declared.context.SpanContext.{SpanContext}
 use Rattle.otel_base.specs.Ids.{ids_of}
-use Rattle.otel_base.specs.Stack.{without, last_context, empty_context}
+use Rattle.otel_base.specs.Stack.{has, without, last_context, empty_context}
 use Rattle.otel_base.specs.Tracer.{TracerCall, Start, Reserve, Finish}
 use Rattle.trace_base.specs.declared.callsite.Callsite.{Callsite}
 use Rattle.trace_base.specs.declared.field.ValueSet.{ValueSet}
@@ -116,10 +116,11 @@ all_events settings lane at callsite values told = changed told at (event_of cal
 
 -- ---- entries and exits
 
--- a context is attached to a lane, and one is detached
+-- a context is attached to a lane under a number that no other one has there, and one is detached
 pub record AttachesContext (own : Context) (before later : Lane) (attached : Option ℕ) : Type 0 where
   pub number : ℕ
   pub is : attached ≡ Some number
+  pub fresh : has number before.contexts.live ≡ false
   pub keeps : KeepsLane true before later
   pub live : later.contexts.live ≡ before.contexts.live ++ (number, own) ∷ []
 
