@@ -5,4 +5,6 @@ pub mod Hooking
 pub mod Placing
 pub mod Recalling
 pub mod Replaying
+pub mod Rising
 pub mod Setting
+pub mod Tallying

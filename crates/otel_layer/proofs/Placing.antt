@@ -1,6 +1,6 @@
 -- A table of states, seen as the list of what its spans have come to.
 use Rattle.std.proofs.Common.{◌≡◌, ℕ, suc, zero, ◌+◌, ◌<◌, ◌≤◌, List, [], ◌∷◌, length, Bool, true, false, cond, get_or, map, Option, Some, None, refl, sym, ap, ◌∙◌, arith, inl, inr}
-use Rattle.std.specs.Prelude.{Result, Ok, Err, OnOk, OnErr, unwrap_or, ◌||◌, ◌==◌, nat_lt, slice_set}
+use Rattle.std.specs.Prelude.{Result, Ok, Err, OnOk, OnErr, unwrap_or, is_some, ◌||◌, ◌==◌, nat_lt, slice_set}
 use Rattle.std.specs.List.{position, position_or_len, list_any}
 use Rattle.std.specs.Map.{remove_entry, lookup}
 use Rattle.std.specs.List.{remove}
@@ -12,10 +12,7 @@ use Rattle.otel_base.specs.declared.context.SpanContext.{SpanContext}
 use Rattle.otel_layer.specs.declared.table.Entry.{Entry}
 use Rattle.otel_state.specs.States.{Told, Room}
 use Rattle.otel_base.specs.Ids.{ids_of}
-use Rattle.otel_layer.specs.Table.{ids_at, waits, waits_by, own_or, told_entry, room_entry, told_at, is_id, knows_span, update}
-
-abbrev pub is_of : ℕ → Entry → Bool
-is_of id = λ e. e.id == id
+use Rattle.otel_layer.specs.Table.{is_of, ids_at, waits, waits_by, own_or, told_entry, room_entry, told_at, is_id, knows_span, update}
 
 -- by the facts of a place
 told_there : (id : ℕ) (xs : List Entry) (n : ℕ) (d : Entry) → n < length xs → is_of id (get_or xs n d) ≡ true → ((k : ℕ) → k < n → is_of id (get_or xs k d) ≡ false) → told_at id (map told_entry xs) ≡ Some (get_or xs n d).state.told
@@ -184,3 +181,18 @@ found_tolds id xs n d e h ids told = (let p = position-Some (is_of id) xs n d h 
 pub on_err : {A B : Type 0} (r : Result A B) (P Q : Type 0) → (P → Q) → OnErr r P → OnErr r Q
 on_err (Ok a) P Q f h = h
 on_err (Err b) P Q f h = f h
+
+any_there : (id : ℕ) (xs : List Entry) (n : ℕ) (d : Entry) → n < length xs → is_of id (get_or xs n d) ≡ true → list_any (is_of id) xs ≡ true
+any_there id [] n d within here = absurd (omega (arith, within))
+any_there id (x ∷ xs) zero d within here = ap (λ b. b || list_any (is_of id) xs) here
+any_there id (x ∷ xs) (suc n) d within here = ap (λ b. is_of id x || b) (any_there id xs n d (omega (arith, within)) here) ∙ or_true (is_of id x)
+  where
+    or_true : (b : Bool) → (b || true) ≡ true
+    or_true true = refl
+    or_true false = refl
+
+-- a span is known where a place is found
+pub found_any : (id : ℕ) (xs : List Entry) (o : Option ℕ) → o ≡ position (is_of id) xs → is_some o ≡ list_any (is_of id) xs
+found_any id [] o is = ap (λ (p : Option ℕ). is_some p) is
+found_any id (x ∷ xs) None is = sym (none_found id (x ∷ xs) (sym is))
+found_any id (x ∷ xs) (Some n) is = (let p = position-Some (is_of id) (x ∷ xs) n x (sym is) in sym (any_there id (x ∷ xs) n x p.0 p.1))

@@ -1,5 +1,7 @@
 pub mod Asking
 pub mod Core
+pub mod Counting
+pub mod CountingLending
 pub mod Keeping
 pub mod Laning
 pub mod Lending

@@ -1,5 +1,5 @@
 -- The spans that a layer knows, by id, with what each has come to.
-use Rattle.std.specs.Prelude.{◌≡◌, ℕ, ◌+◌, ◌==◌, if◌then◌else◌, Bool, List, [], ◌∷◌, ◌++◌, Option, Some, None, map}
+use Rattle.std.specs.Prelude.{◌≡◌, ◌≤◌, ℕ, suc, ◌+◌, ◌==◌, if◌then◌else◌, Bool, true, List, [], ◌∷◌, ◌++◌, Option, Some, None, map}
 use Rattle.std.specs.List.{list_any}
 use Rattle.std.specs.Map.{lookup, keys_of}
 use Rattle.otel_base.specs.declared.context.Context.{Context}
@@ -25,6 +25,9 @@ room_entry e = (e.id, e.state.room)
 
 abbrev pub tabled : List Entry → ℕ → Tabled
 tabled entries room = record { spans = map told_entry entries; rooms = map room_entry entries; room = room }
+
+abbrev pub is_of : ℕ → Entry → Bool
+is_of id = λ e. e.id == id
 
 abbrev pub is_id : ℕ → ℕ → Bool
 is_id id = λ k. k == id
@@ -83,3 +86,16 @@ RoomFor id op rooms = (room : Room) → lookup (is_id id) rooms ≡ Some room �
 -- the room for a link at a span, whichever it is
 pub record RoomForLink (id : ℕ) (rooms : List (ℕ × Room)) : Type 0 where
   pub any : (link : Link) → RoomFor id (ops.Link link) rooms
+
+-- the ids rise, from the first argument on
+abbrev pub Rises : ℕ → List ℕ → Type 0
+Rises least [] = Unit {0}
+Rises least (id ∷ ids) = (least ≤ id) × Rises (suc id) ids
+
+-- those of the entries do, if that is said
+abbrev pub MayRise : Bool → List Entry → Type 0
+MayRise rising entries = rising ≡ true → Rises 0 (keys_of (map told_entry entries))
+
+-- they do with one more
+abbrev pub RisesTo : ℕ → List Entry → Type 0
+RisesTo id entries = Rises 0 (keys_of (map told_entry entries) ++ id ∷ [])

@@ -8,8 +8,9 @@ ghost use Rattle.trace_base.specs.Spans.{without_last};
 ghost use Rattle.otel_state.specs.declared.op.Op.TheVariants as ops;
 ghost use Rattle.otel_state.specs.Content.{Making};
 ghost use Rattle.otel_state.specs.Stack.{last_passing};
-ghost use Rattle.otel_state.specs.States.{begun, changed};
-ghost use Rattle.otel_layer.specs.Table.{told_at, knows_span, with_span, with_op, own_or, ids_at, is_id, RoomFor, RoomForLink};
+ghost use Rattle.otel_state.specs.States.{begun, changed, is_growing};
+ghost use Rattle.otel_layer.specs.Table.{told_at, knows_span, with_span, update, with_op, own_or, ids_at, is_id, RoomFor, RoomForLink};
+ghost use Rattle.otel_layer.specs.Counting.{counted};
 ghost use Rattle.otel_layer.specs.Core.{entries_by, kept_in, is_token, IsWholeCore};
 ghost use Rattle.otel_layer.specs.Steps.{Starts, StartsAny, above, around, context_from, MakesSpan, with_link, FollowsSpan, EntersLane, EntersSpan, ExitsSpan, ClosesSpan, IfKnown};
 ghost use Rattle.otel_layer.specs.Ready.{IsReadyState};
@@ -66,9 +67,21 @@ impl<T: Tracer> OpenTelemetryLayer<T> {
     pub(crate) fn put_op(&mut self, id: Id, at: u64, op: Op)
         requires { RoomFor id op self.old.rooms }
         ensures core { self.new.core ≡ record self.old.core { spans = with_op id at op self.old.core.spans } }
+        ensures rooms { is_growing op ≡ false → self.new.rooms ≡ self.old.rooms }
         ensures token_room { self.new.token_room ≡ self.old.token_room }
     {
         self.table.put(id, at, op);
+    }
+
+    // Counts an event, and tells it to its span where it is taken.
+    pub(crate) fn count_op(&mut self, id: Id, at: u64, op: Op, is_taken: bool)
+        requires { RoomFor id op self.old.rooms }
+        ensures { self.new.core ≡ record self.old.core { spans = update id (counted is_taken at op) self.old.core.spans } }
+    {
+        self.put_op(id, at, Op::Counted);
+        if is_taken {
+            self.put_op(id, at, op);
+        }
     }
 
     // Makes a span.

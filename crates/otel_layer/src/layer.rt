@@ -2,6 +2,7 @@
 ghost use Rattle.std.specs.Prelude.{◌≡◌, ◌≤◌, ◌^◌, [], length};
 ghost use Rattle.otel_state.specs.Settings.{default_settings};
 ghost use Rattle.otel_layer.specs.Core.{new_core, with_other, IsWholeCore};
+ghost use Rattle.otel_layer.specs.Counting.{counting_core};
 ghost use Rattle.otel_layer.specs.Lending.{LendsTracer};
 ghost use Rattle.std.specs.Borrow.{sem};
 
@@ -110,6 +111,35 @@ impl<T: Tracer> OpenTelemetryLayer<T> {
         ensures value { result.now ≡ self.old.core.tracer }
     {
         &mut self.tracer
+    }
+}
+
+impl<T: Tracer> OpenTelemetryLayer<T> {
+    // The same layer, counting events.
+    pub(crate) fn counting(self) -> OpenTelemetryLayer<T>
+        ensures core { result.core ≡ counting_core self.core }
+        ensures whole { IsWholeCore T.spare T.started self.core → IsWholeCore T.spare T.started result.core }
+    {
+        let OpenTelemetryLayer {
+            alloc,
+            table,
+            tokens,
+            tracer,
+            reserved,
+            made,
+            settings,
+            counting: _,
+        } = self;
+        OpenTelemetryLayer {
+            alloc,
+            table,
+            tokens,
+            tracer,
+            reserved,
+            made,
+            settings,
+            counting: true,
+        }
     }
 }
 

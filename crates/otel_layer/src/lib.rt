@@ -3,6 +3,8 @@
 #![tactic(auto)]
 
 mod calls;
+pub mod counting;
+mod counting_hooks;
 mod hooks;
 pub mod laws;
 pub mod layer;
@@ -16,6 +18,7 @@ mod table;
 mod tests;
 mod tokens;
 
+pub use counting::FilteredOpenTelemetryLayer;
 pub use layer::OpenTelemetryLayer;
 pub use part::OtelPart;
 pub use span_ext::{OpenTelemetrySpanExt, get_otel_context};

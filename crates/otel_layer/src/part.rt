@@ -194,12 +194,12 @@ impl<L: OtelLayer, S: OtelSubscriber> OtelSubscriber for Layered<L, S> {
         let both = first_stay (L.has s.layer) L.touches S.touches L.seen L.kept L.attaches L.is_whole S.spans S.kept S.attaches S.is_whole
         s.layer s.inner call t.layer t.inner (L.stays s.layer call t.layer) (S.stays s.inner call t.inner) d in
         record {
-        spans_same = both.1.spans_same;
-        kept_same = kept_same (L.kept s.layer) (L.kept t.layer) (S.kept s.inner) (S.kept t.inner) both.0.kept_same both.1.kept_same;
-        attaches_same = or_same (L.attaches s.layer) (L.attaches t.layer) (S.attaches s.inner) (S.attaches t.inner) both.0.attaches_same both.1.attaches_same;
-        whole = λ w. whole_both (S.is_whole s.inner) (S.is_whole t.inner) (L.is_whole s.layer) (L.is_whole t.layer) (S.spans s.inner) (S.spans t.inner) (L.seen s.layer) (L.seen t.layer)
-        (S.attaches s.inner) (S.attaches t.inner) (L.attaches s.layer) (L.attaches t.layer) both.1.whole both.0.whole
-        (in_step_same (S.spans s.inner) (S.spans t.inner) (L.seen s.layer) (L.seen t.layer) both.1.spans_same both.0.seen_same) both.1.attaches_same both.0.attaches_same w;
+          spans_same = both.1.spans_same;
+          kept_same = kept_same (L.kept s.layer) (L.kept t.layer) (S.kept s.inner) (S.kept t.inner) both.0.kept_same both.1.kept_same;
+          attaches_same = or_same (L.attaches s.layer) (L.attaches t.layer) (S.attaches s.inner) (S.attaches t.inner) both.0.attaches_same both.1.attaches_same;
+          whole = λ w. whole_both (S.is_whole s.inner) (S.is_whole t.inner) (L.is_whole s.layer) (L.is_whole t.layer) (S.spans s.inner) (S.spans t.inner) (L.seen s.layer) (L.seen t.layer)
+              (S.attaches s.inner) (S.attaches t.inner) (L.attaches s.layer) (L.attaches t.layer) both.1.whole both.0.whole
+              (in_step_same (S.spans s.inner) (S.spans t.inner) (L.seen s.layer) (L.seen t.layer) both.1.spans_same both.0.seen_same) both.1.attaches_same both.0.attaches_same w;
         } };
 
     ghost starts = { λ s w. (L.starts s.layer w.outer, S.starts s.inner w.inner) };

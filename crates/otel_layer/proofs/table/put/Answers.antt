@@ -5,7 +5,7 @@ use Rattle.otel_layer.proofs.Placing.{found_room, found_update, found_rooms, non
 use Rattle.otel_layer.proofs.table.put.Goals as goal
 
 pub put-requires : goal.put-requires
-put-requires c = record { room = c.requires _ (found_room c.args.id c.args.entries.now c.in-Some.place c.index-entries-place.result (sym c.find.ensures ∙ c.in-Some.is)) }
+put-requires c = record { room = c.requires.room _ (found_room c.args.id c.args.entries.now c.in-Some.place c.index-entries-place.result (sym c.find.ensures ∙ c.in-Some.is)) }
 
 pub returns-in-Some-clause-told : goal.returns-in-Some-clause-told
 returns-in-Some-clause-told c =

@@ -6,13 +6,14 @@ use Rattle.otel_state.specs.States.{Told}
 use Rattle.otel_layer.specs.declared.table.Entry.{Entry}
 use Rattle.otel_layer.specs.Table.{told_entry}
 use Rattle.std.proofs.Common.{map}
-use Rattle.otel_layer.proofs.Placing.{is_of, found_told, found_removed, none_found}
+use Rattle.otel_layer.specs.Table.{is_of}
+use Rattle.otel_layer.proofs.Placing.{found_told, found_removed, none_found}
 use Rattle.otel_layer.proofs.table.remove.Goals as goal
 
 pub unreachable-requires : goal.unreachable-requires
 unreachable-requires c =
     let items = c.args.entries.now.items in
-    true≢false (sym c.requires ∙ none_found c.args.id items (sym (ap (position (is_of c.args.id)) c.as_slice.ensures.value) ∙ sym c.find.ensures ∙ c.in-None.is))
+    true≢false (sym c.requires.known ∙ none_found c.args.id items (sym (ap (position (is_of c.args.id)) c.as_slice.ensures.value) ∙ sym c.find.ensures ∙ c.in-None.is))
 
 pub returns-clause-told : goal.returns-clause-told
 returns-clause-told c =

@@ -2,7 +2,8 @@
 use Rattle.std.proofs.Common.{sym, ap, ◌∙◌}
 use Rattle.std.specs.List.{list_any}
 use Rattle.otel_layer.specs.Table.{knows_span}
-use Rattle.otel_layer.proofs.Placing.{is_of, knows_is}
+use Rattle.otel_layer.specs.Table.{is_of}
+use Rattle.otel_layer.proofs.Placing.{knows_is}
 use Rattle.otel_layer.proofs.table.Table.knows.Goals as goal
 
 pub returns : goal.returns

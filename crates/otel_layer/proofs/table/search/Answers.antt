@@ -1,0 +1,63 @@
+-- The entry in the middle says which half falls away.
+use Rattle.std.proofs.Common.{◌≡◌, ◌<◌, ◌≤◌, ◌+◌, ◌-◌, ◌/◌, ℕ, length, get_or, ap, arith}
+use Rattle.otel_layer.specs.declared.table.Entry.{Entry}
+use Rattle.otel_layer.proofs.Rising.{older_to, younger_from, placed, nowhere}
+use Rattle.otel_layer.proofs.table.search.Goals as goal
+
+pub returns-then-there-wanted : goal.returns-then-there-wanted
+returns-then-there-wanted c =
+    let l = c.loop-low in
+    let test = c.loop-low-test.true in
+    let within = l.invariant.within in
+    let middle = l.low + (l.high - l.low) / 2 in
+    let inside : middle < length c.args.entries.now = omega (arith, test, within) in
+    let is = ap (λ (x : Entry). x.id) c.index-entries-middle.is in
+    let there = c.place-there.ensures in
+    let same = c.if-there-wanted.true in
+    let wanted = l.invariant.wanted in
+    placed c.args.entries.now c.args.id middle c.index-entries-middle.result c.requires inside (omega (arith, is, there, same, wanted))
+
+pub loop-low-preserved-then-there-wanted-2 : goal.loop-low-preserved-then-there-wanted-2
+loop-low-preserved-then-there-wanted-2 c =
+    let l = c.loop-low in
+    let test = c.loop-low-test.true in
+    let within = l.invariant.within in
+    let middle = l.low + (l.high - l.low) / 2 in
+    let inside : middle < length c.args.entries.now = omega (arith, test, within) in
+    let is = ap (λ (x : Entry). x.id) c.index-entries-middle.is in
+    let there = c.place-there.ensures in
+    let less = c.if-there-wanted-2.true in
+    let wanted = l.invariant.wanted in
+    record {
+      within = within;
+      apart = omega (arith, test);
+      older = older_to c.args.entries.now c.args.id middle c.index-entries-middle.result c.requires inside (omega (arith, is, there, less, wanted));
+      younger = l.invariant.younger;
+      wanted = wanted;
+    }
+
+pub loop-low-preserved : goal.loop-low-preserved
+loop-low-preserved c =
+    let l = c.loop-low in
+    let test = c.loop-low-test.true in
+    let within = l.invariant.within in
+    let middle = l.low + (l.high - l.low) / 2 in
+    let inside : middle < length c.args.entries.now = omega (arith, test, within) in
+    let is = ap (λ (x : Entry). x.id) c.index-entries-middle.is in
+    let there = c.place-there.ensures in
+    let other = c.if-there-wanted.false in
+    let more = c.if-there-wanted-2.false in
+    let wanted = l.invariant.wanted in
+    record {
+      within = omega (arith, inside);
+      apart = omega arith;
+      older = l.invariant.older;
+      younger = younger_from c.args.entries.now c.args.id middle c.index-entries-middle.result c.requires inside (omega (arith, is, there, other, more, wanted));
+      wanted = wanted;
+    }
+
+pub returns : goal.returns
+returns c =
+    let l = c.loop-low in
+    let met = c.loop-low-test.false in
+    nowhere c.args.entries.now c.args.id l.low l.high l.invariant.older l.invariant.younger (omega (arith, met))

@@ -1,0 +1,64 @@
+-- A layer that counts the events of each span, and tells it those that a filter takes.
+use Rattle.std.proofs.Common.{◌≡◌, ℕ, Bool, true, false, refl, subst, sym, ap, ◌∙◌}
+use Rattle.std.specs.Prelude.{if◌then◌else◌}
+use Rattle.otel_base.specs.Tracer.{TracerCall}
+use Rattle.trace_base.specs.declared.callsite.Callsite.{Callsite}
+use Rattle.trace_base.specs.declared.field.ValueSet.{ValueSet}
+use Rattle.trace_base.specs.Hooks.{Hook, OnNewSpan, OnRecord, OnFollows, OnEvent, OnEnter, OnExit, OnClose}
+use Rattle.otel_state.specs.declared.op.Op.{Op}
+use Rattle.otel_state.specs.declared.op.Op.TheVariants as ops
+use Rattle.otel_state.specs.declared.settings.LayerSettings.{LayerSettings}
+use Rattle.otel_state.specs.EventFields.{event_of}
+use Rattle.otel_state.specs.States.{Told, changed}
+use Rattle.otel_layer.specs.Core.{Core}
+use Rattle.otel_layer.specs.Keeping.{KeepsOwn}
+use Rattle.otel_layer.specs.Rooming.{same_core_does}
+use Rattle.otel_layer.specs.Steps.{Events, SameCore, Step, DoesHook}
+
+-- an event is counted, and applied after that if it is taken
+abbrev pub counted : Bool → ℕ → Op → Told → Told
+counted is_taken at op told = if is_taken then changed (changed told at ops.Counted) at op else changed told at ops.Counted
+
+-- what events make of their spans, where a filter decides by lane and callsite which it takes
+abbrev pub counted_events : (ℕ → Callsite → Bool) → Events
+counted_events enables settings lane at callsite values told = counted (enables lane callsite) at (event_of callsite values settings at) told
+
+-- the same layer, which counts
+abbrev pub counting_core : {T : Type 0} → Core T → Core T
+counting_core c = record c { counting = true }
+
+-- ---- laws
+
+counted_own : (is_taken : Bool) (settings : LayerSettings) (at : ℕ) (callsite : Callsite) (values : ValueSet) (told : Told) → (counted is_taken at (event_of callsite values settings at) told).own ≡ told.own
+counted_own true settings at callsite values told = refl
+counted_own false settings at callsite values told = refl
+
+pub counted_keep_own : (enables : ℕ → Callsite → Bool) → KeepsOwn (counted_events enables)
+counted_keep_own enables settings lane at callsite values told = counted_own (enables lane callsite) settings at callsite values told
+
+pub counted_does : {T F : Type 0} (does : T → TracerCall → T → Type 0) (enables : F → ℕ → Callsite → Bool) (c d : Core T) (hook : Hook) (e : Core T) (f g h : F) → SameCore does c d × (g ≡ f)
+    → DoesHook does (counted_events (enables g)) d hook e × (h ≡ g) → DoesHook does (counted_events (enables f)) c hook e × (h ≡ f)
+counted_does does enables c d hook e f g h same did =
+    (subst (λ x. DoesHook does (counted_events (enables x)) c hook e) same.1 (same_core_does does (counted_events (enables g)) c d hook e same.0 did.0), did.1 ∙ same.1)
+
+-- but for events it does what a layer does that counts none
+abbrev pub IsNoEvent : Hook → Type 0
+IsNoEvent (OnEvent reached lane at callsite values) = ⊥
+IsNoEvent (OnNewSpan id lane at place current callsite values) = Unit {0}
+IsNoEvent (OnRecord id at callsite values) = Unit {0}
+IsNoEvent (OnFollows id from at) = Unit {0}
+IsNoEvent (OnEnter id at before later) = Unit {0}
+IsNoEvent (OnExit id at before later) = Unit {0}
+IsNoEvent (OnClose id at) = Unit {0}
+
+step_any : {T : Type 0} (does : T → TracerCall → T → Type 0) (events others : Events) (c : Core T) (hook : Hook) (d : Core T) → IsNoEvent hook → Step does events c hook d → Step does others c hook d
+step_any does events others c (OnEvent reached lane at callsite values) d no_event h = absurd no_event
+step_any does events others c (OnNewSpan id lane at place current callsite values) d no_event h = h
+step_any does events others c (OnRecord id at callsite values) d no_event h = h
+step_any does events others c (OnFollows id from at) d no_event h = h
+step_any does events others c (OnEnter id at before later) d no_event h = h
+step_any does events others c (OnExit id at before later) d no_event h = h
+step_any does events others c (OnClose id at) d no_event h = h
+
+pub hook_any : {T : Type 0} (does : T → TracerCall → T → Type 0) (events others : Events) (c : Core T) (hook : Hook) (d : Core T) → IsNoEvent hook → DoesHook does events c hook d → DoesHook does others c hook d
+hook_any does events others c hook d no_event h = record { prepared = h.prepared; room = h.room; step = step_any does events others h.prepared hook d no_event h.step }
