@@ -23,6 +23,8 @@ use trace_base::span::Parent;
 use trace_base::subscriber::Subscriber;
 use trace_base::world::World;
 
+mod asked;
+mod counting;
 mod spans;
 
 type Stack = Layered<OpenTelemetryLayer<Recorder>, Registry>;

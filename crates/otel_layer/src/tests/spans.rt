@@ -38,7 +38,7 @@ fn timed<S: Subscriber>(stack: &mut S, making: &mut Making) -> Result<(), Memory
 }
 
 // A child that an event reaches. The root's handle goes first, and the child's close releases it.
-fn chained<S: Subscriber>(stack: &mut S, making: &Making) -> Result<(), Memory>
+pub(crate) fn chained<S: Subscriber>(stack: &mut S, making: &Making) -> Result<(), Memory>
     requires whole { S.is_whole stack.old }
     requires spans { S.spans stack.old ≡ no_spans }
 {
