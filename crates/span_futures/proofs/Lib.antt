@@ -1,0 +1,4 @@
+pub mod Inside
+pub mod Keeping
+pub mod Quiet
+pub mod Under

@@ -1,0 +1,4 @@
+pub mod Lending
+pub mod Lent
+pub mod Polls
+pub mod Served
