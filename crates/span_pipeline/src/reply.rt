@@ -1,0 +1,94 @@
+//! What requests are answered, and why they are refused.
+ghost use Rattle.std.specs.Prelude.{◌≡◌};
+ghost use Rattle.span_pipeline.specs.Refusals.{refused_entry};
+ghost use Rattle.span_pipeline.specs.declared.reply.Refusal.TheVariants.{Memory as NoMemory};
+
+use otel_base::context::SpanContext;
+use otel_base::enter_error::EnterError;
+use otel_base::memory::Memory;
+use std::alloc::{AllocError, AllocFailed};
+
+/// The answer to a request: what the calls of tracing give back.
+#[derive(Clone, Copy)]
+pub enum Reply {
+    /// A handle was made, which is enabled where it has a span; `tracing::Span`, `is_disabled`.
+    Made { enabled: bool, handle: u64 },
+    /// A guard was made; `tracing::span::Entered`, `opentelemetry::ContextGuard`.
+    Guard { guard: u64 },
+    /// A context was made, with these ids; `opentelemetry::Context`.
+    Context { context: u64, ids: SpanContext },
+    /// An event, which the filter let through or not.
+    Enabled { enabled: bool },
+    /// Nothing was made.
+    Done,
+}
+
+/// What a request names that isn't there.
+#[derive(Clone, Copy, PartialEq, Eq)]
+pub enum What {
+    /// A lane, by its place.
+    Lane,
+    /// A callsite, by its place, of the kind that is called for.
+    Site,
+    /// A handle that isn't spent, by its number.
+    Handle,
+    /// A guard that isn't spent, by its number, of the kind that is called for.
+    Guard,
+    /// A context, by its number.
+    Context,
+}
+
+/// Why a request is refused.
+#[derive(Clone, Copy, PartialEq, Eq)]
+pub enum Refusal {
+    /// No built form of request can do this yet.
+    Later,
+    /// The moment is below that of the request before (0 before the first), or above 2^63 - 1; both in nanoseconds.
+    BadMoment { before: u64, given: u64 },
+    /// A lane, site, handle, guard or context isn't there, is spent, or is of another kind.
+    UnknownName { what: What },
+    /// The handle has an open guard, and the request would spend or own it.
+    InUse,
+    /// The guard is of another lane, which is told by its place.
+    WrongLane { lane: u64 },
+    /// The lane, which is told by its place, has as many contexts as may be.
+    Full { lane: u64 },
+    /// Out of memory.
+    Memory,
+}
+
+impl Refusal {
+    /// What an entry on the lane at a place is refused by.
+    pub(crate) fn of_entry(lane: u64, error: EnterError) -> Refusal
+        ensures { result ≡ refused_entry lane error }
+    {
+        match error {
+            EnterError::Full => Refusal::Full { lane },
+            EnterError::Memory => Refusal::Memory,
+        }
+    }
+}
+
+impl From<Memory> for Refusal {
+    ghost from_gives = { λ _ refusal. refusal ≡ NoMemory };
+
+    fn from(_error: Memory) -> Refusal {
+        Refusal::Memory
+    }
+}
+
+impl From<AllocError> for Refusal {
+    ghost from_gives = { λ _ refusal. refusal ≡ NoMemory };
+
+    fn from(_error: AllocError) -> Refusal {
+        Refusal::Memory
+    }
+}
+
+impl<T: Drop> From<AllocFailed<T>> for Refusal {
+    ghost from_gives = { λ _ refusal. refusal ≡ NoMemory };
+
+    fn from(_error: AllocFailed<T>) -> Refusal {
+        Refusal::Memory
+    }
+}

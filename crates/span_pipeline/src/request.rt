@@ -1,0 +1,59 @@
+//! Requests: calls on spans, each with its lane and its moment.
+use otel_base::context::SpanContext;
+use otel_base::record::Moment;
+
+/// The greatest moment that a request may have, in nanoseconds: 2^63 - 1.
+pub const LAST_MOMENT: Moment = 9_223_372_036_854_775_807;
+
+/// Where a new span is put.
+#[derive(Clone, Copy)]
+pub enum Place {
+    /// Under the lane's current span, if there is one; the `parent` of a `tracing::Attributes` that is contextual.
+    Contextual,
+    /// Under no span.
+    Root,
+    /// Under the span of a handle, and under none where the handle is disabled.
+    Under { handle: u64 },
+}
+
+/// A call that a script makes. Handles, guards and contexts are named by their numbers, callsites by their places.
+#[derive(Clone, Copy)]
+pub enum Call {
+    /// Makes a span of a callsite, and a handle of it; `tracing::Span::new`, `new_root`, `child_of`.
+    New { site: u64, place: Place },
+    /// Makes a handle of the lane's current span; `tracing::Span::current`.
+    Current,
+    /// Makes a handle of what a handle stands for; `Clone` of a `tracing::Span`.
+    Clone { handle: u64 },
+    /// Spends a handle and makes one: of its span, or of the lane's current one; `tracing::Span::or_current`.
+    OrCurrent { handle: u64 },
+    /// Spends a handle; the drop of a `tracing::Span`.
+    Drop { handle: u64 },
+    /// Enters a handle's span, which makes a guard; `tracing::Span::enter`.
+    Enter { handle: u64 },
+    /// The same by a guard that owns the handle; `tracing::Span::entered`.
+    Entered { handle: u64 },
+    /// Spends a guard, which exits its span; the drop of a `tracing::span::Entered`, or `EnteredSpan::exit`.
+    Exit { guard: u64 },
+    /// Records an event of a callsite on the lane's current span; `tracing::Event::dispatch`.
+    Event { site: u64 },
+    /// Makes a context of ids that came from elsewhere; `opentelemetry::Context::with_remote_span_context`.
+    Remote { ids: SpanContext },
+    /// Makes the context of a handle's span; `tracing_opentelemetry::OpenTelemetrySpanExt::context`.
+    Context { handle: u64 },
+    /// Attaches a context to the lane, which makes a guard; `opentelemetry::Context::attach`.
+    Attach { context: u64 },
+    /// Spends a guard, which detaches its context; the drop of an `opentelemetry::ContextGuard`.
+    Detach { guard: u64 },
+}
+
+/// A call on a lane at a moment. In the Rust crates a thread and a clock stand for these.
+#[derive(Clone, Copy)]
+pub struct Request {
+    /// When it is made, in nanoseconds.
+    pub at: Moment,
+    /// The place of the lane that it is made on.
+    pub lane: u64,
+    /// What is called.
+    pub call: Call,
+}

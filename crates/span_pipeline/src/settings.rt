@@ -1,0 +1,19 @@
+//! What a script's settings line says.
+use otel_base::list::Items;
+use otel_base::text::Text;
+use otel_state::settings::LayerSettings;
+use trace_base::callsite::Callsite;
+
+/// The settings of a script. Lanes and callsites are named by their places, from 0.
+#[derive(Clone, Drop)]
+pub struct Settings {
+    /// The filter: a level word in lower case, or `off`; `tracing_subscriber::EnvFilter`. Any other text lets nothing
+    /// through.
+    pub filter: Text,
+    /// The lanes, each with its id and its name, if it has one; threads, in the Rust crates.
+    pub lanes: Items<(u64, Option<Text>)>,
+    /// The callsites of spans and events.
+    pub callsites: Items<Callsite>,
+    /// What the OpenTelemetry layer tells.
+    pub layer: LayerSettings,
+}
