@@ -1,0 +1,15 @@
+mod Balancing
+mod Cloning
+mod Copies
+mod Dropping
+mod Entering
+mod Fitting
+mod Keeping
+mod Makings
+mod Naming
+mod Reading
+mod Refusing
+mod Requiring
+mod Scopes
+mod Serving
+mod Standing

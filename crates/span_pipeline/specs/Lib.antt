@@ -1,1 +1,7 @@
+pub mod Balance
+pub mod Effects
+pub mod Fits
 pub mod Refusals
+pub mod Setups
+pub mod Slots
+pub mod Tables

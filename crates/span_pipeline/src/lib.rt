@@ -1,11 +1,16 @@
-//! Scripts of span calls on the stack of a registry and the OpenTelemetry layer: their requests, and what these are
-//! answered.
+//! Scripts of span calls on the stack of a registry and the OpenTelemetry layer.
+//!
+//! All turns on `Pipeline::step`, which appends a request to the history that the pipeline stands for.
 #![tactic(auto)]
 
+mod calls;
+pub mod pipeline;
 pub mod reply;
 pub mod request;
 pub mod settings;
+pub mod slots;
 
+pub use pipeline::Pipeline;
 pub use reply::{Refusal, Reply, What};
 pub use request::{Call, LAST_MOMENT, Place, Request};
 pub use settings::Settings;

@@ -1,0 +1,152 @@
+-- Lanes, and what every pipeline keeps.
+use Rattle.std.proofs.Common.{◌≡◌, ℕ, Bool, false, zero, suc, ◌<◌, List, [], ◌∷◌, length, count_by, get_or, set, Option, Some, map, refl, sym, ap, subst, ◌∙◌, arith, inl, inr}
+use Rattle.std.specs.Prelude.{Result, Ok, Err, OnErr, ◌==◌}
+use Rattle.std.proofs.lemmas.Bool.{cases_eq, eq-eqb, ne_eqb, cond-true, cond-false}
+use Rattle.std.proofs.lemmas.List.{length-set, length-map, map-set, get_or-set_same, get_or-set_other}
+use Rattle.trace_base.specs.declared.lane.Lane.{Lane}
+use Rattle.trace_base.specs.declared.level.LevelFilter.{LevelFilter}
+use Rattle.trace_base.specs.Gate.{Worlds}
+use Rattle.trace_base.specs.Spans.{Spans}
+use Rattle.trace_base.specs.Contexts.{attached_as, AreAttached, KeepsAttached}
+use Rattle.span_handles.specs.Worlds.{Has, Alike, Replaced, seen, spans_in, kept_in}
+use Rattle.span_handles.specs.Handles.{Handle, Held, ReplacedOn}
+use Rattle.span_handles.specs.Entries.{LeavesLane}
+use Rattle.span_pipeline.specs.declared.slots.Guard.{Guard}
+use Rattle.span_pipeline.specs.Tables.{Scope, slot_at}
+use Rattle.span_pipeline.proofs.Naming.{find, held_slot}
+use Rattle.span_pipeline.specs.Setups.{Setup, id_at}
+use Rattle.span_pipeline.specs.Fits.{State, setup_of, state_of, Laned, laned, no_lane, lane_at, held_by, LanesFit, IsKept, held_of}
+
+pub on_err : {T E : Type 0} (result : Result T E) (P : Type 0) → P → OnErr result P
+on_err (Ok v) P p = tt
+on_err (Err e) P p = p
+
+pub within_view : (view k : State) (lanes : List Lane) (n : ℕ) → view ≡ k → view.lanes ≡ map laned lanes → n < length k.lanes → n < length lanes
+within_view view k lanes n same is within = (let a = ap (λ (x : State). length x.lanes) same in let b = ap length is in let c = length-map lanes laned in omega (arith, a, b, c, within))
+
+-- the lane that was written, seen without its room
+pub lane_seen : (lanes : List Lane) (n : ℕ) (before : Lane) → n < length lanes → before ≡ get_or lanes n before → lane_at (map laned lanes) n ≡ laned before
+lane_seen [] n before within is = absurd (omega (arith, within))
+lane_seen (x ∷ xs) zero before within is = ap laned (sym is)
+lane_seen (x ∷ xs) (suc n) before within is = lane_seen xs n before (omega (arith, within)) is
+
+pub lanes_same : (lanes : List Lane) (n : ℕ) (before later : Lane) → n < length lanes → before ≡ get_or lanes n before → laned later ≡ laned before → map laned (set lanes n later) ≡ map laned lanes
+lanes_same [] n before later within is same = refl
+lanes_same (x ∷ xs) zero before later within is same = ap (λ (l : Laned). l ∷ map laned xs) (same ∙ ap laned is)
+lanes_same (x ∷ xs) (suc n) before later within is same = ap (λ (ls : List Laned). laned x ∷ ls) (lanes_same xs n before later (omega (arith, within)) is same)
+
+pub same_lane : (before later : Lane) → later.id ≡ before.id → later.contexts.live ≡ before.contexts.live → laned later ≡ laned before
+same_lane before later id live = rw (id, live) refl
+
+live_count : ℕ → Laned → ℕ
+live_count number l = count_by (λ item. item.0 == number) l.live
+
+-- the id of a lane, as the setup tells it
+pub id_seen : (lanes : List Lane) (n : ℕ) (before : Lane) → n < length lanes → before ≡ get_or lanes n before → before.id ≡ id_at (map (λ (l : Lane). l.id) lanes) n
+id_seen [] n before within is = absurd (omega (arith, within))
+id_seen (x ∷ xs) zero before within is = ap (λ (l : Lane). l.id) is
+id_seen (x ∷ xs) (suc n) before within is = id_seen xs n before (omega (arith, within)) is
+
+pub ids_same : (lanes : List Lane) (n : ℕ) (before later : Lane) → n < length lanes → before ≡ get_or lanes n before → later.id ≡ before.id → map (λ (l : Lane). l.id) (set lanes n later) ≡ map (λ (l : Lane). l.id) lanes
+ids_same [] n before later within is same = refl
+ids_same (x ∷ xs) zero before later within is same = ap (λ (i : ℕ). i ∷ map (λ (l : Lane). l.id) xs) (same ∙ ap (λ (l : Lane). l.id) is)
+ids_same (x ∷ xs) (suc n) before later within is same = ap (λ (is : List ℕ). x.id ∷ is) (ids_same xs n before later (omega (arith, within)) is same)
+
+pub are_attached : (kept : ℕ → ℕ → ℕ) (lanes : List Lane) (n : ℕ) (before : Lane) → n < length lanes → before ≡ get_or lanes n before → LanesFit kept (map laned lanes) → AreAttached kept before
+are_attached kept lanes n before within is fits number =
+    let at = lane_seen lanes n before within is in
+    let a = fits.attached n number (let k = length-map lanes laned in omega (arith, within, k)) in
+    let w = ap (λ (l : Laned). count_by (λ item. item.0 == number) l.live) at in
+    let k = ap (λ (l : Laned). kept l.id number) at in
+    omega (arith, a, w, k)
+
+pub lanes_step : (kept now : ℕ → ℕ → ℕ) (lanes : List Lane) (n : ℕ) (before later : Lane) → n < length lanes → before ≡ get_or lanes n before → LanesFit kept (map laned lanes) → later.id ≡ before.id → KeepsAttached kept before later now
+    → LanesFit now (map laned (set lanes n later))
+lanes_step kept now lanes n before later within is fits same keeps =
+    let ls = map laned lanes in
+    let ls' = map laned (set lanes n later) in
+    let at = lane_seen lanes n before within is in
+    let inside : n < length ls = (let k = length-map lanes laned in omega (arith, within, k)) in
+    let counts : length ls' ≡ length ls = length-map (set lanes n later) laned ∙ length-set lanes n later ∙ sym (length-map lanes laned) in
+    let written = map-set laned lanes n later in
+    let here : lane_at ls' n ≡ laned later = ap (λ (xs : List Laned). lane_at xs n) written ∙ get_or-set_same ls n (laned later) no_lane inside in
+    let there : (m : ℕ) → (m ≡ n → ⊥) → lane_at ls' m ≡ lane_at ls m = λ m other. ap (λ (xs : List Laned). lane_at xs m) written ∙ get_or-set_other ls n m (laned later) no_lane other in
+    let ids : (m : ℕ) → (lane_at ls' m).id ≡ (lane_at ls m).id = λ m. elim (cases_eq m n) [
+      | inl e ↦ ap (λ (k : ℕ). (lane_at ls' k).id) e ∙ ap (λ (l : Laned). l.id) here ∙ same ∙ ap (λ (l : Laned). l.id) (sym at) ∙ ap (λ (k : ℕ). (lane_at ls k).id) (sym e)
+      | inr other ↦ ap (λ (l : Laned). l.id) (there m other)
+    ] in
+    let mine : before.id ≡ (lane_at ls n).id = ap (λ (l : Laned). l.id) (sym at) in
+    record {
+      differ = λ a b ina inb e. fits.differ a b (omega (arith, ina, counts)) (omega (arith, inb, counts)) (sym (ids a) ∙ e ∙ ids b);
+      attached = λ m number below. (
+          let k = keeps (lane_at ls m).id number in
+          let q = ap (λ (x : ℕ). now x number) (ids m) in
+          let f = fits.attached m number (omega (arith, below, counts)) in
+          elim (cases_eq m n) [
+            | inl e ↦ (
+                let id_is : before.id ≡ (lane_at ls m).id = mine ∙ ap (λ (x : ℕ). (lane_at ls x).id) (sym e) in
+                let a = cond-true {A = ℕ} (before.id == (lane_at ls m).id) (attached_as number before) 0 (eq-eqb before.id (lane_at ls m).id id_is) in
+                let b = cond-true {A = ℕ} (later.id == (lane_at ls m).id) (attached_as number later) 0 (eq-eqb later.id (lane_at ls m).id (same ∙ id_is)) in
+                let w = ap (λ (x : ℕ). count_by (λ item. item.0 == number) (lane_at ls x).live) e ∙ ap (λ (l : Laned). count_by (λ item. item.0 == number) l.live) at in
+                let z = ap (λ (x : ℕ). count_by (λ item. item.0 == number) (lane_at ls' x).live) e ∙ ap (λ (l : Laned). count_by (λ item. item.0 == number) l.live) here in
+                omega (arith, k, a, b, f, w, z, q))
+            | inr other ↦ (
+                let apart : before.id ≡ (lane_at ls m).id → ⊥ = λ e. other (fits.differ m n (omega (arith, below, counts)) inside (sym e ∙ mine)) in
+                let a = cond-false {A = ℕ} (before.id == (lane_at ls m).id) (attached_as number before) 0 (ne_eqb before.id (lane_at ls m).id apart) in
+                let b = cond-false {A = ℕ} (later.id == (lane_at ls m).id) (attached_as number later) 0 (ne_eqb later.id (lane_at ls m).id (λ e. apart (sym same ∙ e))) in
+                let w = ap (λ (l : Laned). count_by (λ item. item.0 == number) l.live) (there m other) in
+                omega (arith, k, a, b, f, w, q))
+          ]);
+    }
+
+module _ {S : Type 0} (spans : S → Spans) (attaches : S → Bool) (kept : S → ℕ → ℕ → ℕ) (is_whole : S → Type 0) where
+  abbrev pub AlikeOn : Worlds S → Worlds S → ℕ → Scope → Type 0
+  AlikeOn old new dispatch [] = new ≡ old
+  AlikeOn old new dispatch (s ∷ up) = Alike spans attaches kept is_whole old new dispatch × (new.sites ≡ old.sites)
+
+  pub alike_on : (same : S → S → Type 0) → ((old new : Worlds S) (dispatch : ℕ) → Replaced same old new dispatch → Alike spans attaches kept is_whole old new dispatch)
+      → (old new : Worlds S) (dispatch : ℕ) (line : Scope) (held : Held) → held ≡ held_of dispatch line → ReplacedOn (λ id s t. same s t) old new held → AlikeOn old new dispatch line
+  alike_on same law old new dispatch [] held is did = subst (λ (h : Held). ReplacedOn (λ id s t. same s t) old new h) is did
+  alike_on same law old new dispatch (s ∷ up) held is did =
+      let r = subst (λ (h : Held). ReplacedOn (λ id s t. same s t) old new h) is did in
+      (law old new dispatch r, ap (λ (w : Worlds S). w.sites) r.others)
+
+  pub alike_line : (old new : Worlds S) (dispatch : ℕ) (line : Scope) → AlikeOn old new dispatch line → Alike spans attaches kept is_whole old new dispatch × (new.sites ≡ old.sites)
+  alike_line old new dispatch [] same = (record {
+    spans_same = ap (λ (w : Worlds S). spans_in spans w dispatch) same;
+    attaches_same = ap (λ (w : Worlds S). seen attaches false w dispatch) same;
+    kept_same = ap (λ (w : Worlds S). kept_in kept w dispatch) same;
+    count = ap (λ (w : Worlds S). length w.subscribers) same;
+    whole = λ has. subst (λ (w : Worlds S). Has is_whole w dispatch) (sym same) has;
+  }, ap (λ (w : Worlds S). w.sites) same)
+  alike_line old new dispatch (s ∷ up) same = same
+
+  -- after a refusal for want of memory
+  pub state_alike : (old new : Worlds S) (dispatch : ℕ) (level : LevelFilter) (lanes : List Lane) (hs : List (Option Handle)) (gs gs' : List (Option Guard)) (moment : ℕ) → Alike spans attaches kept is_whole old new dispatch → new.sites ≡ old.sites
+      → (n : ℕ) (before later : Lane) → n < length lanes → before ≡ get_or lanes n before → later.id ≡ before.id → later.contexts.live ≡ before.contexts.live → gs' ≡ gs
+      → state_of spans new dispatch level (set lanes n later) hs gs' moment ≡ state_of spans old dispatch level lanes hs gs moment
+  state_alike old new dispatch level lanes hs gs gs' moment same sites n before later within is id live guards_same =
+      rw (same.spans_same, sites, lanes_same lanes n before later within is (same_lane before later id live), ids_same lanes n before later within is id, guards_same) refl
+
+  pub kept_alike : (old new : Worlds S) (k next : State) → IsKept kept is_whole old k → next ≡ k → Alike spans attaches kept is_whole old new k.dispatch → IsKept kept is_whole new next
+  kept_alike old new k next inv same alike = subst (λ (x : State). IsKept kept is_whole new x) (sym same) (record {
+    there = (let c = alike.count in let b = inv.there in omega (arith, c, b));
+    whole = alike.whole inv.whole;
+    lanes = subst (λ (f : ℕ → ℕ → ℕ). LanesFit f k.lanes) (sym alike.kept_same) inv.lanes;
+    tables = inv.tables;
+    fits = inv.fits;
+  })
+
+  -- after a refusal for want of room what is kept is as it was
+  module _ (same : S → S → Type 0) (law : (old new : Worlds S) (dispatch : ℕ) → Replaced same old new dispatch → Alike spans attaches kept is_whole old new dispatch)
+      (old new : Worlds S) (dispatch : ℕ) (level : LevelFilter) (lanes : List Lane) (hs : List (Option Handle)) (gs gs' : List (Option Guard)) (m : ℕ) (inv : IsKept kept is_whole old (state_of spans old dispatch level lanes hs gs m))
+      (handle : ℕ) (named : Handle) (found : slot_at hs handle ≡ Some named) (did : ReplacedOn (λ id s t. same s t) old new named.held)
+      (n : ℕ) (before later : Lane) (within : n < length lanes) (seen_is : before ≡ get_or lanes n before) (lane : LeavesLane before later) (guards_same : gs' ≡ gs) where
+    its_alike : Alike spans attaches kept is_whole old new dispatch × (new.sites ≡ old.sites)
+    its_alike = let line = find (held_of dispatch) (map held_by hs) inv.tables.handles handle named.held inv.fits.handle_slots (held_slot hs handle named found) in alike_line old new dispatch line.at (alike_on same law old new dispatch line.at named.held line.is did)
+
+    pub refused_state : state_of spans new dispatch level (set lanes n later) hs gs' m ≡ state_of spans old dispatch level lanes hs gs m
+    refused_state = state_alike old new dispatch level lanes hs gs gs' m its_alike.0 its_alike.1 n before later within seen_is lane.id lane.live guards_same
+
+    pub refused_kept : IsKept kept is_whole new (state_of spans new dispatch level (set lanes n later) hs gs' m)
+    refused_kept = kept_alike old new (state_of spans old dispatch level lanes hs gs m) _ inv refused_state its_alike.0

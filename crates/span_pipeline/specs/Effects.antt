@@ -1,0 +1,141 @@
+-- What each request changes, or the first refusal that applies.
+use Rattle.std.specs.Prelude.{ℕ, List, [], ◌∷◌, length, filter, Bool, true, not, false, if◌then◌else◌, ◌==◌, ◌||◌, nat_lt, is_some, Option, Some, None, Result, Ok, Err, slice_get, slice_set}
+use Rattle.std.specs.List.{list_any}
+use Rattle.trace_base.specs.Level.{is_within}
+use Rattle.trace_base.specs.Spans.{is_in, current_of}
+use Rattle.trace_base.specs.declared.callsite.Callsite.{Callsite}
+use Rattle.span_pipeline.specs.declared.reply.Reply.TheVariants as reply
+use Rattle.span_pipeline.specs.declared.reply.Refusal.{Refusal}
+use Rattle.span_pipeline.specs.declared.reply.Refusal.TheVariants as refusal
+use Rattle.span_pipeline.specs.declared.reply.What.{What}
+use Rattle.span_pipeline.specs.declared.reply.What.TheVariants as what
+use Rattle.span_pipeline.specs.declared.request.Place.{Place}
+use Rattle.span_pipeline.specs.declared.request.Place.TheVariants as place
+use Rattle.span_pipeline.specs.declared.request.Call.{Call}
+use Rattle.span_pipeline.specs.declared.request.Call.TheVariants as call
+use Rattle.span_pipeline.specs.declared.request.Request.{Request}
+use Rattle.span_pipeline.specs.declared.request.TheConstants.{LAST_MOMENT}
+use Rattle.span_pipeline.specs.Setups.{Setup, id_at, span_site}
+use Rattle.span_pipeline.specs.Tables.{Scope, Made, Guarded, Effect, quiet, Tables, slot_at, own, scope_of}
+
+abbrev pub Resolved : Type 0
+Resolved = Result Effect Refusal
+
+-- goes on with what a name names, if that is there
+abbrev pub named : {A : Type 0} → What → Option A → (A → Resolved) → Resolved
+named unknown None go = Err (refusal.UnknownName unknown)
+named unknown (Some x) go = go x
+
+-- ---- spans that are open
+
+-- an unspent handle holds the span that it names and each span above it
+abbrev pub holds : ℕ → Option Scope → Bool
+holds s None = false
+holds s (Some scope) = is_in s scope
+
+-- a span is open if some unspent handle names it or one of its descendants
+abbrev pub is_open : List (Option Scope) → ℕ → Bool
+is_open slots s = list_any (holds s) slots
+
+-- the spans of a scope that are open no more, each before its parent
+abbrev pub closed_of : List (Option Scope) → Scope → List ℕ
+closed_of slots scope = filter (λ s. not (is_open slots s)) scope
+
+-- a guard borrows its handle
+abbrev pub borrows : ℕ → Option Guarded → Bool
+borrows handle None = false
+borrows handle (Some guarded) = guarded.handle == handle
+
+-- a handle is borrowed while a guard that names it is unspent
+abbrev pub is_borrowed : List (Option Guarded) → ℕ → Bool
+is_borrowed slots handle = list_any (borrows handle) slots
+
+-- ---- makings
+
+-- the scope that a new span is put under: that of a handle, of the lane's current span, or none
+abbrev pub scope_at : Tables → ℕ → Place → Option Scope
+scope_at t lane place.Root = Some []
+scope_at t lane place.Contextual = Some (scope_of t.made (current_of (t.entries lane)))
+scope_at t lane (place.Under handle) = slot_at t.handles handle
+
+-- a disabled handle
+abbrev pub declines : Tables → ℕ → ℕ → Effect
+declines t at lane = record (quiet at lane (reply.Made false (length t.handles))) { new_handle = Some [] }
+
+-- a span under a scope, and a handle of it
+abbrev pub makes_span : Tables → ℕ → ℕ → ℕ → Scope → Effect
+makes_span t at lane site up =
+    let scope : Scope = length t.made ∷ up in
+    record (quiet at lane (reply.Made true (length t.handles))) {
+      new_handle = Some scope;
+      made = Some (record { site = site; scope = scope; at = at });
+    }
+
+-- a callsite within the level gives a span, any other a disabled handle
+abbrev pub makes : Setup → Tables → ℕ → ℕ → ℕ → Callsite → Scope → Effect
+makes setup t at lane site callsite up =
+    if is_within callsite.level setup.level then makes_span t at lane site up else declines t at lane
+
+-- another handle of a scope: enabled if the scope has a span
+abbrev pub clones : Tables → ℕ → ℕ → Scope → Effect
+clones t at lane scope = record (quiet at lane (reply.Made (is_some (own scope)) (length t.handles))) { new_handle = Some scope }
+
+-- the spans that close are those that no unspent handle holds any more
+abbrev pub drops : Tables → ℕ → ℕ → ℕ → Scope → Effect
+drops t at lane handle scope = record (quiet at lane reply.Done) {
+  spent_handle = Some handle;
+  closes = closed_of (slice_set t.handles handle None) scope;
+}
+
+abbrev pub drops_unless : Bool → Effect → Resolved
+drops_unless borrowed effect = if borrowed then Err refusal.InUse else Ok effect
+
+-- ---- entries
+
+-- an entry of a handle's span on the lane at a place, which has an id
+abbrev pub enters : Tables → ℕ → ℕ → ℕ → ℕ → Scope → Effect
+enters t at lane place handle scope = record (quiet at lane (reply.Guard (length t.guards))) {
+  new_guard = Some (record { handle = handle; lane = place; owns = false; scope = scope });
+  entry = own scope;
+}
+
+abbrev pub exits : ℕ → ℕ → ℕ → Scope → Effect
+exits at lane guard scope = record (quiet at lane reply.Done) { spent_guard = Some guard; exit = own scope }
+
+-- a guard is spent on its own lane
+abbrev pub exits_on : ℕ → ℕ → Effect → Resolved
+exits_on mine lane effect = if mine == lane then Ok effect else Err (refusal.WrongLane mine)
+
+-- ---- all calls
+
+-- what a call on a lane, which is named by its place, at a moment changes; no other kind is built
+abbrev pub effect_of_call : Setup → Tables → ℕ → ℕ → Call → Resolved
+effect_of_call setup t at lane (call.New site under) = Err refusal.Later
+effect_of_call setup t at lane (call.Clone handle) =
+    named what.Handle (slot_at t.handles handle) (λ scope. Ok (clones t at (id_at setup.ids lane) scope))
+effect_of_call setup t at lane (call.Drop handle) =
+    named what.Handle (slot_at t.handles handle)
+    (λ scope. drops_unless (is_borrowed t.guards handle) (drops t at (id_at setup.ids lane) handle scope))
+effect_of_call setup t at lane (call.Enter handle) =
+    named what.Handle (slot_at t.handles handle) (λ scope. Ok (enters t at (id_at setup.ids lane) lane handle scope))
+effect_of_call setup t at lane (call.Exit guard) =
+    named what.Guard (slot_at t.guards guard)
+    (λ guarded. exits_on guarded.lane lane (exits at (id_at setup.ids lane) guard guarded.scope))
+effect_of_call setup t at lane call.Current = Err refusal.Later
+effect_of_call setup t at lane (call.OrCurrent handle) = Err refusal.Later
+effect_of_call setup t at lane (call.Entered handle) = Err refusal.Later
+effect_of_call setup t at lane (call.Event site) = Err refusal.Later
+effect_of_call setup t at lane (call.Remote ids) = Err refusal.Later
+effect_of_call setup t at lane (call.Context handle) = Err refusal.Later
+effect_of_call setup t at lane (call.Attach context) = Err refusal.Later
+effect_of_call setup t at lane (call.Detach guard) = Err refusal.Later
+
+-- a moment below the one before, or above the last one
+abbrev pub is_bad_moment : ℕ → ℕ → Bool
+is_bad_moment before given = nat_lt given before || nat_lt LAST_MOMENT given
+
+-- the effect of a request, or the first refusal that applies
+abbrev pub effect_of : Setup → Tables → Request → Resolved
+effect_of setup t request =
+    if is_bad_moment t.moment request.at then Err (refusal.BadMoment t.moment request.at) else
+    named what.Lane (slice_get setup.ids request.lane) (λ id. effect_of_call setup t request.at request.lane request.call)

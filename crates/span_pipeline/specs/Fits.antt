@@ -1,0 +1,149 @@
+-- What a pipeline keeps, and when it fits the tables of a history.
+use Rattle.std.specs.Prelude.{◌≡◌, ℕ, ◌+◌, ◌<◌, ◌≤◌, ◌==◌, ◌≢◌, ◌^◌, Bool, true, false, List, [], ◌∷◌, ◌++◌, length, map, count_by, Option, Some, None, option_map, Ok, Err, slice_index_or}
+use Rattle.otel_base.specs.declared.context.Context.{Context}
+use Rattle.trace_base.specs.declared.lane.Lane.{Lane}
+use Rattle.trace_base.specs.declared.callsite.Callsite.{Callsite}
+use Rattle.trace_base.specs.declared.level.LevelFilter.{LevelFilter}
+use Rattle.trace_base.specs.Gate.{Worlds}
+use Rattle.trace_base.specs.Spans.{Spans, Span, span_at}
+use Rattle.span_registry.specs.Registering.{OneEach}
+use Rattle.span_handles.specs.Worlds.{Has, spans_in, kept_in}
+use Rattle.span_handles.specs.Handles.{Handle, Held}
+use Rattle.span_pipeline.specs.declared.slots.Guard.{Guard}
+use Rattle.span_pipeline.specs.declared.reply.Reply.{Reply}
+use Rattle.span_pipeline.specs.declared.reply.Refusal.{Refusal}
+use Rattle.span_pipeline.specs.declared.reply.Refusal.TheVariants as refusal
+use Rattle.span_pipeline.specs.Setups.{Setup, id_at}
+use Rattle.span_pipeline.specs.Balance.{Balanced, named_by, opened_by}
+use Rattle.span_pipeline.specs.Tables.{Scope, Made, Guarded, Effect, Tables, History, tables, after, slot_at, own, made_of}
+use Rattle.span_pipeline.specs.Effects.{Resolved}
+
+-- a lane, without its room
+pub record Laned : Type 0 where
+  pub id : ℕ
+  pub live : List (ℕ × Context)
+
+abbrev pub laned : Lane → Laned
+laned lane = record { id = lane.id; live = lane.contexts.live }
+
+abbrev pub no_lane : Laned
+no_lane = record { id = 0; live = [] }
+
+abbrev pub lane_at : List Laned → ℕ → Laned
+lane_at lanes n = slice_index_or lanes n no_lane
+
+-- what is kept, without spare room
+pub record State : Type 0 where
+  pub setup : Setup
+  pub spans : Spans
+  pub lanes : List Laned
+  pub dispatch : ℕ
+  pub handles : List (Option Held)
+  pub guards : List (Option Guard)
+  pub moment : ℕ
+
+-- what an unspent handle stands for
+abbrev pub held_by : Option Handle → Option Held
+held_by slot = option_map (λ h. h.held) slot
+
+abbrev pub setup_of : List Callsite → List Lane → LevelFilter → Setup
+setup_of sites lanes level = record { sites = sites; ids = map (λ l. l.id) lanes; level = level }
+
+abbrev pub state_of : {S : Type 0} → (S → Spans) → Worlds S → ℕ → LevelFilter → List Lane → List (Option Handle) → List (Option Guard) → ℕ → State
+state_of spans world dispatch level lanes handles guards moment = record {
+  setup = setup_of world.sites lanes level;
+  spans = spans_in spans world dispatch;
+  lanes = map laned lanes;
+  dispatch = dispatch;
+  handles = map held_by handles;
+  guards = guards;
+  moment = moment;
+}
+
+-- what a handle of a scope stands for, and what a guard keeps
+abbrev pub held_of : ℕ → Scope → Held
+held_of dispatch [] = None
+held_of dispatch (s ∷ up) = Some (dispatch, s)
+
+abbrev pub guard_of : ℕ → Guarded → Guard
+guard_of dispatch g = record { handle = g.handle; lane = g.lane; owns = g.owns; entry = held_of dispatch g.scope }
+
+-- a scope is of spans that were made, each under the next
+abbrev pub IsUnder : ℕ → Scope → Type 0
+IsUnder s [] = Unit {0}
+IsUnder s (p ∷ up) = p < s
+
+abbrev pub IsScope : List Made → Scope → Type 0
+IsScope made [] = Unit {0}
+IsScope made (s ∷ up) = (s < length made) × ((made_of made s).scope ≡ s ∷ up) × IsUnder s up × IsScope made up
+
+-- the parent that a scope gives to its own span
+abbrev pub above : Scope → Option ℕ
+above [] = None
+above (s ∷ up) = own up
+
+-- the spans are those that were made; of those that closed nothing is kept
+pub record MadeFit (spans : List Span) (made : List Made) : Type 0 where
+  pub count : length spans ≡ length made
+  pub parent : (s : ℕ) → 0 < (span_at spans s).holds → (span_at spans s).parent ≡ above (made_of made s).scope
+  pub site : (s : ℕ) → 0 < (span_at spans s).holds → (span_at spans s).site ≡ (made_of made s).site
+
+-- what is kept attached is live on its lane, and lanes have ids of their own
+pub record LanesFit (kept : ℕ → ℕ → ℕ) (lanes : List Laned) : Type 0 where
+  pub differ : (n m : ℕ) → n < length lanes → m < length lanes → (lane_at lanes n).id ≡ (lane_at lanes m).id → n ≡ m
+  pub attached : (n number : ℕ) → n < length lanes
+      → kept (lane_at lanes n).id number ≤ count_by (λ item. item.0 == number) (lane_at lanes n).live
+
+-- What is kept fits the tables of a history.
+pub record Fits (k : State) (t : Tables) : Type 0 where
+  pub handle_slots : k.handles ≡ map (option_map (held_of k.dispatch)) t.handles
+  pub guard_slots : k.guards ≡ map (option_map (guard_of k.dispatch)) t.guards
+  pub latest : k.moment ≡ t.moment
+  pub balanced : Balanced k.spans (map named_by t.handles) (map (opened_by k.setup.ids) t.guards) t.entries
+  pub made : MadeFit k.spans.made t.made
+  pub one_lane : OneEach k.spans.lanes
+  -- facts of each history that leads here
+  pub scopes : (n : ℕ) (scope : Scope) → slot_at t.handles n ≡ Some scope → IsScope t.made scope
+  pub still : (n : ℕ) (g : Guarded) → slot_at t.guards n ≡ Some g → slot_at t.handles g.handle ≡ Some g.scope
+  pub own_scopes : (s : ℕ) → s < length t.made
+      → (own (made_of t.made s).scope ≡ Some s) × IsScope t.made (made_of t.made s).scope
+  pub few : length t.made ≤ length t.handles
+  pub few_holds : (s : ℕ) → (span_at k.spans.made s).holds ≤ length t.handles + length t.guards
+
+-- What every pipeline keeps: it fits the tables of some history.
+pub record IsKept {S : Type 0} (kept : S → ℕ → ℕ → ℕ) (is_whole : S → Type 0) (world : Worlds S) (k : State) : Type 0 where
+  pub there : k.dispatch < length world.subscribers
+  pub whole : Has is_whole world k.dispatch
+  pub lanes : LanesFit (kept_in kept world k.dispatch) k.lanes
+  pub tables : Tables
+  pub fits : Fits k tables
+
+-- A reply is served where the request has an effect: the reply is the effect's, and what is kept fits one effect more.
+pub record Served (resolved : Resolved) (t : Tables) (old new : State) (reply : Reply) : Type 0 where
+  pub effect : Effect
+  pub is : resolved ≡ Ok effect
+  pub reply_is : reply ≡ effect.reply
+  pub setup : new.setup ≡ old.setup
+  pub fits : Fits new (after t effect)
+
+-- a refusal for want of room: of memory, or on a lane with as many contexts as may be
+abbrev pub is_room : Refusal → Bool
+is_room refusal.Memory = true
+is_room (refusal.Full lane) = true
+is_room refusal.Later = false
+is_room (refusal.BadMoment before given) = false
+is_room (refusal.UnknownName unknown) = false
+is_room refusal.InUse = false
+is_room (refusal.WrongLane lane) = false
+
+-- Any other is the one that was resolved.
+abbrev pub IsRefusal : Resolved → Refusal → Type 0
+IsRefusal resolved given = is_room given ≡ false → resolved ≡ Err given
+
+-- The same of a history.
+pub record Recorded (resolved : Resolved) (h : History) (old new : State) (reply : Reply) : Type 0 where
+  pub effect : Effect
+  pub is : resolved ≡ Ok effect
+  pub reply_is : reply ≡ effect.reply
+  pub setup : new.setup ≡ old.setup
+  pub fits : Fits new (tables (h ++ effect ∷ []))

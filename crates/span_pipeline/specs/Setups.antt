@@ -1,0 +1,24 @@
+-- What the settings of a script fix for all its requests.
+use Rattle.std.specs.Prelude.{ℕ, List, Option, Some, None, slice_index_or, slice_get, option_and_then}
+use Rattle.trace_base.specs.declared.callsite.Callsite.{Callsite}
+use Rattle.trace_base.specs.declared.callsite.Kind.{Kind}
+use Rattle.trace_base.specs.declared.callsite.Kind.TheVariants as kind
+use Rattle.trace_base.specs.declared.level.LevelFilter.{LevelFilter}
+
+-- the callsites, the ids of the lanes, and the level that is let through
+pub record Setup : Type 0 where
+  pub sites : List Callsite
+  pub ids : List ℕ
+  pub level : LevelFilter
+
+-- the id of the lane at a place
+abbrev pub id_at : List ℕ → ℕ → ℕ
+id_at ids lane = slice_index_or ids lane 0
+
+abbrev pub if_span : Callsite → Kind → Option Callsite
+if_span callsite kind.Span = Some callsite
+if_span callsite kind.Event = None
+
+-- the callsite at a place, if it makes spans
+abbrev pub span_site : List Callsite → ℕ → Option Callsite
+span_site callsites site = option_and_then (λ callsite. if_span callsite callsite.kind) (slice_get callsites site)

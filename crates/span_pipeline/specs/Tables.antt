@@ -1,0 +1,133 @@
+-- A history: for each request what it changed; and its tables. Spans are named by their numbers in the order of making.
+use Rattle.std.specs.Prelude.{ℕ, List, [], ◌∷◌, ◌++◌, fold, Bool, if◌then◌else◌, ◌==◌, Option, Some, None, option_map, slice_index_or, slice_set}
+use Rattle.trace_base.specs.Spans.{without_last}
+use Rattle.span_pipeline.specs.declared.reply.Reply.{Reply}
+
+-- The scope of a span: the span, its parent, and so on up. A disabled handle has the empty scope.
+abbrev pub Scope : Type 0
+Scope = List ℕ
+
+-- a span that was made: the place of its callsite, its scope, and when
+pub record Made : Type 0 where
+  pub site : ℕ
+  pub scope : Scope
+  pub at : ℕ
+
+abbrev pub no_making : Made
+no_making = record { site = 0; scope = []; at = 0 }
+
+-- what a guard keeps: its handle, the place of the lane that it was made on, whether it owns the handle, and the scope
+-- that the handle had
+pub record Guarded : Type 0 where
+  pub handle : ℕ
+  pub lane : ℕ
+  pub owns : Bool
+  pub scope : Scope
+
+-- What a request changed, at a moment on the lane of an id. Of the names that it makes and spends each is one at most.
+pub record Effect : Type 0 where
+  pub at : ℕ
+  pub lane : ℕ
+  -- the scope of the handle that it made, and the handle that it spent
+  pub new_handle : Option Scope
+  pub spent_handle : Option ℕ
+  -- what the guard that it made keeps, and the guard that it spent
+  pub new_guard : Option Guarded
+  pub spent_guard : Option ℕ
+  -- the span that it made
+  pub made : Option Made
+  -- the spans that it closed, each before its parent
+  pub closes : List ℕ
+  -- the entry that it added to its lane, and the span whose last entry it took off
+  pub entry : Option ℕ
+  pub exit : Option ℕ
+  pub reply : Reply
+
+-- what changes nothing
+abbrev pub quiet : ℕ → ℕ → Reply → Effect
+quiet at lane answer = record {
+  at = at;
+  lane = lane;
+  new_handle = None;
+  spent_handle = None;
+  new_guard = None;
+  spent_guard = None;
+  made = None;
+  closes = [];
+  entry = None;
+  exit = None;
+  reply = answer;
+}
+
+abbrev pub History : Type 0
+History = List Effect
+
+-- The tables: handles and guards in the order of making, none where one is spent; spans in the order of making and in
+-- the order of closing; the entries of each lane, by its id; and the moment of the last request, 0 before the first.
+pub record Tables : Type 0 where
+  pub handles : List (Option Scope)
+  pub guards : List (Option Guarded)
+  pub made : List Made
+  pub closed : List ℕ
+  pub entries : ℕ → List ℕ
+  pub moment : ℕ
+
+abbrev pub no_tables : Tables
+no_tables = record { handles = []; guards = []; made = []; closed = []; entries = λ lane. []; moment = 0 }
+
+-- a list with one more item, if there is one
+abbrev pub with_new : {A : Type 0} → List A → Option A → List A
+with_new xs None = xs
+with_new xs (Some x) = xs ++ x ∷ []
+
+-- names without one that is spent, if there is one
+abbrev pub spend : {A : Type 0} → List (Option A) → Option ℕ → List (Option A)
+spend slots None = slots
+spend slots (Some n) = slice_set slots n None
+
+-- first the new name, then the spent one
+abbrev pub slots_after : {A : Type 0} → List (Option A) → Option A → Option ℕ → List (Option A)
+slots_after slots new spent = spend (with_new slots (option_map Some new)) spent
+
+-- what stands at a number, none past the end
+abbrev pub slot_at : {A : Type 0} → List (Option A) → ℕ → Option A
+slot_at slots n = slice_index_or slots n None
+
+-- the entries of all lanes with those of one of them changed
+abbrev pub on_lane : (ℕ → List ℕ) → ℕ → List ℕ → ℕ → List ℕ
+on_lane es lane ids = λ l. if lane == l then ids else es l
+
+abbrev pub with_entry : (ℕ → List ℕ) → ℕ → Option ℕ → ℕ → List ℕ
+with_entry es lane None = es
+with_entry es lane (Some s) = on_lane es lane (es lane ++ s ∷ [])
+
+abbrev pub with_exit : (ℕ → List ℕ) → ℕ → Option ℕ → ℕ → List ℕ
+with_exit es lane None = es
+with_exit es lane (Some s) = on_lane es lane (without_last (λ x. x == s) (es lane))
+
+-- the tables after one effect more
+abbrev pub after : Tables → Effect → Tables
+after t e = record {
+  handles = slots_after t.handles e.new_handle e.spent_handle;
+  guards = slots_after t.guards e.new_guard e.spent_guard;
+  made = with_new t.made e.made;
+  closed = t.closed ++ e.closes;
+  entries = with_exit (with_entry t.entries e.lane e.entry) e.lane e.exit;
+  moment = e.at;
+}
+
+abbrev pub tables : History → Tables
+tables h = fold after no_tables h
+
+-- a scope's own span, if it has one
+abbrev pub own : Scope → Option ℕ
+own [] = None
+own (s ∷ up) = Some s
+
+abbrev pub made_of : List Made → ℕ → Made
+made_of makings s = slice_index_or makings s no_making
+
+-- the scope of a span, if there is one
+abbrev pub scope_of : List Made → Option ℕ → Scope
+scope_of makings None = []
+scope_of makings (Some s) = (made_of makings s).scope

@@ -1,0 +1,3 @@
+//! The calls of a script, each with a body for its kind.
+mod entries;
+mod spans;

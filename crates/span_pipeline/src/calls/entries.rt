@@ -1,0 +1,88 @@
+//! Entering the span of a handle, and exiting it again.
+ghost use Rattle.std.specs.Prelude.{◌≡◌, ◌<◌, length, IfOk, IfErr, OnErr, Err};
+ghost use Rattle.span_pipeline.specs.declared.reply.Refusal.TheVariants.{Memory as NoMemory};
+ghost use Rattle.span_pipeline.specs.declared.request.Call.{Call};
+
+use crate::pipeline::{MOST, Pipeline};
+use crate::reply::{Refusal, Reply, What};
+use crate::slots::{Guard, keep, lane_of, slot_at, take};
+use otel_base::record::Moment;
+use otel_base::recorder::Recorder;
+use otel_layer::layer::OpenTelemetryLayer;
+use span_handles::laws::{calls, same};
+use span_registry::layered::Layered;
+use span_registry::registry::Registry;
+
+impl Pipeline {
+    ghost use Rattle.span_pipeline.specs.Tables.{Tables};
+    ghost use Rattle.span_pipeline.specs.Effects.{effect_of_call};
+    ghost use Rattle.span_pipeline.specs.Fits.{Fits, Served, IsRefusal};
+
+    pub(crate) fn enter(&mut self, at: Moment, lane: u64, handle: u64) -> Result<Reply, Refusal>
+        requires { lane < length self.old.lanes }
+        ensures ok { (t : Tables) → Fits self.old t
+            → IfOk result (Served (effect_of_call self.old.setup t at lane (Call.Enter handle)) t self.old self.new) }
+        ensures refused { (t : Tables) → Fits self.old t
+            → IfErr result (IsRefusal (effect_of_call self.old.setup t at lane (Call.Enter handle))) }
+        ensures err { OnErr result (self.new ≡ self.old) }
+    {
+        calls::<Layered<OpenTelemetryLayer<Recorder>, Registry>>();
+        same::<Layered<OpenTelemetryLayer<Recorder>, Registry>>();
+        if self.handles.len() >= MOST || self.guards.len() >= MOST {
+            return Err(Refusal::Memory);
+        }
+        let guard = self.guards.len() as u64;
+        let Some(span) = slot_at(&self.handles, handle) else {
+            return Err(Refusal::UnknownName { what: What::Handle });
+        };
+        self.guards.reserve(1)?;
+        let entry = match span.open_entry(&mut self.world, &mut self.lanes[lane as usize], at) {
+            Ok(entry) => entry,
+            Err(error) => return Err(Refusal::of_entry(lane, error)),
+        };
+        keep(
+            &mut self.guards,
+            Guard {
+                handle,
+                lane,
+                owns: false,
+                entry,
+            },
+        );
+        self.moment = at;
+        Ok(Reply::Guard { guard })
+    }
+
+    pub(crate) fn exit(&mut self, at: Moment, lane: u64, guard: u64) -> Result<Reply, Refusal>
+        requires { lane < length self.old.lanes }
+        ensures ok { (t : Tables) → Fits self.old t
+            → IfOk result (Served (effect_of_call self.old.setup t at lane (Call.Exit guard)) t self.old self.new) }
+        ensures refused { (t : Tables) → Fits self.old t
+            → IfErr result (IsRefusal (effect_of_call self.old.setup t at lane (Call.Exit guard))) }
+        ensures err { OnErr result (self.new ≡ self.old) }
+        ensures room { ¬ (result ≡ Err NoMemory) }
+    {
+        calls::<Layered<OpenTelemetryLayer<Recorder>, Registry>>();
+        let Some(own) = lane_of(&self.guards, guard) else {
+            return Err(Refusal::UnknownName { what: What::Guard });
+        };
+        if own != lane {
+            return Err(Refusal::WrongLane { lane: own });
+        }
+        let Some(open) = take(&mut self.guards, guard) else {
+            unreachable!()
+        };
+        let Guard {
+            handle,
+            lane: _,
+            owns: _,
+            entry,
+        } = open;
+        let Some(span) = slot_at(&self.handles, handle) else {
+            unreachable!()
+        };
+        span.close_entry(entry, &mut self.world, &mut self.lanes[lane as usize], at);
+        self.moment = at;
+        Ok(Reply::Done)
+    }
+}

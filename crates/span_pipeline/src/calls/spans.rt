@@ -1,0 +1,69 @@
+//! Handles of spans, and dropping these.
+ghost use Rattle.std.specs.Prelude.{◌≡◌, IfOk, IfErr, OnErr, Err};
+ghost use Rattle.span_pipeline.specs.declared.reply.Refusal.TheVariants.{Memory as NoMemory};
+ghost use Rattle.span_pipeline.specs.declared.request.Call.{Call};
+
+use crate::pipeline::{MOST, Pipeline};
+use crate::reply::{Refusal, Reply, What};
+use crate::slots::{is_borrowed, keep, slot_at, take};
+use otel_base::record::Moment;
+use otel_base::recorder::Recorder;
+use otel_layer::layer::OpenTelemetryLayer;
+use span_handles::laws::{calls, chains};
+use span_registry::layered::Layered;
+use span_registry::registry::Registry;
+
+impl Pipeline {
+    ghost use Rattle.span_pipeline.specs.Tables.{Tables};
+    ghost use Rattle.span_pipeline.specs.Effects.{effect_of_call};
+    ghost use Rattle.span_pipeline.specs.Fits.{Fits, Served, IsRefusal};
+
+    pub(crate) fn clone_handle(&mut self, at: Moment, lane: u64, handle: u64) -> Result<Reply, Refusal>
+        ensures ok { (t : Tables) → Fits self.old t
+            → IfOk result (Served (effect_of_call self.old.setup t at lane (Call.Clone handle)) t self.old self.new) }
+        ensures refused { (t : Tables) → Fits self.old t
+            → IfErr result (IsRefusal (effect_of_call self.old.setup t at lane (Call.Clone handle))) }
+        ensures err { OnErr result (self.new ≡ self.old) }
+    {
+        calls::<Layered<OpenTelemetryLayer<Recorder>, Registry>>();
+        if self.handles.len() >= MOST || self.guards.len() >= MOST {
+            return Err(Refusal::Memory);
+        }
+        let number = self.handles.len() as u64;
+        self.handles.reserve(1)?;
+        let Some(span) = slot_at(&self.handles, handle) else {
+            return Err(Refusal::UnknownName { what: What::Handle });
+        };
+        let enabled = span.id().is_some();
+        let copy = span.clone_handle(&mut self.world);
+        keep(&mut self.handles, copy);
+        self.moment = at;
+        Ok(Reply::Made {
+            enabled,
+            handle: number,
+        })
+    }
+
+    pub(crate) fn drop_handle(&mut self, at: Moment, lane: u64, handle: u64) -> Result<Reply, Refusal>
+        ensures ok { (t : Tables) → Fits self.old t
+            → IfOk result (Served (effect_of_call self.old.setup t at lane (Call.Drop handle)) t self.old self.new) }
+        ensures refused { (t : Tables) → Fits self.old t
+            → IfErr result (IsRefusal (effect_of_call self.old.setup t at lane (Call.Drop handle))) }
+        ensures err { OnErr result (self.new ≡ self.old) }
+        ensures room { ¬ (result ≡ Err NoMemory) }
+    {
+        chains::<Layered<OpenTelemetryLayer<Recorder>, Registry>>();
+        let Some(_named) = slot_at(&self.handles, handle) else {
+            return Err(Refusal::UnknownName { what: What::Handle });
+        };
+        if is_borrowed(&self.guards, handle) {
+            return Err(Refusal::InUse);
+        }
+        let Some(span) = take(&mut self.handles, handle) else {
+            unreachable!()
+        };
+        span.close(&mut self.world, at);
+        self.moment = at;
+        Ok(Reply::Done)
+    }
+}

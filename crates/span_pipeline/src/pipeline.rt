@@ -1,0 +1,135 @@
+//! A pipeline runs the requests of a script over a stack of a registry and the OpenTelemetry layer.
+ghost use Rattle.std.specs.Prelude.{◌≡◌, ◌<◌, ℕ, length, IfOk, IfErr, OnErr, Err};
+ghost use Rattle.span_pipeline.specs.Effects.{is_bad_moment};
+
+use crate::reply::{Refusal, Reply, What};
+use crate::request::{Call, LAST_MOMENT, Request};
+use crate::slots::Guard;
+use otel_base::record::Moment;
+use otel_base::recorder::Recorder;
+use otel_layer::layer::OpenTelemetryLayer;
+use span_handles::span::Span;
+use span_registry::layered::Layered;
+use span_registry::registry::Registry;
+use std::marker::Model;
+use trace_base::discard::Discard;
+use trace_base::dispatcher::Dispatch;
+use trace_base::field::ValueSet;
+use trace_base::lane::Lane;
+use trace_base::level::LevelFilter;
+use trace_base::subscriber::Subscriber;
+use trace_base::world::World;
+
+/// What the spans and events of a pipeline are told to.
+pub(crate) type Stack = Layered<OpenTelemetryLayer<Recorder>, Registry>;
+
+/// Runs the requests of a script, one after another: a `tracing_subscriber::Registry` with a filter and a
+/// `tracing_opentelemetry::OpenTelemetryLayer` over an exporter that keeps what it gets. It has to be spent, by
+/// `discard`.
+pub struct Pipeline {
+    pub(crate) world: World<Layered<OpenTelemetryLayer<Recorder>, Registry>>,
+    pub(crate) dispatch: Dispatch,
+    pub(crate) level: LevelFilter,
+    pub(crate) values: ValueSet,
+    pub(crate) lanes: Vec<Lane>,
+    pub(crate) handles: Vec<Option<Span>>,
+    pub(crate) guards: Vec<Option<Guard>>,
+    pub(crate) moment: Moment,
+}
+
+impl Model for Pipeline {
+    ghost use Rattle.span_pipeline.specs.Fits.{State, state_of, IsKept};
+
+    ghost Value = { State };
+
+    ghost view = { λ p. state_of ⟦<Layered<OpenTelemetryLayer<Recorder>, Registry> as Subscriber>⟧.spans
+        p.world p.dispatch p.level p.lanes.items p.handles.items p.guards.items p.moment };
+
+    ghost invariant = { λ p. IsKept ⟦<Layered<OpenTelemetryLayer<Recorder>, Registry> as Subscriber>⟧.kept
+        ⟦<Layered<OpenTelemetryLayer<Recorder>, Registry> as Subscriber>⟧.is_whole p.world
+        (state_of ⟦<Layered<OpenTelemetryLayer<Recorder>, Registry> as Subscriber>⟧.spans
+        p.world p.dispatch p.level p.lanes.items p.handles.items p.guards.items p.moment) };
+}
+
+/// What isn't spent is given up.
+impl Discard for Pipeline {
+    fn discard(self) {
+        let Pipeline {
+            world,
+            dispatch: _,
+            level: _,
+            values: _,
+            lanes: _,
+            handles,
+            guards,
+            moment: _,
+        } = self;
+        world.discard();
+        handles.discard();
+        guards.discard();
+    }
+}
+
+// So many handles and guards are never exceeded.
+pub(crate) const MOST: usize = 1_000_000_000_000;
+
+fn is_bad_moment(before: Moment, given: Moment) -> bool
+    ensures { result ≡ is_bad_moment before given }
+{
+    given < before || given > LAST_MOMENT
+}
+
+impl Pipeline {
+    ghost use Rattle.span_pipeline.specs.Tables.{Tables, History, tables};
+    ghost use Rattle.span_pipeline.specs.Effects.{effect_of, effect_of_call};
+    ghost use Rattle.span_pipeline.specs.Fits.{Fits, Served, Recorded, IsRefusal};
+
+    /// Runs a request. A refused step leaves the pipeline as it was: `BadMoment` where the moment falls or is above
+    /// 2^63 - 1, `UnknownName` where it names what isn't there, `InUse` where it drops a handle with an open guard,
+    /// `WrongLane` where it spends a guard on another lane than the guard's, `Later` where its kind isn't built. It may
+    /// answer `Memory`.
+    pub fn step(&mut self, request: Request) -> Result<Reply, Refusal>
+        ensures ok { (h : History) → Fits self.old (tables h)
+            → IfOk result (Recorded (effect_of self.old.setup (tables h) request) h self.old self.new) }
+        ensures refused { (h : History) → Fits self.old (tables h)
+            → IfErr result (IsRefusal (effect_of self.old.setup (tables h) request)) }
+        ensures err { OnErr result (self.new ≡ self.old) }
+    {
+        let Request { at, lane, call } = request;
+        if is_bad_moment(self.moment, at) {
+            return Err(Refusal::BadMoment {
+                before: self.moment,
+                given: at,
+            });
+        }
+        if lane >= self.lanes.len() as u64 {
+            return Err(Refusal::UnknownName { what: What::Lane });
+        }
+        self.call(at, lane, call)
+    }
+
+    fn call(&mut self, at: Moment, lane: u64, call: Call) -> Result<Reply, Refusal>
+        requires { lane < length self.old.lanes }
+        ensures ok { (t : Tables) → Fits self.old t
+            → IfOk result (Served (effect_of_call self.old.setup t at lane call) t self.old self.new) }
+        ensures refused { (t : Tables) → Fits self.old t
+            → IfErr result (IsRefusal (effect_of_call self.old.setup t at lane call)) }
+        ensures err { OnErr result (self.new ≡ self.old) }
+    {
+        match call {
+            Call::Clone { handle } => self.clone_handle(at, lane, handle),
+            Call::Drop { handle } => self.drop_handle(at, lane, handle),
+            Call::Enter { handle } => self.enter(at, lane, handle),
+            Call::Exit { guard } => self.exit(at, lane, guard),
+            Call::New { .. } => Err(Refusal::Later),
+            Call::Current => Err(Refusal::Later),
+            Call::OrCurrent { .. } => Err(Refusal::Later),
+            Call::Entered { .. } => Err(Refusal::Later),
+            Call::Event { .. } => Err(Refusal::Later),
+            Call::Remote { .. } => Err(Refusal::Later),
+            Call::Context { .. } => Err(Refusal::Later),
+            Call::Attach { .. } => Err(Refusal::Later),
+            Call::Detach { .. } => Err(Refusal::Later),
+        }
+    }
+}
