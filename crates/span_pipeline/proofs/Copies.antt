@@ -13,7 +13,7 @@ use Rattle.trace_base.specs.Level.{is_within}
 use Rattle.trace_base.specs.Spans.{Span, Spans, no_span, span_at, held_by_child, entries_on, place_on}
 use Rattle.trace_base.specs.Calls.{SubscriberCall, NewSpan, CloneSpan, with_span}
 use Rattle.trace_base.specs.Conditions.{IsLivePlace}
-use Rattle.span_registry.specs.Registering.{OneEach}
+use Rattle.trace_base.specs.Sound.{OneEach}
 use Rattle.span_handles.specs.Worlds.{Shown, Replaced, spans_in, kept_in, no_spans, Has}
 use Rattle.span_handles.specs.Handles.{Handle, Held, id_of, ReplacedOn, Makes, no_handle}
 use Rattle.span_handles.proofs.Showing.{seen_before}

@@ -12,7 +12,7 @@ use Rattle.trace_base.specs.Spans.{Span, Spans, Entries, entries_on, no_span, sp
 use Rattle.trace_base.specs.Calls.{SubscriberCall}
 use Rattle.trace_base.proofs.Entering.{made_if_held}
 use Rattle.trace_base.proofs.Holding.{children_set, keeps_children, less_last, less_more, less_holds, holds_set, holds_other}
-use Rattle.span_registry.specs.Registering.{OneEach}
+use Rattle.trace_base.specs.Sound.{OneEach}
 use Rattle.span_handles.specs.Worlds.{Replaced, spans_in, kept_in, Has, Chain, Released, all_released, releases, ChainShown}
 use Rattle.span_handles.specs.Handles.{Handle, Held, ReplacedOn}
 use Rattle.span_pipeline.specs.Setups.{Setup, id_at}

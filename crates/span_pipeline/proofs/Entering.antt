@@ -8,8 +8,8 @@ use Rattle.trace_base.specs.declared.level.LevelFilter.{LevelFilter}
 use Rattle.trace_base.specs.Gate.{Worlds}
 use Rattle.trace_base.specs.Spans.{Spans, span_at, held, released, without_last, is_in, times_in, entries_on}
 use Rattle.trace_base.specs.Calls.{SubscriberCall, Enter, Exit, entered, exited}
-use Rattle.span_registry.specs.Registering.{OneEach}
-use Rattle.span_registry.proofs.Lanes.{one_with}
+use Rattle.trace_base.specs.Sound.{OneEach}
+use Rattle.trace_base.proofs.Sound.{one_with}
 use Rattle.span_handles.specs.Worlds.{Shown, Replaced, spans_in}
 use Rattle.span_handles.specs.Handles.{Handle, Held, ReplacedOn}
 use Rattle.span_pipeline.specs.declared.slots.Guard.{Guard}

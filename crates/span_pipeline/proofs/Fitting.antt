@@ -9,7 +9,7 @@ use Rattle.trace_base.specs.Calls.{entered, exited}
 use Rattle.trace_base.specs.Conditions.{HasOwnHold, IsLive, MayExit}
 use Rattle.trace_base.proofs.Entering.{count_push, any_if_counted, made_if_held, with_same, with_other}
 use Rattle.trace_base.proofs.Holding.{keeps_children, less_more, less_holds, times_without, first_if_in}
-use Rattle.span_registry.proofs.Moving.{entry_moves, exit_moves}
+use Rattle.trace_base.proofs.Moving.{entry_moves, exit_moves}
 use Rattle.span_pipeline.specs.Tables.{slot_at, on_lane}
 use Rattle.span_pipeline.specs.Balance.{Opened, names, guards, Balanced}
 

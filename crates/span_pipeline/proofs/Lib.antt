@@ -5,6 +5,7 @@ mod Dropping
 mod Entering
 mod Fitting
 mod Keeping
+mod Making
 mod Makings
 mod Naming
 mod Reading

@@ -2,7 +2,10 @@
 use Rattle.std.proofs.Common.{◌≡◌, ℕ, zero, suc, ◌<◌, List, [], ◌∷◌, ◌++◌, length, Option, Some, None, option_map, map, refl, sym, ap, ◌∙◌, arith, slice_set}
 use Rattle.std.proofs.lemmas.List.{map_push, map-set}
 use Rattle.std.proofs.Math.ListN.{get_or-map}
-use Rattle.span_handles.specs.Handles.{Handle}
+use Rattle.span_handles.specs.Handles.{Handle, Held, IsOf}
+use Rattle.span_pipeline.specs.declared.request.Place.{Place}
+use Rattle.span_pipeline.specs.declared.slots.Above.{Above}
+use Rattle.span_pipeline.specs.Slots.{parent_of, place_for}
 use Rattle.span_pipeline.specs.Fits.{held_by}
 use Rattle.span_pipeline.specs.Tables.{slot_at, with_new, spend, slots_after}
 
@@ -58,3 +61,12 @@ find f ys xs n y slots there = by_slot (slot_at xs n) refl (sym (ap (λ zs. slot
 -- what a handle in a slot stands for
 pub held_slot : (hs : List (Option Handle)) (n : ℕ) (handle : Handle) → slot_at hs n ≡ Some handle → slot_at (map held_by hs) n ≡ Some handle.held
 held_slot hs n handle there = get_or-map held_by hs n None ∙ ap held_by there
+
+-- what all handles are of, a handle in a slot is of
+pub of_all : (hs : List (Option Held)) (n : ℕ) (held : Held) → slot_at hs n ≡ Some held → (dispatch : ℕ) → ((n : ℕ) (h : ℕ × ℕ) → slot_at hs n ≡ Some (Some h) → h.0 ≡ dispatch) → IsOf held dispatch
+of_all hs n None there dispatch all = tt
+of_all hs n (Some h) there dispatch all = all n h there
+
+-- the place behind what was found
+pub found_place : (hs' hs : List (Option Handle)) (under : Place) (o : Option Above) (x : Above) → hs' ≡ hs → option_map parent_of o ≡ place_for (map held_by hs') under → o ≡ Some x → place_for (map held_by hs) under ≡ Some (parent_of x)
+found_place hs' hs under o x same is found = ap (λ (xs : List (Option Handle)). place_for (map held_by xs) under) (sym same) ∙ sym is ∙ ap (option_map parent_of) found

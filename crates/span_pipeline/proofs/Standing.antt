@@ -1,7 +1,7 @@
 -- One effect more: what fits the tables fits them with the effect, whatever its kind.
 use Rattle.std.proofs.Common.{◌≡◌, ℕ, ◌+◌, ◌<◌, ◌≤◌, List, length, Option, Some, None, option_map, map, sym, ap, subst, ◌∙◌}
 use Rattle.trace_base.specs.Spans.{span_at}
-use Rattle.span_registry.specs.Registering.{OneEach}
+use Rattle.trace_base.specs.Sound.{OneEach}
 use Rattle.span_pipeline.specs.Balance.{Balanced, named_by, opened_by}
 use Rattle.span_pipeline.specs.Setups.{Setup}
 use Rattle.span_pipeline.specs.Tables.{Scope, Guarded, Effect, Tables, after, slot_at, slots_after, with_new, with_entry, with_exit}

@@ -110,7 +110,10 @@ exits_on mine lane effect = if mine == lane then Ok effect else Err (refusal.Wro
 
 -- what a call on a lane, which is named by its place, at a moment changes; no other kind is built
 abbrev pub effect_of_call : Setup → Tables → ℕ → ℕ → Call → Resolved
-effect_of_call setup t at lane (call.New site under) = Err refusal.Later
+effect_of_call setup t at lane (call.New site under) =
+    named what.Site (span_site setup.sites site)
+    (λ callsite. named what.Handle (scope_at t (id_at setup.ids lane) under)
+    (λ up. Ok (makes setup t at (id_at setup.ids lane) site callsite up)))
 effect_of_call setup t at lane (call.Clone handle) =
     named what.Handle (slot_at t.handles handle) (λ scope. Ok (clones t at (id_at setup.ids lane) scope))
 effect_of_call setup t at lane (call.Drop handle) =

@@ -6,7 +6,7 @@ use Rattle.trace_base.specs.declared.callsite.Callsite.{Callsite}
 use Rattle.trace_base.specs.declared.level.LevelFilter.{LevelFilter}
 use Rattle.trace_base.specs.Gate.{Worlds}
 use Rattle.trace_base.specs.Spans.{Spans, Span, span_at}
-use Rattle.span_registry.specs.Registering.{OneEach}
+use Rattle.trace_base.specs.Sound.{OneEach}
 use Rattle.span_handles.specs.Worlds.{Has, spans_in, kept_in}
 use Rattle.span_handles.specs.Handles.{Handle, Held}
 use Rattle.span_pipeline.specs.declared.slots.Guard.{Guard}

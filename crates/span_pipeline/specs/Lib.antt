@@ -1,3 +1,4 @@
+pub mod Admission
 pub mod Balance
 pub mod Effects
 pub mod Fits

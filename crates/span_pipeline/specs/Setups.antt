@@ -1,9 +1,11 @@
 -- What the settings of a script fix for all its requests.
-use Rattle.std.specs.Prelude.{ℕ, List, Option, Some, None, slice_index_or, slice_get, option_and_then}
+use Rattle.std.specs.Prelude.{◌≡◌, ◌<◌, ℕ, List, length, map, Option, Some, None, slice_index_or, slice_get, option_and_then}
 use Rattle.trace_base.specs.declared.callsite.Callsite.{Callsite}
 use Rattle.trace_base.specs.declared.callsite.Kind.{Kind}
 use Rattle.trace_base.specs.declared.callsite.Kind.TheVariants as kind
 use Rattle.trace_base.specs.declared.level.LevelFilter.{LevelFilter}
+use Rattle.span_pipeline.specs.declared.settings.Settings.{Settings}
+use Rattle.span_pipeline.specs.Admission.{in_force}
 
 -- the callsites, the ids of the lanes, and the level that is let through
 pub record Setup : Type 0 where
@@ -22,3 +24,10 @@ if_span callsite kind.Event = None
 -- the callsite at a place, if it makes spans
 abbrev pub span_site : List Callsite → ℕ → Option Callsite
 span_site callsites site = option_and_then (λ callsite. if_span callsite callsite.kind) (slice_get callsites site)
+
+-- the same of the settings; and lanes have ids of their own
+abbrev pub setup_by : Settings → Setup
+setup_by settings = record { sites = settings.callsites; ids = map (λ l. l.0) settings.lanes; level = in_force settings.filter }
+
+abbrev pub HasOwnIds : List ℕ → Type 0
+HasOwnIds ids = (n m : ℕ) → n < length ids → m < length ids → id_at ids n ≡ id_at ids m → n ≡ m

@@ -1,12 +1,19 @@
 -- Where the code puts new spans, and which handles its guards borrow. Inner definitions.
-use Rattle.std.specs.Prelude.{ℕ, List, Bool, false, ◌==◌, Option, Some, None, option_map, slice_index_or}
+use Rattle.std.specs.Prelude.{◌≡◌, ℕ, List, Bool, true, false, ◌==◌, Option, Some, None, option_map, slice_index_or}
 use Rattle.std.specs.List.{list_any}
+use Rattle.trace_base.specs.declared.field.ValueSet.{ValueSet}
+use Rattle.trace_base.specs.declared.lane.Lane.{Lane}
+use Rattle.trace_base.specs.Calls.{SubscriberCall}
+use Rattle.trace_base.specs.Gate.{Worlds}
+use Rattle.trace_base.specs.Spans.{Spans}
 use Rattle.trace_base.specs.declared.span.Parent.{Parent}
 use Rattle.trace_base.specs.declared.span.Parent.TheVariants as parent
-use Rattle.span_handles.specs.Handles.{Held, place_under}
+use Rattle.span_handles.specs.Handles.{Handle, Held, IsOf, Makes, no_handle, place_under}
 use Rattle.span_pipeline.specs.declared.request.Place.{Place}
 use Rattle.span_pipeline.specs.declared.request.Place.TheVariants as place
 use Rattle.span_pipeline.specs.declared.slots.Guard.{Guard}
+use Rattle.span_pipeline.specs.declared.slots.Above.{Above}
+use Rattle.span_pipeline.specs.declared.slots.Above.TheVariants as above
 
 -- the place that a request's place gives a new span, if the handle is there
 abbrev pub place_for : List (Option Held) → Place → Option Parent
@@ -14,9 +21,25 @@ place_for handles place.Root = Some parent.Root
 place_for handles place.Contextual = Some parent.Current
 place_for handles (place.Under handle) = option_map place_under (slice_index_or handles handle None)
 
+-- the place that was found, and that its handle is of a dispatch
+abbrev pub parent_of : Above → Parent
+parent_of above.Current = parent.Current
+parent_of above.Nothing = parent.Root
+parent_of (above.Span span) = place_under span.now.held
+
+abbrev pub IsAbove : ℕ → Above → Type 0
+IsAbove dispatch above.Current = Unit {0}
+IsAbove dispatch above.Nothing = Unit {0}
+IsAbove dispatch (above.Span span) = IsOf span.now.held dispatch
+
 abbrev pub names_handle : ℕ → Option Guard → Bool
 names_handle handle None = false
 names_handle handle (Some guard) = guard.handle == handle
 
 abbrev pub is_named : List (Option Guard) → ℕ → Bool
 is_named guards handle = list_any (names_handle handle) guards
+
+-- a span was made by one call and a handle of it, or nothing and a disabled handle
+abbrev pub MakesOnly : {S : Type 0} → (S → Spans) → (S → SubscriberCall → S → Type 0) → Bool → Worlds S → Worlds S → Lane → ℕ → Parent → ℕ → ValueSet → ℕ → Handle → Type 0
+MakesOnly spans does true old new lane at place site values dispatch handle = Makes spans does old new lane at place site values dispatch handle
+MakesOnly spans does false old new lane at place site values dispatch handle = (handle ≡ no_handle) × (new ≡ old)

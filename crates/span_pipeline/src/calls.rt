@@ -1,3 +1,4 @@
 //! The calls of a script, each with a body for its kind.
 mod entries;
+mod makings;
 mod spans;

@@ -4,13 +4,15 @@
 #![tactic(auto)]
 
 mod calls;
+mod level_words;
+mod opening;
 pub mod pipeline;
 pub mod reply;
 pub mod request;
 pub mod settings;
 pub mod slots;
 
-pub use pipeline::Pipeline;
+pub use pipeline::{OpenError, Pipeline};
 pub use reply::{Refusal, Reply, What};
 pub use request::{Call, LAST_MOMENT, Place, Request};
 pub use settings::Settings;

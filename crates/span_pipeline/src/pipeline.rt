@@ -1,16 +1,22 @@
 //! A pipeline runs the requests of a script over a stack of a registry and the OpenTelemetry layer.
-ghost use Rattle.std.specs.Prelude.{◌≡◌, ◌<◌, ℕ, length, IfOk, IfErr, OnErr, Err};
+ghost use Rattle.std.specs.Prelude.{◌≡◌, ◌<◌, ℕ, [], map, length, IfOk, IfErr, OnErr, Err};
+ghost use Rattle.span_pipeline.specs.Setups.{HasOwnIds, setup_by};
 ghost use Rattle.span_pipeline.specs.Effects.{is_bad_moment};
 
+use crate::level_words::filter_of;
+use crate::opening::{self, add_sites, stack};
 use crate::reply::{Refusal, Reply, What};
 use crate::request::{Call, LAST_MOMENT, Request};
+use crate::settings::Settings;
 use crate::slots::Guard;
+use otel_base::list::Items;
 use otel_base::record::Moment;
 use otel_base::recorder::Recorder;
 use otel_layer::layer::OpenTelemetryLayer;
 use span_handles::span::Span;
 use span_registry::layered::Layered;
 use span_registry::registry::Registry;
+use std::alloc::Global;
 use std::marker::Model;
 use trace_base::discard::Discard;
 use trace_base::dispatcher::Dispatch;
@@ -20,8 +26,12 @@ use trace_base::level::LevelFilter;
 use trace_base::subscriber::Subscriber;
 use trace_base::world::World;
 
-/// What the spans and events of a pipeline are told to.
-pub(crate) type Stack = Layered<OpenTelemetryLayer<Recorder>, Registry>;
+/// Why a pipeline can't be opened.
+#[derive(Clone, Copy, Debug, PartialEq, Eq)]
+pub enum OpenError {
+    /// Out of memory.
+    Memory,
+}
 
 /// Runs the requests of a script, one after another: a `tracing_subscriber::Registry` with a filter and a
 /// `tracing_opentelemetry::OpenTelemetryLayer` over an exporter that keeps what it gets. It has to be spent, by
@@ -84,6 +94,48 @@ impl Pipeline {
     ghost use Rattle.span_pipeline.specs.Effects.{effect_of, effect_of_call};
     ghost use Rattle.span_pipeline.specs.Fits.{Fits, Served, Recorded, IsRefusal};
 
+    /// A pipeline for the settings, before any request. It may answer `Memory`, and nothing else.
+    pub fn open(alloc: Global, settings: Settings) -> Result<Pipeline, OpenError>
+        requires { HasOwnIds (map (λ l. l.0) settings.lanes) }
+        ensures setup { IfOk result (λ pipeline. pipeline.setup ≡ setup_by settings) }
+        ensures stands { IfOk result (λ pipeline. Fits pipeline (tables [])) }
+    {
+        let Settings {
+            filter,
+            lanes,
+            callsites,
+            layer,
+        } = settings;
+        let level = filter_of(filter.as_str()).unwrap_or(LevelFilter::OFF);
+        let Ok(lanes) = opening::lanes(alloc, lanes) else {
+            return Err(OpenError::Memory);
+        };
+        let mut world = World::new(alloc);
+        if add_sites(&mut world, callsites.into_vec()).is_err() {
+            world.discard();
+            return Err(OpenError::Memory);
+        }
+        match world.add(stack(alloc, layer)) {
+            Ok(dispatch) => Ok(Pipeline {
+                world,
+                dispatch,
+                level,
+                values: ValueSet {
+                    pairs: Items::new(alloc),
+                },
+                lanes,
+                handles: Vec::new(alloc),
+                guards: Vec::new(alloc),
+                moment: 0,
+            }),
+            Err((stack, _)) => {
+                stack.discard();
+                world.discard();
+                Err(OpenError::Memory)
+            }
+        }
+    }
+
     /// Runs a request. A refused step leaves the pipeline as it was: `BadMoment` where the moment falls or is above
     /// 2^63 - 1, `UnknownName` where it names what isn't there, `InUse` where it drops a handle with an open guard,
     /// `WrongLane` where it spends a guard on another lane than the guard's, `Later` where its kind isn't built. It may
@@ -121,7 +173,7 @@ impl Pipeline {
             Call::Drop { handle } => self.drop_handle(at, lane, handle),
             Call::Enter { handle } => self.enter(at, lane, handle),
             Call::Exit { guard } => self.exit(at, lane, guard),
-            Call::New { .. } => Err(Refusal::Later),
+            Call::New { site, place } => self.make(at, lane, site, place),
             Call::Current => Err(Refusal::Later),
             Call::OrCurrent { .. } => Err(Refusal::Later),
             Call::Entered { .. } => Err(Refusal::Later),

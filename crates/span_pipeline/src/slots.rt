@@ -1,8 +1,11 @@
 //! Names that are spent once: handles and guards by their numbers.
-ghost use Rattle.std.specs.Prelude.{◌≡◌, ◌<◌, ◌++◌, ◌∷◌, [], Some, None, option_map, slice_index_or, slice_set, vec_len, vec_capacity};
-ghost use Rattle.span_pipeline.specs.Slots.{names_handle, is_named};
+ghost use Rattle.std.specs.Prelude.{◌≡◌, ◌<◌, ℕ, map, IfSome, ◌++◌, ◌∷◌, [], Some, None, option_map, slice_index_or, slice_set, vec_len, vec_capacity};
+ghost use Rattle.span_pipeline.specs.Fits.{held_by};
+ghost use Rattle.span_pipeline.specs.Slots.{parent_of, IsAbove, place_for, names_handle, is_named};
 
+use crate::request::Place;
 use span_handles::entry::Entry;
+use span_handles::span::Span;
 use trace_base::discard::Discard;
 
 /// What an open guard keeps.
@@ -27,6 +30,33 @@ impl Discard for Guard {
             entry,
         } = self;
         entry.discard();
+    }
+}
+
+/// Where a new span is put, with the handle that it is put under.
+#[derive(Clone, Copy)]
+pub enum Above<'a> {
+    /// Under the lane's current span.
+    Current,
+    /// Under no span.
+    Nothing,
+    /// Under a handle's span.
+    Span { span: &'a Span },
+}
+
+/// The place of a new span, if the handle that it names is there.
+pub fn place_above(handles: &Vec<Option<Span>>, place: Place) -> Option<Above<'_>>
+    ensures place { option_map parent_of result ≡ place_for (map held_by handles.now.items) place }
+    ensures of { (dispatch : ℕ) → ((n : ℕ) (held : ℕ × ℕ) → slice_index_or (map held_by handles.now.items) n None ≡ Some (Some held) → held.0 ≡ dispatch)
+        → IfSome result (IsAbove dispatch) }
+{
+    match place {
+        Place::Contextual => Some(Above::Current),
+        Place::Root => Some(Above::Nothing),
+        Place::Under { handle } => match slot_at(handles, handle) {
+            Some(span) => Some(Above::Span { span }),
+            None => None,
+        },
     }
 }
 

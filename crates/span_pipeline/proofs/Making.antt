@@ -1,0 +1,249 @@
+-- Makings, served.
+use Rattle.std.proofs.Common.{◌≡◌, ℕ, ◌+◌, ◌<◌, ◌≤◌, ◌^◌, List, [], ◌∷◌, ◌++◌, length, Bool, true, false, cond, get_or, Option, Some, None, Ok, option_map, map, refl, sym, ap, subst, ◌∙◌, arith, inl, inr}
+use Rattle.std.specs.Prelude.{is_some, IfSome, slice_get}
+use Rattle.std.proofs.lemmas.Bool.{cases_eq, cases_lt, cond-true, cond-false}
+use Rattle.std.proofs.lemmas.List.{length-map, length_push, map_push, get_or_past, get_or_push, get_or_append_left}
+use Rattle.trace_base.specs.declared.lane.Lane.{Lane}
+use Rattle.trace_base.specs.declared.level.LevelFilter.{LevelFilter}
+use Rattle.trace_base.specs.declared.level.Level.{Level}
+use Rattle.trace_base.specs.declared.span.Parent.{Parent}
+use Rattle.trace_base.specs.declared.callsite.Callsite.{Callsite}
+use Rattle.trace_base.specs.declared.field.ValueSet.{ValueSet}
+use Rattle.trace_base.specs.Gate.{Worlds}
+use Rattle.trace_base.specs.Level.{is_within}
+use Rattle.trace_base.specs.Spans.{Span, Spans, no_span, span_at, held_by_child, entries_on, place_on}
+use Rattle.trace_base.specs.Calls.{SubscriberCall, NewSpan, CloneSpan, with_span}
+use Rattle.trace_base.specs.Conditions.{IsLivePlace, HasFewHolds, AreFew, HasFewHoldsAbove}
+use Rattle.trace_base.specs.Sound.{OneEach}
+use Rattle.span_handles.specs.Worlds.{Shown, Alike, Replaced, spans_in, kept_in, no_spans, Has}
+use Rattle.span_handles.specs.Handles.{Handle, Held, ReplacedOn, Makes, MayMake, no_handle}
+use Rattle.span_handles.proofs.Showing.{seen_before}
+use Rattle.span_pipeline.specs.declared.slots.Guard.{Guard}
+use Rattle.span_pipeline.specs.declared.reply.Reply.TheVariants as reply
+use Rattle.span_pipeline.specs.declared.request.Place.{Place}
+use Rattle.span_pipeline.specs.declared.request.Call.TheVariants as call
+use Rattle.span_pipeline.specs.declared.reply.What.TheVariants as what
+use Rattle.span_pipeline.specs.Setups.{Setup, id_at, span_site}
+use Rattle.span_pipeline.specs.Tables.{Scope, Made, no_making, Guarded, Effect, Tables, after, slot_at, own, made_of}
+use Rattle.span_pipeline.specs.Effects.{Resolved, named, effect_of_call, clones, makes, makes_span, declines, scope_at}
+use Rattle.span_pipeline.specs.Slots.{place_for, MakesOnly}
+use Rattle.span_pipeline.specs.Balance.{Balanced, named_by, opened_by}
+use Rattle.span_pipeline.specs.Fits.{State, state_of, laned, Fits, MadeFit, LanesFit, IsKept, Served, IsScope, above, held_of, guard_of, held_by}
+use Rattle.span_pipeline.proofs.Naming.{find, held_slot, named_within}
+use Rattle.span_pipeline.proofs.Scopes.{new_line}
+use Rattle.span_pipeline.proofs.Standing.{Step, fits_step}
+use Rattle.span_pipeline.proofs.Reading.{ShownOn, shown_on, has_by}
+use Rattle.span_pipeline.proofs.Balancing.{held_most, named_slot}
+use Rattle.span_pipeline.proofs.Fitting.{fits_live}
+use Rattle.span_pipeline.proofs.Keeping.{id_seen, kept_alike}
+use Rattle.span_pipeline.proofs.Makings.{made_held}
+use Rattle.span_pipeline.proofs.Serving.{kept_served, call_count, call_sites, call_whole}
+use Rattle.span_pipeline.proofs.Copies.{the_scope, still_named_more}
+use Rattle.span_pipeline.proofs.Cloning.{spans_held, balanced_clone, balanced_decline, balanced_new, find_up}
+
+-- the spans with a new one under a scope
+made_pushed : (xs : List Span) (ms : List Made) (up : Scope) (site at : ℕ) → MadeFit xs ms → MadeFit (xs ++ record { holds = 1; parent = own up; site = site } ∷ []) (ms ++ record { site = site; scope = length ms ∷ up; at = at } ∷ [])
+made_pushed xs ms up site at fit =
+    let new : Span = record { holds = 1; parent = own up; site = site } in
+    let m : Made = record { site = site; scope = length ms ∷ up; at = at } in
+    let counts = fit.count in
+    let all : (q : ℕ) → 0 < (span_at (xs ++ new ∷ []) q).holds → ((span_at (xs ++ new ∷ []) q).parent ≡ above (made_of (ms ++ m ∷ []) q).scope) × ((span_at (xs ++ new ∷ []) q).site ≡ (made_of (ms ++ m ∷ []) q).site) = λ q live. elim (cases_lt q (length xs)) [
+      | inl within ↦ (
+          let a = get_or_append_left xs (new ∷ []) no_span q within in
+          let b = get_or_append_left ms (m ∷ []) no_making q (omega (arith, within, counts)) in
+          let h = ap (λ (s : Span). s.holds) a in
+          let some : 0 < (span_at xs q).holds = omega (arith, h, live) in
+          (ap (λ (s : Span). s.parent) a ∙ fit.parent q some ∙ ap (λ (x : Made). above x.scope) (sym b), ap (λ (s : Span). s.site) a ∙ fit.site q some ∙ ap (λ (x : Made). x.site) (sym b)))
+      | inr past ↦ elim (cases_eq (length xs) q) [
+        | inl here ↦ (
+            let a = get_or_push xs new no_span q here in
+            let b = get_or_push ms m no_making q (sym counts ∙ here) in
+            (ap (λ (s : Span). s.parent) a ∙ ap (λ (x : Made). above x.scope) (sym b), ap (λ (s : Span). s.site) a ∙ ap (λ (x : Made). x.site) (sym b)))
+        | inr other ↦ absurd (let a = ap (λ (s : Span). s.holds) (get_or_past (xs ++ new ∷ []) q no_span (let l = length_push xs new in omega (arith, l, past, other))) in omega (arith, a, live))
+      ]
+    ] in
+    record { count = (let a = length_push xs new in let b = length_push ms m in omega (arith, a, b, counts)); parent = λ q live. (all q live).0; site = λ q live. (all q live).1 }
+
+made_child : (xs : List Span) (ms : List Made) (o : Option ℕ) → MadeFit xs ms → IfSome o (λ p. 0 < (span_at xs p).holds) → MadeFit (held_by_child xs o) ms
+made_child xs ms None fit live = fit
+made_child xs ms (Some p) fit live = made_held xs ms p fit live
+
+child_most : (xs : List Span) (o : Option ℕ) (q : ℕ) → (span_at (held_by_child xs o) q).holds ≤ (span_at xs q).holds + 1
+child_most xs None q = omega arith
+child_most xs (Some p) q = held_most xs p q
+
+new_most : (xs : List Span) (o : Option ℕ) (site q n : ℕ) → (span_at xs q).holds ≤ n → (span_at (held_by_child xs o ++ record { holds = 1; parent = o; site = site } ∷ []) q).holds ≤ n + 1
+new_most xs o site q n most =
+    let ys = held_by_child xs o in
+    let new : Span = record { holds = 1; parent = o; site = site } in
+    let h = child_most xs o q in
+    elim (cases_lt q (length ys)) [
+      | inl within ↦ (let e = ap (λ (s : Span). s.holds) (get_or_append_left ys (new ∷ []) no_span q within) in omega (arith, e, h, most))
+      | inr past ↦ elim (cases_eq (length ys) q) [
+        | inl here ↦ (let e = ap (λ (s : Span). s.holds) (get_or_push ys new no_span q here) in omega (arith, e))
+        | inr other ↦ (let e = ap (λ (s : Span). s.holds) (get_or_past (ys ++ new ∷ []) q no_span (let l = length_push ys new in omega (arith, l, past, other))) in omega (arith, e))
+      ]
+    ]
+
+leveled_site : (o : Option Callsite) (lvl : Level) → option_map (λ (c : Callsite). c.level) o ≡ Some lvl → (callsite : Callsite) × (o ≡ Some callsite) × (callsite.level ≡ lvl)
+leveled_site None lvl is = absurd (cc is)
+leveled_site (Some c) lvl is = (c, refl, cc is)
+
+module _ {S : Type 0} (spans : S → Spans) (attaches : S → Bool) (kept : S → ℕ → ℕ → ℕ) (is_whole : S → Type 0) (old new : Worlds S) where
+  module _ (does : S → SubscriberCall → S → Type 0) (law : (old new : Worlds S) (dispatch : ℕ) (call : SubscriberCall) → Replaced (λ s t. does s call t) old new dispatch → Shown spans attaches kept is_whole old new dispatch call)
+      (dispatch : ℕ) (level : LevelFilter) (lanes : List Lane) (hs hs' : List (Option Handle)) (gs : List (Option Guard)) (m at lane number : ℕ) (many : number ≡ length hs) (inv : IsKept kept is_whole old (state_of spans old dispatch level lanes hs gs m)) where
+    abbrev now : State
+    now = state_of spans old dispatch level lanes hs gs m
+
+    abbrev then : State
+    then = state_of spans new dispatch level lanes hs' gs at
+
+    abbrev place_id : ℕ
+    place_id = id_at now.setup.ids lane
+
+    next_number : (t : Tables) → Fits now t → number ≡ length t.handles
+    next_number t fits = many ∙ sym (length-map hs held_by) ∙ ap length fits.handle_slots ∙ length-map t.handles (option_map (held_of dispatch))
+
+    module _ (under : Place) (p : Parent) (site : ℕ) (callsite : Callsite) (sited : span_site old.sites site ≡ Some callsite) (found : place_for (map held_by hs) under ≡ Some p) where
+      -- a span that is let through
+      module _ (values : ValueSet) (made : Handle) (before : Lane) (within : lane < length lanes) (seen : before ≡ get_or lanes lane before) (through : is_within callsite.level level ≡ true) (one : hs' ≡ hs ++ Some made ∷ [])
+          (did : Makes spans does old new before at p site values dispatch made) where
+        abbrev made_call : Replaced (λ s t. does s (NewSpan before at p site did.callsite values) t) old new dispatch
+        made_call = record { before = did.made.before; later = did.made.later; there = did.made.there; did = did.made.did.1; others = did.made.others }
+
+        made_shown : Shown spans attaches kept is_whole old new dispatch (NewSpan before at p site did.callsite values)
+        made_shown = law old new dispatch _ made_call
+
+        id_is : did.id ≡ length (spans_in spans old dispatch).made
+        id_is = did.made.did.0 ∙ ap (λ (x : Spans). length x.made) (sym (seen_before (λ s t. does s (NewSpan before at p site did.callsite values) t) old new dispatch made_call spans no_spans))
+
+        pub serves_made : (t : Tables) → Fits now t → Served (effect_of_call now.setup t at lane (call.New site under)) t now then (reply.Made true number)
+        serves_made t fits =
+            let up = find_up now t fits place_id under p found in
+            let sp = spans_in spans old dispatch in
+            let ids = now.setup.ids in
+            let step : spans_in spans new dispatch ≡ with_span sp (own up.up) site = made_shown.spans_after ∙ ap (λ (l : ℕ). with_span sp (place_on (entries_on l sp.lanes) p) site) (id_seen lanes lane before within seen) ∙ ap (λ (o : Option ℕ). with_span sp o site) up.on in
+            let line : Scope = length t.made ∷ up.up in
+            let mine : did.id ≡ length t.made = id_is ∙ fits.made.count in
+            let new_made : Made = record { site = site; scope = line; at = at } in
+            let setup : then.setup ≡ now.setup = ap (λ x. record now.setup { sites = x }) (ap (λ (w : Worlds S). w.sites) did.made.others) in
+            let e : Effect = makes_span t at place_id site up.up in
+            record {
+              effect = e;
+              is = ap (λ o. named what.Site o (λ callsite. named what.Handle (scope_at t place_id under) (λ up. Ok (makes now.setup t at place_id site callsite up)))) sited
+                  ∙ ap (λ o. named what.Handle o (λ up. Ok (makes now.setup t at place_id site callsite up))) up.is
+                  ∙ ap Ok (cond-true {A = Effect} (is_within callsite.level level) _ _ through);
+              reply_is = ap (λ n. reply.Made true n) (next_number t fits);
+              setup = setup;
+              fits = fits_step now t fits then e (record {
+                setup_is = setup;
+                dispatch_is = refl;
+                handles_are = ap (map held_by) one ∙ map_push held_by hs (Some made) ∙ ap (λ (x : Handle). map held_by hs ++ Some x.held ∷ []) did.handle_is ∙ ap (λ (i : ℕ). map held_by hs ++ Some (Some (dispatch, i)) ∷ []) mine;
+                guards_are = refl;
+                moment_is = refl;
+                balanced = subst (λ (x : Spans). Balanced x (map named_by (t.handles ++ Some line ∷ [])) (map (opened_by ids) t.guards) t.entries) (sym step) (balanced_new ids sp t.handles t.guards t.entries fits.balanced up.up site (length t.made) up.live fits.made.count);
+                made_fit = subst (λ (x : Spans). MadeFit x.made (t.made ++ new_made ∷ [])) (sym step) (made_pushed (held_by_child sp.made (own up.up)) t.made up.up site at (made_child sp.made t.made (own up.up) fits.made up.live));
+                new_made = (up.up, refl, up.scope);
+                new_scope = λ l e. subst (IsScope (t.made ++ new_made ∷ [])) (the_scope line l e) (new_line t.made new_made up.up refl up.scope);
+                still = still_named_more t.guards t.handles line fits.still;
+                few = (let a = length_push t.handles (Some line) in let b = length_push t.made new_made in let f = fits.few in omega (arith, a, b, f));
+                few_holds = λ s. (let a = new_most sp.made (own up.up) site s (length t.handles + length t.guards) (fits.few_holds s) in let e = ap (λ (x : Spans). (span_at x.made s).holds) step in let l = length_push t.handles (Some line) in omega (arith, a, e, l));
+                one = subst (λ (x : Spans). OneEach x.lanes) (sym step) fits.one_lane;
+              });
+            }
+
+        pub keeps_made : IsKept kept is_whole new then
+        keeps_made = kept_served spans attaches kept is_whole old new now then inv _ _ (serves_made inv.tables inv.fits) refl made_shown.count made_shown.whole
+            (subst (λ (f : ℕ → ℕ → ℕ). LanesFit f (map laned lanes)) (sym made_shown.lanes) inv.lanes)
+
+      -- one that isn't
+      module _ (through : is_within callsite.level level ≡ false) (one : hs' ≡ hs ++ Some no_handle ∷ []) (same : new ≡ old) where
+        pub serves_declined : (t : Tables) → Fits now t → Served (effect_of_call now.setup t at lane (call.New site under)) t now then (reply.Made false number)
+        serves_declined t fits =
+            let up = find_up now t fits place_id under p found in
+            let sp = spans_in spans old dispatch in
+            let ids = now.setup.ids in
+            let step : spans_in spans new dispatch ≡ sp = ap (λ (w : Worlds S). spans_in spans w dispatch) same in
+            let setup : then.setup ≡ now.setup = ap (λ x. record now.setup { sites = x }) (ap (λ (w : Worlds S). w.sites) same) in
+            let e : Effect = declines t at place_id in
+            record {
+              effect = e;
+              is = ap (λ o. named what.Site o (λ callsite. named what.Handle (scope_at t place_id under) (λ up. Ok (makes now.setup t at place_id site callsite up)))) sited
+                  ∙ ap (λ o. named what.Handle o (λ up. Ok (makes now.setup t at place_id site callsite up))) up.is
+                  ∙ ap Ok (cond-false {A = Effect} (is_within callsite.level level) _ _ through);
+              reply_is = ap (λ n. reply.Made false n) (next_number t fits);
+              setup = setup;
+              fits = fits_step now t fits then e (record {
+                setup_is = setup;
+                dispatch_is = refl;
+                handles_are = ap (map held_by) one ∙ map_push held_by hs (Some no_handle);
+                guards_are = refl;
+                moment_is = refl;
+                balanced = subst (λ (x : Spans). Balanced x (map named_by (t.handles ++ Some [] ∷ [])) (map (opened_by ids) t.guards) t.entries) (sym step) (balanced_decline ids sp t.handles t.guards t.entries fits.balanced);
+                made_fit = subst (λ (x : Spans). MadeFit x.made t.made) (sym step) fits.made;
+                new_made = tt;
+                new_scope = λ l e. subst (IsScope t.made) (the_scope [] l e) tt;
+                still = still_named_more t.guards t.handles [] fits.still;
+                few = (let l = length_push t.handles (Some []) in let f = fits.few in omega (arith, l, f));
+                few_holds = λ s. (let f = fits.few_holds s in let e = ap (λ (x : Spans). (span_at x.made s).holds) step in let l = length_push t.handles (Some []) in omega (arith, f, e, l));
+                one = subst (λ (x : Spans). OneEach x.lanes) (sym step) fits.one_lane;
+              });
+            }
+
+        pub keeps_declined : IsKept kept is_whole new then
+        keeps_declined = kept_served spans attaches kept is_whole old new now then inv _ _ (serves_declined inv.tables inv.fits) refl (ap (λ (w : Worlds S). length w.subscribers) same) (λ has. subst (λ (w : Worlds S). Has is_whole w dispatch) (sym same) has)
+            (subst (λ (w : Worlds S). LanesFit (kept_in kept w dispatch) (map laned lanes)) (sym same) inv.lanes)
+
+    -- let through or not
+    module _ (under : Place) (p : Parent) (found_site site : ℕ) (site_is : found_site ≡ site) (lvl : Level) (leveled : option_map (λ (c : Callsite). c.level) (span_site old.sites site) ≡ Some lvl) (found : place_for (map held_by hs) under ≡ Some p)
+        (values : ValueSet) (made : Handle) (before : Lane) (within : lane < length lanes) (seen : before ≡ get_or lanes lane before) (one : hs' ≡ hs ++ Some made ∷ []) where
+      its_site : (callsite : Callsite) × (span_site old.sites site ≡ Some callsite) × (callsite.level ≡ lvl)
+      its_site = leveled_site (span_site old.sites site) lvl leveled
+
+      pub serves_new : (enabled : Bool) → enabled ≡ is_within lvl level → MakesOnly spans does enabled old new before at p found_site values dispatch made
+          → (t : Tables) → Fits now t → Served (effect_of_call now.setup t at lane (call.New site under)) t now then (reply.Made enabled number)
+      serves_new true is did = serves_made under p site its_site.0 its_site.1 found values made before within seen (ap (λ (l : Level). is_within l level) its_site.2 ∙ sym is) one (subst (λ (k : ℕ). Makes spans does old new before at p k values dispatch made) site_is did)
+      serves_new false is did = serves_declined under p site its_site.0 its_site.1 found (ap (λ (l : Level). is_within l level) its_site.2 ∙ sym is) (one ∙ ap (λ (h : Handle). hs ++ Some h ∷ []) did.0) did.1
+
+      pub keeps_new : (enabled : Bool) → enabled ≡ is_within lvl level → MakesOnly spans does enabled old new before at p found_site values dispatch made → IsKept kept is_whole new then
+      keeps_new true is did = keeps_made under p site its_site.0 its_site.1 found values made before within seen (ap (λ (l : Level). is_within l level) its_site.2 ∙ sym is) one (subst (λ (k : ℕ). Makes spans does old new before at p k values dispatch made) site_is did)
+      keeps_new false is did = keeps_declined under p site its_site.0 its_site.1 found (ap (λ (l : Level). is_within l level) its_site.2 ∙ sym is) (one ∙ ap (λ (h : Handle). hs ++ Some h ∷ []) did.0) did.1
+
+-- what a making requires
+few_if : (o : Option ℕ) (made : List Span) → ((s : ℕ) → HasFewHolds made s) → IfSome o (HasFewHolds made)
+few_if None made few = tt
+few_if (Some s) made few = few s
+
+of_held : (dispatch : ℕ) (line : Scope) (held : ℕ × ℕ) → Some held ≡ held_of dispatch line → held.0 ≡ dispatch
+of_held dispatch [] held is = absurd (cc is)
+of_held dispatch (s ∷ up) held is = (let e : held ≡ (dispatch, s) = cc is in ap (λ (h : ℕ × ℕ). h.0) e)
+
+module _ {S : Type 0} (spans : S → Spans) (kept : S → ℕ → ℕ → ℕ) (is_whole : S → Type 0) (world : Worlds S) (dispatch : ℕ) (level : LevelFilter) (lanes : List Lane) (hs : List (Option Handle)) (gs : List (Option Guard)) (m : ℕ) (inv : IsKept kept is_whole world (state_of spans world dispatch level lanes hs gs m)) where
+  pub make_may : (under : Place) (p : Parent) → place_for (map held_by hs) under ≡ Some p → (lane : ℕ) → length hs < 2 ^ 62 → length gs < 2 ^ 62 → MayMake spans is_whole world lane p dispatch
+  make_may under p found lane few_handles few_guards =
+      let a = sym (length-map hs held_by) ∙ ap length inv.fits.handle_slots ∙ length-map inv.tables.handles (option_map (held_of dispatch)) in
+      let b = ap length inv.fits.guard_slots ∙ length-map inv.tables.guards (option_map (guard_of dispatch)) in
+      record {
+        there = inv.there;
+        whole = inv.whole;
+        live = has_by spans no_spans world dispatch (λ (x : Spans). IsLivePlace x.made p) (find_up (state_of spans world dispatch level lanes hs gs m) inv.tables inv.fits 0 under p found).live_place;
+        few = has_by spans no_spans world dispatch (λ (x : Spans). AreFew x) (let c = inv.fits.made.count in let f = inv.fits.few in omega (arith, a, c, f, few_handles));
+        few_holds = has_by spans no_spans world dispatch (λ (x : Spans). HasFewHoldsAbove x lane p)
+            (few_if (place_on (entries_on lane (spans_in spans world dispatch).lanes) p) (spans_in spans world dispatch).made (λ s. let f = inv.fits.few_holds s in omega (arith, f, a, b, few_handles, few_guards)));
+      }
+
+  all_held : (n : ℕ) (held : ℕ × ℕ) → slot_at (map held_by hs) n ≡ Some (Some held) → held.0 ≡ dispatch
+  all_held n held there = (let f = find (held_of dispatch) (map held_by hs) inv.tables.handles n (Some held) inv.fits.handle_slots there in of_held dispatch f.at held f.is)
+
+  pub all_of : (hs' : List (Option Handle)) → hs' ≡ hs → (n : ℕ) (held : ℕ × ℕ) → slot_at (map held_by hs') n ≡ Some (Some held) → held.0 ≡ dispatch
+  all_of hs' same n held there = all_held n held (ap (λ (xs : List (Option Handle)). slot_at (map held_by xs) n) (sym same) ∙ there)
+
+-- after a refusal for want of memory
+pub made_alike : {S : Type 0} (spans : S → Spans) (attaches : S → Bool) (kept : S → ℕ → ℕ → ℕ) (is_whole : S → Type 0) (same : S → S → Type 0) → ((old new : Worlds S) (dispatch : ℕ) → Replaced same old new dispatch → Alike spans attaches kept is_whole old new dispatch)
+    → (old new : Worlds S) (dispatch : ℕ) (level : LevelFilter) (lanes : List Lane) (hs hs' : List (Option Handle)) (gs : List (Option Guard)) (m : ℕ) → hs' ≡ hs → Replaced same old new dispatch
+    → (state_of spans new dispatch level lanes hs' gs m ≡ state_of spans old dispatch level lanes hs gs m) × (IsKept kept is_whole old (state_of spans old dispatch level lanes hs gs m) → IsKept kept is_whole new (state_of spans new dispatch level lanes hs' gs m))
+made_alike {S} spans attaches kept is_whole same law old new dispatch level lanes hs hs' gs m handles did =
+    let alike = law old new dispatch did in
+    let sites = ap (λ (w : Worlds S). w.sites) did.others in
+    let state : state_of spans new dispatch level lanes hs' gs m ≡ state_of spans old dispatch level lanes hs gs m = rw (alike.spans_same, sites, handles) refl in
+    (state, λ inv. kept_alike spans attaches kept is_whole old new _ _ inv state alike)

@@ -1,0 +1,118 @@
+//! Making spans.
+ghost use Rattle.std.specs.Prelude.{◌≡◌, ◌<◌, length, option_map, None, Some, IfSome, IfOk, IfErr, OnErr};
+ghost use Rattle.span_handles.specs.Worlds.{Replaced};
+ghost use Rattle.span_handles.specs.Handles.{MayMake};
+ghost use Rattle.span_pipeline.specs.declared.request.Call.{Call};
+ghost use Rattle.span_pipeline.specs.Setups.{span_site};
+ghost use Rattle.span_pipeline.specs.Slots.{parent_of, IsAbove, MakesOnly};
+
+use crate::pipeline::{MOST, Pipeline};
+use crate::reply::{Refusal, Reply, What};
+use crate::request::Place;
+use crate::slots::{Above, keep, place_above};
+use otel_base::memory::Memory;
+use otel_base::record::Moment;
+use otel_base::recorder::Recorder;
+use otel_layer::layer::OpenTelemetryLayer;
+use span_handles::laws::{calls, same};
+use span_handles::span::Span;
+use span_registry::layered::Layered;
+use span_registry::registry::Registry;
+use trace_base::callsite::{Kind, SiteId};
+use trace_base::dispatcher::Dispatch;
+use trace_base::field::ValueSet;
+use trace_base::lane::Lane;
+use trace_base::level::Level;
+use trace_base::subscriber::Subscriber;
+use trace_base::world::World;
+
+// The callsite at a place, if it makes spans, and its level.
+fn span_site<S: Subscriber>(world: &World<S>, place: u64) -> Option<(SiteId, Level)>
+    ensures none { result ≡ None → span_site world.now.sites place ≡ None }
+    ensures some { IfSome result (λ found. (found.0 ≡ place) × (place < length world.now.sites)
+        × (option_map (λ c. c.level) (span_site world.now.sites place) ≡ Some found.1)) }
+{
+    let site = world.site_at(place)?;
+    let callsite = world.site(site);
+    match callsite.kind {
+        Kind::Span => Some((site, callsite.level)),
+        Kind::Event => None,
+    }
+}
+
+// A new span at a place if it is let through, else a disabled handle.
+fn make_if<S: Subscriber>(
+    enabled: bool,
+    above: Above<'_>,
+    world: &mut World<S>,
+    dispatch: Dispatch,
+    lane: &Lane,
+    at: Moment,
+    site: SiteId,
+    values: &ValueSet,
+) -> Result<Span, Memory>
+    requires site { site < length world.old.sites }
+    requires may { MayMake S.spans S.is_whole world.old lane.now.id (parent_of above) dispatch }
+    requires of_dispatch { IsAbove dispatch above }
+    ensures ok { IfOk result
+        (MakesOnly S.spans S.does enabled world.old world.new lane.now at (parent_of above.entry) site values.now
+        dispatch) }
+    ensures memory_leaves { OnErr result (Replaced S.same world.old world.new dispatch) }
+{
+    if !enabled {
+        return Ok(Span::none());
+    }
+    match above {
+        Above::Current => Span::new_with(world, lane, at, site, values, dispatch),
+        Above::Nothing => Span::new_root_with(world, lane, at, site, values, dispatch),
+        Above::Span { span } => {
+            Span::child_of_with(span, world, lane, at, site, values, dispatch)
+        }
+    }
+}
+
+impl Pipeline {
+    ghost use Rattle.span_pipeline.specs.Tables.{Tables};
+    ghost use Rattle.span_pipeline.specs.Effects.{effect_of_call};
+    ghost use Rattle.span_pipeline.specs.Fits.{Fits, Served, IsRefusal};
+
+    pub(crate) fn make(&mut self, at: Moment, lane: u64, place: u64, under: Place) -> Result<Reply, Refusal>
+        requires { lane < length self.old.lanes }
+        ensures ok { (t : Tables) → Fits self.old t
+            → IfOk result (Served (effect_of_call self.old.setup t at lane (Call.New place under)) t self.old self.new) }
+        ensures refused { (t : Tables) → Fits self.old t
+            → IfErr result (IsRefusal (effect_of_call self.old.setup t at lane (Call.New place under))) }
+        ensures err { OnErr result (self.new ≡ self.old) }
+    {
+        calls::<Layered<OpenTelemetryLayer<Recorder>, Registry>>();
+        same::<Layered<OpenTelemetryLayer<Recorder>, Registry>>();
+        if self.handles.len() >= MOST || self.guards.len() >= MOST {
+            return Err(Refusal::Memory);
+        }
+        let number = self.handles.len() as u64;
+        let Some(found) = span_site(&self.world, place) else {
+            return Err(Refusal::UnknownName { what: What::Site });
+        };
+        self.handles.reserve(1)?;
+        let Some(above) = place_above(&self.handles, under) else {
+            return Err(Refusal::UnknownName { what: What::Handle });
+        };
+        let enabled = self.level.lets_through(found.1);
+        let span = make_if(
+            enabled,
+            above,
+            &mut self.world,
+            self.dispatch,
+            &self.lanes[lane as usize],
+            at,
+            found.0,
+            &self.values,
+        )?;
+        keep(&mut self.handles, span);
+        self.moment = at;
+        Ok(Reply::Made {
+            enabled,
+            handle: number,
+        })
+    }
+}
