@@ -1,4 +1,5 @@
 mod Balancing
+mod Beginning
 mod Cloning
 mod Copies
 mod Dropping

@@ -13,6 +13,7 @@ use otel_base::list::Items;
 use otel_base::record::Moment;
 use otel_base::recorder::Recorder;
 use otel_layer::layer::OpenTelemetryLayer;
+use span_handles::laws::same;
 use span_handles::span::Span;
 use span_registry::layered::Layered;
 use span_registry::registry::Registry;
@@ -100,6 +101,7 @@ impl Pipeline {
         ensures setup { IfOk result (λ pipeline. pipeline.setup ≡ setup_by settings) }
         ensures stands { IfOk result (λ pipeline. Fits pipeline (tables [])) }
     {
+        same::<Layered<OpenTelemetryLayer<Recorder>, Registry>>();
         let Settings {
             filter,
             lanes,

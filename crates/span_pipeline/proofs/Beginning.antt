@@ -1,0 +1,111 @@
+-- A pipeline without requests.
+use Rattle.std.proofs.Common.{◌≡◌, ℕ, ◌+◌, ◌<◌, ◌≤◌, List, [], ◌∷◌, ◌++◌, length, Bool, true, false, Option, Some, None, map, refl, sym, ap, subst, ◌∙◌, arith, zero, suc, slice_get}
+use Rattle.std.proofs.lemmas.List.{length-map}
+use Rattle.trace_base.specs.declared.lane.Lane.{Lane}
+use Rattle.trace_base.specs.declared.level.LevelFilter.{LevelFilter}
+use Rattle.trace_base.specs.Gate.{Worlds, AreSame}
+use Rattle.trace_base.specs.Spans.{Spans}
+use Rattle.span_handles.specs.Worlds.{Has, Alike, Replaced, spans_in, kept_in, no_spans}
+use Rattle.otel_state.specs.declared.settings.LayerSettings.{LayerSettings}
+use Rattle.otel_layer.specs.Core.{Core, new_core, kept_by}
+use Rattle.span_handles.specs.Handles.{Handle}
+use Rattle.span_pipeline.specs.declared.slots.Guard.{Guard}
+use Rattle.span_pipeline.specs.Setups.{Setup, HasOwnIds, id_at}
+use Rattle.span_pipeline.specs.Tables.{Tables, no_tables}
+use Rattle.span_pipeline.specs.Fits.{State, state_of, Fits, Laned, laned, no_lane, lane_at, LanesFit, IsKept}
+
+-- nothing fits no tables
+pub new_fits : (setup : Setup) (lanes : List Laned) (dispatch : ℕ) (spans : Spans) → spans ≡ no_spans → Fits (record { setup = setup; spans = spans; lanes = lanes; dispatch = dispatch; handles = []; guards = []; moment = 0 }) no_tables
+new_fits setup lanes dispatch spans is = subst (λ (x : Spans). Fits (record { setup = setup; spans = x; lanes = lanes; dispatch = dispatch; handles = []; guards = []; moment = 0 }) no_tables) (sym is) (record {
+  handle_slots = refl;
+  guard_slots = refl;
+  latest = refl;
+  balanced = record { holds = λ s. refl; entries = λ lane. refl; guarded = λ lane s. refl; borrowed = λ n g there. absurd (cc there) };
+  made = record { count = refl; parent = λ s live. absurd (omega (arith, live)); site = λ s live. absurd (omega (arith, live)) };
+  one_lane = tt;
+  scopes = λ n scope there. absurd (cc there);
+  still = λ n g there. absurd (cc there);
+  own_scopes = λ s within. absurd (omega (arith, within));
+  few = omega arith;
+  few_holds = λ s. omega arith;
+})
+
+-- lanes with ids of their own, where nothing is kept attached
+id_of_lane : (lanes : List Lane) (n : ℕ) → n < length lanes → (lane_at (map laned lanes) n).id ≡ id_at (map (λ (l : Lane). l.id) lanes) n
+id_of_lane [] n within = absurd (omega (arith, within))
+id_of_lane (l ∷ ls) zero within = refl
+id_of_lane (l ∷ ls) (suc n) within = id_of_lane ls n (omega (arith, within))
+
+pub new_lanes : (lanes : List Lane) (ids : List ℕ) → map (λ (l : Lane). l.id) lanes ≡ ids → HasOwnIds ids → (kept : ℕ → ℕ → ℕ) → ((lane number : ℕ) → kept lane number ≡ 0) → LanesFit kept (map laned lanes)
+new_lanes lanes ids are own kept none =
+    let many : length (map laned lanes) ≡ length ids = length-map lanes laned ∙ sym (length-map lanes (λ (l : Lane). l.id)) ∙ ap length are in
+    let few : length (map laned lanes) ≡ length lanes = length-map lanes laned in
+    let at : (n : ℕ) → n < length (map laned lanes) → (lane_at (map laned lanes) n).id ≡ id_at ids n = λ n within. id_of_lane lanes n (omega (arith, within, few)) ∙ ap (λ (is : List ℕ). id_at is n) are in
+    record {
+      differ = λ n m in_n in_m e. own n m (omega (arith, in_n, many)) (omega (arith, in_m, many)) (sym (at n in_n) ∙ e ∙ at m in_m);
+      attached = λ n number within. (let z = none (lane_at (map laned lanes) n).id number in omega (arith, z));
+    }
+
+no_items : {A : Type 0} (xs : List A) → length xs ≡ 0 → xs ≡ []
+no_items [] e = refl
+no_items (x ∷ xs) e = absurd (omega (arith, e))
+
+the_one : {A : Type 0} (a b : A) → Some a ≡ Some b → a ≡ b
+the_one a b e = cc e
+
+-- the only subscriber of a world, seen through what is the same
+module _ {S : Type 0} (same : S → S → Type 0) (spans : S → Spans) (attaches : S → Bool) (kept : S → ℕ → ℕ → ℕ) (is_whole : S → Type 0)
+    (law : (old new : Worlds S) (dispatch : ℕ) → Replaced same old new dispatch → Alike spans attaches kept is_whole old new dispatch) (first : S) where
+  pub record Only (world : Worlds S) (dispatch : ℕ) : Type 0 where
+    pub there : dispatch < length world.subscribers
+    pub spans_are : spans_in spans world dispatch ≡ spans first
+    pub kept_is : kept_in kept world dispatch ≡ kept first
+    pub whole : is_whole first → Has is_whole world dispatch
+
+  only_first : (world : Worlds S) (x : S) → world.subscribers ≡ x ∷ [] → same first x → Only world 0
+  only_first world x is kin =
+      let old : Worlds S = record world { subscribers = first ∷ [] } in
+      let alike = law old world 0 (record { before = first; later = x; there = refl; did = kin; others = ap (λ (xs : List S). record world { subscribers = xs }) is }) in
+      record {
+        there = (let k = ap (λ (ys : List S). length ys) is in omega (arith, k));
+        spans_are = alike.spans_same;
+        kept_is = alike.kept_same;
+        whole = λ was. alike.whole (λ s there. (let e : first ≡ s = the_one first s there in subst is_whole e was));
+      }
+
+  pub only_one : (world : Worlds S) (dispatch : ℕ) → dispatch ≡ 0 → AreSame same (first ∷ []) world.subscribers → Only world dispatch
+  only_one world dispatch is are = subst (λ (d : ℕ). Only world d) (sym is) (by_list world.subscribers refl)
+    where
+      by_list : (xs : List S) → world.subscribers ≡ xs → Only world 0
+      by_list [] e = absurd (let c = are.count in let k = ap (λ (ys : List S). length ys) e in omega (arith, c, k))
+      by_list (x ∷ []) e = only_first world x e (are.each 0 first x refl (ap (λ (ys : List S). slice_get ys 0) e))
+      by_list (x ∷ y ∷ ys) e = absurd (let c = are.count in let k = ap (λ (zs : List S). length zs) e in omega (arith, c, k))
+
+-- what a pipeline begins with
+module _ {S : Type 0} (same : S → S → Type 0) (spans : S → Spans) (attaches : S → Bool) (kept : S → ℕ → ℕ → ℕ) (is_whole : S → Type 0)
+    (law : (old new : Worlds S) (dispatch : ℕ) → Replaced same old new dispatch → Alike spans attaches kept is_whole old new dispatch) (first : S)
+    (world before : Worlds S) (dispatch : ℕ) (level : LevelFilter) (lanes : List Lane) (ids : List ℕ) (is : dispatch ≡ length before.subscribers) (empty : length before.subscribers ≡ 0) (are : AreSame same (before.subscribers ++ first ∷ []) world.subscribers)
+    (none : spans first ≡ no_spans) (hs : List (Option Handle)) (no_handles : hs ≡ []) (gs : List (Option Guard)) (no_guards : gs ≡ []) where
+  its_only : Only same spans attaches kept is_whole law first world dispatch
+  its_only = only_one same spans attaches kept is_whole law first world dispatch (is ∙ empty) (subst (λ (xs : List S). AreSame same (xs ++ first ∷ []) world.subscribers) (no_items before.subscribers empty) are)
+
+  pub begins : Fits (state_of spans world dispatch level lanes hs gs 0) no_tables
+  begins = subst (λ (x : List (Option Handle)). Fits (state_of spans world dispatch level lanes x gs 0) no_tables) (sym no_handles)
+      (subst (λ (x : List (Option Guard)). Fits (state_of spans world dispatch level lanes [] x 0) no_tables) (sym no_guards) (new_fits _ _ _ _ (its_only.spans_are ∙ none)))
+
+  pub keeps_begun : is_whole first → map (λ (l : Lane). l.id) lanes ≡ ids → HasOwnIds ids → ((lane number : ℕ) → kept first lane number ≡ 0) → IsKept kept is_whole world (state_of spans world dispatch level lanes hs gs 0)
+  keeps_begun whole ids_are own nothing = record {
+    there = its_only.there;
+    whole = its_only.whole whole;
+    lanes = new_lanes lanes ids ids_are own _ (λ lane number. ap (λ (f : ℕ → ℕ → ℕ). f lane number) its_only.kept_is ∙ nothing lane number);
+    tables = no_tables;
+    fits = begins;
+  }
+
+-- a layer that knows no span keeps nothing attached
+pub nothing_kept : {T : Type 0} (core : Core T) (tracer : T) → {settings : LayerSettings} → core ≡ new_core tracer settings → (lane number : ℕ) → kept_by core.settings.activation core.tokens lane number + 0 ≡ 0
+nothing_kept core tracer {settings} is lane number = ap (λ (x : Core _). kept_by x.settings.activation x.tokens lane number + 0) is ∙ by_flag settings.activation
+  where
+    by_flag : (b : Bool) → kept_by b [] lane number + 0 ≡ 0
+    by_flag true = refl
+    by_flag false = refl
