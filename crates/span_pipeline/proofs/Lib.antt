@@ -9,6 +9,8 @@ mod Keeping
 mod Making
 mod Makings
 mod Naming
+mod Openness
+mod Ordering
 mod Reading
 mod Refusing
 mod Requiring

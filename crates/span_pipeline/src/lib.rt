@@ -6,11 +6,14 @@
 mod calls;
 mod level_words;
 mod opening;
+pub mod laws;
 pub mod pipeline;
 pub mod reply;
 pub mod request;
 pub mod settings;
 pub mod slots;
+#[cfg(test)]
+mod tests;
 
 pub use pipeline::{OpenError, Pipeline};
 pub use reply::{Refusal, Reply, What};

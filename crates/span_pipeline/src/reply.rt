@@ -9,7 +9,7 @@ use otel_base::memory::Memory;
 use std::alloc::{AllocError, AllocFailed};
 
 /// The answer to a request: what the calls of tracing give back.
-#[derive(Clone, Copy)]
+#[derive(Clone, Copy, PartialEq, Eq)]
 pub enum Reply {
     /// A handle was made, which is enabled where it has a span; `tracing::Span`, `is_disabled`.
     Made { enabled: bool, handle: u64 },
