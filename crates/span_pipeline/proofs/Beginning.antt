@@ -2,21 +2,27 @@
 use Rattle.std.proofs.Common.{◌≡◌, ℕ, ◌+◌, ◌<◌, ◌≤◌, List, [], ◌∷◌, ◌++◌, length, Bool, true, false, Option, Some, None, map, refl, sym, ap, subst, ◌∙◌, arith, zero, suc, slice_get}
 use Rattle.std.proofs.lemmas.List.{length-map}
 use Rattle.trace_base.specs.declared.lane.Lane.{Lane}
+use Rattle.trace_base.specs.declared.callsite.Callsite.{Callsite}
 use Rattle.trace_base.specs.declared.level.LevelFilter.{LevelFilter}
 use Rattle.trace_base.specs.Gate.{Worlds, AreSame}
-use Rattle.trace_base.specs.Spans.{Spans}
-use Rattle.span_handles.specs.Worlds.{Has, Alike, Replaced, spans_in, kept_in, no_spans}
+use Rattle.trace_base.specs.Spans.{Spans, span_at}
+use Rattle.span_handles.specs.Worlds.{Has, Alike, Replaced, seen, spans_in, kept_in, no_spans}
 use Rattle.otel_state.specs.declared.settings.LayerSettings.{LayerSettings}
 use Rattle.otel_layer.specs.Core.{Core, new_core, kept_by}
 use Rattle.span_handles.specs.Handles.{Handle}
 use Rattle.span_pipeline.specs.declared.slots.Guard.{Guard}
 use Rattle.span_pipeline.specs.Setups.{Setup, HasOwnIds, id_at}
-use Rattle.span_pipeline.specs.Tables.{Tables, no_tables}
-use Rattle.span_pipeline.specs.Fits.{State, state_of, Fits, Laned, laned, no_lane, lane_at, LanesFit, IsKept}
+use Rattle.otel_layer.specs.Recording.{Recording, no_recording, recording_of}
+use Rattle.span_pipeline.specs.Tables.{Tables, no_tables, nothing_recorded, open_part}
+use Rattle.otel_base.specs.declared.context.Context.{Context}
+use Rattle.otel_base.specs.Recorder.{Recorded}
+use Rattle.span_pipeline.proofs.Keeping.{SameRecorded}
+use Rattle.span_pipeline.specs.Fits.{State, state_of, Fits, StandsFor, RecordingFits, ContextsFit, Laned, laned, no_lane, lane_at, LanesFit, IsKept}
 
 -- nothing fits no tables
-pub new_fits : (setup : Setup) (lanes : List Laned) (dispatch : ℕ) (spans : Spans) → spans ≡ no_spans → Fits (record { setup = setup; spans = spans; lanes = lanes; dispatch = dispatch; handles = []; guards = []; moment = 0 }) no_tables
-new_fits setup lanes dispatch spans is = subst (λ (x : Spans). Fits (record { setup = setup; spans = x; lanes = lanes; dispatch = dispatch; handles = []; guards = []; moment = 0 }) no_tables) (sym is) (record {
+pub new_fits : (setup : Setup) (lanes : List Laned) (recording : Recording) (layer : LayerSettings) (dispatch : ℕ) (spans : Spans) → spans ≡ no_spans
+    → Fits (record { setup = setup; spans = spans; lanes = lanes; recording = recording; dispatch = dispatch; handles = []; guards = []; moment = 0 }) (no_tables layer)
+new_fits setup lanes recording layer dispatch spans is = subst (λ (x : Spans). Fits (record { setup = setup; spans = x; lanes = lanes; recording = recording; dispatch = dispatch; handles = []; guards = []; moment = 0 }) (no_tables layer)) (sym is) (record {
   handle_slots = refl;
   guard_slots = refl;
   latest = refl;
@@ -54,22 +60,25 @@ the_one : {A : Type 0} (a b : A) → Some a ≡ Some b → a ≡ b
 the_one a b e = cc e
 
 -- the only subscriber of a world, seen through what is the same
-module _ {S : Type 0} (same : S → S → Type 0) (spans : S → Spans) (attaches : S → Bool) (kept : S → ℕ → ℕ → ℕ) (is_whole : S → Type 0)
-    (law : (old new : Worlds S) (dispatch : ℕ) → Replaced same old new dispatch → Alike spans attaches kept is_whole old new dispatch) (first : S) where
+module _ {S : Type 0} (same : S → S → Type 0) (spans : S → Spans) (recorded : S → Recording) (attaches : S → Bool) (kept : S → ℕ → ℕ → ℕ) (is_whole : S → Type 0)
+    (law : (old new : Worlds S) (dispatch : ℕ) → Replaced same old new dispatch → Alike spans attaches kept is_whole old new dispatch) (records : SameRecorded spans recorded attaches kept is_whole same) (first : S) where
   pub record Only (world : Worlds S) (dispatch : ℕ) : Type 0 where
     pub there : dispatch < length world.subscribers
     pub spans_are : spans_in spans world dispatch ≡ spans first
     pub kept_is : kept_in kept world dispatch ≡ kept first
+    pub recorded_is : seen recorded no_recording world dispatch ≡ recorded first
     pub whole : is_whole first → Has is_whole world dispatch
 
   only_first : (world : Worlds S) (x : S) → world.subscribers ≡ x ∷ [] → same first x → Only world 0
   only_first world x is kin =
       let old : Worlds S = record world { subscribers = first ∷ [] } in
-      let alike = law old world 0 (record { before = first; later = x; there = refl; did = kin; others = ap (λ (xs : List S). record world { subscribers = xs }) is }) in
+      let r : Replaced same old world 0 = record { before = first; later = x; there = refl; did = kin; others = ap (λ (xs : List S). record world { subscribers = xs }) is } in
+      let alike = law old world 0 r in
       record {
         there = (let k = ap (λ (ys : List S). length ys) is in omega (arith, k));
         spans_are = alike.spans_same;
         kept_is = alike.kept_same;
+        recorded_is = records old world 0 r;
         whole = λ was. alike.whole (λ s there. (let e : first ≡ s = the_one first s there in subst is_whole e was));
       }
 
@@ -81,26 +90,59 @@ module _ {S : Type 0} (same : S → S → Type 0) (spans : S → Spans) (attache
       by_list (x ∷ []) e = only_first world x e (are.each 0 first x refl (ap (λ (ys : List S). slice_get ys 0) e))
       by_list (x ∷ y ∷ ys) e = absurd (let c = are.count in let k = ap (λ (zs : List S). length zs) e in omega (arith, c, k))
 
+-- lanes without contexts
+no_live : (lanes : List Lane) → map (λ (l : Lane). l.contexts.live) lanes ≡ map (λ (l : Lane). []) lanes → (n : ℕ) → (lane_at (map laned lanes) n).live ≡ []
+no_live [] are n = refl
+no_live (l ∷ ls) are zero = cc are
+no_live (l ∷ ls) are (suc n) = no_live ls (cc are) n
+
 -- what a pipeline begins with
-module _ {S : Type 0} (same : S → S → Type 0) (spans : S → Spans) (attaches : S → Bool) (kept : S → ℕ → ℕ → ℕ) (is_whole : S → Type 0)
-    (law : (old new : Worlds S) (dispatch : ℕ) → Replaced same old new dispatch → Alike spans attaches kept is_whole old new dispatch) (first : S)
+module _ {S : Type 0} (same : S → S → Type 0) (spans : S → Spans) (recorded : S → Recording) (attaches : S → Bool) (kept : S → ℕ → ℕ → ℕ) (is_whole : S → Type 0)
+    (law : (old new : Worlds S) (dispatch : ℕ) → Replaced same old new dispatch → Alike spans attaches kept is_whole old new dispatch) (records : SameRecorded spans recorded attaches kept is_whole same) (first : S)
     (world before : Worlds S) (dispatch : ℕ) (level : LevelFilter) (lanes : List Lane) (ids : List ℕ) (is : dispatch ≡ length before.subscribers) (empty : length before.subscribers ≡ 0) (are : AreSame same (before.subscribers ++ first ∷ []) world.subscribers)
-    (none : spans first ≡ no_spans) (hs : List (Option Handle)) (no_handles : hs ≡ []) (gs : List (Option Guard)) (no_guards : gs ≡ []) where
-  its_only : Only same spans attaches kept is_whole law first world dispatch
-  its_only = only_one same spans attaches kept is_whole law first world dispatch (is ∙ empty) (subst (λ (xs : List S). AreSame same (xs ++ first ∷ []) world.subscribers) (no_items before.subscribers empty) are)
+    (none : spans first ≡ no_spans) (layer : LayerSettings) (nothing : recorded first ≡ nothing_recorded layer) (quiet : map (λ (l : Lane). l.contexts.live) lanes ≡ map (λ (l : Lane). []) lanes)
+    (hs : List (Option Handle)) (no_handles : hs ≡ []) (gs : List (Option Guard)) (no_guards : gs ≡ []) where
+  its_only : Only same spans recorded attaches kept is_whole law records first world dispatch
+  its_only = only_one same spans recorded attaches kept is_whole law records first world dispatch (is ∙ empty) (subst (λ (xs : List S). AreSame same (xs ++ first ∷ []) world.subscribers) (no_items before.subscribers empty) are)
 
-  pub begins : Fits (state_of spans world dispatch level lanes hs gs 0) no_tables
-  begins = subst (λ (x : List (Option Handle)). Fits (state_of spans world dispatch level lanes x gs 0) no_tables) (sym no_handles)
-      (subst (λ (x : List (Option Guard)). Fits (state_of spans world dispatch level lanes [] x 0) no_tables) (sym no_guards) (new_fits _ _ _ _ (its_only.spans_are ∙ none)))
+  abbrev begun_state : State
+  begun_state = state_of spans recorded world dispatch level lanes hs gs 0
 
-  pub keeps_begun : is_whole first → map (λ (l : Lane). l.id) lanes ≡ ids → HasOwnIds ids → ((lane number : ℕ) → kept first lane number ≡ 0) → IsKept kept is_whole world (state_of spans world dispatch level lanes hs gs 0)
-  keeps_begun whole ids_are own nothing = record {
+  pub recorded_nothing : begun_state.recording ≡ nothing_recorded layer
+  recorded_nothing = its_only.recorded_is ∙ nothing
+
+  fits_begun : Fits begun_state (no_tables layer)
+  fits_begun = subst (λ (x : List (Option Handle)). Fits (state_of spans recorded world dispatch level lanes x gs 0) (no_tables layer)) (sym no_handles)
+      (subst (λ (x : List (Option Guard)). Fits (state_of spans recorded world dispatch level lanes [] x 0) (no_tables layer)) (sym no_guards) (new_fits _ _ _ layer _ _ (its_only.spans_are ∙ none)))
+
+  records_begun : RecordingFits begun_state (no_tables layer)
+  records_begun = record {
+    recorded = ap open_part recorded_nothing;
+    known = λ s live. absurd (let e = ap (λ (x : Spans). (span_at x.made s).holds) (its_only.spans_are ∙ none) in omega (arith, e, live));
+    attached = λ n within. subst (λ (live : List (ℕ × Context)). ContextsFit begun_state.setup.layer.activation (lane_at (map laned lanes) n).id live begun_state.recording.tokens []) (sym (no_live lanes quiet n))
+        (subst (λ (r : Recording). ContextsFit begun_state.setup.layer.activation (lane_at (map laned lanes) n).id [] r.tokens []) (sym recorded_nothing) (record { contexts = refl; distinct = tt; tokens_are = λ on s. refl }));
+  }
+
+  pub begins : StandsFor begun_state (no_tables layer)
+  begins = record { fits = fits_begun; recording = records_begun }
+
+  pub begun_setup : (sites : List Callsite) (names : List (Option (List ℕ))) (force : LevelFilter) → world.sites ≡ sites → map (λ (l : Lane). l.id) lanes ≡ ids → map (λ (l : Lane). l.name) lanes ≡ names → level ≡ force
+      → begun_state.setup ≡ record { sites = sites; ids = ids; names = names; level = force; layer = layer }
+  begun_setup sites names force sites_are ids_are names_are is_force = rw (sites_are, ids_are, names_are, is_force, ap (λ (r : Recording). r.settings) recorded_nothing) refl
+
+  pub keeps_begun : is_whole first → map (λ (l : Lane). l.id) lanes ≡ ids → HasOwnIds ids → ((lane number : ℕ) → kept first lane number ≡ 0) → IsKept kept is_whole world begun_state
+  keeps_begun whole ids_are own free = record {
     there = its_only.there;
     whole = its_only.whole whole;
-    lanes = new_lanes lanes ids ids_are own _ (λ lane number. ap (λ (f : ℕ → ℕ → ℕ). f lane number) its_only.kept_is ∙ nothing lane number);
-    tables = no_tables;
-    fits = begins;
+    lanes = new_lanes lanes ids ids_are own _ (λ lane number. ap (λ (f : ℕ → ℕ → ℕ). f lane number) its_only.kept_is ∙ free lane number);
+    tables = no_tables layer;
+    fits = fits_begun;
+    recording = records_begun;
   }
+
+-- a layer that knows no span has recorded nothing
+pub records_none : (core : Core Recorded) (settings : LayerSettings) → core ≡ new_core (record { started = 0; spare = 0; finished = [] }) settings → recording_of core ≡ nothing_recorded settings
+records_none core settings is = ap recording_of is
 
 -- a layer that knows no span keeps nothing attached
 pub nothing_kept : {T : Type 0} (core : Core T) (tracer : T) → {settings : LayerSettings} → core ≡ new_core tracer settings → (lane number : ℕ) → kept_by core.settings.activation core.tokens lane number + 0 ≡ 0

@@ -17,7 +17,7 @@ use Rattle.span_pipeline.proofs.Fitting.{fits_live}
 use Rattle.span_pipeline.specs.declared.request.Place.{Place}
 use Rattle.span_pipeline.specs.declared.request.Place.TheVariants as place
 use Rattle.span_pipeline.specs.Tables.{Scope, Guarded, Tables, slot_at, own, scope_of}
-use Rattle.span_pipeline.specs.Effects.{scope_at}
+use Rattle.span_pipeline.specs.Effects.{scope_at, parent_at}
 use Rattle.span_pipeline.specs.Slots.{place_for}
 use Rattle.span_pipeline.specs.Fits.{State, Fits, IsScope, held_of}
 use Rattle.span_pipeline.proofs.Naming.{named_within}
@@ -138,6 +138,7 @@ balanced_new ids spans hs gs es fits up site n live is =
 pub record FoundUp (k : State) (t : Tables) (lane : ℕ) (under : Place) (p : Parent) : Type 0 where
   pub up : Scope
   pub is : scope_at t lane under ≡ Some up
+  pub parent_is : p ≡ parent_at under up
   pub scope : IsScope t.made up
   pub on : place_on (entries_on lane k.spans.lanes) p ≡ own up
   pub live_place : IsLivePlace k.spans.made p
@@ -155,7 +156,7 @@ the_place : (p q : Parent) → ◌≡◌ {A = Option Parent} (Some p) (Some q) �
 the_place p q e = cc e
 
 pub find_up : (k : State) (t : Tables) → Fits k t → (lane : ℕ) (under : Place) (p : Parent) → place_for k.handles under ≡ Some p → FoundUp k t lane under p
-find_up k t fits lane place.Root p is = subst (FoundUp k t lane place.Root) (the_place parent.Root p is) (record { up = []; is = refl; scope = tt; on = refl; live_place = tt; live = tt })
+find_up k t fits lane place.Root p is = subst (FoundUp k t lane place.Root) (the_place parent.Root p is) (record { up = []; is = refl; parent_is = refl; scope = tt; on = refl; live_place = tt; live = tt })
 find_up k t fits lane place.Contextual p is =
     let same = ap current_of (fits.balanced.entries lane) in
     let o = current_of (t.entries lane) in
@@ -163,14 +164,14 @@ find_up k t fits lane place.Contextual p is =
       | inl none ↦ absurd (cc none)
       | inr there ↦ (let first = first_if_in k.spans.lanes lane s there in let h = fits.balanced.holds s in omega (arith, first, h))
     ]) in
-    subst (FoundUp k t lane place.Contextual) (the_place parent.Current p is) (record { up = scope_of t.made o; is = refl; scope = mine.1; on = same ∙ mine.0; live_place = tt; live = mine.2 })
+    subst (FoundUp k t lane place.Contextual) (the_place parent.Current p is) (record { up = scope_of t.made o; is = refl; parent_is = refl; scope = mine.1; on = same ∙ mine.0; live_place = tt; live = mine.2 })
 find_up k t fits lane (place.Under handle) p is = by_slot (slot_at t.handles handle) refl (sym (ap (λ xs. option_map place_under (slot_at xs handle)) fits.handle_slots ∙ ap (option_map place_under) (get_or-map (option_map (held_of k.dispatch)) t.handles handle None)) ∙ is)
   where
     by_line : (line : Scope) → slot_at t.handles handle ≡ Some line → place_under (held_of k.dispatch line) ≡ p → FoundUp k t lane (place.Under handle) p
-    by_line [] there e = subst (FoundUp k t lane (place.Under handle)) e (record { up = []; is = there; scope = tt; on = refl; live_place = tt; live = tt })
+    by_line [] there e = subst (FoundUp k t lane (place.Under handle)) e (record { up = []; is = there; parent_is = refl; scope = tt; on = refl; live_place = tt; live = tt })
     by_line (s ∷ up) there e =
         let live = fits_live k.spans (map named_by t.handles) (map (opened_by k.setup.ids) t.guards) t.entries fits.balanced handle s (named_slot t.handles handle (s ∷ up) there) in
-        subst (FoundUp k t lane (place.Under handle)) e (record { up = s ∷ up; is = there; scope = fits.scopes handle (s ∷ up) there; on = refl; live_place = live; live = live })
+        subst (FoundUp k t lane (place.Under handle)) e (record { up = s ∷ up; is = there; parent_is = refl; scope = fits.scopes handle (s ∷ up) there; on = refl; live_place = live; live = live })
 
     by_slot : (o : Option Scope) → slot_at t.handles handle ≡ o → option_map place_under (option_map (held_of k.dispatch) o) ≡ Some p → FoundUp k t lane (place.Under handle) p
     by_slot None there e = absurd (cc e)

@@ -14,7 +14,7 @@ use Rattle.trace_base.specs.Spans.{Span, Spans, no_span, span_at, held_by_child,
 use Rattle.trace_base.specs.Calls.{SubscriberCall, NewSpan, CloneSpan, with_span}
 use Rattle.trace_base.specs.Conditions.{IsLivePlace}
 use Rattle.trace_base.specs.Sound.{OneEach}
-use Rattle.span_handles.specs.Worlds.{Shown, Replaced, spans_in, kept_in, no_spans, Has}
+use Rattle.span_handles.specs.Worlds.{Shown, Replaced, seen, spans_in, kept_in, no_spans, Has}
 use Rattle.span_handles.specs.Handles.{Handle, Held, id_of, ReplacedOn, Makes, no_handle}
 use Rattle.span_handles.proofs.Showing.{seen_before}
 use Rattle.span_pipeline.specs.declared.slots.Guard.{Guard}
@@ -23,25 +23,34 @@ use Rattle.span_pipeline.specs.declared.request.Place.{Place}
 use Rattle.span_pipeline.specs.declared.request.Call.TheVariants as call
 use Rattle.span_pipeline.specs.declared.reply.What.TheVariants as what
 use Rattle.span_pipeline.specs.Setups.{Setup, id_at, span_site}
+use Rattle.otel_layer.specs.Recording.{Recording, no_recording}
 use Rattle.span_pipeline.specs.Tables.{Scope, Made, no_making, Guarded, Effect, Tables, after, slot_at, own, made_of}
 use Rattle.span_pipeline.specs.Effects.{Resolved, named, effect_of_call, clones, makes, makes_span, declines, scope_at}
 use Rattle.span_pipeline.specs.Slots.{place_for}
 use Rattle.span_pipeline.specs.Balance.{Balanced, named_by, opened_by}
-use Rattle.span_pipeline.specs.Fits.{State, state_of, laned, Fits, MadeFit, LanesFit, IsKept, Served, IsScope, above, held_of, held_by}
+use Rattle.span_pipeline.specs.Fits.{State, state_of, laned, Fits, StandsFor, MadeFit, LanesFit, IsKept, Served, IsScope, above, held_of, held_by}
 use Rattle.span_pipeline.proofs.Naming.{find, held_slot, named_within}
 use Rattle.span_pipeline.proofs.Scopes.{new_line}
 use Rattle.span_pipeline.proofs.Standing.{Step, fits_step}
-use Rattle.span_pipeline.proofs.Reading.{ShownOn, shown_on, has_by}
+use Rattle.span_pipeline.proofs.Reading.{Law, Recalls, ShownOn, shown_on, has_by}
+use Rattle.trace_base.proofs.Holding.{holds_other}
 use Rattle.span_pipeline.proofs.Balancing.{held_most, named_slot}
 use Rattle.span_pipeline.proofs.Fitting.{fits_live}
 use Rattle.span_pipeline.proofs.Keeping.{id_seen}
 use Rattle.span_pipeline.proofs.Makings.{made_held}
-use Rattle.span_pipeline.proofs.Serving.{kept_served, call_count, call_sites, call_whole}
+use Rattle.span_pipeline.proofs.Serving.{serve, known_still, all_same, kept_served, call_count, call_sites, call_whole}
 use Rattle.span_pipeline.proofs.Cloning.{spans_held, balanced_clone, balanced_decline, balanced_new, find_up}
 
 held_scope_most : (spans : Spans) (line : Scope) (q : ℕ) → (span_at (spans_held spans line).made q).holds ≤ (span_at spans.made q).holds + 1
 held_scope_most spans [] q = omega arith
 held_scope_most spans (s ∷ up) q = held_most spans.made s q
+
+clone_live : (spans : Spans) (line : Scope) (q : ℕ) → ((s : ℕ) (up : Scope) → line ≡ s ∷ up → 0 < (span_at spans.made s).holds) → 0 < (span_at (spans_held spans line).made q).holds → 0 < (span_at spans.made q).holds
+clone_live spans [] q live some = some
+clone_live spans (s ∷ up) q live some = elim (cases_eq q s) [
+  | inl here ↦ (let l = live s up refl in let e = ap (λ (k : ℕ). (span_at spans.made k).holds) here in omega (arith, l, e))
+  | inr other ↦ (let h = holds_other spans.made s (record (span_at spans.made s) { holds = (span_at spans.made s).holds + 1 }) q other in omega (arith, h, some))
+]
 
 one_clone : (spans : Spans) (line : Scope) → OneEach spans.lanes → OneEach (spans_held spans line).lanes
 one_clone spans [] one = one
@@ -64,22 +73,26 @@ pub still_named_more : (gs : List (Option Guarded)) (hs : List (Option Scope)) (
     → (n : ℕ) (x : Guarded) → slot_at gs n ≡ Some x → slot_at (hs ++ Some line ∷ []) x.handle ≡ Some x.scope
 still_named_more gs hs line still n x there = let at = still n x there in get_or_append_left hs (Some line ∷ []) None x.handle (named_within hs x.handle x.scope at) ∙ at
 
-module _ {S : Type 0} (spans : S → Spans) (attaches : S → Bool) (kept : S → ℕ → ℕ → ℕ) (is_whole : S → Type 0) (old new : Worlds S) where
-  held_spans : (dispatch : ℕ) (line : Scope) → ShownOn spans attaches kept is_whole old new dispatch line (λ id. CloneSpan id) → spans_in spans new dispatch ≡ spans_held (spans_in spans old dispatch) line
+module _ {S : Type 0} (spans : S → Spans) (recorded : S → Recording) (attaches : S → Bool) (kept : S → ℕ → ℕ → ℕ) (is_whole : S → Type 0) (old new : Worlds S) where
+  held_spans : (dispatch : ℕ) (line : Scope) → ShownOn spans recorded attaches kept is_whole old new dispatch line (λ id. CloneSpan id) → spans_in spans new dispatch ≡ spans_held (spans_in spans old dispatch) line
   held_spans dispatch [] same = ap (λ (w : Worlds S). spans_in spans w dispatch) same
   held_spans dispatch (s ∷ up) shown = shown.0.spans_after
 
-  clone_kept : (dispatch : ℕ) (line : Scope) → ShownOn spans attaches kept is_whole old new dispatch line (λ id. CloneSpan id) → kept_in kept new dispatch ≡ kept_in kept old dispatch
+  clone_kept : (dispatch : ℕ) (line : Scope) → ShownOn spans recorded attaches kept is_whole old new dispatch line (λ id. CloneSpan id) → kept_in kept new dispatch ≡ kept_in kept old dispatch
   clone_kept dispatch [] same = ap (λ (w : Worlds S). kept_in kept w dispatch) same
   clone_kept dispatch (s ∷ up) shown = shown.0.lanes
 
-  module _ (does : S → SubscriberCall → S → Type 0) (law : (old new : Worlds S) (dispatch : ℕ) (call : SubscriberCall) → Replaced (λ s t. does s call t) old new dispatch → Shown spans attaches kept is_whole old new dispatch call)
-      (dispatch : ℕ) (level : LevelFilter) (lanes : List Lane) (hs hs' : List (Option Handle)) (gs : List (Option Guard)) (m at lane number : ℕ) (many : number ≡ length hs) (inv : IsKept kept is_whole old (state_of spans old dispatch level lanes hs gs m)) where
+  clone_recorded : (dispatch : ℕ) (line : Scope) → ShownOn spans recorded attaches kept is_whole old new dispatch line (λ id. CloneSpan id) → seen recorded no_recording new dispatch ≡ seen recorded no_recording old dispatch
+  clone_recorded dispatch [] same = ap (λ (w : Worlds S). seen recorded no_recording w dispatch) same
+  clone_recorded dispatch (s ∷ up) shown = shown.2
+
+  module _ (does : S → SubscriberCall → S → Type 0) (law : Law spans recorded attaches kept is_whole does) (recalls : Recalls spans recorded attaches kept is_whole does)
+      (dispatch : ℕ) (level : LevelFilter) (lanes : List Lane) (hs hs' : List (Option Handle)) (gs : List (Option Guard)) (m at lane number : ℕ) (many : number ≡ length hs) (inv : IsKept kept is_whole old (state_of spans recorded old dispatch level lanes hs gs m)) where
     abbrev now : State
-    now = state_of spans old dispatch level lanes hs gs m
+    now = state_of spans recorded old dispatch level lanes hs gs m
 
     abbrev then : State
-    then = state_of spans new dispatch level lanes hs' gs at
+    then = state_of spans recorded new dispatch level lanes hs' gs at
 
     abbrev place_id : ℕ
     place_id = id_at now.setup.ids lane
@@ -88,42 +101,44 @@ module _ {S : Type 0} (spans : S → Spans) (attaches : S → Bool) (kept : S �
     next_number t fits = many ∙ sym (length-map hs held_by) ∙ ap length fits.handle_slots ∙ length-map t.handles (option_map (held_of dispatch))
 
     module _ (handle : ℕ) (h copy : Handle) (enabled : Bool) (found : slot_at hs handle ≡ Some h) (is : copy ≡ h) (shows : enabled ≡ is_some (id_of h.held)) (one : hs' ≡ hs ++ Some copy ∷ []) (did : ReplacedOn (λ id s t. does s (CloneSpan id) t) old new h.held) where
-      pub serves_cloned : (t : Tables) → Fits now t → Served (effect_of_call now.setup t at lane (call.Clone handle)) t now then (reply.Made enabled number)
-      serves_cloned t fits =
+      pub serves_cloned : (t : Tables) → StandsFor now t → Served (effect_of_call now.setup t at lane (call.Clone handle)) t now then (reply.Made enabled number)
+      serves_cloned t stands =
+          let fits = stands.fits in
           let line = find (held_of dispatch) (map held_by hs) t.handles handle h.held fits.handle_slots (held_slot hs handle h found) in
-          let shown = shown_on spans attaches kept is_whole does law old new dispatch line.at h.held line.is (λ id. CloneSpan id) did in
+          let shown = shown_on spans recorded attaches kept is_whole does law recalls old new dispatch line.at h.held line.is (λ id. CloneSpan id) did in
           let step = held_spans dispatch line.at shown in
           let sp = spans_in spans old dispatch in
           let ids = now.setup.ids in
-          let setup : then.setup ≡ now.setup = ap (λ x. record now.setup { sites = x }) (call_sites spans attaches kept is_whole old new dispatch line.at (λ id. CloneSpan id) shown) in
+          let same = clone_recorded dispatch line.at shown in
+          let sites = call_sites spans recorded attaches kept is_whole old new dispatch line.at (λ id. CloneSpan id) shown in
+          let setup : then.setup ≡ now.setup = ap (λ x. record now.setup { sites = x; layer = (seen recorded no_recording new dispatch).settings }) sites ∙ ap (λ (r : Recording). record now.setup { layer = r.settings }) same in
           let live : (s : ℕ) (up : Scope) → line.at ≡ s ∷ up → 0 < (span_at sp.made s).holds = λ s up e. fits_live sp (map named_by t.handles) (map (opened_by ids) t.guards) t.entries fits.balanced handle s (named_slot t.handles handle line.at line.there ∙ ap own e) in
           let e : Effect = clones t at place_id line.at in
-          record {
-            effect = e;
-            is = ap (λ o. named what.Handle o (λ line. Ok (clones t at place_id line))) line.there;
-            reply_is = ap (λ n. reply.Made enabled n) (next_number t fits) ∙ ap (λ b. reply.Made b (length t.handles)) (shows ∙ enabled_is dispatch line.at h.held line.is);
-            setup = setup;
-            fits = fits_step now t fits then e (record {
-              setup_is = setup;
-              dispatch_is = refl;
-              handles_are = ap (map held_by) one ∙ map_push held_by hs (Some copy) ∙ ap (λ (x : Handle). map held_by hs ++ Some x.held ∷ []) is ∙ ap (λ (x : Held). map held_by hs ++ Some x ∷ []) line.is;
-              guards_are = refl;
-              moment_is = refl;
-              balanced = subst (λ (x : Spans). Balanced x (map named_by (t.handles ++ Some line.at ∷ [])) (map (opened_by ids) t.guards) t.entries) (sym step) (balanced_clone ids sp t.handles t.guards t.entries fits.balanced handle line.at line.there);
-              made_fit = subst (λ (x : Spans). MadeFit x.made t.made) (sym step) (made_clone sp t.made line.at fits.made live);
-              new_made = tt;
-              new_scope = λ l e. subst (IsScope t.made) (the_scope line.at l e) (fits.scopes handle line.at line.there);
-              still = still_named_more t.guards t.handles line.at fits.still;
-              few = (let l = length_push t.handles (Some line.at) in let f = fits.few in omega (arith, l, f));
-              few_holds = λ s. (let a = held_scope_most sp line.at s in let f = fits.few_holds s in let e = ap (λ (x : Spans). (span_at x.made s).holds) step in let l = length_push t.handles (Some line.at) in omega (arith, a, f, e, l));
-              one = subst (λ (x : Spans). OneEach x.lanes) (sym step) (one_clone sp line.at fits.one_lane);
-            });
-          }
+          serve now then t e _ (reply.Made enabled number) stands
+          (ap (λ o. named what.Handle o (λ line. Ok (clones t at place_id line))) line.there)
+          (ap (λ n. reply.Made enabled n) (next_number t fits) ∙ ap (λ b. reply.Made b (length t.handles)) (shows ∙ enabled_is dispatch line.at h.held line.is))
+          setup (seen recorded no_recording old dispatch).tokens same
+          (fits_step now t fits then e (record {
+            setup_is = setup;
+            dispatch_is = refl;
+            handles_are = ap (map held_by) one ∙ map_push held_by hs (Some copy) ∙ ap (λ (x : Handle). map held_by hs ++ Some x.held ∷ []) is ∙ ap (λ (x : Held). map held_by hs ++ Some x ∷ []) line.is;
+            guards_are = refl;
+            moment_is = refl;
+            balanced = subst (λ (x : Spans). Balanced x (map named_by (t.handles ++ Some line.at ∷ [])) (map (opened_by ids) t.guards) t.entries) (sym step) (balanced_clone ids sp t.handles t.guards t.entries fits.balanced handle line.at line.there);
+            made_fit = subst (λ (x : Spans). MadeFit x.made t.made) (sym step) (made_clone sp t.made line.at fits.made live);
+            new_made = tt;
+            new_scope = λ l e. subst (IsScope t.made) (the_scope line.at l e) (fits.scopes handle line.at line.there);
+            still = still_named_more t.guards t.handles line.at fits.still;
+            few = (let l = length_push t.handles (Some line.at) in let f = fits.few in omega (arith, l, f));
+            few_holds = λ s. (let a = held_scope_most sp line.at s in let f = fits.few_holds s in let e = ap (λ (x : Spans). (span_at x.made s).holds) step in let l = length_push t.handles (Some line.at) in omega (arith, a, f, e, l));
+            one = subst (λ (x : Spans). OneEach x.lanes) (sym step) (one_clone sp line.at fits.one_lane);
+          }))
+          (λ s some. known_still now then t e (seen recorded no_recording old dispatch).tokens same stands.recording s refl (clone_live sp line.at s live (subst (λ (x : Spans). 0 < (span_at x.made s).holds) step some)))
+          (all_same now then t.contexts setup refl (ap (λ (r : Recording). r.tokens) same) stands.recording.attached)
 
       pub keeps_cloned : IsKept kept is_whole new then
       keeps_cloned =
           let line = find (held_of dispatch) (map held_by hs) inv.tables.handles handle h.held inv.fits.handle_slots (held_slot hs handle h found) in
-          let shown = shown_on spans attaches kept is_whole does law old new dispatch line.at h.held line.is (λ id. CloneSpan id) did in
-          kept_served spans attaches kept is_whole old new now then inv _ _ (serves_cloned inv.tables inv.fits) refl (call_count spans attaches kept is_whole old new dispatch line.at (λ id. CloneSpan id) shown) (call_whole spans attaches kept is_whole old new dispatch line.at (λ id. CloneSpan id) shown)
+          let shown = shown_on spans recorded attaches kept is_whole does law recalls old new dispatch line.at h.held line.is (λ id. CloneSpan id) did in
+          kept_served spans recorded attaches kept is_whole old new now then inv _ _ (serves_cloned inv.tables (record { fits = inv.fits; recording = inv.recording })) refl (call_count spans recorded attaches kept is_whole old new dispatch line.at (λ id. CloneSpan id) shown) (call_whole spans recorded attaches kept is_whole old new dispatch line.at (λ id. CloneSpan id) shown)
           (subst (λ (f : ℕ → ℕ → ℕ). LanesFit f (map laned lanes)) (sym (clone_kept dispatch line.at shown)) inv.lanes)
-

@@ -22,6 +22,7 @@ use Rattle.span_pipeline.specs.declared.reply.Refusal.TheVariants as refusal
 use Rattle.span_pipeline.specs.declared.reply.Reply.TheVariants as reply
 use Rattle.span_pipeline.specs.declared.request.Call.TheVariants as call
 use Rattle.span_pipeline.specs.declared.reply.What.TheVariants as what
+use Rattle.otel_layer.specs.Recording.{Recording}
 use Rattle.span_pipeline.specs.Tables.{Scope, Made, Guarded, Effect, Tables, after, slot_at, own}
 use Rattle.span_pipeline.specs.Effects.{Resolved, named, effect_of_call, drops, drops_unless, borrows, is_borrowed}
 use Rattle.span_pipeline.specs.Slots.{is_named}
@@ -183,68 +184,3 @@ fits_dropped k next t at lane handle line fits there free chain setup dispatch h
       few_holds = λ s. (let a = ends.fewer s in let f = fits.few_holds s in let l = length-set t.handles handle None in omega (arith, a, f, l));
       one = subst OneEach (sym ends.lanes) fits.one_lane;
     })
-
-module _ {S : Type 0} (spans : S → Spans) (attaches : S → Bool) (kept : S → ℕ → ℕ → ℕ) (is_whole : S → Type 0) (does : S → SubscriberCall → S → Type 0) (old new : Worlds S) (dispatch : ℕ) where
-  abbrev ChainOn : Scope → Type 0
-  ChainOn [] = new ≡ old
-  ChainOn (s ∷ up) = ChainShown spans attaches kept is_whole old new dispatch s × (new.sites ≡ old.sites)
-
-  chain_on : (at : ℕ) → ((old new : Worlds S) (dispatch at id : ℕ) → Replaced (λ s t. Chain spans does at (Some id) s t) old new dispatch → ChainShown spans attaches kept is_whole old new dispatch id)
-      → (line : Scope) (held : Held) → held ≡ held_of dispatch line → ReplacedOn (λ id s t. Chain spans does at (Some id) s t) old new held → ChainOn line
-  chain_on at law [] held is did = subst (λ (h : Held). ReplacedOn (λ id s t. Chain spans does at (Some id) s t) old new h) is did
-  chain_on at law (s ∷ up) held is did =
-      let r = subst (λ (h : Held). ReplacedOn (λ id s t. Chain spans does at (Some id) s t) old new h) is did in
-      (law old new dispatch at s r, ap (λ (w : Worlds S). w.sites) r.others)
-
-  chain_spans : (line : Scope) → ChainOn line → ReleasedOn (spans_in spans old dispatch) (spans_in spans new dispatch) line
-  chain_spans [] same = ap (λ (w : Worlds S). spans_in spans w dispatch) same
-  chain_spans (s ∷ up) shown = shown.0.released
-
-  record ChainKept : Type 0 where
-    kept_same : kept_in kept new dispatch ≡ kept_in kept old dispatch
-    count : length new.subscribers ≡ length old.subscribers
-    whole : Has is_whole old dispatch → Has is_whole new dispatch
-    sites : new.sites ≡ old.sites
-
-  chain_kept : (line : Scope) → ChainOn line → ChainKept
-  chain_kept [] same = record { kept_same = ap (λ (w : Worlds S). kept_in kept w dispatch) same; count = ap (λ (w : Worlds S). length w.subscribers) same; whole = λ has. subst (λ (w : Worlds S). Has is_whole w dispatch) (sym same) has; sites = ap (λ (w : Worlds S). w.sites) same }
-  chain_kept (s ∷ up) shown = record { kept_same = shown.0.kept_same; count = shown.0.count; whole = shown.0.whole; sites = shown.1 }
-
-  module _ (law : (old new : Worlds S) (dispatch at id : ℕ) → Replaced (λ s t. Chain spans does at (Some id) s t) old new dispatch → ChainShown spans attaches kept is_whole old new dispatch id)
-      (level : LevelFilter) (lanes : List Lane) (hs hs' : List (Option Handle)) (gs : List (Option Guard)) (m at lane handle : ℕ) (h : Handle) (found : slot_at hs handle ≡ Some h) (inv : IsKept kept is_whole old (state_of spans old dispatch level lanes hs gs m)) where
-    abbrev now : State
-    now = state_of spans old dispatch level lanes hs gs m
-
-    abbrev then : State
-    then = state_of spans new dispatch level lanes hs' gs at
-
-    abbrev place_id : ℕ
-    place_id = id_at now.setup.ids lane
-
-    -- a handle with an open guard
-    pub refuses_borrowed : (t : Tables) → Fits now t → is_named gs handle ≡ true → effect_of_call now.setup t at lane (call.Drop handle) ≡ Err refusal.InUse
-    refuses_borrowed t fits used =
-        let line = find (held_of dispatch) (map held_by hs) t.handles handle h.held fits.handle_slots (held_slot hs handle h found) in
-        let borrowed : is_borrowed t.guards handle ≡ true = sym (borrowed_is dispatch t.guards handle) ∙ ap (λ (xs : List (Option Guard)). is_named xs handle) (sym fits.guard_slots) ∙ used in
-        ap (λ o. named what.Handle o (λ line. drops_unless (is_borrowed t.guards handle) (drops t at place_id handle line))) line.there ∙ cond-true {A = Resolved} (is_borrowed t.guards handle) _ _ borrowed
-
-    module _ (free : is_named gs handle ≡ false) (one : hs' ≡ slice_set hs handle None) (did : ReplacedOn (λ id s t. Chain spans does at (Some id) s t) old new h.held) where
-      pub serves_dropped : (t : Tables) → Fits now t → Served (effect_of_call now.setup t at lane (call.Drop handle)) t now then reply.Done
-      serves_dropped t fits =
-          let line = find (held_of dispatch) (map held_by hs) t.handles handle h.held fits.handle_slots (held_slot hs handle h found) in
-          let not_used : is_borrowed t.guards handle ≡ false = sym (borrowed_is dispatch t.guards handle) ∙ ap (λ (xs : List (Option Guard)). is_named xs handle) (sym fits.guard_slots) ∙ free in
-          let chain = chain_on at law line.at h.held line.is did in
-          let setup : then.setup ≡ now.setup = ap (λ x. record now.setup { sites = x }) (chain_kept line.at chain).sites in
-          record {
-            effect = drops t at place_id handle line.at;
-            is = ap (λ o. named what.Handle o (λ line. drops_unless (is_borrowed t.guards handle) (drops t at place_id handle line))) line.there ∙ cond-false {A = Resolved} (is_borrowed t.guards handle) _ _ not_used;
-            reply_is = refl;
-            setup = setup;
-            fits = fits_dropped now then t at place_id handle line.at fits line.there not_used (chain_spans line.at chain) setup refl (ap (map held_by) one ∙ map-set held_by hs handle None) refl refl;
-          }
-
-      pub keeps_dropped : IsKept kept is_whole new then
-      keeps_dropped =
-          let line = find (held_of dispatch) (map held_by hs) inv.tables.handles handle h.held inv.fits.handle_slots (held_slot hs handle h found) in
-          let rest = chain_kept line.at (chain_on at law line.at h.held line.is did) in
-          kept_served spans attaches kept is_whole old new now then inv _ _ (serves_dropped inv.tables inv.fits) refl rest.count rest.whole (subst (λ (f : ℕ → ℕ → ℕ). LanesFit f (map laned lanes)) (sym rest.kept_same) inv.lanes)

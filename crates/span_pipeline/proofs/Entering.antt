@@ -1,34 +1,47 @@
 -- Entries and exits, served.
-use Rattle.std.specs.Prelude.{◌==◌}
-use Rattle.std.proofs.Common.{◌≡◌, ℕ, ◌+◌, ◌<◌, List, [], ◌∷◌, ◌++◌, length, Bool, true, false, cond, get_or, set, slice_set, Option, Some, None, Ok, option_map, map, refl, sym, ap, subst, ◌∙◌, arith, inl, inr}
-use Rattle.std.proofs.lemmas.Bool.{cases_eq, eq-eqb, cond-true}
+use Rattle.std.specs.Prelude.{◌==◌, ◌≢◌, if◌then◌else◌}
+use Rattle.std.proofs.Common.{◌≡◌, ℕ, ◌+◌, ◌<◌, List, [], ◌∷◌, ◌++◌, length, Bool, true, false, cond, fold, get_or, set, slice_set, Option, Some, None, Ok, option_map, map, refl, sym, ap, subst, ◌∙◌, arith, inl, inr}
+use Rattle.std.proofs.lemmas.Bool.{cases_eq, cases_Bool, eq-eqb, cond-true, cond-false}
 use Rattle.std.proofs.lemmas.List.{length-set, length-map, length_push, get_or_push, get_or_append_left, get_or_past}
 use Rattle.trace_base.specs.declared.lane.Lane.{Lane}
 use Rattle.trace_base.specs.declared.level.LevelFilter.{LevelFilter}
 use Rattle.trace_base.specs.Gate.{Worlds}
-use Rattle.trace_base.specs.Spans.{Spans, span_at, held, released, without_last, is_in, times_in, entries_on}
+use Rattle.trace_base.specs.Spans.{Span, Spans, span_at, held, released, without_last, is_in, times_in, entries_on}
 use Rattle.trace_base.specs.Calls.{SubscriberCall, Enter, Exit, entered, exited}
 use Rattle.trace_base.specs.Sound.{OneEach}
 use Rattle.trace_base.proofs.Sound.{one_with}
-use Rattle.span_handles.specs.Worlds.{Shown, Replaced, spans_in}
+use Rattle.span_handles.specs.Worlds.{Shown, Replaced, seen, spans_in}
 use Rattle.span_handles.specs.Handles.{Handle, Held, ReplacedOn}
 use Rattle.span_pipeline.specs.declared.slots.Guard.{Guard}
 use Rattle.span_pipeline.specs.declared.reply.Reply.TheVariants as reply
 use Rattle.span_pipeline.specs.declared.request.Call.TheVariants as call
 use Rattle.span_pipeline.specs.declared.reply.What.TheVariants as what
 use Rattle.span_pipeline.specs.Setups.{Setup, id_at}
-use Rattle.span_pipeline.specs.Tables.{Scope, Made, Guarded, Effect, Tables, after, slot_at, own, with_entry, with_exit}
-use Rattle.span_pipeline.specs.Effects.{Resolved, named, effect_of_call, enters, exits, exits_on}
+use Rattle.otel_layer.specs.declared.tokens.Token.{Token}
+use Rattle.std.specs.Option.{option_to_list}
+use Rattle.otel_base.specs.Stack.{empty_context}
+use Rattle.otel_state.specs.declared.op.Op.TheVariants as ops
+use Rattle.otel_state.specs.declared.settings.LayerSettings.{LayerSettings}
+use Rattle.otel_state.specs.States.{Told}
+use Rattle.otel_layer.specs.Core.{is_token}
+use Rattle.otel_layer.specs.Table.{told_at, own_or}
+use Rattle.otel_layer.specs.Recording.{Recording, no_recording, with_start, with_starts, with_applied, source_of, RecordsCall, Enters, Exits}
+use Rattle.span_pipeline.specs.Tables.{Scope, Made, Guarded, Effect, Tables, after, recorded_by, slot_at, own, with_entry, with_exit, with_attached, with_detached, open_part, quiet, Attached}
+use Rattle.span_pipeline.specs.Effects.{Resolved, named, effect_of_call, active, attached_by, enters, exits, exits_on}
 use Rattle.span_pipeline.specs.Balance.{Balanced, named_by, opened_by}
-use Rattle.span_pipeline.specs.Fits.{State, state_of, laned, Fits, MadeFit, IsKept, Served, held_of, guard_of, held_by}
+use Rattle.span_pipeline.specs.Fits.{State, state_of, Laned, laned, lane_at, Fits, StandsFor, RecordingFits, ContextsFit, MadeFit, IsKept, Served, held_of, guard_of, held_by}
 use Rattle.span_pipeline.proofs.Balancing.{spans_entered, spans_exited, balanced_enter, balanced_exit, entered_most, exited_less, named_slot}
 use Rattle.span_pipeline.proofs.Fitting.{fits_live}
 use Rattle.span_pipeline.proofs.Makings.{made_if, made_held, made_released}
 use Rattle.span_pipeline.proofs.Standing.{Step, fits_step}
 use Rattle.span_pipeline.proofs.Naming.{find, held_slot, named_push, named_set}
-use Rattle.span_pipeline.proofs.Reading.{ShownOn, shown_on}
-use Rattle.span_pipeline.proofs.Keeping.{lanes_step, id_seen, ids_same}
-use Rattle.span_pipeline.proofs.Serving.{kept_served, call_count, call_sites, call_whole, call_lanes}
+use Rattle.span_pipeline.proofs.Reading.{Law, Recalls, ShownOn, shown_on}
+use Rattle.span_pipeline.proofs.Keeping.{lanes_step, lanes_same, id_seen, ids_same, names_same}
+use Rattle.span_pipeline.proofs.Known.{knows_it}
+use Rattle.trace_base.proofs.Holding.{holds_other}
+use Rattle.span_pipeline.proofs.Recordings.{recorded_settings, start_open, starts_fold, entry_tokens}
+use Rattle.span_pipeline.proofs.Laned.{all_entered, all_exited}
+use Rattle.span_pipeline.proofs.Serving.{AllFit, serve, known_still, kept_served, call_count, call_sites, call_whole, call_lanes}
 
 the_guard : (a b : Guarded) → ◌≡◌ {A = Option Guarded} (Some a) (Some b) → a ≡ b
 the_guard a b e = cc e
@@ -57,12 +70,12 @@ still_more gs hs g still there n x is = named_push (λ (y : Guarded). slot_at hs
 -- an entry
 pub fits_entered : (k next : State) (t : Tables) (at lane handle : ℕ) (line : Scope) → Fits k t → slot_at t.handles handle ≡ Some line → next.spans ≡ spans_entered k.spans line (id_at k.setup.ids lane) → next.setup ≡ k.setup
     → next.dispatch ≡ k.dispatch → next.handles ≡ k.handles → next.guards ≡ k.guards ++ Some (guard_of k.dispatch (record { handle = handle; lane = lane; owns = false; scope = line })) ∷ [] → next.moment ≡ at
-    → Fits next (after t (enters t at (id_at k.setup.ids lane) lane handle line))
+    → Fits next (after t (enters k.setup t at lane handle line))
 fits_entered k next t at lane handle line fits there step setup dispatch handles guards moment =
     let g : Guarded = record { handle = handle; lane = lane; owns = false; scope = line } in
     let id = id_at k.setup.ids lane in
     let live : (s : ℕ) (up : Scope) → line ≡ s ∷ up → 0 < (span_at k.spans.made s).holds = λ s up e. fits_live k.spans (map named_by t.handles) (map (opened_by k.setup.ids) t.guards) t.entries fits.balanced handle s (named_slot t.handles handle line there ∙ ap own e) in
-    fits_step k t fits next (enters t at id lane handle line) (record {
+    fits_step k t fits next (enters k.setup t at lane handle line) (record {
       setup_is = setup;
       dispatch_is = dispatch;
       handles_are = handles;
@@ -81,16 +94,17 @@ fits_entered k next t at lane handle line fits there step setup dispatch handles
 -- an exit
 pub fits_exited : (k next : State) (t : Tables) (at guard : ℕ) (g : Guarded) → Fits k t → slot_at t.guards guard ≡ Some g → next.spans ≡ spans_exited k.spans g.scope (id_at k.setup.ids g.lane) → next.setup ≡ k.setup
     → next.dispatch ≡ k.dispatch → next.handles ≡ k.handles → next.guards ≡ slice_set k.guards guard None → next.moment ≡ at
-    → Fits next (after t (exits at (id_at k.setup.ids g.lane) guard g.scope))
-fits_exited k next t at guard g fits there step setup dispatch handles guards moment =
+    → (lane : ℕ) → lane ≡ id_at k.setup.ids g.lane → Fits next (after t (exits k.setup at lane guard g.scope))
+fits_exited k next t at guard g fits there step setup dispatch handles guards moment lane on =
     let id = id_at k.setup.ids g.lane in
-    fits_step k t fits next (exits at id guard g.scope) (record {
+    fits_step k t fits next (exits k.setup at lane guard g.scope) (record {
       setup_is = setup;
       dispatch_is = dispatch;
       handles_are = handles;
       guards_are = guards;
       moment_is = moment;
-      balanced = subst (λ (x : Spans). Balanced x (map named_by t.handles) (map (opened_by k.setup.ids) (slice_set t.guards guard None)) (with_exit t.entries id (own g.scope))) (sym step) (balanced_exit k.setup.ids k.spans t.handles t.guards t.entries fits.balanced guard g there g.scope refl);
+      balanced = subst (λ (l : ℕ). Balanced next.spans (map named_by t.handles) (map (opened_by k.setup.ids) (slice_set t.guards guard None)) (with_exit t.entries l (own g.scope))) (sym on)
+          (subst (λ (x : Spans). Balanced x (map named_by t.handles) (map (opened_by k.setup.ids) (slice_set t.guards guard None)) (with_exit t.entries id (own g.scope))) (sym step) (balanced_exit k.setup.ids k.spans t.handles t.guards t.entries fits.balanced guard g there g.scope refl));
       made_fit = subst (λ (x : Spans). MadeFit x.made t.made) (sym step) (made_exited k.spans t.made g.scope id fits.made);
       new_made = tt;
       new_scope = λ l e. absurd (cc e);
@@ -100,91 +114,187 @@ fits_exited k next t at guard g fits there step setup dispatch handles guards mo
       one = subst (λ (x : Spans). OneEach x.lanes) (sym step) (one_exited k.spans g.scope id fits.one_lane);
     })
 
-module _ {S : Type 0} (spans : S → Spans) (attaches : S → Bool) (kept : S → ℕ → ℕ → ℕ) (is_whole : S → Type 0) (old new : Worlds S) where
-  entered_spans : (dispatch at lane : ℕ) (before later : Lane) (line : Scope) → before.id ≡ lane → ShownOn spans attaches kept is_whole old new dispatch line (λ id. Enter id at before later) → spans_in spans new dispatch ≡ spans_entered (spans_in spans old dispatch) line lane
+no_active : (activation : Bool) → active activation [] ≡ None
+no_active true = refl
+no_active false = refl
+
+entered_live : (spans : Spans) (line : Scope) (lane q : ℕ) → ((s : ℕ) (up : Scope) → line ≡ s ∷ up → 0 < (span_at spans.made s).holds) → 0 < (span_at (spans_entered spans line lane).made q).holds → 0 < (span_at spans.made q).holds
+entered_live spans [] lane q live some = some
+entered_live spans (s ∷ up) lane q live some = elim (cases_Bool (is_in s (entries_on lane spans.lanes))) [
+  | inl again ↦ (let e = ap (λ (xs : List Span). (span_at xs q).holds) (cond-true {A = List Span} (is_in s (entries_on lane spans.lanes)) spans.made (held spans.made s) again) in omega (arith, e, some))
+  | inr new ↦ (
+      let e = ap (λ (xs : List Span). (span_at xs q).holds) (cond-false {A = List Span} (is_in s (entries_on lane spans.lanes)) spans.made (held spans.made s) new) in
+      elim (cases_eq q s) [
+        | inl here ↦ (let l = live s up refl in let w = ap (λ (k : ℕ). (span_at spans.made k).holds) here in omega (arith, l, w))
+        | inr other ↦ (let h = holds_other spans.made s (record (span_at spans.made s) { holds = (span_at spans.made s).holds + 1 }) q other in omega (arith, h, e, some))
+      ])
+]
+
+-- what the effect attaches is what the layer attached
+attach_is : (b : Bool) (s at : ℕ) (up : Scope) (r x : Recording) → open_part r ≡ x
+    → (if b then Some (record { span = s; context = own_or empty_context (told_at s (with_starts (source_of b s) at r).spans) }) else None) ≡ attached_by x at (active b (s ∷ up))
+attach_is true s at up r x is = ap (λ (xs : List (ℕ × Told)). Some (record { span = s; context = own_or empty_context (told_at s xs) })) (start_open s at r x is)
+attach_is false s at up r x is = refl
+
+module _ {S : Type 0} (spans : S → Spans) (recorded : S → Recording) (attaches : S → Bool) (kept : S → ℕ → ℕ → ℕ) (is_whole : S → Type 0) (old new : Worlds S) where
+  entered_spans : (dispatch at lane : ℕ) (before later : Lane) (line : Scope) → before.id ≡ lane → ShownOn spans recorded attaches kept is_whole old new dispatch line (λ id. Enter id at before later) → spans_in spans new dispatch ≡ spans_entered (spans_in spans old dispatch) line lane
   entered_spans dispatch at lane before later [] id same = ap (λ (w : Worlds S). spans_in spans w dispatch) same
   entered_spans dispatch at lane before later (s ∷ up) id shown = shown.0.spans_after ∙ ap (λ (l : ℕ). entered (spans_in spans old dispatch) s l) id
 
-  exited_spans : (dispatch at lane : ℕ) (before later : Lane) (line : Scope) → before.id ≡ lane → ShownOn spans attaches kept is_whole old new dispatch line (λ id. Exit id at before later) → spans_in spans new dispatch ≡ spans_exited (spans_in spans old dispatch) line lane
+  exited_spans : (dispatch at lane : ℕ) (before later : Lane) (line : Scope) → before.id ≡ lane → ShownOn spans recorded attaches kept is_whole old new dispatch line (λ id. Exit id at before later) → spans_in spans new dispatch ≡ spans_exited (spans_in spans old dispatch) line lane
   exited_spans dispatch at lane before later [] id same = ap (λ (w : Worlds S). spans_in spans w dispatch) same
   exited_spans dispatch at lane before later (s ∷ up) id shown = shown.0.spans_after ∙ ap (λ (l : ℕ). exited (spans_in spans old dispatch) s l) id
 
+  -- what was recorded: the span is known, so the layer was told
+  entry_told : (dispatch at : ℕ) (before later : Lane) (s : ℕ) → told_at s (seen recorded no_recording old dispatch).spans ≢ None → RecordsCall (spans_in spans old dispatch) (seen recorded no_recording old dispatch) (Enter s at before later) (seen recorded no_recording new dispatch)
+      → Enters (seen recorded no_recording old dispatch) s at before later (seen recorded no_recording new dispatch)
+  entry_told dispatch at before later s known told = told.is_known (knows_it s (seen recorded no_recording old dispatch).spans known)
+
+  exit_told : (dispatch at : ℕ) (before later : Lane) (s : ℕ) → told_at s (seen recorded no_recording old dispatch).spans ≢ None → RecordsCall (spans_in spans old dispatch) (seen recorded no_recording old dispatch) (Exit s at before later) (seen recorded no_recording new dispatch)
+      → Exits (seen recorded no_recording old dispatch) s at before later (seen recorded no_recording new dispatch)
+  exit_told dispatch at before later s known told = told.is_known (knows_it s (seen recorded no_recording old dispatch).spans known)
+
   -- over what the code has
-  module _ (does : S → SubscriberCall → S → Type 0) (law : (old new : Worlds S) (dispatch : ℕ) (call : SubscriberCall) → Replaced (λ s t. does s call t) old new dispatch → Shown spans attaches kept is_whole old new dispatch call)
-      (dispatch : ℕ) (level : LevelFilter) (lanes : List Lane) (hs : List (Option Handle)) (gs : List (Option Guard)) (m at lane : ℕ) (before later : Lane) (within : lane < length lanes) (seen : before ≡ get_or lanes lane before) where
+  module _ (does : S → SubscriberCall → S → Type 0) (law : Law spans recorded attaches kept is_whole does) (recalls : Recalls spans recorded attaches kept is_whole does)
+      (dispatch : ℕ) (level : LevelFilter) (lanes : List Lane) (hs : List (Option Handle)) (gs : List (Option Guard)) (m at lane : ℕ) (before later : Lane) (within : lane < length lanes) (here : before ≡ get_or lanes lane before) where
     abbrev now : State
-    now = state_of spans old dispatch level lanes hs gs m
+    now = state_of spans recorded old dispatch level lanes hs gs m
 
     abbrev place_id : ℕ
     place_id = id_at now.setup.ids lane
 
     id_is : before.id ≡ place_id
-    id_is = id_seen lanes lane before within seen
+    id_is = id_seen lanes lane before within here
 
-    setup_after : (sites : new.sites ≡ old.sites) → later.id ≡ before.id → (state_of spans new dispatch level (set lanes lane later) hs gs at).setup ≡ now.setup
-    setup_after sites id = rw (sites, ids_same lanes lane before later within seen id) refl
+    abbrev r : Recording
+    r = seen recorded no_recording old dispatch
+
+    abbrev r' : Recording
+    r' = seen recorded no_recording new dispatch
+
+    setup_after : new.sites ≡ old.sites → later.id ≡ before.id → later.name ≡ before.name → r'.settings ≡ r.settings → (state_of spans recorded new dispatch level (set lanes lane later) hs gs at).setup ≡ now.setup
+    setup_after sites id name settings = rw (sites, ids_same lanes lane before later within here id, names_same lanes lane before later within here name, settings) refl
+
+    abbrev then_with : List (Option Guard) → State
+    then_with gs' = state_of spans recorded new dispatch level (set lanes lane later) hs gs' at
+
+    abbrev lanes_of : Type 0
+    lanes_of = (n m : ℕ) → n < length (map laned lanes) → m < length (map laned lanes) → (lane_at (map laned lanes) n).id ≡ (lane_at (map laned lanes) m).id → n ≡ m
+
+    -- an exit, by the scope of its guard
+    exited_record : (gs' : List (Option Guard)) (t : Tables) (guard : ℕ) (line : Scope) → RecordingFits now t → ((s : ℕ) (up : Scope) → line ≡ s ∷ up → 0 < (span_at now.spans.made s).holds) → lanes_of → later.id ≡ before.id → (line ≡ [] → later ≡ before)
+        → ShownOn spans recorded attaches kept is_whole old new dispatch line (λ id. Exit id at before later)
+        → (toks : List Token) × (r' ≡ record (recorded_by (length t.made) (exits now.setup at place_id guard line) r) { tokens = toks }) × AllFit (then_with gs') (after t (exits now.setup at place_id guard line)).contexts
+    exited_record gs' t guard [] fit live differ same none shown =
+        let is = ap (λ (w : Worlds S). seen recorded no_recording w dispatch) shown in
+        (r.tokens, is, subst (λ (c : Recording). (n : ℕ) → n < length (map laned (set lanes lane later)) → ContextsFit c.settings.activation (lane_at (map laned (set lanes lane later)) n).id (lane_at (map laned (set lanes lane later)) n).live c.tokens ((after t (exits now.setup at place_id guard [])).contexts (lane_at (map laned (set lanes lane later)) n).id)) (sym is)
+            (subst (λ (ls : List Laned). (n : ℕ) → n < length ls → ContextsFit r.settings.activation (lane_at ls n).id (lane_at ls n).live r.tokens ((after t (exits now.setup at place_id guard [])).contexts (lane_at ls n).id)) (sym (lanes_same lanes lane before later within here (ap laned (none refl))))
+            (subst (λ (o : Option ℕ). (n : ℕ) → n < length (map laned lanes) → ContextsFit r.settings.activation (lane_at (map laned lanes) n).id (lane_at (map laned lanes) n).live r.tokens (with_detached t.contexts place_id o (lane_at (map laned lanes) n).id)) (sym (no_active r.settings.activation)) fit.attached)))
+    exited_record gs' t guard (s ∷ up) fit live differ same none shown =
+        let x = exit_told dispatch at before later s (fit.known s (live s up refl)) shown.2 in
+        let toks = without_last (is_token before.id s) r.tokens in
+        (toks, x.is, subst (λ (c : Recording). (n : ℕ) → n < length (map laned (set lanes lane later)) → ContextsFit c.settings.activation (lane_at (map laned (set lanes lane later)) n).id (lane_at (map laned (set lanes lane later)) n).live c.tokens ((after t (exits now.setup at place_id guard (s ∷ up))).contexts (lane_at (map laned (set lanes lane later)) n).id)) (sym x.is)
+            (subst (λ (l : ℕ). (n : ℕ) → n < length (map laned (set lanes lane later)) → ContextsFit r.settings.activation (lane_at (map laned (set lanes lane later)) n).id (lane_at (map laned (set lanes lane later)) n).live toks (with_detached t.contexts l (if r.settings.activation then Some s else None) (lane_at (map laned (set lanes lane later)) n).id)) id_is
+            (all_exited r.settings.activation lanes lane before later within here same differ r.tokens t.contexts fit.attached s x.token x.last x.lane)))
+
+    -- an entry, by the scope of its handle
+    entered_record : (gs' : List (Option Guard)) (t : Tables) (handle : ℕ) (line : Scope) → RecordingFits now t → ((s : ℕ) (up : Scope) → line ≡ s ∷ up → 0 < (span_at now.spans.made s).holds) → lanes_of → later.id ≡ before.id → (line ≡ [] → later ≡ before)
+        → ShownOn spans recorded attaches kept is_whole old new dispatch line (λ id. Enter id at before later)
+        → (toks : List Token) × (r' ≡ record (recorded_by (length t.made) (enters now.setup t at lane handle line) r) { tokens = toks }) × AllFit (then_with gs') (after t (enters now.setup t at lane handle line)).contexts
+    entered_record gs' t handle [] fit live differ same none shown =
+        let is = ap (λ (w : Worlds S). seen recorded no_recording w dispatch) shown in
+        let nothing : (b : Bool) → recorded_by (length t.made) (record (quiet at place_id (reply.Guard 0)) { starts = option_to_list (active b []) }) r ≡ r = λ b. ap (λ (o : Option ℕ). recorded_by (length t.made) (record (quiet at place_id (reply.Guard 0)) { starts = option_to_list o }) r) (no_active b) in
+        (r.tokens, is ∙ ap (λ (x : Recording). record x { tokens = r.tokens }) (sym (nothing r.settings.activation)), subst (λ (c : Recording). (n : ℕ) → n < length (map laned (set lanes lane later)) → ContextsFit c.settings.activation (lane_at (map laned (set lanes lane later)) n).id (lane_at (map laned (set lanes lane later)) n).live c.tokens ((after t (enters now.setup t at lane handle [])).contexts (lane_at (map laned (set lanes lane later)) n).id)) (sym is)
+            (subst (λ (ls : List Laned). (n : ℕ) → n < length ls → ContextsFit r.settings.activation (lane_at ls n).id (lane_at ls n).live r.tokens ((after t (enters now.setup t at lane handle [])).contexts (lane_at ls n).id)) (sym (lanes_same lanes lane before later within here (ap laned (none refl))))
+            (subst (λ (o : Option ℕ). (n : ℕ) → n < length (map laned lanes) → ContextsFit r.settings.activation (lane_at (map laned lanes) n).id (lane_at (map laned lanes) n).live r.tokens (with_attached t.contexts place_id (attached_by t.recording at o) (lane_at (map laned lanes) n).id)) (sym (no_active r.settings.activation)) fit.attached)))
+    entered_record gs' t handle (s ∷ up) fit live differ same none shown =
+        let x = entry_told dispatch at before later s (fit.known s (live s up refl)) shown.2 in
+        let b = r.settings.activation in
+        let token : Token = record { lane = before.id; id = s; attached = x.attached } in
+        let toks = r.tokens ++ token ∷ [] in
+        let own = own_or empty_context (told_at s (with_starts (source_of b s) at r).spans) in
+        let rec_is : r' ≡ record (recorded_by (length t.made) (enters now.setup t at lane handle (s ∷ up)) r) { tokens = toks } =
+            x.is ∙ ap (λ (y : Recording). record (with_applied s at ops.Enter y) { tokens = y.tokens ++ token ∷ [] }) (sym (starts_fold (source_of b s) at r))
+            ∙ ap (λ (ts : List Token). record (with_applied s at ops.Enter (fold (λ r s. with_start s at r) r (option_to_list (source_of b s)))) { tokens = ts ++ token ∷ [] }) (ap (λ (y : Recording). y.tokens) (starts_fold (source_of b s) at r) ∙ entry_tokens (source_of b s) at r) in
+        let settings : r'.settings ≡ r.settings = ap (λ (c : Recording). c.settings) rec_is ∙ recorded_settings (length t.made) (enters now.setup t at lane handle (s ∷ up)) r in
+        let tokens : r'.tokens ≡ toks = ap (λ (c : Recording). c.tokens) rec_is in
+        (toks, rec_is,
+            subst (λ (ts : List Token). (n : ℕ) → n < length (map laned (set lanes lane later)) → ContextsFit r'.settings.activation (lane_at (map laned (set lanes lane later)) n).id (lane_at (map laned (set lanes lane later)) n).live ts ((after t (enters now.setup t at lane handle (s ∷ up))).contexts (lane_at (map laned (set lanes lane later)) n).id)) (sym tokens)
+            (subst (λ (c : LayerSettings). (n : ℕ) → n < length (map laned (set lanes lane later)) → ContextsFit c.activation (lane_at (map laned (set lanes lane later)) n).id (lane_at (map laned (set lanes lane later)) n).live toks ((after t (enters now.setup t at lane handle (s ∷ up))).contexts (lane_at (map laned (set lanes lane later)) n).id)) (sym settings)
+            (subst (λ (o : Option Attached). (n : ℕ) → n < length (map laned (set lanes lane later)) → ContextsFit b (lane_at (map laned (set lanes lane later)) n).id (lane_at (map laned (set lanes lane later)) n).live toks (with_attached t.contexts place_id o (lane_at (map laned (set lanes lane later)) n).id)) (attach_is b s at up r t.recording fit.recorded)
+            (subst (λ (l : ℕ). (n : ℕ) → n < length (map laned (set lanes lane later)) → ContextsFit b (lane_at (map laned (set lanes lane later)) n).id (lane_at (map laned (set lanes lane later)) n).live toks (with_attached t.contexts l (if b then Some (record { span = s; context = own }) else None) (lane_at (map laned (set lanes lane later)) n).id)) id_is
+            (all_entered b lanes lane before later within here same differ r.tokens t.contexts fit.attached s own x.attached x.lane)))))
 
     module _ (guard : ℕ) (g : Guard) (found : slot_at gs guard ≡ Some g) (on : g.lane ≡ lane) (gs' : List (Option Guard)) (one : gs' ≡ slice_set gs guard None) (h : Handle) (entry_is : g.entry ≡ h.held)
         (did : ReplacedOn (λ id s t. does s (Exit id at before later) t) old new h.held) (none : h.held ≡ None → later ≡ before) (inv : IsKept kept is_whole old now) where
       abbrev exited_then : State
-      exited_then = state_of spans new dispatch level (set lanes lane later) hs gs' at
+      exited_then = then_with gs'
 
-      pub serves_exited : (t : Tables) → Fits now t → Served (effect_of_call now.setup t at lane (call.Exit guard)) t now exited_then reply.Done
-      serves_exited t fits =
+      pub serves_exited : (t : Tables) → StandsFor now t → Served (effect_of_call now.setup t at lane (call.Exit guard)) t now exited_then reply.Done
+      serves_exited t stands =
+          let fits = stands.fits in
           let open_one = find (guard_of dispatch) gs t.guards guard g fits.guard_slots found in
           let x = open_one.at in
-          let here : x.lane ≡ lane = ap (λ (x : Guard). x.lane) (sym open_one.is) ∙ on in
+          let mine : x.lane ≡ lane = ap (λ (x : Guard). x.lane) (sym open_one.is) ∙ on in
           let is : h.held ≡ held_of dispatch x.scope = sym entry_is ∙ ap (λ (x : Guard). x.entry) open_one.is in
-          let shown = shown_on spans attaches kept is_whole does law old new dispatch x.scope h.held is (λ id. Exit id at before later) did in
-          let moved = call_lanes spans attaches kept is_whole old new dispatch x.scope (λ id. Exit id at before later) before later (λ s b f g l. (l.0.id, l.1)) (λ e. none (is ∙ ap (held_of dispatch) e)) shown in
-          let sites = call_sites spans attaches kept is_whole old new dispatch x.scope (λ id. Exit id at before later) shown in
-          let lane_is : place_id ≡ id_at now.setup.ids x.lane = ap (id_at now.setup.ids) (sym here) in
-          let e : Effect = exits at (id_at now.setup.ids x.lane) guard x.scope in
-          let setup = setup_after sites moved.0 in
-          record {
-            effect = e;
-            is = ap (λ o. named what.Guard o (λ (y : Guarded). exits_on y.lane lane (exits at place_id guard y.scope))) open_one.there
-                ∙ cond-true {A = Resolved} (x.lane == lane) _ _ (eq-eqb x.lane lane here) ∙ ap (λ (l : ℕ). Ok (exits at l guard x.scope)) lane_is;
-            reply_is = refl;
-            setup = setup;
-            fits = fits_exited now exited_then t at guard x fits open_one.there (exited_spans dispatch at (id_at now.setup.ids x.lane) before later x.scope (id_is ∙ lane_is) shown) setup refl refl one refl;
-          }
+          let shown = shown_on spans recorded attaches kept is_whole does law recalls old new dispatch x.scope h.held is (λ id. Exit id at before later) did in
+          let none_at : x.scope ≡ [] → later ≡ before = λ e. none (is ∙ ap (held_of dispatch) e) in
+          let moved = call_lanes spans recorded attaches kept is_whole old new dispatch x.scope (λ id. Exit id at before later) before later (λ s b f g l. (l.0.id, l.0.name, l.1)) none_at shown in
+          let sites = call_sites spans recorded attaches kept is_whole old new dispatch x.scope (λ id. Exit id at before later) shown in
+          let lane_is : place_id ≡ id_at now.setup.ids x.lane = ap (id_at now.setup.ids) (sym mine) in
+          let e : Effect = exits now.setup at place_id guard x.scope in
+          let live : (s : ℕ) (up : Scope) → x.scope ≡ s ∷ up → 0 < (span_at now.spans.made s).holds = λ s up e. fits_live now.spans (map named_by t.handles) (map (opened_by now.setup.ids) t.guards) t.entries fits.balanced x.handle s (named_slot t.handles x.handle x.scope (fits.still guard x open_one.there) ∙ ap own e) in
+          let rec_is = exited_record gs' t guard x.scope stands.recording live inv.lanes.differ moved.0 none_at shown in
+          let settings = ap (λ (c : Recording). c.settings) rec_is.1 ∙ recorded_settings (length t.made) e r in
+          let setup = setup_after sites moved.0 moved.1 settings in
+          let step = exited_spans dispatch at (id_at now.setup.ids x.lane) before later x.scope (id_is ∙ lane_is) shown in
+          serve now exited_then t e _ reply.Done stands
+          (ap (λ o. named what.Guard o (λ (y : Guarded). exits_on y.lane lane (exits now.setup at place_id guard y.scope))) open_one.there ∙ cond-true {A = Resolved} (x.lane == lane) _ _ (eq-eqb x.lane lane mine))
+          refl setup rec_is.0 rec_is.1 (fits_exited now exited_then t at guard x fits open_one.there step setup refl refl one refl place_id lane_is)
+          (λ s some. known_still now exited_then t e rec_is.0 rec_is.1 stands.recording s refl (let a = exited_less now.spans x.scope (id_at now.setup.ids x.lane) s in let b = ap (λ (y : Spans). (span_at y.made s).holds) step in omega (arith, a, b, some)))
+          rec_is.2
 
       pub keeps_exited : IsKept kept is_whole new exited_then
       keeps_exited =
           let open_one = find (guard_of dispatch) gs inv.tables.guards guard g inv.fits.guard_slots found in
           let x = open_one.at in
           let is : h.held ≡ held_of dispatch x.scope = sym entry_is ∙ ap (λ (x : Guard). x.entry) open_one.is in
-          let shown = shown_on spans attaches kept is_whole does law old new dispatch x.scope h.held is (λ id. Exit id at before later) did in
-          let moved = call_lanes spans attaches kept is_whole old new dispatch x.scope (λ id. Exit id at before later) before later (λ s b f g l. (l.0.id, l.1)) (λ e. none (is ∙ ap (held_of dispatch) e)) shown in
-          kept_served spans attaches kept is_whole old new now exited_then inv _ _ (serves_exited inv.tables inv.fits) refl (call_count spans attaches kept is_whole old new dispatch x.scope (λ id. Exit id at before later) shown) (call_whole spans attaches kept is_whole old new dispatch x.scope (λ id. Exit id at before later) shown)
-          (lanes_step _ _ lanes lane before later within seen inv.lanes moved.0 moved.1)
+          let shown = shown_on spans recorded attaches kept is_whole does law recalls old new dispatch x.scope h.held is (λ id. Exit id at before later) did in
+          let moved = call_lanes spans recorded attaches kept is_whole old new dispatch x.scope (λ id. Exit id at before later) before later (λ s b f g l. (l.0.id, l.0.name, l.1)) (λ e. none (is ∙ ap (held_of dispatch) e)) shown in
+          kept_served spans recorded attaches kept is_whole old new now exited_then inv _ _ (serves_exited inv.tables (record { fits = inv.fits; recording = inv.recording })) refl (call_count spans recorded attaches kept is_whole old new dispatch x.scope (λ id. Exit id at before later) shown) (call_whole spans recorded attaches kept is_whole old new dispatch x.scope (λ id. Exit id at before later) shown)
+          (lanes_step _ _ lanes lane before later within here inv.lanes moved.0 moved.2)
 
     module _ (handle number : ℕ) (h : Handle) (entry : Held) (gs' : List (Option Guard)) (found : slot_at hs handle ≡ Some h) (is : entry ≡ h.held) (many : number ≡ length gs) (one : gs' ≡ gs ++ Some (record { handle = handle; lane = lane; owns = false; entry = entry }) ∷ [])
         (did : ReplacedOn (λ id s t. does s (Enter id at before later) t) old new h.held) (none : h.held ≡ None → later ≡ before) (inv : IsKept kept is_whole old now) where
-      abbrev then : State
-      then = state_of spans new dispatch level (set lanes lane later) hs gs' at
+      abbrev entered_then : State
+      entered_then = then_with gs'
 
-      pub serves_entered : (t : Tables) → Fits now t → Served (effect_of_call now.setup t at lane (call.Enter handle)) t now then (reply.Guard number)
-      serves_entered t fits =
+      pub serves_entered : (t : Tables) → StandsFor now t → Served (effect_of_call now.setup t at lane (call.Enter handle)) t now entered_then (reply.Guard number)
+      serves_entered t stands =
+          let fits = stands.fits in
           let line = find (held_of dispatch) (map held_by hs) t.handles handle h.held fits.handle_slots (held_slot hs handle h found) in
-          let shown = shown_on spans attaches kept is_whole does law old new dispatch line.at h.held line.is (λ id. Enter id at before later) did in
-          let moved = call_lanes spans attaches kept is_whole old new dispatch line.at (λ id. Enter id at before later) before later (λ s b f g l. (l.0.id, l.1)) (λ e. none (line.is ∙ ap (held_of dispatch) e)) shown in
-          let sites = call_sites spans attaches kept is_whole old new dispatch line.at (λ id. Enter id at before later) shown in
+          let shown = shown_on spans recorded attaches kept is_whole does law recalls old new dispatch line.at h.held line.is (λ id. Enter id at before later) did in
+          let none_at : line.at ≡ [] → later ≡ before = λ e. none (line.is ∙ ap (held_of dispatch) e) in
+          let moved = call_lanes spans recorded attaches kept is_whole old new dispatch line.at (λ id. Enter id at before later) before later (λ s b f g l. (l.0.id, l.0.name, l.1)) none_at shown in
+          let sites = call_sites spans recorded attaches kept is_whole old new dispatch line.at (λ id. Enter id at before later) shown in
           let guards_are : gs' ≡ gs ++ Some (guard_of dispatch (record { handle = handle; lane = lane; owns = false; scope = line.at })) ∷ [] = one ∙ ap (λ (h : Held). gs ++ Some (record { handle = handle; lane = lane; owns = false; entry = h }) ∷ []) (is ∙ line.is) in
-          let setup = setup_after sites moved.0 in
-          record {
-            effect = enters t at place_id lane handle line.at;
-            is = ap (λ o. named what.Handle o (λ line. Ok (enters t at place_id lane handle line))) line.there;
-            reply_is = ap reply.Guard (many ∙ ap length fits.guard_slots ∙ length-map t.guards (option_map (guard_of dispatch)));
-            setup = setup;
-            fits = fits_entered now then t at lane handle line.at fits line.there (entered_spans dispatch at place_id before later line.at id_is shown) setup refl refl guards_are refl;
-          }
+          let e : Effect = enters now.setup t at lane handle line.at in
+          let live : (s : ℕ) (up : Scope) → line.at ≡ s ∷ up → 0 < (span_at now.spans.made s).holds = λ s up e. fits_live now.spans (map named_by t.handles) (map (opened_by now.setup.ids) t.guards) t.entries fits.balanced handle s (named_slot t.handles handle line.at line.there ∙ ap own e) in
+          let rec_is = entered_record gs' t handle line.at stands.recording live inv.lanes.differ moved.0 none_at shown in
+          let settings = ap (λ (c : Recording). c.settings) rec_is.1 ∙ recorded_settings (length t.made) e r in
+          let setup = setup_after sites moved.0 moved.1 settings in
+          let step = entered_spans dispatch at place_id before later line.at id_is shown in
+          serve now entered_then t e _ (reply.Guard number) stands
+          (ap (λ o. named what.Handle o (λ line. Ok (enters now.setup t at lane handle line))) line.there)
+          (ap reply.Guard (many ∙ ap length fits.guard_slots ∙ length-map t.guards (option_map (guard_of dispatch))))
+          setup rec_is.0 rec_is.1 (fits_entered now entered_then t at lane handle line.at fits line.there step setup refl refl guards_are refl)
+          (λ s some. known_still now entered_then t e rec_is.0 rec_is.1 stands.recording s refl (entered_live now.spans line.at place_id s live (subst (λ (y : Spans). 0 < (span_at y.made s).holds) step some)))
+          rec_is.2
 
-      pub keeps_entered : IsKept kept is_whole new then
+      pub keeps_entered : IsKept kept is_whole new entered_then
       keeps_entered =
           let line = find (held_of dispatch) (map held_by hs) inv.tables.handles handle h.held inv.fits.handle_slots (held_slot hs handle h found) in
-          let shown = shown_on spans attaches kept is_whole does law old new dispatch line.at h.held line.is (λ id. Enter id at before later) did in
-          let moved = call_lanes spans attaches kept is_whole old new dispatch line.at (λ id. Enter id at before later) before later (λ s b f g l. (l.0.id, l.1)) (λ e. none (line.is ∙ ap (held_of dispatch) e)) shown in
-          kept_served spans attaches kept is_whole old new now then inv _ _ (serves_entered inv.tables inv.fits) refl (call_count spans attaches kept is_whole old new dispatch line.at (λ id. Enter id at before later) shown) (call_whole spans attaches kept is_whole old new dispatch line.at (λ id. Enter id at before later) shown)
-          (lanes_step _ _ lanes lane before later within seen inv.lanes moved.0 moved.1)
+          let shown = shown_on spans recorded attaches kept is_whole does law recalls old new dispatch line.at h.held line.is (λ id. Enter id at before later) did in
+          let moved = call_lanes spans recorded attaches kept is_whole old new dispatch line.at (λ id. Enter id at before later) before later (λ s b f g l. (l.0.id, l.0.name, l.1)) (λ e. none (line.is ∙ ap (held_of dispatch) e)) shown in
+          kept_served spans recorded attaches kept is_whole old new now entered_then inv _ _ (serves_entered inv.tables (record { fits = inv.fits; recording = inv.recording })) refl (call_count spans recorded attaches kept is_whole old new dispatch line.at (λ id. Enter id at before later) shown) (call_whole spans recorded attaches kept is_whole old new dispatch line.at (λ id. Enter id at before later) shown)
+          (lanes_step _ _ lanes lane before later within here inv.lanes moved.0 moved.2)

@@ -12,9 +12,10 @@ use Rattle.span_handles.specs.Worlds.{Has, Alike, Replaced, seen, spans_in, kept
 use Rattle.span_handles.specs.Handles.{Handle, Held, ReplacedOn}
 use Rattle.span_handles.specs.Entries.{LeavesLane}
 use Rattle.span_pipeline.specs.declared.slots.Guard.{Guard}
+use Rattle.otel_layer.specs.Recording.{Recording, no_recording}
 use Rattle.span_pipeline.specs.Tables.{Scope, slot_at}
 use Rattle.span_pipeline.proofs.Naming.{find, held_slot}
-use Rattle.span_pipeline.specs.Setups.{Setup, id_at}
+use Rattle.span_pipeline.specs.Setups.{Setup, id_at, name_at}
 use Rattle.span_pipeline.specs.Fits.{State, setup_of, state_of, Laned, laned, no_lane, lane_at, held_by, LanesFit, IsKept, held_of}
 
 pub on_err : {T E : Type 0} (result : Result T E) (P : Type 0) → P → OnErr result P
@@ -51,6 +52,16 @@ pub ids_same : (lanes : List Lane) (n : ℕ) (before later : Lane) → n < lengt
 ids_same [] n before later within is same = refl
 ids_same (x ∷ xs) zero before later within is same = ap (λ (i : ℕ). i ∷ map (λ (l : Lane). l.id) xs) (same ∙ ap (λ (l : Lane). l.id) is)
 ids_same (x ∷ xs) (suc n) before later within is same = ap (λ (is : List ℕ). x.id ∷ is) (ids_same xs n before later (omega (arith, within)) is same)
+
+pub names_same : (lanes : List Lane) (n : ℕ) (before later : Lane) → n < length lanes → before ≡ get_or lanes n before → later.name ≡ before.name → map (λ (l : Lane). l.name) (set lanes n later) ≡ map (λ (l : Lane). l.name) lanes
+names_same [] n before later within is same = refl
+names_same (x ∷ xs) zero before later within is same = ap (λ i. i ∷ map (λ (l : Lane). l.name) xs) (same ∙ ap (λ (l : Lane). l.name) is)
+names_same (x ∷ xs) (suc n) before later within is same = ap (λ is. x.name ∷ is) (names_same xs n before later (omega (arith, within)) is same)
+
+pub name_seen : (lanes : List Lane) (n : ℕ) (before : Lane) → n < length lanes → before ≡ get_or lanes n before → before.name ≡ name_at (map (λ (l : Lane). l.name) lanes) n
+name_seen [] n before within is = absurd (omega (arith, within))
+name_seen (x ∷ xs) zero before within is = ap (λ (l : Lane). l.name) is
+name_seen (x ∷ xs) (suc n) before within is = name_seen xs n before (omega (arith, within)) is
 
 pub are_attached : (kept : ℕ → ℕ → ℕ) (lanes : List Lane) (n : ℕ) (before : Lane) → n < length lanes → before ≡ get_or lanes n before → LanesFit kept (map laned lanes) → AreAttached kept before
 are_attached kept lanes n before within is fits number =
@@ -99,34 +110,37 @@ lanes_step kept now lanes n before later within is fits same keeps =
           ]);
     }
 
-module _ {S : Type 0} (spans : S → Spans) (attaches : S → Bool) (kept : S → ℕ → ℕ → ℕ) (is_whole : S → Type 0) where
+module _ {S : Type 0} (spans : S → Spans) (recorded : S → Recording) (attaches : S → Bool) (kept : S → ℕ → ℕ → ℕ) (is_whole : S → Type 0) where
   abbrev pub AlikeOn : Worlds S → Worlds S → ℕ → Scope → Type 0
   AlikeOn old new dispatch [] = new ≡ old
-  AlikeOn old new dispatch (s ∷ up) = Alike spans attaches kept is_whole old new dispatch × (new.sites ≡ old.sites)
+  AlikeOn old new dispatch (s ∷ up) = Alike spans attaches kept is_whole old new dispatch × (new.sites ≡ old.sites) × (seen recorded no_recording new dispatch ≡ seen recorded no_recording old dispatch)
 
-  pub alike_on : (same : S → S → Type 0) → ((old new : Worlds S) (dispatch : ℕ) → Replaced same old new dispatch → Alike spans attaches kept is_whole old new dispatch)
+  abbrev pub SameRecorded : (S → S → Type 0) → Type 0
+  SameRecorded same = (old new : Worlds S) (dispatch : ℕ) → Replaced same old new dispatch → seen recorded no_recording new dispatch ≡ seen recorded no_recording old dispatch
+
+  pub alike_on : (same : S → S → Type 0) → ((old new : Worlds S) (dispatch : ℕ) → Replaced same old new dispatch → Alike spans attaches kept is_whole old new dispatch) → SameRecorded same
       → (old new : Worlds S) (dispatch : ℕ) (line : Scope) (held : Held) → held ≡ held_of dispatch line → ReplacedOn (λ id s t. same s t) old new held → AlikeOn old new dispatch line
-  alike_on same law old new dispatch [] held is did = subst (λ (h : Held). ReplacedOn (λ id s t. same s t) old new h) is did
-  alike_on same law old new dispatch (s ∷ up) held is did =
+  alike_on same law records old new dispatch [] held is did = subst (λ (h : Held). ReplacedOn (λ id s t. same s t) old new h) is did
+  alike_on same law records old new dispatch (s ∷ up) held is did =
       let r = subst (λ (h : Held). ReplacedOn (λ id s t. same s t) old new h) is did in
-      (law old new dispatch r, ap (λ (w : Worlds S). w.sites) r.others)
+      (law old new dispatch r, ap (λ (w : Worlds S). w.sites) r.others, records old new dispatch r)
 
-  pub alike_line : (old new : Worlds S) (dispatch : ℕ) (line : Scope) → AlikeOn old new dispatch line → Alike spans attaches kept is_whole old new dispatch × (new.sites ≡ old.sites)
+  pub alike_line : (old new : Worlds S) (dispatch : ℕ) (line : Scope) → AlikeOn old new dispatch line → Alike spans attaches kept is_whole old new dispatch × (new.sites ≡ old.sites) × (seen recorded no_recording new dispatch ≡ seen recorded no_recording old dispatch)
   alike_line old new dispatch [] same = (record {
     spans_same = ap (λ (w : Worlds S). spans_in spans w dispatch) same;
     attaches_same = ap (λ (w : Worlds S). seen attaches false w dispatch) same;
     kept_same = ap (λ (w : Worlds S). kept_in kept w dispatch) same;
     count = ap (λ (w : Worlds S). length w.subscribers) same;
     whole = λ has. subst (λ (w : Worlds S). Has is_whole w dispatch) (sym same) has;
-  }, ap (λ (w : Worlds S). w.sites) same)
+  }, ap (λ (w : Worlds S). w.sites) same, ap (λ (w : Worlds S). seen recorded no_recording w dispatch) same)
   alike_line old new dispatch (s ∷ up) same = same
 
   -- after a refusal for want of memory
-  pub state_alike : (old new : Worlds S) (dispatch : ℕ) (level : LevelFilter) (lanes : List Lane) (hs : List (Option Handle)) (gs gs' : List (Option Guard)) (moment : ℕ) → Alike spans attaches kept is_whole old new dispatch → new.sites ≡ old.sites
-      → (n : ℕ) (before later : Lane) → n < length lanes → before ≡ get_or lanes n before → later.id ≡ before.id → later.contexts.live ≡ before.contexts.live → gs' ≡ gs
-      → state_of spans new dispatch level (set lanes n later) hs gs' moment ≡ state_of spans old dispatch level lanes hs gs moment
-  state_alike old new dispatch level lanes hs gs gs' moment same sites n before later within is id live guards_same =
-      rw (same.spans_same, sites, lanes_same lanes n before later within is (same_lane before later id live), ids_same lanes n before later within is id, guards_same) refl
+  pub state_alike : (old new : Worlds S) (dispatch : ℕ) (level : LevelFilter) (lanes : List Lane) (hs : List (Option Handle)) (gs gs' : List (Option Guard)) (moment : ℕ) → Alike spans attaches kept is_whole old new dispatch → new.sites ≡ old.sites → seen recorded no_recording new dispatch ≡ seen recorded no_recording old dispatch
+      → (n : ℕ) (before later : Lane) → n < length lanes → before ≡ get_or lanes n before → later.id ≡ before.id → later.name ≡ before.name → later.contexts.live ≡ before.contexts.live → gs' ≡ gs
+      → state_of spans recorded new dispatch level (set lanes n later) hs gs' moment ≡ state_of spans recorded old dispatch level lanes hs gs moment
+  state_alike old new dispatch level lanes hs gs gs' moment same sites records n before later within is id name live guards_same =
+      rw (same.spans_same, sites, records, lanes_same lanes n before later within is (same_lane before later id live), ids_same lanes n before later within is id, names_same lanes n before later within is name, guards_same) refl
 
   pub kept_alike : (old new : Worlds S) (k next : State) → IsKept kept is_whole old k → next ≡ k → Alike spans attaches kept is_whole old new k.dispatch → IsKept kept is_whole new next
   kept_alike old new k next inv same alike = subst (λ (x : State). IsKept kept is_whole new x) (sym same) (record {
@@ -135,18 +149,19 @@ module _ {S : Type 0} (spans : S → Spans) (attaches : S → Bool) (kept : S �
     lanes = subst (λ (f : ℕ → ℕ → ℕ). LanesFit f k.lanes) (sym alike.kept_same) inv.lanes;
     tables = inv.tables;
     fits = inv.fits;
+    recording = inv.recording;
   })
 
   -- after a refusal for want of room what is kept is as it was
-  module _ (same : S → S → Type 0) (law : (old new : Worlds S) (dispatch : ℕ) → Replaced same old new dispatch → Alike spans attaches kept is_whole old new dispatch)
-      (old new : Worlds S) (dispatch : ℕ) (level : LevelFilter) (lanes : List Lane) (hs : List (Option Handle)) (gs gs' : List (Option Guard)) (m : ℕ) (inv : IsKept kept is_whole old (state_of spans old dispatch level lanes hs gs m))
+  module _ (same : S → S → Type 0) (law : (old new : Worlds S) (dispatch : ℕ) → Replaced same old new dispatch → Alike spans attaches kept is_whole old new dispatch) (records : SameRecorded same)
+      (old new : Worlds S) (dispatch : ℕ) (level : LevelFilter) (lanes : List Lane) (hs : List (Option Handle)) (gs gs' : List (Option Guard)) (m : ℕ) (inv : IsKept kept is_whole old (state_of spans recorded old dispatch level lanes hs gs m))
       (handle : ℕ) (named : Handle) (found : slot_at hs handle ≡ Some named) (did : ReplacedOn (λ id s t. same s t) old new named.held)
       (n : ℕ) (before later : Lane) (within : n < length lanes) (seen_is : before ≡ get_or lanes n before) (lane : LeavesLane before later) (guards_same : gs' ≡ gs) where
-    its_alike : Alike spans attaches kept is_whole old new dispatch × (new.sites ≡ old.sites)
-    its_alike = let line = find (held_of dispatch) (map held_by hs) inv.tables.handles handle named.held inv.fits.handle_slots (held_slot hs handle named found) in alike_line old new dispatch line.at (alike_on same law old new dispatch line.at named.held line.is did)
+    its_alike : Alike spans attaches kept is_whole old new dispatch × (new.sites ≡ old.sites) × (seen recorded no_recording new dispatch ≡ seen recorded no_recording old dispatch)
+    its_alike = let line = find (held_of dispatch) (map held_by hs) inv.tables.handles handle named.held inv.fits.handle_slots (held_slot hs handle named found) in alike_line old new dispatch line.at (alike_on same law records old new dispatch line.at named.held line.is did)
 
-    pub refused_state : state_of spans new dispatch level (set lanes n later) hs gs' m ≡ state_of spans old dispatch level lanes hs gs m
-    refused_state = state_alike old new dispatch level lanes hs gs gs' m its_alike.0 its_alike.1 n before later within seen_is lane.id lane.live guards_same
+    pub refused_state : state_of spans recorded new dispatch level (set lanes n later) hs gs' m ≡ state_of spans recorded old dispatch level lanes hs gs m
+    refused_state = state_alike old new dispatch level lanes hs gs gs' m its_alike.0 its_alike.1 its_alike.2 n before later within seen_is lane.id lane.name lane.live guards_same
 
-    pub refused_kept : IsKept kept is_whole new (state_of spans new dispatch level (set lanes n later) hs gs' m)
-    refused_kept = kept_alike old new (state_of spans old dispatch level lanes hs gs m) _ inv refused_state its_alike.0
+    pub refused_kept : IsKept kept is_whole new (state_of spans recorded new dispatch level (set lanes n later) hs gs' m)
+    refused_kept = kept_alike old new (state_of spans recorded old dispatch level lanes hs gs m) _ inv refused_state its_alike.0

@@ -179,7 +179,7 @@ module _ (k : State) (t : Tables) (fits : Fits k t) where
 
 -- ---- what a drop closes
 
-set_open : (hs : List (Option Scope)) (n s : ℕ) (line : Scope) → slot_at hs n ≡ Some line → is_open hs s ≡ (is_in s line || is_open (slice_set hs n None) s)
+pub set_open : (hs : List (Option Scope)) (n s : ℕ) (line : Scope) → slot_at hs n ≡ Some line → is_open hs s ≡ (is_in s line || is_open (slice_set hs n None) s)
 set_open [] n s line there = absurd (cc there)
 set_open (o ∷ hs) zero s line there = ap (λ (x : Option Scope). holds s x || is_open hs s) there
 set_open (o ∷ hs) (suc n) s line there = ap (λ b. holds s o || b) (set_open hs n s line there) ∙ or_turn (holds s o) (is_in s line) (is_open (slice_set hs n None) s)
@@ -189,7 +189,7 @@ set_open (o ∷ hs) (suc n) s line there = ap (λ b. holds s o || b) (set_open h
     or_turn true false c = refl
     or_turn false b c = refl
 
-in_filter : (p : ℕ → Bool) (line : Scope) (s : ℕ) → is_in s (filter p line) ≡ (is_in s line && p s)
+pub in_filter : (p : ℕ → Bool) (line : Scope) (s : ℕ) → is_in s (filter p line) ≡ (is_in s line && p s)
 in_filter p [] s = refl
 in_filter p (x ∷ line) s = elim (cases_Bool (p x)) [
   | inl passes ↦ ap (λ (xs : Scope). is_in s xs) (cond-true {A = Scope} (p x) (x ∷ filter p line) (filter p line) passes) ∙ ap (λ b. (x == s) || b) (in_filter p line s) ∙ here (cases_Bool (x == s)) (λ e. ap p (sym (eqb-true x s e)) ∙ passes)

@@ -18,7 +18,7 @@ use Rattle.span_pipeline.specs.Setups.{Setup}
 use Rattle.span_pipeline.specs.Tables.{Scope, Tables, History, tables, after, no_tables, slot_at}
 use Rattle.span_pipeline.specs.Effects.{Resolved, named, is_bad_moment, effect_of, effect_of_call}
 use Rattle.span_pipeline.specs.Refusals.{refused_entry}
-use Rattle.span_pipeline.specs.Fits.{State, Fits, Served, Recorded, IsRefusal, is_room, held_by, held_of, laned}
+use Rattle.span_pipeline.specs.Fits.{State, Fits, StandsFor, Served, Recorded, IsRefusal, is_room, held_by, held_of, laned}
 
 -- a handle that isn't there
 pub refuses_unknown : (view k : State) → view ≡ k → (hs : List (Option Handle)) → view.handles ≡ map held_by hs → (handle : ℕ) → slot_at hs handle ≡ None → (t : Tables) → Fits k t → (go : Scope → Resolved)
@@ -52,13 +52,14 @@ effect_is view k is lanes ids before moment t fits request good within =
     cond-false {A = Resolved} (is_bad_moment t.moment request.at) _ _ (ap (λ (n : ℕ). is_bad_moment n request.at) (sym latest) ∙ good)
     ∙ ap (λ o. named what.Lane o (λ (id : ℕ). effect_of_call k.setup t request.at request.lane request.call)) at.1
 
-pub steps_ok : (result : Result Reply Refusal) (whole call : Resolved) (h : History) (old new : State) → whole ≡ call → IfOk result (Served call (tables h) old new) → IfOk result (Recorded whole h old new)
+pub steps_ok : (result : Result Reply Refusal) (whole call : Resolved) (h : History) (old new : State) → whole ≡ call → IfOk result (Served call (tables old.setup.layer h) old new) → IfOk result (Recorded whole h old new)
 steps_ok (Ok reply) whole call h old new same served = record {
   effect = served.effect;
   is = same ∙ served.is;
   reply_is = served.reply_is;
   setup = served.setup;
-  fits = subst (Fits new) (sym (fold_push after no_tables h served.effect)) served.fits;
+  records = served.records;
+  stands = subst (StandsFor new) (sym (fold_push after (no_tables old.setup.layer) h served.effect)) served.stands;
 }
 steps_ok (Err error) whole call h old new same served = tt
 

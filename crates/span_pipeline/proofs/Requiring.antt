@@ -14,6 +14,7 @@ use Rattle.span_handles.specs.Handles.{Handle, Held, HasOn, IsKnown}
 use Rattle.span_handles.specs.Entries.{IsThere}
 use Rattle.span_pipeline.specs.declared.slots.Guard.{Guard}
 use Rattle.span_pipeline.specs.Setups.{id_at}
+use Rattle.otel_layer.specs.Recording.{Recording}
 use Rattle.span_pipeline.specs.Tables.{Scope, Guarded, slot_at, own}
 use Rattle.span_pipeline.specs.Balance.{named_by, opened_on, opened_by}
 use Rattle.span_pipeline.specs.Fits.{state_of, setup_of, laned, held_by, IsKept, held_of, guard_of}
@@ -26,10 +27,10 @@ use Rattle.span_pipeline.proofs.Keeping.{are_attached, id_seen}
 the_held : (a b : Held) → ◌≡◌ {A = Option Held} (Some a) (Some b) → a ≡ b
 the_held a b e = cc e
 
-module _ {S : Type 0} (spans : S → Spans) (kept : S → ℕ → ℕ → ℕ) (is_whole : S → Type 0) (world : Worlds S) (dispatch : ℕ) (level : LevelFilter) (lanes : List Lane) (handles : List (Option Handle)) (guards : List (Option Guard)) (moment : ℕ)
-    (inv : IsKept kept is_whole world (state_of spans world dispatch level lanes handles guards moment)) where
+module _ {S : Type 0} (spans : S → Spans) (recorded : S → Recording) (kept : S → ℕ → ℕ → ℕ) (is_whole : S → Type 0) (world : Worlds S) (dispatch : ℕ) (level : LevelFilter) (lanes : List Lane) (handles : List (Option Handle)) (guards : List (Option Guard)) (moment : ℕ)
+    (inv : IsKept kept is_whole world (state_of spans recorded world dispatch level lanes handles guards moment)) where
   abbrev ids : List ℕ
-  ids = (setup_of world.sites lanes level).ids
+  ids = (state_of spans recorded world dispatch level lanes handles guards moment).setup.ids
 
   abbrev sp : Spans
   sp = spans_in spans world dispatch

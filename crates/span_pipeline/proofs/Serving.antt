@@ -1,30 +1,61 @@
 -- What calls on the span of a scope keep, whatever their kind.
-use Rattle.std.proofs.Common.{◌≡◌, ℕ, ◌<◌, List, [], ◌∷◌, length, Bool, get_or, set, Option, Some, Err, map, refl, sym, ap, subst, ◌∙◌, arith}
+use Rattle.std.proofs.Common.{◌≡◌, ℕ, ◌<◌, List, [], ◌∷◌, length, Bool, get_or, set, Option, Some, None, false, Ok, Err, map, refl, sym, ap, subst, ◌∙◌, arith}
 use Rattle.std.proofs.lemmas.List.{length-set, length-map}
 use Rattle.trace_base.specs.declared.lane.Lane.{Lane}
 use Rattle.trace_base.specs.Gate.{Worlds}
-use Rattle.trace_base.specs.Spans.{Spans}
+use Rattle.trace_base.specs.Spans.{Spans, span_at}
 use Rattle.trace_base.specs.Calls.{SubscriberCall}
 use Rattle.trace_base.specs.Contexts.{KeepsAttached, Lanes}
 use Rattle.span_handles.specs.Worlds.{Shown, kept_in, Has}
 use Rattle.span_pipeline.specs.declared.reply.Reply.{Reply}
 use Rattle.span_pipeline.specs.declared.reply.Refusal.{Refusal}
 use Rattle.span_pipeline.specs.declared.request.Call.{Call}
-use Rattle.span_pipeline.specs.Tables.{Scope, Tables, after}
+use Rattle.otel_layer.specs.declared.tokens.Token.{Token}
+use Rattle.std.specs.Prelude.{◌==◌, ◌≢◌}
+use Rattle.std.specs.List.{list_any}
+use Rattle.otel_layer.specs.Table.{told_at}
+use Rattle.otel_layer.specs.Recording.{Recording}
+use Rattle.span_pipeline.specs.Setups.{Setup}
+use Rattle.span_pipeline.specs.Tables.{Scope, Attached, Effect, Tables, after, recorded_by}
 use Rattle.span_pipeline.specs.Effects.{Resolved, effect_of_call}
-use Rattle.span_pipeline.specs.Fits.{State, laned, Fits, LanesFit, IsKept, Served}
+use Rattle.span_pipeline.specs.Fits.{State, Laned, laned, lane_at, Fits, StandsFor, RecordingFits, ContextsFit, LanesFit, IsKept, Served}
+use Rattle.span_pipeline.proofs.Known.{still_known}
+use Rattle.span_pipeline.proofs.Recordings.{recording_step}
 use Rattle.span_pipeline.proofs.Reading.{ShownOn}
 
 -- what is said of the fields is said of the value that they make
-pub by_view : (at lane : ℕ) (request : Call) (then : State) (answer : Reply) (view k : State) → view ≡ k → ((t : Tables) → Fits view t → Served (effect_of_call view.setup t at lane request) t view then answer)
-    → (t : Tables) → Fits k t → Served (effect_of_call k.setup t at lane request) t k then answer
-by_view at lane request then answer view k is serves = subst (λ (x : State). (t : Tables) → Fits x t → Served (effect_of_call x.setup t at lane request) t x then answer) is serves
+pub by_view : (at lane : ℕ) (request : Call) (then : State) (answer : Reply) (view k : State) → view ≡ k → ((t : Tables) → StandsFor view t → Served (effect_of_call view.setup t at lane request) t view then answer)
+    → (t : Tables) → StandsFor k t → Served (effect_of_call k.setup t at lane request) t k then answer
+by_view at lane request then answer view k is serves = subst (λ (x : State). (t : Tables) → StandsFor x t → Served (effect_of_call x.setup t at lane request) t x then answer) is serves
 
-pub by_view_refused : (at lane : ℕ) (request : Call) (given : Refusal) (view k : State) → view ≡ k → ((t : Tables) → Fits view t → effect_of_call view.setup t at lane request ≡ Err given)
-    → (t : Tables) → Fits k t → effect_of_call k.setup t at lane request ≡ Err given
-by_view_refused at lane request given view k is refuses = subst (λ (x : State). (t : Tables) → Fits x t → effect_of_call x.setup t at lane request ≡ Err given) is refuses
+pub by_view_refused : (at lane : ℕ) (request : Call) (given : Refusal) (view k : State) → view ≡ k → ((t : Tables) → StandsFor view t → effect_of_call view.setup t at lane request ≡ Err given)
+    → (t : Tables) → StandsFor k t → effect_of_call k.setup t at lane request ≡ Err given
+by_view_refused at lane request given view k is refuses = subst (λ (x : State). (t : Tables) → StandsFor x t → effect_of_call x.setup t at lane request ≡ Err given) is refuses
 
-module _ {S : Type 0} (spans : S → Spans) (attaches : S → Bool) (kept : S → ℕ → ℕ → ℕ) (is_whole : S → Type 0) (old new : Worlds S) where
+-- what the lanes' contexts have to fit
+abbrev pub AllFit : State → (ℕ → List Attached) → Type 0
+AllFit k contexts = (n : ℕ) → n < length k.lanes → ContextsFit k.setup.layer.activation (lane_at k.lanes n).id (lane_at k.lanes n).live k.recording.tokens (contexts (lane_at k.lanes n).id)
+
+-- a request is served where its effect makes what is kept
+pub serve : (k next : State) (t : Tables) (e : Effect) (resolved : Resolved) (answer : Reply) → StandsFor k t → resolved ≡ Ok e → answer ≡ e.reply → next.setup ≡ k.setup → (toks : List Token)
+    → next.recording ≡ record (recorded_by (length t.made) e k.recording) { tokens = toks } → Fits next (after t e) → ((s : ℕ) → 0 < (span_at next.spans.made s).holds → told_at s next.recording.spans ≢ None) → AllFit next (after t e).contexts → Served resolved t k next answer
+serve k next t e resolved answer stands is reply_is setup toks recorded fits known attached =
+    let step = recording_step k.recording next.recording t e stands.recording.recorded toks recorded in
+    record { effect = e; is = is; reply_is = reply_is; setup = setup; records = step.finished; stands = record { fits = fits; recording = record { recorded = step.open_is; known = known; attached = attached } } }
+
+-- where no span closes and none is made, those with holds are still known
+pub known_still : (k next : State) (t : Tables) (e : Effect) (toks : List Token) → next.recording ≡ record (recorded_by (length t.made) e k.recording) { tokens = toks } → RecordingFits k t → (s : ℕ) → list_any (λ x. x == s) e.closes ≡ false
+    → 0 < (span_at k.spans.made s).holds → told_at s next.recording.spans ≢ None
+known_still k next t e toks is fit s out live none = still_known (length t.made) s e k.recording out (fit.known s live) (ap (λ (r : Recording). told_at s r.spans) (sym is) ∙ none)
+
+-- where neither lanes nor open entries changed
+pub all_same : (k next : State) (contexts : ℕ → List Attached) → next.setup ≡ k.setup → next.lanes ≡ k.lanes → next.recording.tokens ≡ k.recording.tokens → AllFit k contexts → AllFit next contexts
+all_same k next contexts setup lanes tokens fit =
+    subst (λ (x : Setup). (n : ℕ) → n < length next.lanes → ContextsFit x.layer.activation (lane_at next.lanes n).id (lane_at next.lanes n).live next.recording.tokens (contexts (lane_at next.lanes n).id)) (sym setup)
+    (subst (λ (ls : List Laned). (n : ℕ) → n < length ls → ContextsFit k.setup.layer.activation (lane_at ls n).id (lane_at ls n).live next.recording.tokens (contexts (lane_at ls n).id)) (sym lanes)
+    (subst (λ (ts : List Token). (n : ℕ) → n < length k.lanes → ContextsFit k.setup.layer.activation (lane_at k.lanes n).id (lane_at k.lanes n).live ts (contexts (lane_at k.lanes n).id)) (sym tokens) fit))
+
+module _ {S : Type 0} (spans : S → Spans) (recorded : S → Recording) (attaches : S → Bool) (kept : S → ℕ → ℕ → ℕ) (is_whole : S → Type 0) (old new : Worlds S) where
   -- what is kept besides what fits the tables
   pub kept_served : (k next : State) (inv : IsKept kept is_whole old k) (resolved : Resolved) (answer : Reply) → Served resolved inv.tables k next answer → next.dispatch ≡ k.dispatch → length new.subscribers ≡ length old.subscribers
       → (Has is_whole old k.dispatch → Has is_whole new k.dispatch) → LanesFit (kept_in kept new k.dispatch) next.lanes → IsKept kept is_whole new next
@@ -33,26 +64,29 @@ module _ {S : Type 0} (spans : S → Spans) (attaches : S → Bool) (kept : S �
     whole = subst (λ (d : ℕ). Has is_whole new d) (sym dispatch) (whole inv.whole);
     lanes = subst (λ (d : ℕ). LanesFit (kept_in kept new d) next.lanes) (sym dispatch) lanes;
     tables = after inv.tables served.effect;
-    fits = served.fits;
+    fits = served.stands.fits;
+    recording = served.stands.recording;
   }
 
   -- what one call on a scope keeps
-  pub call_count : (dispatch : ℕ) (line : Scope) (call : ℕ → SubscriberCall) → ShownOn spans attaches kept is_whole old new dispatch line call → length new.subscribers ≡ length old.subscribers
+  pub call_count : (dispatch : ℕ) (line : Scope) (call : ℕ → SubscriberCall) → ShownOn spans recorded attaches kept is_whole old new dispatch line call → length new.subscribers ≡ length old.subscribers
   call_count dispatch [] call same = ap (λ (w : Worlds S). length w.subscribers) same
   call_count dispatch (s ∷ up) call shown = shown.0.count
 
-  pub call_sites : (dispatch : ℕ) (line : Scope) (call : ℕ → SubscriberCall) → ShownOn spans attaches kept is_whole old new dispatch line call → new.sites ≡ old.sites
+  pub call_sites : (dispatch : ℕ) (line : Scope) (call : ℕ → SubscriberCall) → ShownOn spans recorded attaches kept is_whole old new dispatch line call → new.sites ≡ old.sites
   call_sites dispatch [] call same = ap (λ (w : Worlds S). w.sites) same
   call_sites dispatch (s ∷ up) call shown = shown.1
 
-  pub call_whole : (dispatch : ℕ) (line : Scope) (call : ℕ → SubscriberCall) → ShownOn spans attaches kept is_whole old new dispatch line call → Has is_whole old dispatch → Has is_whole new dispatch
+  pub call_whole : (dispatch : ℕ) (line : Scope) (call : ℕ → SubscriberCall) → ShownOn spans recorded attaches kept is_whole old new dispatch line call → Has is_whole old dispatch → Has is_whole new dispatch
   call_whole dispatch [] call same has = subst (λ (w : Worlds S). Has is_whole w dispatch) (sym same) has
   call_whole dispatch (s ∷ up) call shown has = shown.0.whole has
 
-  pub call_lanes : (dispatch : ℕ) (line : Scope) (call : ℕ → SubscriberCall) (before later : Lane) → ((s : ℕ) (b : Bool) (f g : ℕ → ℕ → ℕ) → Lanes b f (call s) g → (later.id ≡ before.id) × KeepsAttached f before later g)
-      → (line ≡ [] → later ≡ before) → ShownOn spans attaches kept is_whole old new dispatch line call → (later.id ≡ before.id) × KeepsAttached (kept_in kept old dispatch) before later (kept_in kept new dispatch)
+  pub call_lanes : (dispatch : ℕ) (line : Scope) (call : ℕ → SubscriberCall) (before later : Lane) → ((s : ℕ) (b : Bool) (f g : ℕ → ℕ → ℕ) → Lanes b f (call s) g → (later.id ≡ before.id) × (later.name ≡ before.name) × KeepsAttached f before later g)
+      → (line ≡ [] → later ≡ before) → ShownOn spans recorded attaches kept is_whole old new dispatch line call
+      → (later.id ≡ before.id) × (later.name ≡ before.name) × KeepsAttached (kept_in kept old dispatch) before later (kept_in kept new dispatch)
   call_lanes dispatch [] call before later step none same = (
     ap (λ (l : Lane). l.id) (none refl),
+    ap (λ (l : Lane). l.name) (none refl),
     subst (λ (w : Worlds S). KeepsAttached (kept_in kept old dispatch) before later (kept_in kept w dispatch)) (sym same) (subst (λ (l : Lane). KeepsAttached (kept_in kept old dispatch) before l (kept_in kept old dispatch)) (sym (none refl)) (λ l n. refl)),
   )
   call_lanes dispatch (s ∷ up) call before later step none shown = step s _ _ _ shown.0.lanes

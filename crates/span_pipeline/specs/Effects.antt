@@ -3,6 +3,19 @@ use Rattle.std.specs.Prelude.{ℕ, List, [], ◌∷◌, length, filter, Bool, tr
 use Rattle.std.specs.List.{list_any}
 use Rattle.trace_base.specs.Level.{is_within}
 use Rattle.trace_base.specs.Spans.{is_in, current_of}
+use Rattle.std.specs.Option.{option_to_list}
+use Rattle.otel_base.specs.declared.context.Context.{Context}
+use Rattle.otel_base.specs.Stack.{empty_context}
+use Rattle.otel_state.specs.declared.op.Op.{Op}
+use Rattle.otel_state.specs.declared.op.Op.TheVariants as ops
+use Rattle.otel_state.specs.States.{Told}
+use Rattle.otel_layer.specs.Steps.{above, context_from, made_told}
+use Rattle.otel_layer.specs.Table.{told_at, own_or}
+use Rattle.otel_layer.specs.Recording.{Recording, with_start, with_starts}
+use Rattle.trace_base.specs.declared.field.ValueSet.{ValueSet}
+use Rattle.trace_base.specs.declared.lane.Lane.{Lane}
+use Rattle.trace_base.specs.declared.span.Parent.{Parent}
+use Rattle.trace_base.specs.declared.span.Parent.TheVariants as parent
 use Rattle.trace_base.specs.declared.callsite.Callsite.{Callsite}
 use Rattle.span_pipeline.specs.declared.reply.Reply.TheVariants as reply
 use Rattle.span_pipeline.specs.declared.reply.Refusal.{Refusal}
@@ -15,8 +28,8 @@ use Rattle.span_pipeline.specs.declared.request.Call.{Call}
 use Rattle.span_pipeline.specs.declared.request.Call.TheVariants as call
 use Rattle.span_pipeline.specs.declared.request.Request.{Request}
 use Rattle.span_pipeline.specs.declared.request.TheConstants.{LAST_MOMENT}
-use Rattle.span_pipeline.specs.Setups.{Setup, id_at, span_site}
-use Rattle.span_pipeline.specs.Tables.{Scope, Made, Guarded, Effect, quiet, Tables, slot_at, own, scope_of}
+use Rattle.span_pipeline.specs.Setups.{Setup, id_at, name_at, span_site}
+use Rattle.span_pipeline.specs.Tables.{Scope, Made, Done, Attached, Guarded, Effect, quiet, Tables, slot_at, own, scope_of}
 
 abbrev pub Resolved : Type 0
 Resolved = Result Effect Refusal
@@ -62,19 +75,52 @@ scope_at t lane (place.Under handle) = slot_at t.handles handle
 abbrev pub declines : Tables → ℕ → ℕ → Effect
 declines t at lane = record (quiet at lane (reply.Made false (length t.handles))) { new_handle = Some [] }
 
--- a span under a scope, and a handle of it
-abbrev pub makes_span : Tables → ℕ → ℕ → ℕ → Scope → Effect
-makes_span t at lane site up =
+-- the place of a new span, by what the request names
+abbrev pub parent_at : Place → Scope → Parent
+parent_at place.Root up = parent.Root
+parent_at place.Contextual up = parent.Current
+parent_at (place.Under handle) [] = parent.Root
+parent_at (place.Under handle) (s ∷ up) = parent.Of s
+
+-- the context that was attached last, the empty one where none is
+abbrev pub last_attached : Context → List Attached → Context
+last_attached context [] = context
+last_attached context (a ∷ items) = last_attached a.context items
+
+-- where no span gives the parent's context: for a contextual span the lane's last one
+abbrev pub context_around : List Attached → Parent → Context
+context_around items parent.Root = empty_context
+context_around items (parent.Of s) = empty_context
+context_around items parent.Current = last_attached empty_context items
+
+-- the lane at a place, as a new span tells it
+abbrev pub lane_in : Setup → ℕ → Lane
+lane_in setup lane = record { id = id_at setup.ids lane; name = name_at setup.names lane; default = None; contexts = record { live = []; room = 0 } }
+
+abbrev pub no_values : ValueSet
+no_values = record { pairs = [] }
+
+-- a new span at a place: what gives its parent's context starts before
+abbrev pub made_at : Setup → Tables → ℕ → ℕ → Callsite → Parent → Told
+made_at setup t at lane callsite p =
+    let source = above setup.layer.activation p (current_of (t.entries (id_at setup.ids lane))) in
+    let r = with_starts source at t.recording in
+    made_told callsite (lane_in setup lane) no_values
+    (context_from r.spans (context_around (t.contexts (id_at setup.ids lane)) p) source) at r.settings r.counting
+
+abbrev pub makes_span : Setup → Tables → ℕ → ℕ → ℕ → Callsite → Place → Scope → Effect
+makes_span setup t at lane site callsite under up =
     let scope : Scope = length t.made ∷ up in
-    record (quiet at lane (reply.Made true (length t.handles))) {
+    record (quiet at (id_at setup.ids lane) (reply.Made true (length t.handles))) {
       new_handle = Some scope;
-      made = Some (record { site = site; scope = scope; at = at });
+      made = Some (record { site = site; scope = scope; told = made_at setup t at lane callsite (parent_at under up) });
+      starts = option_to_list (above setup.layer.activation (parent_at under up) (current_of (t.entries (id_at setup.ids lane))));
     }
 
 -- a callsite within the level gives a span, any other a disabled handle
-abbrev pub makes : Setup → Tables → ℕ → ℕ → ℕ → Callsite → Scope → Effect
-makes setup t at lane site callsite up =
-    if is_within callsite.level setup.level then makes_span t at lane site up else declines t at lane
+abbrev pub makes : Setup → Tables → ℕ → ℕ → ℕ → Callsite → Place → Scope → Effect
+makes setup t at lane site callsite under up =
+    if is_within callsite.level setup.level then makes_span setup t at lane site callsite under up else declines t at (id_at setup.ids lane)
 
 -- another handle of a scope: enabled if the scope has a span
 abbrev pub clones : Tables → ℕ → ℕ → Scope → Effect
@@ -92,15 +138,36 @@ drops_unless borrowed effect = if borrowed then Err refusal.InUse else Ok effect
 
 -- ---- entries
 
--- an entry of a handle's span on the lane at a place, which has an id
-abbrev pub enters : Tables → ℕ → ℕ → ℕ → ℕ → Scope → Effect
-enters t at lane place handle scope = record (quiet at lane (reply.Guard (length t.guards))) {
-  new_guard = Some (record { handle = handle; lane = place; owns = false; scope = scope });
+-- an op on a scope's own span, if it has one
+abbrev pub on : Scope → Op → List Done
+on [] op = []
+on (s ∷ up) op = record { span = s; op = op } ∷ []
+
+-- with activation an entry starts its span and attaches the span's own context
+abbrev pub active : Bool → Scope → Option ℕ
+active activation scope = if activation then own scope else None
+
+abbrev pub attached_by : Recording → ℕ → Option ℕ → Option Attached
+attached_by r at None = None
+attached_by r at (Some s) = Some (record { span = s; context = own_or empty_context (told_at s (with_start s at r).spans) })
+
+-- an entry of a handle's span on the lane at a place
+abbrev pub enters : Setup → Tables → ℕ → ℕ → ℕ → Scope → Effect
+enters setup t at lane handle scope = record (quiet at (id_at setup.ids lane) (reply.Guard (length t.guards))) {
+  new_guard = Some (record { handle = handle; lane = lane; owns = false; scope = scope });
+  starts = option_to_list (active setup.layer.activation scope);
+  ops = on scope ops.Enter;
+  attach = attached_by t.recording at (active setup.layer.activation scope);
   entry = own scope;
 }
 
-abbrev pub exits : ℕ → ℕ → ℕ → Scope → Effect
-exits at lane guard scope = record (quiet at lane reply.Done) { spent_guard = Some guard; exit = own scope }
+abbrev pub exits : Setup → ℕ → ℕ → ℕ → Scope → Effect
+exits setup at lane guard scope = record (quiet at lane reply.Done) {
+  spent_guard = Some guard;
+  ops = on scope ops.Exit;
+  detach = active setup.layer.activation scope;
+  exit = own scope;
+}
 
 -- a guard is spent on its own lane
 abbrev pub exits_on : ℕ → ℕ → Effect → Resolved
@@ -113,17 +180,17 @@ abbrev pub effect_of_call : Setup → Tables → ℕ → ℕ → Call → Resolv
 effect_of_call setup t at lane (call.New site under) =
     named what.Site (span_site setup.sites site)
     (λ callsite. named what.Handle (scope_at t (id_at setup.ids lane) under)
-    (λ up. Ok (makes setup t at (id_at setup.ids lane) site callsite up)))
+    (λ up. Ok (makes setup t at lane site callsite under up)))
 effect_of_call setup t at lane (call.Clone handle) =
     named what.Handle (slot_at t.handles handle) (λ scope. Ok (clones t at (id_at setup.ids lane) scope))
 effect_of_call setup t at lane (call.Drop handle) =
     named what.Handle (slot_at t.handles handle)
     (λ scope. drops_unless (is_borrowed t.guards handle) (drops t at (id_at setup.ids lane) handle scope))
 effect_of_call setup t at lane (call.Enter handle) =
-    named what.Handle (slot_at t.handles handle) (λ scope. Ok (enters t at (id_at setup.ids lane) lane handle scope))
+    named what.Handle (slot_at t.handles handle) (λ scope. Ok (enters setup t at lane handle scope))
 effect_of_call setup t at lane (call.Exit guard) =
     named what.Guard (slot_at t.guards guard)
-    (λ guarded. exits_on guarded.lane lane (exits at (id_at setup.ids lane) guard guarded.scope))
+    (λ guarded. exits_on guarded.lane lane (exits setup at (id_at setup.ids lane) guard guarded.scope))
 effect_of_call setup t at lane call.Current = Err refusal.Later
 effect_of_call setup t at lane (call.OrCurrent handle) = Err refusal.Later
 effect_of_call setup t at lane (call.Entered handle) = Err refusal.Later

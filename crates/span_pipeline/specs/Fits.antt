@@ -1,5 +1,5 @@
 -- What a pipeline keeps, and when it fits the tables of a history.
-use Rattle.std.specs.Prelude.{◌≡◌, ℕ, ◌+◌, ◌<◌, ◌≤◌, ◌==◌, ◌≢◌, ◌^◌, Bool, true, false, List, [], ◌∷◌, ◌++◌, length, map, count_by, Option, Some, None, option_map, Ok, Err, slice_index_or}
+use Rattle.std.specs.Prelude.{◌≡◌, ℕ, ◌+◌, ◌<◌, ◌≤◌, ◌==◌, ◌≢◌, ◌^◌, Bool, true, false, List, [], ◌∷◌, ◌++◌, length, map, filter, if◌then◌else◌, count_by, Option, Some, None, option_map, Ok, Err, slice_index_or}
 use Rattle.otel_base.specs.declared.context.Context.{Context}
 use Rattle.trace_base.specs.declared.lane.Lane.{Lane}
 use Rattle.trace_base.specs.declared.callsite.Callsite.{Callsite}
@@ -7,7 +7,13 @@ use Rattle.trace_base.specs.declared.level.LevelFilter.{LevelFilter}
 use Rattle.trace_base.specs.Gate.{Worlds}
 use Rattle.trace_base.specs.Spans.{Spans, Span, span_at}
 use Rattle.trace_base.specs.Sound.{OneEach}
-use Rattle.span_handles.specs.Worlds.{Has, spans_in, kept_in}
+use Rattle.otel_base.specs.Stack.{has}
+use Rattle.otel_state.specs.declared.settings.LayerSettings.{LayerSettings}
+use Rattle.otel_layer.specs.declared.tokens.Token.{Token}
+use Rattle.otel_layer.specs.Core.{is_token}
+use Rattle.otel_layer.specs.Table.{told_at}
+use Rattle.otel_layer.specs.Recording.{Recording, no_recording}
+use Rattle.span_handles.specs.Worlds.{Has, seen, spans_in, kept_in}
 use Rattle.span_handles.specs.Handles.{Handle, Held}
 use Rattle.span_pipeline.specs.declared.slots.Guard.{Guard}
 use Rattle.span_pipeline.specs.declared.reply.Reply.{Reply}
@@ -15,7 +21,7 @@ use Rattle.span_pipeline.specs.declared.reply.Refusal.{Refusal}
 use Rattle.span_pipeline.specs.declared.reply.Refusal.TheVariants as refusal
 use Rattle.span_pipeline.specs.Setups.{Setup, id_at}
 use Rattle.span_pipeline.specs.Balance.{Balanced, named_by, opened_by}
-use Rattle.span_pipeline.specs.Tables.{Scope, Made, Guarded, Effect, Tables, History, tables, after, slot_at, own, made_of}
+use Rattle.span_pipeline.specs.Tables.{Scope, Made, Attached, Guarded, Effect, Tables, History, tables, after, open_part, records_of, slot_at, own, made_of}
 use Rattle.span_pipeline.specs.Effects.{Resolved}
 
 -- a lane, without its room
@@ -37,6 +43,7 @@ pub record State : Type 0 where
   pub setup : Setup
   pub spans : Spans
   pub lanes : List Laned
+  pub recording : Recording
   pub dispatch : ℕ
   pub handles : List (Option Held)
   pub guards : List (Option Guard)
@@ -46,14 +53,15 @@ pub record State : Type 0 where
 abbrev pub held_by : Option Handle → Option Held
 held_by slot = option_map (λ h. h.held) slot
 
-abbrev pub setup_of : List Callsite → List Lane → LevelFilter → Setup
-setup_of sites lanes level = record { sites = sites; ids = map (λ l. l.id) lanes; level = level }
+abbrev pub setup_of : List Callsite → List Lane → LevelFilter → LayerSettings → Setup
+setup_of sites lanes level layer = record { sites = sites; ids = map (λ l. l.id) lanes; names = map (λ l. l.name) lanes; level = level; layer = layer }
 
-abbrev pub state_of : {S : Type 0} → (S → Spans) → Worlds S → ℕ → LevelFilter → List Lane → List (Option Handle) → List (Option Guard) → ℕ → State
-state_of spans world dispatch level lanes handles guards moment = record {
-  setup = setup_of world.sites lanes level;
+abbrev pub state_of : {S : Type 0} → (S → Spans) → (S → Recording) → Worlds S → ℕ → LevelFilter → List Lane → List (Option Handle) → List (Option Guard) → ℕ → State
+state_of spans recorded world dispatch level lanes handles guards moment = record {
+  setup = setup_of world.sites lanes level (seen recorded no_recording world dispatch).settings;
   spans = spans_in spans world dispatch;
   lanes = map laned lanes;
+  recording = seen recorded no_recording world dispatch;
   dispatch = dispatch;
   handles = map held_by handles;
   guards = guards;
@@ -94,6 +102,34 @@ pub record LanesFit (kept : ℕ → ℕ → ℕ) (lanes : List Laned) : Type 0 w
   pub attached : (n number : ℕ) → n < length lanes
       → kept (lane_at lanes n).id number ≤ count_by (λ item. item.0 == number) (lane_at lanes n).live
 
+-- ---- what was recorded, and the contexts of lanes
+
+-- the numbers of the attaches that a span's entries made, by the contexts that are live
+abbrev pub numbers_of : ℕ → List (ℕ × Context) → List Attached → List (Option ℕ)
+numbers_of s [] items = []
+numbers_of s (x ∷ live) [] = []
+numbers_of s (x ∷ live) (a ∷ items) = if a.span == s then Some x.0 ∷ numbers_of s live items else numbers_of s live items
+
+-- the same by the layer's open entries
+abbrev pub tokens_of : ℕ → ℕ → List Token → List (Option ℕ)
+tokens_of lane s tokens = map (λ k. k.attached) (filter (is_token lane s) tokens)
+
+-- each live context has a number of its own
+abbrev pub AreDistinct : List (ℕ × Context) → Type 0
+AreDistinct [] = Unit {0}
+AreDistinct (x ∷ live) = (has x.0 live ≡ false) × AreDistinct live
+
+-- a lane's contexts are those that the history attached, and with activation each entry of a span keeps the number of its own
+pub record ContextsFit (activation : Bool) (lane : ℕ) (live : List (ℕ × Context)) (tokens : List Token) (items : List Attached) : Type 0 where
+  pub contexts : map (λ x. x.1) live ≡ map (λ a. a.context) items
+  pub distinct : AreDistinct live
+  pub tokens_are : activation ≡ true → (s : ℕ) → numbers_of s live items ≡ tokens_of lane s tokens
+
+pub record RecordingFits (k : State) (t : Tables) : Type 0 where
+  pub recorded : open_part k.recording ≡ t.recording
+  pub known : (s : ℕ) → 0 < (span_at k.spans.made s).holds → told_at s k.recording.spans ≢ None
+  pub attached : (n : ℕ) → n < length k.lanes → ContextsFit k.setup.layer.activation (lane_at k.lanes n).id (lane_at k.lanes n).live k.recording.tokens (t.contexts (lane_at k.lanes n).id)
+
 -- What is kept fits the tables of a history.
 pub record Fits (k : State) (t : Tables) : Type 0 where
   pub handle_slots : k.handles ≡ map (option_map (held_of k.dispatch)) t.handles
@@ -110,21 +146,29 @@ pub record Fits (k : State) (t : Tables) : Type 0 where
   pub few : length t.made ≤ length t.handles
   pub few_holds : (s : ℕ) → (span_at k.spans.made s).holds ≤ length t.handles + length t.guards
 
--- What every pipeline keeps: it fits the tables of some history.
+-- What is kept stands for a history with these tables: it fits them, and so do what was recorded and the lanes' contexts.
+pub record StandsFor (k : State) (t : Tables) : Type 0 where
+  pub fits : Fits k t
+  pub recording : RecordingFits k t
+
+-- What every pipeline keeps: it stands for some history.
 pub record IsKept {S : Type 0} (kept : S → ℕ → ℕ → ℕ) (is_whole : S → Type 0) (world : Worlds S) (k : State) : Type 0 where
   pub there : k.dispatch < length world.subscribers
   pub whole : Has is_whole world k.dispatch
   pub lanes : LanesFit (kept_in kept world k.dispatch) k.lanes
   pub tables : Tables
   pub fits : Fits k tables
+  pub recording : RecordingFits k tables
 
--- A reply is served where the request has an effect: the reply is the effect's, and what is kept fits one effect more.
+-- A reply is served where the request has an effect: the reply is the effect's, the records
+-- are those of the spans that close, and what is kept stands for one effect more.
 pub record Served (resolved : Resolved) (t : Tables) (old new : State) (reply : Reply) : Type 0 where
   pub effect : Effect
   pub is : resolved ≡ Ok effect
   pub reply_is : reply ≡ effect.reply
   pub setup : new.setup ≡ old.setup
-  pub fits : Fits new (after t effect)
+  pub records : new.recording.finished ≡ old.recording.finished ++ records_of t effect
+  pub stands : StandsFor new (after t effect)
 
 -- a refusal for want of room: of memory, or on a lane with as many contexts as may be
 abbrev pub is_room : Refusal → Bool
@@ -146,4 +190,5 @@ pub record Recorded (resolved : Resolved) (h : History) (old new : State) (reply
   pub is : resolved ≡ Ok effect
   pub reply_is : reply ≡ effect.reply
   pub setup : new.setup ≡ old.setup
-  pub fits : Fits new (tables (h ++ effect ∷ []))
+  pub records : new.recording.finished ≡ old.recording.finished ++ records_of (tables old.setup.layer h) effect
+  pub stands : StandsFor new (tables old.setup.layer (h ++ effect ∷ []))

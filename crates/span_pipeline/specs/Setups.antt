@@ -4,18 +4,24 @@ use Rattle.trace_base.specs.declared.callsite.Callsite.{Callsite}
 use Rattle.trace_base.specs.declared.callsite.Kind.{Kind}
 use Rattle.trace_base.specs.declared.callsite.Kind.TheVariants as kind
 use Rattle.trace_base.specs.declared.level.LevelFilter.{LevelFilter}
+use Rattle.otel_state.specs.declared.settings.LayerSettings.{LayerSettings}
 use Rattle.span_pipeline.specs.declared.settings.Settings.{Settings}
 use Rattle.span_pipeline.specs.Admission.{in_force}
 
--- the callsites, the ids of the lanes, and the level that is let through
+-- the callsites, the ids and the names of the lanes, the level that is let through, and what the layer tells
 pub record Setup : Type 0 where
   pub sites : List Callsite
   pub ids : List ℕ
+  pub names : List (Option (List ℕ))
   pub level : LevelFilter
+  pub layer : LayerSettings
 
 -- the id of the lane at a place
 abbrev pub id_at : List ℕ → ℕ → ℕ
 id_at ids lane = slice_index_or ids lane 0
+
+abbrev pub name_at : List (Option (List ℕ)) → ℕ → Option (List ℕ)
+name_at names lane = slice_index_or names lane None
 
 abbrev pub if_span : Callsite → Kind → Option Callsite
 if_span callsite kind.Span = Some callsite
@@ -27,7 +33,7 @@ span_site callsites site = option_and_then (λ callsite. if_span callsite callsi
 
 -- the same of the settings; and lanes have ids of their own
 abbrev pub setup_by : Settings → Setup
-setup_by settings = record { sites = settings.callsites; ids = map (λ l. l.0) settings.lanes; level = in_force settings.filter }
+setup_by settings = record { sites = settings.callsites; ids = map (λ l. l.0) settings.lanes; names = map (λ l. l.1) settings.lanes; level = in_force settings.filter; layer = settings.layer }
 
 abbrev pub HasOwnIds : List ℕ → Type 0
 HasOwnIds ids = (n m : ℕ) → n < length ids → m < length ids → id_at ids n ≡ id_at ids m → n ≡ m

@@ -1,5 +1,12 @@
 -- A history: for each request what it changed; and its tables. Spans are named by their numbers in the order of making.
-use Rattle.std.specs.Prelude.{ℕ, List, [], ◌∷◌, ◌++◌, fold, Bool, if◌then◌else◌, ◌==◌, Option, Some, None, option_map, slice_index_or, slice_set}
+use Rattle.std.specs.Prelude.{ℕ, List, [], ◌∷◌, ◌++◌, fold, length, Bool, false, if◌then◌else◌, ◌==◌, Option, Some, None, option_map, slice_index_or, slice_set}
+use Rattle.otel_base.specs.declared.context.Context.{Context}
+use Rattle.otel_base.specs.declared.record.Record.{Record}
+use Rattle.otel_state.specs.declared.op.Op.{Op}
+use Rattle.otel_state.specs.declared.settings.LayerSettings.{LayerSettings}
+use Rattle.otel_state.specs.States.{Told, begun}
+use Rattle.otel_layer.specs.Table.{with_span}
+use Rattle.otel_layer.specs.Recording.{Recording, no_recording, with_start, with_applied, with_close}
 use Rattle.trace_base.specs.Spans.{without_last}
 use Rattle.span_pipeline.specs.declared.reply.Reply.{Reply}
 
@@ -7,14 +14,27 @@ use Rattle.span_pipeline.specs.declared.reply.Reply.{Reply}
 abbrev pub Scope : Type 0
 Scope = List ℕ
 
--- a span that was made: the place of its callsite, its scope, and when
+-- a span that was made: the place of its callsite, its scope, and what it was made with
 pub record Made : Type 0 where
   pub site : ℕ
   pub scope : Scope
-  pub at : ℕ
+  pub told : Told
+
+abbrev pub no_told : Told
+no_told = begun (record { name = []; parent = record { span = None }; made = 0; first = []; counting = false; inactivity = false })
 
 abbrev pub no_making : Made
-no_making = record { site = 0; scope = []; at = 0 }
+no_making = record { site = 0; scope = []; told = no_told }
+
+-- an op on a span
+pub record Done : Type 0 where
+  pub span : ℕ
+  pub op : Op
+
+-- a context that is attached to a lane, and the span whose entry attached it
+pub record Attached : Type 0 where
+  pub span : ℕ
+  pub context : Context
 
 -- what a guard keeps: its handle, the place of the lane that it was made on, whether it owns the handle, and the scope
 -- that the handle had
@@ -36,11 +56,17 @@ pub record Effect : Type 0 where
   pub spent_guard : Option ℕ
   -- the span that it made
   pub made : Option Made
+  -- the spans that it starts unless they have started, and what else it does to spans, in order
+  pub starts : List ℕ
+  pub ops : List Done
   -- the spans that it closed, each before its parent
   pub closes : List ℕ
   -- the entry that it added to its lane, and the span whose last entry it took off
   pub entry : Option ℕ
   pub exit : Option ℕ
+  -- the context that it attached to its lane, and the span whose last context it detached there
+  pub attach : Option Attached
+  pub detach : Option ℕ
   pub reply : Reply
 
 -- what changes nothing
@@ -53,9 +79,13 @@ quiet at lane answer = record {
   new_guard = None;
   spent_guard = None;
   made = None;
+  starts = [];
+  ops = [];
   closes = [];
   entry = None;
   exit = None;
+  attach = None;
+  detach = None;
   reply = answer;
 }
 
@@ -63,17 +93,33 @@ abbrev pub History : Type 0
 History = List Effect
 
 -- The tables: handles and guards in the order of making, none where one is spent; spans in the order of making and in
--- the order of closing; the entries of each lane, by its id; and the moment of the last request, 0 before the first.
+-- the order of closing; the entries and the contexts of each lane, by its id; what was recorded of the open spans; and
+-- the moment of the last request, 0 before the first.
 pub record Tables : Type 0 where
   pub handles : List (Option Scope)
   pub guards : List (Option Guarded)
   pub made : List Made
   pub closed : List ℕ
   pub entries : ℕ → List ℕ
+  pub contexts : ℕ → List Attached
+  pub recording : Recording
   pub moment : ℕ
 
-abbrev pub no_tables : Tables
-no_tables = record { handles = []; guards = []; made = []; closed = []; entries = λ lane. []; moment = 0 }
+-- nothing recorded by a layer with these settings
+abbrev pub nothing_recorded : LayerSettings → Recording
+nothing_recorded settings = record no_recording { settings = settings }
+
+abbrev pub no_tables : LayerSettings → Tables
+no_tables settings = record {
+  handles = [];
+  guards = [];
+  made = [];
+  closed = [];
+  entries = λ lane. [];
+  contexts = λ lane. [];
+  recording = nothing_recorded settings;
+  moment = 0;
+}
 
 -- a list with one more item, if there is one
 abbrev pub with_new : {A : Type 0} → List A → Option A → List A
@@ -105,6 +151,34 @@ abbrev pub with_exit : (ℕ → List ℕ) → ℕ → Option ℕ → ℕ → Lis
 with_exit es lane None = es
 with_exit es lane (Some s) = on_lane es lane (without_last (λ x. x == s) (es lane))
 
+-- the contexts of all lanes with one more on one of them, and without the last one of a span
+abbrev pub with_attached : (ℕ → List Attached) → ℕ → Option Attached → ℕ → List Attached
+with_attached cs lane None = cs
+with_attached cs lane (Some a) = λ l. if lane == l then cs lane ++ a ∷ [] else cs l
+
+abbrev pub with_detached : (ℕ → List Attached) → ℕ → Option ℕ → ℕ → List Attached
+with_detached cs lane None = cs
+with_detached cs lane (Some s) = λ l. if lane == l then without_last (λ a. a.span == s) (cs lane) else cs l
+
+-- What an effect makes of what was recorded: spans start, one is made, ops are done, and spans close.
+abbrev pub with_made : ℕ → Option Made → Recording → Recording
+with_made s None r = r
+with_made s (Some m) r = record r { spans = with_span s m.told r.spans }
+
+abbrev pub recorded_by : ℕ → Effect → Recording → Recording
+recorded_by s e r =
+    fold (λ r s. with_close s e.at r)
+    (fold (λ r d. with_applied d.span e.at d.op r) (with_made s e.made (fold (λ r s. with_start s e.at r) r e.starts)) e.ops)
+    e.closes
+
+-- what is recorded but open entries and records
+abbrev pub open_part : Recording → Recording
+open_part r = record r { tokens = []; finished = [] }
+
+-- the records of the spans that an effect closes, in order
+abbrev pub records_of : Tables → Effect → List Record
+records_of t e = (recorded_by (length t.made) e t.recording).finished
+
 -- the tables after one effect more
 abbrev pub after : Tables → Effect → Tables
 after t e = record {
@@ -113,11 +187,13 @@ after t e = record {
   made = with_new t.made e.made;
   closed = t.closed ++ e.closes;
   entries = with_exit (with_entry t.entries e.lane e.entry) e.lane e.exit;
+  contexts = with_detached (with_attached t.contexts e.lane e.attach) e.lane e.detach;
+  recording = open_part (recorded_by (length t.made) e t.recording);
   moment = e.at;
 }
 
-abbrev pub tables : History → Tables
-tables h = fold after no_tables h
+abbrev pub tables : LayerSettings → History → Tables
+tables settings h = fold after (no_tables settings) h
 
 -- a scope's own span, if it has one
 abbrev pub own : Scope → Option ℕ

@@ -43,7 +43,9 @@ pub fn stack(
 
 /// Lanes without contexts, which the world's subscriber serves.
 pub fn lanes(alloc: Global, named: Items<(u64, Option<Text>)>) -> Result<Vec<Lane>, Memory>
-    ensures { IfOk result (λ lanes. map (λ l. l.id) lanes.items ≡ map (λ n. n.0) named) }
+    ensures ids { IfOk result (λ lanes. map (λ l. l.id) lanes.items ≡ map (λ n. n.0) named) }
+    ensures names { IfOk result (λ lanes. map (λ l. l.name) lanes.items ≡ map (λ n. n.1) named) }
+    ensures contexts { IfOk result (λ lanes. map (λ l. l.contexts.live) lanes.items ≡ map (λ l. []) lanes.items) }
 {
     let mut lanes = Vec::new(alloc);
     for (id, name) in named.into_vec() {

@@ -9,10 +9,10 @@ use crate::reply::{Refusal, Reply, What};
 use crate::request::{Call, LAST_MOMENT, Request};
 use crate::settings::Settings;
 use crate::slots::Guard;
-use otel_base::list::Items;
 use otel_base::record::Moment;
 use otel_base::recorder::Recorder;
 use otel_layer::layer::OpenTelemetryLayer;
+use otel_layer::recording;
 use span_handles::laws::same;
 use span_handles::span::Span;
 use span_registry::layered::Layered;
@@ -21,7 +21,6 @@ use std::alloc::Global;
 use std::marker::Model;
 use trace_base::discard::Discard;
 use trace_base::dispatcher::Dispatch;
-use trace_base::field::ValueSet;
 use trace_base::lane::Lane;
 use trace_base::level::LevelFilter;
 use trace_base::subscriber::Subscriber;
@@ -41,7 +40,6 @@ pub struct Pipeline {
     pub(crate) world: World<Layered<OpenTelemetryLayer<Recorder>, Registry>>,
     pub(crate) dispatch: Dispatch,
     pub(crate) level: LevelFilter,
-    pub(crate) values: ValueSet,
     pub(crate) lanes: Vec<Lane>,
     pub(crate) handles: Vec<Option<Span>>,
     pub(crate) guards: Vec<Option<Guard>>,
@@ -49,16 +47,17 @@ pub struct Pipeline {
 }
 
 impl Model for Pipeline {
+    ghost use Rattle.otel_layer.specs.Recording.{recorded};
     ghost use Rattle.span_pipeline.specs.Fits.{State, state_of, IsKept};
 
     ghost Value = { State };
 
-    ghost view = { λ p. state_of ⟦<Layered<OpenTelemetryLayer<Recorder>, Registry> as Subscriber>⟧.spans
+    ghost view = { λ p. state_of ⟦<Layered<OpenTelemetryLayer<Recorder>, Registry> as Subscriber>⟧.spans recorded
         p.world p.dispatch p.level p.lanes.items p.handles.items p.guards.items p.moment };
 
     ghost invariant = { λ p. IsKept ⟦<Layered<OpenTelemetryLayer<Recorder>, Registry> as Subscriber>⟧.kept
         ⟦<Layered<OpenTelemetryLayer<Recorder>, Registry> as Subscriber>⟧.is_whole p.world
-        (state_of ⟦<Layered<OpenTelemetryLayer<Recorder>, Registry> as Subscriber>⟧.spans
+        (state_of ⟦<Layered<OpenTelemetryLayer<Recorder>, Registry> as Subscriber>⟧.spans recorded
         p.world p.dispatch p.level p.lanes.items p.handles.items p.guards.items p.moment) };
 }
 
@@ -69,7 +68,6 @@ impl Discard for Pipeline {
             world,
             dispatch: _,
             level: _,
-            values: _,
             lanes: _,
             handles,
             guards,
@@ -93,15 +91,16 @@ fn is_bad_moment(before: Moment, given: Moment) -> bool
 impl Pipeline {
     ghost use Rattle.span_pipeline.specs.Tables.{Tables, History, tables};
     ghost use Rattle.span_pipeline.specs.Effects.{effect_of, effect_of_call};
-    ghost use Rattle.span_pipeline.specs.Fits.{Fits, Served, Recorded, IsRefusal};
+    ghost use Rattle.span_pipeline.specs.Fits.{StandsFor, Served, Recorded, IsRefusal};
 
     /// A pipeline for the settings, before any request. It may answer `Memory`, and nothing else.
     pub fn open(alloc: Global, settings: Settings) -> Result<Pipeline, OpenError>
         requires { HasOwnIds (map (λ l. l.0) settings.lanes) }
         ensures setup { IfOk result (λ pipeline. pipeline.setup ≡ setup_by settings) }
-        ensures stands { IfOk result (λ pipeline. Fits pipeline (tables [])) }
+        ensures stands { IfOk result (λ pipeline. StandsFor pipeline (tables settings.layer [])) }
     {
         same::<Layered<OpenTelemetryLayer<Recorder>, Registry>>();
+        recording::same();
         let Settings {
             filter,
             lanes,
@@ -122,9 +121,6 @@ impl Pipeline {
                 world,
                 dispatch,
                 level,
-                values: ValueSet {
-                    pairs: Items::new(alloc),
-                },
                 lanes,
                 handles: Vec::new(alloc),
                 guards: Vec::new(alloc),
@@ -143,10 +139,10 @@ impl Pipeline {
     /// `WrongLane` where it spends a guard on another lane than the guard's, `Later` where its kind isn't built. It may
     /// answer `Memory`.
     pub fn step(&mut self, request: Request) -> Result<Reply, Refusal>
-        ensures ok { (h : History) → Fits self.old (tables h)
-            → IfOk result (Recorded (effect_of self.old.setup (tables h) request) h self.old self.new) }
-        ensures refused { (h : History) → Fits self.old (tables h)
-            → IfErr result (IsRefusal (effect_of self.old.setup (tables h) request)) }
+        ensures ok { (h : History) → StandsFor self.old (tables self.old.setup.layer h)
+            → IfOk result (Recorded (effect_of self.old.setup (tables self.old.setup.layer h) request) h self.old self.new) }
+        ensures refused { (h : History) → StandsFor self.old (tables self.old.setup.layer h)
+            → IfErr result (IsRefusal (effect_of self.old.setup (tables self.old.setup.layer h) request)) }
         ensures err { OnErr result (self.new ≡ self.old) }
     {
         let Request { at, lane, call } = request;
@@ -164,9 +160,9 @@ impl Pipeline {
 
     fn call(&mut self, at: Moment, lane: u64, call: Call) -> Result<Reply, Refusal>
         requires { lane < length self.old.lanes }
-        ensures ok { (t : Tables) → Fits self.old t
+        ensures ok { (t : Tables) → StandsFor self.old t
             → IfOk result (Served (effect_of_call self.old.setup t at lane call) t self.old self.new) }
-        ensures refused { (t : Tables) → Fits self.old t
+        ensures refused { (t : Tables) → StandsFor self.old t
             → IfErr result (IsRefusal (effect_of_call self.old.setup t at lane call)) }
         ensures err { OnErr result (self.new ≡ self.old) }
     {

@@ -9,6 +9,7 @@ use crate::slots::{Guard, keep, lane_of, slot_at, take};
 use otel_base::record::Moment;
 use otel_base::recorder::Recorder;
 use otel_layer::layer::OpenTelemetryLayer;
+use otel_layer::recording;
 use span_handles::laws::{calls, same};
 use span_registry::layered::Layered;
 use span_registry::registry::Registry;
@@ -16,18 +17,20 @@ use span_registry::registry::Registry;
 impl Pipeline {
     ghost use Rattle.span_pipeline.specs.Tables.{Tables};
     ghost use Rattle.span_pipeline.specs.Effects.{effect_of_call};
-    ghost use Rattle.span_pipeline.specs.Fits.{Fits, Served, IsRefusal};
+    ghost use Rattle.span_pipeline.specs.Fits.{StandsFor, Served, IsRefusal};
 
     pub(crate) fn enter(&mut self, at: Moment, lane: u64, handle: u64) -> Result<Reply, Refusal>
         requires { lane < length self.old.lanes }
-        ensures ok { (t : Tables) → Fits self.old t
+        ensures ok { (t : Tables) → StandsFor self.old t
             → IfOk result (Served (effect_of_call self.old.setup t at lane (Call.Enter handle)) t self.old self.new) }
-        ensures refused { (t : Tables) → Fits self.old t
+        ensures refused { (t : Tables) → StandsFor self.old t
             → IfErr result (IsRefusal (effect_of_call self.old.setup t at lane (Call.Enter handle))) }
         ensures err { OnErr result (self.new ≡ self.old) }
     {
         calls::<Layered<OpenTelemetryLayer<Recorder>, Registry>>();
+        recording::calls();
         same::<Layered<OpenTelemetryLayer<Recorder>, Registry>>();
+        recording::same();
         if self.handles.len() >= MOST || self.guards.len() >= MOST {
             return Err(Refusal::Memory);
         }
@@ -55,14 +58,15 @@ impl Pipeline {
 
     pub(crate) fn exit(&mut self, at: Moment, lane: u64, guard: u64) -> Result<Reply, Refusal>
         requires { lane < length self.old.lanes }
-        ensures ok { (t : Tables) → Fits self.old t
+        ensures ok { (t : Tables) → StandsFor self.old t
             → IfOk result (Served (effect_of_call self.old.setup t at lane (Call.Exit guard)) t self.old self.new) }
-        ensures refused { (t : Tables) → Fits self.old t
+        ensures refused { (t : Tables) → StandsFor self.old t
             → IfErr result (IsRefusal (effect_of_call self.old.setup t at lane (Call.Exit guard))) }
         ensures err { OnErr result (self.new ≡ self.old) }
         ensures room { ¬ (result ≡ Err NoMemory) }
     {
         calls::<Layered<OpenTelemetryLayer<Recorder>, Registry>>();
+        recording::calls();
         let Some(own) = lane_of(&self.guards, guard) else {
             return Err(Refusal::UnknownName { what: What::Guard });
         };

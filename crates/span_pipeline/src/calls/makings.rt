@@ -10,10 +10,12 @@ use crate::pipeline::{MOST, Pipeline};
 use crate::reply::{Refusal, Reply, What};
 use crate::request::Place;
 use crate::slots::{Above, keep, place_above};
+use otel_base::list::Items;
 use otel_base::memory::Memory;
 use otel_base::record::Moment;
 use otel_base::recorder::Recorder;
 use otel_layer::layer::OpenTelemetryLayer;
+use otel_layer::recording;
 use span_handles::laws::{calls, same};
 use span_handles::span::Span;
 use span_registry::layered::Layered;
@@ -74,18 +76,23 @@ fn make_if<S: Subscriber>(
 impl Pipeline {
     ghost use Rattle.span_pipeline.specs.Tables.{Tables};
     ghost use Rattle.span_pipeline.specs.Effects.{effect_of_call};
-    ghost use Rattle.span_pipeline.specs.Fits.{Fits, Served, IsRefusal};
+    ghost use Rattle.span_pipeline.specs.Fits.{StandsFor, Served, IsRefusal};
 
     pub(crate) fn make(&mut self, at: Moment, lane: u64, place: u64, under: Place) -> Result<Reply, Refusal>
         requires { lane < length self.old.lanes }
-        ensures ok { (t : Tables) → Fits self.old t
+        ensures ok { (t : Tables) → StandsFor self.old t
             → IfOk result (Served (effect_of_call self.old.setup t at lane (Call.New place under)) t self.old self.new) }
-        ensures refused { (t : Tables) → Fits self.old t
+        ensures refused { (t : Tables) → StandsFor self.old t
             → IfErr result (IsRefusal (effect_of_call self.old.setup t at lane (Call.New place under))) }
         ensures err { OnErr result (self.new ≡ self.old) }
     {
         calls::<Layered<OpenTelemetryLayer<Recorder>, Registry>>();
+        recording::calls();
         same::<Layered<OpenTelemetryLayer<Recorder>, Registry>>();
+        recording::same();
+        let values = ValueSet {
+            pairs: Items::new(self.world.allocator()),
+        };
         if self.handles.len() >= MOST || self.guards.len() >= MOST {
             return Err(Refusal::Memory);
         }
@@ -106,7 +113,7 @@ impl Pipeline {
             &self.lanes[lane as usize],
             at,
             found.0,
-            &self.values,
+            &values,
         )?;
         keep(&mut self.handles, span);
         self.moment = at;

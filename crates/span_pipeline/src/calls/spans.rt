@@ -9,6 +9,7 @@ use crate::slots::{is_borrowed, keep, slot_at, take};
 use otel_base::record::Moment;
 use otel_base::recorder::Recorder;
 use otel_layer::layer::OpenTelemetryLayer;
+use otel_layer::recording;
 use span_handles::laws::{calls, chains};
 use span_registry::layered::Layered;
 use span_registry::registry::Registry;
@@ -16,16 +17,17 @@ use span_registry::registry::Registry;
 impl Pipeline {
     ghost use Rattle.span_pipeline.specs.Tables.{Tables};
     ghost use Rattle.span_pipeline.specs.Effects.{effect_of_call};
-    ghost use Rattle.span_pipeline.specs.Fits.{Fits, Served, IsRefusal};
+    ghost use Rattle.span_pipeline.specs.Fits.{StandsFor, Served, IsRefusal};
 
     pub(crate) fn clone_handle(&mut self, at: Moment, lane: u64, handle: u64) -> Result<Reply, Refusal>
-        ensures ok { (t : Tables) → Fits self.old t
+        ensures ok { (t : Tables) → StandsFor self.old t
             → IfOk result (Served (effect_of_call self.old.setup t at lane (Call.Clone handle)) t self.old self.new) }
-        ensures refused { (t : Tables) → Fits self.old t
+        ensures refused { (t : Tables) → StandsFor self.old t
             → IfErr result (IsRefusal (effect_of_call self.old.setup t at lane (Call.Clone handle))) }
         ensures err { OnErr result (self.new ≡ self.old) }
     {
         calls::<Layered<OpenTelemetryLayer<Recorder>, Registry>>();
+        recording::calls();
         if self.handles.len() >= MOST || self.guards.len() >= MOST {
             return Err(Refusal::Memory);
         }
@@ -45,14 +47,15 @@ impl Pipeline {
     }
 
     pub(crate) fn drop_handle(&mut self, at: Moment, lane: u64, handle: u64) -> Result<Reply, Refusal>
-        ensures ok { (t : Tables) → Fits self.old t
+        ensures ok { (t : Tables) → StandsFor self.old t
             → IfOk result (Served (effect_of_call self.old.setup t at lane (Call.Drop handle)) t self.old self.new) }
-        ensures refused { (t : Tables) → Fits self.old t
+        ensures refused { (t : Tables) → StandsFor self.old t
             → IfErr result (IsRefusal (effect_of_call self.old.setup t at lane (Call.Drop handle))) }
         ensures err { OnErr result (self.new ≡ self.old) }
         ensures room { ¬ (result ≡ Err NoMemory) }
     {
         chains::<Layered<OpenTelemetryLayer<Recorder>, Registry>>();
+        recording::chains();
         let Some(_named) = slot_at(&self.handles, handle) else {
             return Err(Refusal::UnknownName { what: What::Handle });
         };

@@ -1,6 +1,10 @@
--- The lanes so far have the ids of those that were passed.
-use Rattle.std.proofs.Common.{◌≡◌, ◌++◌, map}
+-- The lanes so far have the ids and names of those that were passed, and no contexts.
+use Rattle.std.proofs.Common.{◌≡◌, ◌++◌, map, []}
 use Rattle.span_pipeline.proofs.opening.lanes.Given as goal
 
 abbrev pub invariant-loop-id : goal.invariant-loop-id
-invariant-loop-id l = (map (λ x. x.id) l.lanes.items ++ map (λ n. n.0) l.id-iterator.rest.items) ≡ map (λ n. n.0) l.fn.named
+invariant-loop-id l = record {
+  ids : (map (λ x. x.id) l.lanes.items ++ map (λ n. n.0) l.id-iterator.rest.items) ≡ map (λ n. n.0) l.fn.named;
+  names : (map (λ x. x.name) l.lanes.items ++ map (λ n. n.1) l.id-iterator.rest.items) ≡ map (λ n. n.1) l.fn.named;
+  contexts : map (λ x. x.contexts.live) l.lanes.items ≡ map (λ x. []) l.lanes.items;
+}

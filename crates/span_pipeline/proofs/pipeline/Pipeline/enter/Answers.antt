@@ -9,32 +9,32 @@ use Rattle.span_pipeline.proofs.Entering.{serves_entered, keeps_entered}
 use Rattle.span_pipeline.proofs.pipeline.Pipeline.enter.Goals as goal
 
 pub returns-in_default-clause-refused : goal.returns-in_default-clause-refused
-returns-in_default-clause-refused c = λ t fits no. refuses_unknown _ _ c.self.view_is c.self.inside.handles.items refl c.args.handle (search rules) t fits _
+returns-in_default-clause-refused c = λ t stands no. refuses_unknown _ _ c.self.view_is c.self.inside.handles.items refl c.args.handle (search rules) t stands.fits _
 
 pub open_entry-requires-clause-known : goal.open_entry-requires-clause-known
-open_entry-requires-clause-known c = needs_known _ _ _ c.self.inside.world c.self.inside.dispatch c.self.inside.level c.self.inside.lanes.items c.self.inside.handles.items c.self.inside.guards.items c.self.inside.moment c.self.invariant c.args.handle c.in-Some.span.now (search rules)
+open_entry-requires-clause-known c = needs_known _ _ _ _ c.self.inside.world c.self.inside.dispatch c.self.inside.level c.self.inside.lanes.items c.self.inside.handles.items c.self.inside.guards.items c.self.inside.moment c.self.invariant c.args.handle c.in-Some.span.now (search rules)
 
 pub open_entry-requires-clause-whole : goal.open_entry-requires-clause-whole
-open_entry-requires-clause-whole c = needs_whole _ _ _ c.self.inside.world c.self.inside.dispatch c.self.inside.level c.self.inside.lanes.items c.self.inside.handles.items c.self.inside.guards.items c.self.inside.moment c.self.invariant c.args.handle c.in-Some.span.now (search rules)
+open_entry-requires-clause-whole c = needs_whole _ _ _ _ c.self.inside.world c.self.inside.dispatch c.self.inside.level c.self.inside.lanes.items c.self.inside.handles.items c.self.inside.guards.items c.self.inside.moment c.self.invariant c.args.handle c.in-Some.span.now (search rules)
 
 pub open_entry-requires-clause-few_holds : goal.open_entry-requires-clause-few_holds
-open_entry-requires-clause-few_holds c = needs_few _ _ _ c.self.inside.world c.self.inside.dispatch c.self.inside.level c.self.inside.lanes.items c.self.inside.handles.items c.self.inside.guards.items c.self.inside.moment c.self.invariant c.args.handle c.in-Some.span.now (search rules) (search rules) (search rules)
+open_entry-requires-clause-few_holds c = needs_few _ _ _ _ c.self.inside.world c.self.inside.dispatch c.self.inside.level c.self.inside.lanes.items c.self.inside.handles.items c.self.inside.guards.items c.self.inside.moment c.self.invariant c.args.handle c.in-Some.span.now (search rules) (search rules) (search rules)
 
 pub invariant_of-self-in-Err : goal.invariant_of-self-in-Err
-invariant_of-self-in-Err c = refused_kept _ _ _ _ _ c.same.ensures c.self.inside.world c.open_entry.new.world c.self.inside.dispatch c.self.inside.level c.self.inside.lanes.items c.self.inside.handles.items c.self.inside.guards.items c.reserve.new.self.items c.self.inside.moment c.self.invariant c.args.handle c.in-Some.span.now (search rules) c.in-Err.ensures.leaves
+invariant_of-self-in-Err c = refused_kept _ _ _ _ _ _ c.same.ensures c.same-2.ensures c.self.inside.world c.open_entry.new.world c.self.inside.dispatch c.self.inside.level c.self.inside.lanes.items c.self.inside.handles.items c.self.inside.guards.items c.reserve.new.self.items c.self.inside.moment c.self.invariant c.args.handle c.in-Some.span.now (search rules) c.in-Err.ensures.leaves
     c.args.lane c.index_mut.result.now c.open_entry.new.lane (within_view _ _ c.self.inside.lanes.items c.args.lane c.self.view_is refl c.requires) c.index_mut.ensures.value c.in-Err.ensures.lane_leaves (search rules)
 
 pub returns-in-Err-clause-refused : goal.returns-in-Err-clause-refused
-returns-in-Err-clause-refused c = λ t fits no. absurd (room_refused c.args.lane c.in-Err.error c.of_entry.result c.of_entry.ensures no)
+returns-in-Err-clause-refused c = λ t stands no. absurd (room_refused c.args.lane c.in-Err.error c.of_entry.result c.of_entry.ensures no)
 
 pub returns-in-Err-clause-err : goal.returns-in-Err-clause-err
-returns-in-Err-clause-err c = refused_state _ _ _ _ _ c.same.ensures c.self.inside.world c.open_entry.new.world c.self.inside.dispatch c.self.inside.level c.self.inside.lanes.items c.self.inside.handles.items c.self.inside.guards.items c.reserve.new.self.items c.self.inside.moment c.self.invariant c.args.handle c.in-Some.span.now (search rules) c.in-Err.ensures.leaves
+returns-in-Err-clause-err c = refused_state _ _ _ _ _ _ c.same.ensures c.same-2.ensures c.self.inside.world c.open_entry.new.world c.self.inside.dispatch c.self.inside.level c.self.inside.lanes.items c.self.inside.handles.items c.self.inside.guards.items c.reserve.new.self.items c.self.inside.moment c.self.invariant c.args.handle c.in-Some.span.now (search rules) c.in-Err.ensures.leaves
     c.args.lane c.index_mut.result.now c.open_entry.new.lane (within_view _ _ c.self.inside.lanes.items c.args.lane c.self.view_is refl c.requires) c.index_mut.ensures.value c.in-Err.ensures.lane_leaves (search rules) ∙ c.self.view_is
 
 pub invariant_of-self-2 : goal.invariant_of-self-2
-invariant_of-self-2 c = keeps_entered _ _ _ _ _ c.open_entry.new.world _ c.calls.ensures c.self.inside.dispatch c.self.inside.level c.self.inside.lanes.items c.self.inside.handles.items c.self.inside.guards.items c.self.inside.moment c.args.at c.args.lane c.index_mut.result.now c.open_entry.new.lane (within_view _ _ c.self.inside.lanes.items c.args.lane c.self.view_is refl c.requires) c.index_mut.ensures.value
+invariant_of-self-2 c = keeps_entered _ _ _ _ _ _ c.open_entry.new.world _ c.calls.ensures c.calls-2.ensures c.self.inside.dispatch c.self.inside.level c.self.inside.lanes.items c.self.inside.handles.items c.self.inside.guards.items c.self.inside.moment c.args.at c.args.lane c.index_mut.result.now c.open_entry.new.lane (within_view _ _ c.self.inside.lanes.items c.args.lane c.self.view_is refl c.requires) c.index_mut.ensures.value
     c.args.handle c.len-guard.result c.in-Some.span.now c.in-Ok.entry c.keep.new.slots.items (search rules) c.in-Ok.ensures.value (search rules) (search rules) c.in-Ok.ensures.did c.in-Ok.ensures.none c.self.invariant
 
 pub returns-clause-ok : goal.returns-clause-ok
-returns-clause-ok c = by_view c.args.at c.args.lane (call.Enter c.args.handle) _ _ _ _ c.self.view_is (λ t fits. serves_entered _ _ _ _ _ c.open_entry.new.world _ c.calls.ensures c.self.inside.dispatch c.self.inside.level c.self.inside.lanes.items c.self.inside.handles.items c.self.inside.guards.items c.self.inside.moment c.args.at c.args.lane c.index_mut.result.now c.open_entry.new.lane (within_view _ _ c.self.inside.lanes.items c.args.lane c.self.view_is refl c.requires) c.index_mut.ensures.value
-    c.args.handle c.len-guard.result c.in-Some.span.now c.in-Ok.entry c.keep.new.slots.items (search rules) c.in-Ok.ensures.value (search rules) (search rules) c.in-Ok.ensures.did c.in-Ok.ensures.none c.self.invariant t fits)
+returns-clause-ok c = by_view c.args.at c.args.lane (call.Enter c.args.handle) _ _ _ _ c.self.view_is (λ t stands. serves_entered _ _ _ _ _ _ c.open_entry.new.world _ c.calls.ensures c.calls-2.ensures c.self.inside.dispatch c.self.inside.level c.self.inside.lanes.items c.self.inside.handles.items c.self.inside.guards.items c.self.inside.moment c.args.at c.args.lane c.index_mut.result.now c.open_entry.new.lane (within_view _ _ c.self.inside.lanes.items c.args.lane c.self.view_is refl c.requires) c.index_mut.ensures.value
+    c.args.handle c.len-guard.result c.in-Some.span.now c.in-Ok.entry c.keep.new.slots.items (search rules) c.in-Ok.ensures.value (search rules) (search rules) c.in-Ok.ensures.did c.in-Ok.ensures.none c.self.invariant t stands)
