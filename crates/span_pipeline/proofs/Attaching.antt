@@ -1,7 +1,7 @@
 -- The contexts of a lane, and which entry attached each.
 use Rattle.std.specs.Prelude.{◌==◌, ◌||◌, ◌&&◌, if◌then◌else◌, filter, eqb}
 use Rattle.std.specs.List.{list_any}
-use Rattle.std.proofs.Common.{◌≡◌, ℕ, List, [], ◌∷◌, ◌++◌, length, Bool, true, false, cond, Option, Some, None, map, refl, sym, ap, subst, ◌∙◌, arith, inl, inr}
+use Rattle.std.proofs.Common.{◌≡◌, ℕ, List, [], ◌∷◌, ◌++◌, Bool, true, false, Option, Some, None, map, refl, sym, ap, subst, ◌∙◌, inl, inr}
 use Rattle.std.proofs.lemmas.Bool.{cases_Bool, cases_eq, eq-eqb, eqb-true, ne_eqb, cond-true, cond-false, or_parts, or_cases, true≢false, and_parts}
 use Rattle.std.proofs.lemmas.List.{append-nil}
 use Rattle.otel_base.specs.declared.context.Context.{Context}
@@ -155,7 +155,7 @@ taken_after s x a live items ys zs o context fresh later t zs_are =
     let left : without t.number (x ∷ live) ≡ x ∷ without t.number live = cond-false {A = List (ℕ × Context)} (eqb x.0 t.number) live (x ∷ without t.number live) apart in
     let rest : without_last (λ (b : Attached). b.span == s) (a ∷ items) ≡ a ∷ without_last (λ (b : Attached). b.span == s) items = cond-true {A = List Attached} (list_any (λ b. b.span == s) items) (a ∷ without_last (λ b. b.span == s) items) (if a.span == s then items else a ∷ items) later in
     let both : (r : ℕ) → numbers_of r (without t.number (x ∷ live)) (without_last (λ (b : Attached). b.span == s) (a ∷ items)) ≡ (if a.span == r then Some x.0 ∷ numbers_of r (without t.number live) (without_last (λ (b : Attached). b.span == s) items) else numbers_of r (without t.number live) (without_last (λ (b : Attached). b.span == s) items))
-        = λ r. ap (λ (xs : List (ℕ × Context)). numbers_of r xs (without_last (λ (b : Attached). b.span == s) (a ∷ items))) left ∙ ap (λ (is : List Attached). numbers_of r (x ∷ without t.number live) is) rest in
+    = λ r. ap (λ (xs : List (ℕ × Context)). numbers_of r xs (without_last (λ (b : Attached). b.span == s) (a ∷ items))) left ∙ ap (λ (is : List Attached). numbers_of r (x ∷ without t.number live) is) rest in
     record {
       number = t.number;
       is = t.is;

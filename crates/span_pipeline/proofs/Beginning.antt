@@ -1,5 +1,5 @@
 -- A pipeline without requests.
-use Rattle.std.proofs.Common.{◌≡◌, ℕ, ◌+◌, ◌<◌, ◌≤◌, List, [], ◌∷◌, ◌++◌, length, Bool, true, false, Option, Some, None, map, refl, sym, ap, subst, ◌∙◌, arith, zero, suc, slice_get}
+use Rattle.std.proofs.Common.{◌≡◌, ℕ, ◌+◌, ◌<◌, List, [], ◌∷◌, ◌++◌, length, Bool, true, false, Option, Some, map, refl, sym, ap, subst, ◌∙◌, arith, zero, suc, slice_get}
 use Rattle.std.proofs.lemmas.List.{length-map}
 use Rattle.trace_base.specs.declared.lane.Lane.{Lane}
 use Rattle.trace_base.specs.declared.callsite.Callsite.{Callsite}
@@ -13,11 +13,11 @@ use Rattle.span_handles.specs.Handles.{Handle}
 use Rattle.span_pipeline.specs.declared.slots.Guard.{Guard}
 use Rattle.span_pipeline.specs.Setups.{Setup, HasOwnIds, id_at}
 use Rattle.otel_layer.specs.Recording.{Recording, no_recording, recording_of}
-use Rattle.span_pipeline.specs.Tables.{Tables, no_tables, nothing_recorded, open_part}
+use Rattle.span_pipeline.specs.Tables.{no_tables, nothing_recorded, open_part}
 use Rattle.otel_base.specs.declared.context.Context.{Context}
 use Rattle.otel_base.specs.Recorder.{Recorded}
 use Rattle.span_pipeline.proofs.Keeping.{SameRecorded}
-use Rattle.span_pipeline.specs.Fits.{State, state_of, Fits, StandsFor, RecordingFits, ContextsFit, Laned, laned, no_lane, lane_at, LanesFit, IsKept}
+use Rattle.span_pipeline.specs.Fits.{State, state_of, Fits, StandsFor, RecordingFits, ContextsFit, Laned, laned, lane_at, LanesFit, IsKept}
 
 -- nothing fits no tables
 pub new_fits : (setup : Setup) (lanes : List Laned) (recording : Recording) (layer : LayerSettings) (dispatch : ℕ) (spans : Spans) → spans ≡ no_spans

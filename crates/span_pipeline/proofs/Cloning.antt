@@ -11,7 +11,7 @@ use Rattle.trace_base.specs.declared.span.Parent.{Parent}
 use Rattle.trace_base.specs.declared.span.Parent.TheVariants as parent
 use Rattle.trace_base.proofs.Entering.{count_push, made_if_held}
 use Rattle.trace_base.proofs.Holding.{keeps_children, holds_set, holds_other, current_in, first_if_in}
-use Rattle.span_handles.specs.Handles.{Held, place_under}
+use Rattle.span_handles.specs.Handles.{place_under}
 use Rattle.span_pipeline.specs.Balance.{Balanced, Opened, names, named_by, opened_by}
 use Rattle.span_pipeline.proofs.Fitting.{fits_live}
 use Rattle.span_pipeline.specs.declared.request.Place.{Place}

@@ -1,45 +1,35 @@
 -- Clones, served.
-use Rattle.std.proofs.Common.{◌≡◌, ℕ, ◌+◌, ◌<◌, ◌≤◌, List, [], ◌∷◌, ◌++◌, length, Bool, true, false, cond, get_or, Option, Some, None, Ok, option_map, map, refl, sym, ap, subst, ◌∙◌, arith, inl, inr}
-use Rattle.std.specs.Prelude.{is_some, IfSome, slice_get}
-use Rattle.std.proofs.lemmas.Bool.{cases_eq, cases_lt, cond-true, cond-false}
-use Rattle.std.proofs.lemmas.List.{length-map, length_push, map_push, get_or_past, get_or_push, get_or_append_left}
+use Rattle.std.proofs.Common.{◌≡◌, ℕ, ◌+◌, ◌<◌, ◌≤◌, List, [], ◌∷◌, ◌++◌, length, Bool, Option, Some, None, Ok, option_map, map, refl, sym, ap, subst, ◌∙◌, arith, inl, inr}
+use Rattle.std.specs.Prelude.{is_some}
+use Rattle.std.proofs.lemmas.Bool.{cases_eq}
+use Rattle.std.proofs.lemmas.List.{length-map, length_push, map_push, get_or_append_left}
 use Rattle.trace_base.specs.declared.lane.Lane.{Lane}
 use Rattle.trace_base.specs.declared.level.LevelFilter.{LevelFilter}
-use Rattle.trace_base.specs.declared.span.Parent.{Parent}
-use Rattle.trace_base.specs.declared.callsite.Callsite.{Callsite}
-use Rattle.trace_base.specs.declared.field.ValueSet.{ValueSet}
 use Rattle.trace_base.specs.Gate.{Worlds}
-use Rattle.trace_base.specs.Level.{is_within}
-use Rattle.trace_base.specs.Spans.{Span, Spans, no_span, span_at, held_by_child, entries_on, place_on}
-use Rattle.trace_base.specs.Calls.{SubscriberCall, NewSpan, CloneSpan, with_span}
-use Rattle.trace_base.specs.Conditions.{IsLivePlace}
+use Rattle.trace_base.specs.Spans.{Spans, span_at}
+use Rattle.trace_base.specs.Calls.{SubscriberCall, CloneSpan}
 use Rattle.trace_base.specs.Sound.{OneEach}
-use Rattle.span_handles.specs.Worlds.{Shown, Replaced, seen, spans_in, kept_in, no_spans, Has}
-use Rattle.span_handles.specs.Handles.{Handle, Held, id_of, ReplacedOn, Makes, no_handle}
-use Rattle.span_handles.proofs.Showing.{seen_before}
+use Rattle.span_handles.specs.Worlds.{seen, spans_in, kept_in}
+use Rattle.span_handles.specs.Handles.{Handle, Held, id_of, ReplacedOn}
 use Rattle.span_pipeline.specs.declared.slots.Guard.{Guard}
 use Rattle.span_pipeline.specs.declared.reply.Reply.TheVariants as reply
-use Rattle.span_pipeline.specs.declared.request.Place.{Place}
 use Rattle.span_pipeline.specs.declared.request.Call.TheVariants as call
 use Rattle.span_pipeline.specs.declared.reply.What.TheVariants as what
-use Rattle.span_pipeline.specs.Setups.{Setup, id_at, span_site}
+use Rattle.span_pipeline.specs.Setups.{id_at}
 use Rattle.otel_layer.specs.Recording.{Recording, no_recording}
-use Rattle.span_pipeline.specs.Tables.{Scope, Made, no_making, Guarded, Effect, Tables, after, slot_at, own, made_of}
-use Rattle.span_pipeline.specs.Effects.{Resolved, named, effect_of_call, clones, makes, makes_span, declines, scope_at}
-use Rattle.span_pipeline.specs.Slots.{place_for}
+use Rattle.span_pipeline.specs.Tables.{Scope, Made, Guarded, Effect, Tables, slot_at, own}
+use Rattle.span_pipeline.specs.Effects.{named, effect_of_call, clones}
 use Rattle.span_pipeline.specs.Balance.{Balanced, named_by, opened_by}
-use Rattle.span_pipeline.specs.Fits.{State, state_of, laned, Fits, StandsFor, MadeFit, LanesFit, IsKept, Served, IsScope, above, held_of, held_by}
+use Rattle.span_pipeline.specs.Fits.{State, state_of, laned, Fits, StandsFor, MadeFit, LanesFit, IsKept, Served, IsScope, held_of, held_by}
 use Rattle.span_pipeline.proofs.Naming.{find, held_slot, named_within}
-use Rattle.span_pipeline.proofs.Scopes.{new_line}
-use Rattle.span_pipeline.proofs.Standing.{Step, fits_step}
-use Rattle.span_pipeline.proofs.Reading.{Law, Recalls, ShownOn, shown_on, has_by}
+use Rattle.span_pipeline.proofs.Standing.{fits_step}
+use Rattle.span_pipeline.proofs.Reading.{Law, Recalls, ShownOn, shown_on}
 use Rattle.trace_base.proofs.Holding.{holds_other}
 use Rattle.span_pipeline.proofs.Balancing.{held_most, named_slot}
 use Rattle.span_pipeline.proofs.Fitting.{fits_live}
-use Rattle.span_pipeline.proofs.Keeping.{id_seen}
 use Rattle.span_pipeline.proofs.Makings.{made_held}
 use Rattle.span_pipeline.proofs.Serving.{serve, known_still, all_same, kept_served, call_count, call_sites, call_whole}
-use Rattle.span_pipeline.proofs.Cloning.{spans_held, balanced_clone, balanced_decline, balanced_new, find_up}
+use Rattle.span_pipeline.proofs.Cloning.{spans_held, balanced_clone}
 
 held_scope_most : (spans : Spans) (line : Scope) (q : ℕ) → (span_at (spans_held spans line).made q).holds ≤ (span_at spans.made q).holds + 1
 held_scope_most spans [] q = omega arith

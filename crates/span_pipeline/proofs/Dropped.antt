@@ -1,36 +1,27 @@
 -- A handle that is dropped, served.
-use Rattle.std.specs.Prelude.{◌==◌, ◌||◌, ◌&&◌, not}
-use Rattle.std.proofs.Common.{◌≡◌, ℕ, zero, suc, ◌+◌, ◌-◌, ◌<◌, ◌≤◌, List, [], ◌∷◌, length, Bool, true, false, cond, fold, count_by, set, slice_set, Option, Some, None, Err, option_map, map, refl, sym, ap, subst, ◌∙◌, arith, inl, inr}
-use Rattle.std.proofs.lemmas.Bool.{cases_eq, eq-eqb, ne_eqb, cases_lt, cond-true, cond-false, or_parts, lt-ltb, le-ltb, true≢false}
-use Rattle.std.proofs.lemmas.List.{length-set, map-set, get_or-set_other}
-use Rattle.std.proofs.lemmas.List.Sums.{sum_by-set, get_or-le-sum_by}
-use Rattle.std.proofs.Math.ListN.{get_or-map}
+use Rattle.std.specs.Prelude.{◌||◌, ◌&&◌, not}
+use Rattle.std.proofs.Common.{◌≡◌, ℕ, ◌<◌, List, [], ◌∷◌, length, Bool, true, false, fold, slice_set, Option, Some, None, Err, map, refl, sym, ap, subst, ◌∙◌, inl, inr}
+use Rattle.std.proofs.lemmas.Bool.{cases_lt, cond-true, cond-false, lt-ltb, le-ltb, true≢false}
+use Rattle.std.proofs.lemmas.List.{map-set}
 use Rattle.trace_base.specs.Gate.{Worlds}
 use Rattle.trace_base.specs.declared.lane.Lane.{Lane}
 use Rattle.trace_base.specs.declared.level.LevelFilter.{LevelFilter}
-use Rattle.trace_base.specs.Spans.{is_in, Span, Spans, Entries, entries_on, no_span, span_at, less_held, released, next_of, first_entries, is_open_child, is_child_of, open_children}
+use Rattle.trace_base.specs.Spans.{is_in, Spans, span_at}
 use Rattle.trace_base.specs.Calls.{SubscriberCall}
-use Rattle.trace_base.proofs.Entering.{made_if_held}
-use Rattle.trace_base.proofs.Holding.{children_set, keeps_children, less_last, less_more, less_holds, holds_set, holds_other}
-use Rattle.trace_base.specs.Sound.{OneEach}
 use Rattle.span_handles.specs.Worlds.{Replaced, seen, spans_in, kept_in, Has, Chain, Released, closed_in, ChainShown}
 use Rattle.span_handles.specs.Handles.{Handle, Held, ReplacedOn}
-use Rattle.span_pipeline.specs.Setups.{Setup, id_at}
-use Rattle.span_pipeline.specs.Balance.{Balanced, Opened, names, named_by, opened_on, opened_by}
+use Rattle.span_pipeline.specs.Setups.{id_at}
 use Rattle.span_pipeline.specs.declared.slots.Guard.{Guard}
 use Rattle.span_pipeline.specs.declared.reply.Refusal.TheVariants as refusal
 use Rattle.span_pipeline.specs.declared.reply.Reply.TheVariants as reply
 use Rattle.span_pipeline.specs.declared.request.Call.TheVariants as call
 use Rattle.span_pipeline.specs.declared.reply.What.TheVariants as what
 use Rattle.otel_layer.specs.Recording.{Recording, no_recording, RecordsChain, with_close}
-use Rattle.span_pipeline.specs.Tables.{Scope, Made, Guarded, Effect, Tables, after, recorded_by, slot_at, own}
+use Rattle.span_pipeline.specs.Tables.{Scope, Effect, Tables, after, recorded_by, slot_at}
 use Rattle.span_pipeline.specs.Effects.{Resolved, named, effect_of_call, is_open, closed_of, drops, drops_unless, is_borrowed}
 use Rattle.span_pipeline.specs.Slots.{is_named}
 use Rattle.span_pipeline.specs.Fits.{State, state_of, laned, Fits, StandsFor, LanesFit, IsKept, Served, held_of, held_by}
-use Rattle.span_pipeline.proofs.Naming.{find, held_slot, named_within}
-use Rattle.span_pipeline.proofs.Standing.{Step, fits_step}
-use Rattle.span_pipeline.proofs.Balancing.{named_slot, released_less, set_none}
-use Rattle.span_pipeline.proofs.Makings.{made_released}
+use Rattle.span_pipeline.proofs.Naming.{find, held_slot}
 use Rattle.span_pipeline.proofs.Recordings.{recorded_settings, recorded_tokens}
 use Rattle.span_pipeline.proofs.Serving.{serve, known_still, all_same, kept_served}
 use Rattle.span_pipeline.proofs.Openness.{opens, set_open, in_filter}
@@ -42,8 +33,7 @@ drop_known : (k next : State) (t : Tables) (at lane handle : ℕ) (line : Scope)
     → (is_in s (closed_of (slice_set t.handles handle None) line) ≡ false) × (0 < (span_at k.spans.made s).holds)
 drop_known k next t at lane handle line fits there later s some =
     let passes : is_open (slice_set t.handles handle None) s ≡ true = sym (opens next (after t (drops t at lane handle line)) later s) ∙ lt-ltb 0 (span_at next.spans.made s).holds some in
-    let before : is_open t.handles s ≡ true = set_open t.handles handle s line there ∙ ap (λ b. is_in s line || b) passes ∙ or_yes (is_in s line) in
-    (
+    let before : is_open t.handles s ≡ true = set_open t.handles handle s line there ∙ ap (λ b. is_in s line || b) passes ∙ or_yes (is_in s line) in (
       in_filter (λ x. not (is_open (slice_set t.handles handle None) x)) line s ∙ ap (λ b. is_in s line && not b) passes ∙ and_no (is_in s line),
       elim (cases_lt 0 (span_at k.spans.made s).holds) [
         | inl live ↦ live
@@ -129,11 +119,11 @@ module _ {S : Type 0} (spans : S → Spans) (recorded : S → Recording) (attach
           let e : Effect = drops t at place_id handle line.at in
           let sites = (chain_kept at line.at chain).sites in
           let later_of : (next : State) → next.spans ≡ then.spans → next.setup ≡ now.setup → next.dispatch ≡ dispatch → next.handles ≡ then.handles → next.guards ≡ gs → next.moment ≡ at → Fits next (after t e) = λ next sp setup dis hd gd mo.
-              fits_dropped now next t at place_id handle line.at fits line.there not_used (subst (λ (y : Spans). ReleasedOn now.spans y line.at) (sym sp) (chain_spans at line.at chain)) setup dis (hd ∙ ap (map held_by) one ∙ map-set held_by hs handle None) gd mo in
+          fits_dropped now next t at place_id handle line.at fits line.there not_used (subst (λ (y : Spans). ReleasedOn now.spans y line.at) (sym sp) (chain_spans at line.at chain)) setup dis (hd ∙ ap (map held_by) one ∙ map-set held_by hs handle None) gd mo in
           let bare : State = record then { setup = now.setup } in
           let bare_fits : Fits bare (after t e) = later_of bare refl refl refl refl refl refl in
           let rec_is : rec_in new ≡ recorded_by (length t.made) e (rec_in old) = chain_recorded at line.at chain (slice_set t.handles handle None) (λ s up is r.
-              drop_order now bare t at place_id handle s up fits (line.there ∙ ap Some is) (subst (λ (l : Scope). Fits bare (after t (drops t at place_id handle l))) is bare_fits) r ∙ ap (closed_of (slice_set t.handles handle None)) (sym is)) in
+          drop_order now bare t at place_id handle s up fits (line.there ∙ ap Some is) (subst (λ (l : Scope). Fits bare (after t (drops t at place_id handle l))) is bare_fits) r ∙ ap (closed_of (slice_set t.handles handle None)) (sym is)) in
           let settings = ap (λ (r : Recording). r.settings) rec_is ∙ recorded_settings (length t.made) e (rec_in old) in
           let tokens = ap (λ (r : Recording). r.tokens) rec_is ∙ recorded_tokens (length t.made) e (rec_in old) in
           let setup : then.setup ≡ now.setup = ap (λ x. record now.setup { sites = x; layer = (rec_in new).settings }) sites ∙ ap (λ x. record now.setup { layer = x }) settings in

@@ -1,37 +1,25 @@
 -- A handle is dropped, and a chain of spans closes.
 use Rattle.std.specs.Prelude.{◌==◌, ◌||◌}
-use Rattle.std.proofs.Common.{◌≡◌, ℕ, zero, suc, ◌+◌, ◌-◌, ◌<◌, ◌≤◌, List, [], ◌∷◌, length, Bool, true, false, cond, count_by, set, slice_set, Option, Some, None, Err, option_map, map, refl, sym, ap, subst, ◌∙◌, arith, inl, inr}
+use Rattle.std.proofs.Common.{◌≡◌, ℕ, zero, suc, ◌+◌, ◌<◌, ◌≤◌, List, [], ◌∷◌, Bool, true, false, cond, count_by, slice_set, Option, Some, None, option_map, map, refl, sym, ap, subst, ◌∙◌, arith, inl, inr}
 use Rattle.std.proofs.lemmas.Bool.{cases_eq, eq-eqb, ne_eqb, cond-true, cond-false, or_parts}
 use Rattle.std.proofs.lemmas.List.{length-set, map-set, get_or-set_other}
-use Rattle.std.proofs.lemmas.List.Sums.{sum_by-set, get_or-le-sum_by}
+use Rattle.std.proofs.lemmas.List.Sums.{sum_by-set}
 use Rattle.std.proofs.Math.ListN.{get_or-map}
-use Rattle.trace_base.specs.Gate.{Worlds}
-use Rattle.trace_base.specs.declared.lane.Lane.{Lane}
-use Rattle.trace_base.specs.declared.level.LevelFilter.{LevelFilter}
-use Rattle.trace_base.specs.Spans.{Span, Spans, Entries, entries_on, no_span, span_at, less_held, released, next_of, first_entries, is_open_child, is_child_of, open_children}
-use Rattle.trace_base.specs.Calls.{SubscriberCall}
+use Rattle.trace_base.specs.Spans.{Span, Spans, Entries, entries_on, span_at, less_held, released, next_of, first_entries, is_open_child, is_child_of, open_children}
 use Rattle.trace_base.proofs.Entering.{made_if_held}
 use Rattle.trace_base.proofs.Holding.{children_set, keeps_children, less_last, less_more, less_holds, holds_set, holds_other}
 use Rattle.trace_base.specs.Sound.{OneEach}
-use Rattle.span_handles.specs.Worlds.{Replaced, spans_in, kept_in, Has, Chain, Released, all_released, releases, ChainShown}
-use Rattle.span_handles.specs.Handles.{Handle, Held, ReplacedOn}
-use Rattle.span_pipeline.specs.Setups.{Setup, id_at}
+use Rattle.span_handles.specs.Worlds.{Released, all_released, releases}
+use Rattle.span_pipeline.specs.Setups.{id_at}
 use Rattle.span_pipeline.specs.Balance.{Balanced, Opened, names, named_by, opened_on, opened_by}
-use Rattle.span_pipeline.specs.declared.slots.Guard.{Guard}
-use Rattle.span_pipeline.specs.declared.reply.Refusal.TheVariants as refusal
-use Rattle.span_pipeline.specs.declared.reply.Reply.TheVariants as reply
-use Rattle.span_pipeline.specs.declared.request.Call.TheVariants as call
-use Rattle.span_pipeline.specs.declared.reply.What.TheVariants as what
-use Rattle.otel_layer.specs.Recording.{Recording}
-use Rattle.span_pipeline.specs.Tables.{Scope, Made, Guarded, Effect, Tables, after, slot_at, own}
-use Rattle.span_pipeline.specs.Effects.{Resolved, named, effect_of_call, drops, drops_unless, borrows, is_borrowed}
+use Rattle.span_pipeline.specs.Tables.{Scope, Made, Guarded, Tables, after, slot_at, own}
+use Rattle.span_pipeline.specs.Effects.{drops, borrows, is_borrowed}
 use Rattle.span_pipeline.specs.Slots.{is_named}
-use Rattle.span_pipeline.specs.Fits.{State, state_of, laned, Fits, MadeFit, LanesFit, IsKept, Served, held_of, guard_of, held_by}
-use Rattle.span_pipeline.proofs.Naming.{find, held_slot, named_within}
-use Rattle.span_pipeline.proofs.Standing.{Step, fits_step}
+use Rattle.span_pipeline.specs.Fits.{State, Fits, MadeFit, guard_of}
+use Rattle.span_pipeline.proofs.Naming.{named_within}
+use Rattle.span_pipeline.proofs.Standing.{fits_step}
 use Rattle.span_pipeline.proofs.Balancing.{named_slot, released_less, set_none}
 use Rattle.span_pipeline.proofs.Makings.{made_released}
-use Rattle.span_pipeline.proofs.Serving.{kept_served}
 
 -- Within a chain: the holds are those of handles, entries and open children, and the one that is to be released next.
 abbrev pub Loose : Spans → List (Option ℕ) → Option ℕ → Type 0

@@ -1,8 +1,8 @@
 -- Entries and exits, served.
 use Rattle.std.specs.Prelude.{◌==◌, ◌≢◌, if◌then◌else◌}
-use Rattle.std.proofs.Common.{◌≡◌, ℕ, ◌+◌, ◌<◌, List, [], ◌∷◌, ◌++◌, length, Bool, true, false, cond, fold, get_or, set, slice_set, Option, Some, None, Ok, option_map, map, refl, sym, ap, subst, ◌∙◌, arith, inl, inr}
+use Rattle.std.proofs.Common.{◌≡◌, ℕ, ◌+◌, ◌<◌, List, [], ◌∷◌, ◌++◌, length, Bool, true, false, fold, get_or, set, slice_set, Option, Some, None, Ok, option_map, map, refl, sym, ap, subst, ◌∙◌, arith, inl, inr}
 use Rattle.std.proofs.lemmas.Bool.{cases_eq, cases_Bool, eq-eqb, cond-true, cond-false}
-use Rattle.std.proofs.lemmas.List.{length-set, length-map, length_push, get_or_push, get_or_append_left, get_or_past}
+use Rattle.std.proofs.lemmas.List.{length-set, length-map, length_push}
 use Rattle.trace_base.specs.declared.lane.Lane.{Lane}
 use Rattle.trace_base.specs.declared.level.LevelFilter.{LevelFilter}
 use Rattle.trace_base.specs.Gate.{Worlds}
@@ -10,13 +10,13 @@ use Rattle.trace_base.specs.Spans.{Span, Spans, span_at, held, released, without
 use Rattle.trace_base.specs.Calls.{SubscriberCall, Enter, Exit, entered, exited}
 use Rattle.trace_base.specs.Sound.{OneEach}
 use Rattle.trace_base.proofs.Sound.{one_with}
-use Rattle.span_handles.specs.Worlds.{Shown, Replaced, seen, spans_in}
+use Rattle.span_handles.specs.Worlds.{seen, spans_in}
 use Rattle.span_handles.specs.Handles.{Handle, Held, ReplacedOn}
 use Rattle.span_pipeline.specs.declared.slots.Guard.{Guard}
 use Rattle.span_pipeline.specs.declared.reply.Reply.TheVariants as reply
 use Rattle.span_pipeline.specs.declared.request.Call.TheVariants as call
 use Rattle.span_pipeline.specs.declared.reply.What.TheVariants as what
-use Rattle.span_pipeline.specs.Setups.{Setup, id_at}
+use Rattle.span_pipeline.specs.Setups.{id_at}
 use Rattle.otel_layer.specs.declared.tokens.Token.{Token}
 use Rattle.std.specs.Option.{option_to_list}
 use Rattle.otel_base.specs.Stack.{empty_context}
@@ -33,7 +33,7 @@ use Rattle.span_pipeline.specs.Fits.{State, state_of, Laned, laned, lane_at, Fit
 use Rattle.span_pipeline.proofs.Balancing.{spans_entered, spans_exited, balanced_enter, balanced_exit, entered_most, exited_less, named_slot}
 use Rattle.span_pipeline.proofs.Fitting.{fits_live}
 use Rattle.span_pipeline.proofs.Makings.{made_if, made_held, made_released}
-use Rattle.span_pipeline.proofs.Standing.{Step, fits_step}
+use Rattle.span_pipeline.proofs.Standing.{fits_step}
 use Rattle.span_pipeline.proofs.Naming.{find, held_slot, named_push, named_set}
 use Rattle.span_pipeline.proofs.Reading.{Law, Recalls, ShownOn, shown_on}
 use Rattle.span_pipeline.proofs.Keeping.{lanes_step, lanes_same, id_seen, ids_same, names_same}
@@ -186,16 +186,22 @@ module _ {S : Type 0} (spans : S → Spans) (recorded : S → Recording) (attach
         → ShownOn spans recorded attaches kept is_whole old new dispatch line (λ id. Exit id at before later)
         → (toks : List Token) × (r' ≡ record (recorded_by (length t.made) (exits now.setup at place_id guard line) r) { tokens = toks }) × AllFit (then_with gs') (after t (exits now.setup at place_id guard line)).contexts
     exited_record gs' t guard [] fit live differ same none shown =
-        let is = ap (λ (w : Worlds S). seen recorded no_recording w dispatch) shown in
-        (r.tokens, is, subst (λ (c : Recording). (n : ℕ) → n < length (map laned (set lanes lane later)) → ContextsFit c.settings.activation (lane_at (map laned (set lanes lane later)) n).id (lane_at (map laned (set lanes lane later)) n).live c.tokens ((after t (exits now.setup at place_id guard [])).contexts (lane_at (map laned (set lanes lane later)) n).id)) (sym is)
-            (subst (λ (ls : List Laned). (n : ℕ) → n < length ls → ContextsFit r.settings.activation (lane_at ls n).id (lane_at ls n).live r.tokens ((after t (exits now.setup at place_id guard [])).contexts (lane_at ls n).id)) (sym (lanes_same lanes lane before later within here (ap laned (none refl))))
-            (subst (λ (o : Option ℕ). (n : ℕ) → n < length (map laned lanes) → ContextsFit r.settings.activation (lane_at (map laned lanes) n).id (lane_at (map laned lanes) n).live r.tokens (with_detached t.contexts place_id o (lane_at (map laned lanes) n).id)) (sym (no_active r.settings.activation)) fit.attached)))
+        let is = ap (λ (w : Worlds S). seen recorded no_recording w dispatch) shown in (
+          r.tokens,
+          is,
+          subst (λ (c : Recording). (n : ℕ) → n < length (map laned (set lanes lane later)) → ContextsFit c.settings.activation (lane_at (map laned (set lanes lane later)) n).id (lane_at (map laned (set lanes lane later)) n).live c.tokens ((after t (exits now.setup at place_id guard [])).contexts (lane_at (map laned (set lanes lane later)) n).id)) (sym is)
+              (subst (λ (ls : List Laned). (n : ℕ) → n < length ls → ContextsFit r.settings.activation (lane_at ls n).id (lane_at ls n).live r.tokens ((after t (exits now.setup at place_id guard [])).contexts (lane_at ls n).id)) (sym (lanes_same lanes lane before later within here (ap laned (none refl))))
+              (subst (λ (o : Option ℕ). (n : ℕ) → n < length (map laned lanes) → ContextsFit r.settings.activation (lane_at (map laned lanes) n).id (lane_at (map laned lanes) n).live r.tokens (with_detached t.contexts place_id o (lane_at (map laned lanes) n).id)) (sym (no_active r.settings.activation)) fit.attached)),
+        )
     exited_record gs' t guard (s ∷ up) fit live differ same none shown =
         let x = exit_told dispatch at before later s (fit.known s (live s up refl)) shown.2 in
-        let toks = without_last (is_token before.id s) r.tokens in
-        (toks, x.is, subst (λ (c : Recording). (n : ℕ) → n < length (map laned (set lanes lane later)) → ContextsFit c.settings.activation (lane_at (map laned (set lanes lane later)) n).id (lane_at (map laned (set lanes lane later)) n).live c.tokens ((after t (exits now.setup at place_id guard (s ∷ up))).contexts (lane_at (map laned (set lanes lane later)) n).id)) (sym x.is)
-            (subst (λ (l : ℕ). (n : ℕ) → n < length (map laned (set lanes lane later)) → ContextsFit r.settings.activation (lane_at (map laned (set lanes lane later)) n).id (lane_at (map laned (set lanes lane later)) n).live toks (with_detached t.contexts l (if r.settings.activation then Some s else None) (lane_at (map laned (set lanes lane later)) n).id)) id_is
-            (all_exited r.settings.activation lanes lane before later within here same differ r.tokens t.contexts fit.attached s x.token x.last x.lane)))
+        let toks = without_last (is_token before.id s) r.tokens in (
+          toks,
+          x.is,
+          subst (λ (c : Recording). (n : ℕ) → n < length (map laned (set lanes lane later)) → ContextsFit c.settings.activation (lane_at (map laned (set lanes lane later)) n).id (lane_at (map laned (set lanes lane later)) n).live c.tokens ((after t (exits now.setup at place_id guard (s ∷ up))).contexts (lane_at (map laned (set lanes lane later)) n).id)) (sym x.is)
+              (subst (λ (l : ℕ). (n : ℕ) → n < length (map laned (set lanes lane later)) → ContextsFit r.settings.activation (lane_at (map laned (set lanes lane later)) n).id (lane_at (map laned (set lanes lane later)) n).live toks (with_detached t.contexts l (if r.settings.activation then Some s else None) (lane_at (map laned (set lanes lane later)) n).id)) id_is
+              (all_exited r.settings.activation lanes lane before later within here same differ r.tokens t.contexts fit.attached s x.token x.last x.lane)),
+        )
 
     -- an entry, by the scope of its handle
     entered_record : (gs' : List (Option Guard)) (t : Tables) (handle : ℕ) (line : Scope) → RecordingFits now t → ((s : ℕ) (up : Scope) → line ≡ s ∷ up → 0 < (span_at now.spans.made s).holds) → lanes_of → later.id ≡ before.id → (line ≡ [] → later ≡ before)
@@ -203,10 +209,13 @@ module _ {S : Type 0} (spans : S → Spans) (recorded : S → Recording) (attach
         → (toks : List Token) × (r' ≡ record (recorded_by (length t.made) (enters now.setup t at lane handle line) r) { tokens = toks }) × AllFit (then_with gs') (after t (enters now.setup t at lane handle line)).contexts
     entered_record gs' t handle [] fit live differ same none shown =
         let is = ap (λ (w : Worlds S). seen recorded no_recording w dispatch) shown in
-        let nothing : (b : Bool) → recorded_by (length t.made) (record (quiet at place_id (reply.Guard 0)) { starts = option_to_list (active b []) }) r ≡ r = λ b. ap (λ (o : Option ℕ). recorded_by (length t.made) (record (quiet at place_id (reply.Guard 0)) { starts = option_to_list o }) r) (no_active b) in
-        (r.tokens, is ∙ ap (λ (x : Recording). record x { tokens = r.tokens }) (sym (nothing r.settings.activation)), subst (λ (c : Recording). (n : ℕ) → n < length (map laned (set lanes lane later)) → ContextsFit c.settings.activation (lane_at (map laned (set lanes lane later)) n).id (lane_at (map laned (set lanes lane later)) n).live c.tokens ((after t (enters now.setup t at lane handle [])).contexts (lane_at (map laned (set lanes lane later)) n).id)) (sym is)
-            (subst (λ (ls : List Laned). (n : ℕ) → n < length ls → ContextsFit r.settings.activation (lane_at ls n).id (lane_at ls n).live r.tokens ((after t (enters now.setup t at lane handle [])).contexts (lane_at ls n).id)) (sym (lanes_same lanes lane before later within here (ap laned (none refl))))
-            (subst (λ (o : Option ℕ). (n : ℕ) → n < length (map laned lanes) → ContextsFit r.settings.activation (lane_at (map laned lanes) n).id (lane_at (map laned lanes) n).live r.tokens (with_attached t.contexts place_id (attached_by t.recording at o) (lane_at (map laned lanes) n).id)) (sym (no_active r.settings.activation)) fit.attached)))
+        let nothing : (b : Bool) → recorded_by (length t.made) (record (quiet at place_id (reply.Guard 0)) { starts = option_to_list (active b []) }) r ≡ r = λ b. ap (λ (o : Option ℕ). recorded_by (length t.made) (record (quiet at place_id (reply.Guard 0)) { starts = option_to_list o }) r) (no_active b) in (
+          r.tokens,
+          is ∙ ap (λ (x : Recording). record x { tokens = r.tokens }) (sym (nothing r.settings.activation)),
+          subst (λ (c : Recording). (n : ℕ) → n < length (map laned (set lanes lane later)) → ContextsFit c.settings.activation (lane_at (map laned (set lanes lane later)) n).id (lane_at (map laned (set lanes lane later)) n).live c.tokens ((after t (enters now.setup t at lane handle [])).contexts (lane_at (map laned (set lanes lane later)) n).id)) (sym is)
+              (subst (λ (ls : List Laned). (n : ℕ) → n < length ls → ContextsFit r.settings.activation (lane_at ls n).id (lane_at ls n).live r.tokens ((after t (enters now.setup t at lane handle [])).contexts (lane_at ls n).id)) (sym (lanes_same lanes lane before later within here (ap laned (none refl))))
+              (subst (λ (o : Option ℕ). (n : ℕ) → n < length (map laned lanes) → ContextsFit r.settings.activation (lane_at (map laned lanes) n).id (lane_at (map laned lanes) n).live r.tokens (with_attached t.contexts place_id (attached_by t.recording at o) (lane_at (map laned lanes) n).id)) (sym (no_active r.settings.activation)) fit.attached)),
+        )
     entered_record gs' t handle (s ∷ up) fit live differ same none shown =
         let x = entry_told dispatch at before later s (fit.known s (live s up refl)) shown.2 in
         let b = r.settings.activation in
@@ -214,16 +223,18 @@ module _ {S : Type 0} (spans : S → Spans) (recorded : S → Recording) (attach
         let toks = r.tokens ++ token ∷ [] in
         let own = own_or empty_context (told_at s (with_starts (source_of b s) at r).spans) in
         let rec_is : r' ≡ record (recorded_by (length t.made) (enters now.setup t at lane handle (s ∷ up)) r) { tokens = toks } =
-            x.is ∙ ap (λ (y : Recording). record (with_applied s at ops.Enter y) { tokens = y.tokens ++ token ∷ [] }) (sym (starts_fold (source_of b s) at r))
-            ∙ ap (λ (ts : List Token). record (with_applied s at ops.Enter (fold (λ r s. with_start s at r) r (option_to_list (source_of b s)))) { tokens = ts ++ token ∷ [] }) (ap (λ (y : Recording). y.tokens) (starts_fold (source_of b s) at r) ∙ entry_tokens (source_of b s) at r) in
+        x.is ∙ ap (λ (y : Recording). record (with_applied s at ops.Enter y) { tokens = y.tokens ++ token ∷ [] }) (sym (starts_fold (source_of b s) at r))
+        ∙ ap (λ (ts : List Token). record (with_applied s at ops.Enter (fold (λ r s. with_start s at r) r (option_to_list (source_of b s)))) { tokens = ts ++ token ∷ [] }) (ap (λ (y : Recording). y.tokens) (starts_fold (source_of b s) at r) ∙ entry_tokens (source_of b s) at r) in
         let settings : r'.settings ≡ r.settings = ap (λ (c : Recording). c.settings) rec_is ∙ recorded_settings (length t.made) (enters now.setup t at lane handle (s ∷ up)) r in
-        let tokens : r'.tokens ≡ toks = ap (λ (c : Recording). c.tokens) rec_is in
-        (toks, rec_is,
-            subst (λ (ts : List Token). (n : ℕ) → n < length (map laned (set lanes lane later)) → ContextsFit r'.settings.activation (lane_at (map laned (set lanes lane later)) n).id (lane_at (map laned (set lanes lane later)) n).live ts ((after t (enters now.setup t at lane handle (s ∷ up))).contexts (lane_at (map laned (set lanes lane later)) n).id)) (sym tokens)
-            (subst (λ (c : LayerSettings). (n : ℕ) → n < length (map laned (set lanes lane later)) → ContextsFit c.activation (lane_at (map laned (set lanes lane later)) n).id (lane_at (map laned (set lanes lane later)) n).live toks ((after t (enters now.setup t at lane handle (s ∷ up))).contexts (lane_at (map laned (set lanes lane later)) n).id)) (sym settings)
-            (subst (λ (o : Option Attached). (n : ℕ) → n < length (map laned (set lanes lane later)) → ContextsFit b (lane_at (map laned (set lanes lane later)) n).id (lane_at (map laned (set lanes lane later)) n).live toks (with_attached t.contexts place_id o (lane_at (map laned (set lanes lane later)) n).id)) (attach_is b s at up r t.recording fit.recorded)
-            (subst (λ (l : ℕ). (n : ℕ) → n < length (map laned (set lanes lane later)) → ContextsFit b (lane_at (map laned (set lanes lane later)) n).id (lane_at (map laned (set lanes lane later)) n).live toks (with_attached t.contexts l (if b then Some (record { span = s; context = own }) else None) (lane_at (map laned (set lanes lane later)) n).id)) id_is
-            (all_entered b lanes lane before later within here same differ r.tokens t.contexts fit.attached s own x.attached x.lane)))))
+        let tokens : r'.tokens ≡ toks = ap (λ (c : Recording). c.tokens) rec_is in (
+          toks,
+          rec_is,
+          subst (λ (ts : List Token). (n : ℕ) → n < length (map laned (set lanes lane later)) → ContextsFit r'.settings.activation (lane_at (map laned (set lanes lane later)) n).id (lane_at (map laned (set lanes lane later)) n).live ts ((after t (enters now.setup t at lane handle (s ∷ up))).contexts (lane_at (map laned (set lanes lane later)) n).id)) (sym tokens)
+              (subst (λ (c : LayerSettings). (n : ℕ) → n < length (map laned (set lanes lane later)) → ContextsFit c.activation (lane_at (map laned (set lanes lane later)) n).id (lane_at (map laned (set lanes lane later)) n).live toks ((after t (enters now.setup t at lane handle (s ∷ up))).contexts (lane_at (map laned (set lanes lane later)) n).id)) (sym settings)
+              (subst (λ (o : Option Attached). (n : ℕ) → n < length (map laned (set lanes lane later)) → ContextsFit b (lane_at (map laned (set lanes lane later)) n).id (lane_at (map laned (set lanes lane later)) n).live toks (with_attached t.contexts place_id o (lane_at (map laned (set lanes lane later)) n).id)) (attach_is b s at up r t.recording fit.recorded)
+              (subst (λ (l : ℕ). (n : ℕ) → n < length (map laned (set lanes lane later)) → ContextsFit b (lane_at (map laned (set lanes lane later)) n).id (lane_at (map laned (set lanes lane later)) n).live toks (with_attached t.contexts l (if b then Some (record { span = s; context = own }) else None) (lane_at (map laned (set lanes lane later)) n).id)) id_is
+              (all_entered b lanes lane before later within here same differ r.tokens t.contexts fit.attached s own x.attached x.lane)))),
+        )
 
     module _ (guard : ℕ) (g : Guard) (found : slot_at gs guard ≡ Some g) (on : g.lane ≡ lane) (gs' : List (Option Guard)) (one : gs' ≡ slice_set gs guard None) (h : Handle) (entry_is : g.entry ≡ h.held)
         (did : ReplacedOn (λ id s t. does s (Exit id at before later) t) old new h.held) (none : h.held ≡ None → later ≡ before) (inv : IsKept kept is_whole old now) where

@@ -1,10 +1,10 @@
 -- What is kept fits after an entry and after an exit.
-use Rattle.std.proofs.Common.{◌≡◌, ℕ, ◌+◌, ◌-◌, ◌<◌, ◌≤◌, List, [], ◌∷◌, ◌++◌, length, Bool, true, false, cond, count_by, set, Option, Some, None, refl, sym, ap, subst, ◌∙◌, arith, inl, inr}
-use Rattle.std.specs.Prelude.{if◌then◌else◌, ◌==◌, ◌&&◌}
+use Rattle.std.proofs.Common.{◌≡◌, ℕ, ◌+◌, ◌<◌, List, [], ◌∷◌, ◌++◌, length, cond, count_by, set, Option, Some, None, refl, sym, ap, subst, ◌∙◌, arith, inl, inr}
+use Rattle.std.specs.Prelude.{◌==◌, ◌&&◌}
 use Rattle.std.proofs.lemmas.Bool.{eq-eqb, eqb-true, ne_eqb, cases_eq, cases_Bool, cases_lt, cond-true, cond-false, and_from}
 use Rattle.std.proofs.lemmas.List.{length_push, get_or_past, get_or_push, get_or_append_left, get_or-set_same, get_or-set_other}
 use Rattle.std.proofs.lemmas.List.Sums.{sum_by-set, get_or-le-sum_by}
-use Rattle.trace_base.specs.Spans.{Span, Entries, Spans, span_at, entries_on, with_entries, is_in, times_in, first_entries, open_children, without_last, held, less_held, released}
+use Rattle.trace_base.specs.Spans.{Span, Entries, Spans, span_at, entries_on, with_entries, is_in, times_in, open_children, without_last, held, less_held, released}
 use Rattle.trace_base.specs.Calls.{entered, exited}
 use Rattle.trace_base.specs.Conditions.{HasOwnHold, IsLive, MayExit}
 use Rattle.trace_base.proofs.Entering.{count_push, any_if_counted, made_if_held, with_same, with_other}

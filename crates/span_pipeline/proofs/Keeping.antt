@@ -15,8 +15,8 @@ use Rattle.span_pipeline.specs.declared.slots.Guard.{Guard}
 use Rattle.otel_layer.specs.Recording.{Recording, no_recording}
 use Rattle.span_pipeline.specs.Tables.{Scope, slot_at}
 use Rattle.span_pipeline.proofs.Naming.{find, held_slot}
-use Rattle.span_pipeline.specs.Setups.{Setup, id_at, name_at}
-use Rattle.span_pipeline.specs.Fits.{State, setup_of, state_of, Laned, laned, no_lane, lane_at, held_by, LanesFit, IsKept, held_of}
+use Rattle.span_pipeline.specs.Setups.{id_at, name_at}
+use Rattle.span_pipeline.specs.Fits.{State, state_of, Laned, laned, no_lane, lane_at, held_by, LanesFit, IsKept, held_of}
 
 pub on_err : {T E : Type 0} (result : Result T E) (P : Type 0) → P → OnErr result P
 on_err (Ok v) P p = tt
@@ -126,13 +126,17 @@ module _ {S : Type 0} (spans : S → Spans) (recorded : S → Recording) (attach
       (law old new dispatch r, ap (λ (w : Worlds S). w.sites) r.others, records old new dispatch r)
 
   pub alike_line : (old new : Worlds S) (dispatch : ℕ) (line : Scope) → AlikeOn old new dispatch line → Alike spans attaches kept is_whole old new dispatch × (new.sites ≡ old.sites) × (seen recorded no_recording new dispatch ≡ seen recorded no_recording old dispatch)
-  alike_line old new dispatch [] same = (record {
-    spans_same = ap (λ (w : Worlds S). spans_in spans w dispatch) same;
-    attaches_same = ap (λ (w : Worlds S). seen attaches false w dispatch) same;
-    kept_same = ap (λ (w : Worlds S). kept_in kept w dispatch) same;
-    count = ap (λ (w : Worlds S). length w.subscribers) same;
-    whole = λ has. subst (λ (w : Worlds S). Has is_whole w dispatch) (sym same) has;
-  }, ap (λ (w : Worlds S). w.sites) same, ap (λ (w : Worlds S). seen recorded no_recording w dispatch) same)
+  alike_line old new dispatch [] same = (
+    record {
+      spans_same = ap (λ (w : Worlds S). spans_in spans w dispatch) same;
+      attaches_same = ap (λ (w : Worlds S). seen attaches false w dispatch) same;
+      kept_same = ap (λ (w : Worlds S). kept_in kept w dispatch) same;
+      count = ap (λ (w : Worlds S). length w.subscribers) same;
+      whole = λ has. subst (λ (w : Worlds S). Has is_whole w dispatch) (sym same) has;
+    },
+    ap (λ (w : Worlds S). w.sites) same,
+    ap (λ (w : Worlds S). seen recorded no_recording w dispatch) same,
+  )
   alike_line old new dispatch (s ∷ up) same = same
 
   -- after a refusal for want of memory

@@ -1,14 +1,13 @@
 -- Spans that are known to the layer stay so until they close.
-use Rattle.std.specs.Prelude.{◌==◌, ◌||◌, ◌≢◌, if◌then◌else◌}
+use Rattle.std.specs.Prelude.{◌==◌, ◌||◌, ◌≢◌}
 use Rattle.std.specs.List.{list_any}
-use Rattle.std.specs.Map.{keys_of}
-use Rattle.std.proofs.Common.{◌≡◌, ℕ, List, [], ◌∷◌, ◌++◌, fold, Bool, true, false, cond, Option, Some, None, refl, sym, ap, subst, ◌∙◌, inl, inr}
-use Rattle.std.proofs.lemmas.Bool.{cases_Bool, cases_eq, eq-eqb, eqb-true, ne_eqb, cond-true, cond-false, or_parts, true≢false}
+use Rattle.std.proofs.Common.{◌≡◌, ℕ, List, [], ◌∷◌, fold, Bool, true, false, Option, Some, None, refl, sym, ap, ◌∙◌, inl, inr}
+use Rattle.std.proofs.lemmas.Bool.{cases_Bool, eq-eqb, cond-true, cond-false, or_parts, true≢false}
 use Rattle.otel_base.specs.declared.context.Context.{Context}
 use Rattle.otel_state.specs.declared.op.Op.{Op}
 use Rattle.otel_state.specs.States.{Told}
-use Rattle.otel_layer.specs.Table.{told_at, knows_span, with_span, with_op, waits, is_id}
-use Rattle.otel_layer.specs.Recording.{Recording, with_start, with_applied, with_close, closed, closed_started, told_after, told_started}
+use Rattle.otel_layer.specs.Table.{told_at, knows_span, with_span, waits}
+use Rattle.otel_layer.specs.Recording.{Recording, with_start, with_applied, with_close, closed, told_after, told_started}
 use Rattle.otel_layer.proofs.Finding.{told_at_op, told_at_start, told_at_removed}
 use Rattle.span_pipeline.specs.Tables.{Made, Done, Effect, with_made, recorded_by}
 

@@ -1,10 +1,9 @@
 -- The contexts of all lanes after an entry or an exit on one.
 use Rattle.std.specs.Prelude.{◌==◌, if◌then◌else◌}
-use Rattle.std.proofs.Common.{◌≡◌, ℕ, ◌<◌, List, [], ◌∷◌, ◌++◌, length, Bool, true, false, cond, get_or, set, Option, Some, None, map, refl, sym, ap, subst, ◌∙◌, arith, inl, inr}
+use Rattle.std.proofs.Common.{◌≡◌, ℕ, ◌<◌, List, [], ◌∷◌, ◌++◌, length, Bool, true, false, get_or, set, Option, Some, None, map, refl, sym, ap, subst, ◌∙◌, arith, inl, inr}
 use Rattle.std.proofs.lemmas.Bool.{cases_eq, eq-eqb, ne_eqb, cond-true, cond-false}
 use Rattle.std.proofs.lemmas.List.{length-set, length-map, map-set, get_or-set_same, get_or-set_other}
 use Rattle.otel_base.specs.declared.context.Context.{Context}
-use Rattle.otel_base.specs.Stack.{has, without}
 use Rattle.otel_state.specs.Stack.{last_passing}
 use Rattle.trace_base.specs.declared.lane.Lane.{Lane}
 use Rattle.trace_base.specs.Spans.{without_last}
@@ -56,7 +55,7 @@ pub all_entered : (activation : Bool) (lanes : List Lane) (lane : ℕ) (before l
     → (tokens : List Token) (contexts : ℕ → List Attached) → ((n : ℕ) → n < length (map laned lanes) → ContextsFit activation (lane_at (map laned lanes) n).id (lane_at (map laned lanes) n).live tokens (contexts (lane_at (map laned lanes) n).id))
     → (s : ℕ) (own : Context) (attached : Option ℕ) → Attaches activation own before later attached
     → (n : ℕ) → n < length (map laned (set lanes lane later)) → ContextsFit activation (lane_at (map laned (set lanes lane later)) n).id (lane_at (map laned (set lanes lane later)) n).live (tokens ++ record { lane = before.id; id = s; attached = attached } ∷ [])
-        (with_attached contexts before.id (if activation then Some (record { span = s; context = own }) else None) (lane_at (map laned (set lanes lane later)) n).id)
+    (with_attached contexts before.id (if activation then Some (record { span = s; context = own }) else None) (lane_at (map laned (set lanes lane later)) n).id)
 all_entered true lanes lane before later within seen same differ tokens contexts fit s own attached a =
     let more = λ (l : ℕ). (if before.id == l then contexts before.id ++ record { span = s; context = own } ∷ [] else contexts l) in
     all_after true lanes lane before later within seen same differ tokens contexts fit (tokens ++ record { lane = before.id; id = s; attached = attached } ∷ []) more
@@ -77,7 +76,7 @@ pub all_exited : (activation : Bool) (lanes : List Lane) (lane : ℕ) (before la
     → (tokens : List Token) (contexts : ℕ → List Attached) → ((n : ℕ) → n < length (map laned lanes) → ContextsFit activation (lane_at (map laned lanes) n).id (lane_at (map laned lanes) n).live tokens (contexts (lane_at (map laned lanes) n).id))
     → (s : ℕ) (token : Token) → last_passing (is_token before.id s) tokens ≡ Some token → Detaches (if activation then token.attached else None) before later
     → (n : ℕ) → n < length (map laned (set lanes lane later)) → ContextsFit activation (lane_at (map laned (set lanes lane later)) n).id (lane_at (map laned (set lanes lane later)) n).live (without_last (is_token before.id s) tokens)
-        (with_detached contexts before.id (if activation then Some s else None) (lane_at (map laned (set lanes lane later)) n).id)
+    (with_detached contexts before.id (if activation then Some s else None) (lane_at (map laned (set lanes lane later)) n).id)
 all_exited true lanes lane before later within seen same differ tokens contexts fit s token last leaves =
     let less = λ (l : ℕ). (if before.id == l then without_last (λ (a : Attached). a.span == s) (contexts before.id) else contexts l) in
     all_after true lanes lane before later within seen same differ tokens contexts fit (without_last (is_token before.id s) tokens) less

@@ -22,3 +22,4 @@ mod Requiring
 mod Scopes
 mod Serving
 mod Standing
+mod Telling

@@ -1,6 +1,6 @@
 -- Makings, served.
-use Rattle.std.proofs.Common.{◌≡◌, ℕ, ◌+◌, ◌<◌, ◌≤◌, ◌^◌, List, [], ◌∷◌, ◌++◌, length, Bool, true, false, cond, fold, get_or, Option, Some, None, Ok, option_map, map, refl, sym, ap, subst, ◌∙◌, arith, inl, inr}
-use Rattle.std.specs.Prelude.{is_some, IfSome, slice_get}
+use Rattle.std.proofs.Common.{◌≡◌, ℕ, ◌+◌, ◌<◌, ◌≤◌, ◌^◌, List, [], ◌∷◌, ◌++◌, length, Bool, true, false, fold, get_or, Option, Some, None, Ok, option_map, map, refl, sym, ap, subst, ◌∙◌, arith, inl, inr}
+use Rattle.std.specs.Prelude.{IfSome, slice_get}
 use Rattle.std.proofs.lemmas.Bool.{cases_eq, cases_lt, cond-true, cond-false}
 use Rattle.std.proofs.lemmas.List.{length-map, length_push, map_push, get_or_past, get_or_push, get_or_append_left}
 use Rattle.trace_base.specs.declared.lane.Lane.{Lane}
@@ -12,11 +12,11 @@ use Rattle.trace_base.specs.declared.field.ValueSet.{ValueSet}
 use Rattle.trace_base.specs.Gate.{Worlds}
 use Rattle.trace_base.specs.Level.{is_within}
 use Rattle.trace_base.specs.Spans.{Span, Spans, no_span, span_at, held_by_child, entries_on, place_on}
-use Rattle.trace_base.specs.Calls.{SubscriberCall, NewSpan, CloneSpan, with_span}
+use Rattle.trace_base.specs.Calls.{SubscriberCall, NewSpan, with_span}
 use Rattle.trace_base.specs.Conditions.{IsLivePlace, HasFewHolds, AreFew, HasFewHoldsAbove}
 use Rattle.trace_base.specs.Sound.{OneEach}
 use Rattle.span_handles.specs.Worlds.{Shown, Alike, Replaced, seen, spans_in, kept_in, no_spans, Has}
-use Rattle.span_handles.specs.Handles.{Handle, Held, ReplacedOn, Makes, MayMake, no_handle}
+use Rattle.span_handles.specs.Handles.{Handle, Makes, MayMake, no_handle}
 use Rattle.span_handles.proofs.Showing.{seen_before}
 use Rattle.span_pipeline.specs.declared.slots.Guard.{Guard}
 use Rattle.span_pipeline.specs.declared.reply.Reply.TheVariants as reply
@@ -45,8 +45,8 @@ use Rattle.trace_base.specs.declared.span.Parent.TheVariants as parent
 use Rattle.trace_base.specs.Spans.{current_of}
 use Rattle.trace_base.proofs.Entering.{length_held}
 use Rattle.trace_base.proofs.Holding.{holds_other}
-use Rattle.span_pipeline.specs.Tables.{Scope, Made, Attached, no_making, Guarded, Effect, Tables, recorded_by, open_part, after, slot_at, own, made_of}
-use Rattle.span_pipeline.specs.Effects.{Resolved, named, effect_of_call, no_values, lane_in, made_at, context_around, parent_at, makes, makes_span, declines, scope_at}
+use Rattle.span_pipeline.specs.Tables.{Scope, Made, Attached, no_making, Effect, Tables, recorded_by, open_part, slot_at, own, made_of}
+use Rattle.span_pipeline.specs.Effects.{named, effect_of_call, no_values, lane_in, made_at, context_around, parent_at, makes, makes_span, declines, scope_at}
 use Rattle.span_pipeline.proofs.Known.{recorded_known, new_known}
 use Rattle.span_pipeline.proofs.Attaching.{last_is}
 use Rattle.span_pipeline.proofs.Laned.{own_fit}
@@ -54,17 +54,16 @@ use Rattle.span_pipeline.proofs.Recordings.{recorded_settings, recorded_tokens, 
 use Rattle.span_pipeline.specs.Slots.{place_for, MakesOnly}
 use Rattle.span_pipeline.specs.Balance.{Balanced, named_by, opened_by}
 use Rattle.span_pipeline.specs.Fits.{State, state_of, laned, Fits, StandsFor, MadeFit, LanesFit, IsKept, Served, IsScope, above as parent_above, held_of, guard_of, held_by}
-use Rattle.span_pipeline.proofs.Naming.{find, held_slot, named_within}
+use Rattle.span_pipeline.proofs.Naming.{find}
 use Rattle.span_pipeline.proofs.Scopes.{new_line}
-use Rattle.span_pipeline.proofs.Standing.{Step, fits_step}
+use Rattle.span_pipeline.proofs.Standing.{fits_step}
 use Rattle.span_pipeline.proofs.Reading.{Law, Recalls, has_by}
-use Rattle.span_pipeline.proofs.Balancing.{held_most, named_slot}
-use Rattle.span_pipeline.proofs.Fitting.{fits_live}
+use Rattle.span_pipeline.proofs.Balancing.{held_most}
 use Rattle.span_pipeline.proofs.Keeping.{id_seen, name_seen, kept_alike, SameRecorded}
 use Rattle.span_pipeline.proofs.Makings.{made_held}
 use Rattle.span_pipeline.proofs.Serving.{serve, known_still, all_same, kept_served}
 use Rattle.span_pipeline.proofs.Copies.{the_scope, still_named_more}
-use Rattle.span_pipeline.proofs.Cloning.{spans_held, balanced_clone, balanced_decline, balanced_new, find_up}
+use Rattle.span_pipeline.proofs.Cloning.{balanced_decline, balanced_new, find_up}
 
 -- the spans with a new one under a scope
 made_pushed : (xs : List Span) (ms : List Made) (up : Scope) (site : ℕ) (told : Told) → MadeFit xs ms → MadeFit (xs ++ record { holds = 1; parent = own up; site = site } ∷ []) (ms ++ record { site = site; scope = length ms ∷ up; told = told } ∷ [])
@@ -153,7 +152,7 @@ the_callsite a b e = cc e
 -- the settings are those of the open part, whatever started
 told_settings : (setup : Setup) (t : Tables) (at lane : ℕ) (callsite : Callsite) (q : Parent) (r : Recording) → open_part r ≡ t.recording
     → made_told callsite (lane_in setup lane) no_values
-        (context_from (with_starts (above r.settings.activation q (current_of (t.entries (id_at setup.ids lane)))) at t.recording).spans (context_around (t.contexts (id_at setup.ids lane)) q) (above r.settings.activation q (current_of (t.entries (id_at setup.ids lane))))) at r.settings r.counting
+    (context_from (with_starts (above r.settings.activation q (current_of (t.entries (id_at setup.ids lane)))) at t.recording).spans (context_around (t.contexts (id_at setup.ids lane)) q) (above r.settings.activation q (current_of (t.entries (id_at setup.ids lane))))) at r.settings r.counting
     ≡ made_at (record setup { layer = r.settings }) t at lane callsite q
 told_settings setup t at lane callsite q r is =
     let source = above r.settings.activation q (current_of (t.entries (id_at setup.ids lane))) in
@@ -170,7 +169,7 @@ made_is : (setup : Setup) (t : Tables) (at lane : ℕ) (callsite c : Callsite) (
     → before.id ≡ id_at setup.ids lane → before.name ≡ name_at setup.names lane → current ≡ current_of (t.entries (id_at setup.ids lane)) → map (λ (x : ℕ × Context). x.1) before.contexts.live ≡ map (λ (a : Attached). a.context) (t.contexts (id_at setup.ids lane))
     → made_told c before no_values (context_from (with_starts (above r.settings.activation p current) at r).spans (around before p) (above r.settings.activation p current)) at r.settings r.counting
     ≡ made_told callsite (lane_in setup lane) no_values
-        (context_from (with_starts (above r.settings.activation q (current_of (t.entries (id_at setup.ids lane)))) at t.recording).spans (context_around (t.contexts (id_at setup.ids lane)) q) (above r.settings.activation q (current_of (t.entries (id_at setup.ids lane))))) at r.settings r.counting
+    (context_from (with_starts (above r.settings.activation q (current_of (t.entries (id_at setup.ids lane)))) at t.recording).spans (context_around (t.contexts (id_at setup.ids lane)) q) (above r.settings.activation q (current_of (t.entries (id_at setup.ids lane))))) at r.settings r.counting
 made_is setup t at lane callsite c p q before r current recorded layer c_is p_is id name current_is contexts =
     let source = λ (x : Parent) (o : Option ℕ). above r.settings.activation x o in
     ap (λ (x : Callsite). made_told x before no_values (context_from (with_starts (source p current) at r).spans (around before p) (source p current)) at r.settings r.counting) c_is
@@ -230,22 +229,22 @@ module _ {S : Type 0} (spans : S → Spans) (recorded : S → Recording) (attach
             let current_is : current ≡ current_of (t.entries place_id) = ap (λ (l : ℕ). current_of (entries_on l sp.lanes)) id_is' ∙ ap current_of (fits.balanced.entries place_id) in
             let callsite_is : did.callsite ≡ callsite = the_callsite did.callsite callsite (sym did.is ∙ site_is old.sites site callsite sited) in
             let contexts : map (λ (x : ℕ × Context). x.1) before.contexts.live ≡ map (λ (a : Attached). a.context) (t.contexts place_id) =
-                (own_fit r.settings.activation lanes lane before before within seen_is refl inv.lanes.differ r.tokens t.contexts stands.recording.attached).contexts ∙ ap (λ (l : ℕ). map (λ (a : Attached). a.context) (t.contexts l)) id_is' in
+            (own_fit r.settings.activation lanes lane before before within seen_is refl inv.lanes.differ r.tokens t.contexts stands.recording.attached).contexts ∙ ap (λ (l : ℕ). map (λ (a : Attached). a.context) (t.contexts l)) id_is' in
             let told : Told = made_at now.setup t at lane callsite q in
             let raw : Told = made_told did.callsite before values (context_from (with_starts (above r.settings.activation p current) at r).spans (around before p) (above r.settings.activation p current)) at r.settings r.counting in
             let told_is : raw ≡ told =
-                ap (λ (v : ValueSet). made_told did.callsite before v (context_from (with_starts (above r.settings.activation p current) at r).spans (around before p) (above r.settings.activation p current)) at r.settings r.counting) plain
-                ∙ made_is now.setup t at lane callsite did.callsite p q before r current stands.recording.recorded refl callsite_is up.parent_is id_is' (name_seen lanes lane before within seen_is) current_is contexts
-                ∙ told_settings now.setup t at lane callsite q r stands.recording.recorded in
+            ap (λ (v : ValueSet). made_told did.callsite before v (context_from (with_starts (above r.settings.activation p current) at r).spans (around before p) (above r.settings.activation p current)) at r.settings r.counting) plain
+            ∙ made_is now.setup t at lane callsite did.callsite p q before r current stands.recording.recorded refl callsite_is up.parent_is id_is' (name_seen lanes lane before within seen_is) current_is contexts
+            ∙ told_settings now.setup t at lane callsite q r stands.recording.recorded in
             let new_made : Made = record { site = site; scope = line; told = told } in
             let e : Effect = makes_span now.setup t at lane site callsite under up.up in
             let source = above r.settings.activation p current in
             let source_is : source ≡ above r.settings.activation q (current_of (t.entries place_id)) = ap (λ (x : Parent). above r.settings.activation x current) up.parent_is ∙ ap (λ (o : Option ℕ). above r.settings.activation q o) current_is in
             let recalled = recalls old new dispatch _ made_call in
             let rec_is : seen recorded no_recording new dispatch ≡ record (recorded_by (length t.made) e r) { tokens = r.tokens } =
-                recalled ∙ ap (λ (n : ℕ). made_record n raw (with_starts source at r)) fits.made.count ∙ ap (λ (x : Told). made_record (length t.made) x (with_starts source at r)) told_is
-                ∙ ap (λ (x : Recording). made_record (length t.made) told x) (sym (starts_fold source at r) ∙ ap (λ (o : Option ℕ). fold (λ r s. with_start s at r) r (option_to_list o)) source_is)
-                ∙ ap (λ (ts : List Token). record (recorded_by (length t.made) e r) { tokens = ts }) (recorded_tokens (length t.made) e r) in
+            recalled ∙ ap (λ (n : ℕ). made_record n raw (with_starts source at r)) fits.made.count ∙ ap (λ (x : Told). made_record (length t.made) x (with_starts source at r)) told_is
+            ∙ ap (λ (x : Recording). made_record (length t.made) told x) (sym (starts_fold source at r) ∙ ap (λ (o : Option ℕ). fold (λ r s. with_start s at r) r (option_to_list o)) source_is)
+            ∙ ap (λ (ts : List Token). record (recorded_by (length t.made) e r) { tokens = ts }) (recorded_tokens (length t.made) e r) in
             let settings = ap (λ (x : Recording). x.settings) rec_is ∙ recorded_settings (length t.made) e r in
             let sites = ap (λ (w : Worlds S). w.sites) did.made.others in
             let setup : then.setup ≡ now.setup = ap (λ x. record now.setup { sites = x; layer = (seen recorded no_recording new dispatch).settings }) sites ∙ ap (λ x. record now.setup { layer = x }) settings in
@@ -255,8 +254,8 @@ module _ {S : Type 0} (spans : S → Spans) (recorded : S → Recording) (attach
             ] in
             serve now then t e _ (reply.Made true number) stands
             (ap (λ o. named what.Site o (λ callsite. named what.Handle (scope_at t place_id under) (λ up. Ok (makes now.setup t at lane site callsite under up)))) sited
-                ∙ ap (λ o. named what.Handle o (λ up. Ok (makes now.setup t at lane site callsite under up))) up.is
-                ∙ ap Ok (cond-true {A = Effect} (is_within callsite.level level) _ _ through))
+            ∙ ap (λ o. named what.Handle o (λ up. Ok (makes now.setup t at lane site callsite under up))) up.is
+            ∙ ap Ok (cond-true {A = Effect} (is_within callsite.level level) _ _ through))
             (ap (λ n. reply.Made true n) (next_number t fits))
             setup r.tokens rec_is
             (fits_step now t fits then e (record {
@@ -295,8 +294,8 @@ module _ {S : Type 0} (spans : S → Spans) (recorded : S → Recording) (attach
             let e : Effect = declines t at place_id in
             serve now then t e _ (reply.Made false number) stands
             (ap (λ o. named what.Site o (λ callsite. named what.Handle (scope_at t place_id under) (λ up. Ok (makes now.setup t at lane site callsite under up)))) sited
-                ∙ ap (λ o. named what.Handle o (λ up. Ok (makes now.setup t at lane site callsite under up))) up.is
-                ∙ ap Ok (cond-false {A = Effect} (is_within callsite.level level) _ _ through))
+            ∙ ap (λ o. named what.Handle o (λ up. Ok (makes now.setup t at lane site callsite under up))) up.is
+            ∙ ap Ok (cond-false {A = Effect} (is_within callsite.level level) _ _ through))
             (ap (λ n. reply.Made false n) (next_number t fits))
             setup r.tokens rec_is
             (fits_step now t fits then e (record {

@@ -1,11 +1,11 @@
 -- Spans that are kept fit those that were made.
-use Rattle.std.proofs.Common.{◌≡◌, ℕ, ◌+◌, ◌-◌, ◌<◌, List, length, Bool, true, false, cond, set, refl, sym, ap, subst, ◌∙◌, arith, inl, inr}
+use Rattle.std.proofs.Common.{◌≡◌, ℕ, ◌+◌, ◌<◌, List, length, Bool, true, false, cond, set, refl, sym, ap, ◌∙◌, arith, inl, inr}
 use Rattle.std.proofs.lemmas.Bool.{cases_eq, cases_lt}
 use Rattle.std.proofs.lemmas.List.{length-set, get_or-set_same, get_or-set_other, get_or_past}
 use Rattle.trace_base.specs.Spans.{Span, no_span, span_at, held, less_held, released}
 use Rattle.trace_base.proofs.Holding.{less_more, less_last, less_holds}
-use Rattle.span_pipeline.specs.Tables.{Made, made_of}
-use Rattle.span_pipeline.specs.Fits.{MadeFit, above}
+use Rattle.span_pipeline.specs.Tables.{Made}
+use Rattle.span_pipeline.specs.Fits.{MadeFit}
 
 -- a span with the same parent and callsite, or closed
 abbrev pub AsMade : Span → Span → Type 0

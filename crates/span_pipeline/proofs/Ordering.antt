@@ -1,6 +1,6 @@
 -- The spans that a chain closes, in order: those of the line that are open no more.
 use Rattle.std.specs.Prelude.{◌==◌, not, nat_lt, slice_set}
-use Rattle.std.proofs.Common.{◌≡◌, ℕ, ◌-◌, ◌<◌, List, [], ◌∷◌, true, false, Option, Some, None, map, refl, sym, ap, subst, ◌∙◌, arith, inl, inr}
+use Rattle.std.proofs.Common.{◌≡◌, ℕ, ◌<◌, List, [], ◌∷◌, true, false, Option, Some, None, map, refl, sym, ap, subst, ◌∙◌, arith, inl, inr}
 use Rattle.std.proofs.lemmas.Bool.{cases_eq, eq-eqb, ne_eqb, cond-true, cond-false, lt-ltb}
 use Rattle.trace_base.specs.Spans.{Span, Spans, span_at, less_held, released, next_of}
 use Rattle.trace_base.proofs.Entering.{made_if_held}

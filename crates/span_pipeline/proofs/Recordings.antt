@@ -1,17 +1,14 @@
 -- What was recorded after one effect more, and the contexts of lanes.
-use Rattle.std.specs.Prelude.{◌==◌, ◌||◌, if◌then◌else◌, filter}
-use Rattle.std.specs.List.{list_any}
 use Rattle.std.specs.Option.{option_to_list}
-use Rattle.std.proofs.Common.{◌≡◌, ℕ, List, [], ◌∷◌, ◌++◌, length, fold, Bool, true, false, cond, Option, Some, None, map, refl, sym, ap, subst, ◌∙◌, arith, inl, inr}
+use Rattle.std.proofs.Common.{◌≡◌, ℕ, List, [], ◌∷◌, ◌++◌, length, fold, Option, Some, None, refl, sym, ap, ◌∙◌}
 use Rattle.std.proofs.lemmas.List.{append-nil, append_assoc}
 use Rattle.otel_base.specs.declared.context.Context.{Context}
 use Rattle.otel_base.specs.declared.record.Record.{Record}
 use Rattle.otel_state.specs.States.{Told}
 use Rattle.otel_layer.specs.declared.tokens.Token.{Token}
-use Rattle.otel_layer.specs.Table.{told_at, waits, with_span}
+use Rattle.otel_layer.specs.Table.{told_at, waits}
 use Rattle.otel_layer.specs.Recording.{Recording, started_under, with_start, with_starts, with_applied, with_close, closed, closed_started}
 use Rattle.span_pipeline.specs.Tables.{Made, Done, Effect, Tables, after, with_made, recorded_by, open_part, records_of}
-use Rattle.span_pipeline.specs.Fits.{State}
 
 -- a recording with other entries, and records before its own
 abbrev shifted : List Token → List Record → Recording → Recording

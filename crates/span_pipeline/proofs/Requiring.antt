@@ -1,13 +1,12 @@
 -- What a call on the subscriber of a handle requires is what every pipeline keeps.
-use Rattle.std.proofs.Common.{◌≡◌, ℕ, ◌+◌, ◌<◌, ◌^◌, List, ◌∷◌, length, get_or, Option, Some, None, option_map, map, sym, ap, subst, ◌∙◌, arith}
-use Rattle.std.specs.Prelude.{◌==◌}
+use Rattle.std.proofs.Common.{◌≡◌, ℕ, ◌<◌, ◌^◌, List, ◌∷◌, length, get_or, Option, Some, None, option_map, map, sym, ap, subst, ◌∙◌, arith}
 use Rattle.std.proofs.lemmas.List.{length-map}
 use Rattle.std.proofs.Math.ListN.{get_or-map}
 use Rattle.trace_base.specs.declared.lane.Lane.{Lane}
 use Rattle.trace_base.specs.declared.level.LevelFilter.{LevelFilter}
 use Rattle.trace_base.specs.Gate.{Worlds}
-use Rattle.trace_base.specs.Spans.{Spans, span_at}
-use Rattle.trace_base.specs.Conditions.{HasOwnHold, HasFewHolds, IsLive, MayExit}
+use Rattle.trace_base.specs.Spans.{Spans}
+use Rattle.trace_base.specs.Conditions.{HasOwnHold, HasFewHolds, MayExit}
 use Rattle.trace_base.specs.Contexts.{AreAttached}
 use Rattle.span_handles.specs.Worlds.{spans_in, kept_in, no_spans}
 use Rattle.span_handles.specs.Handles.{Handle, Held, HasOn, IsKnown}
@@ -15,11 +14,11 @@ use Rattle.span_handles.specs.Entries.{IsThere}
 use Rattle.span_pipeline.specs.declared.slots.Guard.{Guard}
 use Rattle.span_pipeline.specs.Setups.{id_at}
 use Rattle.otel_layer.specs.Recording.{Recording}
-use Rattle.span_pipeline.specs.Tables.{Scope, Guarded, slot_at, own}
+use Rattle.span_pipeline.specs.Tables.{Scope, slot_at, own}
 use Rattle.span_pipeline.specs.Balance.{named_by, opened_on, opened_by}
-use Rattle.span_pipeline.specs.Fits.{state_of, setup_of, laned, held_by, IsKept, held_of, guard_of}
+use Rattle.span_pipeline.specs.Fits.{state_of, held_by, IsKept, held_of, guard_of}
 use Rattle.span_pipeline.proofs.Naming.{Found, find, held_slot}
-use Rattle.span_pipeline.proofs.Fitting.{fits_live, fits_own, fits_may_exit}
+use Rattle.span_pipeline.proofs.Fitting.{fits_own, fits_may_exit}
 use Rattle.span_pipeline.proofs.Balancing.{named_slot, opened_slot}
 use Rattle.span_pipeline.proofs.Reading.{has_by, there_on, has_on, known_on}
 use Rattle.span_pipeline.proofs.Keeping.{are_attached, id_seen}

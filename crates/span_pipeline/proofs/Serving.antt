@@ -1,12 +1,11 @@
 -- What calls on the span of a scope keep, whatever their kind.
-use Rattle.std.proofs.Common.{◌≡◌, ℕ, ◌<◌, List, [], ◌∷◌, length, Bool, get_or, set, Option, Some, None, false, Ok, Err, map, refl, sym, ap, subst, ◌∙◌, arith}
-use Rattle.std.proofs.lemmas.List.{length-set, length-map}
+use Rattle.std.proofs.Common.{◌≡◌, ℕ, ◌<◌, List, [], ◌∷◌, length, Bool, None, false, Ok, Err, refl, sym, ap, subst, ◌∙◌, arith}
 use Rattle.trace_base.specs.declared.lane.Lane.{Lane}
 use Rattle.trace_base.specs.Gate.{Worlds}
 use Rattle.trace_base.specs.Spans.{Spans, span_at}
 use Rattle.trace_base.specs.Calls.{SubscriberCall}
 use Rattle.trace_base.specs.Contexts.{KeepsAttached, Lanes}
-use Rattle.span_handles.specs.Worlds.{Shown, kept_in, Has}
+use Rattle.span_handles.specs.Worlds.{kept_in, Has}
 use Rattle.span_pipeline.specs.declared.reply.Reply.{Reply}
 use Rattle.span_pipeline.specs.declared.reply.Refusal.{Refusal}
 use Rattle.span_pipeline.specs.declared.request.Call.{Call}
@@ -18,7 +17,7 @@ use Rattle.otel_layer.specs.Recording.{Recording}
 use Rattle.span_pipeline.specs.Setups.{Setup}
 use Rattle.span_pipeline.specs.Tables.{Scope, Attached, Effect, Tables, after, recorded_by}
 use Rattle.span_pipeline.specs.Effects.{Resolved, effect_of_call}
-use Rattle.span_pipeline.specs.Fits.{State, Laned, laned, lane_at, Fits, StandsFor, RecordingFits, ContextsFit, LanesFit, IsKept, Served}
+use Rattle.span_pipeline.specs.Fits.{State, Laned, lane_at, Fits, StandsFor, RecordingFits, ContextsFit, LanesFit, IsKept, Served}
 use Rattle.span_pipeline.proofs.Known.{still_known}
 use Rattle.span_pipeline.proofs.Recordings.{recording_step}
 use Rattle.span_pipeline.proofs.Reading.{ShownOn}

@@ -1,5 +1,5 @@
 -- One effect more: what fits the tables fits them with the effect, whatever its kind.
-use Rattle.std.proofs.Common.{◌≡◌, ℕ, ◌+◌, ◌<◌, ◌≤◌, List, length, Option, Some, None, option_map, map, sym, ap, subst, ◌∙◌}
+use Rattle.std.proofs.Common.{◌≡◌, ℕ, ◌+◌, ◌≤◌, List, length, Option, Some, None, option_map, map, sym, ap, subst, ◌∙◌}
 use Rattle.trace_base.specs.Spans.{span_at}
 use Rattle.trace_base.specs.Sound.{OneEach}
 use Rattle.span_pipeline.specs.Balance.{Balanced, named_by, opened_by}

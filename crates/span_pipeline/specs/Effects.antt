@@ -8,6 +8,7 @@ use Rattle.otel_base.specs.declared.context.Context.{Context}
 use Rattle.otel_base.specs.Stack.{empty_context}
 use Rattle.otel_state.specs.declared.op.Op.{Op}
 use Rattle.otel_state.specs.declared.op.Op.TheVariants as ops
+use Rattle.otel_state.specs.EventFields.{event_of}
 use Rattle.otel_state.specs.States.{Told}
 use Rattle.otel_layer.specs.Steps.{above, context_from, made_told}
 use Rattle.otel_layer.specs.Table.{told_at, own_or}
@@ -28,8 +29,8 @@ use Rattle.span_pipeline.specs.declared.request.Call.{Call}
 use Rattle.span_pipeline.specs.declared.request.Call.TheVariants as call
 use Rattle.span_pipeline.specs.declared.request.Request.{Request}
 use Rattle.span_pipeline.specs.declared.request.TheConstants.{LAST_MOMENT}
-use Rattle.span_pipeline.specs.Setups.{Setup, id_at, name_at, span_site}
-use Rattle.span_pipeline.specs.Tables.{Scope, Made, Done, Attached, Guarded, Effect, quiet, Tables, slot_at, own, scope_of}
+use Rattle.span_pipeline.specs.Setups.{Setup, id_at, name_at, span_site, event_site}
+use Rattle.span_pipeline.specs.Tables.{Scope, Done, Attached, Guarded, Effect, quiet, Tables, slot_at, own, scope_of}
 
 abbrev pub Resolved : Type 0
 Resolved = Result Effect Refusal
@@ -173,6 +174,20 @@ exits setup at lane guard scope = record (quiet at lane reply.Done) {
 abbrev pub exits_on : ℕ → ℕ → Effect → Resolved
 exits_on mine lane effect = if mine == lane then Ok effect else Err (refusal.WrongLane mine)
 
+-- ---- events
+
+-- an op of the span that an event reaches, if it reaches one
+abbrev pub told_to : Option ℕ → Op → List Done
+told_to None op = []
+told_to (Some s) op = record { span = s; op = op } ∷ []
+
+-- an event that isn't let through leaves nothing
+abbrev pub if_told : Bool → List Done → List Done
+if_told enabled done = if enabled then done else []
+
+abbrev pub tells : Tables → ℕ → ℕ → Bool → List Done → Effect
+tells t at lane enabled done = record (quiet at lane (reply.Enabled enabled)) { ops = done }
+
 -- ---- all calls
 
 -- what a call on a lane, which is named by its place, at a moment changes; no other kind is built
@@ -194,7 +209,11 @@ effect_of_call setup t at lane (call.Exit guard) =
 effect_of_call setup t at lane call.Current = Err refusal.Later
 effect_of_call setup t at lane (call.OrCurrent handle) = Err refusal.Later
 effect_of_call setup t at lane (call.Entered handle) = Err refusal.Later
-effect_of_call setup t at lane (call.Event site) = Err refusal.Later
+effect_of_call setup t at lane (call.Event site) =
+    named what.Site (event_site setup.sites site)
+    (λ callsite. Ok (tells t at (id_at setup.ids lane) (is_within callsite.level setup.level)
+    (if_told (is_within callsite.level setup.level)
+    (told_to (current_of (t.entries (id_at setup.ids lane))) (event_of callsite no_values setup.layer at)))))
 effect_of_call setup t at lane (call.Remote ids) = Err refusal.Later
 effect_of_call setup t at lane (call.Context handle) = Err refusal.Later
 effect_of_call setup t at lane (call.Attach context) = Err refusal.Later

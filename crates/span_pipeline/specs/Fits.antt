@@ -1,5 +1,5 @@
 -- What a pipeline keeps, and when it fits the tables of a history.
-use Rattle.std.specs.Prelude.{◌≡◌, ℕ, ◌+◌, ◌<◌, ◌≤◌, ◌==◌, ◌≢◌, ◌^◌, Bool, true, false, List, [], ◌∷◌, ◌++◌, length, map, filter, if◌then◌else◌, count_by, Option, Some, None, option_map, Ok, Err, slice_index_or}
+use Rattle.std.specs.Prelude.{◌≡◌, ℕ, ◌+◌, ◌<◌, ◌≤◌, ◌==◌, ◌≢◌, Bool, true, false, List, [], ◌∷◌, ◌++◌, length, map, filter, if◌then◌else◌, count_by, Option, Some, None, option_map, Ok, Err, slice_index_or}
 use Rattle.otel_base.specs.declared.context.Context.{Context}
 use Rattle.trace_base.specs.declared.lane.Lane.{Lane}
 use Rattle.trace_base.specs.declared.callsite.Callsite.{Callsite}
@@ -19,7 +19,7 @@ use Rattle.span_pipeline.specs.declared.slots.Guard.{Guard}
 use Rattle.span_pipeline.specs.declared.reply.Reply.{Reply}
 use Rattle.span_pipeline.specs.declared.reply.Refusal.{Refusal}
 use Rattle.span_pipeline.specs.declared.reply.Refusal.TheVariants as refusal
-use Rattle.span_pipeline.specs.Setups.{Setup, id_at}
+use Rattle.span_pipeline.specs.Setups.{Setup}
 use Rattle.span_pipeline.specs.Balance.{Balanced, named_by, opened_by}
 use Rattle.span_pipeline.specs.Tables.{Scope, Made, Attached, Guarded, Effect, Tables, History, tables, after, open_part, records_of, slot_at, own, made_of}
 use Rattle.span_pipeline.specs.Effects.{Resolved}

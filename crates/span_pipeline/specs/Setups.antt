@@ -31,6 +31,14 @@ if_span callsite kind.Event = None
 abbrev pub span_site : List Callsite → ℕ → Option Callsite
 span_site callsites site = option_and_then (λ callsite. if_span callsite callsite.kind) (slice_get callsites site)
 
+abbrev pub if_event : Callsite → Kind → Option Callsite
+if_event callsite kind.Event = Some callsite
+if_event callsite kind.Span = None
+
+-- the callsite at a place, if it makes events
+abbrev pub event_site : List Callsite → ℕ → Option Callsite
+event_site callsites site = option_and_then (λ callsite. if_event callsite callsite.kind) (slice_get callsites site)
+
 -- the same of the settings; and lanes have ids of their own
 abbrev pub setup_by : Settings → Setup
 setup_by settings = record { sites = settings.callsites; ids = map (λ l. l.0) settings.lanes; names = map (λ l. l.1) settings.lanes; level = in_force settings.filter; layer = settings.layer }

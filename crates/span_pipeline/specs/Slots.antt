@@ -1,9 +1,11 @@
 -- Where the code puts new spans, and which handles its guards borrow. Inner definitions.
-use Rattle.std.specs.Prelude.{◌≡◌, ℕ, List, Bool, true, false, ◌==◌, Option, Some, None, option_map, slice_index_or}
+use Rattle.std.specs.Prelude.{◌≡◌, ℕ, List, Bool, true, false, ◌==◌, Option, Some, None, option_map, slice_get, slice_index_or}
 use Rattle.std.specs.List.{list_any}
 use Rattle.trace_base.specs.declared.field.ValueSet.{ValueSet}
 use Rattle.trace_base.specs.declared.lane.Lane.{Lane}
-use Rattle.trace_base.specs.Calls.{SubscriberCall}
+use Rattle.trace_base.specs.Calls.{SubscriberCall, Event}
+use Rattle.trace_base.specs.declared.callsite.Callsite.{Callsite}
+use Rattle.span_handles.specs.Worlds.{Replaced}
 use Rattle.trace_base.specs.Gate.{Worlds}
 use Rattle.trace_base.specs.Spans.{Spans}
 use Rattle.trace_base.specs.declared.span.Parent.{Parent}
@@ -43,3 +45,13 @@ is_named guards handle = list_any (names_handle handle) guards
 abbrev pub MakesOnly : {S : Type 0} → (S → Spans) → (S → SubscriberCall → S → Type 0) → Bool → Worlds S → Worlds S → Lane → ℕ → Parent → ℕ → ValueSet → ℕ → Handle → Type 0
 MakesOnly spans does true old new lane at place site values dispatch handle = Makes spans does old new lane at place site values dispatch handle
 MakesOnly spans does false old new lane at place site values dispatch handle = (handle ≡ no_handle) × (new ≡ old)
+
+-- an event was told to a subscriber, which reaches the lane's current span, or nothing happened
+pub record Tells {S : Type 0} (does : S → SubscriberCall → S → Type 0) (old new : Worlds S) (lane : Lane) (at site : ℕ) (values : ValueSet) (dispatch : ℕ) : Type 0 where
+  pub callsite : Callsite
+  pub is : slice_get old.sites site ≡ Some callsite
+  pub told : Replaced (λ s t. does s (Event lane at parent.Current site callsite values) t) old new dispatch
+
+abbrev pub TellsOnly : {S : Type 0} → (S → SubscriberCall → S → Type 0) → Bool → Worlds S → Worlds S → Lane → ℕ → ℕ → ValueSet → ℕ → Type 0
+TellsOnly does true old new lane at site values dispatch = Tells does old new lane at site values dispatch
+TellsOnly does false old new lane at site values dispatch = new ≡ old

@@ -1,12 +1,14 @@
 //! Scripts of span calls on the stack of a registry and the OpenTelemetry layer.
 //!
-//! All turns on `Pipeline::step`, which appends a request to the history that the pipeline stands for.
+//! All turns on `Pipeline::step`, which appends a request to the history that the pipeline stands for. It serves `new`
+//! in every place, `clone`, `drop`, `enter`, `exit` and `event`, on every lane and with any number of open guards. Every
+//! other kind of request is answered `Later`.
 #![tactic(auto)]
 
 mod calls;
+pub mod laws;
 mod level_words;
 mod opening;
-pub mod laws;
 pub mod pipeline;
 pub mod reply;
 pub mod request;

@@ -60,7 +60,10 @@ pub fn lanes(alloc: Global, named: Items<(u64, Option<Text>)>) -> Result<Vec<Lan
 }
 
 /// Adds callsites to a world.
-pub fn add_sites<S: Subscriber>(world: &mut World<S>, callsites: Vec<Callsite>) -> Result<(), Memory>
+pub fn add_sites<S: Subscriber>(
+    world: &mut World<S>,
+    callsites: Vec<Callsite>,
+) -> Result<(), Memory>
     ensures sites { OnOk result (world.new.sites ≡ world.old.sites ++ callsites.items) }
     ensures subscribers { length world.new.subscribers ≡ length world.old.subscribers }
 {

@@ -175,7 +175,7 @@ impl Pipeline {
             Call::Current => Err(Refusal::Later),
             Call::OrCurrent { .. } => Err(Refusal::Later),
             Call::Entered { .. } => Err(Refusal::Later),
-            Call::Event { .. } => Err(Refusal::Later),
+            Call::Event { site } => self.event(at, lane, site),
             Call::Remote { .. } => Err(Refusal::Later),
             Call::Context { .. } => Err(Refusal::Later),
             Call::Attach { .. } => Err(Refusal::Later),

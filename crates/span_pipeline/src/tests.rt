@@ -71,13 +71,52 @@ fn chain(pipeline: &mut Pipeline) -> [bool; 10] {
     let (root, under) = (Place::Root, Place::Under { handle: 0 });
     let contextual = Place::Contextual;
     [
-        answers(pipeline, 0, 0, Call::New { site: 0, place: root }, made(true, 0)),
-        answers(pipeline, 1, 1, Call::New { site: 0, place: under }, made(true, 1)),
-        answers(pipeline, 2, 1, Call::Enter { handle: 1 }, Reply::Guard { guard: 0 }),
-        answers(pipeline, 3, 1, Call::New { site: 1, place: contextual }, made(false, 2)),
+        answers(
+            pipeline,
+            0,
+            0,
+            Call::New {
+                site: 0,
+                place: root,
+            },
+            made(true, 0),
+        ),
+        answers(
+            pipeline,
+            1,
+            1,
+            Call::New {
+                site: 0,
+                place: under,
+            },
+            made(true, 1),
+        ),
+        answers(
+            pipeline,
+            2,
+            1,
+            Call::Enter { handle: 1 },
+            Reply::Guard { guard: 0 },
+        ),
+        answers(
+            pipeline,
+            3,
+            1,
+            Call::New {
+                site: 1,
+                place: contextual,
+            },
+            made(false, 2),
+        ),
         answers(pipeline, 4, 0, Call::Drop { handle: 0 }, Reply::Done),
         refuses(pipeline, 5, 1, Call::Drop { handle: 1 }, Refusal::InUse),
-        refuses(pipeline, 6, 0, Call::Exit { guard: 0 }, Refusal::WrongLane { lane: 1 }),
+        refuses(
+            pipeline,
+            6,
+            0,
+            Call::Exit { guard: 0 },
+            Refusal::WrongLane { lane: 1 },
+        ),
         answers(pipeline, 7, 1, Call::Exit { guard: 0 }, Reply::Done),
         answers(pipeline, 8, 0, Call::Clone { handle: 1 }, made(true, 3)),
         answers(pipeline, 9, 1, Call::Drop { handle: 1 }, Reply::Done),

@@ -78,7 +78,13 @@ impl Pipeline {
     ghost use Rattle.span_pipeline.specs.Effects.{effect_of_call};
     ghost use Rattle.span_pipeline.specs.Fits.{StandsFor, Served, IsRefusal};
 
-    pub(crate) fn make(&mut self, at: Moment, lane: u64, place: u64, under: Place) -> Result<Reply, Refusal>
+    pub(crate) fn make(
+        &mut self,
+        at: Moment,
+        lane: u64,
+        place: u64,
+        under: Place,
+    ) -> Result<Reply, Refusal>
         requires { lane < length self.old.lanes }
         ensures ok { (t : Tables) → StandsFor self.old t
             → IfOk result (Served (effect_of_call self.old.setup t at lane (Call.New place under)) t self.old self.new) }

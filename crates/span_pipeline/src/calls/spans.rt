@@ -19,7 +19,12 @@ impl Pipeline {
     ghost use Rattle.span_pipeline.specs.Effects.{effect_of_call};
     ghost use Rattle.span_pipeline.specs.Fits.{StandsFor, Served, IsRefusal};
 
-    pub(crate) fn clone_handle(&mut self, at: Moment, lane: u64, handle: u64) -> Result<Reply, Refusal>
+    pub(crate) fn clone_handle(
+        &mut self,
+        at: Moment,
+        lane: u64,
+        handle: u64,
+    ) -> Result<Reply, Refusal>
         ensures ok { (t : Tables) → StandsFor self.old t
             → IfOk result (Served (effect_of_call self.old.setup t at lane (Call.Clone handle)) t self.old self.new) }
         ensures refused { (t : Tables) → StandsFor self.old t
@@ -46,7 +51,12 @@ impl Pipeline {
         })
     }
 
-    pub(crate) fn drop_handle(&mut self, at: Moment, lane: u64, handle: u64) -> Result<Reply, Refusal>
+    pub(crate) fn drop_handle(
+        &mut self,
+        at: Moment,
+        lane: u64,
+        handle: u64,
+    ) -> Result<Reply, Refusal>
         ensures ok { (t : Tables) → StandsFor self.old t
             → IfOk result (Served (effect_of_call self.old.setup t at lane (Call.Drop handle)) t self.old self.new) }
         ensures refused { (t : Tables) → StandsFor self.old t

@@ -2,7 +2,7 @@
 use Rattle.std.proofs.Common.{rules, ◌∙◌, refl}
 use Rattle.span_pipeline.specs.declared.request.Call.TheVariants as call
 use Rattle.span_pipeline.proofs.Requiring.{needs_known, needs_whole, needs_few}
-use Rattle.span_pipeline.proofs.Keeping.{refused_kept, refused_state, on_err, within_view}
+use Rattle.span_pipeline.proofs.Keeping.{refused_kept, refused_state, within_view}
 use Rattle.span_pipeline.proofs.Refusing.{refuses_unknown, room_refused}
 use Rattle.span_pipeline.proofs.Serving.{by_view}
 use Rattle.span_pipeline.proofs.Entering.{serves_entered, keeps_entered}

@@ -1,5 +1,5 @@
 -- The pipeline as it is opened.
-use Rattle.std.proofs.Common.{rules, map, refl, ap}
+use Rattle.std.proofs.Common.{rules, map}
 use Rattle.span_pipeline.proofs.Beginning.{begins, keeps_begun, begun_setup, nothing_kept, records_none}
 use Rattle.span_pipeline.specs.Admission.{in_force}
 use Rattle.span_pipeline.proofs.pipeline.Pipeline.open.Goals as goal
