@@ -6,6 +6,7 @@ pub mod Members
 pub mod Distinct
 pub mod Items
 pub mod Hex
+pub mod HexRead
 pub mod Written
 pub mod Digits
 pub mod Plainly

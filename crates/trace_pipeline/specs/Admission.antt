@@ -4,7 +4,7 @@ use Rattle.trace_base.specs.declared.level.LevelFilter.{LevelFilter}
 use Rattle.trace_base.specs.declared.level.LevelFilter.TheVariants as filter
 use Rattle.trace_base.specs.declared.callsite.Callsite.{Callsite}
 use Rattle.trace_base.specs.Level.{is_within}
-use Rattle.trace_pipeline.specs.declared.settings.Settings.{Settings}
+use Rattle.span_pipeline.specs.declared.settings.Settings.{Settings}
 use Rattle.trace_pipeline.specs.History.{History}
 
 -- the filter that one of the six level words in lower case stands for

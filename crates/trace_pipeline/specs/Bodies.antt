@@ -9,8 +9,8 @@ use Rattle.otel_base.specs.declared.value.KeyValue.{KeyValue}
 use Rattle.otel_base.specs.declared.value.OtelValue.TheVariants.{I64}
 use Rattle.trace_base.specs.declared.callsite.Callsite.{Callsite}
 use Rattle.std.specs.List.{slice_index_or}
-use Rattle.trace_pipeline.specs.declared.request.TheConstants.{LAST_MOMENT}
-use Rattle.trace_pipeline.specs.declared.request.Call.{Call}
+use Rattle.span_pipeline.specs.declared.request.TheConstants.{LAST_MOMENT}
+use Rattle.span_pipeline.specs.declared.request.Call.{Call}
 use Rattle.trace_pipeline.specs.declared.handles.Guard.{Guard}
 use Rattle.trace_pipeline.specs.declared.handles.Handle.{Handle}
 use Rattle.trace_pipeline.specs.declared.handles.Handle.TheVariants.{Disabled, Enabled}

@@ -5,7 +5,7 @@ use Rattle.otel_base.specs.declared.record.Record.{Record}
 use Rattle.otel_base.specs.declared.record.SpanKind.TheVariants.{Internal}
 use Rattle.otel_base.specs.declared.value.KeyValue.{KeyValue}
 use Rattle.otel_base.specs.declared.value.OtelValue.TheVariants.{I64}
-use Rattle.trace_pipeline.specs.declared.settings.Settings.{Settings}
+use Rattle.span_pipeline.specs.declared.settings.Settings.{Settings}
 use Rattle.trace_pipeline.specs.History.{History, Made, Effect, made, made_of}
 use Rattle.otel_base.specs.Ids.{ids_of, parent_id}
 use Rattle.trace_pipeline.specs.Ops.{Stamped, ops, own_ids, busy, idle, end_of, events, status}

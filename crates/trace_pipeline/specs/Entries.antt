@@ -1,7 +1,7 @@
 -- What the calls that enter and exit spans change.
 use Rattle.std.specs.Prelude.{ℕ, length, Some}
 use Rattle.std.specs.Option.{option_to_list}
-use Rattle.trace_pipeline.specs.declared.reply.Reply.TheVariants as reply
+use Rattle.span_pipeline.specs.declared.reply.Reply.TheVariants as reply
 use Rattle.trace_pipeline.specs.History.{Scope, enter_op, exit_op, Effect, quiet, History, guards, starting, own, on}
 
 -- an entry starts the span, if nothing has started it before

@@ -8,8 +8,8 @@ use Rattle.trace_base.specs.declared.level.Level.TheVariants as level
 use Rattle.trace_base.specs.Level.{level_text}
 use Rattle.otel_base.specs.declared.record.OtelEvent.{OtelEvent}
 use Rattle.otel_base.specs.declared.value.OtelValue.TheVariants.{Str}
-use Rattle.trace_pipeline.specs.declared.settings.Settings.{Settings}
-use Rattle.trace_pipeline.specs.declared.reply.Reply.TheVariants as reply
+use Rattle.span_pipeline.specs.declared.settings.Settings.{Settings}
+use Rattle.span_pipeline.specs.declared.reply.Reply.TheVariants as reply
 use Rattle.trace_pipeline.specs.History.{Scope, event_op, Effect, quiet, History, made, made_of, on, entries, current}
 use Rattle.trace_pipeline.specs.Admission.{admits}
 

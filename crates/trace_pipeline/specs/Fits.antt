@@ -5,19 +5,19 @@ use Rattle.std.specs.Option.{option_to_list}
 use Rattle.otel_base.specs.declared.record.Record.{Record}
 use Rattle.otel_base.specs.declared.record.OtelEvent.{OtelEvent}
 use Rattle.trace_base.specs.declared.level.LevelFilter.{LevelFilter}
-use Rattle.trace_pipeline.specs.declared.settings.Settings.{Settings}
+use Rattle.span_pipeline.specs.declared.settings.Settings.{Settings}
 use Rattle.trace_pipeline.specs.declared.handles.Handle.{Handle}
 use Rattle.trace_pipeline.specs.declared.handles.Handle.TheVariants.{Disabled, Enabled}
 use Rattle.trace_pipeline.specs.declared.handles.Guard.{Guard}
 use Rattle.trace_pipeline.specs.declared.span.Span.{Span}
 use Rattle.trace_pipeline.specs.declared.timings.Timings.{Timings}
 use Rattle.trace_pipeline.specs.Bodies.{span_at, events_at}
-use Rattle.trace_pipeline.specs.declared.reply.Reply.{Reply}
-use Rattle.trace_pipeline.specs.declared.request.Request.{Request}
-use Rattle.trace_pipeline.specs.declared.request.Call.{Call}
-use Rattle.trace_pipeline.specs.declared.request.TheConstants.{LAST_MOMENT}
-use Rattle.trace_pipeline.specs.declared.reply.Refusal.{Refusal}
-use Rattle.trace_pipeline.specs.declared.reply.Refusal.TheVariants.{Memory}
+use Rattle.span_pipeline.specs.declared.reply.Reply.{Reply}
+use Rattle.span_pipeline.specs.declared.request.Request.{Request}
+use Rattle.span_pipeline.specs.declared.request.Call.{Call}
+use Rattle.span_pipeline.specs.declared.request.TheConstants.{LAST_MOMENT}
+use Rattle.span_pipeline.specs.declared.reply.Refusal.{Refusal}
+use Rattle.span_pipeline.specs.declared.reply.Refusal.TheVariants.{Memory}
 use Rattle.trace_pipeline.specs.Effects.{Resolved, effect_of, effect_of_call}
 use Rattle.trace_pipeline.specs.Admission.{in_force}
 use Rattle.trace_pipeline.specs.Content.{records_of}

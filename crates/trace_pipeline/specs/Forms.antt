@@ -62,6 +62,11 @@ abbrev pub if_there : {A : Type 0} → (Data → Option A) → Option Data → O
 if_there f None = Some None
 if_there f (Some d) = option_map Some (f d)
 
+-- something else where there is no value; a value has to be of a kind
+abbrev pub if_absent : {A : Type 0} → A → (Data → Option A) → Option Data → Option A
+if_absent a f None = Some a
+if_absent a f (Some d) = f d
+
 -- each item has to be of a kind
 abbrev pub each : {A : Type 0} → (Data → Option A) → Items → Option (List A)
 each f no_items = Some []
@@ -87,11 +92,11 @@ text name = do
   d ← member name
   when (as_str d)
 
--- true or false
-abbrev pub flag : List ℕ → Members → Option (Bool × Members)
-flag name = do
-  d ← member name
-  when (as_bool d)
+-- true or false, and what else it is where it isn't there
+abbrev pub flag_or : Bool → List ℕ → Members → Option (Bool × Members)
+flag_or otherwise name = do
+  there ← optional name
+  when (if_absent otherwise as_bool there)
 
 -- a text, if it is there
 abbrev pub optional_text : List ℕ → Members → Option (Option (List ℕ) × Members)

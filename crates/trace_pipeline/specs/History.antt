@@ -3,7 +3,7 @@ use Rattle.std.specs.Prelude.{ℕ, ◌+◌, ◌-◌, List, [], ◌∷◌, ◌++�
 use Rattle.otel_base.specs.declared.record.OtelEvent.{OtelEvent}
 use Rattle.std.specs.List.{flat_map, filter_map, list_any, slice_index_or, range_with_len}
 use Rattle.std.specs.Option.{option_map_or, option_to_list}
-use Rattle.trace_pipeline.specs.declared.reply.Reply.{Reply}
+use Rattle.span_pipeline.specs.declared.reply.Reply.{Reply}
 use Rattle.otel_base.specs.declared.context.Context.{Context}
 use Rattle.otel_base.specs.declared.context.SpanContext.{SpanContext}
 use Rattle.otel_base.specs.Ids.{ids_of}

@@ -1,8 +1,8 @@
 -- Legal histories, of which the laws speak.
 use Rattle.std.specs.Prelude.{◌≡◌, ℕ, List, [], ◌∷◌, ◌++◌, fold, count_by, ◌==◌, Ok}
 use Rattle.otel_base.specs.declared.record.Record.{Record}
-use Rattle.trace_pipeline.specs.declared.settings.Settings.{Settings}
-use Rattle.trace_pipeline.specs.declared.request.Request.{Request}
+use Rattle.span_pipeline.specs.declared.settings.Settings.{Settings}
+use Rattle.span_pipeline.specs.declared.request.Request.{Request}
 use Rattle.trace_pipeline.specs.History.{Effect, History, made, made_of}
 use Rattle.trace_pipeline.specs.Ops.{Stamped, entered_after}
 use Rattle.trace_pipeline.specs.Effects.{effect_of}

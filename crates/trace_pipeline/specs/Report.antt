@@ -2,10 +2,10 @@
 use Rattle.std.specs.Prelude.{◌≡◌, ℕ, ◌+◌, ◌≤◌, List, [], ◌∷◌, ◌++◌, length, Bool, true, false, if◌then◌else◌, Result, Ok, Err}
 use Rattle.otel_base.specs.declared.record.Record.{Record}
 use Rattle.trace_pipeline.specs.declared.limits.TheConstants.{MAX_INPUT}
-use Rattle.trace_pipeline.specs.declared.settings.Settings.{Settings}
-use Rattle.trace_pipeline.specs.declared.reply.Told.{Told}
-use Rattle.trace_pipeline.specs.declared.reply.Told.TheVariants as told
-use Rattle.trace_pipeline.specs.declared.request.Request.{Request}
+use Rattle.span_pipeline.specs.declared.settings.Settings.{Settings}
+use Rattle.trace_pipeline.specs.declared.told.Told.{Told}
+use Rattle.trace_pipeline.specs.declared.told.Told.TheVariants as told
+use Rattle.span_pipeline.specs.declared.request.Request.{Request}
 use Rattle.trace_pipeline.specs.History.{History, Effect, closed, open_spans}
 use Rattle.trace_pipeline.specs.Effects.{Resolved, effect_of}
 use Rattle.trace_pipeline.specs.Content.{records_of}

@@ -1,31 +1,75 @@
 -- The value that a request of the first lane is read from: the form in the other direction.
-use Rattle.std.specs.Prelude.{ℕ, List, [], ◌∷◌, fold, codes}
+use Rattle.std.specs.Prelude.{◌<◌, ◌^◌, ℕ, List, [], ◌∷◌, ◌++◌, fold, codes}
 use Rattle.serde_json.specs.Data.{Data, number, string, object, unsigned, Members, no_members, put}
-use Rattle.trace_pipeline.specs.declared.request.Request.{Request}
-use Rattle.trace_pipeline.specs.declared.request.Call.{Call}
-use Rattle.trace_pipeline.specs.declared.request.Call.TheVariants.{New, Clone, Drop, Enter, Exit, Event}
+use Rattle.span_pipeline.specs.declared.request.Request.{Request}
+use Rattle.span_pipeline.specs.declared.request.Call.{Call}
+use Rattle.span_pipeline.specs.declared.request.Call.TheVariants as call
+use Rattle.span_pipeline.specs.declared.request.Place.{Place}
+use Rattle.span_pipeline.specs.declared.request.Place.TheVariants as place
+use Rattle.trace_pipeline.specs.Hex.{hex16, hex32}
 
 -- a call on the first lane at a moment
 abbrev pub first_lane : ℕ → Call → Request
 first_lane at call = record { at = at; lane = 0; call = call }
 
+-- ids have 128 and 64 bits
+abbrev pub IsInRange : Call → Type 0
+IsInRange (call.New site put) = Unit {0}
+IsInRange call.Current = Unit {0}
+IsInRange (call.Clone handle) = Unit {0}
+IsInRange (call.OrCurrent handle) = Unit {0}
+IsInRange (call.Drop handle) = Unit {0}
+IsInRange (call.Enter handle) = Unit {0}
+IsInRange (call.Entered handle) = Unit {0}
+IsInRange (call.Exit guard) = Unit {0}
+IsInRange (call.Event site) = Unit {0}
+IsInRange (call.Remote ids) = (ids.trace < 2 ^ 128) × (ids.span < 2 ^ 64)
+IsInRange (call.Context handle) = Unit {0}
+IsInRange (call.Attach context) = Unit {0}
+IsInRange (call.Detach guard) = Unit {0}
+
 -- the word of `do`
 abbrev pub word_of : Call → List ℕ
-word_of (New site) = codes "new"
-word_of (Clone handle) = codes "clone"
-word_of (Drop handle) = codes "drop"
-word_of (Enter handle) = codes "enter"
-word_of (Exit guard) = codes "exit"
-word_of (Event site) = codes "event"
+word_of (call.New site put) = codes "new"
+word_of call.Current = codes "current"
+word_of (call.Clone handle) = codes "clone"
+word_of (call.OrCurrent handle) = codes "or_current"
+word_of (call.Drop handle) = codes "drop"
+word_of (call.Enter handle) = codes "enter"
+word_of (call.Entered handle) = codes "entered"
+word_of (call.Exit guard) = codes "exit"
+word_of (call.Event site) = codes "event"
+word_of (call.Remote ids) = codes "remote"
+word_of (call.Context handle) = codes "context"
+word_of (call.Attach context) = codes "attach"
+word_of (call.Detach guard) = codes "detach"
+
+-- a member that names something by its number
+abbrev pub names : List ℕ → ℕ → List (List ℕ × Data)
+names name n = (name, number (unsigned n)) ∷ []
+
+-- the member that says where a new span is put
+abbrev pub put_at : Place → List (List ℕ × Data)
+put_at place.Contextual = []
+put_at place.Root = (codes "parent", string (codes "root")) ∷ []
+put_at (place.Under handle) = names (codes "parent") handle
 
 -- what a call names
-abbrev pub name_of : Call → List ℕ × ℕ
-name_of (New site) = (codes "site", site)
-name_of (Clone handle) = (codes "handle", handle)
-name_of (Drop handle) = (codes "handle", handle)
-name_of (Enter handle) = (codes "handle", handle)
-name_of (Exit guard) = (codes "guard", guard)
-name_of (Event site) = (codes "site", site)
+abbrev pub names_of : Call → List (List ℕ × Data)
+names_of (call.New site put) = names (codes "site") site ++ put_at put
+names_of call.Current = []
+names_of (call.Clone handle) = names (codes "handle") handle
+names_of (call.OrCurrent handle) = names (codes "handle") handle
+names_of (call.Drop handle) = names (codes "handle") handle
+names_of (call.Enter handle) = names (codes "handle") handle
+names_of (call.Entered handle) = names (codes "handle") handle
+names_of (call.Exit guard) = names (codes "guard") guard
+names_of (call.Event site) = names (codes "site") site
+names_of (call.Remote ids) =
+    (codes "trace", string (hex32 ids.trace)) ∷ (codes "span", string (hex16 ids.span)) ∷ []
+names_of (call.Context handle) = names (codes "handle") handle
+names_of (call.Attach context) = names (codes "context") context
+names_of (call.Detach guard) = names (codes "guard") guard
 
 -- the members of an object, from their names and values
 abbrev pub put_all : List (List ℕ × Data) → Members
@@ -36,5 +80,4 @@ abbrev pub request_data : Request → Data
 request_data request = object (put_all (
     (codes "at", number (unsigned request.at)) ∷
     (codes "lane", number (unsigned request.lane)) ∷
-    (codes "do", string (word_of request.call)) ∷
-    ((name_of request.call).0, number (unsigned (name_of request.call).1)) ∷ []))
+    (codes "do", string (word_of request.call)) ∷ names_of request.call))

@@ -1,11 +1,13 @@
 -- The form of the settings.
-use Rattle.std.specs.Prelude.{ℕ, ◌-◌, ◌^◌, List, [], ◌∷◌, map, Bool, true, not, ◌&&◌, ◌==◌, Option, codes, ⊤}
+use Rattle.std.specs.Prelude.{ℕ, ◌-◌, ◌^◌, List, [], ◌∷◌, map, Bool, true, not, ◌&&◌, ◌==◌, Option, codes}
 use Rattle.std.specs.List.{list_any}
 use Rattle.serde_json.specs.Find.{as_str}
+use Rattle.otel_state.specs.Settings.{default_settings}
+use Rattle.otel_state.specs.declared.settings.LayerSettings.{LayerSettings}
 use Rattle.trace_base.specs.declared.callsite.Callsite.{Callsite}
-use Rattle.trace_pipeline.specs.declared.settings.Settings.{Settings}
+use Rattle.span_pipeline.specs.declared.settings.Settings.{Settings}
 use Rattle.trace_pipeline.specs.Admission.{filter_word}
-use Rattle.trace_pipeline.specs.Forms.{Form, ◌>>=◌, give, when, provided, whole_to, text, flag, optional_text, optional_u32, array, each, object_of, member}
+use Rattle.trace_pipeline.specs.Forms.{Form, ◌>>=◌, give, when, provided, whole_to, text, flag_or, optional, if_absent, optional_text, optional_u32, array, each, object_of}
 use Rattle.trace_pipeline.specs.Words.{level_word, kind_word}
 
 -- a lane's id and name
@@ -44,13 +46,49 @@ callsite_form = do
     fields = fields;
   })
 
--- three flags that are off
-unfoldable pub layer_form : Form ⊤
+-- what is told of errors, and what is usual where nothing is said
+unfoldable pub error_flags : LayerSettings → Form LayerSettings
+error_flags usual = do
+  error_events_to_exceptions ← flag_or usual.error_events_to_exceptions (codes "error_events_to_exceptions")
+  error_events_to_status ← flag_or usual.error_events_to_status (codes "error_events_to_status")
+  error_fields_to_exceptions ← flag_or usual.error_fields_to_exceptions (codes "error_fields_to_exceptions")
+  error_records_to_exceptions ← flag_or usual.error_records_to_exceptions (codes "error_records_to_exceptions")
+  give (record usual {
+    error_events_to_exceptions = error_events_to_exceptions;
+    error_events_to_status = error_events_to_status;
+    error_fields_to_exceptions = error_fields_to_exceptions;
+    error_records_to_exceptions = error_records_to_exceptions;
+  })
+
+-- what is told of a span beside its fields
+unfoldable pub span_flags : LayerSettings → Form LayerSettings
+span_flags usual = do
+  level ← flag_or usual.level (codes "level")
+  location ← flag_or usual.location (codes "location")
+  target ← flag_or usual.target (codes "target")
+  threads ← flag_or usual.threads (codes "threads")
+  give (record usual {
+    level = level;
+    location = location;
+    target = target;
+    threads = threads;
+  })
+
+-- what the layer tells
+unfoldable pub layer_form : Form LayerSettings
 layer_form = do
-  location ← flag (codes "location")
-  target ← flag (codes "target")
-  threads ← flag (codes "threads")
-  when (provided (not location && (not target && not threads)))
+  activation ← flag_or default_settings.activation (codes "activation")
+  inactivity ← flag_or default_settings.inactivity (codes "inactivity")
+  errors ← error_flags default_settings
+  all ← span_flags errors
+  give (record all { activation = activation; inactivity = inactivity })
+
+-- Of what can be set of the layer one way is built: neither level nor target nor location nor thread is told, and
+-- all else is.
+abbrev pub is_built : LayerSettings → Bool
+is_built s =
+    s.activation && s.error_events_to_exceptions && s.error_events_to_status && s.error_fields_to_exceptions
+    && s.error_records_to_exceptions && s.inactivity && not s.level && not s.location && not s.target && not s.threads
 
 -- no two are equal
 abbrev pub all_differ : List ℕ → Bool
@@ -61,7 +99,7 @@ all_differ (n ∷ ns) = not (list_any (λ m. n == m) ns) && all_differ ns
 abbrev pub ids : List Lane → List ℕ
 ids lanes = map (λ lane. lane.0) lanes
 
--- The filter is a level word, the ids of the lanes differ, and nothing is kept of the layer.
+-- The filter is a level word, the ids of the lanes differ, and the layer is built.
 unfoldable pub settings_form : Form Settings
 settings_form = do
   callsite_items ← array (codes "callsites")
@@ -71,6 +109,7 @@ settings_form = do
   lane_items ← array (codes "lanes")
   lanes ← when (each (object_of lane_form) lane_items)
   differ ← when (provided (all_differ (ids lanes)))
-  layer ← member (codes "layer")
-  off ← when (object_of layer_form layer)
-  give (record { filter = filter; lanes = lanes; callsites = callsites })
+  layer_there ← optional (codes "layer")
+  layer ← when (if_absent default_settings (object_of layer_form) layer_there)
+  built ← when (provided (is_built layer))
+  give (record { filter = filter; lanes = lanes; callsites = callsites; layer = layer })

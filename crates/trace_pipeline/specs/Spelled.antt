@@ -4,10 +4,10 @@ use Rattle.std.specs.Str.{is_utf8}
 use Rattle.serde_json.specs.Data.{Data, Members}
 use Rattle.serde_json.specs.Read.{read}
 use Rattle.serde_json.specs.Find.{as_object}
-use Rattle.trace_pipeline.specs.declared.settings.Settings.{Settings}
-use Rattle.trace_pipeline.specs.declared.request.Request.{Request}
-use Rattle.trace_pipeline.specs.declared.reply.Told.{Told}
-use Rattle.trace_pipeline.specs.declared.reply.Told.TheVariants.{BadLine, Later}
+use Rattle.span_pipeline.specs.declared.settings.Settings.{Settings}
+use Rattle.span_pipeline.specs.declared.request.Request.{Request}
+use Rattle.trace_pipeline.specs.declared.told.Told.{Told}
+use Rattle.trace_pipeline.specs.declared.told.Told.TheVariants.{BadLine, Later}
 use Rattle.trace_pipeline.specs.Forms.{all_of}
 use Rattle.trace_pipeline.specs.SettingsForm.{settings_form}
 use Rattle.trace_pipeline.specs.RequestForm.{request_form}

@@ -2,14 +2,15 @@
 use Rattle.std.specs.Prelude.{ℕ, List, [], ◌∷◌, codes, true}
 use Rattle.serde_json.specs.Data.{Data, boolean, string, object}
 use Rattle.otel_base.specs.declared.record.Record.{Record}
-use Rattle.trace_pipeline.specs.declared.reply.Reply.{Reply}
-use Rattle.trace_pipeline.specs.declared.reply.Reply.TheVariants as reply
-use Rattle.trace_pipeline.specs.declared.reply.What.{What}
-use Rattle.trace_pipeline.specs.declared.reply.What.TheVariants as what
-use Rattle.trace_pipeline.specs.declared.reply.Refusal.{Refusal}
-use Rattle.trace_pipeline.specs.declared.reply.Refusal.TheVariants as refusal
-use Rattle.trace_pipeline.specs.declared.reply.Told.{Told}
-use Rattle.trace_pipeline.specs.declared.reply.Told.TheVariants as told
+use Rattle.span_pipeline.specs.declared.reply.Reply.{Reply}
+use Rattle.span_pipeline.specs.declared.reply.Reply.TheVariants as reply
+use Rattle.span_pipeline.specs.declared.reply.What.{What}
+use Rattle.span_pipeline.specs.declared.reply.What.TheVariants as what
+use Rattle.span_pipeline.specs.declared.reply.Refusal.{Refusal}
+use Rattle.span_pipeline.specs.declared.reply.Refusal.TheVariants as refusal
+use Rattle.trace_pipeline.specs.declared.told.Told.{Told}
+use Rattle.trace_pipeline.specs.declared.told.Told.TheVariants as told
+use Rattle.trace_pipeline.specs.Hex.{hex16, hex32}
 use Rattle.trace_pipeline.specs.Object.{by_name, whole_number, line_of}
 use Rattle.trace_pipeline.specs.RecordData.{record_data}
 
@@ -20,6 +21,9 @@ abbrev pub reply_members : Reply → List (List ℕ × Data)
 reply_members (reply.Made enabled handle) =
     (codes "enabled", boolean enabled) ∷ (codes "handle", whole_number handle) ∷ []
 reply_members (reply.Guard guard) = (codes "guard", whole_number guard) ∷ []
+reply_members (reply.Context context ids) =
+    (codes "context", whole_number context)
+    ∷ (codes "span", string (hex16 ids.span)) ∷ (codes "trace", string (hex32 ids.trace)) ∷ []
 reply_members reply.Done = []
 reply_members (reply.Enabled enabled) = (codes "enabled", boolean enabled) ∷ []
 
@@ -45,6 +49,7 @@ what_name what.Lane = codes "lane"
 what_name what.Site = codes "site"
 what_name what.Handle = codes "handle"
 what_name what.Guard = codes "guard"
+what_name what.Context = codes "context"
 
 -- the member that names a refusal
 abbrev pub refused_as : List ℕ → List ℕ × Data
@@ -60,6 +65,8 @@ step_members (refusal.BadMoment before given) =
     refused_as (codes "BadMoment")
     ∷ (codes "before", whole_number before) ∷ (codes "given", whole_number given) ∷ []
 step_members refusal.InUse = refused_as (codes "InUse") ∷ []
+step_members (refusal.WrongLane lane) = refused_as (codes "WrongLane") ∷ (codes "lane", whole_number lane) ∷ []
+step_members (refusal.Full lane) = refused_as (codes "Full") ∷ (codes "lane", whole_number lane) ∷ []
 step_members refusal.Memory = refused_as (codes "Memory") ∷ []
 
 -- what a refusal line tells of the refusal
@@ -71,6 +78,11 @@ told_members (told.Step why) = step_members why
 -- a refusal of which the name alone is told, with the number of its line
 abbrev pub named_refusal : ℕ → List ℕ → Data
 named_refusal line name = object (by_name ((codes "line", whole_number line) ∷ refused_as name ∷ []))
+
+-- a refusal of which the lane is told beside the name, which is told by its place
+abbrev pub refusal_on : ℕ → ℕ → List ℕ → Data
+refusal_on line lane name = object (by_name (
+    (codes "line", whole_number line) ∷ refused_as name ∷ (codes "lane", whole_number lane) ∷ []))
 
 -- a refusal, with the number of its line
 abbrev pub refusal_data : ℕ → Told → Data

@@ -1,6 +1,6 @@
 //! The record of a span that closes.
 ghost use Rattle.std.specs.Prelude.{◌≡◌, ◌≤◌, [], pos, IfOk, if◌then◌else◌};
-ghost use Rattle.trace_pipeline.specs.declared.request.TheConstants.{LAST_MOMENT};
+ghost use Rattle.span_pipeline.specs.declared.request.TheConstants.{LAST_MOMENT};
 ghost use Rattle.trace_pipeline.specs.Bodies.{idle_by, attributes_by, record_by, name_at};
 
 use crate::span::Span;

@@ -1,6 +1,6 @@
 //! What holds of each history that requests give.
 ghost use Rattle.std.specs.Prelude.{◌≡◌, ◌≢◌, ℕ, ◌+◌, ◌-◌, ◌<◌, ◌≤◌, List, [], ◌∷◌, ◌++◌, Some, length, not, true, false};
-ghost use Rattle.trace_pipeline.specs.declared.settings.Settings.{Settings};
+ghost use Rattle.span_pipeline.specs.declared.settings.Settings.{Settings};
 ghost use Rattle.trace_pipeline.specs.History.{History, handles, made, started, place_in, id_of, closed, is_in, is_open, open_spans};
 ghost use Rattle.trace_pipeline.specs.Ops.{ops, busy, idle, last_exit};
 ghost use Rattle.trace_pipeline.specs.Laws.{IsHistory, occurrences, made_at, open_entries, all_records, GoesOn};

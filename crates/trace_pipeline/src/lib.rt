@@ -12,20 +12,17 @@ mod level_words;
 pub mod limits;
 pub mod pipeline;
 pub mod read;
-pub mod reply;
-pub mod request;
-pub mod settings;
 mod span;
 mod spans;
 mod timings;
+pub mod told;
 pub mod write;
 
 pub use limits::MAX_INPUT;
 pub use pipeline::{OpenError, Pipeline};
 pub use read::{LineError, read_request, read_settings};
-pub use reply::{Refusal, Reply, Told, What};
-pub use request::{Call, LAST_MOMENT, Request};
-pub use settings::Settings;
+pub use span_pipeline::{Call, LAST_MOMENT, Place, Refusal, Reply, Request, Settings, What};
+pub use told::Told;
 pub use write::{
     append_end, append_record, append_refusal, append_reply, end_line, record_line, refusal_line,
     reply_line,

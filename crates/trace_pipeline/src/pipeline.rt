@@ -3,18 +3,16 @@ ghost use Rattle.std.specs.Prelude.{◌==◌, not, false, is_some, ◌≡◌, �
 ghost use Rattle.trace_pipeline.specs.History.{History, open_spans};
 ghost use Rattle.trace_pipeline.specs.Effects.{effect_of, is_later, is_bad_moment, waits_for_guards};
 ghost use Rattle.trace_pipeline.specs.Bodies.{CanWait};
-ghost use Rattle.trace_pipeline.specs.declared.settings.Settings.{Settings as SettingsValue};
-ghost use Rattle.trace_pipeline.specs.declared.reply.Refusal.TheVariants.{Memory as NoMemory};
+ghost use Rattle.span_pipeline.specs.declared.settings.Settings.{Settings as SettingsValue};
 
 use crate::handles::{Guard, Handle};
 use crate::level_words::filter_of;
-use crate::reply::{Refusal, Reply, What};
-use crate::request::{Call, LAST_MOMENT, Request};
-use crate::settings::Settings;
+use span_pipeline::reply::{Refusal, Reply, What};
+use span_pipeline::request::{Call, LAST_MOMENT, Request};
+use span_pipeline::settings::Settings;
 use crate::spans::Spans;
-use otel_base::memory::Memory;
 use otel_base::record::{Moment, Record};
-use std::alloc::{AllocFailed, Global};
+use std::alloc::Global;
 use std::collections::VecDeque;
 use std::marker::Model;
 use trace_base::level::LevelFilter;
@@ -24,22 +22,6 @@ use trace_base::level::LevelFilter;
 pub enum OpenError {
     /// Out of memory.
     Memory,
-}
-
-impl From<Memory> for Refusal {
-    ghost from_gives = { λ _ refusal. refusal ≡ NoMemory };
-
-    fn from(_error: Memory) -> Refusal {
-        Refusal::Memory
-    }
-}
-
-impl<T: Drop> From<AllocFailed<T>> for Refusal {
-    ghost from_gives = { λ _ refusal. refusal ≡ NoMemory };
-
-    fn from(_error: AllocFailed<T>) -> Refusal {
-        Refusal::Memory
-    }
 }
 
 /// Runs the requests of a script, one after another: a `tracing_subscriber::Registry` with a filter and a
@@ -84,7 +66,17 @@ fn waits_for_guards(call: &Call) -> bool
 {
     match call {
         Call::New { .. } | Call::Enter { .. } => true,
-        Call::Clone { .. } | Call::Drop { .. } | Call::Exit { .. } | Call::Event { .. } => false,
+        Call::Current
+        | Call::Clone { .. }
+        | Call::OrCurrent { .. }
+        | Call::Drop { .. }
+        | Call::Entered { .. }
+        | Call::Exit { .. }
+        | Call::Event { .. }
+        | Call::Remote { .. }
+        | Call::Context { .. }
+        | Call::Attach { .. }
+        | Call::Detach { .. } => false,
     }
 }
 
@@ -183,12 +175,19 @@ impl Pipeline {
         ensures err { OnErr result (self.new ≡ self.old) }
     {
         match call {
-            Call::New { site } => self.make(at, site),
+            Call::New { site, place } => self.make_in(at, site, place),
             Call::Clone { handle } => self.clone_handle(at, handle),
             Call::Drop { handle } => self.drop_handle(at, handle),
             Call::Enter { handle } => self.enter(at, handle),
             Call::Exit { guard } => self.exit(at, guard),
             Call::Event { site } => self.event(at, site),
+            Call::Current => Err(Refusal::Later),
+            Call::OrCurrent { .. } => Err(Refusal::Later),
+            Call::Entered { .. } => Err(Refusal::Later),
+            Call::Remote { .. } => Err(Refusal::Later),
+            Call::Context { .. } => Err(Refusal::Later),
+            Call::Attach { .. } => Err(Refusal::Later),
+            Call::Detach { .. } => Err(Refusal::Later),
         }
     }
 }

@@ -1,10 +1,11 @@
 //! Reading lines: what a settings line and a request line spell.
 ghost use Rattle.std.specs.Prelude.{◌≡◌, Ok, Err, IfOk, IsErrOf};
 ghost use Rattle.trace_pipeline.specs.Spelled.{settings_spelled, request_spelled};
-ghost use Rattle.trace_pipeline.specs.declared.reply.Told.{Told};
+ghost use Rattle.trace_pipeline.specs.declared.told.Told.{Told};
 ghost use Rattle.trace_pipeline.specs.declared.read.LineError.TheVariants.{Memory};
 
 mod flat;
+mod hex;
 pub mod laws;
 mod object;
 mod plain;
@@ -14,8 +15,8 @@ mod settings;
 mod tree;
 mod value;
 
-use crate::request::Request;
-use crate::settings::Settings;
+use span_pipeline::request::Request;
+use span_pipeline::settings::Settings;
 use object::Object;
 use otel_base::memory;
 use std::alloc::{AllocError, AllocFailed, Global};
@@ -78,7 +79,7 @@ pub fn read_request(alloc: Global, line: &[u8]) -> Result<Request, LineError>
     ensures later { IsErrOf result LineError.Later → request_spelled line.now ≡ Err Told.Later }
 {
     let mut object = Object::open(alloc, line)?;
-    let request = request::request_members(&mut object)?;
+    let request = request::request_members(alloc, &mut object)?;
     object.end()?;
     Ok(request)
 }

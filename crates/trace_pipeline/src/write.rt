@@ -4,7 +4,7 @@ ghost use Rattle.std.specs.Prelude.{◌≡◌, ◌≢◌, ◌++◌, IfOk, string
 ghost use Rattle.std.specs.Str.{IsUtf8};
 ghost use Rattle.trace_pipeline.specs.Writes.{Writes};
 ghost use Rattle.trace_pipeline.specs.Texts.{reply_text, record_text, refusal_text, end_text};
-ghost use Rattle.trace_pipeline.specs.declared.reply.Refusal.{Refusal};
+ghost use Rattle.span_pipeline.specs.declared.reply.Refusal.{Refusal};
 
 mod attribute;
 mod end;
@@ -15,7 +15,8 @@ mod record;
 mod refusal;
 mod reply;
 
-use crate::reply::{Reply, Told};
+use crate::told::Told;
+use span_pipeline::reply::Reply;
 use end::add_end;
 use otel_base::memory::Memory;
 use otel_base::record::Record;

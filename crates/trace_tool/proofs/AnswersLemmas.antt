@@ -5,14 +5,14 @@ use Rattle.std.proofs.lemmas.List.{append-nil, length-append, length-map}
 use Rattle.std.proofs.lemmas.List.Folds.{list_all-append}
 use Rattle.std.proofs.lemmas.Grind.{flat_map-append}
 use Rattle.otel_base.specs.declared.record.Record.{Record}
-use Rattle.trace_pipeline.specs.declared.settings.Settings.{Settings}
-use Rattle.trace_pipeline.specs.declared.request.Request.{Request}
+use Rattle.span_pipeline.specs.declared.settings.Settings.{Settings}
+use Rattle.span_pipeline.specs.declared.request.Request.{Request}
 use Rattle.trace_pipeline.specs.declared.read.LineError.{LineError}
 use Rattle.trace_pipeline.specs.declared.read.LineError.TheVariants as error
-use Rattle.trace_pipeline.specs.declared.reply.Reply.{Reply}
-use Rattle.trace_pipeline.specs.declared.reply.Refusal.{Refusal}
-use Rattle.trace_pipeline.specs.declared.reply.Told.{Told}
-use Rattle.trace_pipeline.specs.declared.reply.Told.TheVariants as told
+use Rattle.span_pipeline.specs.declared.reply.Reply.{Reply}
+use Rattle.span_pipeline.specs.declared.reply.Refusal.{Refusal}
+use Rattle.trace_pipeline.specs.declared.told.Told.{Told}
+use Rattle.trace_pipeline.specs.declared.told.Told.TheVariants as told
 use Rattle.trace_pipeline.specs.History.{History, Effect, closed, open_spans}
 use Rattle.trace_pipeline.specs.Effects.{effect_of}
 use Rattle.trace_pipeline.specs.Content.{record_of, records_of}

@@ -1,10 +1,10 @@
 -- What lines are answered, whichever lines follow them.
 use Rattle.std.specs.Prelude.{◌≡◌, ℕ, List, [], ◌++◌, length, Bool, true, false, Result, Ok, Err}
-use Rattle.trace_pipeline.specs.declared.settings.Settings.{Settings}
+use Rattle.span_pipeline.specs.declared.settings.Settings.{Settings}
 use Rattle.trace_pipeline.specs.declared.read.LineError.{LineError}
 use Rattle.trace_pipeline.specs.declared.read.LineError.TheVariants as error
-use Rattle.trace_pipeline.specs.declared.reply.Told.{Told}
-use Rattle.trace_pipeline.specs.declared.reply.Told.TheVariants as told
+use Rattle.trace_pipeline.specs.declared.told.Told.{Told}
+use Rattle.trace_pipeline.specs.declared.told.Told.TheVariants as told
 use Rattle.trace_pipeline.specs.History.{History, closed}
 use Rattle.trace_pipeline.specs.Fits.{Kept, StandsFor}
 use Rattle.trace_pipeline.specs.Report.{behind, report_on, report_from}

@@ -11,8 +11,8 @@ use std::alloc::Global;
 use std::mem;
 use trace_pipeline::pipeline::Pipeline;
 use trace_pipeline::read::{LineError, read_request, read_settings};
-use trace_pipeline::reply::{Refusal, Reply, Told};
 use trace_pipeline::write::{append_end, append_record, append_refusal, append_reply};
+use trace_pipeline::{Refusal, Reply, Told};
 
 /// What is written so far.
 #[derive(Drop)]

@@ -5,7 +5,7 @@ use Rattle.std.proofs.lemmas.List.Sums.{sum_by_push}
 use Rattle.std.proofs.lemmas.Bool.{cases_lt}
 use Rattle.std.proofs.lemmas.Bool.Decides.{nat_tests}
 use Rattle.trace_pipeline.proofs.step.OpenSpansLemmas.{range_more}
-use Rattle.trace_pipeline.specs.declared.settings.Settings.{Settings}
+use Rattle.span_pipeline.specs.declared.settings.Settings.{Settings}
 use Rattle.trace_pipeline.specs.History.{Scope, History, handles, made, closed, is_open, open_spans}
 use Rattle.trace_pipeline.specs.Laws.{IsHistory, occurrences}
 use Rattle.trace_pipeline.proofs.step.OccurrencesLemmas.{occurs_cons}

@@ -3,7 +3,7 @@ use Rattle.std.proofs.Common.{◌≡◌, ℕ, ◌+◌, ◌<◌, ◌≤◌, ◌&&
 use Rattle.std.proofs.lemmas.List.{append-nil, length_push, get_or_push}
 use Rattle.std.proofs.lemmas.Bool.{cases_eq, cases_lt}
 use Rattle.std.proofs.lemmas.Bool.Decides.{nat_tests}
-use Rattle.trace_pipeline.specs.declared.settings.Settings.{Settings}
+use Rattle.span_pipeline.specs.declared.settings.Settings.{Settings}
 use Rattle.trace_pipeline.specs.History.{Scope, Made, Guarded, History, with_new, spend, slots_after, handles, guards, slot_at, made, no_making, no_context, made_of, closed, closed_of, holds, is_in, is_open}
 use Rattle.trace_pipeline.proofs.step.FitsLemmas.{held_push}
 use Rattle.trace_pipeline.proofs.step.DropsLemmas.{held_set}

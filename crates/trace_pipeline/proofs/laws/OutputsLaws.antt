@@ -2,8 +2,8 @@
 use Rattle.std.proofs.Common.{◌≡◌, ℕ, List, [], ◌∷◌, ◌++◌, refl, sym, ap, ◌∙◌, append_assoc, length, ◌+◌}
 use Rattle.std.specs.Prelude.{Bool, true, false, if◌then◌else◌, Result, Ok, Err}
 use Rattle.std.proofs.lemmas.List.{length-append, length-map}
-use Rattle.trace_pipeline.specs.declared.settings.Settings.{Settings}
-use Rattle.trace_pipeline.specs.declared.reply.Told.{Told}
+use Rattle.span_pipeline.specs.declared.settings.Settings.{Settings}
+use Rattle.trace_pipeline.specs.declared.told.Told.{Told}
 use Rattle.trace_pipeline.specs.History.{History, Effect, closed}
 use Rattle.trace_pipeline.specs.Content.{record_of, records_of}
 use Rattle.trace_pipeline.specs.Lines.{is_blank}

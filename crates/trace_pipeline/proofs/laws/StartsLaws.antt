@@ -2,7 +2,7 @@
 use Rattle.std.proofs.Common.{◌≡◌, ◌≢◌, ℕ, ◌<◌, ◌≤◌, ◌+◌, List, [], ◌∷◌, ◌++◌, length, map, ap, ◌∙◌, true, inl, inr, arith}
 use Rattle.std.proofs.lemmas.Bool.{cases_lt}
 use Rattle.std.proofs.lemmas.Bool.Decides.{nat_tests}
-use Rattle.trace_pipeline.specs.declared.settings.Settings.{Settings}
+use Rattle.span_pipeline.specs.declared.settings.Settings.{Settings}
 use Rattle.trace_pipeline.specs.History.{Begun, Effect, History, made, started, closed, newly, is_in, id_of}
 use Rattle.trace_pipeline.specs.Laws.{IsHistory, none, more, occurrences}
 use Rattle.trace_pipeline.proofs.step.TablesLemmas.{started_push, closed_push}

@@ -3,15 +3,16 @@ use Rattle.std.proofs.Common.{◌≡◌, ℕ, ◌<◌, ◌≤◌, slice_get, Lis
 use Rattle.std.specs.Option.{option_to_list}
 use Rattle.std.specs.List.{filter_map}
 use Rattle.trace_base.specs.declared.callsite.Callsite.{Callsite}
-use Rattle.trace_pipeline.specs.declared.settings.Settings.{Settings}
-use Rattle.trace_pipeline.specs.declared.request.Request.{Request}
-use Rattle.trace_pipeline.specs.declared.request.Call.{Call}
-use Rattle.trace_pipeline.specs.declared.request.Call.TheVariants.{New, Clone, Drop, Enter, Exit, Event}
-use Rattle.trace_pipeline.specs.declared.reply.Reply.{Reply}
-use Rattle.trace_pipeline.specs.declared.reply.Refusal.{Refusal}
-use Rattle.trace_pipeline.specs.declared.reply.Refusal.TheVariants.{Later, BadMoment, InUse}
-use Rattle.trace_pipeline.specs.declared.reply.What.{What}
-use Rattle.trace_pipeline.specs.declared.reply.What.TheVariants as what
+use Rattle.span_pipeline.specs.declared.settings.Settings.{Settings}
+use Rattle.span_pipeline.specs.declared.request.Request.{Request}
+use Rattle.span_pipeline.specs.declared.request.Call.{Call}
+use Rattle.span_pipeline.specs.declared.request.Call.TheVariants.{New, Clone, Drop, Enter, Exit, Event, Current, OrCurrent, Entered, Remote, Context, Attach, Detach}
+use Rattle.span_pipeline.specs.declared.request.Place.TheVariants as place
+use Rattle.span_pipeline.specs.declared.reply.Reply.{Reply}
+use Rattle.span_pipeline.specs.declared.reply.Refusal.{Refusal}
+use Rattle.span_pipeline.specs.declared.reply.Refusal.TheVariants.{Later, BadMoment, InUse}
+use Rattle.span_pipeline.specs.declared.reply.What.{What}
+use Rattle.span_pipeline.specs.declared.reply.What.TheVariants as what
 use Rattle.trace_pipeline.specs.History.{Scope, Made, Guarded, Begun, no_context, Effect, History, quiet, with_new, handles, guards, slot_at, is_borrowed, holds, is_open, moment, made, made_of, starting, own, closed_of, entries, current}
 use Rattle.trace_pipeline.specs.Ops.{done_to}
 use Rattle.trace_pipeline.specs.Effects.{Resolved, named, is_later, is_bad_moment, effect_of, effect_of_call}
@@ -174,7 +175,7 @@ the_effect a e is = cc is
 
 module _ (settings : Settings) (h : History) where
   by_call : (at lane : ℕ) (call : Call) (e : Effect) → moment h ≤ at → effect_of_call settings h at lane call ≡ Ok e → IsStep h e
-  by_call at lane (New site) e later is =
+  by_call at lane (New site place.Contextual) e later is =
       let there = found what.Site (span_site settings.callsites site) _ e is in
       subst (IsStep h) (the_effect _ e there.2) (if_both h at lane later (admits settings h lane there.0) _ _ (made_root h at lane later site) (declined h at lane later))
   by_call at lane (Clone handle) e later is =
@@ -193,6 +194,15 @@ module _ (settings : Settings) (h : History) where
   by_call at lane (Event site) e later is =
       let there = found what.Site (event_site settings.callsites site) _ e is in
       subst (IsStep h) (the_effect _ e there.2) (if_both h at lane later (admits settings h lane there.0) _ _ (recorded h at lane later there.0) (quiet_step h at lane later _))
+  by_call at lane (New site place.Root) e later is = absurd (cc is)
+  by_call at lane (New site (place.Under handle)) e later is = absurd (cc is)
+  by_call at lane Current e later is = absurd (cc is)
+  by_call at lane (OrCurrent handle) e later is = absurd (cc is)
+  by_call at lane (Entered handle) e later is = absurd (cc is)
+  by_call at lane (Remote ids) e later is = absurd (cc is)
+  by_call at lane (Context handle) e later is = absurd (cc is)
+  by_call at lane (Attach context) e later is = absurd (cc is)
+  by_call at lane (Detach guard) e later is = absurd (cc is)
 
   pub step_of : (request : Request) (e : Effect) → effect_of settings h request ≡ Ok e → IsStep h e
   step_of request e is =

@@ -5,7 +5,7 @@ use Rattle.std.proofs.lemmas.List.Sums.{sum_by_more, sum_by_push}
 use Rattle.std.proofs.lemmas.List.{take_all, map-id}
 use Rattle.std.proofs.lemmas.List.FromFn.{map-range_with_len_more}
 use Rattle.trace_pipeline.specs.declared.span.Span.{Span}
-use Rattle.trace_pipeline.specs.declared.settings.Settings.{Settings}
+use Rattle.span_pipeline.specs.declared.settings.Settings.{Settings}
 use Rattle.trace_pipeline.specs.History.{History, handles, holds, is_open, open_spans}
 use Rattle.trace_pipeline.specs.Bodies.{no_span, is_held}
 use Rattle.trace_pipeline.specs.Fits.{State, StandsFor}

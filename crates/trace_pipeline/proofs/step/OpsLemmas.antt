@@ -4,7 +4,7 @@ use Rattle.std.proofs.lemmas.List.Sums.{sum_by-cons, count_by-le-length}
 use Rattle.std.proofs.lemmas.List.{append-nil, length_push, set-get_or}
 use Rattle.std.proofs.lemmas.Bool.{cases_eq, eq-eqb, ne_eqb}
 use Rattle.std.proofs.lemmas.Bool.Decides.{nat_tests}
-use Rattle.trace_pipeline.specs.declared.request.TheConstants.{LAST_MOMENT}
+use Rattle.span_pipeline.specs.declared.request.TheConstants.{LAST_MOMENT}
 use Rattle.trace_pipeline.specs.declared.span.Span.{Span}
 use Rattle.trace_pipeline.specs.declared.timings.Timings.{Timings}
 use Rattle.trace_pipeline.specs.History.{Scope, enter_op, exit_op, event_op, Made, made_of, place_in, newly}

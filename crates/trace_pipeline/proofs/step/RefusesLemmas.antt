@@ -3,12 +3,12 @@ use Rattle.std.proofs.Common.{◌≡◌, ℕ, ◌<◌, ◌≤◌, ◌==◌, ◌|
 use Rattle.std.proofs.lemmas.Bool.{or_parts, ltb-false, not-false, eqb-true}
 use Rattle.std.proofs.lemmas.Option.{slice_get_past, slice_get-get_or}
 use Rattle.std.specs.List.{list_any}
-use Rattle.trace_pipeline.specs.declared.request.TheConstants.{LAST_MOMENT}
-use Rattle.trace_pipeline.specs.declared.settings.Settings.{Settings}
-use Rattle.trace_pipeline.specs.declared.request.Request.{Request}
-use Rattle.trace_pipeline.specs.declared.request.Call.{Call}
-use Rattle.trace_pipeline.specs.declared.reply.Refusal.TheVariants.{Later, BadMoment, UnknownName}
-use Rattle.trace_pipeline.specs.declared.reply.What.TheVariants as what
+use Rattle.span_pipeline.specs.declared.request.TheConstants.{LAST_MOMENT}
+use Rattle.span_pipeline.specs.declared.settings.Settings.{Settings}
+use Rattle.span_pipeline.specs.declared.request.Request.{Request}
+use Rattle.span_pipeline.specs.declared.request.Call.{Call}
+use Rattle.span_pipeline.specs.declared.reply.Refusal.TheVariants.{Later, BadMoment, UnknownName}
+use Rattle.span_pipeline.specs.declared.reply.What.TheVariants as what
 use Rattle.trace_pipeline.specs.History.{History, moment, guards}
 use Rattle.trace_pipeline.specs.declared.handles.Guard.{Guard}
 use Rattle.trace_pipeline.specs.History.{Guarded}

@@ -6,14 +6,15 @@ use Rattle.std.specs.Option.{option_to_list}
 use Rattle.otel_base.specs.declared.record.Record.{Record}
 use Rattle.trace_base.specs.declared.callsite.Callsite.{Callsite}
 use Rattle.trace_base.specs.Level.{is_within}
-use Rattle.trace_pipeline.specs.declared.request.TheConstants.{LAST_MOMENT}
-use Rattle.trace_pipeline.specs.declared.settings.Settings.{Settings}
-use Rattle.trace_pipeline.specs.declared.request.Call.TheVariants as call
-use Rattle.trace_pipeline.specs.declared.reply.Reply.{Reply}
-use Rattle.trace_pipeline.specs.declared.reply.Reply.TheVariants as reply
+use Rattle.span_pipeline.specs.declared.request.TheConstants.{LAST_MOMENT}
+use Rattle.span_pipeline.specs.declared.settings.Settings.{Settings}
+use Rattle.span_pipeline.specs.declared.request.Call.TheVariants as call
+use Rattle.span_pipeline.specs.declared.request.Place.TheVariants as place
+use Rattle.span_pipeline.specs.declared.reply.Reply.{Reply}
+use Rattle.span_pipeline.specs.declared.reply.Reply.TheVariants as reply
 use Rattle.trace_pipeline.specs.Content.{records_of}
 use Rattle.trace_pipeline.specs.Tables.{tables}
-use Rattle.trace_pipeline.specs.declared.reply.Refusal.TheVariants.{InUse}
+use Rattle.span_pipeline.specs.declared.reply.Refusal.TheVariants.{InUse}
 use Rattle.trace_pipeline.specs.declared.handles.Guard.{Guard}
 use Rattle.trace_pipeline.specs.declared.handles.Handle.{Handle}
 use Rattle.trace_pipeline.specs.declared.handles.Handle.TheVariants.{Disabled, Enabled}
@@ -180,7 +181,7 @@ module _ (kept old : Kept) (same : kept ≡ old) (settings : Settings) (h : Hist
   quiet_spans after still = unchanged_spans kept.state.spans kept.state.started (made h) (started h) (held (handles h)) after (ops h) (moment h) at (length (guards h)) here.fits.spans_fit before still
 
   pub serves_declined : (site : ℕ) (callsite : Callsite) → span_site kept.state.settings.callsites site ≡ Some callsite → is_within callsite.level kept.state.in_force ≡ false
-      → Served (effect_of_call settings h at 0 (call.New site)) settings h old (with_handle kept at Disabled) (reply.Made false (length kept.state.handles))
+      → Served (effect_of_call settings h at 0 (call.New site place.Contextual)) settings h old (with_handle kept at Disabled) (reply.Made false (length kept.state.handles))
   serves_declined site callsite found refused = serves _ (declines h at 0) _ _ (rw (span_there site callsite found, let_through callsite false refused) refl) (ap (reply.Made false) (handle_count kept.state settings h here)) no_records
       (stands_step kept.state settings h here _ (declines h at 0) (declines_step h at 0 before) early record {
         settings_stay = refl;
@@ -210,7 +211,7 @@ module _ (kept old : Kept) (same : kept ≡ old) (settings : Settings) (h : Hist
       }))
 
   pub serves_made : (site : ℕ) (callsite : Callsite) → span_site kept.state.settings.callsites site ≡ Some callsite → is_within callsite.level kept.state.in_force ≡ true
-      → Served (effect_of_call settings h at 0 (call.New site)) settings h old (with_span kept at site) (reply.Made true (length kept.state.handles))
+      → Served (effect_of_call settings h at 0 (call.New site place.Contextual)) settings h old (with_span kept at site) (reply.Made true (length kept.state.handles))
   serves_made site callsite found admitted = serves _ (makes_root h at 0 site) _ _ (rw (span_there site callsite found, let_through callsite true admitted) refl) (ap (reply.Made true) (handle_count kept.state settings h here)) no_records
       (stands_step kept.state settings h here _ (makes_root h at 0 site) (makes_step h at 0 before site) early record {
         settings_stay = refl;

@@ -3,8 +3,8 @@ use Rattle.std.proofs.Common.{◌≡◌, ℕ, ◌+◌, ◌<◌, ◌≤◌, List,
 use Rattle.std.proofs.lemmas.List.{map_push, map-set, length_push, get_or_push}
 use Rattle.std.proofs.lemmas.Bool.{cases_eq, cases_lt}
 use Rattle.std.proofs.lemmas.List.{get_or_past}
-use Rattle.trace_pipeline.specs.declared.request.TheConstants.{LAST_MOMENT}
-use Rattle.trace_pipeline.specs.declared.settings.Settings.{Settings}
+use Rattle.span_pipeline.specs.declared.request.TheConstants.{LAST_MOMENT}
+use Rattle.span_pipeline.specs.declared.settings.Settings.{Settings}
 use Rattle.trace_pipeline.specs.History.{Scope, Made, Guarded, Effect, History, with_new, spend, slots_after, handles, guards, slot_at, made, no_making, no_context, made_of}
 use Rattle.trace_pipeline.specs.Fits.{State, Fits, SpansFit, EventsFit, GuardsFit, StandsFor, IsMade, handle_of, held}
 use Rattle.trace_pipeline.proofs.step.SlotsLemmas.{named_push, named_set}

@@ -3,7 +3,7 @@ use Rattle.std.proofs.Common.{◌≡◌, ℕ, ◌+◌, ◌-◌, ◌^◌, ◌<◌
 use Rattle.std.proofs.lemmas.List.Sums.{fold_push}
 use Rattle.std.proofs.lemmas.Bool.Decides.{nat_tests}
 use Rattle.otel_base.specs.declared.record.OtelEvent.{OtelEvent}
-use Rattle.trace_pipeline.specs.declared.request.TheConstants.{LAST_MOMENT}
+use Rattle.span_pipeline.specs.declared.request.TheConstants.{LAST_MOMENT}
 use Rattle.trace_pipeline.specs.declared.timings.Timings.{Timings}
 use Rattle.trace_pipeline.specs.History.{start_op, enter_op, exit_op, event_op}
 use Rattle.otel_base.specs.declared.context.SpanContext.{SpanContext}

@@ -1,11 +1,11 @@
 //! Entering the span of a handle, and exiting it again.
 ghost use Rattle.std.specs.Prelude.{◌≡◌, None, OnErr};
 ghost use Rattle.trace_pipeline.specs.Bodies.{CanWait};
-ghost use Rattle.trace_pipeline.specs.declared.request.Call.{Call};
+ghost use Rattle.span_pipeline.specs.declared.request.Call.{Call};
 
 use crate::handles::{Guard, guard_at, handle_at, spend};
 use crate::pipeline::Pipeline;
-use crate::reply::{Refusal, Reply, What};
+use span_pipeline::reply::{Refusal, Reply, What};
 use otel_base::record::Moment;
 
 impl Pipeline {

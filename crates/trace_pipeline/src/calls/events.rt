@@ -2,12 +2,12 @@
 ghost use Rattle.std.specs.Prelude.{◌≡◌, option_map, OnErr};
 ghost use Rattle.trace_pipeline.specs.Events.{event_site};
 ghost use Rattle.trace_pipeline.specs.Bodies.{current_of};
-ghost use Rattle.trace_pipeline.specs.declared.request.Call.{Call};
+ghost use Rattle.span_pipeline.specs.declared.request.Call.{Call};
 
 use crate::events::{is_error, make_event};
 use crate::handles::{Guard, Handle};
 use crate::pipeline::Pipeline;
-use crate::reply::{Refusal, Reply, What};
+use span_pipeline::reply::{Refusal, Reply, What};
 use otel_base::record::Moment;
 use trace_base::callsite::{Callsite, Kind};
 

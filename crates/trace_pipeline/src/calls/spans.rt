@@ -2,13 +2,15 @@
 ghost use Rattle.std.specs.Prelude.{◌≡◌, option_map, OnErr};
 ghost use Rattle.trace_pipeline.specs.Spans.{span_site};
 ghost use Rattle.trace_pipeline.specs.Bodies.{is_borrowed_by};
-ghost use Rattle.trace_pipeline.specs.declared.request.Call.{Call};
+ghost use Rattle.span_pipeline.specs.declared.request.Call.{Call};
+ghost use Rattle.span_pipeline.specs.declared.request.Place.{Place as AnyPlace};
 
 use crate::handles::{Guard, Handle, handle_at, is_enabled, spend};
 use crate::pipeline::Pipeline;
-use crate::reply::{Refusal, Reply, What};
+use span_pipeline::reply::{Refusal, Reply, What};
 use crate::span::Span;
 use otel_base::record::Moment;
+use span_pipeline::request::Place;
 use trace_base::callsite::{Callsite, Kind};
 
 /// The callsite at a place, if it makes spans.
@@ -35,9 +37,22 @@ fn is_borrowed(open_guard: Option<Guard>, handle: u64) -> bool
 impl Pipeline {
     ghost use Rattle.trace_pipeline.specs.Fits.{Serves, Refuses};
 
-    pub fn make(&mut self, at: Moment, site: u64) -> Result<Reply, Refusal>
-        ensures ok { Serves self.old at (Call.New site) result self.new }
-        ensures refused { Refuses self.old at (Call.New site) result }
+    // Under no span or the current one: a handle's span isn't built yet.
+    pub fn make_in(&mut self, at: Moment, site: u64, place: Place) -> Result<Reply, Refusal>
+        ensures ok { Serves self.old at (Call.New site place) result self.new }
+        ensures refused { Refuses self.old at (Call.New site place) result }
+        ensures err { OnErr result (self.new ≡ self.old) }
+    {
+        match place {
+            Place::Contextual => self.make(at, site),
+            Place::Root => Err(Refusal::Later),
+            Place::Under { .. } => Err(Refusal::Later),
+        }
+    }
+
+    fn make(&mut self, at: Moment, site: u64) -> Result<Reply, Refusal>
+        ensures ok { Serves self.old at (Call.New site AnyPlace.Contextual) result self.new }
+        ensures refused { Refuses self.old at (Call.New site AnyPlace.Contextual) result }
         ensures err { OnErr result (self.new ≡ self.old) }
     {
         let Some(callsite) = span_site(self.settings.callsites.as_slice(), site) else {

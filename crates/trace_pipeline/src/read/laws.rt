@@ -1,14 +1,15 @@
 //! What readers do by law: lines that are read out, and that each request can be read.
-ghost use Rattle.std.specs.Prelude.{◌≡◌, ℕ, [], ◌∷◌, Ok, Err, Some, None, codes};
+ghost use Rattle.std.specs.Prelude.{◌≡◌, ℕ, [], ◌∷◌, false, Ok, Err, Some, None, codes};
+ghost use Rattle.otel_state.specs.Settings.{default_settings};
 ghost use Rattle.trace_pipeline.specs.Forms.{object_of};
-ghost use Rattle.trace_pipeline.specs.RequestData.{first_lane, request_data};
+ghost use Rattle.trace_pipeline.specs.RequestData.{IsInRange, first_lane, request_data};
 ghost use Rattle.trace_pipeline.specs.RequestForm.{request_form};
 ghost use Rattle.trace_pipeline.specs.Spelled.{settings_spelled, request_spelled};
-ghost use Rattle.trace_pipeline.specs.declared.reply.Told.{Told};
-ghost use Rattle.trace_pipeline.specs.declared.request.Call.{Call as AnyCall};
+ghost use Rattle.trace_pipeline.specs.declared.told.Told.{Told};
+ghost use Rattle.span_pipeline.specs.declared.request.Call.{Call as AnyCall};
 
-use crate::reply::Told;
-use crate::request::Call;
+use crate::told::Told;
+use span_pipeline::request::Call;
 use trace_base::callsite::Kind;
 use trace_base::level::Level;
 
@@ -35,11 +36,12 @@ pub fn settings_line()
         line = Some 7;
         fields = codes "a" ∷ [];
       } ∷ [];
+      layer = record default_settings { location = false; target = false; threads = false };
     }) }
 {}
 
-/// Each request of the first lane has a value that is read as it.
+/// Each request of the first lane, with ids in their ranges, has a value that is read as it.
 pub fn every_request()
-    ensures { (at : ℕ) (call : AnyCall)
+    ensures { (at : ℕ) (call : AnyCall) → IsInRange call
         → object_of request_form (request_data (first_lane at call)) ≡ Some (first_lane at call) }
 {}

@@ -67,7 +67,7 @@ fn object_of_text(alloc: Global, text: &str) -> Result<Object<'_>, LineError>
 
 impl<'a> Object<'a> {
     ghost use Rattle.std.specs.Prelude.{List, ℕ};
-    ghost use Rattle.trace_pipeline.specs.Forms.{without, member, optional, whole, whole_to, text, flag, array, optional_text, optional_u32, nothing};
+    ghost use Rattle.trace_pipeline.specs.Forms.{without, member, optional, whole, whole_to, text, flag_or, array, optional_text, optional_u32, nothing};
 
     /// The object that a line is.
     pub(crate) fn open(alloc: Global, line: &'a [u8]) -> Result<Object<'a>, LineError>
@@ -94,7 +94,7 @@ impl<'a> Object<'a> {
     // Takes a member, if it is there.
     #[inline(always)]
     #[tactic(auto, using(crate::proofs::Members::found, crate::proofs::Members::kept))]
-    fn optional(&mut self, name: &str) -> Option<Value<'a>>
+    pub(crate) fn optional(&mut self, name: &str) -> Option<Value<'a>>
         ensures found { option_map value_data result ≡ get_member name.now (left self.old) }
         ensures left { left self.new ≡ without name.now (left self.old) }
     {
@@ -143,11 +143,14 @@ impl<'a> Object<'a> {
         self.member(name)?.into_text(alloc)
     }
 
-    /// Takes a flag.
-    pub(crate) fn flag(&mut self, name: &str) -> Result<bool, LineError>
-        ensures { Gives (λ b. (b, left self.new)) result (flag name.now (left self.old)) }
+    /// Takes a flag, which is otherwise where it isn't there.
+    pub(crate) fn flag_or(&mut self, otherwise: bool, name: &str) -> Result<bool, LineError>
+        ensures { Gives (λ b. (b, left self.new)) result (flag_or otherwise name.now (left self.old)) }
     {
-        self.member(name)?.flag()
+        match self.optional(name) {
+            Some(value) => value.flag(),
+            None => Ok(otherwise),
+        }
     }
 
     /// Takes an array.

@@ -1,19 +1,21 @@
 //! Reading settings: callsites, the filter, lanes and the layer.
-ghost use Rattle.std.specs.Prelude.{◌≡◌};
+ghost use Rattle.std.specs.Prelude.{◌≡◌, option_map};
+ghost use Rattle.otel_state.specs.Settings.{default_settings};
 ghost use Rattle.serde_json.specs.Find.{as_str};
 ghost use Rattle.trace_pipeline.specs.Gives.{Gives};
 ghost use Rattle.trace_pipeline.specs.Left.{value_data, left};
-ghost use Rattle.trace_pipeline.specs.Forms.{each, object_of, provided};
+ghost use Rattle.trace_pipeline.specs.Forms.{each, object_of, if_absent, provided};
 ghost use Rattle.trace_pipeline.specs.Object.{items};
-ghost use Rattle.trace_pipeline.specs.SettingsForm.{Lane, lane_form, callsite_form, layer_form, settings_form, ids, all_differ};
+ghost use Rattle.trace_pipeline.specs.SettingsForm.{Lane, lane_form, callsite_form, error_flags, span_flags, layer_form, is_built, settings_form, ids, all_differ};
 
 use crate::level_words::{filter_of, kind_of, level_of};
 use crate::read::LineError;
 use crate::read::object::Object;
 use crate::read::value::Value;
-use crate::settings::Settings;
+use span_pipeline::settings::Settings;
 use otel_base::list::Items;
 use otel_base::text::Text;
+use otel_state::settings::LayerSettings;
 use std::alloc::Global;
 use std::collections::BTreeSet;
 use trace_base::callsite::Callsite;
@@ -102,26 +104,91 @@ fn callsites(alloc: Global, values: Vec<Value<'_>>) -> Result<Items<Callsite>, L
     Ok(callsites)
 }
 
-#[tactic(auto, unfolding(crate::specs::SettingsForm::layer_form))]
-fn layer_members(object: &mut Object) -> Result<(), LineError>
-    ensures { Gives (λ u. (u, left object.new)) result (layer_form (left object.old)) }
+// Takes what is told of errors.
+#[tactic(auto, unfolding(crate::specs::SettingsForm::error_flags))]
+fn error_flags(object: &mut Object, usual: LayerSettings) -> Result<LayerSettings, LineError>
+    ensures { Gives (λ s. (s, left object.new)) result (error_flags usual (left object.old)) }
 {
-    let location = object.flag("location")?;
-    let target = object.flag("target")?;
-    let threads = object.flag("threads")?;
-    if location || target || threads {
-        Err(LineError::Later)
-    } else {
-        Ok(())
+    let error_events_to_exceptions = object.flag_or(usual.error_events_to_exceptions, "error_events_to_exceptions")?;
+    let error_events_to_status = object.flag_or(usual.error_events_to_status, "error_events_to_status")?;
+    let error_fields_to_exceptions = object.flag_or(usual.error_fields_to_exceptions, "error_fields_to_exceptions")?;
+    let error_records_to_exceptions = object.flag_or(usual.error_records_to_exceptions, "error_records_to_exceptions")?;
+    Ok(LayerSettings {
+        error_events_to_exceptions,
+        error_events_to_status,
+        error_fields_to_exceptions,
+        error_records_to_exceptions,
+        ..usual
+    })
+}
+
+// Takes what is told of a span beside its fields.
+#[tactic(auto, unfolding(crate::specs::SettingsForm::span_flags))]
+fn span_flags(object: &mut Object, usual: LayerSettings) -> Result<LayerSettings, LineError>
+    ensures { Gives (λ s. (s, left object.new)) result (span_flags usual (left object.old)) }
+{
+    let level = object.flag_or(usual.level, "level")?;
+    let location = object.flag_or(usual.location, "location")?;
+    let target = object.flag_or(usual.target, "target")?;
+    let threads = object.flag_or(usual.threads, "threads")?;
+    Ok(LayerSettings {
+        level,
+        location,
+        target,
+        threads,
+        ..usual
+    })
+}
+
+#[tactic(auto, unfolding(crate::specs::SettingsForm::layer_form))]
+fn layer_members(object: &mut Object) -> Result<LayerSettings, LineError>
+    ensures { Gives (λ s. (s, left object.new)) result (layer_form (left object.old)) }
+{
+    let usual = LayerSettings::default();
+    let activation = object.flag_or(usual.activation, "activation")?;
+    let inactivity = object.flag_or(usual.inactivity, "inactivity")?;
+    let errors = error_flags(object, usual)?;
+    let all = span_flags(object, errors)?;
+    Ok(LayerSettings {
+        activation,
+        inactivity,
+        ..all
+    })
+}
+
+fn layer_of(alloc: Global, value: Value<'_>) -> Result<LayerSettings, LineError>
+    ensures { Gives (λ s. s) result (object_of layer_form (value_data value.entry)) }
+{
+    let mut object = Object::of(alloc, value)?;
+    let layer = layer_members(&mut object)?;
+    object.end()?;
+    Ok(layer)
+}
+
+fn layer(alloc: Global, value: Option<Value<'_>>) -> Result<LayerSettings, LineError>
+    ensures { Gives (λ s. s) result
+        (if_absent default_settings (object_of layer_form) (option_map value_data value.entry)) }
+{
+    match value {
+        Some(value) => layer_of(alloc, value),
+        None => Ok(LayerSettings::default()),
     }
 }
 
-fn layer(alloc: Global, value: Value<'_>) -> Result<(), LineError>
-    ensures { Gives (λ u. u) result (object_of layer_form (value_data value.entry)) }
+// Makes sure that the layer is built.
+fn built(layer: LayerSettings) -> Result<(), LineError>
+    ensures { Gives (λ u. u) result (provided (is_built layer)) }
 {
-    let mut object = Object::of(alloc, value)?;
-    layer_members(&mut object)?;
-    object.end()
+    let others = layer.level || layer.location || layer.target || layer.threads;
+    let errors = layer.error_events_to_exceptions
+        && layer.error_events_to_status
+        && layer.error_fields_to_exceptions
+        && layer.error_records_to_exceptions;
+    if layer.activation && errors && layer.inactivity && !others {
+        Ok(())
+    } else {
+        Err(LineError::Later)
+    }
 }
 
 // Makes sure that no two lanes have the same id.
@@ -147,10 +214,12 @@ pub(crate) fn settings_members(alloc: Global, object: &mut Object) -> Result<Set
     filter_of(filter.as_str()).ok_or(LineError::Later)?;
     let lanes = lanes(alloc, object.array(alloc, "lanes")?)?;
     distinct(alloc, lanes.as_slice())?;
-    layer(alloc, object.member("layer")?)?;
+    let layer = layer(alloc, object.optional("layer"))?;
+    built(layer)?;
     Ok(Settings {
         filter,
         lanes,
         callsites,
+        layer,
     })
 }

@@ -1,11 +1,12 @@
 //! Refusals as JSON.
 ghost use Rattle.std.specs.Prelude.{◌≡◌};
 ghost use Rattle.serde_json.specs.Written.{compact_text};
-ghost use Rattle.trace_pipeline.specs.Texts.{refusal_data, named_refusal, what_name};
+ghost use Rattle.trace_pipeline.specs.Texts.{refusal_data, named_refusal, refusal_on, what_name};
 ghost use Rattle.trace_pipeline.specs.Writes.{Writes};
 
 use super::pieces::{add, add_number, add_text};
-use crate::reply::{Refusal, Told, What};
+use crate::told::Told;
+use span_pipeline::reply::{Refusal, What};
 use std::alloc::AllocError;
 
 /// Adds why a line is refused.
@@ -28,6 +29,8 @@ fn add_step(out: &mut Vec<u8>, line: u64, refusal: Refusal) -> Result<(), AllocE
         Refusal::BadMoment { before, given } => add_moment(out, line, before, given),
         Refusal::UnknownName { what } => add_unknown(out, line, what),
         Refusal::InUse => add_named(out, line, "InUse"),
+        Refusal::WrongLane { lane } => add_on_lane(out, line, lane, "WrongLane"),
+        Refusal::Full { lane } => add_on_lane(out, line, lane, "Full"),
         Refusal::Memory => add_named(out, line, "Memory"),
     }
 }
@@ -61,6 +64,7 @@ fn name_of(what: What) -> &'static str
         What::Site => "site",
         What::Handle => "handle",
         What::Guard => "guard",
+        What::Context => "context",
     }
 }
 
@@ -69,6 +73,17 @@ fn add_named(out: &mut Vec<u8>, line: u64, name: &str) -> Result<(), AllocError>
     ensures { Writes result out.old out.new (compact_text (named_refusal line name.now)) }
 {
     add_number(out, "{\"line\":", line)?;
+    add_text(out, ",\"refused\":", name)?;
+    add(out, "}")?;
+    Ok(())
+}
+
+// Adds which line is refused on which lane, and the refusal's name.
+fn add_on_lane(out: &mut Vec<u8>, line: u64, lane: u64, name: &str) -> Result<(), AllocError>
+    ensures { Writes result out.old out.new (compact_text (refusal_on line lane name.now)) }
+{
+    add_number(out, "{\"lane\":", lane)?;
+    add_number(out, ",\"line\":", line)?;
     add_text(out, ",\"refused\":", name)?;
     add(out, "}")?;
     Ok(())

@@ -3,8 +3,10 @@ ghost use Rattle.serde_json.specs.Written.{compact_text};
 ghost use Rattle.trace_pipeline.specs.Texts.{reply_data};
 ghost use Rattle.trace_pipeline.specs.Writes.{Writes};
 
+use super::hex::{add_id, add_long_id};
 use super::pieces::{add, add_flag, add_number};
-use crate::reply::Reply;
+use otel_base::context::SpanContext;
+use span_pipeline::reply::Reply;
 use std::alloc::AllocError;
 
 fn add_made(out: &mut Vec<u8>, line: u64, enabled: bool, handle: u64) -> Result<(), AllocError>
@@ -22,6 +24,22 @@ fn add_guard(out: &mut Vec<u8>, line: u64, guard: u64) -> Result<(), AllocError>
 {
     add_number(out, "{\"guard\":", guard)?;
     add_number(out, ",\"reply\":", line)?;
+    add(out, "}")?;
+    Ok(())
+}
+
+fn add_context(
+    out: &mut Vec<u8>,
+    line: u64,
+    context: u64,
+    ids: SpanContext,
+) -> Result<(), AllocError>
+    ensures { Writes result out.old out.new (compact_text (reply_data line (Reply.Context context ids))) }
+{
+    add_number(out, "{\"context\":", context)?;
+    add_number(out, ",\"reply\":", line)?;
+    add_id(out, ",\"span\":", ids.span)?;
+    add_long_id(out, ",\"trace\":", ids.trace)?;
     add(out, "}")?;
     Ok(())
 }
@@ -50,6 +68,7 @@ pub fn add_reply(out: &mut Vec<u8>, line: u64, reply: &Reply) -> Result<(), Allo
     match reply {
         Reply::Made { enabled, handle } => add_made(out, line, *enabled, *handle),
         Reply::Guard { guard } => add_guard(out, line, *guard),
+        Reply::Context { context, ids } => add_context(out, line, *context, *ids),
         Reply::Done => add_done(out, line),
         Reply::Enabled { enabled } => add_enabled(out, line, *enabled),
     }

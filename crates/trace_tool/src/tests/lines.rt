@@ -11,15 +11,22 @@ use std::alloc::Global;
 use std::sync::Wait;
 use std::test::Fail;
 use std::thread::Threads;
-use trace_pipeline::reply::{Refusal, Reply, Told, What};
-use trace_pipeline::request::Call;
 use trace_pipeline::{
-    end_line, read_request, read_settings, record_line, refusal_line, reply_line,
+    Call, Place, Refusal, Reply, Told, What, end_line, read_request, read_settings, record_line, refusal_line, reply_line,
 };
 
 // Request lines, each with its moment, its lane and its call behind it.
 const REQUESTS: &str = r#"
 {"at":2,"lane":0,"do":"new","site":4} => 2/0 new 4
+{"at":2,"lane":0,"do":"new","fields":[],"parent":"root","site":4} => 2/0 new_root 4
+{"at":2,"lane":0,"do":"new","parent":7,"site":4} => 2/0 new_under 7
+{"at":2,"lane":1,"do":"current"} => 2/1 current 0
+{"at":3,"do":"or_current","handle":2,"lane":0} => 3/0 or_current 2
+{"at":3,"do":"entered","handle":2,"lane":0} => 3/0 entered 2
+{"at":3,"do":"context","handle":2,"lane":0} => 3/0 context 2
+{"at":3,"do":"attach","context":2,"lane":0} => 3/0 attach 2
+{"at":3,"do":"detach","guard":2,"lane":0} => 3/0 detach 2
+{"at":3,"do":"remote","lane":0,"span":"00000000000000fe","trace":"80000000000000000000000000000001"} => 3/0 remote 254
 {"at":3,"do":"clone","handle":2,"lane":0} => 3/0 clone 2
 {"lane":1,"do":"drop","handle":1,"at":3} => 3/1 drop 1
 { "at": 0, "do": "enter", "handle": 0, "lane": 0 } => 0/0 enter 0
@@ -39,6 +46,7 @@ const REFUSED: &str = r#"
 {"at":1,"do":"drop","handle":[[[[[[[[[[[[[[[[[]]]]]]]]]]]]]]]]],"lane":0}
 {"at":1,"do":"drop","handle":1,"lane":0}}
 {"at":1,"do":"drop","handle":1,"lane":0,}
+{"at":1,"do":"remote","lane":0,"span":"00000000000000fg","trace":"80000000000000000000000000000001"}
 {"at":1,"do":"dr\u006f","handle":1,"lane":0}
 [{"at":1,"do":"drop","handle":1,"lane":0}]
 {}
@@ -47,7 +55,18 @@ const REFUSED: &str = r#"
 // The word of a call, and the number that it names.
 fn parts(call: &Call) -> (&'static str, u64) {
     match call {
-        Call::New { site } => ("new", *site),
+        Call::New { site, place } => match place {
+            Place::Contextual => ("new", *site),
+            Place::Root => ("new_root", *site),
+            Place::Under { handle } => ("new_under", *handle),
+        },
+        Call::Current => ("current", 0),
+        Call::OrCurrent { handle } => ("or_current", *handle),
+        Call::Entered { handle } => ("entered", *handle),
+        Call::Remote { ids } => ("remote", ids.span),
+        Call::Context { handle } => ("context", *handle),
+        Call::Attach { context } => ("attach", *context),
+        Call::Detach { guard } => ("detach", *guard),
         Call::Clone { handle } => ("clone", *handle),
         Call::Drop { handle } => ("drop", *handle),
         Call::Enter { handle } => ("enter", *handle),
@@ -164,6 +183,22 @@ fn writes_lines(rt: HostRuntime) -> Result<(), Fail> {
     assert_eq!(rt;
         reply_line(alloc, 9, &made)?.as_str(),
         "{\"enabled\":true,\"handle\":18446744073709551615,\"reply\":9}\n"
+    );
+    let ids = SpanContext {
+        trace: 1 << 127,
+        span: 254,
+    };
+    let context = Reply::Context { context: 3, ids };
+    assert_eq!(rt;
+        reply_line(alloc, 9, &context)?.as_str(),
+        "{\"context\":3,\"reply\":9,\"span\":\"00000000000000fe\",\"trace\":\"80000000000000000000000000000000\"}\n"
+    );
+    let elsewhere = Told::Step {
+        refusal: Refusal::WrongLane { lane: 1 },
+    };
+    assert_eq!(rt;
+        refusal_line(alloc, 4, &elsewhere)?.as_str(),
+        "{\"lane\":1,\"line\":4,\"refused\":\"WrongLane\"}\n"
     );
     let told = Told::Step {
         refusal: Refusal::UnknownName { what: What::Guard },

@@ -1,5 +1,5 @@
 use Rattle.std.proofs.Common.{ap, ◌∙◌, ◌++◌, ◌+◌, ℕ, length}
-use Rattle.trace_pipeline.specs.declared.reply.Told.{Told}
+use Rattle.trace_pipeline.specs.declared.told.Told.{Told}
 use Rattle.trace_pipeline.specs.Report.{record_lines}
 use Rattle.trace_pipeline.specs.Texts.{refusal_text}
 use Rattle.trace_tool.proofs.AnswersLemmas.{spelled_as, unread, unserved, answered}

@@ -1,8 +1,8 @@
 -- A step's answer is that of its call, where no refusal comes before what the call names.
 use Rattle.std.proofs.Common.{◌≡◌, ℕ, length, sym, ap, subst, ◌∙◌, Err, IfOk, IfErr, arith}
 use Rattle.std.proofs.lemmas.Bool.{eqb-true, eqb-false}
-use Rattle.trace_pipeline.specs.declared.settings.Settings.{Settings}
-use Rattle.trace_pipeline.specs.declared.reply.Refusal.TheVariants.{BadMoment}
+use Rattle.span_pipeline.specs.declared.settings.Settings.{Settings}
+use Rattle.span_pipeline.specs.declared.reply.Refusal.TheVariants.{BadMoment}
 use Rattle.trace_pipeline.specs.History.{History, moment}
 use Rattle.trace_pipeline.specs.Effects.{Resolved, is_bad_moment}
 use Rattle.trace_pipeline.specs.Fits.{Kept, StandsFor, Served, IsRefusal}

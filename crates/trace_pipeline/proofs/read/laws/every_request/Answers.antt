@@ -1,19 +1,31 @@
 use Rattle.std.proofs.Common.{◌≡◌, ℕ, Some, refl}
-use Rattle.trace_pipeline.specs.declared.request.Call.{Call}
-use Rattle.trace_pipeline.specs.declared.request.Call.TheVariants.{New, Clone, Drop, Enter, Exit, Event}
+use Rattle.span_pipeline.specs.declared.request.Call.{Call}
+use Rattle.span_pipeline.specs.declared.request.Call.TheVariants as call
+use Rattle.span_pipeline.specs.declared.request.Place.TheVariants as place
 use Rattle.trace_pipeline.specs.Forms.{object_of}
-use Rattle.trace_pipeline.specs.RequestData.{first_lane, request_data}
-use Rattle.trace_pipeline.specs.RequestForm.{request_form, new_form, clone_form, drop_form, enter_form, exit_form, event_form}
+use Rattle.trace_pipeline.specs.Hex.{hex_word}
+use Rattle.trace_pipeline.specs.RequestData.{IsInRange, first_lane, request_data}
+use Rattle.trace_pipeline.specs.RequestForm.{request_form, new_form, clone_form, or_current_form, drop_form, enter_form, entered_form, exit_form, event_form, remote_form, context_form, attach_form, detach_form}
+use Rattle.trace_pipeline.proofs.HexRead.{id_read, long_id_read}
 use Rattle.trace_pipeline.proofs.read.laws.every_request.Goals as goal
 
-is_read : (at : ℕ) (call : Call) → object_of request_form (request_data (first_lane at call)) ≡ Some (first_lane at call)
-unfolding request_form new_form clone_form drop_form enter_form exit_form event_form
-is_read at (New site) = refl
-is_read at (Clone handle) = refl
-is_read at (Drop handle) = refl
-is_read at (Enter handle) = refl
-is_read at (Exit guard) = refl
-is_read at (Event site) = refl
+is_read : (at : ℕ) (call : Call) → IsInRange call → object_of request_form (request_data (first_lane at call)) ≡ Some (first_lane at call)
+unfolding request_form new_form clone_form or_current_form drop_form enter_form entered_form exit_form event_form remote_form context_form attach_form detach_form
+is_read at (call.New site place.Contextual) range = refl
+is_read at (call.New site place.Root) range = refl
+is_read at (call.New site (place.Under handle)) range = refl
+is_read at call.Current range = refl
+is_read at (call.Clone handle) range = refl
+is_read at (call.OrCurrent handle) range = refl
+is_read at (call.Drop handle) range = refl
+is_read at (call.Enter handle) range = refl
+is_read at (call.Entered handle) range = refl
+is_read at (call.Exit guard) range = refl
+is_read at (call.Event site) range = refl
+is_read at (call.Remote ids) range = rw (long_id_read ids.trace range.0, id_read ids.span range.1) refl
+is_read at (call.Context handle) range = refl
+is_read at (call.Attach context) range = refl
+is_read at (call.Detach guard) range = refl
 
 pub returns : goal.returns
 returns c = is_read
