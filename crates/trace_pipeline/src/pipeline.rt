@@ -7,11 +7,11 @@ ghost use Rattle.span_pipeline.specs.declared.settings.Settings.{Settings as Set
 
 use crate::handles::{Guard, Handle};
 use crate::level_words::filter_of;
+use crate::spans::Spans;
+use otel_base::record::{Moment, Record};
 use span_pipeline::reply::{Refusal, Reply, What};
 use span_pipeline::request::{Call, LAST_MOMENT, Request};
 use span_pipeline::settings::Settings;
-use crate::spans::Spans;
-use otel_base::record::{Moment, Record};
 use std::alloc::Global;
 use std::collections::VecDeque;
 use std::marker::Model;

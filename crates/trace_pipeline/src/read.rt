@@ -15,10 +15,10 @@ mod settings;
 mod tree;
 mod value;
 
-use span_pipeline::request::Request;
-use span_pipeline::settings::Settings;
 use object::Object;
 use otel_base::memory;
+use span_pipeline::request::Request;
+use span_pipeline::settings::Settings;
 use std::alloc::{AllocError, AllocFailed, Global};
 
 /// Why a line gives no value.

@@ -16,7 +16,6 @@ mod refusal;
 mod reply;
 
 use crate::told::Told;
-use span_pipeline::reply::Reply;
 use end::add_end;
 use otel_base::memory::Memory;
 use otel_base::record::Record;
@@ -24,6 +23,7 @@ use pieces::add;
 use record::add_record;
 use refusal::add_refusal;
 use reply::add_reply;
+use span_pipeline::reply::Reply;
 use std::alloc::{AllocError, Global};
 
 // The bytes that most lines need, of records and of others.

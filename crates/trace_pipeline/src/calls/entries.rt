@@ -5,8 +5,8 @@ ghost use Rattle.span_pipeline.specs.declared.request.Call.{Call};
 
 use crate::handles::{Guard, guard_at, handle_at, spend};
 use crate::pipeline::Pipeline;
-use span_pipeline::reply::{Refusal, Reply, What};
 use otel_base::record::Moment;
+use span_pipeline::reply::{Refusal, Reply, What};
 
 impl Pipeline {
     ghost use Rattle.trace_pipeline.specs.Fits.{Serves, Refuses};

@@ -7,8 +7,8 @@ ghost use Rattle.span_pipeline.specs.declared.request.Call.{Call};
 use crate::events::{is_error, make_event};
 use crate::handles::{Guard, Handle};
 use crate::pipeline::Pipeline;
-use span_pipeline::reply::{Refusal, Reply, What};
 use otel_base::record::Moment;
+use span_pipeline::reply::{Refusal, Reply, What};
 use trace_base::callsite::{Callsite, Kind};
 
 /// The callsite at a place, if it makes events.

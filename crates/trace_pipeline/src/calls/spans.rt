@@ -7,9 +7,9 @@ ghost use Rattle.span_pipeline.specs.declared.request.Place.{Place as AnyPlace};
 
 use crate::handles::{Guard, Handle, handle_at, is_enabled, spend};
 use crate::pipeline::Pipeline;
-use span_pipeline::reply::{Refusal, Reply, What};
 use crate::span::Span;
 use otel_base::record::Moment;
+use span_pipeline::reply::{Refusal, Reply, What};
 use span_pipeline::request::Place;
 use trace_base::callsite::{Callsite, Kind};
 

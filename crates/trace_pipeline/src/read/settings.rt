@@ -12,10 +12,10 @@ use crate::level_words::{filter_of, kind_of, level_of};
 use crate::read::LineError;
 use crate::read::object::Object;
 use crate::read::value::Value;
-use span_pipeline::settings::Settings;
 use otel_base::list::Items;
 use otel_base::text::Text;
 use otel_state::settings::LayerSettings;
+use span_pipeline::settings::Settings;
 use std::alloc::Global;
 use std::collections::BTreeSet;
 use trace_base::callsite::Callsite;
@@ -109,10 +109,22 @@ fn callsites(alloc: Global, values: Vec<Value<'_>>) -> Result<Items<Callsite>, L
 fn error_flags(object: &mut Object, usual: LayerSettings) -> Result<LayerSettings, LineError>
     ensures { Gives (λ s. (s, left object.new)) result (error_flags usual (left object.old)) }
 {
-    let error_events_to_exceptions = object.flag_or(usual.error_events_to_exceptions, "error_events_to_exceptions")?;
-    let error_events_to_status = object.flag_or(usual.error_events_to_status, "error_events_to_status")?;
-    let error_fields_to_exceptions = object.flag_or(usual.error_fields_to_exceptions, "error_fields_to_exceptions")?;
-    let error_records_to_exceptions = object.flag_or(usual.error_records_to_exceptions, "error_records_to_exceptions")?;
+    let error_events_to_exceptions = object.flag_or(
+        usual.error_events_to_exceptions,
+        "error_events_to_exceptions",
+    )?;
+    let error_events_to_status = object.flag_or(
+        usual.error_events_to_status,
+        "error_events_to_status",
+    )?;
+    let error_fields_to_exceptions = object.flag_or(
+        usual.error_fields_to_exceptions,
+        "error_fields_to_exceptions",
+    )?;
+    let error_records_to_exceptions = object.flag_or(
+        usual.error_records_to_exceptions,
+        "error_records_to_exceptions",
+    )?;
     Ok(LayerSettings {
         error_events_to_exceptions,
         error_events_to_status,

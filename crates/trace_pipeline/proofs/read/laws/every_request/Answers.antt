@@ -3,7 +3,6 @@ use Rattle.span_pipeline.specs.declared.request.Call.{Call}
 use Rattle.span_pipeline.specs.declared.request.Call.TheVariants as call
 use Rattle.span_pipeline.specs.declared.request.Place.TheVariants as place
 use Rattle.trace_pipeline.specs.Forms.{object_of}
-use Rattle.trace_pipeline.specs.Hex.{hex_word}
 use Rattle.trace_pipeline.specs.RequestData.{IsInRange, first_lane, request_data}
 use Rattle.trace_pipeline.specs.RequestForm.{request_form, new_form, clone_form, or_current_form, drop_form, enter_form, entered_form, exit_form, event_form, remote_form, context_form, attach_form, detach_form}
 use Rattle.trace_pipeline.proofs.HexRead.{id_read, long_id_read}
