@@ -155,7 +155,7 @@ LookedAs m n w (Waits t) = MatchBool (n == t) (HasTurn m t w) (w ≡ m)
 abbrev pub Looked : Step Slot → Mine → ℕ → Mine → Type 0
 Looked st m n w = LookedAs m n w m.0.stage
 
--- all turns were seen
+-- what is seen grew by turns since, begins as all that was seen earlier, and is a legal history
 pub record AllSeen (m : Mine) (w : Mine) : Type 0 where
   pub view : w ≡ (view m.0.origin w.0.seen [] m.0.number m.0.mine m.0.other m.0.theirs Idle, m.1)
   pub begins : IsPrefix m.0.seen w.0.seen

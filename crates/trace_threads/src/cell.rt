@@ -142,7 +142,7 @@ pub(crate) fn take_in(board: &Board, seat: &mut TurnSeat, other: TurnSeat)
     board.join_seat::<Meet>(seat, other);
 }
 
-// Sees all turns so far.
+// Sees the turns so far.
 pub(crate) fn see_all(board: &Board, seat: &mut TurnSeat)
     requires table { IsSeatOf board.now.table_id seat.old.table_id }
     requires idle { IsFree seat.old.me }
