@@ -3,6 +3,7 @@ mod Balancing
 mod Beginning
 mod Cloning
 mod Copies
+mod Counting
 mod Dropped
 mod Dropping
 mod Entering
@@ -22,4 +23,5 @@ mod Requiring
 mod Scopes
 mod Serving
 mod Standing
+mod Taking
 mod Telling

@@ -1,6 +1,6 @@
 -- What each request changes, or the first refusal that applies.
-use Rattle.std.specs.Prelude.{ℕ, List, [], ◌∷◌, length, filter, Bool, true, not, false, if◌then◌else◌, ◌==◌, ◌||◌, nat_lt, is_some, Option, Some, None, Result, Ok, Err, slice_get, slice_set}
-use Rattle.std.specs.List.{list_any}
+use Rattle.std.specs.Prelude.{ℕ, List, [], ◌∷◌, length, filter, count_by, Bool, true, not, false, if◌then◌else◌, ◌==◌, ◌||◌, nat_lt, is_some, Option, Some, None, Result, Ok, Err, slice_get, slice_set}
+use Rattle.std.specs.List.{list_any, range_with_len}
 use Rattle.trace_base.specs.Level.{is_within}
 use Rattle.trace_base.specs.Spans.{is_in, current_of}
 use Rattle.std.specs.Option.{option_to_list}
@@ -54,6 +54,10 @@ is_open slots s = list_any (holds s) slots
 -- the spans of a scope that are open no more, each before its parent
 abbrev pub closed_of : List (Option Scope) → Scope → List ℕ
 closed_of slots scope = filter (λ s. not (is_open slots s)) scope
+
+-- how many spans are open
+abbrev pub open_spans : Tables → ℕ
+open_spans t = count_by (is_open t.handles) (range_with_len 0 (length t.made))
 
 -- a guard borrows its handle
 abbrev pub borrows : ℕ → Option Guarded → Bool

@@ -1,5 +1,5 @@
 -- What a pipeline keeps, and when it fits the tables of a history.
-use Rattle.std.specs.Prelude.{◌≡◌, ℕ, ◌+◌, ◌<◌, ◌≤◌, ◌==◌, ◌≢◌, Bool, true, false, List, [], ◌∷◌, ◌++◌, length, map, filter, if◌then◌else◌, count_by, Option, Some, None, option_map, Ok, Err, slice_index_or}
+use Rattle.std.specs.Prelude.{◌≡◌, ℕ, ◌+◌, ◌<◌, ◌≤◌, ◌==◌, ◌≢◌, Bool, true, false, List, [], ◌∷◌, ◌++◌, length, drop, map, filter, if◌then◌else◌, count_by, Option, Some, None, option_map, Ok, Err, slice_index_or}
 use Rattle.otel_base.specs.declared.context.Context.{Context}
 use Rattle.trace_base.specs.declared.lane.Lane.{Lane}
 use Rattle.trace_base.specs.declared.callsite.Callsite.{Callsite}
@@ -150,6 +150,10 @@ pub record Fits (k : State) (t : Tables) : Type 0 where
 pub record StandsFor (k : State) (t : Tables) : Type 0 where
   pub fits : Fits k t
   pub recording : RecordingFits k t
+
+-- the same but for the oldest record
+abbrev pub without_first : State → State
+without_first k = record k { recording = record k.recording { finished = drop 1 k.recording.finished } }
 
 -- What every pipeline keeps: it stands for some history.
 pub record IsKept {S : Type 0} (kept : S → ℕ → ℕ → ℕ) (is_whole : S → Type 0) (world : Worlds S) (k : State) : Type 0 where

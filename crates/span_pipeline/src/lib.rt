@@ -14,6 +14,7 @@ pub mod reply;
 pub mod request;
 pub mod settings;
 pub mod slots;
+mod records;
 #[cfg(test)]
 mod tests;
 

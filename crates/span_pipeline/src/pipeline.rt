@@ -98,6 +98,7 @@ impl Pipeline {
         requires { HasOwnIds (map (λ l. l.0) settings.lanes) }
         ensures setup { IfOk result (λ pipeline. pipeline.setup ≡ setup_by settings) }
         ensures stands { IfOk result (λ pipeline. StandsFor pipeline (tables settings.layer [])) }
+        ensures records { IfOk result (λ pipeline. pipeline.recording.finished ≡ []) }
     {
         same::<Layered<OpenTelemetryLayer<Recorder>, Registry>>();
         recording::same();

@@ -1,0 +1,10 @@
+-- How many spans are open.
+use Rattle.std.proofs.Common.{rules, refl, ap, ◌∙◌}
+use Rattle.trace_base.specs.Spans.{Spans}
+use Rattle.span_handles.specs.Worlds.{no_spans}
+use Rattle.span_pipeline.proofs.Taking.{seen_there}
+use Rattle.span_pipeline.proofs.Counting.{open_counted}
+use Rattle.span_pipeline.proofs.pipeline.Pipeline.open_spans.Goals as goal
+
+pub returns : goal.returns
+returns c = λ t stands. c.count_open.ensures ∙ open_counted _ _ c.self.view_is c.self.inside.handles.items refl c.inner-registry.result.now.spans.made (search rules) c.len.result (search rules) t stands

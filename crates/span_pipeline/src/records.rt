@@ -1,0 +1,51 @@
+//! What a pipeline gives besides its answers: records, and how many spans are open.
+ghost use Rattle.std.specs.Prelude.{◌≡◌, ◌≤◌, [], ◌∷◌, drop, count_by, nat_lt, MatchOption};
+ghost use Rattle.std.specs.List.{range_with_len};
+ghost use Rattle.trace_base.specs.Spans.{span_at};
+
+use crate::pipeline::Pipeline;
+use otel_base::record::Record;
+use span_registry::registry::Registry;
+use trace_base::span::Id;
+
+// How many of the spans with the first ids have a hold.
+fn count_open(registry: &Registry, ids: u64) -> u64
+    requires { ids ≤ 9223372036854775808 }
+    ensures { result ≡ count_by (λ id. nat_lt 0 (span_at registry.now.spans.made id).holds) (range_with_len 0 ids) }
+{
+    let mut open = 0;
+    for id in 0..ids {
+        if registry.holds(Id::at(id)) > 0 {
+            open += 1;
+        }
+    }
+    open
+}
+
+impl Pipeline {
+    ghost use Rattle.span_pipeline.specs.Tables.{Tables};
+    ghost use Rattle.span_pipeline.specs.Effects.{open_spans};
+    ghost use Rattle.span_pipeline.specs.Fits.{StandsFor, without_first};
+
+    /// The oldest record that hasn't been taken, if there is one: what an `opentelemetry_sdk::trace::SpanExporter`
+    /// would get next.
+    pub fn take_record(&mut self) -> Option<Record>
+        ensures oldest { MatchOption result (self.old.recording.finished ≡ [])
+            (λ record'. self.old.recording.finished ≡ record' ∷ self.new.recording.finished) }
+        ensures rest { self.new ≡ without_first self.old }
+    {
+        self.world
+            .subscriber_mut(self.dispatch)
+            .layer_mut()
+            .tracer_mut()
+            .take()
+    }
+
+    /// How many spans are open.
+    pub fn open_spans(&self) -> u64
+        ensures { (t : Tables) → StandsFor self.now t → result ≡ open_spans t }
+    {
+        let registry = self.world.subscriber(self.dispatch).inner();
+        count_open(registry, self.handles.len() as u64)
+    }
+}
