@@ -34,7 +34,7 @@ quiet_handle spans hs gs es fits = record {
   borrowed = λ n g there. still_borrowed hs None g.handle g.span (fits.borrowed n g there);
 }
 
-another_handle : (spans : Spans) (hs : List (Option ℕ)) (gs : List (Option Opened)) (es : ℕ → List ℕ) → Balanced spans hs gs es → (s : ℕ) → IsLive spans.made s → Balanced (record spans { made = held spans.made s }) (hs ++ Some s ∷ []) gs es
+pub another_handle : (spans : Spans) (hs : List (Option ℕ)) (gs : List (Option Opened)) (es : ℕ → List ℕ) → Balanced spans hs gs es → (s : ℕ) → IsLive spans.made s → Balanced (record spans { made = held spans.made s }) (hs ++ Some s ∷ []) gs es
 another_handle spans hs gs es fits s live =
     let within = made_if_held spans.made s live in
     let now : Span = record (span_at spans.made s) { holds = (span_at spans.made s).holds + 1 } in

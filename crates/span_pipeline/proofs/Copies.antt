@@ -31,22 +31,22 @@ use Rattle.span_pipeline.proofs.Makings.{made_held}
 use Rattle.span_pipeline.proofs.Serving.{serve, known_still, all_same, kept_served, call_count, call_sites, call_whole}
 use Rattle.span_pipeline.proofs.Cloning.{spans_held, balanced_clone}
 
-held_scope_most : (spans : Spans) (line : Scope) (q : ℕ) → (span_at (spans_held spans line).made q).holds ≤ (span_at spans.made q).holds + 1
+pub held_scope_most : (spans : Spans) (line : Scope) (q : ℕ) → (span_at (spans_held spans line).made q).holds ≤ (span_at spans.made q).holds + 1
 held_scope_most spans [] q = omega arith
 held_scope_most spans (s ∷ up) q = held_most spans.made s q
 
-clone_live : (spans : Spans) (line : Scope) (q : ℕ) → ((s : ℕ) (up : Scope) → line ≡ s ∷ up → 0 < (span_at spans.made s).holds) → 0 < (span_at (spans_held spans line).made q).holds → 0 < (span_at spans.made q).holds
+pub clone_live : (spans : Spans) (line : Scope) (q : ℕ) → ((s : ℕ) (up : Scope) → line ≡ s ∷ up → 0 < (span_at spans.made s).holds) → 0 < (span_at (spans_held spans line).made q).holds → 0 < (span_at spans.made q).holds
 clone_live spans [] q live some = some
 clone_live spans (s ∷ up) q live some = elim (cases_eq q s) [
   | inl here ↦ (let l = live s up refl in let e = ap (λ (k : ℕ). (span_at spans.made k).holds) here in omega (arith, l, e))
   | inr other ↦ (let h = holds_other spans.made s (record (span_at spans.made s) { holds = (span_at spans.made s).holds + 1 }) q other in omega (arith, h, some))
 ]
 
-one_clone : (spans : Spans) (line : Scope) → OneEach spans.lanes → OneEach (spans_held spans line).lanes
+pub one_clone : (spans : Spans) (line : Scope) → OneEach spans.lanes → OneEach (spans_held spans line).lanes
 one_clone spans [] one = one
 one_clone spans (s ∷ up) one = one
 
-made_clone : (spans : Spans) (ms : List Made) (line : Scope) → MadeFit spans.made ms → ((s : ℕ) (up : Scope) → line ≡ s ∷ up → 0 < (span_at spans.made s).holds) → MadeFit (spans_held spans line).made ms
+pub made_clone : (spans : Spans) (ms : List Made) (line : Scope) → MadeFit spans.made ms → ((s : ℕ) (up : Scope) → line ≡ s ∷ up → 0 < (span_at spans.made s).holds) → MadeFit (spans_held spans line).made ms
 made_clone spans ms [] fit live = fit
 made_clone spans ms (s ∷ up) fit live = made_held spans.made ms s fit (live s up refl)
 
@@ -64,15 +64,15 @@ pub still_named_more : (gs : List (Option Guarded)) (hs : List (Option Scope)) (
 still_named_more gs hs line still n x there = let at = still n x there in get_or_append_left hs (Some line ∷ []) None x.handle (named_within hs x.handle x.scope at) ∙ at
 
 module _ {S : Type 0} (spans : S → Spans) (recorded : S → Recording) (attaches : S → Bool) (kept : S → ℕ → ℕ → ℕ) (is_whole : S → Type 0) (old new : Worlds S) where
-  held_spans : (dispatch : ℕ) (line : Scope) → ShownOn spans recorded attaches kept is_whole old new dispatch line (λ id. CloneSpan id) → spans_in spans new dispatch ≡ spans_held (spans_in spans old dispatch) line
+  pub held_spans : (dispatch : ℕ) (line : Scope) → ShownOn spans recorded attaches kept is_whole old new dispatch line (λ id. CloneSpan id) → spans_in spans new dispatch ≡ spans_held (spans_in spans old dispatch) line
   held_spans dispatch [] same = ap (λ (w : Worlds S). spans_in spans w dispatch) same
   held_spans dispatch (s ∷ up) shown = shown.0.spans_after
 
-  clone_kept : (dispatch : ℕ) (line : Scope) → ShownOn spans recorded attaches kept is_whole old new dispatch line (λ id. CloneSpan id) → kept_in kept new dispatch ≡ kept_in kept old dispatch
+  pub clone_kept : (dispatch : ℕ) (line : Scope) → ShownOn spans recorded attaches kept is_whole old new dispatch line (λ id. CloneSpan id) → kept_in kept new dispatch ≡ kept_in kept old dispatch
   clone_kept dispatch [] same = ap (λ (w : Worlds S). kept_in kept w dispatch) same
   clone_kept dispatch (s ∷ up) shown = shown.0.lanes
 
-  clone_recorded : (dispatch : ℕ) (line : Scope) → ShownOn spans recorded attaches kept is_whole old new dispatch line (λ id. CloneSpan id) → seen recorded no_recording new dispatch ≡ seen recorded no_recording old dispatch
+  pub clone_recorded : (dispatch : ℕ) (line : Scope) → ShownOn spans recorded attaches kept is_whole old new dispatch line (λ id. CloneSpan id) → seen recorded no_recording new dispatch ≡ seen recorded no_recording old dispatch
   clone_recorded dispatch [] same = ap (λ (w : Worlds S). seen recorded no_recording w dispatch) same
   clone_recorded dispatch (s ∷ up) shown = shown.2
 

@@ -87,7 +87,7 @@ chain_ends _ _ _ (releases id at x y own rest) hs loose =
     }
 
 -- no open guard borrows the handle
-not_borrowed : (gs : List (Option Guarded)) (handle n : ℕ) (g : Guarded) → is_borrowed gs handle ≡ false → slot_at gs n ≡ Some g → g.handle ≡ handle → ⊥
+pub not_borrowed : (gs : List (Option Guarded)) (handle n : ℕ) (g : Guarded) → is_borrowed gs handle ≡ false → slot_at gs n ≡ Some g → g.handle ≡ handle → ⊥
 not_borrowed [] handle n g none there same = absurd (cc there)
 not_borrowed (None ∷ gs) handle zero g none there same = absurd (cc there)
 not_borrowed (Some x ∷ gs) handle zero g none there same =
@@ -101,7 +101,7 @@ borrowed_is dispatch [] handle = refl
 borrowed_is dispatch (None ∷ gs) handle = borrowed_is dispatch gs handle
 borrowed_is dispatch (Some g ∷ gs) handle = ap (λ b. (g.handle == handle) || b) (borrowed_is dispatch gs handle)
 
-opened_handle : (ids : List ℕ) (o : Option Guarded) (g : Opened) → opened_by ids o ≡ Some g → (x : Guarded) × (o ≡ Some x) × (x.handle ≡ g.handle)
+pub opened_handle : (ids : List ℕ) (o : Option Guarded) (g : Opened) → opened_by ids o ≡ Some g → (x : Guarded) × (o ≡ Some x) × (x.handle ≡ g.handle)
 opened_handle ids None g e = absurd (cc e)
 opened_handle ids (Some x) g e = (x, refl, by_line x.scope e)
   where
@@ -139,7 +139,7 @@ drop_ends x y hs gs es fits n (s ∷ up) is chain =
     record { holds = λ q. (let h = ends.holds q in omega (arith, h)); lanes = ends.lanes; fewer = ends.fewer; made = ends.made }
 
 -- what a guard keeps stays where another handle is spent
-still_spent : (gs : List (Option Guarded)) (hs : List (Option Scope)) (handle : ℕ) → is_borrowed gs handle ≡ false → ((n : ℕ) (x : Guarded) → slot_at gs n ≡ Some x → slot_at hs x.handle ≡ Some x.scope)
+pub still_spent : (gs : List (Option Guarded)) (hs : List (Option Scope)) (handle : ℕ) → is_borrowed gs handle ≡ false → ((n : ℕ) (x : Guarded) → slot_at gs n ≡ Some x → slot_at hs x.handle ≡ Some x.scope)
     → (n : ℕ) (x : Guarded) → slot_at gs n ≡ Some x → slot_at (slice_set hs handle None) x.handle ≡ Some x.scope
 still_spent gs hs handle free still n x there = get_or-set_other hs handle x.handle None None (not_borrowed gs handle n x free there) ∙ still n x there
 

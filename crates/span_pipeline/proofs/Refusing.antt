@@ -36,7 +36,7 @@ room_refused lane errors.Memory given is other = absurd (true≢false (sym (ap i
 
 -- ---- steps
 
-within_get : {A : Type 0} (xs : List A) (n : ℕ) → n < length xs → (x : A) × (slice_get xs n ≡ Some x)
+pub within_get : {A : Type 0} (xs : List A) (n : ℕ) → n < length xs → (x : A) × (slice_get xs n ≡ Some x)
 within_get [] n within = absurd (omega (arith, within))
 within_get (x ∷ xs) zero within = (x, refl)
 within_get (x ∷ xs) (suc n) within = within_get xs n (omega (arith, within))

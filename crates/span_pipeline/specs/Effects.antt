@@ -141,6 +141,19 @@ drops t at lane handle scope = record (quiet at lane reply.Done) {
 abbrev pub drops_unless : Bool → Effect → Resolved
 drops_unless borrowed effect = if borrowed then Err refusal.InUse else Ok effect
 
+-- the scope of a lane's current span, the empty one where there is none
+abbrev pub current_scope : Tables → ℕ → Scope
+current_scope t lane = scope_of t.made (current_of (t.entries lane))
+
+-- an enabled handle's own scope, else that of the lane's current span
+abbrev pub scope_or_current : Tables → ℕ → Scope → Scope
+scope_or_current t lane [] = current_scope t lane
+scope_or_current t lane (s ∷ up) = s ∷ up
+
+-- a handle of a scope in place of one that is spent, which has a number of its own
+abbrev pub exchanges : Tables → ℕ → ℕ → ℕ → Scope → Effect
+exchanges t at lane handle scope = record (clones t at lane scope) { spent_handle = Some handle }
+
 -- ---- entries
 
 -- an op on a scope's own span, if it has one
@@ -210,8 +223,11 @@ effect_of_call setup t at lane (call.Enter handle) =
 effect_of_call setup t at lane (call.Exit guard) =
     named what.Guard (slot_at t.guards guard)
     (λ guarded. exits_on guarded.lane lane (exits setup at (id_at setup.ids lane) guard guarded.scope))
-effect_of_call setup t at lane call.Current = Err refusal.Later
-effect_of_call setup t at lane (call.OrCurrent handle) = Err refusal.Later
+effect_of_call setup t at lane call.Current = Ok (clones t at (id_at setup.ids lane) (current_scope t (id_at setup.ids lane)))
+effect_of_call setup t at lane (call.OrCurrent handle) =
+    named what.Handle (slot_at t.handles handle)
+    (λ scope. drops_unless (is_borrowed t.guards handle)
+    (exchanges t at (id_at setup.ids lane) handle (scope_or_current t (id_at setup.ids lane) scope)))
 effect_of_call setup t at lane (call.Entered handle) = Err refusal.Later
 effect_of_call setup t at lane (call.Event site) =
     named what.Site (event_site setup.sites site)

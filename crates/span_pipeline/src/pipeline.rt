@@ -136,7 +136,7 @@ impl Pipeline {
     }
 
     /// Runs a request. A refused step leaves the pipeline as it was: `BadMoment` where the moment falls or is above
-    /// 2^63 - 1, `UnknownName` where it names what isn't there, `InUse` where it drops a handle with an open guard,
+    /// 2^63 - 1, `UnknownName` where it names what isn't there, `InUse` where it spends a handle with an open guard,
     /// `WrongLane` where it spends a guard on another lane than the guard's, `Later` where its kind isn't built. It may
     /// answer `Memory`.
     pub fn step(&mut self, request: Request) -> Result<Reply, Refusal>
@@ -173,8 +173,8 @@ impl Pipeline {
             Call::Enter { handle } => self.enter(at, lane, handle),
             Call::Exit { guard } => self.exit(at, lane, guard),
             Call::New { site, place } => self.make(at, lane, site, place),
-            Call::Current => Err(Refusal::Later),
-            Call::OrCurrent { .. } => Err(Refusal::Later),
+            Call::Current => self.current(at, lane),
+            Call::OrCurrent { handle } => self.or_current(at, lane, handle),
             Call::Entered { .. } => Err(Refusal::Later),
             Call::Event { site } => self.event(at, lane, site),
             Call::Remote { .. } => Err(Refusal::Later),

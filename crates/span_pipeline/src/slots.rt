@@ -85,6 +85,7 @@ pub fn keep<T>(slots: &mut Vec<Option<T>>, value: T)
 pub fn take<T>(slots: &mut Vec<Option<T>>, number: u64) -> Option<T>
     ensures value { result ≡ slice_index_or slots.old.items number None }
     ensures spent { slots.new.items ≡ slice_set slots.old.items number None }
+    ensures room { vec_capacity slots.new ≡ vec_capacity slots.old }
 {
     match slots.get_mut(number as usize) {
         Some(slot) => slot.take(),

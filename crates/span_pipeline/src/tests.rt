@@ -2,6 +2,8 @@
 ghost use Rattle.std.specs.Prelude.{map, IfOk};
 ghost use Rattle.span_pipeline.specs.Setups.{HasOwnIds};
 
+mod currents;
+
 use crate::pipeline::Pipeline;
 use crate::reply::{Refusal, Reply, What};
 use crate::request::{Call, Place, Request};

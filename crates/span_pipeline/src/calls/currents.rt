@@ -1,0 +1,86 @@
+//! Handles of the span that is current on a lane.
+ghost use Rattle.std.specs.Prelude.{◌≡◌, ◌<◌, length, IfOk, IfErr, OnErr};
+ghost use Rattle.span_pipeline.specs.declared.request.Call.TheVariants as request;
+
+use crate::pipeline::{MOST, Pipeline};
+use crate::reply::{Refusal, Reply, What};
+use crate::slots::{is_borrowed, keep, slot_at, take};
+use otel_base::record::Moment;
+use otel_base::recorder::Recorder;
+use otel_layer::layer::OpenTelemetryLayer;
+use otel_layer::recording;
+use span_handles::laws::calls;
+use span_handles::span::Span;
+use span_registry::layered::Layered;
+use span_registry::registry::Registry;
+
+impl Pipeline {
+    ghost use Rattle.span_pipeline.specs.Tables.{Tables};
+    ghost use Rattle.span_pipeline.specs.Effects.{effect_of_call};
+    ghost use Rattle.span_pipeline.specs.Fits.{StandsFor, Served, IsRefusal};
+
+    pub(crate) fn current(&mut self, at: Moment, lane: u64) -> Result<Reply, Refusal>
+        requires { lane < length self.old.lanes }
+        ensures ok { (t : Tables) → StandsFor self.old t
+            → IfOk result (Served (effect_of_call self.old.setup t at lane request.Current) t self.old self.new) }
+        ensures refused { (t : Tables) → StandsFor self.old t
+            → IfErr result (IsRefusal (effect_of_call self.old.setup t at lane request.Current)) }
+        ensures err { OnErr result (self.new ≡ self.old) }
+    {
+        calls::<Layered<OpenTelemetryLayer<Recorder>, Registry>>();
+        recording::calls();
+        if self.handles.len() >= MOST || self.guards.len() >= MOST {
+            return Err(Refusal::Memory);
+        }
+        let number = self.handles.len() as u64;
+        self.handles.reserve(1)?;
+        let on = &mut self.lanes[lane as usize];
+        // The lane uses the pipeline's stack.
+        on.default = Some(self.dispatch);
+        let span = Span::current(&mut self.world, on);
+        let enabled = span.id().is_some();
+        keep(&mut self.handles, span);
+        self.moment = at;
+        Ok(Reply::Made {
+            enabled,
+            handle: number,
+        })
+    }
+
+    pub(crate) fn or_current(&mut self, at: Moment, lane: u64, handle: u64) -> Result<Reply, Refusal>
+        requires { lane < length self.old.lanes }
+        ensures ok { (t : Tables) → StandsFor self.old t
+            → IfOk result (Served (effect_of_call self.old.setup t at lane (request.OrCurrent handle)) t self.old self.new) }
+        ensures refused { (t : Tables) → StandsFor self.old t
+            → IfErr result (IsRefusal (effect_of_call self.old.setup t at lane (request.OrCurrent handle))) }
+        ensures err { OnErr result (self.new ≡ self.old) }
+    {
+        calls::<Layered<OpenTelemetryLayer<Recorder>, Registry>>();
+        recording::calls();
+        if self.handles.len() >= MOST || self.guards.len() >= MOST {
+            return Err(Refusal::Memory);
+        }
+        let number = self.handles.len() as u64;
+        self.handles.reserve(1)?;
+        let Some(_named) = slot_at(&self.handles, handle) else {
+            return Err(Refusal::UnknownName { what: What::Handle });
+        };
+        if is_borrowed(&self.guards, handle) {
+            return Err(Refusal::InUse);
+        }
+        let Some(span) = take(&mut self.handles, handle) else {
+            unreachable!()
+        };
+        let on = &mut self.lanes[lane as usize];
+        // The lane uses the pipeline's stack.
+        on.default = Some(self.dispatch);
+        let span = span.or_current(&mut self.world, on);
+        let enabled = span.id().is_some();
+        keep(&mut self.handles, span);
+        self.moment = at;
+        Ok(Reply::Made {
+            enabled,
+            handle: number,
+        })
+    }
+}

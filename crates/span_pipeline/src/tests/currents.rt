@@ -1,0 +1,57 @@
+//! Handles of current spans.
+use super::{answers, made, refuses, settings};
+use crate::pipeline::Pipeline;
+use crate::reply::{Refusal, Reply, What};
+use crate::request::{Call, Place};
+use otel_base::text::Text;
+use std::test::Fail;
+use trace_base::discard::Discard;
+
+// Handles of the current span, of each lane its own.
+fn takes_current(pipeline: &mut Pipeline) -> [bool; 5] {
+    let root = Call::New {
+        site: 0,
+        place: Place::Root,
+    };
+    let guard = Reply::Guard { guard: 0 };
+    [
+        answers(pipeline, 0, 0, Call::Current, made(false, 0)),
+        answers(pipeline, 1, 0, root, made(true, 1)),
+        answers(pipeline, 2, 0, Call::Enter { handle: 1 }, guard),
+        answers(pipeline, 3, 0, Call::Current, made(true, 2)),
+        answers(pipeline, 4, 1, Call::Current, made(false, 3)),
+    ]
+}
+
+// A disabled handle is exchanged for one of the current span, an enabled one for one of its own.
+fn exchanges(pipeline: &mut Pipeline) -> [bool; 7] {
+    let gone = Refusal::UnknownName { what: What::Handle };
+    let used = Refusal::InUse;
+    let (first, second) = (Call::OrCurrent { handle: 3 }, Call::OrCurrent { handle: 0 });
+    [
+        refuses(pipeline, 5, 0, Call::OrCurrent { handle: 1 }, used),
+        answers(pipeline, 6, 0, first, made(true, 4)),
+        answers(pipeline, 7, 1, Call::OrCurrent { handle: 2 }, made(true, 5)),
+        answers(pipeline, 8, 1, second, made(false, 6)),
+        refuses(pipeline, 9, 0, first, gone),
+        answers(pipeline, 10, 0, Call::Exit { guard: 0 }, Reply::Done),
+        answers(pipeline, 11, 0, Call::OrCurrent { handle: 6 }, made(false, 7)),
+    ]
+}
+
+#[test]
+fn takes_current_spans(rt: HostRuntime) -> Result<(), Fail> {
+    let filter = Text::from(format!(in rt.alloc(); "info")?);
+    let Ok(settings) = settings(rt.alloc(), filter) else {
+        return Err(Fail::from("no memory"));
+    };
+    let Ok(mut pipeline) = Pipeline::open(rt.alloc(), settings) else {
+        return Err(Fail::from("no memory"));
+    };
+    let first = takes_current(&mut pipeline);
+    let last = exchanges(&mut pipeline);
+    pipeline.discard();
+    assert_eq!(rt; first, [true; 5]);
+    assert_eq!(rt; last, [true; 7]);
+    Ok(())
+}
