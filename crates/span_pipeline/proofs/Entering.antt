@@ -27,7 +27,7 @@ use Rattle.otel_layer.specs.Core.{is_token}
 use Rattle.otel_layer.specs.Table.{told_at, own_or}
 use Rattle.otel_layer.specs.Recording.{Recording, no_recording, with_start, with_starts, with_applied, source_of, RecordsCall, Enters, Exits}
 use Rattle.span_pipeline.specs.Tables.{Scope, Made, Guarded, Effect, Tables, after, recorded_by, slot_at, own, with_entry, with_exit, with_attached, with_detached, open_part, quiet, Attached}
-use Rattle.span_pipeline.specs.Effects.{Resolved, named, effect_of_call, active, attached_by, enters, exits, exits_on}
+use Rattle.span_pipeline.specs.Effects.{Resolved, named, effect_of_call, active, attached_by, meets_full, enters, enters_unless, exits, exits_on}
 use Rattle.span_pipeline.specs.Balance.{Balanced, named_by, opened_by}
 use Rattle.span_pipeline.specs.Fits.{State, state_of, Laned, laned, lane_at, Fits, StandsFor, RecordingFits, ContextsFit, MadeFit, IsKept, Served, held_of, guard_of, held_by}
 use Rattle.span_pipeline.proofs.Balancing.{spans_entered, spans_exited, balanced_enter, balanced_exit, entered_most, exited_less, named_slot}
@@ -276,7 +276,8 @@ module _ {S : Type 0} (spans : S → Spans) (recorded : S → Recording) (attach
           (lanes_step _ _ lanes lane before later within here inv.lanes moved.0 moved.2)
 
     module _ (handle number : ℕ) (h : Handle) (entry : Held) (gs' : List (Option Guard)) (found : slot_at hs handle ≡ Some h) (is : entry ≡ h.held) (many : number ≡ length gs) (one : gs' ≡ gs ++ Some (record { handle = handle; lane = lane; owns = false; entry = entry }) ∷ [])
-        (did : ReplacedOn (λ id s t. does s (Enter id at before later) t) old new h.held) (none : h.held ≡ None → later ≡ before) (inv : IsKept kept is_whole old now) where
+        (did : ReplacedOn (λ id s t. does s (Enter id at before later) t) old new h.held) (none : h.held ≡ None → later ≡ before) (inv : IsKept kept is_whole old now)
+        (free : (t : Tables) → StandsFor now t → (line : Scope) → slot_at t.handles handle ≡ Some line → h.held ≡ held_of dispatch line → meets_full now.setup.layer.activation line (t.contexts place_id) ≡ false) where
       abbrev entered_then : State
       entered_then = then_with gs'
 
@@ -296,7 +297,8 @@ module _ {S : Type 0} (spans : S → Spans) (recorded : S → Recording) (attach
           let setup = setup_after sites moved.0 moved.1 settings in
           let step = entered_spans dispatch at place_id before later line.at id_is shown in
           serve now entered_then t e _ (reply.Guard number) stands
-          (ap (λ o. named what.Handle o (λ line. Ok (enters now.setup t at lane handle line))) line.there)
+          (ap (λ o. named what.Handle o (λ line. enters_unless (meets_full now.setup.layer.activation line (t.contexts place_id)) lane (enters now.setup t at lane handle line))) line.there
+          ∙ cond-false {A = Resolved} (meets_full now.setup.layer.activation line.at (t.contexts place_id)) _ _ (free t stands line.at line.there line.is))
           (ap reply.Guard (many ∙ ap length fits.guard_slots ∙ length-map t.guards (option_map (guard_of dispatch))))
           setup rec_is.0 rec_is.1 (fits_entered now entered_then t at lane handle line.at fits line.there step setup refl refl guards_are refl)
           (λ s some. known_still now entered_then t e rec_is.0 rec_is.1 stands.recording s refl (entered_live now.spans line.at place_id s live (subst (λ (y : Spans). 0 < (span_at y.made s).holds) step some)))

@@ -4,6 +4,7 @@ mod Beginning
 mod Cloning
 mod Copies
 mod Counting
+mod Crowded
 mod Currents
 mod Dropped
 mod Dropping

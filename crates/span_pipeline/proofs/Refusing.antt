@@ -29,11 +29,6 @@ refuses_unknown view k is hs handles handle gone t fits go = ap (λ o. named wha
     by_slot None e = refl
     by_slot (Some x) e = absurd (cc e)
 
--- want of room has no other cause
-pub room_refused : (lane : ℕ) (error : EnterError) (given : Refusal) → given ≡ refused_entry lane error → is_room given ≡ false → ⊥
-room_refused lane errors.Full given is other = absurd (true≢false (sym (ap is_room is) ∙ other))
-room_refused lane errors.Memory given is other = absurd (true≢false (sym (ap is_room is) ∙ other))
-
 -- ---- steps
 
 pub within_get : {A : Type 0} (xs : List A) (n : ℕ) → n < length xs → (x : A) × (slice_get xs n ≡ Some x)

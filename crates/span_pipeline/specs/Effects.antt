@@ -1,5 +1,5 @@
 -- What each request changes, or the first refusal that applies.
-use Rattle.std.specs.Prelude.{ℕ, List, [], ◌∷◌, length, filter, count_by, Bool, true, not, false, if◌then◌else◌, ◌==◌, ◌||◌, nat_lt, is_some, Option, Some, None, Result, Ok, Err, slice_get, slice_set}
+use Rattle.std.specs.Prelude.{ℕ, List, [], ◌∷◌, length, filter, count_by, Bool, true, not, false, if◌then◌else◌, ◌==◌, ◌||◌, ◌&&◌, nat_lt, is_some, Option, Some, None, Result, Ok, Err, slice_get, slice_set}
 use Rattle.std.specs.List.{list_any, range_with_len}
 use Rattle.trace_base.specs.Level.{is_within}
 use Rattle.trace_base.specs.Spans.{is_in, current_of}
@@ -179,6 +179,13 @@ enters setup t at lane handle scope = record (quiet at (id_at setup.ids lane) (r
   entry = own scope;
 }
 
+-- an entry that attaches a context meets a full lane: one with as many contexts as may be
+abbrev pub meets_full : Bool → Scope → List Attached → Bool
+meets_full activation scope items = is_some (active activation scope) && length items == 65534
+
+abbrev pub enters_unless : Bool → ℕ → Effect → Resolved
+enters_unless full lane effect = if full then Err (refusal.Full lane) else Ok effect
+
 abbrev pub exits : Setup → ℕ → ℕ → ℕ → Scope → Effect
 exits setup at lane guard scope = record (quiet at lane reply.Done) {
   spent_guard = Some guard;
@@ -219,7 +226,8 @@ effect_of_call setup t at lane (call.Drop handle) =
     named what.Handle (slot_at t.handles handle)
     (λ scope. drops_unless (is_borrowed t.guards handle) (drops t at (id_at setup.ids lane) handle scope))
 effect_of_call setup t at lane (call.Enter handle) =
-    named what.Handle (slot_at t.handles handle) (λ scope. Ok (enters setup t at lane handle scope))
+    named what.Handle (slot_at t.handles handle) 
+    (λ scope. enters_unless (meets_full setup.layer.activation scope (t.contexts (id_at setup.ids lane))) lane (enters setup t at lane handle scope))
 effect_of_call setup t at lane (call.Exit guard) =
     named what.Guard (slot_at t.guards guard)
     (λ guarded. exits_on guarded.lane lane (exits setup at (id_at setup.ids lane) guard guarded.scope))

@@ -174,10 +174,10 @@ pub record Served (resolved : Resolved) (t : Tables) (old new : State) (reply : 
   pub records : new.recording.finished ≡ old.recording.finished ++ records_of t effect
   pub stands : StandsFor new (after t effect)
 
--- a refusal for want of room: of memory, or on a lane with as many contexts as may be
+-- a refusal for want of memory
 abbrev pub is_room : Refusal → Bool
 is_room refusal.Memory = true
-is_room (refusal.Full lane) = true
+is_room (refusal.Full lane) = false
 is_room refusal.Later = false
 is_room (refusal.BadMoment before given) = false
 is_room (refusal.UnknownName unknown) = false

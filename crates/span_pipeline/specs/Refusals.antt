@@ -1,10 +1,28 @@
--- What an entry on a lane is refused by.
-use Rattle.std.specs.Prelude.{ℕ}
+-- What an entry on a lane is refused by, and which calls want no memory.
+use Rattle.std.specs.Prelude.{ℕ, Bool, true, false}
 use Rattle.otel_base.specs.declared.enter_error.EnterError.{EnterError}
 use Rattle.otel_base.specs.declared.enter_error.EnterError.TheVariants as errors
 use Rattle.span_pipeline.specs.declared.reply.Refusal.{Refusal}
 use Rattle.span_pipeline.specs.declared.reply.Refusal.TheVariants as refusals
+use Rattle.span_pipeline.specs.declared.request.Call.{Call}
+use Rattle.span_pipeline.specs.declared.request.Call.TheVariants as call
 
 abbrev pub refused_entry : ℕ → EnterError → Refusal
 refused_entry lane errors.Full = refusals.Full lane
 refused_entry lane errors.Memory = refusals.Memory
+
+-- what was opened or made is given back without memory
+abbrev pub takes_no_memory : Call → Bool
+takes_no_memory (call.New site under) = false
+takes_no_memory (call.Clone handle) = false
+takes_no_memory (call.Drop handle) = true
+takes_no_memory (call.Enter handle) = false
+takes_no_memory (call.Exit guard) = true
+takes_no_memory call.Current = false
+takes_no_memory (call.OrCurrent handle) = false
+takes_no_memory (call.Entered handle) = false
+takes_no_memory (call.Event site) = false
+takes_no_memory (call.Remote ids) = false
+takes_no_memory (call.Context handle) = false
+takes_no_memory (call.Attach context) = false
+takes_no_memory (call.Detach guard) = false

@@ -1,5 +1,5 @@
 //! A pipeline runs the requests of a script over a stack of a registry and the OpenTelemetry layer.
-ghost use Rattle.std.specs.Prelude.{◌≡◌, ◌<◌, ℕ, [], map, length, IfOk, IfErr, OnErr, Err};
+ghost use Rattle.std.specs.Prelude.{◌≡◌, ◌<◌, ℕ, [], true, map, length, IfOk, IfErr, OnErr, Err};
 ghost use Rattle.span_pipeline.specs.Setups.{HasOwnIds, setup_by};
 ghost use Rattle.span_pipeline.specs.Effects.{is_bad_moment};
 
@@ -92,6 +92,8 @@ impl Pipeline {
     ghost use Rattle.span_pipeline.specs.Tables.{Tables, History, tables};
     ghost use Rattle.span_pipeline.specs.Effects.{effect_of, effect_of_call};
     ghost use Rattle.span_pipeline.specs.Fits.{StandsFor, Served, Recorded, IsRefusal};
+    ghost use Rattle.span_pipeline.specs.Refusals.{takes_no_memory};
+    ghost use Rattle.span_pipeline.specs.declared.reply.Refusal.TheVariants.{Memory as NoMemory};
 
     /// A pipeline for the settings, before any request. It may answer `Memory`, and nothing else.
     pub fn open(alloc: Global, settings: Settings) -> Result<Pipeline, OpenError>
@@ -137,14 +139,15 @@ impl Pipeline {
 
     /// Runs a request. A refused step leaves the pipeline as it was: `BadMoment` where the moment falls or is above
     /// 2^63 - 1, `UnknownName` where it names what isn't there, `InUse` where it spends a handle with an open guard,
-    /// `WrongLane` where it spends a guard on another lane than the guard's, `Later` where its kind isn't built. It may
-    /// answer `Memory`.
+    /// `WrongLane` where it spends a guard on another lane than the guard's, `Full` where it attaches a context to a lane
+    /// with 65,534 of them, `Later` where its kind isn't built. It may answer `Memory`, but not to a drop or an exit.
     pub fn step(&mut self, request: Request) -> Result<Reply, Refusal>
         ensures ok { (h : History) → StandsFor self.old (tables self.old.setup.layer h)
             → IfOk result (Recorded (effect_of self.old.setup (tables self.old.setup.layer h) request) h self.old self.new) }
         ensures refused { (h : History) → StandsFor self.old (tables self.old.setup.layer h)
             → IfErr result (IsRefusal (effect_of self.old.setup (tables self.old.setup.layer h) request)) }
         ensures err { OnErr result (self.new ≡ self.old) }
+        ensures room { takes_no_memory request.call ≡ true → ¬ (result ≡ Err NoMemory) }
     {
         let Request { at, lane, call } = request;
         if is_bad_moment(self.moment, at) {
@@ -166,6 +169,7 @@ impl Pipeline {
         ensures refused { (t : Tables) → StandsFor self.old t
             → IfErr result (IsRefusal (effect_of_call self.old.setup t at lane call)) }
         ensures err { OnErr result (self.new ≡ self.old) }
+        ensures room { takes_no_memory call ≡ true → ¬ (result ≡ Err NoMemory) }
     {
         match call {
             Call::Clone { handle } => self.clone_handle(at, lane, handle),
