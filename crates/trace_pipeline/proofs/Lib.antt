@@ -1,10 +1,9 @@
--- How a step answers.
-pub mod step
 -- Reading and writing.
 pub mod LineValue
 pub mod Members
 pub mod Distinct
 pub mod Items
+pub mod OwnIds
 pub mod Hex
 pub mod HexRead
 pub mod Written

@@ -1,6 +1,2 @@
--- What holds of all histories and outputs.
-pub mod ClosesLaws
-pub mod StartsLaws
-pub mod TimesLaws
-pub mod BalanceLaws
+-- What holds of all outputs.
 pub mod OutputsLaws

@@ -6,9 +6,10 @@ use Rattle.span_pipeline.specs.declared.settings.Settings.{Settings}
 use Rattle.trace_pipeline.specs.declared.told.Told.{Told}
 use Rattle.trace_pipeline.specs.declared.told.Told.TheVariants as told
 use Rattle.span_pipeline.specs.declared.request.Request.{Request}
-use Rattle.trace_pipeline.specs.History.{History, Effect, closed, open_spans}
-use Rattle.trace_pipeline.specs.Effects.{Resolved, effect_of}
-use Rattle.trace_pipeline.specs.Content.{records_of}
+use Rattle.span_pipeline.specs.declared.reply.Reply.{Reply}
+use Rattle.span_pipeline.specs.Setups.{Setup, setup_by}
+use Rattle.span_pipeline.specs.Tables.{History, Effect, Tables, tables, records_of}
+use Rattle.span_pipeline.specs.Effects.{Resolved, effect_of, open_spans}
 use Rattle.trace_pipeline.specs.Lines.{lines_of, is_blank}
 use Rattle.trace_pipeline.specs.Spelled.{settings_spelled, request_spelled}
 use Rattle.trace_pipeline.specs.Texts.{reply_text, record_text, refusal_text, end_text}
@@ -31,36 +32,37 @@ abbrev pub record_lines : ℕ → List Record → List ℕ
 record_lines number [] = []
 record_lines number (finished ∷ more) = record_text number finished ++ record_lines (number + 1) more
 
--- what is written for the request on a line: its reply, and the records of the spans that it closed
-abbrev pub answer_text : Settings → History → ℕ → Effect → List ℕ
-answer_text settings h line effect =
-    reply_text line effect.reply ++ record_lines (length (closed h) + 1) (records_of settings h effect)
+-- what is written for the request on a line, so many records having come before: its reply, and the records of the
+-- spans that it closed
+abbrev pub answer_text : ℕ → ℕ → Reply → List Record → List ℕ
+answer_text line records answer finished = reply_text line answer ++ record_lines (records + 1) finished
 
 -- why the step is refused, as the line's refusal
 abbrev pub told_step : Resolved → Result Effect Told
 told_step (Ok effect) = Ok effect
 told_step (Err refusal) = Err (told.Step refusal)
 
-abbrev pub effect_of_request : Settings → History → Result Request Told → Result Effect Told
-effect_of_request settings h (Ok request) = told_step (effect_of settings h request)
-effect_of_request settings h (Err why) = Err why
+abbrev pub effect_of_request : Setup → Tables → Result Request Told → Result Effect Told
+effect_of_request setup t (Ok request) = told_step (effect_of setup t request)
+effect_of_request setup t (Err why) = Err why
 
 -- the effect of the request that a line spells, or why the line is refused
-unfoldable pub effect_of_line : Settings → History → List ℕ → Result Effect Told
-effect_of_line settings h text = effect_of_request settings h (request_spelled text)
+unfoldable pub effect_of_line : Setup → Tables → List ℕ → Result Effect Told
+effect_of_line setup t text = effect_of_request setup t (request_spelled text)
 
 abbrev pub following : Result Effect Told → (Effect → Report) → ℕ → Report
 following (Ok effect) go line = go effect
 following (Err why) go line = refused line why
 
--- the report on the request lines, n lines having come before
-abbrev pub report_on : Settings → History → ℕ → List (List ℕ) → Report
-report_on settings h n [] = record { written = end_text (open_spans h) (length (closed h)); accepted = true }
-report_on settings h n (text ∷ lines) =
-    if is_blank text then report_on settings h (n + 1) lines else
-    following (effect_of_line settings h text)
-    (λ effect. behind (answer_text settings h (n + 1) effect)
-    (report_on settings (h ++ effect ∷ []) (n + 1) lines)) (n + 1)
+-- The report on the request lines, so many lines and so many records having come before. Each line's request is one
+-- effect more of the history.
+abbrev pub report_on : Setup → History → ℕ → ℕ → List (List ℕ) → Report
+report_on setup h n records [] = record { written = end_text (open_spans (tables setup.layer h)) records; accepted = true }
+report_on setup h n records (text ∷ lines) =
+    if is_blank text then report_on setup h (n + 1) records lines else
+    following (effect_of_line setup (tables setup.layer h) text)
+    (λ effect. behind (answer_text (n + 1) records effect.reply (records_of (tables setup.layer h) effect))
+    (report_on setup (h ++ effect ∷ []) (n + 1) (records + length (records_of (tables setup.layer h) effect)) lines)) (n + 1)
 
 abbrev pub opening : Result Settings Told → (Settings → Report) → ℕ → Report
 opening (Ok settings) go line = go settings
@@ -71,7 +73,7 @@ abbrev pub report_from : ℕ → List (List ℕ) → Report
 report_from n [] = refused (n + 1) told.BadLine
 report_from n (text ∷ lines) =
     if is_blank text then report_from (n + 1) lines else
-    opening (settings_spelled text) (λ settings. report_on settings [] (n + 1) lines) (n + 1)
+    opening (settings_spelled text) (λ settings. report_on (setup_by settings) [] (n + 1) 0 lines) (n + 1)
 
 abbrev pub report : List ℕ → Report
 report bytes = report_from 0 (lines_of bytes)

@@ -6,7 +6,7 @@ use Rattle.otel_state.specs.Settings.{default_settings}
 use Rattle.otel_state.specs.declared.settings.LayerSettings.{LayerSettings}
 use Rattle.trace_base.specs.declared.callsite.Callsite.{Callsite}
 use Rattle.span_pipeline.specs.declared.settings.Settings.{Settings}
-use Rattle.trace_pipeline.specs.Admission.{filter_word}
+use Rattle.span_pipeline.specs.Admission.{filter_word}
 use Rattle.trace_pipeline.specs.Forms.{Form, ◌>>=◌, give, when, provided, whole_to, text, flag_or, optional, if_absent, optional_text, optional_u32, array, each, object_of}
 use Rattle.trace_pipeline.specs.Words.{level_word, kind_word}
 
@@ -83,13 +83,6 @@ layer_form = do
   all ← span_flags errors
   give (record all { activation = activation; inactivity = inactivity })
 
--- Of what can be set of the layer one way is built: neither level nor target nor location nor thread is told, and
--- all else is.
-abbrev pub is_built : LayerSettings → Bool
-is_built s =
-    s.activation && s.error_events_to_exceptions && s.error_events_to_status && s.error_fields_to_exceptions
-    && s.error_records_to_exceptions && s.inactivity && not s.level && not s.location && not s.target && not s.threads
-
 -- no two are equal
 abbrev pub all_differ : List ℕ → Bool
 all_differ [] = true
@@ -99,7 +92,7 @@ all_differ (n ∷ ns) = not (list_any (λ m. n == m) ns) && all_differ ns
 abbrev pub ids : List Lane → List ℕ
 ids lanes = map (λ lane. lane.0) lanes
 
--- The filter is a level word, the ids of the lanes differ, and the layer is built.
+-- The filter is a level word, and the ids of the lanes differ.
 unfoldable pub settings_form : Form Settings
 settings_form = do
   callsite_items ← array (codes "callsites")
@@ -111,5 +104,4 @@ settings_form = do
   differ ← when (provided (all_differ (ids lanes)))
   layer_there ← optional (codes "layer")
   layer ← when (if_absent default_settings (object_of layer_form) layer_there)
-  built ← when (provided (is_built layer))
   give (record { filter = filter; lanes = lanes; callsites = callsites; layer = layer })

@@ -1,6 +1,6 @@
 //! The words of levels and of kinds of callsites.
 ghost use Rattle.std.specs.Prelude.{◌≡◌};
-ghost use Rattle.trace_pipeline.specs.Admission.{filter_word};
+ghost use Rattle.span_pipeline.specs.Admission.{filter_word};
 ghost use Rattle.trace_pipeline.specs.Words.{level_word, kind_word};
 
 use trace_base::callsite::Kind;

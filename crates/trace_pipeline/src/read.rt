@@ -1,5 +1,6 @@
 //! Reading lines: what a settings line and a request line spell.
-ghost use Rattle.std.specs.Prelude.{◌≡◌, Ok, Err, IfOk, IsErrOf};
+ghost use Rattle.std.specs.Prelude.{◌≡◌, map, Ok, Err, IfOk, IsErrOf};
+ghost use Rattle.span_pipeline.specs.Setups.{HasOwnIds};
 ghost use Rattle.trace_pipeline.specs.Spelled.{settings_spelled, request_spelled};
 ghost use Rattle.trace_pipeline.specs.declared.told.Told.{Told};
 ghost use Rattle.trace_pipeline.specs.declared.read.LineError.TheVariants.{Memory};
@@ -58,9 +59,10 @@ impl From<memory::Memory> for LineError {
 
 /// Reads a settings line. `BadLine` where it is no JSON or no object, `Later` where it is an object of another form,
 /// `Memory` freely.
-#[tactic(auto, unfolding(crate::specs::Spelled::settings_spelled))]
+#[tactic(auto, using(crate::proofs::OwnIds::own_ids), unfolding(crate::specs::Spelled::settings_spelled))]
 pub fn read_settings(alloc: Global, line: &[u8]) -> Result<Settings, LineError>
     ensures ok { IfOk result (λ settings. settings_spelled line.now ≡ Ok settings) }
+    ensures lanes { IfOk result (λ settings. HasOwnIds (map (λ l. l.0) settings.lanes)) }
     ensures bad_line { IsErrOf result LineError.BadLine → settings_spelled line.now ≡ Err Told.BadLine }
     ensures later { IsErrOf result LineError.Later → settings_spelled line.now ≡ Err Told.Later }
 {

@@ -1,12 +1,11 @@
 -- What lines are answered, whichever lines follow them.
-use Rattle.std.specs.Prelude.{◌≡◌, ℕ, List, [], ◌++◌, length, Bool, true, false, Result, Ok, Err}
-use Rattle.span_pipeline.specs.declared.settings.Settings.{Settings}
+use Rattle.std.specs.Prelude.{◌≡◌, ℕ, List, [], ◌++◌, Bool, true, false, Result, Ok, Err}
 use Rattle.trace_pipeline.specs.declared.read.LineError.{LineError}
 use Rattle.trace_pipeline.specs.declared.read.LineError.TheVariants as error
 use Rattle.trace_pipeline.specs.declared.told.Told.{Told}
 use Rattle.trace_pipeline.specs.declared.told.Told.TheVariants as told
-use Rattle.trace_pipeline.specs.History.{History, closed}
-use Rattle.trace_pipeline.specs.Fits.{Kept, StandsFor}
+use Rattle.span_pipeline.specs.Tables.{History, tables}
+use Rattle.span_pipeline.specs.Fits.{State, StandsFor}
 use Rattle.trace_pipeline.specs.Report.{behind, report_on, report_from}
 use Rattle.trace_tool.specs.Streams.{IsFront}
 use Rattle.trace_tool.specs.Breaks.{are_blank, AnswersAll}
@@ -15,17 +14,19 @@ use Rattle.trace_tool.specs.declared.answers.Stage.{Stage}
 use Rattle.trace_tool.specs.declared.answers.Stage.TheVariants as stage
 use Rattle.trace_tool.specs.declared.answers.Written.{Written}
 
--- Settings came, the pipeline stands for the requests so far, their records are taken and counted, and behind
+-- Settings came, the pipeline stands for the requests so far, their records are taken, and behind
 -- what is written comes the report on the lines that follow.
-pub record Runs (lines : List (List ℕ)) (count : ℕ) (kept : Kept) (written : Written) : Type 0 where
-  pub settings : Settings
+pub record Runs (lines : List (List ℕ)) (count : ℕ) (kept : State) (written : Written) : Type 0 where
   pub history : History
   pub some : are_blank lines ≡ false
-  pub stands : StandsFor kept.state settings history
-  pub taken : kept.finished ≡ []
-  pub counted : written.records ≡ length (closed history)
-  pub report_is : (more : List (List ℕ))
-      → report_from 0 (lines ++ more) ≡ behind written.text.items (report_on settings history count more)
+  pub stands : StandsFor kept (tables kept.setup.layer history)
+  pub taken : kept.recording.finished ≡ []
+  pub report_is : (more : List (List ℕ)) → report_from 0 (lines ++ more)
+      ≡ behind written.text.items (report_on kept.setup history count written.records more)
+
+-- what is kept beside the records that are to be taken
+abbrev pub without_records : State → State
+without_records kept = record kept { recording = record kept.recording { finished = [] } }
 
 -- all lines are blank, and nothing is written
 pub record Opens (lines : List (List ℕ)) (count : ℕ) (written : Written) : Type 0 where
@@ -46,7 +47,7 @@ AnswersAt (stage.Running pipeline) lines count written = Runs lines count pipeli
 AnswersAt stage.Refused lines count written = Stops lines written.text.items
 
 -- how a run stands behind a request, by whether it was served
-abbrev pub Goes : Bool → List (List ℕ) → ℕ → Kept → Written → Type 0
+abbrev pub Goes : Bool → List (List ℕ) → ℕ → State → Written → Type 0
 Goes true lines count kept written = Runs lines count kept written
 Goes false lines count kept written = Stops lines written.text.items
 

@@ -3,13 +3,15 @@ ghost use Rattle.std.specs.Prelude.{◌≡◌, ◌≢◌, ℕ, List, [], ◌∷�
 ghost use Rattle.trace_pipeline.specs.Lines.{lines_of, is_blank};
 ghost use Rattle.trace_pipeline.specs.Report.{record_lines, report_from};
 ghost use Rattle.trace_pipeline.specs.Texts.{reply_text, refusal_text};
-ghost use Rattle.trace_tool.specs.Answers.{IsSpelled, Opens, Runs, AnswersAt, Goes, AnswersTo, Cuts, is_refused};
+ghost use Rattle.span_pipeline.specs.Fits.{is_room};
+ghost use Rattle.trace_tool.specs.Answers.{without_records, IsSpelled, Opens, Runs, AnswersAt, Goes, AnswersTo, Cuts, is_refused};
 
 use crate::lines::{first_line, is_blank};
 use otel_base::memory::Memory;
 use std::alloc::Global;
 use std::mem;
-use trace_pipeline::pipeline::Pipeline;
+use span_pipeline::pipeline::Pipeline;
+use trace_base::discard::Discard;
 use trace_pipeline::read::{LineError, read_request, read_settings};
 use trace_pipeline::write::{append_end, append_record, append_refusal, append_reply};
 use trace_pipeline::{Refusal, Reply, Told};
@@ -24,7 +26,6 @@ pub struct Written {
 }
 
 /// Where a run stands between two lines.
-#[derive(Drop)]
 pub enum Stage {
     /// No settings line came: each line so far is blank.
     Opening,
@@ -34,8 +35,17 @@ pub enum Stage {
     Refused,
 }
 
-/// What the lines so far are answered.
-#[derive(Drop)]
+/// The pipeline is given up, if there is one.
+impl Discard for Stage {
+    fn discard(self) {
+        match self {
+            Stage::Opening | Stage::Refused => {}
+            Stage::Running { pipeline } => pipeline.discard(),
+        }
+    }
+}
+
+/// What the lines so far are answered. It has to be spent.
 pub struct Answers {
     /// What is written for them.
     pub written: Written,
@@ -43,6 +53,25 @@ pub struct Answers {
     pub lines: u64,
     /// Where the run stands.
     pub stage: Stage,
+}
+
+/// What is written is dropped.
+impl Discard for Answers {
+    fn discard(self) {
+        let Answers {
+            written: _,
+            lines: _,
+            stage,
+        } = self;
+        stage.discard();
+    }
+}
+
+// Goes on to another stage.
+fn go_on(stage: &mut Stage, next: Stage)
+    ensures { stage.new ≡ next }
+{
+    mem::replace(stage, next).discard();
 }
 
 /// All that is written for an input.
@@ -81,13 +110,14 @@ impl Answers {
         }
         match &mut self.stage {
             Stage::Opening => {
-                self.stage = open(alloc, &mut self.written, number, line)?;
+                let next = open(alloc, &mut self.written, number, line)?;
+                go_on(&mut self.stage, next);
                 Ok(())
             }
             Stage::Running { pipeline } => {
                 let served = answer(alloc, pipeline, &mut self.written, number, line)?;
                 if !served {
-                    self.stage = Stage::Refused;
+                    go_on(&mut self.stage, Stage::Refused);
                 }
                 Ok(())
             }
@@ -112,17 +142,24 @@ impl Answers {
             → IfOk result (λ output. report_from 0 lines
             ≡ record { written = output.text.items; accepted = not output.refused }) }
     {
-        let Written { text, records } = self.written;
-        match self.stage {
+        let Answers {
+            written,
+            lines,
+            stage,
+        } = self;
+        let Written { text, records } = written;
+        match stage {
             Stage::Opening => {
                 // No input has so many lines that the sum wraps.
-                let end = self.lines.checked_add(1).ok_or(Memory)?;
+                let end = lines.checked_add(1).ok_or(Memory)?;
                 let text = append_refusal(text, end, &Told::BadLine)?;
                 let refused = true;
                 Ok(Output { text, refused })
             }
             Stage::Running { pipeline } => {
-                let text = append_end(text, pipeline.open_spans(), records)?;
+                let spans = pipeline.open_spans();
+                pipeline.discard();
+                let text = append_end(text, spans, records)?;
                 let refused = false;
                 Ok(Output { text, refused })
             }
@@ -139,7 +176,13 @@ impl Answers {
             → Cuts result.refused lines result.text.items }
     {
         let refused = self.is_refused();
-        let text = self.written.text;
+        let Answers {
+            written,
+            lines: _,
+            stage,
+        } = self;
+        stage.discard();
+        let text = written.text;
         Output { text, refused }
     }
 }
@@ -152,7 +195,10 @@ pub fn answer_lines(alloc: Global, bytes: &[u8]) -> Result<Answers, Memory>
     let mut rest = bytes;
     while !rest.is_empty() && !answers.is_refused() {
         let (line, after) = first_line(rest);
-        answers.line(alloc, line)?;
+        if answers.line(alloc, line).is_err() {
+            answers.discard();
+            return Err(Memory);
+        }
         rest = after;
     }
     Ok(answers)
@@ -213,11 +259,15 @@ fn answer(
 // What a refusal line tells of a refusal. Want of memory has no such line.
 fn told_of(refusal: Refusal) -> Result<Told, Memory>
     ensures same { IfOk result (λ told. told ≡ Told.Step refusal) }
-    ensures other { OnOk result (refusal ≢ Refusal.Memory) }
+    ensures other { OnOk result (is_room refusal ≡ false) }
 {
     match refusal {
-        Refusal::Memory => Err(Memory),
-        _ => Ok(Told::Step { refusal }),
+        Refusal::Memory | Refusal::Full { .. } => Err(Memory),
+        Refusal::Later
+        | Refusal::BadMoment { .. }
+        | Refusal::UnknownName { .. }
+        | Refusal::InUse
+        | Refusal::WrongLane { .. } => Ok(Told::Step { refusal }),
     }
 }
 
@@ -267,10 +317,11 @@ fn write_records(
     written: &mut Written,
 ) -> Result<(), Memory>
     ensures lines { OnOk result (written.new.text.items
-        ≡ written.old.text.items ++ record_lines (written.old.records + 1) pipeline.old.finished) }
-    ensures count { OnOk result (written.new.records ≡ written.old.records + length pipeline.old.finished) }
-    ensures taken { OnOk result (pipeline.new.finished ≡ []) }
-    ensures state { pipeline.new.state ≡ pipeline.old.state }
+        ≡ written.old.text.items ++ record_lines (written.old.records + 1) pipeline.old.recording.finished) }
+    ensures count { OnOk result (
+        written.new.records ≡ written.old.records + length pipeline.old.recording.finished) }
+    ensures taken { OnOk result (pipeline.new.recording.finished ≡ []) }
+    ensures state { without_records pipeline.new ≡ without_records pipeline.old }
 {
     while let Some(finished) = pipeline.take_record() {
         // No run has so many records that the sum wraps.

@@ -1,15 +1,14 @@
--- How the output of a script with one line more begins, and how many records a run gives.
+-- How the output of a script with one line more begins.
 use Rattle.std.proofs.Common.{◌≡◌, ℕ, List, [], ◌∷◌, ◌++◌, refl, sym, ap, ◌∙◌, append_assoc, length, ◌+◌}
 use Rattle.std.specs.Prelude.{Bool, true, false, if◌then◌else◌, Result, Ok, Err}
-use Rattle.std.proofs.lemmas.List.{length-append, length-map}
 use Rattle.span_pipeline.specs.declared.settings.Settings.{Settings}
 use Rattle.trace_pipeline.specs.declared.told.Told.{Told}
-use Rattle.trace_pipeline.specs.History.{History, Effect, closed}
-use Rattle.trace_pipeline.specs.Content.{record_of, records_of}
+use Rattle.span_pipeline.specs.Setups.{Setup, setup_by}
+use Rattle.span_pipeline.specs.Tables.{History, Effect, tables, records_of}
 use Rattle.trace_pipeline.specs.Lines.{is_blank}
 use Rattle.trace_pipeline.specs.Spelled.{settings_spelled}
 use Rattle.trace_pipeline.specs.Report.{Report, behind, answer_text, effect_of_line, following, opening, report_on, report_from}
-use Rattle.trace_pipeline.specs.Laws.{GoesOn, all_records}
+use Rattle.trace_pipeline.specs.Laws.{GoesOn}
 
 -- if the first report accepts, its text is gone on with by that of the second
 abbrev pub Extends : Report → Report → Type 0
@@ -39,29 +38,22 @@ opened : (settings : Result Settings Told) (go go2 : Settings → Report) (n : �
 opened (Ok s) go go2 n on accepted = on s accepted
 opened (Err why) go go2 n on accepted = absurd (cc accepted)
 
-requests_on : (settings : Settings) (h : History) (n : ℕ) (lines : List (List ℕ)) (line : List ℕ) → Extends (report_on settings h n lines) (report_on settings h n (lines ++ line ∷ []))
-requests_on settings h n [] line accepted = record { before = []; spans = _; records = _; more = _; ended_is = refl; new_is = refl }
-requests_on settings h n (text ∷ lines) line accepted =
-    either (is_blank text) _ _ _ _ (requests_on settings h (n + 1) lines line)
-    (followed (effect_of_line settings h text) _ _ (n + 1) (λ e.
-    behind_both (answer_text settings h (n + 1) e) (report_on settings (h ++ e ∷ []) (n + 1) lines) (report_on settings (h ++ e ∷ []) (n + 1) (lines ++ line ∷ [])) (requests_on settings (h ++ e ∷ []) (n + 1) lines line))) accepted
+requests_on : (setup : Setup) (h : History) (n records : ℕ) (lines : List (List ℕ)) (line : List ℕ)
+    → Extends (report_on setup h n records lines) (report_on setup h n records (lines ++ line ∷ []))
+requests_on setup h n records [] line accepted = record { before = []; spans = _; records = _; more = _; ended_is = refl; new_is = refl }
+requests_on setup h n records (text ∷ lines) line accepted =
+    either (is_blank text) _ _ _ _ (requests_on setup h (n + 1) records lines line)
+    (followed (effect_of_line setup (tables setup.layer h) text) _ _ (n + 1) (λ e.
+    let finished = records_of (tables setup.layer h) e in
+    behind_both (answer_text (n + 1) records e.reply finished) (report_on setup (h ++ e ∷ []) (n + 1) (records + length finished) lines)
+    (report_on setup (h ++ e ∷ []) (n + 1) (records + length finished) (lines ++ line ∷ []))
+    (requests_on setup (h ++ e ∷ []) (n + 1) (records + length finished) lines line))) accepted
 
 lines_on : (n : ℕ) (lines : List (List ℕ)) (line : List ℕ) → Extends (report_from n lines) (report_from n (lines ++ line ∷ []))
 lines_on n [] line accepted = absurd (cc accepted)
 lines_on n (text ∷ lines) line accepted =
     either (is_blank text) _ _ _ _ (lines_on (n + 1) lines line)
-    (opened (settings_spelled text) _ _ (n + 1) (λ settings. requests_on settings [] (n + 1) lines line)) accepted
+    (opened (settings_spelled text) _ _ (n + 1) (λ settings. requests_on (setup_by settings) [] (n + 1) 0 lines line)) accepted
 
 pub goes_on : (lines : List (List ℕ)) (line : List ℕ) → (report_from 0 lines).accepted ≡ true → GoesOn (report_from 0 lines).written (report_from 0 (lines ++ line ∷ [])).written
 goes_on lines line = lines_on 0 lines line
-
-records_after : (settings : Settings) (h es : History) → length (all_records settings h es) ≡ length (closed es)
-records_after settings h [] = refl
-records_after settings h (e ∷ es) =
-    length-append (records_of settings h e) (all_records settings (h ++ e ∷ []) es)
-    ∙ ap (λ (k : ℕ). k + length (all_records settings (h ++ e ∷ []) es)) (length-map e.closes (record_of settings (h ++ e ∷ []) e.at))
-    ∙ ap (λ (k : ℕ). length e.closes + k) (records_after settings (h ++ e ∷ []) es)
-    ∙ sym (length-append e.closes (closed es))
-
-pub as_many_as_closed : (settings : Settings) (h : History) → length (all_records settings [] h) ≡ length (closed h)
-as_many_as_closed settings h = records_after settings [] h

@@ -1,12 +1,12 @@
 //! Reading settings: callsites, the filter, lanes and the layer.
-ghost use Rattle.std.specs.Prelude.{◌≡◌, option_map};
+ghost use Rattle.std.specs.Prelude.{◌≡◌, true, option_map, IfOk};
 ghost use Rattle.otel_state.specs.Settings.{default_settings};
 ghost use Rattle.serde_json.specs.Find.{as_str};
 ghost use Rattle.trace_pipeline.specs.Gives.{Gives};
 ghost use Rattle.trace_pipeline.specs.Left.{value_data, left};
 ghost use Rattle.trace_pipeline.specs.Forms.{each, object_of, if_absent, provided};
 ghost use Rattle.trace_pipeline.specs.Object.{items};
-ghost use Rattle.trace_pipeline.specs.SettingsForm.{Lane, lane_form, callsite_form, error_flags, span_flags, layer_form, is_built, settings_form, ids, all_differ};
+ghost use Rattle.trace_pipeline.specs.SettingsForm.{Lane, lane_form, callsite_form, error_flags, span_flags, layer_form, settings_form, ids, all_differ};
 
 use crate::level_words::{filter_of, kind_of, level_of};
 use crate::read::LineError;
@@ -187,22 +187,6 @@ fn layer(alloc: Global, value: Option<Value<'_>>) -> Result<LayerSettings, LineE
     }
 }
 
-// Makes sure that the layer is built.
-fn built(layer: LayerSettings) -> Result<(), LineError>
-    ensures { Gives (λ u. u) result (provided (is_built layer)) }
-{
-    let others = layer.level || layer.location || layer.target || layer.threads;
-    let errors = layer.error_events_to_exceptions
-        && layer.error_events_to_status
-        && layer.error_fields_to_exceptions
-        && layer.error_records_to_exceptions;
-    if layer.activation && errors && layer.inactivity && !others {
-        Ok(())
-    } else {
-        Err(LineError::Later)
-    }
-}
-
 // Makes sure that no two lanes have the same id.
 fn distinct(alloc: Global, lanes: &[(u64, Option<Text>)]) -> Result<(), LineError>
     ensures { Gives (λ u. u) result (provided (all_differ (ids lanes.now))) }
@@ -219,7 +203,8 @@ fn distinct(alloc: Global, lanes: &[(u64, Option<Text>)]) -> Result<(), LineErro
 /// Takes the members of settings.
 #[tactic(auto, unfolding(crate::specs::SettingsForm::settings_form))]
 pub(crate) fn settings_members(alloc: Global, object: &mut Object) -> Result<Settings, LineError>
-    ensures { Gives (λ s. (s, left object.new)) result (settings_form (left object.old)) }
+    ensures form { Gives (λ s. (s, left object.new)) result (settings_form (left object.old)) }
+    ensures differ { IfOk result (λ s. all_differ (ids s.lanes) ≡ true) }
 {
     let callsites = callsites(alloc, object.array(alloc, "callsites")?)?;
     let filter = object.text(alloc, "filter")?;
@@ -227,7 +212,6 @@ pub(crate) fn settings_members(alloc: Global, object: &mut Object) -> Result<Set
     let lanes = lanes(alloc, object.array(alloc, "lanes")?)?;
     distinct(alloc, lanes.as_slice())?;
     let layer = layer(alloc, object.optional("layer"))?;
-    built(layer)?;
     Ok(Settings {
         filter,
         lanes,

@@ -140,24 +140,6 @@ P
 > {"guard":0,"reply":3}
 > {"line":4,"refused":"BadLine"}
 = 2
-# a making under an open guard
-P
-< {"at":0,"do":"new","lane":0,"site":0}
-< {"at":1,"do":"enter","handle":0,"lane":0}
-< {"at":0,"do":"new","lane":0,"site":0}
-> {"enabled":true,"handle":0,"reply":2}
-> {"guard":0,"reply":3}
-> {"line":4,"refused":"Later"}
-= 2
-# an entry under an open guard
-P
-< {"at":0,"do":"new","lane":0,"site":0}
-< {"at":1,"do":"enter","handle":0,"lane":0}
-< {"at":10,"do":"enter","handle":0,"lane":0}
-> {"enabled":true,"handle":0,"reply":2}
-> {"guard":0,"reply":3}
-> {"line":4,"refused":"Later"}
-= 2
 # a drop under an open guard of a disabled handle
 P
 < {"at":0,"do":"new","lane":0,"site":4}
@@ -166,11 +148,6 @@ P
 > {"enabled":false,"handle":0,"reply":2}
 > {"guard":0,"reply":3}
 > {"line":4,"refused":"InUse"}
-= 2
-# a request that is not built
-P
-< {"at":0,"do":"current","lane":0}
-> {"line":2,"refused":"Later"}
 = 2
 # an event's site for a span
 P
@@ -191,11 +168,6 @@ P
 P
 < {"at":0,"do":"event","lane":0,"site":9}
 > {"line":2,"refused":"UnknownName","what":"site"}
-= 2
-# the second lane
-P
-< {"at":0,"do":"new","lane":1,"site":0}
-> {"line":2,"refused":"Later"}
 = 2
 # a guard that is not there
 P
@@ -248,10 +220,6 @@ P
 < {"callsites":[],"filter":"info","lanes":[{"id":1},{"id":2},{"id":1}],"layer":{"location":false,"target":false,"threads":false}}
 > {"line":1,"refused":"Later"}
 = 2
-# no layer
-< {"callsites":[],"filter":"info","lanes":[]}
-> {"line":1,"refused":"Later"}
-= 2
 # a callsite's line above 2^32 - 1
 < {"callsites":[{"fields":[],"kind":"span","level":"info","line":4294967296,"name":"s","target":"app"}],"filter":"info","lanes":[],"layer":{"location":false,"target":false,"threads":false}}
 > {"line":1,"refused":"Later"}
@@ -271,6 +239,135 @@ P
 > {"enabled":true,"handle":0,"reply":4}
 > {"reply":6}
 > {"attributes":[["busy_ns",0],["idle_ns",0]],"end":1,"events":[],"kind":"internal","links":[],"name":"s","parent":"0000000000000000","record":1,"span":"0000000000000001","start":0,"status":"unset","trace":"00000000000000000000000000000001"}
+> {"done":true,"open":0,"records":1}
+= 0
+# events between entries of two spans that do not nest, one of them twice
+P
+< {"at":0,"do":"new","lane":0,"site":0}
+< {"at":0,"do":"new","lane":0,"site":0}
+< {"at":10,"do":"enter","handle":0,"lane":0}
+< {"at":20,"do":"enter","handle":1,"lane":0}
+< {"at":30,"do":"enter","handle":0,"lane":0}
+< {"at":36,"do":"event","lane":0,"site":1}
+< {"at":40,"do":"exit","guard":0,"lane":0}
+< {"at":41,"do":"event","lane":0,"site":1}
+< {"at":50,"do":"exit","guard":1,"lane":0}
+< {"at":51,"do":"event","lane":0,"site":1}
+< {"at":60,"do":"exit","guard":2,"lane":0}
+< {"at":70,"do":"drop","handle":1,"lane":0}
+< {"at":70,"do":"drop","handle":0,"lane":0}
+> {"enabled":true,"handle":0,"reply":2}
+> {"enabled":true,"handle":1,"reply":3}
+> {"guard":0,"reply":4}
+> {"guard":1,"reply":5}
+> {"guard":2,"reply":6}
+> {"enabled":true,"reply":7}
+> {"reply":8}
+> {"enabled":true,"reply":9}
+> {"reply":10}
+> {"enabled":true,"reply":11}
+> {"reply":12}
+> {"reply":13}
+> {"attributes":[["busy_ns",30],["idle_ns",20]],"end":50,"events":[{"attributes":[["level","INFO"],["target","app"]],"name":"e","time":36},{"attributes":[["level","INFO"],["target","app"]],"name":"e","time":41}],"kind":"internal","links":[],"name":"s","parent":"0000000000000000","record":1,"span":"0000000000000002","start":0,"status":"unset","trace":"00000000000000000000000000000002"}
+> {"reply":14}
+> {"attributes":[["busy_ns",50],["idle_ns",10]],"end":60,"events":[{"attributes":[["level","INFO"],["target","app"]],"name":"e","time":51}],"kind":"internal","links":[],"name":"s","parent":"0000000000000000","record":2,"span":"0000000000000001","start":0,"status":"unset","trace":"00000000000000000000000000000001"}
+> {"done":true,"open":0,"records":2}
+= 0
+# a child that outlives the handle of its parent
+P
+< {"at":0,"do":"new","lane":0,"site":0}
+< {"at":5,"do":"new","lane":0,"parent":0,"site":0}
+< {"at":10,"do":"drop","handle":0,"lane":0}
+< {"at":20,"do":"drop","handle":1,"lane":0}
+> {"enabled":true,"handle":0,"reply":2}
+> {"enabled":true,"handle":1,"reply":3}
+> {"reply":4}
+> {"reply":5}
+> {"attributes":[["busy_ns",0],["idle_ns",0]],"end":20,"events":[],"kind":"internal","links":[],"name":"s","parent":"0000000000000001","record":1,"span":"0000000000000002","start":5,"status":"unset","trace":"00000000000000000000000000000001"}
+> {"attributes":[["busy_ns",0],["idle_ns",0]],"end":20,"events":[],"kind":"internal","links":[],"name":"s","parent":"0000000000000000","record":2,"span":"0000000000000001","start":0,"status":"unset","trace":"00000000000000000000000000000001"}
+> {"done":true,"open":0,"records":2}
+= 0
+# an exit on another lane
+P
+< {"at":0,"do":"new","lane":0,"site":0}
+< {"at":1,"do":"enter","handle":0,"lane":0}
+< {"at":2,"do":"exit","guard":0,"lane":1}
+> {"enabled":true,"handle":0,"reply":2}
+> {"guard":0,"reply":3}
+> {"lane":0,"line":4,"refused":"WrongLane"}
+= 2
+# a span that is entered on two lanes
+P
+< {"at":0,"do":"new","lane":0,"site":0}
+< {"at":10,"do":"enter","handle":0,"lane":0}
+< {"at":15,"do":"enter","handle":0,"lane":1}
+< {"at":20,"do":"exit","guard":0,"lane":0}
+< {"at":30,"do":"exit","guard":1,"lane":1}
+< {"at":40,"do":"drop","handle":0,"lane":0}
+> {"enabled":true,"handle":0,"reply":2}
+> {"guard":0,"reply":3}
+> {"guard":1,"reply":4}
+> {"reply":5}
+> {"reply":6}
+> {"reply":7}
+> {"attributes":[["busy_ns",20],["idle_ns",10]],"end":30,"events":[],"kind":"internal","links":[],"name":"s","parent":"0000000000000000","record":1,"span":"0000000000000001","start":0,"status":"unset","trace":"00000000000000000000000000000001"}
+> {"done":true,"open":0,"records":1}
+= 0
+# ids in the order of starts
+P
+< {"at":0,"do":"new","lane":0,"site":0}
+< {"at":0,"do":"new","lane":0,"site":0}
+< {"at":1,"do":"enter","handle":1,"lane":0}
+< {"at":2,"do":"exit","guard":0,"lane":0}
+< {"at":3,"do":"drop","handle":1,"lane":0}
+< {"at":4,"do":"drop","handle":0,"lane":0}
+> {"enabled":true,"handle":0,"reply":2}
+> {"enabled":true,"handle":1,"reply":3}
+> {"guard":0,"reply":4}
+> {"reply":5}
+> {"reply":6}
+> {"attributes":[["busy_ns",1],["idle_ns",1]],"end":2,"events":[],"kind":"internal","links":[],"name":"s","parent":"0000000000000000","record":1,"span":"0000000000000001","start":0,"status":"unset","trace":"00000000000000000000000000000001"}
+> {"reply":7}
+> {"attributes":[["busy_ns",0],["idle_ns",0]],"end":4,"events":[],"kind":"internal","links":[],"name":"s","parent":"0000000000000000","record":2,"span":"0000000000000002","start":0,"status":"unset","trace":"00000000000000000000000000000002"}
+> {"done":true,"open":0,"records":2}
+= 0
+# a chain of closes over two lanes
+P
+< {"at":0,"do":"new","lane":0,"site":0}
+< {"at":10,"do":"enter","handle":0,"lane":1}
+< {"at":20,"do":"new","lane":1,"site":0}
+< {"at":30,"do":"new","fields":[],"lane":1,"parent":"root","site":0}
+< {"at":40,"do":"exit","guard":0,"lane":1}
+< {"at":50,"do":"drop","handle":0,"lane":0}
+< {"at":60,"do":"drop","handle":1,"lane":0}
+> {"enabled":true,"handle":0,"reply":2}
+> {"guard":0,"reply":3}
+> {"enabled":true,"handle":1,"reply":4}
+> {"enabled":true,"handle":2,"reply":5}
+> {"reply":6}
+> {"reply":7}
+> {"reply":8}
+> {"attributes":[["busy_ns",0],["idle_ns",0]],"end":60,"events":[],"kind":"internal","links":[],"name":"s","parent":"0000000000000001","record":1,"span":"0000000000000002","start":20,"status":"unset","trace":"00000000000000000000000000000001"}
+> {"attributes":[["busy_ns",30],["idle_ns",10]],"end":40,"events":[],"kind":"internal","links":[],"name":"s","parent":"0000000000000000","record":2,"span":"0000000000000001","start":0,"status":"unset","trace":"00000000000000000000000000000001"}
+> {"done":true,"open":1,"records":2}
+= 0
+# a request that is not built
+P
+< {"at":0,"do":"enabled","lane":0,"site":0}
+> {"line":2,"refused":"Later"}
+= 2
+# a lane past the last
+P
+< {"at":0,"do":"new","lane":2,"site":0}
+> {"line":2,"refused":"UnknownName","what":"lane"}
+= 2
+# no layer, which then tells all but the level
+< {"callsites":[{"fields":[],"kind":"span","level":"info","name":"s","target":"app"}],"filter":"info","lanes":[{"id":7,"name":"main"}]}
+< {"at":0,"do":"new","lane":0,"site":0}
+< {"at":1,"do":"drop","handle":0,"lane":0}
+> {"enabled":true,"handle":0,"reply":2}
+> {"reply":3}
+> {"attributes":[["thread.id",7],["thread.name","main"],["target","app"],["busy_ns",0],["idle_ns",0]],"end":1,"events":[],"kind":"internal","links":[],"name":"s","parent":"0000000000000000","record":1,"span":"0000000000000001","start":0,"status":"unset","trace":"00000000000000000000000000000001"}
 > {"done":true,"open":0,"records":1}
 = 0
 "#;

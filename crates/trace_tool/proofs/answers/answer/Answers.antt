@@ -19,9 +19,9 @@ returns-in_ok-write_records-in-Ok-step c before count runs next other =
     answered before count c.args.lines c.args.pipeline.now c.step.new.self c.write_records.new.pipeline c.args.written.now c.write_records.new.written c.args.line.now
     replied.text.items c.in-Ok.request c.in-Ok-step.reply runs next other
     (spelled_as _ _ _ c.in_ok-request.ensures.same read.ok read.bad_line read.later ∙ c.in-Ok.is)
-    (c.in-Ok-step.ensures.ok runs.settings runs.history runs.stands) c.in_ok-write_reply-in-Ok-step.ensures.text
-    (records.lines ∙ ap (λ (n : ℕ). replied.text.items ++ record_lines (n + 1) c.step.new.self.finished) c.write_reply.ensures.count)
-    (records.count ∙ ap (λ (n : ℕ). n + length c.step.new.self.finished) c.write_reply.ensures.count)
+    (c.in-Ok-step.ensures.ok runs.history runs.stands) c.in_ok-write_reply-in-Ok-step.ensures.text
+    (records.lines ∙ ap (λ (n : ℕ). replied.text.items ++ record_lines (n + 1) c.step.new.self.recording.finished) c.write_reply.ensures.count)
+    (records.count ∙ ap (λ (n : ℕ). n + length c.step.new.self.recording.finished) c.write_reply.ensures.count)
     records.taken c.write_records.ensures.state
 
 pub returns-in_ok-refuse-in-Err-step : goal.returns-in_ok-refuse-in-Err-step
@@ -30,5 +30,5 @@ returns-in_ok-refuse-in-Err-step c before count runs next other =
     let told = c.in_ok-told-in-Err-step.ensures in
     unserved before count c.args.lines c.args.pipeline.now c.args.written.now c.args.line.now _ c.in-Ok.request c.in-Err-step.refusal runs next other
     (spelled_as _ _ _ c.in_ok-request.ensures.same read.ok read.bad_line read.later ∙ c.in-Ok.is)
-    (c.in-Err-step.ensures.refused runs.settings runs.history runs.stands told.other)
+    (c.in-Err-step.ensures.refused runs.history runs.stands told.other)
     (c.in_ok-refuse-in-Err-step.ensures ∙ ap (λ (why : Told). c.args.written.now.text.items ++ refusal_text c.args.lines why) told.same)

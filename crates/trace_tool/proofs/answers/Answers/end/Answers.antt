@@ -8,8 +8,8 @@ returns-in_ok-text-in-Opening c lines answers =
 
 pub returns-in_ok-text-in-Running : goal.returns-in_ok-text-in-Running
 returns-in_ok-text-in-Running c lines answers =
-    runs_end lines c.args.self.lines c.in-Running.pipeline c.args.self.written _ c.open_spans.result (rw c.in-Running.is at answers)
-    (λ settings h stands. c.open_spans.ensures settings h (rw c.in-Running.is stands)) c.in_ok-text-in-Running.ensures
+    runs_end lines c.args.self.lines c.in-Running.pipeline c.args.self.written _ c.open_spans-spans.result (rw c.in-Running.is at answers)
+    (λ h stands. c.open_spans-spans.ensures _ stands) c.in_ok-text-in-Running.ensures
 
 pub returns-in-Refused : goal.returns-in-Refused
 returns-in-Refused c lines answers = stops_end lines c.args.self.written.text.items (rw c.in-Refused.is at answers)
