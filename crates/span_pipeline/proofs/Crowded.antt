@@ -20,11 +20,10 @@ use Rattle.span_pipeline.specs.declared.slots.Guard.{Guard}
 use Rattle.span_pipeline.specs.declared.reply.Refusal.{Refusal}
 use Rattle.span_pipeline.specs.declared.reply.Refusal.TheVariants as refusal
 use Rattle.span_pipeline.specs.declared.reply.What.TheVariants as what
-use Rattle.span_pipeline.specs.declared.request.Call.TheVariants as call
 use Rattle.span_pipeline.specs.Setups.{id_at}
 use Rattle.span_pipeline.specs.Balance.{named_by, opened_by}
 use Rattle.span_pipeline.specs.Tables.{Scope, Attached, Tables, slot_at}
-use Rattle.span_pipeline.specs.Effects.{Resolved, named, meets_full, enters, enters_unless, effect_of_call}
+use Rattle.span_pipeline.specs.Effects.{Resolved, named, meets_full, enters, enters_unless, opens}
 use Rattle.span_pipeline.specs.Refusals.{refused_entry}
 use Rattle.span_pipeline.specs.Fits.{State, state_of, Laned, laned, lane_at, StandsFor, IsKept, is_room, held_by, held_of}
 use Rattle.span_pipeline.proofs.Balancing.{named_slot}
@@ -103,10 +102,10 @@ module _ {S : Type 0} (spans : S → Spans) (recorded : S → Recording) (activa
   pub meets_full_of : (t : Tables) → StandsFor now t → (line : Scope) → slot_at t.handles handle ≡ Some line → h.held ≡ held_of dispatch line → MeetsFullLane activates old before h.held → meets_full now.setup.layer.activation line (t.contexts place_id) ≡ true
   meets_full_of t stands line there is meets = meets_of t stands line there (subst (λ (x : Held). MeetsFullLane activates old before x) is meets)
 
-  pub refuses_entry : (error : EnterError) (given : Refusal) → given ≡ refused_entry lane error → (error ≡ errors.Full → MeetsFullLane activates old before h.held) → is_room given ≡ false → (t : Tables) → StandsFor now t → effect_of_call now.setup t at lane (call.Enter handle) ≡ Err given
-  refuses_entry errors.Memory given is full other t stands = absurd (true≢false (sym (ap is_room is) ∙ other))
-  refuses_entry errors.Full given is full other t stands =
+  pub refuses_entry : (owns : Bool) (error : EnterError) (given : Refusal) → given ≡ refused_entry lane error → (error ≡ errors.Full → MeetsFullLane activates old before h.held) → is_room given ≡ false → (t : Tables) → StandsFor now t → opens now.setup t at lane handle owns ≡ Err given
+  refuses_entry owns errors.Memory given is full other t stands = absurd (true≢false (sym (ap is_room is) ∙ other))
+  refuses_entry owns errors.Full given is full other t stands =
       let line = find (held_of dispatch) (map held_by hs) t.handles handle h.held stands.fits.handle_slots (held_slot hs handle h found) in
       let meets = meets_full_of t stands line.at line.there line.is (full refl) in
-      ap (λ o. named what.Handle o (λ line. enters_unless (meets_full now.setup.layer.activation line (t.contexts place_id)) lane (enters now.setup t at lane handle line))) line.there
+      ap (λ o. named what.Handle o (λ line. enters_unless (meets_full now.setup.layer.activation line (t.contexts place_id)) lane (enters now.setup t at lane handle owns line))) line.there
       ∙ cond-true {A = Resolved} (meets_full now.setup.layer.activation line.at (t.contexts place_id)) _ _ meets ∙ ap (λ (x : Refusal). Err x) (sym is)

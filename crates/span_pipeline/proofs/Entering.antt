@@ -1,7 +1,7 @@
 -- Entries and exits, served.
-use Rattle.std.specs.Prelude.{◌==◌, ◌≢◌, if◌then◌else◌}
-use Rattle.std.proofs.Common.{◌≡◌, ℕ, ◌+◌, ◌<◌, List, [], ◌∷◌, ◌++◌, length, Bool, true, false, fold, get_or, set, slice_set, Option, Some, None, Ok, option_map, map, refl, sym, ap, subst, ◌∙◌, arith, inl, inr}
-use Rattle.std.proofs.lemmas.Bool.{cases_eq, cases_Bool, eq-eqb, cond-true, cond-false}
+use Rattle.std.specs.Prelude.{Result, IfOk, IfErr, ◌==◌, ◌≢◌, ◌&&◌, nat_lt, count_by, if◌then◌else◌}
+use Rattle.std.proofs.Common.{◌≡◌, ℕ, ◌+◌, ◌<◌, List, [], ◌∷◌, ◌++◌, length, Bool, true, false, fold, get_or, set, slice_set, Option, Some, None, Ok, option_map, map, refl, sym, ap, subst, ◌∙◌, arith, inl, inr, cond, Err}
+use Rattle.std.proofs.lemmas.Bool.{cases_eq, cases_Bool, eq-eqb, ne_eqb, cond-true, cond-false}
 use Rattle.std.proofs.lemmas.List.{length-set, length-map, length_push}
 use Rattle.trace_base.specs.declared.lane.Lane.{Lane}
 use Rattle.trace_base.specs.declared.level.LevelFilter.{LevelFilter}
@@ -10,11 +10,13 @@ use Rattle.trace_base.specs.Spans.{Span, Spans, span_at, held, released, without
 use Rattle.trace_base.specs.Calls.{SubscriberCall, Enter, Exit, entered, exited}
 use Rattle.trace_base.specs.Sound.{OneEach}
 use Rattle.trace_base.proofs.Sound.{one_with}
+use Rattle.trace_base.proofs.Entering.{count_cons}
 use Rattle.span_handles.specs.Worlds.{seen, spans_in}
 use Rattle.span_handles.specs.Handles.{Handle, Held, ReplacedOn}
 use Rattle.span_pipeline.specs.declared.slots.Guard.{Guard}
 use Rattle.span_pipeline.specs.declared.reply.Reply.TheVariants as reply
 use Rattle.span_pipeline.specs.declared.request.Call.TheVariants as call
+use Rattle.span_pipeline.specs.declared.reply.Refusal.TheVariants as refusal
 use Rattle.span_pipeline.specs.declared.reply.What.TheVariants as what
 use Rattle.span_pipeline.specs.Setups.{id_at}
 use Rattle.otel_layer.specs.declared.tokens.Token.{Token}
@@ -27,9 +29,13 @@ use Rattle.otel_layer.specs.Core.{is_token}
 use Rattle.otel_layer.specs.Table.{told_at, own_or}
 use Rattle.otel_layer.specs.Recording.{Recording, no_recording, with_start, with_starts, with_applied, source_of, RecordsCall, Enters, Exits}
 use Rattle.span_pipeline.specs.Tables.{Scope, Made, Guarded, Effect, Tables, after, recorded_by, slot_at, own, with_entry, with_exit, with_attached, with_detached, open_part, quiet, Attached}
-use Rattle.span_pipeline.specs.Effects.{Resolved, named, effect_of_call, active, attached_by, meets_full, enters, enters_unless, exits, exits_on}
+use Rattle.span_pipeline.specs.Effects.{Resolved, named, effect_of_call, borrows, is_borrowed, active, attached_by, meets_full, opens, enters, enters_unless, is_shared, unless_shared, exits, exits_on}
+use Rattle.span_pipeline.specs.Slots.{names_handle, is_named, is_shared_by}
+use Rattle.span_pipeline.proofs.Dropping.{borrowed_is}
+use Rattle.span_pipeline.specs.declared.reply.Reply.{Reply}
+use Rattle.span_pipeline.specs.declared.reply.Refusal.{Refusal}
 use Rattle.span_pipeline.specs.Balance.{Balanced, named_by, opened_by}
-use Rattle.span_pipeline.specs.Fits.{State, state_of, Laned, laned, lane_at, Fits, StandsFor, RecordingFits, ContextsFit, MadeFit, IsKept, Served, held_of, guard_of, held_by}
+use Rattle.span_pipeline.specs.Fits.{State, state_of, Laned, laned, lane_at, Fits, StandsFor, RecordingFits, ContextsFit, MadeFit, IsKept, Served, IsRefusal, held_of, guard_of, held_by}
 use Rattle.span_pipeline.proofs.Balancing.{spans_entered, spans_exited, balanced_enter, balanced_exit, entered_most, exited_less, named_slot}
 use Rattle.span_pipeline.proofs.Fitting.{fits_live}
 use Rattle.span_pipeline.proofs.Makings.{made_if, made_held, made_released}
@@ -67,21 +73,40 @@ still_more : (gs : List (Option Guarded)) (hs : List (Option Scope)) (g : Guarde
     → (n : ℕ) (x : Guarded) → slot_at (gs ++ Some g ∷ []) n ≡ Some x → slot_at hs x.handle ≡ Some x.scope
 still_more gs hs g still there n x is = named_push (λ (y : Guarded). slot_at hs y.handle ≡ Some y.scope) gs (Some g) still (λ y e. subst (λ (z : Guarded). slot_at hs z.handle ≡ Some z.scope) (the_guard g y e) there) n x is
 
+-- a guard shares its handle as its table tells
+borrowed_count : (dispatch handle : ℕ) (gs : List (Option Guarded)) → count_by (names_handle handle) (map (option_map (guard_of dispatch)) gs) ≡ count_by (borrows handle) gs
+borrowed_count dispatch handle [] = refl
+borrowed_count dispatch handle (o ∷ gs) =
+    count_cons (names_handle handle) (option_map (guard_of dispatch) o) (map (option_map (guard_of dispatch)) gs)
+    ∙ ap (λ (b : Bool). cond {A = ℕ} b 1 0 + count_by (names_handle handle) (map (option_map (guard_of dispatch)) gs)) (by_guard o)
+    ∙ ap (λ (n : ℕ). cond {A = ℕ} (borrows handle o) 1 0 + n) (borrowed_count dispatch handle gs)
+    ∙ sym (count_cons (borrows handle) o gs)
+  where
+    by_guard : (o : Option Guarded) → names_handle handle (option_map (guard_of dispatch) o) ≡ borrows handle o
+    by_guard None = refl
+    by_guard (Some g) = refl
+
+pub shared_is : (dispatch : ℕ) (gs : List (Option Guarded)) (g : Guard) (x : Guarded) → g ≡ guard_of dispatch x → is_shared_by (map (option_map (guard_of dispatch)) gs) g ≡ is_shared gs x
+shared_is dispatch gs g x is = ap (is_shared_by (map (option_map (guard_of dispatch)) gs)) is ∙ ap (λ (n : ℕ). x.owns && nat_lt 1 n) (borrowed_count dispatch x.handle gs)
+
+the_open : (a b : Guard) → ◌≡◌ {A = Option Guard} (Some a) (Some b) → a ≡ b
+the_open a b e = cc e
+
 -- an entry
-pub fits_entered : (k next : State) (t : Tables) (at lane handle : ℕ) (line : Scope) → Fits k t → slot_at t.handles handle ≡ Some line → next.spans ≡ spans_entered k.spans line (id_at k.setup.ids lane) → next.setup ≡ k.setup
-    → next.dispatch ≡ k.dispatch → next.handles ≡ k.handles → next.guards ≡ k.guards ++ Some (guard_of k.dispatch (record { handle = handle; lane = lane; owns = false; scope = line })) ∷ [] → next.moment ≡ at
-    → Fits next (after t (enters k.setup t at lane handle line))
-fits_entered k next t at lane handle line fits there step setup dispatch handles guards moment =
-    let g : Guarded = record { handle = handle; lane = lane; owns = false; scope = line } in
+pub fits_entered : (k next : State) (t : Tables) (at lane handle : ℕ) (owns : Bool) (line : Scope) → Fits k t → slot_at t.handles handle ≡ Some line → next.spans ≡ spans_entered k.spans line (id_at k.setup.ids lane) → next.setup ≡ k.setup
+    → next.dispatch ≡ k.dispatch → next.handles ≡ k.handles → next.guards ≡ k.guards ++ Some (guard_of k.dispatch (record { handle = handle; lane = lane; owns = owns; scope = line })) ∷ [] → next.moment ≡ at
+    → Fits next (after t (enters k.setup t at lane handle owns line))
+fits_entered k next t at lane handle owns line fits there step setup dispatch handles guards moment =
+    let g : Guarded = record { handle = handle; lane = lane; owns = owns; scope = line } in
     let id = id_at k.setup.ids lane in
     let live : (s : ℕ) (up : Scope) → line ≡ s ∷ up → 0 < (span_at k.spans.made s).holds = λ s up e. fits_live k.spans (map named_by t.handles) (map (opened_by k.setup.ids) t.guards) t.entries fits.balanced handle s (named_slot t.handles handle line there ∙ ap own e) in
-    fits_step k t fits next (enters k.setup t at lane handle line) (record {
+    fits_step k t fits next (enters k.setup t at lane handle owns line) (record {
       setup_is = setup;
       dispatch_is = dispatch;
       handles_are = handles;
       guards_are = guards;
       moment_is = moment;
-      balanced = subst (λ (x : Spans). Balanced x (map named_by t.handles) (map (opened_by k.setup.ids) (t.guards ++ Some g ∷ [])) (with_entry t.entries id (own line))) (sym step) (balanced_enter k.setup.ids k.spans t.handles t.guards t.entries fits.balanced handle lane false line there);
+      balanced = subst (λ (x : Spans). Balanced x (map named_by t.handles) (map (opened_by k.setup.ids) (t.guards ++ Some g ∷ [])) (with_entry t.entries id (own line))) (sym step) (balanced_enter k.setup.ids k.spans t.handles t.guards t.entries fits.balanced handle lane owns line there);
       made_fit = subst (λ (x : Spans). MadeFit x.made t.made) (sym step) (made_entered k.spans t.made line id fits.made live);
       new_made = tt;
       new_scope = λ l e. absurd (cc e);
@@ -204,40 +229,40 @@ module _ {S : Type 0} (spans : S → Spans) (recorded : S → Recording) (attach
         )
 
     -- an entry, by the scope of its handle
-    entered_record : (gs' : List (Option Guard)) (t : Tables) (handle : ℕ) (line : Scope) → RecordingFits now t → ((s : ℕ) (up : Scope) → line ≡ s ∷ up → 0 < (span_at now.spans.made s).holds) → lanes_of → later.id ≡ before.id → (line ≡ [] → later ≡ before)
+    entered_record : (gs' : List (Option Guard)) (t : Tables) (handle : ℕ) (owns : Bool) (line : Scope) → RecordingFits now t → ((s : ℕ) (up : Scope) → line ≡ s ∷ up → 0 < (span_at now.spans.made s).holds) → lanes_of → later.id ≡ before.id → (line ≡ [] → later ≡ before)
         → ShownOn spans recorded attaches kept is_whole old new dispatch line (λ id. Enter id at before later)
-        → (toks : List Token) × (r' ≡ record (recorded_by (length t.made) (enters now.setup t at lane handle line) r) { tokens = toks }) × AllFit (then_with gs') (after t (enters now.setup t at lane handle line)).contexts
-    entered_record gs' t handle [] fit live differ same none shown =
+        → (toks : List Token) × (r' ≡ record (recorded_by (length t.made) (enters now.setup t at lane handle owns line) r) { tokens = toks }) × AllFit (then_with gs') (after t (enters now.setup t at lane handle owns line)).contexts
+    entered_record gs' t handle owns [] fit live differ same none shown =
         let is = ap (λ (w : Worlds S). seen recorded no_recording w dispatch) shown in
         let nothing : (b : Bool) → recorded_by (length t.made) (record (quiet at place_id (reply.Guard 0)) { starts = option_to_list (active b []) }) r ≡ r = λ b. ap (λ (o : Option ℕ). recorded_by (length t.made) (record (quiet at place_id (reply.Guard 0)) { starts = option_to_list o }) r) (no_active b) in (
           r.tokens,
           is ∙ ap (λ (x : Recording). record x { tokens = r.tokens }) (sym (nothing r.settings.activation)),
-          subst (λ (c : Recording). (n : ℕ) → n < length (map laned (set lanes lane later)) → ContextsFit c.settings.activation (lane_at (map laned (set lanes lane later)) n).id (lane_at (map laned (set lanes lane later)) n).live c.tokens ((after t (enters now.setup t at lane handle [])).contexts (lane_at (map laned (set lanes lane later)) n).id)) (sym is)
-              (subst (λ (ls : List Laned). (n : ℕ) → n < length ls → ContextsFit r.settings.activation (lane_at ls n).id (lane_at ls n).live r.tokens ((after t (enters now.setup t at lane handle [])).contexts (lane_at ls n).id)) (sym (lanes_same lanes lane before later within here (ap laned (none refl))))
+          subst (λ (c : Recording). (n : ℕ) → n < length (map laned (set lanes lane later)) → ContextsFit c.settings.activation (lane_at (map laned (set lanes lane later)) n).id (lane_at (map laned (set lanes lane later)) n).live c.tokens ((after t (enters now.setup t at lane handle owns [])).contexts (lane_at (map laned (set lanes lane later)) n).id)) (sym is)
+              (subst (λ (ls : List Laned). (n : ℕ) → n < length ls → ContextsFit r.settings.activation (lane_at ls n).id (lane_at ls n).live r.tokens ((after t (enters now.setup t at lane handle owns [])).contexts (lane_at ls n).id)) (sym (lanes_same lanes lane before later within here (ap laned (none refl))))
               (subst (λ (o : Option ℕ). (n : ℕ) → n < length (map laned lanes) → ContextsFit r.settings.activation (lane_at (map laned lanes) n).id (lane_at (map laned lanes) n).live r.tokens (with_attached t.contexts place_id (attached_by t.recording at o) (lane_at (map laned lanes) n).id)) (sym (no_active r.settings.activation)) fit.attached)),
         )
-    entered_record gs' t handle (s ∷ up) fit live differ same none shown =
+    entered_record gs' t handle owns (s ∷ up) fit live differ same none shown =
         let x = entry_told dispatch at before later s (fit.known s (live s up refl)) shown.2 in
         let b = r.settings.activation in
         let token : Token = record { lane = before.id; id = s; attached = x.attached } in
         let toks = r.tokens ++ token ∷ [] in
         let own = own_or empty_context (told_at s (with_starts (source_of b s) at r).spans) in
-        let rec_is : r' ≡ record (recorded_by (length t.made) (enters now.setup t at lane handle (s ∷ up)) r) { tokens = toks } =
+        let rec_is : r' ≡ record (recorded_by (length t.made) (enters now.setup t at lane handle owns (s ∷ up)) r) { tokens = toks } =
         x.is ∙ ap (λ (y : Recording). record (with_applied s at ops.Enter y) { tokens = y.tokens ++ token ∷ [] }) (sym (starts_fold (source_of b s) at r))
         ∙ ap (λ (ts : List Token). record (with_applied s at ops.Enter (fold (λ r s. with_start s at r) r (option_to_list (source_of b s)))) { tokens = ts ++ token ∷ [] }) (ap (λ (y : Recording). y.tokens) (starts_fold (source_of b s) at r) ∙ entry_tokens (source_of b s) at r) in
-        let settings : r'.settings ≡ r.settings = ap (λ (c : Recording). c.settings) rec_is ∙ recorded_settings (length t.made) (enters now.setup t at lane handle (s ∷ up)) r in
+        let settings : r'.settings ≡ r.settings = ap (λ (c : Recording). c.settings) rec_is ∙ recorded_settings (length t.made) (enters now.setup t at lane handle owns (s ∷ up)) r in
         let tokens : r'.tokens ≡ toks = ap (λ (c : Recording). c.tokens) rec_is in (
           toks,
           rec_is,
-          subst (λ (ts : List Token). (n : ℕ) → n < length (map laned (set lanes lane later)) → ContextsFit r'.settings.activation (lane_at (map laned (set lanes lane later)) n).id (lane_at (map laned (set lanes lane later)) n).live ts ((after t (enters now.setup t at lane handle (s ∷ up))).contexts (lane_at (map laned (set lanes lane later)) n).id)) (sym tokens)
-              (subst (λ (c : LayerSettings). (n : ℕ) → n < length (map laned (set lanes lane later)) → ContextsFit c.activation (lane_at (map laned (set lanes lane later)) n).id (lane_at (map laned (set lanes lane later)) n).live toks ((after t (enters now.setup t at lane handle (s ∷ up))).contexts (lane_at (map laned (set lanes lane later)) n).id)) (sym settings)
+          subst (λ (ts : List Token). (n : ℕ) → n < length (map laned (set lanes lane later)) → ContextsFit r'.settings.activation (lane_at (map laned (set lanes lane later)) n).id (lane_at (map laned (set lanes lane later)) n).live ts ((after t (enters now.setup t at lane handle owns (s ∷ up))).contexts (lane_at (map laned (set lanes lane later)) n).id)) (sym tokens)
+              (subst (λ (c : LayerSettings). (n : ℕ) → n < length (map laned (set lanes lane later)) → ContextsFit c.activation (lane_at (map laned (set lanes lane later)) n).id (lane_at (map laned (set lanes lane later)) n).live toks ((after t (enters now.setup t at lane handle owns (s ∷ up))).contexts (lane_at (map laned (set lanes lane later)) n).id)) (sym settings)
               (subst (λ (o : Option Attached). (n : ℕ) → n < length (map laned (set lanes lane later)) → ContextsFit b (lane_at (map laned (set lanes lane later)) n).id (lane_at (map laned (set lanes lane later)) n).live toks (with_attached t.contexts place_id o (lane_at (map laned (set lanes lane later)) n).id)) (attach_is b s at up r t.recording fit.recorded)
               (subst (λ (l : ℕ). (n : ℕ) → n < length (map laned (set lanes lane later)) → ContextsFit b (lane_at (map laned (set lanes lane later)) n).id (lane_at (map laned (set lanes lane later)) n).live toks (with_attached t.contexts l (if b then Some (record { span = s; context = own }) else None) (lane_at (map laned (set lanes lane later)) n).id)) id_is
               (all_entered b lanes lane before later within here same differ r.tokens t.contexts fit.attached s own x.attached x.lane)))),
         )
 
     module _ (guard : ℕ) (g : Guard) (found : slot_at gs guard ≡ Some g) (on : g.lane ≡ lane) (gs' : List (Option Guard)) (one : gs' ≡ slice_set gs guard None) (h : Handle) (entry_is : g.entry ≡ h.held)
-        (did : ReplacedOn (λ id s t. does s (Exit id at before later) t) old new h.held) (none : h.held ≡ None → later ≡ before) (inv : IsKept kept is_whole old now) where
+        (did : ReplacedOn (λ id s t. does s (Exit id at before later) t) old new h.held) (none : h.held ≡ None → later ≡ before) (alone : is_shared_by gs g ≡ false) (inv : IsKept kept is_whole old now) where
       abbrev exited_then : State
       exited_then = then_with gs'
 
@@ -260,7 +285,9 @@ module _ {S : Type 0} (spans : S → Spans) (recorded : S → Recording) (attach
           let setup = setup_after sites moved.0 moved.1 settings in
           let step = exited_spans dispatch at (id_at now.setup.ids x.lane) before later x.scope (id_is ∙ lane_is) shown in
           serve now exited_then t e _ reply.Done stands
-          (ap (λ o. named what.Guard o (λ (y : Guarded). exits_on y.lane lane (exits now.setup at place_id guard y.scope))) open_one.there ∙ cond-true {A = Resolved} (x.lane == lane) _ _ (eq-eqb x.lane lane mine))
+          (ap (λ o. named what.Guard o (λ (y : Guarded). unless_shared (is_shared t.guards y) (exits_on y.lane lane (exits now.setup at place_id guard y.scope)))) open_one.there
+          ∙ cond-false {A = Resolved} (is_shared t.guards x) _ _ (sym (ap (λ (xs : List (Option Guard)). is_shared_by xs g) fits.guard_slots ∙ shared_is dispatch t.guards g x open_one.is) ∙ alone)
+          ∙ cond-true {A = Resolved} (x.lane == lane) _ _ (eq-eqb x.lane lane mine))
           refl setup rec_is.0 rec_is.1 (fits_exited now exited_then t at guard x fits open_one.there step setup refl refl one refl place_id lane_is)
           (λ s some. known_still now exited_then t e rec_is.0 rec_is.1 stands.recording s refl (let a = exited_less now.spans x.scope (id_at now.setup.ids x.lane) s in let b = ap (λ (y : Spans). (span_at y.made s).holds) step in omega (arith, a, b, some)))
           rec_is.2
@@ -275,13 +302,13 @@ module _ {S : Type 0} (spans : S → Spans) (recorded : S → Recording) (attach
           kept_served spans recorded attaches kept is_whole old new now exited_then inv _ _ (serves_exited inv.tables (record { fits = inv.fits; recording = inv.recording })) refl (call_count spans recorded attaches kept is_whole old new dispatch x.scope (λ id. Exit id at before later) shown) (call_whole spans recorded attaches kept is_whole old new dispatch x.scope (λ id. Exit id at before later) shown)
           (lanes_step _ _ lanes lane before later within here inv.lanes moved.0 moved.2)
 
-    module _ (handle number : ℕ) (h : Handle) (entry : Held) (gs' : List (Option Guard)) (found : slot_at hs handle ≡ Some h) (is : entry ≡ h.held) (many : number ≡ length gs) (one : gs' ≡ gs ++ Some (record { handle = handle; lane = lane; owns = false; entry = entry }) ∷ [])
+    module _ (handle number : ℕ) (owns : Bool) (h : Handle) (entry : Held) (gs' : List (Option Guard)) (found : slot_at hs handle ≡ Some h) (is : entry ≡ h.held) (many : number ≡ length gs) (one : gs' ≡ gs ++ Some (record { handle = handle; lane = lane; owns = owns; entry = entry }) ∷ [])
         (did : ReplacedOn (λ id s t. does s (Enter id at before later) t) old new h.held) (none : h.held ≡ None → later ≡ before) (inv : IsKept kept is_whole old now)
         (free : (t : Tables) → StandsFor now t → (line : Scope) → slot_at t.handles handle ≡ Some line → h.held ≡ held_of dispatch line → meets_full now.setup.layer.activation line (t.contexts place_id) ≡ false) where
       abbrev entered_then : State
       entered_then = then_with gs'
 
-      pub serves_entered : (t : Tables) → StandsFor now t → Served (effect_of_call now.setup t at lane (call.Enter handle)) t now entered_then (reply.Guard number)
+      pub serves_entered : (t : Tables) → StandsFor now t → Served (opens now.setup t at lane handle owns) t now entered_then (reply.Guard number)
       serves_entered t stands =
           let fits = stands.fits in
           let line = find (held_of dispatch) (map held_by hs) t.handles handle h.held fits.handle_slots (held_slot hs handle h found) in
@@ -289,18 +316,18 @@ module _ {S : Type 0} (spans : S → Spans) (recorded : S → Recording) (attach
           let none_at : line.at ≡ [] → later ≡ before = λ e. none (line.is ∙ ap (held_of dispatch) e) in
           let moved = call_lanes spans recorded attaches kept is_whole old new dispatch line.at (λ id. Enter id at before later) before later (λ s b f g l. (l.0.id, l.0.name, l.1)) none_at shown in
           let sites = call_sites spans recorded attaches kept is_whole old new dispatch line.at (λ id. Enter id at before later) shown in
-          let guards_are : gs' ≡ gs ++ Some (guard_of dispatch (record { handle = handle; lane = lane; owns = false; scope = line.at })) ∷ [] = one ∙ ap (λ (h : Held). gs ++ Some (record { handle = handle; lane = lane; owns = false; entry = h }) ∷ []) (is ∙ line.is) in
-          let e : Effect = enters now.setup t at lane handle line.at in
+          let guards_are : gs' ≡ gs ++ Some (guard_of dispatch (record { handle = handle; lane = lane; owns = owns; scope = line.at })) ∷ [] = one ∙ ap (λ (h : Held). gs ++ Some (record { handle = handle; lane = lane; owns = owns; entry = h }) ∷ []) (is ∙ line.is) in
+          let e : Effect = enters now.setup t at lane handle owns line.at in
           let live : (s : ℕ) (up : Scope) → line.at ≡ s ∷ up → 0 < (span_at now.spans.made s).holds = λ s up e. fits_live now.spans (map named_by t.handles) (map (opened_by now.setup.ids) t.guards) t.entries fits.balanced handle s (named_slot t.handles handle line.at line.there ∙ ap own e) in
-          let rec_is = entered_record gs' t handle line.at stands.recording live inv.lanes.differ moved.0 none_at shown in
+          let rec_is = entered_record gs' t handle owns line.at stands.recording live inv.lanes.differ moved.0 none_at shown in
           let settings = ap (λ (c : Recording). c.settings) rec_is.1 ∙ recorded_settings (length t.made) e r in
           let setup = setup_after sites moved.0 moved.1 settings in
           let step = entered_spans dispatch at place_id before later line.at id_is shown in
           serve now entered_then t e _ (reply.Guard number) stands
-          (ap (λ o. named what.Handle o (λ line. enters_unless (meets_full now.setup.layer.activation line (t.contexts place_id)) lane (enters now.setup t at lane handle line))) line.there
+          (ap (λ o. named what.Handle o (λ line. enters_unless (meets_full now.setup.layer.activation line (t.contexts place_id)) lane (enters now.setup t at lane handle owns line))) line.there
           ∙ cond-false {A = Resolved} (meets_full now.setup.layer.activation line.at (t.contexts place_id)) _ _ (free t stands line.at line.there line.is))
           (ap reply.Guard (many ∙ ap length fits.guard_slots ∙ length-map t.guards (option_map (guard_of dispatch))))
-          setup rec_is.0 rec_is.1 (fits_entered now entered_then t at lane handle line.at fits line.there step setup refl refl guards_are refl)
+          setup rec_is.0 rec_is.1 (fits_entered now entered_then t at lane handle owns line.at fits line.there step setup refl refl guards_are refl)
           (λ s some. known_still now entered_then t e rec_is.0 rec_is.1 stands.recording s refl (entered_live now.spans line.at place_id s live (subst (λ (y : Spans). 0 < (span_at y.made s).holds) step some)))
           rec_is.2
 
@@ -311,3 +338,61 @@ module _ {S : Type 0} (spans : S → Spans) (recorded : S → Recording) (attach
           let moved = call_lanes spans recorded attaches kept is_whole old new dispatch line.at (λ id. Enter id at before later) before later (λ s b f g l. (l.0.id, l.0.name, l.1)) (λ e. none (line.is ∙ ap (held_of dispatch) e)) shown in
           kept_served spans recorded attaches kept is_whole old new now entered_then inv _ _ (serves_entered inv.tables (record { fits = inv.fits; recording = inv.recording })) refl (call_count spans recorded attaches kept is_whole old new dispatch line.at (λ id. Enter id at before later) shown) (call_whole spans recorded attaches kept is_whole old new dispatch line.at (λ id. Enter id at before later) shown)
           (lanes_step _ _ lanes lane before later within here inv.lanes moved.0 moved.2)
+
+-- an exit of a guard that owns its handle, which has another open guard
+pub refuses_shared : (k : State) (guard : ℕ) (g : Guard) → slot_at k.guards guard ≡ Some g → is_shared_by k.guards g ≡ true → (at lane : ℕ) (t : Tables) → StandsFor k t → effect_of_call k.setup t at lane (call.Exit guard) ≡ Err refusal.InUse
+refuses_shared k guard g found shared at lane t stands =
+    let fits = stands.fits in
+    let x = find (guard_of k.dispatch) k.guards t.guards guard g fits.guard_slots found in
+    ap (λ o. named what.Guard o (λ (y : Guarded). unless_shared (is_shared t.guards y) (exits_on y.lane lane (exits k.setup at (id_at k.setup.ids lane) guard y.scope)))) x.there
+    ∙ cond-true {A = Resolved} (is_shared t.guards x.at) _ _ (sym (ap (λ (xs : List (Option Guard)). is_shared_by xs g) fits.guard_slots ∙ shared_is k.dispatch t.guards g x.at x.is) ∙ shared)
+
+abbrev wrong_lane : ℕ → Resolved
+wrong_lane lane = Err (refusal.WrongLane lane)
+
+-- one on another lane than the guard's
+pub refuses_wrong_lane : (k : State) (guard : ℕ) (g : Guard) → slot_at k.guards guard ≡ Some g → is_shared_by k.guards g ≡ false → (at lane : ℕ) → (g.lane ≡ lane → ⊥) → (t : Tables) → StandsFor k t → effect_of_call k.setup t at lane (call.Exit guard) ≡ Err (refusal.WrongLane g.lane)
+refuses_wrong_lane k guard g found alone at lane other t stands =
+    let fits = stands.fits in
+    let x = find (guard_of k.dispatch) k.guards t.guards guard g fits.guard_slots found in
+    let lane_is : g.lane ≡ x.at.lane = ap (λ (y : Guard). y.lane) x.is in
+    ap (λ o. named what.Guard o (λ (y : Guarded). unless_shared (is_shared t.guards y) (exits_on y.lane lane (exits k.setup at (id_at k.setup.ids lane) guard y.scope)))) x.there
+    ∙ cond-false {A = Resolved} (is_shared t.guards x.at) _ _ (sym (ap (λ (xs : List (Option Guard)). is_shared_by xs g) fits.guard_slots ∙ shared_is k.dispatch t.guards g x.at x.is) ∙ alone)
+    ∙ cond-false {A = Resolved} (x.at.lane == lane) _ _ (ne_eqb x.at.lane lane (λ e. other (lane_is ∙ e)))
+    ∙ ap wrong_lane (sym lane_is)
+
+pub alone_at : (gs : List (Option Guard)) (n : ℕ) (a b : Guard) → slot_at gs n ≡ Some a → slot_at gs n ≡ Some b → is_shared_by gs a ≡ false → is_shared_by gs b ≡ false
+alone_at gs n a b one other alone = subst (λ (g : Guard). is_shared_by gs g ≡ false) (the_open a b (sym one ∙ other)) alone
+
+-- what is said of the fields is said of the value that they make
+pub by_view_opens : (at lane handle : ℕ) (owns : Bool) (next : State) (answer : Reply) (view k : State) → view ≡ k → ((t : Tables) → StandsFor view t → Served (opens view.setup t at lane handle owns) t view next answer)
+    → (t : Tables) → StandsFor k t → Served (opens k.setup t at lane handle owns) t k next answer
+by_view_opens at lane handle owns next answer view k is serves = subst (λ (x : State). (t : Tables) → StandsFor x t → Served (opens x.setup t at lane handle owns) t x next answer) is serves
+
+-- a guard that owns its handle, made where no other one is open
+pub entered_is : (k : State) (hs : List (Option Handle)) → k.handles ≡ map held_by hs → (handle : ℕ) (h : Handle) → slot_at hs handle ≡ Some h → (at lane : ℕ) (t : Tables) → StandsFor k t
+    → (is_named k.guards handle ≡ false → effect_of_call k.setup t at lane (call.Entered handle) ≡ opens k.setup t at lane handle true) × (is_named k.guards handle ≡ true → effect_of_call k.setup t at lane (call.Entered handle) ≡ Err refusal.InUse)
+entered_is k hs are handle h found at lane t stands =
+    let fits = stands.fits in
+    let line = find (held_of k.dispatch) (map held_by hs) t.handles handle h.held (sym are ∙ fits.handle_slots) (held_slot hs handle h found) in
+    let named_is : is_named k.guards handle ≡ is_borrowed t.guards handle = ap (λ (xs : List (Option Guard)). is_named xs handle) fits.guard_slots ∙ borrowed_is k.dispatch t.guards handle in
+    let there = ap (λ o. named what.Handle o (λ (scope : Scope). if is_borrowed t.guards handle then Err refusal.InUse else opens k.setup t at lane handle true)) line.there in (
+      λ free. there ∙ cond-false {A = Resolved} (is_borrowed t.guards handle) _ _ (sym named_is ∙ free),
+      λ used. there ∙ cond-true {A = Resolved} (is_borrowed t.guards handle) _ _ (sym named_is ∙ used),
+    )
+
+pub entered_ok : (view k : State) → view ≡ k → (hs : List (Option Handle)) → view.handles ≡ map held_by hs → (handle : ℕ) (h : Handle) → slot_at hs handle ≡ Some h → is_named view.guards handle ≡ false → (at lane : ℕ) (result : Result Reply Refusal) (next : State)
+    → ((t : Tables) → StandsFor k t → IfOk result (Served (opens k.setup t at lane handle true) t k next)) → (t : Tables) → StandsFor k t → IfOk result (Served (effect_of_call k.setup t at lane (call.Entered handle)) t k next)
+entered_ok view k same hs are handle h found free at lane result next did t stands =
+    let is = (entered_is k hs (ap (λ (x : State). x.handles) (sym same) ∙ are) handle h found at lane t stands).0 (ap (λ (x : State). is_named x.guards handle) (sym same) ∙ free) in
+    subst (λ (r : Resolved). IfOk result (Served r t k next)) (sym is) (did t stands)
+
+pub entered_refused : (view k : State) → view ≡ k → (hs : List (Option Handle)) → view.handles ≡ map held_by hs → (handle : ℕ) (h : Handle) → slot_at hs handle ≡ Some h → is_named view.guards handle ≡ false → (at lane : ℕ) (result : Result Reply Refusal)
+    → ((t : Tables) → StandsFor k t → IfErr result (IsRefusal (opens k.setup t at lane handle true))) → (t : Tables) → StandsFor k t → IfErr result (IsRefusal (effect_of_call k.setup t at lane (call.Entered handle)))
+entered_refused view k same hs are handle h found free at lane result did t stands =
+    let is = (entered_is k hs (ap (λ (x : State). x.handles) (sym same) ∙ are) handle h found at lane t stands).0 (ap (λ (x : State). is_named x.guards handle) (sym same) ∙ free) in
+    subst (λ (r : Resolved). IfErr result (IsRefusal r)) (sym is) (did t stands)
+
+pub by_view_opens_refused : (at lane handle : ℕ) (owns : Bool) (given : Refusal) (view k : State) → view ≡ k → ((t : Tables) → StandsFor view t → opens view.setup t at lane handle owns ≡ Err given)
+    → (t : Tables) → StandsFor k t → opens k.setup t at lane handle owns ≡ Err given
+by_view_opens_refused at lane handle owns given view k is refuses = subst (λ (x : State). (t : Tables) → StandsFor x t → opens x.setup t at lane handle owns ≡ Err given) is refuses

@@ -169,10 +169,10 @@ abbrev pub attached_by : Recording → ℕ → Option ℕ → Option Attached
 attached_by r at None = None
 attached_by r at (Some s) = Some (record { span = s; context = own_or empty_context (told_at s (with_start s at r).spans) })
 
--- an entry of a handle's span on the lane at a place
-abbrev pub enters : Setup → Tables → ℕ → ℕ → ℕ → Scope → Effect
-enters setup t at lane handle scope = record (quiet at (id_at setup.ids lane) (reply.Guard (length t.guards))) {
-  new_guard = Some (record { handle = handle; lane = lane; owns = false; scope = scope });
+-- an entry of a handle's span on the lane at a place, by a guard that owns the handle or not
+abbrev pub enters : Setup → Tables → ℕ → ℕ → ℕ → Bool → Scope → Effect
+enters setup t at lane handle owns scope = record (quiet at (id_at setup.ids lane) (reply.Guard (length t.guards))) {
+  new_guard = Some (record { handle = handle; lane = lane; owns = owns; scope = scope });
   starts = option_to_list (active setup.layer.activation scope);
   ops = on scope ops.Enter;
   attach = attached_by t.recording at (active setup.layer.activation scope);
@@ -186,6 +186,11 @@ meets_full activation scope items = is_some (active activation scope) && length 
 abbrev pub enters_unless : Bool → ℕ → Effect → Resolved
 enters_unless full lane effect = if full then Err (refusal.Full lane) else Ok effect
 
+abbrev pub opens : Setup → Tables → ℕ → ℕ → ℕ → Bool → Resolved
+opens setup t at lane handle owns =
+    named what.Handle (slot_at t.handles handle)
+    (λ scope. enters_unless (meets_full setup.layer.activation scope (t.contexts (id_at setup.ids lane))) lane (enters setup t at lane handle owns scope))
+
 abbrev pub exits : Setup → ℕ → ℕ → ℕ → Scope → Effect
 exits setup at lane guard scope = record (quiet at lane reply.Done) {
   spent_guard = Some guard;
@@ -193,6 +198,13 @@ exits setup at lane guard scope = record (quiet at lane reply.Done) {
   detach = active setup.layer.activation scope;
   exit = own scope;
 }
+
+-- a guard that owns its handle isn't spent while the handle has another open guard
+abbrev pub is_shared : List (Option Guarded) → Guarded → Bool
+is_shared slots guarded = guarded.owns && nat_lt 1 (count_by (borrows guarded.handle) slots)
+
+abbrev pub unless_shared : Bool → Resolved → Resolved
+unless_shared shared resolved = if shared then Err refusal.InUse else resolved
 
 -- a guard is spent on its own lane
 abbrev pub exits_on : ℕ → ℕ → Effect → Resolved
@@ -225,18 +237,19 @@ effect_of_call setup t at lane (call.Clone handle) =
 effect_of_call setup t at lane (call.Drop handle) =
     named what.Handle (slot_at t.handles handle)
     (λ scope. drops_unless (is_borrowed t.guards handle) (drops t at (id_at setup.ids lane) handle scope))
-effect_of_call setup t at lane (call.Enter handle) =
-    named what.Handle (slot_at t.handles handle) 
-    (λ scope. enters_unless (meets_full setup.layer.activation scope (t.contexts (id_at setup.ids lane))) lane (enters setup t at lane handle scope))
+effect_of_call setup t at lane (call.Enter handle) = opens setup t at lane handle false
 effect_of_call setup t at lane (call.Exit guard) =
     named what.Guard (slot_at t.guards guard)
-    (λ guarded. exits_on guarded.lane lane (exits setup at (id_at setup.ids lane) guard guarded.scope))
+    (λ guarded. unless_shared (is_shared t.guards guarded)
+    (exits_on guarded.lane lane (exits setup at (id_at setup.ids lane) guard guarded.scope)))
 effect_of_call setup t at lane call.Current = Ok (clones t at (id_at setup.ids lane) (current_scope t (id_at setup.ids lane)))
 effect_of_call setup t at lane (call.OrCurrent handle) =
     named what.Handle (slot_at t.handles handle)
     (λ scope. drops_unless (is_borrowed t.guards handle)
     (exchanges t at (id_at setup.ids lane) handle (scope_or_current t (id_at setup.ids lane) scope)))
-effect_of_call setup t at lane (call.Entered handle) = Err refusal.Later
+effect_of_call setup t at lane (call.Entered handle) =
+    named what.Handle (slot_at t.handles handle)
+    (λ scope. if is_borrowed t.guards handle then Err refusal.InUse else opens setup t at lane handle true)
 effect_of_call setup t at lane (call.Event site) =
     named what.Site (event_site setup.sites site)
     (λ callsite. Ok (tells t at (id_at setup.ids lane) (is_within callsite.level setup.level)

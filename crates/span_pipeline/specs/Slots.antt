@@ -1,5 +1,5 @@
 -- Where the code puts new spans, and which handles its guards borrow. Inner definitions.
-use Rattle.std.specs.Prelude.{◌≡◌, ℕ, List, Bool, true, false, ◌==◌, Option, Some, None, option_map, slice_get, slice_index_or}
+use Rattle.std.specs.Prelude.{◌≡◌, ℕ, List, Bool, true, false, ◌==◌, Option, Some, None, option_map, slice_get, slice_index_or, count_by, nat_lt, ◌&&◌}
 use Rattle.std.specs.List.{list_any}
 use Rattle.trace_base.specs.declared.field.ValueSet.{ValueSet}
 use Rattle.trace_base.specs.declared.lane.Lane.{Lane}
@@ -37,6 +37,10 @@ IsAbove dispatch (above.Span span) = IsOf span.now.held dispatch
 abbrev pub names_handle : ℕ → Option Guard → Bool
 names_handle handle None = false
 names_handle handle (Some guard) = guard.handle == handle
+
+-- whether the guard owns its handle, which another one names too
+abbrev pub is_shared_by : List (Option Guard) → Guard → Bool
+is_shared_by guards guard = guard.owns && nat_lt 1 (count_by (names_handle guard.handle) guards)
 
 abbrev pub is_named : List (Option Guard) → ℕ → Bool
 is_named guards handle = list_any (names_handle handle) guards

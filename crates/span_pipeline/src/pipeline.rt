@@ -138,9 +138,10 @@ impl Pipeline {
     }
 
     /// Runs a request. A refused step leaves the pipeline as it was: `BadMoment` where the moment falls or is above
-    /// 2^63 - 1, `UnknownName` where it names what isn't there, `InUse` where it spends a handle with an open guard,
-    /// `WrongLane` where it spends a guard on another lane than the guard's, `Full` where it attaches a context to a lane
-    /// with 65,534 of them, `Later` where its kind isn't built. It may answer `Memory`, but not to a drop or an exit.
+    /// 2^63 - 1, `UnknownName` where it names what isn't there, `InUse` where it spends or owns a handle with an open
+    /// guard, or exits the guard that owns a handle with another one, `WrongLane` where it spends a guard on another lane
+    /// than the guard's, `Full` where it attaches a context to a lane with 65,534 of them, `Later` where its kind isn't
+    /// built. It may answer `Memory`, but not to a drop or an exit.
     pub fn step(&mut self, request: Request) -> Result<Reply, Refusal>
         ensures ok { (h : History) → StandsFor self.old (tables self.old.setup.layer h)
             → IfOk result (Recorded (effect_of self.old.setup (tables self.old.setup.layer h) request) h self.old self.new) }
@@ -174,12 +175,12 @@ impl Pipeline {
         match call {
             Call::Clone { handle } => self.clone_handle(at, lane, handle),
             Call::Drop { handle } => self.drop_handle(at, lane, handle),
-            Call::Enter { handle } => self.enter(at, lane, handle),
+            Call::Enter { handle } => self.enter(at, lane, handle, false),
             Call::Exit { guard } => self.exit(at, lane, guard),
             Call::New { site, place } => self.make(at, lane, site, place),
             Call::Current => self.current(at, lane),
             Call::OrCurrent { handle } => self.or_current(at, lane, handle),
-            Call::Entered { .. } => Err(Refusal::Later),
+            Call::Entered { handle } => self.entered(at, lane, handle),
             Call::Event { site } => self.event(at, lane, site),
             Call::Remote { .. } => Err(Refusal::Later),
             Call::Context { .. } => Err(Refusal::Later),

@@ -1,7 +1,7 @@
 //! Names that are spent once: handles and guards by their numbers.
 ghost use Rattle.std.specs.Prelude.{◌≡◌, ◌<◌, ℕ, map, IfSome, ◌++◌, ◌∷◌, [], Some, None, option_map, slice_index_or, slice_set, vec_len, vec_capacity};
 ghost use Rattle.span_pipeline.specs.Fits.{held_by};
-ghost use Rattle.span_pipeline.specs.Slots.{parent_of, IsAbove, place_for, names_handle, is_named};
+ghost use Rattle.span_pipeline.specs.Slots.{parent_of, IsAbove, place_for, names_handle, is_named, is_shared_by};
 
 use crate::request::Place;
 use span_handles::entry::Entry;
@@ -93,14 +93,11 @@ pub fn take<T>(slots: &mut Vec<Option<T>>, number: u64) -> Option<T>
     }
 }
 
-/// The lane of an open guard.
-pub fn lane_of(guards: &Vec<Option<Guard>>, number: u64) -> Option<u64>
-    ensures { result ≡ option_map (λ g. g.lane) (slice_index_or guards.now.items number None) }
+/// Whether a guard owns its handle, which another open guard names too.
+pub fn is_shared(guards: &Vec<Option<Guard>>, guard: &Guard) -> bool
+    ensures { result ≡ is_shared_by guards.now.items guard.now }
 {
-    match slot_at(guards, number) {
-        Some(guard) => Some(guard.lane),
-        None => None,
-    }
+    guard.owns && guards.iter().filter(|slot| names(*slot, guard.handle)).count() > 1
 }
 
 /// Whether an open guard names the handle.

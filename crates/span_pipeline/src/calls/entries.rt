@@ -5,7 +5,7 @@ ghost use Rattle.span_pipeline.specs.declared.request.Call.{Call};
 
 use crate::pipeline::{MOST, Pipeline};
 use crate::reply::{Refusal, Reply, What};
-use crate::slots::{Guard, keep, lane_of, slot_at, take};
+use crate::slots::{Guard, is_borrowed, is_shared, keep, slot_at, take};
 use otel_base::record::Moment;
 use otel_base::recorder::Recorder;
 use otel_layer::layer::OpenTelemetryLayer;
@@ -16,15 +16,22 @@ use span_registry::registry::Registry;
 
 impl Pipeline {
     ghost use Rattle.span_pipeline.specs.Tables.{Tables};
-    ghost use Rattle.span_pipeline.specs.Effects.{effect_of_call};
+    ghost use Rattle.span_pipeline.specs.Effects.{effect_of_call, opens};
     ghost use Rattle.span_pipeline.specs.Fits.{StandsFor, Served, IsRefusal};
 
-    pub(crate) fn enter(&mut self, at: Moment, lane: u64, handle: u64) -> Result<Reply, Refusal>
+    /// Enters the span of a handle, which the guard owns or not.
+    pub(crate) fn enter(
+        &mut self,
+        at: Moment,
+        lane: u64,
+        handle: u64,
+        owns: bool,
+    ) -> Result<Reply, Refusal>
         requires { lane < length self.old.lanes }
         ensures ok { (t : Tables) → StandsFor self.old t
-            → IfOk result (Served (effect_of_call self.old.setup t at lane (Call.Enter handle)) t self.old self.new) }
+            → IfOk result (Served (opens self.old.setup t at lane handle owns) t self.old self.new) }
         ensures refused { (t : Tables) → StandsFor self.old t
-            → IfErr result (IsRefusal (effect_of_call self.old.setup t at lane (Call.Enter handle))) }
+            → IfErr result (IsRefusal (opens self.old.setup t at lane handle owns)) }
         ensures err { OnErr result (self.new ≡ self.old) }
     {
         calls::<Layered<OpenTelemetryLayer<Recorder>, Registry>>();
@@ -48,12 +55,34 @@ impl Pipeline {
             Guard {
                 handle,
                 lane,
-                owns: false,
+                owns,
                 entry,
             },
         );
         self.moment = at;
         Ok(Reply::Guard { guard })
+    }
+
+    pub(crate) fn entered(
+        &mut self,
+        at: Moment,
+        lane: u64,
+        handle: u64,
+    ) -> Result<Reply, Refusal>
+        requires { lane < length self.old.lanes }
+        ensures ok { (t : Tables) → StandsFor self.old t
+            → IfOk result (Served (effect_of_call self.old.setup t at lane (Call.Entered handle)) t self.old self.new) }
+        ensures refused { (t : Tables) → StandsFor self.old t
+            → IfErr result (IsRefusal (effect_of_call self.old.setup t at lane (Call.Entered handle))) }
+        ensures err { OnErr result (self.new ≡ self.old) }
+    {
+        let Some(_named) = slot_at(&self.handles, handle) else {
+            return Err(Refusal::UnknownName { what: What::Handle });
+        };
+        if is_borrowed(&self.guards, handle) {
+            return Err(Refusal::InUse);
+        }
+        self.enter(at, lane, handle, true)
     }
 
     pub(crate) fn exit(&mut self, at: Moment, lane: u64, guard: u64) -> Result<Reply, Refusal>
@@ -67,11 +96,14 @@ impl Pipeline {
     {
         calls::<Layered<OpenTelemetryLayer<Recorder>, Registry>>();
         recording::calls();
-        let Some(own) = lane_of(&self.guards, guard) else {
+        let Some(named) = slot_at(&self.guards, guard) else {
             return Err(Refusal::UnknownName { what: What::Guard });
         };
-        if own != lane {
-            return Err(Refusal::WrongLane { lane: own });
+        if is_shared(&self.guards, named) {
+            return Err(Refusal::InUse);
+        }
+        if named.lane != lane {
+            return Err(Refusal::WrongLane { lane: named.lane });
         }
         let Some(open) = take(&mut self.guards, guard) else {
             unreachable!()

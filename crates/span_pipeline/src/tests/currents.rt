@@ -1,4 +1,4 @@
-//! Handles of current spans.
+//! Handles of current spans, and guards that own their handles.
 use super::{answers, made, refuses, settings};
 use crate::pipeline::Pipeline;
 use crate::reply::{Refusal, Reply, What};
@@ -39,8 +39,23 @@ fn exchanges(pipeline: &mut Pipeline) -> [bool; 7] {
     ]
 }
 
+// A guard that owns its handle is made where no other guard is open, and is spent last.
+fn owns(pipeline: &mut Pipeline) -> [bool; 6] {
+    let used = Refusal::InUse;
+    let (own, other) = (Reply::Guard { guard: 1 }, Reply::Guard { guard: 2 });
+    let entered = Call::Entered { handle: 1 };
+    [
+        answers(pipeline, 12, 1, entered, own),
+        refuses(pipeline, 13, 0, entered, used),
+        answers(pipeline, 14, 0, Call::Enter { handle: 1 }, other),
+        refuses(pipeline, 15, 0, Call::Exit { guard: 1 }, used),
+        answers(pipeline, 16, 0, Call::Exit { guard: 2 }, Reply::Done),
+        answers(pipeline, 17, 1, Call::Exit { guard: 1 }, Reply::Done),
+    ]
+}
+
 #[test]
-fn takes_current_spans(rt: HostRuntime) -> Result<(), Fail> {
+fn takes_current_spans_and_owns_handles(rt: HostRuntime) -> Result<(), Fail> {
     let filter = Text::from(format!(in rt.alloc(); "info")?);
     let Ok(settings) = settings(rt.alloc(), filter) else {
         return Err(Fail::from("no memory"));
@@ -50,8 +65,10 @@ fn takes_current_spans(rt: HostRuntime) -> Result<(), Fail> {
     };
     let first = takes_current(&mut pipeline);
     let last = exchanges(&mut pipeline);
+    let owned = owns(&mut pipeline);
     pipeline.discard();
     assert_eq!(rt; first, [true; 5]);
     assert_eq!(rt; last, [true; 7]);
+    assert_eq!(rt; owned, [true; 6]);
     Ok(())
 }

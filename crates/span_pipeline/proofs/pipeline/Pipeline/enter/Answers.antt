@@ -1,13 +1,11 @@
 -- The entry.
 use Rattle.std.proofs.Common.{rules, ◌∙◌, refl, sym, ap, Err}
 use Rattle.std.proofs.lemmas.Bool.{true≢false}
-use Rattle.span_pipeline.specs.declared.request.Call.TheVariants as call
 use Rattle.span_pipeline.proofs.Requiring.{needs_known, needs_whole, needs_few}
 use Rattle.span_pipeline.proofs.Keeping.{refused_kept, refused_state, within_view}
 use Rattle.span_pipeline.proofs.Refusing.{refuses_unknown}
-use Rattle.span_pipeline.proofs.Serving.{by_view, by_view_refused}
 use Rattle.span_pipeline.proofs.Crowded.{layer_activates, meets_not, refuses_entry}
-use Rattle.span_pipeline.proofs.Entering.{serves_entered, keeps_entered}
+use Rattle.span_pipeline.proofs.Entering.{by_view_opens, by_view_opens_refused, serves_entered, keeps_entered}
 use Rattle.span_pipeline.proofs.pipeline.Pipeline.enter.Goals as goal
 
 pub returns-in_default-clause-refused : goal.returns-in_default-clause-refused
@@ -27,7 +25,7 @@ invariant_of-self-in-Err c = refused_kept _ _ _ _ _ _ c.same.ensures c.same-2.en
     c.args.lane c.index_mut.result.now c.open_entry.new.lane (within_view _ _ c.self.inside.lanes.items c.args.lane c.self.view_is refl c.requires) c.index_mut.ensures.value c.in-Err.ensures.lane_leaves (search rules)
 
 pub returns-in-Err-clause-refused : goal.returns-in-Err-clause-refused
-returns-in-Err-clause-refused c = λ t stands no. by_view_refused c.args.at c.args.lane (call.Enter c.args.handle) _ _ _ c.self.view_is (λ t stands. refuses_entry _ _ _ _ _ (λ s id known. layer_activates s.layer.core.settings.activation id s.layer.core.spans known) c.self.inside.world c.self.inside.dispatch c.self.inside.level c.self.inside.lanes.items c.self.inside.handles.items c.self.inside.guards.items c.self.inside.moment c.args.at c.args.lane c.index_mut.result.now (within_view _ _ c.self.inside.lanes.items c.args.lane c.self.view_is refl c.requires) c.index_mut.ensures.value c.args.handle c.in-Some.span.now (search rules) c.self.invariant c.in-Err.error c.of_entry.result c.of_entry.ensures (λ e. c.in-Err.ensures.full (ap (λ x. Err x) e)) no t stands) t stands
+returns-in-Err-clause-refused c = λ t stands no. by_view_opens_refused c.args.at c.args.lane c.args.handle c.args.owns _ _ _ c.self.view_is (λ t stands. refuses_entry _ _ _ _ _ (λ s id known. layer_activates s.layer.core.settings.activation id s.layer.core.spans known) c.self.inside.world c.self.inside.dispatch c.self.inside.level c.self.inside.lanes.items c.self.inside.handles.items c.self.inside.guards.items c.self.inside.moment c.args.at c.args.lane c.index_mut.result.now (within_view _ _ c.self.inside.lanes.items c.args.lane c.self.view_is refl c.requires) c.index_mut.ensures.value c.args.handle c.in-Some.span.now (search rules) c.self.invariant c.args.owns c.in-Err.error c.of_entry.result c.of_entry.ensures (λ e. c.in-Err.ensures.full (ap (λ x. Err x) e)) no t stands) t stands
 
 pub returns-in-Err-clause-err : goal.returns-in-Err-clause-err
 returns-in-Err-clause-err c = refused_state _ _ _ _ _ _ c.same.ensures c.same-2.ensures c.self.inside.world c.open_entry.new.world c.self.inside.dispatch c.self.inside.level c.self.inside.lanes.items c.self.inside.handles.items c.self.inside.guards.items c.reserve.new.self.items c.self.inside.moment c.self.invariant c.args.handle c.in-Some.span.now (search rules) c.in-Err.ensures.leaves
@@ -35,8 +33,8 @@ returns-in-Err-clause-err c = refused_state _ _ _ _ _ _ c.same.ensures c.same-2.
 
 pub invariant_of-self-2 : goal.invariant_of-self-2
 invariant_of-self-2 c = keeps_entered _ _ _ _ _ _ c.open_entry.new.world _ c.calls.ensures c.calls-2.ensures c.self.inside.dispatch c.self.inside.level c.self.inside.lanes.items c.self.inside.handles.items c.self.inside.guards.items c.self.inside.moment c.args.at c.args.lane c.index_mut.result.now c.open_entry.new.lane (within_view _ _ c.self.inside.lanes.items c.args.lane c.self.view_is refl c.requires) c.index_mut.ensures.value
-    c.args.handle c.len-guard.result c.in-Some.span.now c.in-Ok.entry c.keep.new.slots.items (search rules) c.in-Ok.ensures.value (search rules) (search rules) c.in-Ok.ensures.did c.in-Ok.ensures.none c.self.invariant (λ t stands line there is. meets_not _ _ _ _ _ (λ s id known. layer_activates s.layer.core.settings.activation id s.layer.core.spans known) c.self.inside.world c.self.inside.dispatch c.self.inside.level c.self.inside.lanes.items c.self.inside.handles.items c.self.inside.guards.items c.self.inside.moment c.args.at c.args.lane c.index_mut.result.now (within_view _ _ c.self.inside.lanes.items c.args.lane c.self.view_is refl c.requires) c.index_mut.ensures.value c.args.handle c.in-Some.span.now (search rules) c.self.invariant t stands line there is (λ meets. true≢false (sym (c.in-Ok.ensures.full_refused meets))))
+    c.args.handle c.len-guard.result c.args.owns c.in-Some.span.now c.in-Ok.entry c.keep.new.slots.items (search rules) c.in-Ok.ensures.value (search rules) (search rules) c.in-Ok.ensures.did c.in-Ok.ensures.none c.self.invariant (λ t stands line there is. meets_not _ _ _ _ _ (λ s id known. layer_activates s.layer.core.settings.activation id s.layer.core.spans known) c.self.inside.world c.self.inside.dispatch c.self.inside.level c.self.inside.lanes.items c.self.inside.handles.items c.self.inside.guards.items c.self.inside.moment c.args.at c.args.lane c.index_mut.result.now (within_view _ _ c.self.inside.lanes.items c.args.lane c.self.view_is refl c.requires) c.index_mut.ensures.value c.args.handle c.in-Some.span.now (search rules) c.self.invariant t stands line there is (λ meets. true≢false (sym (c.in-Ok.ensures.full_refused meets))))
 
 pub returns-clause-ok : goal.returns-clause-ok
-returns-clause-ok c = by_view c.args.at c.args.lane (call.Enter c.args.handle) _ _ _ _ c.self.view_is (λ t stands. serves_entered _ _ _ _ _ _ c.open_entry.new.world _ c.calls.ensures c.calls-2.ensures c.self.inside.dispatch c.self.inside.level c.self.inside.lanes.items c.self.inside.handles.items c.self.inside.guards.items c.self.inside.moment c.args.at c.args.lane c.index_mut.result.now c.open_entry.new.lane (within_view _ _ c.self.inside.lanes.items c.args.lane c.self.view_is refl c.requires) c.index_mut.ensures.value
-    c.args.handle c.len-guard.result c.in-Some.span.now c.in-Ok.entry c.keep.new.slots.items (search rules) c.in-Ok.ensures.value (search rules) (search rules) c.in-Ok.ensures.did c.in-Ok.ensures.none c.self.invariant (λ t stands line there is. meets_not _ _ _ _ _ (λ s id known. layer_activates s.layer.core.settings.activation id s.layer.core.spans known) c.self.inside.world c.self.inside.dispatch c.self.inside.level c.self.inside.lanes.items c.self.inside.handles.items c.self.inside.guards.items c.self.inside.moment c.args.at c.args.lane c.index_mut.result.now (within_view _ _ c.self.inside.lanes.items c.args.lane c.self.view_is refl c.requires) c.index_mut.ensures.value c.args.handle c.in-Some.span.now (search rules) c.self.invariant t stands line there is (λ meets. true≢false (sym (c.in-Ok.ensures.full_refused meets)))) t stands)
+returns-clause-ok c = by_view_opens c.args.at c.args.lane c.args.handle c.args.owns _ _ _ _ c.self.view_is (λ t stands. serves_entered _ _ _ _ _ _ c.open_entry.new.world _ c.calls.ensures c.calls-2.ensures c.self.inside.dispatch c.self.inside.level c.self.inside.lanes.items c.self.inside.handles.items c.self.inside.guards.items c.self.inside.moment c.args.at c.args.lane c.index_mut.result.now c.open_entry.new.lane (within_view _ _ c.self.inside.lanes.items c.args.lane c.self.view_is refl c.requires) c.index_mut.ensures.value
+    c.args.handle c.len-guard.result c.args.owns c.in-Some.span.now c.in-Ok.entry c.keep.new.slots.items (search rules) c.in-Ok.ensures.value (search rules) (search rules) c.in-Ok.ensures.did c.in-Ok.ensures.none c.self.invariant (λ t stands line there is. meets_not _ _ _ _ _ (λ s id known. layer_activates s.layer.core.settings.activation id s.layer.core.spans known) c.self.inside.world c.self.inside.dispatch c.self.inside.level c.self.inside.lanes.items c.self.inside.handles.items c.self.inside.guards.items c.self.inside.moment c.args.at c.args.lane c.index_mut.result.now (within_view _ _ c.self.inside.lanes.items c.args.lane c.self.view_is refl c.requires) c.index_mut.ensures.value c.args.handle c.in-Some.span.now (search rules) c.self.invariant t stands line there is (λ meets. true≢false (sym (c.in-Ok.ensures.full_refused meets)))) t stands)
