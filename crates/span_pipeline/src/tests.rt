@@ -3,6 +3,7 @@ ghost use Rattle.std.specs.Prelude.{map, IfOk};
 ghost use Rattle.span_pipeline.specs.Setups.{HasOwnIds};
 
 mod currents;
+mod exported;
 
 use crate::pipeline::Pipeline;
 use crate::reply::{Refusal, Reply, What};
