@@ -1,5 +1,5 @@
 //! Answering lines one after another, whichever lines follow them.
-ghost use Rattle.std.specs.Prelude.{◌≡◌, ◌≢◌, ℕ, List, [], ◌∷◌, ◌++◌, ◌+◌, length, not, false, Ok, Err, IfOk, IfErr, OnOk};
+ghost use Rattle.std.specs.Prelude.{◌≡◌, ◌≢◌, ℕ, List, [], ◌∷◌, ◌++◌, ◌+◌, length, not, false, true, Ok, Err, IfOk, IfErr, OnOk, OnErr};
 ghost use Rattle.trace_pipeline.specs.Lines.{lines_of, is_blank};
 ghost use Rattle.trace_pipeline.specs.Report.{record_lines, report_from};
 ghost use Rattle.trace_pipeline.specs.Texts.{reply_text, refusal_text};
@@ -260,14 +260,16 @@ fn answer(
 fn told_of(refusal: Refusal) -> Result<Told, Memory>
     ensures same { IfOk result (λ told. told ≡ Told.Step refusal) }
     ensures other { OnOk result (is_room refusal ≡ false) }
+    ensures memory { OnErr result (is_room refusal ≡ true) }
 {
     match refusal {
-        Refusal::Memory | Refusal::Full { .. } => Err(Memory),
+        Refusal::Memory => Err(Memory),
         Refusal::Later
         | Refusal::BadMoment { .. }
         | Refusal::UnknownName { .. }
         | Refusal::InUse
-        | Refusal::WrongLane { .. } => Ok(Told::Step { refusal }),
+        | Refusal::WrongLane { .. }
+        | Refusal::Full { .. } => Ok(Told::Step { refusal }),
     }
 }
 
