@@ -129,6 +129,5 @@ oldest_is o (x ∷ xs) ys is rest = subst (λ (y : Option Record). MatchOption y
 pub seen_there : {S A : Type 0} (read : S → A) (none : A) (world : Worlds S) (dispatch : ℕ) (s : S) → slice_get world.subscribers dispatch ≡ Some s → seen read none world dispatch ≡ read s
 seen_there read none world dispatch s there = ap (λ (o : Option _). option_map_or read o none) there
 
-
 pub finished_is : (s : Layered (Roomed Recorded) Registered) (l : Roomed Recorded) (tracer : Recorded) → l ≡ s.layer → tracer ≡ l.core.tracer → slice_get tracer.finished 0 ≡ slice_get (recorded s).finished 0
 finished_is s l tracer same is = ap (λ (x : Recorded). slice_get x.finished 0) is ∙ ap (λ (x : Roomed Recorded). slice_get x.core.tracer.finished 0) same

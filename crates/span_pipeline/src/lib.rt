@@ -10,11 +10,11 @@ pub mod laws;
 mod level_words;
 mod opening;
 pub mod pipeline;
+mod records;
 pub mod reply;
 pub mod request;
 pub mod settings;
 pub mod slots;
-mod records;
 #[cfg(test)]
 mod tests;
 

@@ -97,7 +97,12 @@ pub fn take<T>(slots: &mut Vec<Option<T>>, number: u64) -> Option<T>
 pub fn is_shared(guards: &Vec<Option<Guard>>, guard: &Guard) -> bool
     ensures { result ≡ is_shared_by guards.now.items guard.now }
 {
-    guard.owns && guards.iter().filter(|slot| names(*slot, guard.handle)).count() > 1
+    guard.owns
+        && guards
+            .iter()
+            .filter(|slot| names(*slot, guard.handle))
+            .count()
+            > 1
 }
 
 /// Whether an open guard names the handle.

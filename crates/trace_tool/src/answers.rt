@@ -8,9 +8,9 @@ ghost use Rattle.trace_tool.specs.Answers.{without_records, IsSpelled, Opens, Ru
 
 use crate::lines::{first_line, is_blank};
 use otel_base::memory::Memory;
+use span_pipeline::pipeline::Pipeline;
 use std::alloc::Global;
 use std::mem;
-use span_pipeline::pipeline::Pipeline;
 use trace_base::discard::Discard;
 use trace_pipeline::read::{LineError, read_request, read_settings};
 use trace_pipeline::write::{append_end, append_record, append_refusal, append_reply};

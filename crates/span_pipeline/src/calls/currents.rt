@@ -47,7 +47,12 @@ impl Pipeline {
         })
     }
 
-    pub(crate) fn or_current(&mut self, at: Moment, lane: u64, handle: u64) -> Result<Reply, Refusal>
+    pub(crate) fn or_current(
+        &mut self,
+        at: Moment,
+        lane: u64,
+        handle: u64,
+    ) -> Result<Reply, Refusal>
         requires { lane < length self.old.lanes }
         ensures ok { (t : Tables) → StandsFor self.old t
             → IfOk result (Served (effect_of_call self.old.setup t at lane (request.OrCurrent handle)) t self.old self.new) }

@@ -63,12 +63,7 @@ impl Pipeline {
         Ok(Reply::Guard { guard })
     }
 
-    pub(crate) fn entered(
-        &mut self,
-        at: Moment,
-        lane: u64,
-        handle: u64,
-    ) -> Result<Reply, Refusal>
+    pub(crate) fn entered(&mut self, at: Moment, lane: u64, handle: u64) -> Result<Reply, Refusal>
         requires { lane < length self.old.lanes }
         ensures ok { (t : Tables) → StandsFor self.old t
             → IfOk result (Served (effect_of_call self.old.setup t at lane (Call.Entered handle)) t self.old self.new) }

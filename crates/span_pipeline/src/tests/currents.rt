@@ -35,7 +35,13 @@ fn exchanges(pipeline: &mut Pipeline) -> [bool; 7] {
         answers(pipeline, 8, 1, second, made(false, 6)),
         refuses(pipeline, 9, 0, first, gone),
         answers(pipeline, 10, 0, Call::Exit { guard: 0 }, Reply::Done),
-        answers(pipeline, 11, 0, Call::OrCurrent { handle: 6 }, made(false, 7)),
+        answers(
+            pipeline,
+            11,
+            0,
+            Call::OrCurrent { handle: 6 },
+            made(false, 7),
+        ),
     ]
 }
 

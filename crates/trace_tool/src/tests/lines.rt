@@ -12,7 +12,8 @@ use std::sync::Wait;
 use std::test::Fail;
 use std::thread::Threads;
 use trace_pipeline::{
-    Call, Place, Refusal, Reply, Told, What, end_line, read_request, read_settings, record_line, refusal_line, reply_line,
+    Call, Place, Refusal, Reply, Told, What, end_line, read_request, read_settings, record_line,
+    refusal_line, reply_line,
 };
 
 // Request lines, each with its moment, its lane and its call behind it.
