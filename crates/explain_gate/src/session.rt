@@ -1,0 +1,230 @@
+//! A filter, and the calls that are made of it.
+use crate::{answers, exchanging, variables, words};
+use env_directives::Directive;
+use env_filter::{Builder, EnvFilter};
+use otel_base::memory::Memory;
+use std::alloc::Global;
+use std::mem;
+use trace_base::callsite::{Callsite, Kind};
+use trace_base::layer::Layer;
+use trace_base::level::LevelFilter;
+use trace_base::span::{Id, Parent};
+
+/// A filter, and the callsites that were named so far. Spans and lanes are numbers.
+#[derive(Drop)]
+pub struct Session {
+    alloc: Global,
+    filter: EnvFilter,
+    callsites: Vec<Callsite>,
+}
+
+impl Session {
+    /// A filter without directives, and no callsite.
+    pub fn new(alloc: Global) -> Session {
+        Session {
+            alloc,
+            filter: EnvFilter::default(alloc),
+            callsites: Vec::new(alloc),
+        }
+    }
+
+    /// Makes the call of a line, and tells what the filter answers to it.
+    pub fn answer(&mut self, line: &str) -> Result<String, Memory> {
+        let (call, words) = line.split_once(' ').unwrap_or((line, ""));
+        match call {
+            "new" => self.put(EnvFilter::new(self.alloc, words)?),
+            "lossy" => self.lossy(words),
+            "strict" => self.strict(words, true),
+            "fixed" => self.strict(words, false),
+            "add" => self.add(words),
+            "span" => self.declare(Kind::Span, words),
+            "event" => self.declare(Kind::Event, words),
+            _ => self.answer_around(call, words),
+        }
+    }
+
+    // The calls that make a filter of the one in place, or of variables.
+    fn answer_around(&mut self, call: &str, words: &str) -> Result<String, Memory> {
+        match call {
+            "clone" => self.copy(),
+            "reload" => self.exchange(words),
+            "vars" => variables::in_memory(self.alloc, words),
+            "var" => variables::given(self.alloc, words),
+            _ => self.answer_on(call, words),
+        }
+    }
+
+    // The calls on a span, or on a callsite, of which the first word is the number.
+    fn answer_on(&mut self, call: &str, words: &str) -> Result<String, Memory> {
+        let (first, more) = words.split_once(' ').unwrap_or((words, ""));
+        let Some(number) = words::number(first) else {
+            return answers::unknown(self.alloc);
+        };
+        match call {
+            "make" => self.make(Id::at(number), more),
+            "record" => self.record(Id::at(number), more),
+            "enter" => self.enter(Id::at(number), more),
+            "exit" => self.exit(Id::at(number), more),
+            "close" => self.close(Id::at(number)),
+            "ask" => self.ask(number, more),
+            "retired" => self.retired(number, more),
+            _ => answers::unknown(self.alloc),
+        }
+    }
+
+    // Puts a filter in place.
+    fn put(&mut self, filter: EnvFilter) -> Result<String, Memory> {
+        self.filter = filter;
+        answers::filter(self.alloc, &self.filter)
+    }
+
+    // The filter of the pieces that are directives, and errors where there is none; the others are told.
+    fn lossy(&mut self, text: &str) -> Result<String, Memory> {
+        let errors = Directive::from_filter(self.alloc, LevelFilter::ERROR);
+        let builder = Builder::default(self.alloc).with_default_directive(errors);
+        let (filter, ignored) = builder.parse_lossy(text)?;
+        let mut told = String::new(self.alloc);
+        for piece in ignored.as_slice() {
+            told.push_str(answers::ignored(self.alloc, piece)?.as_str())?;
+        }
+        told.push_str(self.put(filter)?.as_str())?;
+        Ok(told)
+    }
+
+    // The filter of a text, or the first piece that is no directive.
+    fn strict(&mut self, text: &str, patterns: bool) -> Result<String, Memory> {
+        let builder = Builder::default(self.alloc).with_regex(patterns);
+        match builder.parse_pieces(text) {
+            Ok(filter) => self.put(filter),
+            Err((piece, fault)) => answers::refused(self.alloc, piece, fault),
+        }
+    }
+
+    // A directive more.
+    fn add(&mut self, text: &str) -> Result<String, Memory> {
+        let Ok(directive) = Directive::parse(self.alloc, text, true) else {
+            return answers::unknown(self.alloc);
+        };
+        let filter = mem::replace(&mut self.filter, EnvFilter::default(self.alloc));
+        match filter.add_directive(directive) {
+            Ok(filter) => self.put(filter),
+            Err((filter, memory)) => {
+                self.filter = filter;
+                Err(memory)
+            }
+        }
+    }
+
+    // Puts a clone of the filter in its place.
+    fn copy(&mut self) -> Result<String, Memory> {
+        let copy = self.filter.clone_filter()?;
+        self.put(copy)
+    }
+
+    // Exchanges the filter for that of a text.
+    fn exchange(&mut self, text: &str) -> Result<String, Memory> {
+        let next = EnvFilter::new(self.alloc, text)?;
+        let filter = mem::replace(&mut self.filter, EnvFilter::default(self.alloc));
+        match exchanging::exchanged(filter, next) {
+            Some(filter) => self.put(filter),
+            None => answers::unknown(self.alloc),
+        }
+    }
+
+    // Names a callsite, and asks the filter for its interest.
+    fn declare(&mut self, kind: Kind, words: &str) -> Result<String, Memory> {
+        let Some(callsite) = words::callsite(self.alloc, kind, words)? else {
+            return answers::unknown(self.alloc);
+        };
+        let interest = self.filter.register_callsite(&callsite);
+        let number = self.callsites.len();
+        self.callsites.push(callsite)?;
+        Ok(format!(in self.alloc; "  callsite {number}: {interest:?}\n")?)
+    }
+
+    // A span is made at a callsite, with values.
+    fn make(&mut self, span: Id, words: &str) -> Result<String, Memory> {
+        let (first, more) = words.split_once(' ').unwrap_or((words, ""));
+        let Some(callsite) = named(self.callsites.as_slice(), first) else {
+            return answers::unknown(self.alloc);
+        };
+        let values = words::values(self.alloc, callsite, more)?;
+        let lane = words::lane(self.alloc, 0);
+        let prepared = self.filter.prepare_new_span(&lane, callsite, &values)?;
+        let parent = Parent::Current;
+        self.filter
+            .on_new_span(prepared, span, &lane, 0, parent, None, callsite, &values);
+        answers::level(self.alloc, self.filter.level(span))
+    }
+
+    // Values are recorded on a span of a callsite.
+    fn record(&mut self, span: Id, words: &str) -> Result<String, Memory> {
+        let (first, more) = words.split_once(' ').unwrap_or((words, ""));
+        let Some(callsite) = named(self.callsites.as_slice(), first) else {
+            return answers::unknown(self.alloc);
+        };
+        let values = words::values(self.alloc, callsite, more)?;
+        let prepared = self.filter.prepare_record(span, callsite, &values)?;
+        self.filter.on_record(prepared, span, 0, callsite, &values);
+        answers::level(self.alloc, self.filter.level(span))
+    }
+
+    // A span is entered on a lane.
+    fn enter(&mut self, span: Id, lane: &str) -> Result<String, Memory> {
+        let Some(lane) = words::number(lane) else {
+            return answers::unknown(self.alloc);
+        };
+        let mut at = words::lane(self.alloc, lane);
+        // A filter attaches nothing to lanes, so an entry is refused for want of memory alone.
+        let Ok(prepared) = self.filter.prepare_enter(span, &mut at) else {
+            return Err(Memory);
+        };
+        self.filter
+            .on_enter(prepared, span, &mut words::lane(self.alloc, lane), 0);
+        answers::levels(self.alloc, self.filter.levels(lane))
+    }
+
+    // A span is exited on a lane.
+    fn exit(&mut self, span: Id, lane: &str) -> Result<String, Memory> {
+        let Some(lane) = words::number(lane) else {
+            return answers::unknown(self.alloc);
+        };
+        self.filter
+            .on_exit(span, &mut words::lane(self.alloc, lane), 0);
+        answers::levels(self.alloc, self.filter.levels(lane))
+    }
+
+    // A span closes.
+    fn close(&mut self, span: Id) -> Result<String, Memory> {
+        self.filter.on_close(span, 0);
+        answers::level(self.alloc, self.filter.level(span))
+    }
+
+    // Whether the filter lets a callsite through on a lane.
+    fn ask(&self, callsite: u64, lane: &str) -> Result<String, Memory> {
+        let Some(lane) = words::number(lane) else {
+            return answers::unknown(self.alloc);
+        };
+        match self.callsites.get(callsite as usize) {
+            Some(callsite) => answers::gate(self.alloc, &self.filter, lane, callsite),
+            None => answers::unknown(self.alloc),
+        }
+    }
+
+    // What a layer answers of a callsite on a lane once its filter was taken out.
+    fn retired(&self, callsite: u64, lane: &str) -> Result<String, Memory> {
+        let Some(lane) = words::number(lane) else {
+            return answers::unknown(self.alloc);
+        };
+        match self.callsites.get(callsite as usize) {
+            Some(callsite) => exchanging::retired(self.alloc, lane, callsite),
+            None => answers::unknown(self.alloc),
+        }
+    }
+}
+
+// The callsite that a word is the number of.
+fn named<'c>(callsites: &'c [Callsite], word: &str) -> Option<&'c Callsite> {
+    let number = words::number(word)?;
+    callsites.get(number as usize)
+}
