@@ -1,0 +1,5 @@
+mod Balance
+mod Closing
+mod Guarding
+mod Occurrences
+mod Steps
