@@ -5,6 +5,7 @@
 mod calls;
 pub mod counting;
 mod counting_hooks;
+mod filters;
 mod hooks;
 pub mod laws;
 pub mod layer;
