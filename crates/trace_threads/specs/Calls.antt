@@ -64,6 +64,7 @@ pub record LeftAsIs (v w : View) (k : ℕ) : Type 0 where
   pub begins : IsPrefix v.seen w.seen
   pub mine : w.mine ≡ v.mine
   pub own : entries_by k (entries w.seen) ≡ w.mine
+  pub legal : IsLegal v.origin.made (entries w.seen)
   pub same : w.origin ≡ v.origin
 
 -- what `finish` asks: the state with what this turn added, and some handle held
