@@ -337,16 +337,17 @@ module _ (m o m' w : Mine) (t : ℕ) (state : Shared) (k j : ℕ) (r : IsAtRest 
         own_after m' w t state k num_met b at (Join j) s is u turn back after,
       )
 
-      both_begin : AllBegin (m.0.seen ∷ o.0.seen ∷ (m.0.earlier ++ o.0.earlier)) w.0.seen
-      both_begin = subst (λ (x : Mine). AllBegin x.0.earlier w.0.seen) met b.before
+      both_begin : AllBegin m.0.origin ((m.0.origin, m.0.seen) ∷ (o.0.origin, o.0.seen) ∷ (m.0.earlier ++ o.0.earlier)) w.0.seen
+      both_begin = subst (λ (x : Mine). AllBegin x.0.origin x.0.earlier w.0.seen) met b.before
 
       pub join_made : Made m.0 u.0 k at (Join j)
-      join_made = made m' w t state k num_met b at (Join j) s is u turn back after m.0 both_begin.0 (ap (λ (x : Mine). x.0.mine) met) (ap (λ (x : Mine). x.0.origin) met) can_join
+      join_made = made m' w t state k num_met b at (Join j) s is u turn back after m.0 both_begin.1 (ap (λ (x : Mine). x.0.mine) met) (ap (λ (x : Mine). x.0.origin) met) can_join
 
-      pub join_theirs : IsPrefix o.0.seen u.0.seen × (entries_by j (entries u.0.seen) ≡ o.0.mine)
+      pub join_theirs : IsPrefix o.0.seen u.0.seen × (entries_by j (entries u.0.seen) ≡ o.0.mine) × (o.0.origin ≡ m.0.origin)
       join_theirs = (
-        prefix_after m' w t state k num_met b at (Join j) s is u turn back after o.0.seen both_begin.1.0,
+        prefix_after m' w t state k num_met b at (Join j) s is u turn back after o.0.seen both_begin.2.1,
         ap (entries_by j) (log_after m' w t state k num_met b at (Join j) s is u turn back after) ∙ by_other j (entries w.0.seen) (written m'.0.origin.made (entries w.0.seen) k at (Join j)) (λ e. differ (sym e)) ∙ theirs_are,
+        both_begin.2.0,
       )
 
 -- ---- a release

@@ -36,7 +36,7 @@ pub record Begun (m w : Mine) (ticket : ℕ) (had : Shared) : Type 0 where
   pub slot : w.1 ≡ (0, None) ∷ []
   pub state : had ≡ shared m.0.origin (entries w.0.seen)
   pub begins : IsPrefix m.0.seen w.0.seen
-  pub before : AllBegin m.0.earlier w.0.seen
+  pub before : AllBegin m.0.origin m.0.earlier w.0.seen
   pub legal : IsLegal m.0.origin.made (entries w.0.seen)
   pub own : Known m.0.origin (entries w.0.seen) m.0.mine m.0.number
   pub other : Known m.0.origin (entries w.0.seen) m.0.theirs m.0.other
