@@ -214,7 +214,7 @@ module _ {S : Type 0} (spans : S → Spans) (recorded : S → Recording) (attach
         id_is : did.id ≡ length (spans_in spans old dispatch).made
         id_is = did.made.did.0 ∙ ap (λ (x : Spans). length x.made) (sym (seen_before (λ s t. does s (NewSpan before at p site did.callsite values) t) old new dispatch made_call spans no_spans))
 
-        pub serves_made : (t : Tables) → StandsFor now t → values ≡ no_values → Served (effect_of_call now.setup t at lane (call.New site under)) t now then (reply.Made true number)
+        pub serves_made : (t : Tables) → StandsFor now t → values ≡ no_values → Served (effect_of_call now.setup t at lane (call.New site under [])) t now then (reply.Made true number)
         serves_made t stands plain =
             let fits = stands.fits in
             let up = find_up now t fits place_id under p found in
@@ -282,7 +282,7 @@ module _ {S : Type 0} (spans : S → Spans) (recorded : S → Recording) (attach
 
       -- one that isn't
       module _ (through : is_within callsite.level level ≡ false) (one : hs' ≡ hs ++ Some no_handle ∷ []) (same : new ≡ old) where
-        pub serves_declined : (t : Tables) → StandsFor now t → Served (effect_of_call now.setup t at lane (call.New site under)) t now then (reply.Made false number)
+        pub serves_declined : (t : Tables) → StandsFor now t → Served (effect_of_call now.setup t at lane (call.New site under [])) t now then (reply.Made false number)
         serves_declined t stands =
             let fits = stands.fits in
             let up = find_up now t fits place_id under p found in
@@ -327,7 +327,7 @@ module _ {S : Type 0} (spans : S → Spans) (recorded : S → Recording) (attach
       its_site = leveled_site (span_site old.sites site) lvl leveled
 
       pub serves_new : (enabled : Bool) → enabled ≡ is_within lvl level → MakesOnly spans does enabled old new before at p found_site values dispatch made
-          → values ≡ no_values → (t : Tables) → StandsFor now t → Served (effect_of_call now.setup t at lane (call.New site under)) t now then (reply.Made enabled number)
+          → values ≡ no_values → (t : Tables) → StandsFor now t → Served (effect_of_call now.setup t at lane (call.New site under [])) t now then (reply.Made enabled number)
       serves_new true is did plain t stands = serves_made under p site its_site.0 its_site.1 found values made before within seen_is (ap (λ (l : Level). is_within l level) its_site.2 ∙ sym is) one (subst (λ (k : ℕ). Makes spans does old new before at p k values dispatch made) sited_is did) t stands plain
       serves_new false is did plain t stands = serves_declined under p site its_site.0 its_site.1 found (ap (λ (l : Level). is_within l level) its_site.2 ∙ sym is) (one ∙ ap (λ (h : Handle). hs ++ Some h ∷ []) did.0) did.1 t stands
 

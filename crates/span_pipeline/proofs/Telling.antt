@@ -21,6 +21,7 @@ use Rattle.span_handles.specs.Handles.{Handle}
 use Rattle.span_pipeline.specs.declared.slots.Guard.{Guard}
 use Rattle.span_pipeline.specs.declared.reply.Reply.TheVariants as reply
 use Rattle.span_pipeline.specs.declared.request.Call.TheVariants as call
+use Rattle.span_pipeline.specs.declared.request.Place.TheVariants as place
 use Rattle.span_pipeline.specs.declared.reply.What.TheVariants as what
 use Rattle.span_pipeline.specs.Setups.{id_at, if_event, event_site}
 use Rattle.span_pipeline.specs.Tables.{Done, Effect, Tables, recorded_by}
@@ -109,7 +110,7 @@ module _ {S : Type 0} (spans : S → Spans) (recorded : S → Recording) (attach
       its_site = leveled_site (event_site old.sites site) lvl leveled
 
       pub serves_told : (enabled : Bool) → enabled ≡ is_within lvl level → TellsOnly does enabled old new before at found_site values dispatch
-          → (t : Tables) → StandsFor now t → Served (effect_of_call now.setup t at lane (call.Event site)) t now then (reply.Enabled enabled)
+          → (t : Tables) → StandsFor now t → Served (effect_of_call now.setup t at lane (call.Event site place.Contextual [])) t now then (reply.Enabled enabled)
       serves_told true is did t stands =
           let callsite = its_site.0 in
           let through : is_within callsite.level level ≡ true = ap (λ (l : Level). is_within l level) its_site.2 ∙ sym is in

@@ -13,6 +13,7 @@ use Rattle.otel_state.specs.States.{Told}
 use Rattle.otel_layer.specs.Steps.{above, context_from, made_told}
 use Rattle.otel_layer.specs.Table.{told_at, own_or}
 use Rattle.otel_layer.specs.Recording.{Recording, with_start, with_starts}
+use Rattle.trace_base.specs.declared.field.Value.{Value}
 use Rattle.trace_base.specs.declared.field.ValueSet.{ValueSet}
 use Rattle.trace_base.specs.declared.lane.Lane.{Lane}
 use Rattle.trace_base.specs.declared.span.Parent.{Parent}
@@ -224,14 +225,27 @@ if_told enabled done = if enabled then done else []
 abbrev pub tells : Tables → ℕ → ℕ → Bool → List Done → Effect
 tells t at lane enabled done = record (quiet at lane (reply.Enabled enabled)) { ops = done }
 
+-- ---- fields
+
+-- no fields are built yet
+abbrev pub unless_fields : List (List ℕ × Value) → Resolved → Resolved
+unless_fields [] resolved = resolved
+unless_fields (field ∷ fields) resolved = Err refusal.Later
+
+-- no other place of an event is built yet
+abbrev pub if_contextual : Place → Resolved → Resolved
+if_contextual place.Contextual resolved = resolved
+if_contextual place.Root resolved = Err refusal.Later
+if_contextual (place.Under handle) resolved = Err refusal.Later
+
 -- ---- all calls
 
 -- what a call on a lane, which is named by its place, at a moment changes; no other kind is built
 abbrev pub effect_of_call : Setup → Tables → ℕ → ℕ → Call → Resolved
-effect_of_call setup t at lane (call.New site under) =
-    named what.Site (span_site setup.sites site)
+effect_of_call setup t at lane (call.New site under fields) =
+    unless_fields fields (named what.Site (span_site setup.sites site)
     (λ callsite. named what.Handle (scope_at t (id_at setup.ids lane) under)
-    (λ up. Ok (makes setup t at lane site callsite under up)))
+    (λ up. Ok (makes setup t at lane site callsite under up))))
 effect_of_call setup t at lane (call.Clone handle) =
     named what.Handle (slot_at t.handles handle) (λ scope. Ok (clones t at (id_at setup.ids lane) scope))
 effect_of_call setup t at lane (call.Drop handle) =
@@ -250,11 +264,13 @@ effect_of_call setup t at lane (call.OrCurrent handle) =
 effect_of_call setup t at lane (call.Entered handle) =
     named what.Handle (slot_at t.handles handle)
     (λ scope. if is_borrowed t.guards handle then Err refusal.InUse else opens setup t at lane handle true)
-effect_of_call setup t at lane (call.Event site) =
-    named what.Site (event_site setup.sites site)
+effect_of_call setup t at lane (call.Record handle fields) = Err refusal.Later
+effect_of_call setup t at lane (call.HasField handle name) = Err refusal.Later
+effect_of_call setup t at lane (call.Event site under fields) =
+    if_contextual under (unless_fields fields (named what.Site (event_site setup.sites site)
     (λ callsite. Ok (tells t at (id_at setup.ids lane) (is_within callsite.level setup.level)
     (if_told (is_within callsite.level setup.level)
-    (told_to (current_of (t.entries (id_at setup.ids lane))) (event_of callsite no_values setup.layer at)))))
+    (told_to (current_of (t.entries (id_at setup.ids lane))) (event_of callsite no_values setup.layer at)))))))
 effect_of_call setup t at lane (call.Remote ids) = Err refusal.Later
 effect_of_call setup t at lane (call.Context handle) = Err refusal.Later
 effect_of_call setup t at lane (call.Attach context) = Err refusal.Later

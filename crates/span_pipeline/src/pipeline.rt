@@ -6,7 +6,7 @@ ghost use Rattle.span_pipeline.specs.Effects.{is_bad_moment};
 use crate::level_words::filter_of;
 use crate::opening::{self, add_sites, stack};
 use crate::reply::{Refusal, Reply, What};
-use crate::request::{Call, LAST_MOMENT, Request};
+use crate::request::{Call, LAST_MOMENT, Place, Request};
 use crate::settings::Settings;
 use crate::slots::Guard;
 use otel_base::record::Moment;
@@ -177,11 +177,28 @@ impl Pipeline {
             Call::Drop { handle } => self.drop_handle(at, lane, handle),
             Call::Enter { handle } => self.enter(at, lane, handle, false),
             Call::Exit { guard } => self.exit(at, lane, guard),
-            Call::New { site, place } => self.make(at, lane, site, place),
+            Call::New {
+                site,
+                place,
+                fields,
+            } => match fields.as_slice() {
+                [] => self.make(at, lane, site, place),
+                _ => Err(Refusal::Later),
+            },
             Call::Current => self.current(at, lane),
             Call::OrCurrent { handle } => self.or_current(at, lane, handle),
             Call::Entered { handle } => self.entered(at, lane, handle),
-            Call::Event { site } => self.event(at, lane, site),
+            Call::Record { .. } => Err(Refusal::Later),
+            Call::HasField { .. } => Err(Refusal::Later),
+            Call::Event {
+                site,
+                place: Place::Contextual,
+                fields,
+            } => match fields.as_slice() {
+                [] => self.event(at, lane, site),
+                _ => Err(Refusal::Later),
+            },
+            Call::Event { .. } => Err(Refusal::Later),
             Call::Remote { .. } => Err(Refusal::Later),
             Call::Context { .. } => Err(Refusal::Later),
             Call::Attach { .. } => Err(Refusal::Later),

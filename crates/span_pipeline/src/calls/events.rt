@@ -1,8 +1,9 @@
 //! Recording events.
-ghost use Rattle.std.specs.Prelude.{◌≡◌, ◌<◌, length, option_map, None, Some, IfSome, IfOk, OnOk, IfErr, OnErr};
+ghost use Rattle.std.specs.Prelude.{◌≡◌, ◌<◌, [], length, option_map, None, Some, IfSome, IfOk, OnOk, IfErr, OnErr};
 ghost use Rattle.trace_base.specs.declared.span.Parent.TheVariants as parent;
 ghost use Rattle.span_handles.specs.Worlds.{Has, Replaced};
 ghost use Rattle.span_pipeline.specs.declared.request.Call.{Call};
+ghost use Rattle.span_pipeline.specs.declared.request.Place.{Place};
 ghost use Rattle.span_pipeline.specs.Setups.{event_site};
 ghost use Rattle.span_pipeline.specs.Slots.{TellsOnly};
 
@@ -72,9 +73,9 @@ impl Pipeline {
     pub(crate) fn event(&mut self, at: Moment, lane: u64, place: u64) -> Result<Reply, Refusal>
         requires { lane < length self.old.lanes }
         ensures ok { (t : Tables) → StandsFor self.old t
-            → IfOk result (Served (effect_of_call self.old.setup t at lane (Call.Event place)) t self.old self.new) }
+            → IfOk result (Served (effect_of_call self.old.setup t at lane (Call.Event place Place.Contextual [])) t self.old self.new) }
         ensures refused { (t : Tables) → StandsFor self.old t
-            → IfErr result (IsRefusal (effect_of_call self.old.setup t at lane (Call.Event place))) }
+            → IfErr result (IsRefusal (effect_of_call self.old.setup t at lane (Call.Event place Place.Contextual []))) }
         ensures err { OnErr result (self.new ≡ self.old) }
     {
         calls::<Layered<OpenTelemetryLayer<Recorder>, Registry>>();

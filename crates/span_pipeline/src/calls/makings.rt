@@ -1,5 +1,5 @@
 //! Making spans.
-ghost use Rattle.std.specs.Prelude.{◌≡◌, ◌<◌, length, option_map, None, Some, IfSome, IfOk, IfErr, OnErr};
+ghost use Rattle.std.specs.Prelude.{◌≡◌, ◌<◌, [], length, option_map, None, Some, IfSome, IfOk, IfErr, OnErr};
 ghost use Rattle.span_handles.specs.Worlds.{Replaced};
 ghost use Rattle.span_handles.specs.Handles.{MayMake};
 ghost use Rattle.span_pipeline.specs.declared.request.Call.{Call};
@@ -87,9 +87,9 @@ impl Pipeline {
     ) -> Result<Reply, Refusal>
         requires { lane < length self.old.lanes }
         ensures ok { (t : Tables) → StandsFor self.old t
-            → IfOk result (Served (effect_of_call self.old.setup t at lane (Call.New place under)) t self.old self.new) }
+            → IfOk result (Served (effect_of_call self.old.setup t at lane (Call.New place under [])) t self.old self.new) }
         ensures refused { (t : Tables) → StandsFor self.old t
-            → IfErr result (IsRefusal (effect_of_call self.old.setup t at lane (Call.New place under))) }
+            → IfErr result (IsRefusal (effect_of_call self.old.setup t at lane (Call.New place under []))) }
         ensures err { OnErr result (self.new ≡ self.old) }
     {
         calls::<Layered<OpenTelemetryLayer<Recorder>, Registry>>();

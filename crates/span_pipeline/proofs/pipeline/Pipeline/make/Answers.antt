@@ -1,5 +1,5 @@
 -- The making.
-use Rattle.std.proofs.Common.{rules, refl, ◌∙◌}
+use Rattle.std.proofs.Common.{rules, refl, ◌∙◌, []}
 use Rattle.span_pipeline.specs.declared.request.Call.TheVariants as call
 use Rattle.span_pipeline.proofs.Keeping.{within_view, on_err}
 use Rattle.span_pipeline.proofs.Naming.{found_place}
@@ -24,5 +24,5 @@ invariant_of-self-2 c = keeps_new _ _ _ _ _ _ c.make_if.new.world _ c.calls.ensu
     c.args.under _ c.in-Some.found.0 c.args.place (search rules) c.in-Some.found.1 (search rules) (found_place c.reserve.new.self.items c.self.inside.handles.items c.args.under _ c.in-Some-place_above.above (search rules) c.place_above.ensures.place c.in-Some-place_above.is) _ c.in_ok-span.span c.index.result.now (within_view _ _ c.self.inside.lanes.items c.args.lane c.self.view_is refl c.requires) (search rules) (search rules) c.lets_through-enabled.result (search rules) c.in_ok-span.ensures.ok (search rules)
 
 pub returns-clause-ok : goal.returns-clause-ok
-returns-clause-ok c = by_view c.args.at c.args.lane (call.New c.args.place c.args.under) _ _ _ _ c.self.view_is (λ t stands. serves_new _ _ _ _ _ _ c.make_if.new.world _ c.calls.ensures c.calls-2.ensures c.self.inside.dispatch c.self.inside.level c.self.inside.lanes.items c.self.inside.handles.items c.keep.new.slots.items c.self.inside.guards.items c.self.inside.moment c.args.at c.args.lane c.len-number.result (search rules) c.self.invariant
+returns-clause-ok c = by_view c.args.at c.args.lane (call.New c.args.place c.args.under []) _ _ _ _ c.self.view_is (λ t stands. serves_new _ _ _ _ _ _ c.make_if.new.world _ c.calls.ensures c.calls-2.ensures c.self.inside.dispatch c.self.inside.level c.self.inside.lanes.items c.self.inside.handles.items c.keep.new.slots.items c.self.inside.guards.items c.self.inside.moment c.args.at c.args.lane c.len-number.result (search rules) c.self.invariant
     c.args.under _ c.in-Some.found.0 c.args.place (search rules) c.in-Some.found.1 (search rules) (found_place c.reserve.new.self.items c.self.inside.handles.items c.args.under _ c.in-Some-place_above.above (search rules) c.place_above.ensures.place c.in-Some-place_above.is) _ c.in_ok-span.span c.index.result.now (within_view _ _ c.self.inside.lanes.items c.args.lane c.self.view_is refl c.requires) (search rules) (search rules) c.lets_through-enabled.result (search rules) c.in_ok-span.ensures.ok (search rules) t stands)
