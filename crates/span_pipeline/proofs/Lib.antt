@@ -6,6 +6,7 @@ mod Copies
 mod Counting
 mod Crowded
 mod Currents
+mod Declaring
 mod Dropped
 mod Dropping
 mod Entering
@@ -24,6 +25,7 @@ mod Refusing
 mod Requiring
 mod Scopes
 mod Serving
+mod Sited
 mod Standing
 mod Taking
 mod Telling

@@ -2,5 +2,6 @@
 mod currents;
 mod entries;
 mod events;
+mod fields;
 mod makings;
 mod spans;

@@ -6,7 +6,7 @@ ghost use Rattle.span_pipeline.specs.Effects.{is_bad_moment};
 use crate::level_words::filter_of;
 use crate::opening::{self, add_sites, stack};
 use crate::reply::{Refusal, Reply, What};
-use crate::request::{Call, LAST_MOMENT, Place, Request};
+use crate::request::{Call, LAST_MOMENT, Request};
 use crate::settings::Settings;
 use crate::slots::Guard;
 use otel_base::record::Moment;
@@ -138,10 +138,11 @@ impl Pipeline {
     }
 
     /// Runs a request. A refused step leaves the pipeline as it was: `BadMoment` where the moment falls or is above
-    /// 2^63 - 1, `UnknownName` where it names what isn't there, `InUse` where it spends or owns a handle with an open
+    /// 2^63 - 1, `UnknownName` where it names what isn't there or gives a field that the
+    /// callsite doesn't declare, `InUse` where it spends or owns a handle with an open
     /// guard, or exits the guard that owns a handle with another one, `WrongLane` where it spends a guard on another lane
     /// than the guard's, `Full` where it attaches a context to a lane with 65,534 of them, `Later` where its kind isn't
-    /// built. It may answer `Memory`, but not to a drop or an exit.
+    /// built. It may answer `Memory`, but not to a drop, an exit or a `has_field`.
     pub fn step(&mut self, request: Request) -> Result<Reply, Refusal>
         ensures ok { (h : History) → StandsFor self.old (tables self.old.setup.layer h)
             → IfOk result (Recorded (effect_of self.old.setup (tables self.old.setup.layer h) request) h self.old self.new) }
@@ -181,24 +182,17 @@ impl Pipeline {
                 site,
                 place,
                 fields,
-            } => match fields.as_slice() {
-                [] => self.make(at, lane, site, place),
-                _ => Err(Refusal::Later),
-            },
+            } => self.make(at, lane, site, place, fields),
             Call::Current => self.current(at, lane),
             Call::OrCurrent { handle } => self.or_current(at, lane, handle),
             Call::Entered { handle } => self.entered(at, lane, handle),
-            Call::Record { .. } => Err(Refusal::Later),
-            Call::HasField { .. } => Err(Refusal::Later),
+            Call::Record { handle, fields } => self.record(at, lane, handle, fields),
+            Call::HasField { handle, name } => self.has_field(at, lane, handle, name),
             Call::Event {
                 site,
-                place: Place::Contextual,
+                place,
                 fields,
-            } => match fields.as_slice() {
-                [] => self.event(at, lane, site),
-                _ => Err(Refusal::Later),
-            },
-            Call::Event { .. } => Err(Refusal::Later),
+            } => self.event(at, lane, site, place, fields),
             Call::Remote { .. } => Err(Refusal::Later),
             Call::Context { .. } => Err(Refusal::Later),
             Call::Attach { .. } => Err(Refusal::Later),

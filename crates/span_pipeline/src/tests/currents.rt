@@ -27,7 +27,13 @@ fn exchanges(pipeline: &mut Pipeline) -> [bool; 7] {
         refuses(pipeline, 5, 0, Call::OrCurrent { handle: 1 }, used),
         answers(pipeline, 6, 0, Call::OrCurrent { handle: 3 }, made(true, 4)),
         answers(pipeline, 7, 1, Call::OrCurrent { handle: 2 }, made(true, 5)),
-        answers(pipeline, 8, 1, Call::OrCurrent { handle: 0 }, made(false, 6)),
+        answers(
+            pipeline,
+            8,
+            1,
+            Call::OrCurrent { handle: 0 },
+            made(false, 6),
+        ),
         refuses(pipeline, 9, 0, Call::OrCurrent { handle: 3 }, gone),
         answers(pipeline, 10, 0, Call::Exit { guard: 0 }, Reply::Done),
         answers(
