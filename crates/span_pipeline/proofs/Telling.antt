@@ -27,7 +27,7 @@ use Rattle.span_pipeline.specs.Tables.{Done, Effect, Tables, recorded_by}
 use Rattle.span_pipeline.specs.Effects.{Resolved, named, effect_of_call, no_values, told_to, if_told, tells}
 use Rattle.span_pipeline.specs.Slots.{TellsOnly}
 use Rattle.span_pipeline.specs.Balance.{Balanced, named_by, opened_by}
-use Rattle.span_pipeline.specs.Fits.{State, state_of, laned, StandsFor, MadeFit, LanesFit, IsKept, Served}
+use Rattle.span_pipeline.specs.Fits.{Named, State, state_of, laned, StandsFor, MadeFit, LanesFit, IsKept, Served}
 use Rattle.span_pipeline.proofs.Standing.{fits_step}
 use Rattle.span_pipeline.proofs.Reading.{Law, Recalls}
 use Rattle.span_pipeline.proofs.Keeping.{id_seen}
@@ -60,12 +60,12 @@ told_is (Some s) at callsite values r = refl
 
 module _ {S : Type 0} (spans : S → Spans) (recorded : S → Recording) (attaches : S → Bool) (kept : S → ℕ → ℕ → ℕ) (is_whole : S → Type 0) (old new : Worlds S) where
   module _ (does : S → SubscriberCall → S → Type 0) (law : Law spans recorded attaches kept is_whole does) (recalls : Recalls spans recorded attaches kept is_whole does)
-      (dispatch : ℕ) (level : LevelFilter) (lanes : List Lane) (hs : List (Option Handle)) (gs : List (Option Guard)) (m at lane : ℕ) (inv : IsKept kept is_whole old (state_of spans recorded old dispatch level lanes hs gs m)) where
+      (dispatch : ℕ) (level : LevelFilter) (lanes : List Lane) (hs : List (Option Handle)) (gs : List (Option Guard)) (cs : Named) (m at lane : ℕ) (inv : IsKept kept is_whole old (state_of spans recorded old dispatch level lanes hs gs cs m)) where
     abbrev now : State
-    now = state_of spans recorded old dispatch level lanes hs gs m
+    now = state_of spans recorded old dispatch level lanes hs gs cs m
 
     abbrev then : State
-    then = state_of spans recorded new dispatch level lanes hs gs at
+    then = state_of spans recorded new dispatch level lanes hs gs cs at
 
     abbrev place_id : ℕ
     place_id = id_at now.setup.ids lane
@@ -90,6 +90,8 @@ module _ {S : Type 0} (spans : S → Spans) (recorded : S → Recording) (attach
           dispatch_is = refl;
           handles_are = refl;
           guards_are = refl;
+          attaches_are = refl;
+          named_are = refl;
           moment_is = refl;
           balanced = subst (λ (x : Spans). Balanced x (map named_by t.handles) (map (opened_by ids) t.guards) t.entries) (sym step) fits.balanced;
           made_fit = subst (λ (x : Spans). MadeFit x.made t.made) (sym step) fits.made;
@@ -101,7 +103,7 @@ module _ {S : Type 0} (spans : S → Spans) (recorded : S → Recording) (attach
           one = subst (λ (x : Spans). OneEach x.lanes) (sym step) fits.one_lane;
         }))
         (λ s some. known_still now then t e r.tokens rec_is stands.recording s refl (subst (λ (x : Spans). 0 < (span_at x.made s).holds) step some))
-        (all_same now then t.contexts setup refl (ap (λ (x : Recording). x.tokens) rec_is) stands.recording.attached)
+        (all_same now then t.contexts setup refl refl (ap (λ (x : Recording). x.tokens) rec_is) stands.recording.attached)
 
     module _ (found_site site : ℕ) (sited_is : found_site ≡ site) (lvl : Level) (leveled : option_map (λ (c : Callsite). c.level) (event_site old.sites site) ≡ Some lvl)
         (values : ValueSet) (plain : values ≡ no_values) (before : Lane) (within : lane < length lanes) (here : before ≡ get_or lanes lane before) where
