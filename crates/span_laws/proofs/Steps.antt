@@ -2,6 +2,7 @@
 use Rattle.std.proofs.Common.{◌≡◌, ℕ, ◌==◌, List, [], ◌∷◌, ◌++◌, length, not, Bool, true, false, cond, Option, Some, None, option_map, slice_set, slice_get, Ok, Err, refl, sym, ap, subst, arith}
 use Rattle.std.proofs.lemmas.Bool.{eqb-true}
 use Rattle.std.proofs.lemmas.Bool.Decides.{nat_tests}
+use Rattle.otel_base.specs.declared.context.Context.{Context}
 use Rattle.trace_base.specs.declared.callsite.Callsite.{Callsite}
 use Rattle.trace_base.specs.declared.field.ValueSet.{ValueSet}
 use Rattle.trace_base.specs.Level.{is_within}
@@ -17,11 +18,11 @@ use Rattle.span_pipeline.specs.declared.reply.Refusal.TheVariants as refusal
 use Rattle.span_pipeline.specs.declared.reply.What.{What}
 use Rattle.span_pipeline.specs.declared.reply.What.TheVariants as what
 use Rattle.span_pipeline.specs.Setups.{Setup, id_at, span_site, event_site}
-use Rattle.span_pipeline.specs.Tables.{Scope, Made, Done, Guarded, Effect, Tables, with_new, slots_after, slot_at}
+use Rattle.span_pipeline.specs.Tables.{Scope, Made, Done, Guarded, Effect, Tables, with_new, either_after, slot_at}
 use Rattle.span_pipeline.specs.Fields.{all_values}
-use Rattle.span_pipeline.specs.Effects.{Resolved, named, is_open, holds, closed_of, is_borrowed, scope_at, parent_at, made_at, makes_span, declines, clones, drops, current_scope, scope_or_current, exchanges, enters, meets_full, opens, exits, exits_on, is_shared, tells, is_bad_moment, effect_of, effect_of_call}
+use Rattle.span_pipeline.specs.Effects.{Resolved, named, is_open, holds, closed_of, is_borrowed, scope_at, parent_at, made_at, makes_span, declines, clones, drops, current_scope, scope_or_current, exchanges, enters, meets_full, opens, exits, exits_on, is_shared, tells, is_full, gives, own_context, attaches, detaches, is_bad_moment, effect_of, effect_of_call}
 use Rattle.span_laws.specs.Laws.{occurrences}
-use Rattle.span_laws.proofs.Guarding.{Enters, no_entry, enters_by, exits_by}
+use Rattle.span_laws.proofs.Guarding.{Enters, no_entry, passes, enters_by, exits_by}
 use Rattle.span_laws.proofs.Occurrences.{held_push, held_set, any_counted, is_in_counted, occurs_filter, slot_push}
 
 -- a scope that an unspent handle has, or none
@@ -43,8 +44,8 @@ pub data Spends (slots : List (Option Scope)) (gs : List (Option Guarded)) : Opt
 
 pub record IsStep (ids : List ℕ) (t : Tables) (e : Effect) : Type 0 where
   pub names : Names t.handles t.made e.new_handle e.made
-  pub enters : Enters ids t.handles t.guards e.lane e.new_guard e.spent_guard e.entry e.exit
-  pub spends : Spends (with_new t.handles (option_map Some e.new_handle)) (slots_after t.guards e.new_guard e.spent_guard) e.spent_handle e.closes
+  pub enters : Enters ids t.handles t.guards e.lane e.new_guard e.new_attach e.spent_guard e.entry e.exit
+  pub spends : Spends (with_new t.handles (option_map Some e.new_handle)) (either_after t.guards e.new_guard e.new_attach e.spent_guard) e.spent_handle e.closes
 
 -- ---- each kind of request
 
@@ -100,6 +101,15 @@ module _ (setup : Setup) (t : Tables) (currents : (lane : ℕ) → IsKnown t.han
 
   told : (at lane : ℕ) (answer : Reply) (done : List Done) → Step (tells at lane answer done)
   told at lane answer done = record { names = no_name; enters = no_entry; spends = no_spending }
+
+  given : (at lane : ℕ) (starting : Option ℕ) (context : Context) → Step (gives t at lane starting context)
+  given at lane starting context = record { names = no_name; enters = no_entry; spends = no_spending }
+
+  attached : (at lane : ℕ) (context : Context) → Step (attaches setup t at lane context)
+  attached at lane context = record { names = no_name; enters = passes lane; spends = no_spending }
+
+  detached : (at lane guard : ℕ) → Step (detaches at lane guard)
+  detached at lane guard = record { names = no_name; enters = no_entry; spends = no_spending }
 
   if_both : (b : Bool) (x y : Effect) → Step x → Step y → Step (cond b x y)
   if_both true x y one two = one
@@ -183,10 +193,18 @@ module _ (setup : Setup) (t : Tables) (currents : (lane : ℕ) → IsKnown t.han
       let reached = found what.Handle (scope_at t (id_at setup.ids lane) under) _ e there.2 in
       let values = found what.Field (all_values there.0 fields) _ e reached.2 in
       subst Step (the_effect _ e values.2) (told at (id_at setup.ids lane) (reply.Enabled _) _)
-  by_call at lane (call.Remote ids) e is = absurd (cc is)
-  by_call at lane (call.Context handle) e is = absurd (cc is)
-  by_call at lane (call.Attach context) e is = absurd (cc is)
-  by_call at lane (call.Detach guard) e is = absurd (cc is)
+  by_call at lane (call.Remote ids) e is = subst Step (the_effect _ e is) (given at (id_at setup.ids lane) None _)
+  by_call at lane (call.Context handle) e is =
+      let there = found what.Handle (slot_at t.handles handle) _ e is in
+      subst Step (the_effect _ e there.2) (given at (id_at setup.ids lane) _ _)
+  by_call at lane (call.Attach context) e is =
+      let there = found what.Context (slice_get t.named context) _ e is in
+      let room = unrefused (is_full (t.contexts (id_at setup.ids lane))) (refusal.Full lane) (Ok (attaches setup t at lane there.0)) e there.2 in
+      subst Step (the_effect _ e room.1) (attached at lane there.0)
+  by_call at lane (call.Detach guard) e is =
+      let there = found what.Guard (slot_at t.attaches guard) _ e is in
+      let mine = allowed (there.0 == lane) (refusal.WrongLane there.0) (Ok (detaches at (id_at setup.ids lane) guard)) e there.2 in
+      subst Step (the_effect _ e mine.1) (detached at (id_at setup.ids lane) guard)
 
   pub step_of : (request : Request) (e : Effect) → effect_of setup t request ≡ Ok e → IsStep setup.ids t e
   step_of request e is =

@@ -29,7 +29,7 @@ use Rattle.span_pipeline.specs.Tables.{Scope, Made, Guarded, Effect, Tables, slo
 use Rattle.span_pipeline.specs.Effects.{Resolved, named, effect_of_call, clones, current_scope, scope_or_current, exchanges, is_borrowed, drops_unless}
 use Rattle.span_pipeline.specs.Slots.{is_named}
 use Rattle.span_pipeline.specs.Balance.{Balanced, Opened, names, named_by, opened_by}
-use Rattle.span_pipeline.specs.Fits.{State, state_of, Laned, laned, Fits, StandsFor, MadeFit, LanesFit, IsKept, Served, IsScope, held_of, held_by, site_by}
+use Rattle.span_pipeline.specs.Fits.{Named, State, state_of, Laned, laned, Fits, StandsFor, MadeFit, LanesFit, IsKept, Served, IsScope, held_of, held_by, site_by}
 use Rattle.span_pipeline.proofs.Naming.{Found, find, held_slot, named_within}
 use Rattle.span_pipeline.proofs.Sited.{site_slot, site_found, copied_site}
 use Rattle.span_pipeline.proofs.Standing.{fits_step}
@@ -206,13 +206,13 @@ handed_on k t fits handle s up there free = record {
 
 module _ {S : Type 0} (spans : S → Spans) (recorded : S → Recording) (attaches : S → Bool) (kept : S → ℕ → ℕ → ℕ) (is_whole : S → Type 0) (old new : Worlds S) where
   module _ (does : S → SubscriberCall → S → Type 0) (law : Law spans recorded attaches kept is_whole does) (recalls : Recalls spans recorded attaches kept is_whole does)
-      (dispatch : ℕ) (level : LevelFilter) (lanes : List Lane) (hs hs' : List (Option Handle)) (gs : List (Option Guard)) (m at lane number : ℕ) (many : number ≡ length hs) (before : Lane) (within : lane < length lanes) (here : before ≡ get_or lanes lane before)
-      (inv : IsKept kept is_whole old (state_of spans recorded old dispatch level lanes hs gs m)) where
+      (dispatch : ℕ) (level : LevelFilter) (lanes : List Lane) (hs hs' : List (Option Handle)) (gs : List (Option Guard)) (cs : Named) (m at lane number : ℕ) (many : number ≡ length hs) (before : Lane) (within : lane < length lanes) (here : before ≡ get_or lanes lane before)
+      (inv : IsKept kept is_whole old (state_of spans recorded old dispatch level lanes hs gs cs m)) where
     abbrev now : State
-    now = state_of spans recorded old dispatch level lanes hs gs m
+    now = state_of spans recorded old dispatch level lanes hs gs cs m
 
     abbrev then : State
-    then = state_of spans recorded new dispatch level (set lanes lane (using before dispatch)) hs' gs at
+    then = state_of spans recorded new dispatch level (set lanes lane (using before dispatch)) hs' gs cs at
 
     abbrev place_id : ℕ
     place_id = id_at now.setup.ids lane
@@ -243,6 +243,8 @@ module _ {S : Type 0} (spans : S → Spans) (recorded : S → Recording) (attach
           handles_are = handles;
           sites_are = handle_sites;
           guards_are = refl;
+          attaches_are = refl;
+          named_are = refl;
           moment_is = refl;
           balanced = handed.balanced;
           made_fit = handed.made;
@@ -255,7 +257,7 @@ module _ {S : Type 0} (spans : S → Spans) (recorded : S → Recording) (attach
           one = handed.one;
         }))
         (λ s some. known_still now then t e (seen recorded no_recording old dispatch).tokens same stands.recording s refl (handed.live s some))
-        (all_same now then t.contexts setup lanes_are (ap (λ (r : Recording). r.tokens) same) stands.recording.attached)
+        (all_same now then t.contexts setup refl lanes_are (ap (λ (r : Recording). r.tokens) same) stands.recording.attached)
 
     keeps_handed : (resolved : Resolved) (enabled : Bool) → Served resolved inv.tables now then (reply.Made enabled number) → length new.subscribers ≡ length old.subscribers → (Has is_whole old dispatch → Has is_whole new dispatch) → kept_in kept new dispatch ≡ kept_in kept old dispatch → IsKept kept is_whole new then
     keeps_handed resolved enabled served count whole same = kept_served spans recorded attaches kept is_whole old new now then inv resolved _ served refl count whole

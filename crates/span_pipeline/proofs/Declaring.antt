@@ -32,7 +32,7 @@ use Rattle.span_pipeline.specs.Tables.{Scope, Made, Done, Tables, slot_at, own, 
 use Rattle.span_pipeline.specs.Fields.{Fields, placed, declares, declared_by, all_values, values_of, values_by}
 use Rattle.span_pipeline.specs.Effects.{Resolved, named, effect_of_call, scope_at, on, makes, tells, events, updates, callsite_of}
 use Rattle.span_pipeline.specs.Slots.{place_for}
-use Rattle.span_pipeline.specs.Fits.{State, state_of, Fits, StandsFor, IsScope, IsKept, Served, held_by, site_by, held_of}
+use Rattle.span_pipeline.specs.Fits.{Named, State, state_of, Fits, StandsFor, IsScope, IsKept, Served, held_by, site_by, held_of}
 use Rattle.span_pipeline.proofs.Naming.{Found, find, held_slot}
 use Rattle.span_pipeline.proofs.Cloning.{find_up}
 use Rattle.span_pipeline.proofs.Sited.{site_found}
@@ -131,9 +131,9 @@ has_in world name None = refl
 has_in world name (Some site) = has_at name site (slice_get world.sites site)
 
 module _ {S : Type 0} (spans : S → Spans) (recorded : S → Recording) (attaches : S → Bool) (kept : S → ℕ → ℕ → ℕ) (is_whole : S → Type 0) (old : Worlds S)
-    (dispatch : ℕ) (level : LevelFilter) (lanes : List Lane) (hs : List (Option Handle)) (gs : List (Option Guard)) (m : ℕ) where
+    (dispatch : ℕ) (level : LevelFilter) (lanes : List Lane) (hs : List (Option Handle)) (gs : List (Option Guard)) (cs : Named) (m : ℕ) where
   abbrev now : State
-  now = state_of spans recorded old dispatch level lanes hs gs m
+  now = state_of spans recorded old dispatch level lanes hs gs cs m
 
   module _ (handle : ℕ) (h : Handle) (found : slot_at hs handle ≡ Some h) where
     its_scope : (t : Tables) → Fits now t → Found (held_of dispatch) t.handles handle h.held
@@ -152,7 +152,7 @@ module _ {S : Type 0} (spans : S → Spans) (recorded : S → Recording) (attach
 
     module _ (new : Worlds S) (at lane : ℕ) where
       abbrev then : State
-      then = state_of spans recorded new dispatch level lanes hs gs at
+      then = state_of spans recorded new dispatch level lanes hs gs cs at
 
       -- whether a name is declared is asked
       module _ (name : List ℕ) (has : Bool) (is : has ≡ is_some (field_in (named_field name) old h.site)) (same : new ≡ old) where
@@ -164,10 +164,10 @@ module _ {S : Type 0} (spans : S → Spans) (recorded : S → Recording) (attach
             ∙ ap (λ (b : Bool). Ok (tells at id (reply.Has b) [])) (ap (λ (o : Option Callsite). declared_by o name) (sym (its_callsite t stands.fits)) ∙ sym (has_in old name h.site) ∙ sym is)
 
         pub serves_asked : (t : Tables) → StandsFor now t → Served (effect_of_call now.setup t at lane (call.HasField handle name)) t now then (reply.Has has)
-        serves_asked t stands = serves_ops spans recorded attaches kept is_whole old new dispatch level lanes hs gs m at lane t stands [] (reply.Has has) _ (does_none spans recorded attaches kept is_whole old new dispatch at same) (asked t stands)
+        serves_asked t stands = serves_ops spans recorded attaches kept is_whole old new dispatch level lanes hs gs cs m at lane t stands [] (reply.Has has) _ (does_none spans recorded attaches kept is_whole old new dispatch at same) (asked t stands)
 
         pub keeps_asked : IsKept kept is_whole old now → IsKept kept is_whole new then
-        keeps_asked inv = keeps_ops spans recorded attaches kept is_whole old new dispatch level lanes hs gs m at lane inv [] (reply.Has has) _ (does_none spans recorded attaches kept is_whole old new dispatch at same) (asked inv.tables (record { fits = inv.fits; recording = inv.recording }))
+        keeps_asked inv = keeps_ops spans recorded attaches kept is_whole old new dispatch level lanes hs gs cs m at lane inv [] (reply.Has has) _ (does_none spans recorded attaches kept is_whole old new dispatch at same) (asked inv.tables (record { fits = inv.fits; recording = inv.recording }))
 
       -- values are recorded
       module _ (does : S → SubscriberCall → S → Type 0) (law : Law spans recorded attaches kept is_whole does) (recalls : Recalls spans recorded attaches kept is_whole does)
@@ -203,7 +203,7 @@ module _ {S : Type 0} (spans : S → Spans) (recorded : S → Recording) (attach
         its_update t fits = ap (λ o. named what.Handle o (λ scope. Ok (tells at (id_at now.setup.ids lane) reply.Done (updates r.settings scope fields (callsite_of now.setup t scope))))) (its_scope t fits).there
 
         pub serves_recorded : (t : Tables) → StandsFor now t → Served (effect_of_call now.setup t at lane (call.Record handle fields)) t now then reply.Done
-        serves_recorded t stands = serves_ops spans recorded attaches kept is_whole old new dispatch level lanes hs gs m at lane t stands _ reply.Done _ (updated t stands.fits) (its_update t stands.fits)
+        serves_recorded t stands = serves_ops spans recorded attaches kept is_whole old new dispatch level lanes hs gs cs m at lane t stands _ reply.Done _ (updated t stands.fits) (its_update t stands.fits)
 
         pub keeps_recorded : IsKept kept is_whole old now → IsKept kept is_whole new then
-        keeps_recorded inv = keeps_ops spans recorded attaches kept is_whole old new dispatch level lanes hs gs m at lane inv _ reply.Done _ (updated inv.tables inv.fits) (its_update inv.tables inv.fits)
+        keeps_recorded inv = keeps_ops spans recorded attaches kept is_whole old new dispatch level lanes hs gs cs m at lane inv _ reply.Done _ (updated inv.tables inv.fits) (its_update inv.tables inv.fits)

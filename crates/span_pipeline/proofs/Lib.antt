@@ -1,3 +1,4 @@
+mod Attaches
 mod Attaching
 mod Balancing
 mod Beginning
@@ -7,16 +8,19 @@ mod Counting
 mod Crowded
 mod Currents
 mod Declaring
+mod Detaches
 mod Dropped
 mod Dropping
 mod Entering
 mod Fitting
+mod Giving
 mod Keeping
 mod Known
 mod Laned
 mod Making
 mod Makings
 mod Naming
+mod Numbers
 mod Openness
 mod Ordering
 mod Reading

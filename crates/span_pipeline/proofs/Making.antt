@@ -54,7 +54,7 @@ use Rattle.span_pipeline.proofs.Recordings.{recorded_settings, recorded_tokens, 
 use Rattle.span_pipeline.specs.Fields.{Fields, all_values}
 use Rattle.span_pipeline.specs.Slots.{place_for, MakesOnly}
 use Rattle.span_pipeline.specs.Balance.{Balanced, named_by, opened_by}
-use Rattle.span_pipeline.specs.Fits.{State, state_of, laned, Fits, StandsFor, MadeFit, LanesFit, IsKept, Served, IsScope, above as parent_above, held_of, guard_of, held_by, site_by}
+use Rattle.span_pipeline.specs.Fits.{Named, State, state_of, laned, Fits, StandsFor, MadeFit, LanesFit, IsKept, Served, IsScope, above as parent_above, held_of, guard_of, held_by, site_by}
 use Rattle.span_pipeline.proofs.Naming.{find}
 use Rattle.span_pipeline.proofs.Scopes.{new_line}
 use Rattle.span_pipeline.proofs.Sited.{got_within}
@@ -187,12 +187,12 @@ leveled_site (Some c) lvl is = (c, refl, cc is)
 
 module _ {S : Type 0} (spans : S → Spans) (recorded : S → Recording) (attaches : S → Bool) (kept : S → ℕ → ℕ → ℕ) (is_whole : S → Type 0) (old new : Worlds S) where
   module _ (does : S → SubscriberCall → S → Type 0) (law : Law spans recorded attaches kept is_whole does) (recalls : Recalls spans recorded attaches kept is_whole does)
-      (dispatch : ℕ) (level : LevelFilter) (lanes : List Lane) (hs hs' : List (Option Handle)) (gs : List (Option Guard)) (m at lane number : ℕ) (many : number ≡ length hs) (inv : IsKept kept is_whole old (state_of spans recorded old dispatch level lanes hs gs m)) where
+      (dispatch : ℕ) (level : LevelFilter) (lanes : List Lane) (hs hs' : List (Option Handle)) (gs : List (Option Guard)) (cs : Named) (m at lane number : ℕ) (many : number ≡ length hs) (inv : IsKept kept is_whole old (state_of spans recorded old dispatch level lanes hs gs cs m)) where
     abbrev now : State
-    now = state_of spans recorded old dispatch level lanes hs gs m
+    now = state_of spans recorded old dispatch level lanes hs gs cs m
 
     abbrev then : State
-    then = state_of spans recorded new dispatch level lanes hs' gs at
+    then = state_of spans recorded new dispatch level lanes hs' gs cs at
 
     abbrev place_id : ℕ
     place_id = id_at now.setup.ids lane
@@ -231,7 +231,7 @@ module _ {S : Type 0} (spans : S → Spans) (recorded : S → Recording) (attach
             let current_is : current ≡ current_of (t.entries place_id) = ap (λ (l : ℕ). current_of (entries_on l sp.lanes)) id_is' ∙ ap current_of (fits.balanced.entries place_id) in
             let callsite_is : did.callsite ≡ callsite = the_callsite did.callsite callsite (sym did.is ∙ site_is old.sites site callsite sited) in
             let contexts : map (λ (x : ℕ × Context). x.1) before.contexts.live ≡ map (λ (a : Attached). a.context) (t.contexts place_id) =
-            (own_fit r.settings.activation lanes lane before before within seen_is refl inv.lanes.differ r.tokens t.contexts stands.recording.attached).contexts ∙ ap (λ (l : ℕ). map (λ (a : Attached). a.context) (t.contexts l)) id_is' in
+            (own_fit r.settings.activation lanes lane before before within seen_is refl inv.lanes.differ r.tokens cs.attaches t.contexts stands.recording.attached).contexts ∙ ap (λ (l : ℕ). map (λ (a : Attached). a.context) (t.contexts l)) id_is' in
             let told : Told = made_at now.setup t at lane callsite values q in
             let raw : Told = made_told did.callsite before values (context_from (with_starts (above r.settings.activation p current) at r).spans (around before p) (above r.settings.activation p current)) at r.settings r.counting in
             let told_is : raw ≡ told =
@@ -266,6 +266,8 @@ module _ {S : Type 0} (spans : S → Spans) (recorded : S → Recording) (attach
               handles_are = ap (map held_by) one ∙ map_push held_by hs (Some made) ∙ ap (λ (x : Handle). map held_by hs ++ Some x.held ∷ []) did.handle_is ∙ ap (λ (i : ℕ). map held_by hs ++ Some (Some (dispatch, i)) ∷ []) mine;
               sites_are = ap (map site_by) one ∙ map_push site_by hs (Some made) ∙ ap (λ (x : Handle). map site_by hs ++ Some x.site ∷ []) did.handle_is ∙ ap (λ (x : Made). map site_by hs ++ Some (Some x.site) ∷ []) (sym (get_or_push t.made new_made no_making (length t.made) refl));
               guards_are = refl;
+              attaches_are = refl;
+              named_are = refl;
               moment_is = refl;
               balanced = subst (λ (x : Spans). Balanced x (map named_by (t.handles ++ Some line ∷ [])) (map (opened_by ids) t.guards) t.entries) (sym step) (balanced_new ids sp t.handles t.guards t.entries fits.balanced up.up site (length t.made) up.live fits.made.count);
               made_fit = subst (λ (x : Spans). MadeFit x.made (t.made ++ new_made ∷ [])) (sym step) (made_pushed (held_by_child sp.made (own up.up)) t.made up.up site told (made_child sp.made t.made (own up.up) fits.made up.live));
@@ -278,7 +280,7 @@ module _ {S : Type 0} (spans : S → Spans) (recorded : S → Recording) (attach
               one = subst (λ (x : Spans). OneEach x.lanes) (sym step) fits.one_lane;
             }))
             known
-            (all_same now then t.contexts setup refl (ap (λ (x : Recording). x.tokens) rec_is) stands.recording.attached)
+            (all_same now then t.contexts setup refl refl (ap (λ (x : Recording). x.tokens) rec_is) stands.recording.attached)
 
         pub keeps_made : IsKept kept is_whole new then
         keeps_made = kept_served spans recorded attaches kept is_whole old new now then inv _ _ (serves_made inv.tables (record { fits = inv.fits; recording = inv.recording })) refl made_shown.count made_shown.whole
@@ -309,6 +311,8 @@ module _ {S : Type 0} (spans : S → Spans) (recorded : S → Recording) (attach
               handles_are = ap (map held_by) one ∙ map_push held_by hs (Some no_handle);
               sites_are = ap (map site_by) one ∙ map_push site_by hs (Some no_handle);
               guards_are = refl;
+              attaches_are = refl;
+              named_are = refl;
               moment_is = refl;
               balanced = subst (λ (x : Spans). Balanced x (map named_by (t.handles ++ Some [] ∷ [])) (map (opened_by ids) t.guards) t.entries) (sym step) (balanced_decline ids sp t.handles t.guards t.entries fits.balanced);
               made_fit = subst (λ (x : Spans). MadeFit x.made t.made) (sym step) fits.made;
@@ -321,7 +325,7 @@ module _ {S : Type 0} (spans : S → Spans) (recorded : S → Recording) (attach
               one = subst (λ (x : Spans). OneEach x.lanes) (sym step) fits.one_lane;
             }))
             (λ s some. known_still now then t e r.tokens rec_is stands.recording s refl (subst (λ (x : Spans). 0 < (span_at x.made s).holds) step some))
-            (all_same now then t.contexts setup refl (ap (λ (x : Recording). x.tokens) rec_is) stands.recording.attached)
+            (all_same now then t.contexts setup refl refl (ap (λ (x : Recording). x.tokens) rec_is) stands.recording.attached)
 
         pub keeps_declined : IsKept kept is_whole new then
         keeps_declined = kept_served spans recorded attaches kept is_whole old new now then inv _ _ (serves_declined inv.tables (record { fits = inv.fits; recording = inv.recording })) refl (ap (λ (w : Worlds S). length w.subscribers) same) (λ has. subst (λ (w : Worlds S). Has is_whole w dispatch) (sym same) has)
@@ -355,7 +359,7 @@ of_held : (dispatch : ℕ) (line : Scope) (held : ℕ × ℕ) → Some held ≡ 
 of_held dispatch [] held is = absurd (cc is)
 of_held dispatch (s ∷ up) held is = (let e : held ≡ (dispatch, s) = cc is in ap (λ (h : ℕ × ℕ). h.0) e)
 
-module _ {S : Type 0} (spans : S → Spans) (recorded : S → Recording) (kept : S → ℕ → ℕ → ℕ) (is_whole : S → Type 0) (world : Worlds S) (dispatch : ℕ) (level : LevelFilter) (lanes : List Lane) (hs : List (Option Handle)) (gs : List (Option Guard)) (m : ℕ) (inv : IsKept kept is_whole world (state_of spans recorded world dispatch level lanes hs gs m)) where
+module _ {S : Type 0} (spans : S → Spans) (recorded : S → Recording) (kept : S → ℕ → ℕ → ℕ) (is_whole : S → Type 0) (world : Worlds S) (dispatch : ℕ) (level : LevelFilter) (lanes : List Lane) (hs : List (Option Handle)) (gs : List (Option Guard)) (cs : Named) (m : ℕ) (inv : IsKept kept is_whole world (state_of spans recorded world dispatch level lanes hs gs cs m)) where
   pub make_may : (under : Place) (p : Parent) → place_for (map held_by hs) under ≡ Some p → (lane : ℕ) → length hs < 2 ^ 62 → length gs < 2 ^ 62 → MayMake spans is_whole world lane p dispatch
   make_may under p found lane few_handles few_guards =
       let a = sym (length-map hs held_by) ∙ ap length inv.fits.handle_slots ∙ length-map inv.tables.handles (option_map (held_of dispatch)) in
@@ -363,14 +367,14 @@ module _ {S : Type 0} (spans : S → Spans) (recorded : S → Recording) (kept :
       record {
         there = inv.there;
         whole = inv.whole;
-        live = has_by spans no_spans world dispatch (λ (x : Spans). IsLivePlace x.made p) (find_up (state_of spans recorded world dispatch level lanes hs gs m) inv.tables inv.fits 0 under p found).live_place;
+        live = has_by spans no_spans world dispatch (λ (x : Spans). IsLivePlace x.made p) (find_up (state_of spans recorded world dispatch level lanes hs gs cs m) inv.tables inv.fits 0 under p found).live_place;
         few = has_by spans no_spans world dispatch (λ (x : Spans). AreFew x) (let c = inv.fits.made.count in let f = inv.fits.few in omega (arith, a, c, f, few_handles));
         few_holds = has_by spans no_spans world dispatch (λ (x : Spans). HasFewHoldsAbove x lane p)
             (few_if (place_on (entries_on lane (spans_in spans world dispatch).lanes) p) (spans_in spans world dispatch).made (λ s. let f = inv.fits.few_holds s in omega (arith, f, a, b, few_handles, few_guards)));
       }
 
   pub tell_live : (under : Place) (p : Parent) → place_for (map held_by hs) under ≡ Some p → Has (λ s. IsLivePlace (spans s).made p) world dispatch
-  tell_live under p found = has_by spans no_spans world dispatch (λ (x : Spans). IsLivePlace x.made p) (find_up (state_of spans recorded world dispatch level lanes hs gs m) inv.tables inv.fits 0 under p found).live_place
+  tell_live under p found = has_by spans no_spans world dispatch (λ (x : Spans). IsLivePlace x.made p) (find_up (state_of spans recorded world dispatch level lanes hs gs cs m) inv.tables inv.fits 0 under p found).live_place
 
   all_held : (n : ℕ) (held : ℕ × ℕ) → slot_at (map held_by hs) n ≡ Some (Some held) → held.0 ≡ dispatch
   all_held n held there = (let f = find (held_of dispatch) (map held_by hs) inv.tables.handles n (Some held) inv.fits.handle_slots there in of_held dispatch f.at held f.is)
@@ -380,10 +384,10 @@ module _ {S : Type 0} (spans : S → Spans) (recorded : S → Recording) (kept :
 
 -- after a refusal for want of memory
 pub made_alike : {S : Type 0} (spans : S → Spans) (recorded : S → Recording) (attaches : S → Bool) (kept : S → ℕ → ℕ → ℕ) (is_whole : S → Type 0) (same : S → S → Type 0) → ((old new : Worlds S) (dispatch : ℕ) → Replaced same old new dispatch → Alike spans attaches kept is_whole old new dispatch) → SameRecorded spans recorded attaches kept is_whole same
-    → (old new : Worlds S) (dispatch : ℕ) (level : LevelFilter) (lanes : List Lane) (hs hs' : List (Option Handle)) (gs : List (Option Guard)) (m : ℕ) → hs' ≡ hs → Replaced same old new dispatch
-    → (state_of spans recorded new dispatch level lanes hs' gs m ≡ state_of spans recorded old dispatch level lanes hs gs m) × (IsKept kept is_whole old (state_of spans recorded old dispatch level lanes hs gs m) → IsKept kept is_whole new (state_of spans recorded new dispatch level lanes hs' gs m))
-made_alike {S} spans recorded attaches kept is_whole same law records old new dispatch level lanes hs hs' gs m handles did =
+    → (old new : Worlds S) (dispatch : ℕ) (level : LevelFilter) (lanes : List Lane) (hs hs' : List (Option Handle)) (gs : List (Option Guard)) (cs : Named) (m : ℕ) → hs' ≡ hs → Replaced same old new dispatch
+    → (state_of spans recorded new dispatch level lanes hs' gs cs m ≡ state_of spans recorded old dispatch level lanes hs gs cs m) × (IsKept kept is_whole old (state_of spans recorded old dispatch level lanes hs gs cs m) → IsKept kept is_whole new (state_of spans recorded new dispatch level lanes hs' gs cs m))
+made_alike {S} spans recorded attaches kept is_whole same law records old new dispatch level lanes hs hs' gs cs m handles did =
     let alike = law old new dispatch did in
     let sites = ap (λ (w : Worlds S). w.sites) did.others in
-    let state : state_of spans recorded new dispatch level lanes hs' gs m ≡ state_of spans recorded old dispatch level lanes hs gs m = rw (alike.spans_same, sites, records old new dispatch did, handles) refl in
+    let state : state_of spans recorded new dispatch level lanes hs' gs cs m ≡ state_of spans recorded old dispatch level lanes hs gs cs m = rw (alike.spans_same, sites, records old new dispatch did, handles) refl in
     (state, λ inv. kept_alike spans recorded attaches kept is_whole old new _ _ inv state alike)

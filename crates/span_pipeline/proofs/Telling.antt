@@ -31,7 +31,7 @@ use Rattle.span_pipeline.specs.Fields.{Fields, all_values}
 use Rattle.span_pipeline.specs.Effects.{Resolved, named, effect_of_call, scope_at, on, if_told, tells, events}
 use Rattle.span_pipeline.specs.Slots.{place_for, TellsOnly}
 use Rattle.span_pipeline.specs.Balance.{Balanced, named_by, opened_by}
-use Rattle.span_pipeline.specs.Fits.{State, state_of, laned, held_by, StandsFor, MadeFit, LanesFit, IsKept, Served}
+use Rattle.span_pipeline.specs.Fits.{Named, State, state_of, laned, held_by, StandsFor, MadeFit, LanesFit, IsKept, Served}
 use Rattle.span_pipeline.proofs.Standing.{fits_step}
 use Rattle.span_pipeline.proofs.Reading.{Law, Recalls}
 use Rattle.span_pipeline.proofs.Keeping.{id_seen}
@@ -88,12 +88,12 @@ module _ {S : Type 0} (spans : S → Spans) (recorded : S → Recording) (attach
     whole = λ has. subst (λ (w : Worlds S). Has is_whole w dispatch) (sym same) has;
   }
 
-  module _ (dispatch : ℕ) (level : LevelFilter) (lanes : List Lane) (hs : List (Option Handle)) (gs : List (Option Guard)) (m at lane : ℕ) where
+  module _ (dispatch : ℕ) (level : LevelFilter) (lanes : List Lane) (hs : List (Option Handle)) (gs : List (Option Guard)) (cs : Named) (m at lane : ℕ) where
     abbrev now : State
-    now = state_of spans recorded old dispatch level lanes hs gs m
+    now = state_of spans recorded old dispatch level lanes hs gs cs m
 
     abbrev then : State
-    then = state_of spans recorded new dispatch level lanes hs gs at
+    then = state_of spans recorded new dispatch level lanes hs gs cs at
 
     abbrev r : Recording
     r = seen recorded no_recording old dispatch
@@ -115,6 +115,8 @@ module _ {S : Type 0} (spans : S → Spans) (recorded : S → Recording) (attach
           handles_are = refl;
           sites_are = refl;
           guards_are = refl;
+          attaches_are = refl;
+          named_are = refl;
           moment_is = refl;
           balanced = subst (λ (x : Spans). Balanced x (map named_by t.handles) (map (opened_by ids) t.guards) t.entries) (sym step) fits.balanced;
           made_fit = subst (λ (x : Spans). MadeFit x.made t.made) (sym step) fits.made;
@@ -127,7 +129,7 @@ module _ {S : Type 0} (spans : S → Spans) (recorded : S → Recording) (attach
           one = subst (λ (x : Spans). OneEach x.lanes) (sym step) fits.one_lane;
         }))
         (λ s some. known_still now then t e r.tokens rec_is stands.recording s refl (subst (λ (x : Spans). 0 < (span_at x.made s).holds) step some))
-        (all_same now then t.contexts setup refl (ap (λ (x : Recording). x.tokens) rec_is) stands.recording.attached)
+        (all_same now then t.contexts setup refl refl (ap (λ (x : Recording). x.tokens) rec_is) stands.recording.attached)
 
     pub keeps_ops : (inv : IsKept kept is_whole old now) (o : List Done) (answer : Reply) (resolved : Resolved) → Does dispatch at o → resolved ≡ Ok (tells at (id_at now.setup.ids lane) answer o) → IsKept kept is_whole new then
     keeps_ops inv o answer resolved did is =
@@ -135,7 +137,7 @@ module _ {S : Type 0} (spans : S → Spans) (recorded : S → Recording) (attach
         (subst (λ (f : ℕ → ℕ → ℕ). LanesFit f (map laned lanes)) (sym did.kept_same) inv.lanes)
 
   module _ (does : S → SubscriberCall → S → Type 0) (law : Law spans recorded attaches kept is_whole does) (recalls : Recalls spans recorded attaches kept is_whole does)
-      (dispatch : ℕ) (level : LevelFilter) (lanes : List Lane) (hs : List (Option Handle)) (gs : List (Option Guard)) (m at lane : ℕ) where
+      (dispatch : ℕ) (level : LevelFilter) (lanes : List Lane) (hs : List (Option Handle)) (gs : List (Option Guard)) (cs : Named) (m at lane : ℕ) where
     module _ (under : Place) (p : Parent) (found : place_for (map held_by hs) under ≡ Some p) (found_site site : ℕ) (sited_is : found_site ≡ site) (lvl : Level) (leveled : option_map (λ (c : Callsite). c.level) (event_site old.sites site) ≡ Some lvl)
         (fields : Fields) (values : ValueSet) (given : Callsite) (given_is : slice_get old.sites found_site ≡ Some given) (valued : all_values given fields ≡ Some values)
         (before : Lane) (within : lane < length lanes) (here : before ≡ get_or lanes lane before) (enabled : Bool) (through : enabled ≡ is_within lvl level) (did : TellsOnly does enabled old new before at p found_site values dispatch) where
@@ -147,12 +149,12 @@ module _ {S : Type 0} (spans : S → Spans) (recorded : S → Recording) (attach
 
       -- the op that it is, on the own span of the scope that it reaches
       abbrev ops_of : Bool → Scope → List Done
-      ops_of b reached = if_told b (on reached (event_of its_site.0 values (r dispatch level lanes hs gs m at lane).settings at))
+      ops_of b reached = if_told b (on reached (event_of its_site.0 values (r dispatch level lanes hs gs cs m at lane).settings at))
 
-      does_told : (t : Tables) → StandsFor (now dispatch level lanes hs gs m at lane) t → (b : Bool) → TellsOnly does b old new before at p found_site values dispatch → (reached : Scope) → place_on (entries_on before.id (spans_in spans old dispatch).lanes) p ≡ own reached
+      does_told : (t : Tables) → StandsFor (now dispatch level lanes hs gs cs m at lane) t → (b : Bool) → TellsOnly does b old new before at p found_site values dispatch → (reached : Scope) → place_on (entries_on before.id (spans_in spans old dispatch).lanes) p ≡ own reached
           → Does dispatch at (ops_of b reached)
       does_told t stands true told reached reaches =
-          let rec = r dispatch level lanes hs gs m at lane in
+          let rec = r dispatch level lanes hs gs cs m at lane in
           let shown = law old new dispatch _ told.told in
           record {
             spans_same = shown.spans_after;
@@ -168,11 +170,11 @@ module _ {S : Type 0} (spans : S → Spans) (recorded : S → Recording) (attach
       record Told (t : Tables) : Type 0 where
         ops : List Done
         done : Does dispatch at ops
-        is : effect_of_call (now dispatch level lanes hs gs m at lane).setup t at lane (call.Event site under fields) ≡ Ok (tells at (id_at (now dispatch level lanes hs gs m at lane).setup.ids lane) (reply.Enabled enabled) ops)
+        is : effect_of_call (now dispatch level lanes hs gs cs m at lane).setup t at lane (call.Event site under fields) ≡ Ok (tells at (id_at (now dispatch level lanes hs gs cs m at lane).setup.ids lane) (reply.Enabled enabled) ops)
 
-      told : (t : Tables) → StandsFor (now dispatch level lanes hs gs m at lane) t → Told t
+      told : (t : Tables) → StandsFor (now dispatch level lanes hs gs cs m at lane) t → Told t
       told t stands =
-          let k = now dispatch level lanes hs gs m at lane in
+          let k = now dispatch level lanes hs gs cs m at lane in
           let id = id_at k.setup.ids lane in
           let callsite = its_site.0 in
           let up = find_up k t stands.fits id under p found in
@@ -186,8 +188,8 @@ module _ {S : Type 0} (spans : S → Spans) (recorded : S → Recording) (attach
                 ∙ ap (λ (b : Bool). Ok (tells at id (reply.Enabled b) (ops_of b up.up))) (ap (λ (l : Level). is_within l level) its_site.2 ∙ sym through);
           }
 
-      pub serves_told : (t : Tables) → StandsFor (now dispatch level lanes hs gs m at lane) t → Served (effect_of_call (now dispatch level lanes hs gs m at lane).setup t at lane (call.Event site under fields)) t (now dispatch level lanes hs gs m at lane) (then dispatch level lanes hs gs m at lane) (reply.Enabled enabled)
-      serves_told t stands = (let e = told t stands in serves_ops dispatch level lanes hs gs m at lane t stands e.ops (reply.Enabled enabled) _ e.done e.is)
+      pub serves_told : (t : Tables) → StandsFor (now dispatch level lanes hs gs cs m at lane) t → Served (effect_of_call (now dispatch level lanes hs gs cs m at lane).setup t at lane (call.Event site under fields)) t (now dispatch level lanes hs gs cs m at lane) (then dispatch level lanes hs gs cs m at lane) (reply.Enabled enabled)
+      serves_told t stands = (let e = told t stands in serves_ops dispatch level lanes hs gs cs m at lane t stands e.ops (reply.Enabled enabled) _ e.done e.is)
 
-      pub keeps_told : IsKept kept is_whole old (now dispatch level lanes hs gs m at lane) → IsKept kept is_whole new (then dispatch level lanes hs gs m at lane)
-      keeps_told inv = (let e = told inv.tables (record { fits = inv.fits; recording = inv.recording }) in keeps_ops dispatch level lanes hs gs m at lane inv e.ops (reply.Enabled enabled) _ e.done e.is)
+      pub keeps_told : IsKept kept is_whole old (now dispatch level lanes hs gs cs m at lane) → IsKept kept is_whole new (then dispatch level lanes hs gs cs m at lane)
+      keeps_told inv = (let e = told inv.tables (record { fits = inv.fits; recording = inv.recording }) in keeps_ops dispatch level lanes hs gs cs m at lane inv e.ops (reply.Enabled enabled) _ e.done e.is)

@@ -1,10 +1,11 @@
 -- What each request changes, or the first refusal that applies.
-use Rattle.std.specs.Prelude.{ℕ, List, [], ◌∷◌, length, filter, count_by, Bool, true, not, false, if◌then◌else◌, ◌==◌, ◌||◌, ◌&&◌, nat_lt, is_some, Option, Some, None, Result, Ok, Err, slice_get, slice_set, option_and_then}
+use Rattle.std.specs.Prelude.{ℕ, List, [], ◌∷◌, length, filter, count_by, Bool, true, not, false, if◌then◌else◌, ◌==◌, ◌||◌, ◌&&◌, nat_lt, is_some, Option, Some, None, Result, Ok, Err, slice_get, slice_set, option_map, option_and_then}
 use Rattle.std.specs.List.{list_any, range_with_len}
 use Rattle.trace_base.specs.Level.{is_within}
 use Rattle.trace_base.specs.Spans.{is_in, current_of}
 use Rattle.std.specs.Option.{option_to_list}
 use Rattle.otel_base.specs.declared.context.Context.{Context}
+use Rattle.otel_base.specs.Ids.{ids_of}
 use Rattle.otel_base.specs.Stack.{empty_context}
 use Rattle.otel_state.specs.declared.op.Op.{Op}
 use Rattle.otel_state.specs.declared.op.Op.TheVariants as ops
@@ -33,7 +34,7 @@ use Rattle.span_pipeline.specs.declared.request.Call.TheVariants as call
 use Rattle.span_pipeline.specs.declared.request.Request.{Request}
 use Rattle.span_pipeline.specs.declared.request.TheConstants.{LAST_MOMENT}
 use Rattle.span_pipeline.specs.Setups.{Setup, id_at, name_at, span_site, event_site}
-use Rattle.span_pipeline.specs.Tables.{Scope, Done, Attached, Guarded, Effect, quiet, Tables, slot_at, own, site_of, scope_of}
+use Rattle.span_pipeline.specs.Tables.{Scope, Done, Owner, EntryOf, GuardOf, Attached, Guarded, Effect, quiet, Tables, slot_at, own, site_of, scope_of}
 use Rattle.span_pipeline.specs.Fields.{Fields, all_values, values_of, declared_by}
 
 abbrev pub Resolved : Type 0
@@ -168,7 +169,7 @@ active activation scope = if activation then own scope else None
 
 abbrev pub attached_by : Recording → ℕ → Option ℕ → Option Attached
 attached_by r at None = None
-attached_by r at (Some s) = Some (record { span = s; context = own_or empty_context (told_at s (with_start s at r).spans) })
+attached_by r at (Some s) = Some (record { owner = EntryOf s; context = own_or empty_context (told_at s (with_start s at r).spans) })
 
 -- an entry of a handle's span on the lane at a place, by a guard that owns the handle or not
 abbrev pub enters : Setup → Tables → ℕ → ℕ → ℕ → Bool → Scope → Effect
@@ -180,10 +181,15 @@ enters setup t at lane handle owns scope = record (quiet at (id_at setup.ids lan
   entry = own scope;
 }
 
--- an entry that attaches a context meets a full lane: one with as many contexts as may be
-abbrev pub meets_full : Bool → Scope → List Attached → Bool
-meets_full activation scope items = is_some (active activation scope) && length items == 65534
+-- a lane is full that has as many contexts as may be
+abbrev pub is_full : List Attached → Bool
+is_full items = length items == 65534
 
+-- an entry that attaches a context meets a full lane
+abbrev pub meets_full : Bool → Scope → List Attached → Bool
+meets_full activation scope items = is_some (active activation scope) && is_full items
+
+-- what attaches is refused on a full lane
 abbrev pub enters_unless : Bool → ℕ → Effect → Resolved
 enters_unless full lane effect = if full then Err (refusal.Full lane) else Ok effect
 
@@ -196,7 +202,7 @@ abbrev pub exits : Setup → ℕ → ℕ → ℕ → Scope → Effect
 exits setup at lane guard scope = record (quiet at lane reply.Done) {
   spent_guard = Some guard;
   ops = on scope ops.Exit;
-  detach = active setup.layer.activation scope;
+  detach = option_map EntryOf (active setup.layer.activation scope);
   exit = own scope;
 }
 
@@ -239,9 +245,33 @@ updates settings scope fields None = []
 updates settings scope fields (Some callsite) =
     on scope (ops.Update (span_update callsite (values_of callsite fields) settings))
 
+-- ---- contexts
+
+-- a context more, and the span that starts for it
+abbrev pub gives : Tables → ℕ → ℕ → Option ℕ → Context → Effect
+gives t at lane starting context = record (quiet at lane (reply.Context (length t.named) (ids_of context))) {
+  new_context = Some context;
+  starts = option_to_list starting;
+}
+
+-- the own context of a scope's span, which starts; the empty one where there is no span
+abbrev pub own_context : Recording → ℕ → Scope → Context
+own_context r at [] = empty_context
+own_context r at (s ∷ up) = own_or empty_context (told_at s (with_start s at r).spans)
+
+-- an attach to the lane at a place
+abbrev pub attaches : Setup → Tables → ℕ → ℕ → Context → Effect
+attaches setup t at lane context = record (quiet at (id_at setup.ids lane) (reply.Guard (length t.guards))) {
+  new_attach = Some lane;
+  attach = Some (record { owner = GuardOf (length t.guards); context = context });
+}
+
+abbrev pub detaches : ℕ → ℕ → ℕ → Effect
+detaches at lane guard = record (quiet at lane reply.Done) { spent_attach = Some guard; detach = Some (GuardOf guard) }
+
 -- ---- all calls
 
--- what a call on a lane, which is named by its place, at a moment changes; no other kind is built
+-- what a call on a lane, which is named by its place, at a moment changes
 abbrev pub effect_of_call : Setup → Tables → ℕ → ℕ → Call → Resolved
 effect_of_call setup t at lane (call.New site under fields) =
     named what.Site (span_site setup.sites site)
@@ -277,10 +307,16 @@ effect_of_call setup t at lane (call.Event site under fields) =
     (λ callsite. named what.Handle (scope_at t (id_at setup.ids lane) under)
     (λ reached. named what.Field (all_values callsite fields)
     (λ values. Ok (events setup at (id_at setup.ids lane) callsite values reached))))
-effect_of_call setup t at lane (call.Remote ids) = Err refusal.Later
-effect_of_call setup t at lane (call.Context handle) = Err refusal.Later
-effect_of_call setup t at lane (call.Attach context) = Err refusal.Later
-effect_of_call setup t at lane (call.Detach guard) = Err refusal.Later
+effect_of_call setup t at lane (call.Remote ids) = Ok (gives t at (id_at setup.ids lane) None (record { span = Some ids }))
+effect_of_call setup t at lane (call.Context handle) =
+    named what.Handle (slot_at t.handles handle)
+    (λ scope. Ok (gives t at (id_at setup.ids lane) (own scope) (own_context t.recording at scope)))
+effect_of_call setup t at lane (call.Attach context) =
+    named what.Context (slice_get t.named context)
+    (λ given. enters_unless (is_full (t.contexts (id_at setup.ids lane))) lane (attaches setup t at lane given))
+effect_of_call setup t at lane (call.Detach guard) =
+    named what.Guard (slot_at t.attaches guard)
+    (λ mine. exits_on mine lane (detaches at (id_at setup.ids lane) guard))
 
 -- a moment below the one before, or above the last one
 abbrev pub is_bad_moment : ℕ → ℕ → Bool

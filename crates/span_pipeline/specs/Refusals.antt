@@ -27,4 +27,4 @@ takes_no_memory (call.Event site under fields) = false
 takes_no_memory (call.Remote ids) = false
 takes_no_memory (call.Context handle) = false
 takes_no_memory (call.Attach context) = false
-takes_no_memory (call.Detach guard) = false
+takes_no_memory (call.Detach guard) = true

@@ -98,6 +98,17 @@ pub fn keep<T>(slots: &mut Vec<Option<T>>, value: T)
     }
 }
 
+/// Passes over a number, which is a name of another kind, in the room that there is.
+pub fn skip<T>(slots: &mut Vec<Option<T>>)
+    requires { vec_len slots.old < vec_capacity slots.old }
+    ensures { slots.new.items ≡ slots.old.items ++ None ∷ [] }
+{
+    match slots.push(None) {
+        Ok(()) => {}
+        Err(_) => unreachable!(),
+    }
+}
+
 /// Takes out what stands at a number, if it is there and isn't spent.
 pub fn take<T>(slots: &mut Vec<Option<T>>, number: u64) -> Option<T>
     ensures value { result ≡ slice_index_or slots.old.items number None }
