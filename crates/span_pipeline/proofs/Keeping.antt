@@ -18,7 +18,7 @@ use Rattle.otel_layer.specs.Recording.{Recording, no_recording}
 use Rattle.span_pipeline.specs.Tables.{Scope, slot_at}
 use Rattle.span_pipeline.proofs.Naming.{find, held_slot}
 use Rattle.span_pipeline.specs.Setups.{id_at, name_at}
-use Rattle.span_pipeline.specs.Fits.{State, state_of, Laned, laned, no_lane, lane_at, held_by, LanesFit, IsKept, held_of}
+use Rattle.span_pipeline.specs.Fits.{Named, State, state_of, Laned, laned, no_lane, lane_at, held_by, LanesFit, IsKept, held_of}
 
 pub on_err : {T E : Type 0} (result : Result T E) (P : Type 0) → P → OnErr result P
 on_err (Ok v) P p = tt
