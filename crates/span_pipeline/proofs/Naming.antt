@@ -41,7 +41,6 @@ slots_map f xs new spent = spend_map f (with_new xs (option_map Some new)) (with
     new_map None = refl
     new_map (Some x) = sym (map_push (option_map f) xs (Some x))
 
-
 -- where the numbers are shared with another kind
 pub either_map : {A B C : Type 0} (f : A → B) (xs : List (Option A)) (new : Option A) (other : Option C) (spent : Option ℕ) → either_after (map (option_map f) xs) (option_map f new) other spent ≡ map (option_map f) (either_after xs new other spent)
 either_map {A} {B} {C} f xs new other spent = spend_map f (with_either xs new other) (with_either (map (option_map f) xs) (option_map f new) other) (by_new new other) spent

@@ -31,7 +31,7 @@ use Rattle.span_pipeline.specs.declared.request.Call.TheVariants as call
 use Rattle.span_pipeline.specs.declared.request.Request.{Request}
 use Rattle.span_pipeline.specs.declared.request.TheConstants.{LAST_MOMENT}
 use Rattle.span_pipeline.specs.Setups.{Setup, id_at, name_at, span_site, event_site}
-use Rattle.span_pipeline.specs.Tables.{Scope, Done, Owner, EntryOf, GuardOf, Attached, Guarded, Effect, quiet, Tables, slot_at, own, scope_of}
+use Rattle.span_pipeline.specs.Tables.{Scope, Done, EntryOf, GuardOf, Attached, Guarded, Effect, quiet, Tables, slot_at, own, scope_of}
 
 abbrev pub Resolved : Type 0
 Resolved = Result Effect Refusal
