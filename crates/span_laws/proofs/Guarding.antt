@@ -24,7 +24,7 @@ pub record IsGuarded (ids : List ℕ) (hs : List (Option Scope)) (gs : List (Opt
 -- its entry, or a guard less with it.
 pub data Enters (ids : List ℕ) (hs : List (Option Scope)) (gs : List (Option Guarded)) (lane : ℕ) : Option Guarded → Option ℕ → Option ℕ → Option ℕ → Option ℕ → Type 0 where
   no_entry : Enters ids hs gs lane None None None None None
-  passes : (place : ℕ) → Enters ids hs gs lane None (Some place) None None None
+  skips : (place : ℕ) → Enters ids hs gs lane None (Some place) None None None
   enters_by : (g : Guarded) → slot_at hs g.handle ≡ Some g.scope → lane ≡ id_at ids g.lane → Enters ids hs gs lane (Some g) None None (own g.scope) None
   exits_by : (n : ℕ) (g : Guarded) → slot_at gs n ≡ Some g → lane ≡ id_at ids g.lane → Enters ids hs gs lane None None (Some n) None (own g.scope)
 
@@ -95,7 +95,7 @@ module _ (ids : List ℕ) (hs : List (Option Scope)) (gs : List (Option Guarded)
   -- after an effect's guard
   pub guarded_after : (lane : ℕ) (new : Option Guarded) (attach spent entry exit : Option ℕ) → Enters ids hs gs lane new attach spent entry exit → IsGuarded ids hs (either_after gs new attach spent) (with_exit (with_entry es lane entry) lane exit)
   guarded_after lane _ _ _ _ _ no_entry = now
-  guarded_after lane _ _ _ _ _ (passes place) = record {
+  guarded_after lane _ _ _ _ _ (skips place) = record {
     still = λ n x is. named_push (λ (y : Guarded). slot_at hs y.handle ≡ Some y.scope) gs None now.still (λ y e. absurd (cc e)) n x is;
     counted = λ l s. (let push = count_push (is_on ids l s) gs None in let before = now.counted l s in omega (arith, push, before));
   }

@@ -22,7 +22,7 @@ use Rattle.span_pipeline.specs.Tables.{Scope, Made, Done, Guarded, Effect, Table
 use Rattle.span_pipeline.specs.Fields.{all_values}
 use Rattle.span_pipeline.specs.Effects.{Resolved, named, is_open, holds, closed_of, is_borrowed, scope_at, parent_at, made_at, makes_span, declines, clones, drops, current_scope, scope_or_current, exchanges, enters, meets_full, opens, exits, exits_on, is_shared, tells, is_full, gives, own_context, attaches, detaches, is_bad_moment, effect_of, effect_of_call}
 use Rattle.span_laws.specs.Laws.{occurrences}
-use Rattle.span_laws.proofs.Guarding.{Enters, no_entry, passes, enters_by, exits_by}
+use Rattle.span_laws.proofs.Guarding.{Enters, no_entry, skips, enters_by, exits_by}
 use Rattle.span_laws.proofs.Occurrences.{held_push, held_set, any_counted, is_in_counted, occurs_filter, slot_push}
 
 -- a scope that an unspent handle has, or none
@@ -106,7 +106,7 @@ module _ (setup : Setup) (t : Tables) (currents : (lane : ℕ) → IsKnown t.han
   given at lane starting context = record { names = no_name; enters = no_entry; spends = no_spending }
 
   attached : (at lane : ℕ) (context : Context) → Step (attaches setup t at lane context)
-  attached at lane context = record { names = no_name; enters = passes lane; spends = no_spending }
+  attached at lane context = record { names = no_name; enters = skips lane; spends = no_spending }
 
   detached : (at lane guard : ℕ) → Step (detaches at lane guard)
   detached at lane guard = record { names = no_name; enters = no_entry; spends = no_spending }

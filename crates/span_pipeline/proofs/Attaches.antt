@@ -1,6 +1,6 @@
 -- Attaches to a lane, served.
 use Rattle.std.specs.Prelude.{◌==◌, Result}
-use Rattle.std.proofs.Common.{◌≡◌, ℕ, ◌+◌, ◌<◌, List, [], ◌∷◌, ◌++◌, length, get_or, set, Bool, true, false, cond, count_by, Option, Some, None, Ok, Err, option_map, map, refl, sym, ap, subst, ◌∙◌, arith, slice_get}
+use Rattle.std.proofs.Common.{◌≡◌, ℕ, ◌<◌, List, [], ◌∷◌, ◌++◌, length, get_or, set, false, count_by, Option, Some, None, Ok, Err, option_map, map, refl, sym, ap, subst, ◌∙◌, arith, slice_get}
 use Rattle.std.proofs.lemmas.Bool.{ne_eqb, eq-eqb, cond-true, cond-false, true≢false}
 use Rattle.std.proofs.lemmas.List.{length-map, length_push, map_push}
 use Rattle.otel_base.specs.declared.context.Context.{Context}
@@ -9,12 +9,11 @@ use Rattle.otel_base.specs.declared.enter_error.EnterError.TheVariants as errors
 use Rattle.otel_base.specs.Stack.{has}
 use Rattle.trace_base.specs.declared.lane.Lane.{Lane}
 use Rattle.trace_base.specs.declared.level.LevelFilter.{LevelFilter}
-use Rattle.trace_base.specs.Contexts.{attached_as}
 use Rattle.trace_base.specs.Gate.{Worlds}
-use Rattle.trace_base.specs.Spans.{Spans, span_at}
+use Rattle.trace_base.specs.Spans.{Spans}
 use Rattle.trace_base.proofs.Entering.{count_push}
 use Rattle.otel_layer.specs.Recording.{Recording, no_recording}
-use Rattle.span_handles.specs.Worlds.{seen, spans_in, kept_in}
+use Rattle.span_handles.specs.Worlds.{seen, kept_in}
 use Rattle.span_handles.specs.Handles.{Handle}
 use Rattle.span_pipeline.specs.declared.contexts.Attach.{Attach}
 use Rattle.span_pipeline.specs.declared.slots.Guard.{Guard}
@@ -25,10 +24,10 @@ use Rattle.span_pipeline.specs.declared.reply.What.TheVariants as what
 use Rattle.span_pipeline.specs.declared.request.Call.TheVariants as call
 use Rattle.span_pipeline.specs.Refusals.{refused_entry}
 use Rattle.span_pipeline.specs.Setups.{id_at}
-use Rattle.span_pipeline.specs.Tables.{Owner, GuardOf, Attached, Guarded, Effect, Tables, slot_at, with_attached}
+use Rattle.span_pipeline.specs.Tables.{GuardOf, Attached, Guarded, Effect, Tables, slot_at, with_attached}
 use Rattle.span_pipeline.specs.Effects.{Resolved, named, effect_of_call, is_full, enters_unless, attaches}
 use Rattle.span_pipeline.specs.Balance.{Balanced, Opened, named_by, opened_by}
-use Rattle.span_pipeline.specs.Fits.{Named, State, state_of, Laned, laned, lane_at, lane_of, StandsFor, AllContextsFit, LanesFit, IsKept, Served, is_room}
+use Rattle.span_pipeline.specs.Fits.{Named, State, state_of, Laned, laned, lane_at, lane_of, StandsFor, AllContextsFit, IsKept, Served, is_room}
 use Rattle.span_pipeline.proofs.Balancing.{quiet_guard}
 use Rattle.span_pipeline.proofs.Keeping.{lane_seen, lanes_same, same_lane, id_seen, ids_same, names_same, are_attached, lanes_after}
 use Rattle.span_pipeline.proofs.Laned.{all_attached}

@@ -1,19 +1,17 @@
 -- The contexts of a lane, and who attached each.
-use Rattle.std.specs.Prelude.{◌==◌, ◌||◌, ◌&&◌, if◌then◌else◌, filter, eqb}
+use Rattle.std.specs.Prelude.{◌||◌, if◌then◌else◌, filter, eqb}
 use Rattle.std.specs.List.{list_any}
 use Rattle.std.proofs.Common.{◌≡◌, ℕ, List, [], ◌∷◌, ◌++◌, Bool, true, false, Option, Some, None, map, refl, sym, ap, subst, ◌∙◌, inl, inr}
-use Rattle.std.proofs.lemmas.Bool.{cases_Bool, cases_eq, eq-eqb, eqb-true, ne_eqb, cond-true, cond-false, or_parts, or_cases, true≢false, and_parts}
-use Rattle.std.proofs.lemmas.List.{append-nil}
+use Rattle.std.proofs.lemmas.Bool.{cases_Bool, eq-eqb, eqb-true, ne_eqb, cond-true, cond-false, or_parts, or_cases, true≢false}
 use Rattle.otel_base.specs.declared.context.Context.{Context}
 use Rattle.otel_base.specs.Stack.{has, without, last_context}
 use Rattle.otel_state.specs.Stack.{last_passing}
 use Rattle.trace_base.specs.Spans.{without_last}
 use Rattle.otel_layer.specs.declared.tokens.Token.{Token}
 use Rattle.otel_layer.specs.Core.{is_token}
-use Rattle.span_pipeline.specs.Tables.{Owner, EntryOf, GuardOf, Attached, is_owner, is_by, slot_at}
+use Rattle.span_pipeline.specs.Tables.{Owner, EntryOf, GuardOf, Attached, is_owner, is_by}
 use Rattle.span_pipeline.specs.Effects.{last_attached}
-use Rattle.span_pipeline.specs.declared.contexts.Attach.{Attach}
-use Rattle.span_pipeline.specs.Fits.{numbers_of, tokens_of, kept_on, numbers_by, AreDistinct, ContextsFit}
+use Rattle.span_pipeline.specs.Fits.{numbers_of, tokens_of, AreDistinct, ContextsFit}
 
 -- ---- owners
 

@@ -1,6 +1,6 @@
 -- An entry on a lane with as many contexts as may be.
-use Rattle.std.specs.Prelude.{◌==◌, ◌&&◌, ◌||◌, ◌≢◌}
-use Rattle.std.proofs.Common.{◌≡◌, ℕ, ◌<◌, List, [], ◌∷◌, length, get_or, Bool, true, false, Option, Some, None, Ok, Err, map, refl, sym, ap, subst, ◌∙◌, arith, inl, inr, slice_get}
+use Rattle.std.specs.Prelude.{◌&&◌, ◌||◌, ◌≢◌}
+use Rattle.std.proofs.Common.{◌≡◌, ℕ, ◌<◌, List, [], ◌∷◌, length, get_or, Bool, true, false, Option, Some, None, Err, map, refl, sym, ap, subst, ◌∙◌, arith, inl, inr, slice_get}
 use Rattle.std.proofs.lemmas.Bool.{cases_Bool, eq-eqb, eqb-true, cond-true, true≢false}
 use Rattle.std.proofs.lemmas.List.{length-map}
 use Rattle.otel_base.specs.declared.context.Context.{Context}
@@ -13,12 +13,10 @@ use Rattle.trace_base.specs.declared.lane.Lane.{Lane}
 use Rattle.trace_base.specs.declared.level.LevelFilter.{LevelFilter}
 use Rattle.trace_base.specs.Gate.{Worlds}
 use Rattle.trace_base.specs.Spans.{Spans}
-use Rattle.span_handles.specs.Worlds.{Has, seen}
 use Rattle.span_handles.specs.Handles.{Handle, Held}
 use Rattle.span_handles.specs.Entries.{MeetsFullLane}
 use Rattle.span_pipeline.specs.declared.slots.Guard.{Guard}
 use Rattle.span_pipeline.specs.declared.reply.Refusal.{Refusal}
-use Rattle.span_pipeline.specs.declared.reply.Refusal.TheVariants as refusal
 use Rattle.span_pipeline.specs.declared.reply.What.TheVariants as what
 use Rattle.span_pipeline.specs.Setups.{id_at}
 use Rattle.span_pipeline.specs.Balance.{named_by, opened_by}

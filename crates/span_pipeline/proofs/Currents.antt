@@ -1,5 +1,5 @@
 -- Handles of a lane's current span, and handles that are exchanged for one of these, served.
-use Rattle.std.proofs.Common.{◌≡◌, ℕ, ◌+◌, ◌<◌, ◌≤◌, List, [], ◌∷◌, ◌++◌, length, Bool, true, false, cond, count_by, set, slice_set, get_or, Option, Some, None, Ok, Err, option_map, map, refl, sym, ap, subst, ◌∙◌, arith}
+use Rattle.std.proofs.Common.{◌≡◌, ℕ, ◌+◌, ◌<◌, ◌≤◌, List, [], ◌∷◌, ◌++◌, length, Bool, true, false, cond, set, slice_set, get_or, Option, Some, None, Ok, Err, option_map, map, refl, sym, ap, subst, ◌∙◌, arith}
 use Rattle.std.specs.Prelude.{is_some, IfSome}
 use Rattle.std.specs.Option.{option_map_or}
 use Rattle.std.proofs.lemmas.Bool.{cond-true, cond-false}
@@ -15,8 +15,8 @@ use Rattle.trace_base.specs.Calls.{SubscriberCall, CloneSpan}
 use Rattle.trace_base.specs.Conditions.{IsLive}
 use Rattle.trace_base.specs.Sound.{OneEach}
 use Rattle.trace_base.proofs.Entering.{count_push}
-use Rattle.span_handles.specs.Worlds.{Has, Replaced, seen, spans_in, kept_in, no_spans}
-use Rattle.span_handles.specs.Handles.{Handle, Held, id_of, no_handle, handle_of, ReplacedOn, Copies, IsCurrent}
+use Rattle.span_handles.specs.Worlds.{Has, seen, spans_in, kept_in, no_spans}
+use Rattle.span_handles.specs.Handles.{Handle, Held, id_of, ReplacedOn, Copies, IsCurrent}
 use Rattle.span_pipeline.specs.declared.slots.Guard.{Guard}
 use Rattle.span_pipeline.specs.declared.reply.Reply.TheVariants as reply
 use Rattle.span_pipeline.specs.declared.reply.Refusal.TheVariants as refusal
@@ -28,17 +28,17 @@ use Rattle.otel_layer.specs.Recording.{Recording, no_recording}
 use Rattle.span_pipeline.specs.Tables.{Scope, Made, Guarded, Effect, Tables, slot_at, slots_after, own, site_of}
 use Rattle.span_pipeline.specs.Effects.{Resolved, named, effect_of_call, clones, current_scope, scope_or_current, exchanges, is_borrowed, drops_unless}
 use Rattle.span_pipeline.specs.Slots.{is_named}
-use Rattle.span_pipeline.specs.Balance.{Balanced, Opened, names, named_by, opened_by}
+use Rattle.span_pipeline.specs.Balance.{Balanced, names, named_by, opened_by}
 use Rattle.span_pipeline.specs.Fits.{Named, State, state_of, Laned, laned, Fits, StandsFor, MadeFit, LanesFit, IsKept, Served, IsScope, held_of, held_by, site_by}
 use Rattle.span_pipeline.proofs.Naming.{Found, find, held_slot, named_within}
 use Rattle.span_pipeline.proofs.Sited.{site_slot, site_found, copied_site}
 use Rattle.span_pipeline.proofs.Standing.{fits_step}
 use Rattle.span_pipeline.proofs.Balancing.{named_slot, set_none}
-use Rattle.span_pipeline.proofs.Reading.{Law, Recalls, ShownOn, shown_on}
+use Rattle.span_pipeline.proofs.Reading.{Law, Recalls, shown_on}
 use Rattle.span_pipeline.proofs.Keeping.{id_seen, ids_same, names_same, lanes_same}
 use Rattle.span_pipeline.proofs.Refusing.{within_get}
 use Rattle.span_pipeline.proofs.Serving.{serve, known_still, all_same, kept_served, call_count, call_sites, call_whole}
-use Rattle.span_pipeline.proofs.Cloning.{FoundUp, find_up, spans_held, balanced_decline, another_handle}
+use Rattle.span_pipeline.proofs.Cloning.{find_up, spans_held, balanced_decline, another_handle}
 use Rattle.span_pipeline.proofs.Copies.{held_scope_most, clone_live, one_clone, made_clone, the_scope, enabled_is, still_named_more, held_spans, clone_kept, clone_recorded}
 use Rattle.span_pipeline.proofs.Dropping.{not_borrowed, opened_handle, borrowed_is, still_spent}
 

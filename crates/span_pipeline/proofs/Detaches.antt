@@ -1,19 +1,19 @@
 -- Detaches from a lane, served.
 use Rattle.std.specs.Prelude.{◌==◌, slice_set}
-use Rattle.std.proofs.Common.{◌≡◌, ℕ, ◌+◌, ◌<◌, ◌≤◌, List, [], ◌∷◌, ◌++◌, length, get_or, set, Bool, true, false, cond, count_by, Option, Some, None, Ok, Err, option_map, map, refl, sym, ap, subst, ◌∙◌, arith, inl, inr}
-use Rattle.std.proofs.lemmas.Bool.{cases_Bool, cases_eq, ne_eqb, eq-eqb, eqb-true, cond-true, cond-false, true≢false}
-use Rattle.std.proofs.lemmas.List.{length-map, length-set, map-set}
+use Rattle.std.proofs.Common.{◌≡◌, ℕ, ◌+◌, ◌<◌, List, [], ◌∷◌, length, get_or, set, true, false, count_by, Option, Some, None, Err, option_map, map, refl, sym, ap, subst, ◌∙◌, arith, inl, inr}
+use Rattle.std.proofs.lemmas.Bool.{cases_Bool, cases_eq, ne_eqb, eq-eqb, eqb-true, cond-true, cond-false}
+use Rattle.std.proofs.lemmas.List.{map-set}
 use Rattle.std.proofs.Math.ListN.{get_or-map}
 use Rattle.otel_base.specs.declared.context.Context.{Context}
 use Rattle.otel_base.specs.Stack.{has, without}
 use Rattle.trace_base.specs.declared.lane.Lane.{Lane}
 use Rattle.trace_base.specs.declared.level.LevelFilter.{LevelFilter}
 use Rattle.trace_base.specs.Gate.{Worlds}
-use Rattle.trace_base.specs.Spans.{Spans, span_at}
+use Rattle.trace_base.specs.Spans.{Spans}
 use Rattle.trace_base.proofs.Entering.{count_cons}
 use Rattle.otel_layer.specs.Core.{kept_by}
 use Rattle.otel_layer.specs.Recording.{Recording, no_recording}
-use Rattle.span_handles.specs.Worlds.{seen, spans_in, kept_in}
+use Rattle.span_handles.specs.Worlds.{seen, kept_in}
 use Rattle.span_handles.specs.Handles.{Handle}
 use Rattle.span_pipeline.specs.declared.contexts.Attach.{Attach}
 use Rattle.span_pipeline.specs.declared.slots.Guard.{Guard}
@@ -22,11 +22,11 @@ use Rattle.span_pipeline.specs.declared.reply.Reply.TheVariants as reply
 use Rattle.span_pipeline.specs.declared.reply.What.TheVariants as what
 use Rattle.span_pipeline.specs.declared.request.Call.TheVariants as call
 use Rattle.span_pipeline.specs.Setups.{id_at}
-use Rattle.span_pipeline.specs.Tables.{Owner, GuardOf, Attached, Effect, Tables, slot_at, with_detached}
+use Rattle.span_pipeline.specs.Tables.{GuardOf, Effect, Tables, slot_at, with_detached}
 use Rattle.span_pipeline.specs.Effects.{Resolved, named, effect_of_call, exits_on, detaches}
-use Rattle.span_pipeline.specs.Fits.{Named, State, state_of, Laned, laned, lane_at, lane_of, numbers_by, StandsFor, Fits, ContextsFit, AllContextsFit, LanesFit, IsKept, Served}
+use Rattle.span_pipeline.specs.Fits.{Named, State, state_of, lane_of, numbers_by, StandsFor, Fits, ContextsFit, AllContextsFit, IsKept, Served}
 use Rattle.span_pipeline.proofs.Attaching.{owned_has}
-use Rattle.span_pipeline.proofs.Keeping.{lane_seen, id_seen, ids_same, names_same, are_attached, lanes_after}
+use Rattle.span_pipeline.proofs.Keeping.{id_seen, ids_same, names_same, are_attached, lanes_after}
 use Rattle.span_pipeline.proofs.Laned.{own_fit, all_detached}
 use Rattle.span_pipeline.proofs.Numbers.{guard_keeps, guard_alone}
 use Rattle.span_pipeline.proofs.Refusing.{within_get}

@@ -1,6 +1,6 @@
 -- Entries and exits, served.
 use Rattle.std.specs.Prelude.{Result, IfOk, IfErr, ◌==◌, ◌≢◌, ◌&&◌, nat_lt, count_by, if◌then◌else◌}
-use Rattle.std.proofs.Common.{◌≡◌, ℕ, ◌+◌, ◌<◌, List, [], ◌∷◌, ◌++◌, length, Bool, true, false, fold, get_or, set, slice_set, Option, Some, None, Ok, option_map, map, refl, sym, ap, subst, ◌∙◌, arith, inl, inr, cond, Err}
+use Rattle.std.proofs.Common.{◌≡◌, ℕ, ◌+◌, ◌<◌, List, [], ◌∷◌, ◌++◌, length, Bool, true, false, fold, get_or, set, slice_set, Option, Some, None, option_map, map, refl, sym, ap, subst, ◌∙◌, arith, inl, inr, cond, Err}
 use Rattle.std.proofs.lemmas.Bool.{cases_eq, cases_Bool, eq-eqb, ne_eqb, cond-true, cond-false}
 use Rattle.std.proofs.lemmas.List.{length-set, length-map, length_push, map_push}
 use Rattle.trace_base.specs.declared.lane.Lane.{Lane}
@@ -29,7 +29,7 @@ use Rattle.otel_state.specs.States.{Told}
 use Rattle.otel_layer.specs.Core.{is_token}
 use Rattle.otel_layer.specs.Table.{told_at, own_or}
 use Rattle.otel_layer.specs.Recording.{Recording, no_recording, with_start, with_starts, with_applied, source_of, RecordsCall, Enters, Exits}
-use Rattle.span_pipeline.specs.Tables.{Scope, Made, Guarded, Effect, Tables, after, recorded_by, slot_at, own, with_entry, with_exit, with_attached, with_detached, open_part, quiet, Owner, EntryOf, Attached}
+use Rattle.span_pipeline.specs.Tables.{Scope, Made, Guarded, Effect, Tables, after, recorded_by, slot_at, own, with_entry, with_exit, with_attached, with_detached, open_part, quiet, EntryOf, Attached}
 use Rattle.span_pipeline.specs.Effects.{Resolved, named, effect_of_call, borrows, is_borrowed, active, attached_by, meets_full, opens, enters, enters_unless, is_shared, unless_shared, exits, exits_on}
 use Rattle.span_pipeline.specs.Slots.{names_handle, is_named, is_shared_by}
 use Rattle.span_pipeline.proofs.Dropping.{borrowed_is}

@@ -14,7 +14,7 @@ use Rattle.otel_layer.specs.declared.tokens.Token.{Token}
 use Rattle.otel_layer.specs.Table.{told_at, own_or}
 use Rattle.otel_layer.specs.Parts.{PartCall, Shows, context_at}
 use Rattle.otel_layer.specs.Asking.{AsksContext, ShowsOn, context_or_empty}
-use Rattle.otel_layer.specs.Recording.{Recording, no_recording, with_start, with_starts, RecordsPart}
+use Rattle.otel_layer.specs.Recording.{Recording, no_recording, with_starts, RecordsPart}
 use Rattle.span_handles.specs.Worlds.{Has, Alike, Replaced, seen, spans_in, kept_in}
 use Rattle.span_handles.specs.Handles.{Handle, Held}
 use Rattle.span_pipeline.specs.declared.slots.Guard.{Guard}
@@ -139,16 +139,16 @@ module _ {S : Type 0} (spans : S → Spans) (recorded : S → Recording) (attach
           asks_it.is ∙ ap context_or_empty records.1 ∙ shown_is (told_at s r'.spans) ∙ ap (λ (x : Recording). own_or empty_context (told_at s x.spans)) records.0,
         )
 
-    pub serves_context : (t : Tables) → StandsFor now t → Served (effect_of_call now.setup t at lane (call.Context handle)) t now (then_with cs') (reply.Context number (ids_of given))
-    serves_context t stands =
+    pub serves_context : (ids : SpanContext) → ids ≡ ids_of given → (t : Tables) → StandsFor now t → Served (effect_of_call now.setup t at lane (call.Context handle)) t now (then_with cs') (reply.Context number ids)
+    serves_context ids ids_are t stands =
         let line = find (held_of dispatch) (map held_by hs) t.handles handle h.held stands.fits.handle_slots (held_slot hs handle h found) in
         let shown = asked line.at h.held line.is did in
         let given_is : given ≡ own_context t.recording at line.at = shown.1 ∙ own_open line.at at r t.recording stands.recording.recorded in
-        subst (λ (c : Context). Served (effect_of_call now.setup t at lane (call.Context handle)) t now (then_with cs') (reply.Context number (ids_of c))) (sym given_is)
+        subst (λ (i : SpanContext). Served (effect_of_call now.setup t at lane (call.Context handle)) t now (then_with cs') (reply.Context number i)) (sym (ids_are ∙ ap (λ (c : Context). ids_of c) given_is))
         (given_served t stands (own line.at) shown.0 (own_context t.recording at line.at) cs' (made_is ∙ ap (λ (c : Context). cs.made ++ c ∷ []) given_is) attaches_are _
         (ap (λ o. named what.Handle o (λ scope. Ok (gives t at place_id (own scope) (own_context t.recording at scope)))) line.there))
 
     pub keeps_context : IsKept kept is_whole new (then_with cs')
     keeps_context =
         let line = find (held_of dispatch) (map held_by hs) inv.tables.handles handle h.held inv.fits.handle_slots (held_slot hs handle h found) in
-        given_kept cs' (own line.at) (asked line.at h.held line.is did).0 _ _ (serves_context inv.tables (record { fits = inv.fits; recording = inv.recording }))
+        given_kept cs' (own line.at) (asked line.at h.held line.is did).0 _ _ (serves_context (ids_of given) refl inv.tables (record { fits = inv.fits; recording = inv.recording }))

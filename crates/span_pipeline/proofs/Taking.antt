@@ -1,16 +1,16 @@
 -- A record that is taken, and how many spans are open.
 use Rattle.std.specs.Prelude.{◌+◌, MatchOption}
-use Rattle.std.proofs.Common.{◌≡◌, ℕ, zero, suc, ◌<◌, ◌≤◌, List, [], ◌∷◌, ◌++◌, length, drop, set, count_by, cond, Bool, true, false, Option, Some, None, option_map, map, refl, sym, ap, subst, ◌∙◌, arith, inl, inr, slice_get}
+use Rattle.std.proofs.Common.{◌≡◌, ℕ, zero, suc, List, [], ◌∷◌, drop, set, Bool, Option, Some, map, refl, sym, ap, subst, ◌∙◌, arith, slice_get}
 use Rattle.std.proofs.lemmas.List.{length-set}
 use Rattle.otel_base.specs.Recorder.{Recorded}
 use Rattle.trace_base.specs.declared.lane.Lane.{Lane}
 use Rattle.trace_base.specs.declared.level.LevelFilter.{LevelFilter}
 use Rattle.trace_base.specs.Gate.{Worlds}
-use Rattle.trace_base.specs.Spans.{Spans, span_at}
+use Rattle.trace_base.specs.Spans.{Spans}
 use Rattle.span_registry.specs.declared.layered.Layered.{Layered}
 use Rattle.span_registry.specs.Registering.{Registered}
 use Rattle.span_registry.specs.Both.{IsWholeBoth}
-use Rattle.span_handles.specs.Worlds.{Has, Replaced, seen, spans_in, kept_in, no_spans}
+use Rattle.span_handles.specs.Worlds.{Replaced, seen, no_spans}
 use Rattle.span_handles.specs.Handles.{Handle}
 use Rattle.span_handles.proofs.Showing.{seen_before, seen_later}
 use Rattle.otel_layer.specs.Core.{Core, Roomed, IsWholeCore, seen_in}
@@ -20,7 +20,7 @@ use Rattle.std.specs.Option.{option_map_or}
 use Rattle.otel_layer.specs.Recording.{Recording, no_recording, recorded}
 use Rattle.span_pipeline.specs.declared.slots.Guard.{Guard}
 use Rattle.span_pipeline.specs.Tables.{Tables}
-use Rattle.span_pipeline.specs.Fits.{Named, State, state_of, Fits, RecordingFits, StandsFor, LanesFit, IsKept, laned, without_first}
+use Rattle.span_pipeline.specs.Fits.{Named, State, state_of, Fits, StandsFor, LanesFit, IsKept, laned, without_first}
 
 -- what is kept fits without its oldest record
 fits_taken : (k : State) (t : Tables) → Fits k t → Fits (without_first k) t

@@ -34,7 +34,7 @@ use Rattle.span_pipeline.specs.declared.request.Call.TheVariants as call
 use Rattle.span_pipeline.specs.declared.request.Request.{Request}
 use Rattle.span_pipeline.specs.declared.request.TheConstants.{LAST_MOMENT}
 use Rattle.span_pipeline.specs.Setups.{Setup, id_at, name_at, span_site, event_site}
-use Rattle.span_pipeline.specs.Tables.{Scope, Done, Owner, EntryOf, GuardOf, Attached, Guarded, Effect, quiet, Tables, slot_at, own, site_of, scope_of}
+use Rattle.span_pipeline.specs.Tables.{Scope, Done, EntryOf, GuardOf, Attached, Guarded, Effect, quiet, Tables, slot_at, own, site_of, scope_of}
 use Rattle.span_pipeline.specs.Fields.{Fields, all_values, values_of, declared_by}
 
 abbrev pub Resolved : Type 0

@@ -1,5 +1,5 @@
 //! Contexts by their numbers, and the guards of attaches.
-ghost use Rattle.std.specs.Prelude.{◌≡◌, ◌<◌, ◌++◌, [], ◌∷◌, vec_len, vec_capacity};
+ghost use Rattle.std.specs.Prelude.{◌≡◌, ◌<◌, ◌++◌, [], ◌∷◌, slice_get, vec_len, vec_capacity};
 ghost use Rattle.span_pipeline.specs.Fits.{named_in};
 
 use otel_base::context::Context;
@@ -40,6 +40,16 @@ impl Contexts {
             made: Vec::new(alloc),
             attaches: Vec::new(alloc),
         }
+    }
+}
+
+/// The context of a number, if it is there.
+pub fn context_at(contexts: &Vec<Context>, number: u64) -> Option<Context>
+    ensures { result ≡ slice_get contexts.now.items number }
+{
+    match contexts.get(number as usize) {
+        Some(context) => Some(*context),
+        None => None,
     }
 }
 

@@ -7,7 +7,7 @@ ghost use Rattle.span_handles.specs.Worlds.{Has};
 ghost use Rattle.span_pipeline.specs.declared.reply.Refusal.TheVariants.{Memory as NoMemory};
 ghost use Rattle.span_pipeline.specs.declared.request.Call.{Call};
 
-use crate::contexts::{Attach, add};
+use crate::contexts::{Attach, add, context_at};
 use crate::pipeline::{MOST, Pipeline};
 use crate::reply::{Refusal, Reply, What};
 use crate::slots::{keep, skip, slot_at, take};
@@ -110,12 +110,11 @@ impl Pipeline {
             return Err(Refusal::Memory);
         }
         let guard = self.guards.len() as u64;
-        let Some(given) = self.contexts.made.get(context as usize) else {
+        let Some(given) = context_at(&self.contexts.made, context) else {
             return Err(Refusal::UnknownName {
                 what: What::Context,
             });
         };
-        let given = *given;
         self.guards.reserve(1)?;
         self.contexts.attaches.reserve(1)?;
         let attached = match attach_to(&mut self.lanes[lane as usize], given) {

@@ -1,6 +1,5 @@
 -- The oldest record.
-use Rattle.std.proofs.Common.{rules, false, refl, sym, ap, ◌∙◌, slice_get}
-use Rattle.otel_base.specs.declared.record.Record.{Record}
+use Rattle.std.proofs.Common.{rules, false, sym, ap, ◌∙◌, slice_get}
 use Rattle.otel_layer.specs.Recording.{Recording, no_recording, recorded}
 use Rattle.span_pipeline.specs.Fits.{named_in, State, without_first}
 use Rattle.span_pipeline.proofs.Taking.{state_taken, kept_taken, taken_stack, oldest_is, seen_there, finished_is}
