@@ -153,7 +153,7 @@ step_stands : (ids : List ℕ) (t : Tables) (e : Effect) → Stands ids t → Is
 step_stands ids t e now step = record {
   sound = spends_stand _ _ _ t.closed (names_stand t.handles t.made t.closed now.sound e.new_handle e.made step.names) e.spent_handle e.closes step.spends;
   guarded = guards_stand ids _ _ _
-      (guarding.guarded_more ids t.handles _ _ (guarding.guarded_after ids t.handles t.guards t.entries now.guarded e.lane e.new_guard e.spent_guard e.entry e.exit step.enters) e.new_handle)
+      (guarding.guarded_more ids t.handles _ _ (guarding.guarded_after ids t.handles t.guards t.entries now.guarded e.lane e.new_guard e.new_attach e.spent_guard e.entry e.exit step.enters) e.new_handle)
       e.spent_handle e.closes step.spends;
 }
 
