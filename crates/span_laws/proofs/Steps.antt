@@ -4,18 +4,22 @@ use Rattle.std.proofs.lemmas.Bool.{eqb-true}
 use Rattle.std.proofs.lemmas.Bool.Decides.{nat_tests}
 use Rattle.otel_base.specs.declared.context.Context.{Context}
 use Rattle.trace_base.specs.declared.callsite.Callsite.{Callsite}
+use Rattle.trace_base.specs.declared.field.ValueSet.{ValueSet}
 use Rattle.trace_base.specs.Level.{is_within}
 use Rattle.span_pipeline.specs.declared.request.Request.{Request}
 use Rattle.span_pipeline.specs.declared.request.Place.{Place}
 use Rattle.span_pipeline.specs.declared.request.Place.TheVariants as place
 use Rattle.span_pipeline.specs.declared.request.Call.{Call}
 use Rattle.span_pipeline.specs.declared.request.Call.TheVariants as call
+use Rattle.span_pipeline.specs.declared.reply.Reply.{Reply}
+use Rattle.span_pipeline.specs.declared.reply.Reply.TheVariants as reply
 use Rattle.span_pipeline.specs.declared.reply.Refusal.{Refusal}
 use Rattle.span_pipeline.specs.declared.reply.Refusal.TheVariants as refusal
 use Rattle.span_pipeline.specs.declared.reply.What.{What}
 use Rattle.span_pipeline.specs.declared.reply.What.TheVariants as what
 use Rattle.span_pipeline.specs.Setups.{Setup, id_at, span_site, event_site}
 use Rattle.span_pipeline.specs.Tables.{Scope, Made, Done, Guarded, Effect, Tables, with_new, either_after, slot_at}
+use Rattle.span_pipeline.specs.Fields.{all_values}
 use Rattle.span_pipeline.specs.Effects.{Resolved, named, is_open, holds, closed_of, is_borrowed, scope_at, parent_at, made_at, makes_span, declines, clones, drops, current_scope, scope_or_current, exchanges, enters, meets_full, opens, exits, exits_on, is_shared, tells, is_full, gives, own_context, attaches, detaches, is_bad_moment, effect_of, effect_of_call}
 use Rattle.span_laws.specs.Laws.{occurrences}
 use Rattle.span_laws.proofs.Guarding.{Enters, no_entry, skips, enters_by, exits_by}
@@ -64,8 +68,8 @@ module _ (setup : Setup) (t : Tables) (currents : (lane : ℕ) → IsKnown t.han
   declined : (at lane : ℕ) → Step (declines t at lane)
   declined at lane = record { names = another [] no_scope; enters = no_entry; spends = no_spending }
 
-  made_span : (at lane site : ℕ) (callsite : Callsite) (under : Place) (up : Scope) → IsKnown t.handles up → Step (makes_span setup t at lane site callsite under up)
-  made_span at lane site callsite under up known = record { names = new_span (record { site = site; scope = length t.made ∷ up; told = made_at setup t at lane callsite (parent_at under up) }) up known refl; enters = no_entry; spends = no_spending }
+  made_span : (at lane site : ℕ) (callsite : Callsite) (values : ValueSet) (under : Place) (up : Scope) → IsKnown t.handles up → Step (makes_span setup t at lane site callsite values under up)
+  made_span at lane site callsite values under up known = record { names = new_span (record { site = site; scope = length t.made ∷ up; told = made_at setup t at lane callsite values (parent_at under up) }) up known refl; enters = no_entry; spends = no_spending }
 
   cloned : (at lane : ℕ) (scope : Scope) → IsKnown t.handles scope → Step (clones t at lane scope)
   cloned at lane scope known = record { names = another scope known; enters = no_entry; spends = no_spending }
@@ -95,8 +99,8 @@ module _ (setup : Setup) (t : Tables) (currents : (lane : ℕ) → IsKnown t.han
   exited : (at lane guard : ℕ) (g : Guarded) → slot_at t.guards guard ≡ Some g → lane ≡ id_at setup.ids g.lane → Step (exits setup at lane guard g.scope)
   exited at lane guard g there on = record { names = no_name; enters = exits_by guard g there on; spends = no_spending }
 
-  told : (at lane : ℕ) (enabled : Bool) (done : List Done) → Step (tells t at lane enabled done)
-  told at lane enabled done = record { names = no_name; enters = no_entry; spends = no_spending }
+  told : (at lane : ℕ) (answer : Reply) (done : List Done) → Step (tells at lane answer done)
+  told at lane answer done = record { names = no_name; enters = no_entry; spends = no_spending }
 
   given : (at lane : ℕ) (starting : Option ℕ) (context : Context) → Step (gives t at lane starting context)
   given at lane starting context = record { names = no_name; enters = no_entry; spends = no_spending }
@@ -148,12 +152,13 @@ module _ (setup : Setup) (t : Tables) (currents : (lane : ℕ) → IsKnown t.han
       subst Step (the_effect _ e room.1) (entered at lane handle owns there.0 there.1)
 
   by_call : (at lane : ℕ) (what_for : Call) (e : Effect) → effect_of_call setup t at lane what_for ≡ Ok e → Step e
-  by_call at lane (call.New site under) e is =
+  by_call at lane (call.New site under fields) e is =
       let callsite = found what.Site (span_site setup.sites site) _ e is in
       let up = found what.Handle (scope_at t (id_at setup.ids lane) under) _ e callsite.2 in
-      subst Step (the_effect _ e up.2)
+      let values = found what.Field (all_values callsite.0 fields) _ e up.2 in
+      subst Step (the_effect _ e values.2)
       (if_both (is_within callsite.0.level setup.level) _ _
-      (made_span at lane site callsite.0 under up.0 (known_place (id_at setup.ids lane) under up.0 up.1)) (declined at (id_at setup.ids lane)))
+      (made_span at lane site callsite.0 values.0 under up.0 (known_place (id_at setup.ids lane) under up.0 up.1)) (declined at (id_at setup.ids lane)))
   by_call at lane (call.Clone handle) e is =
       let there = found what.Handle (slot_at t.handles handle) _ e is in
       subst Step (the_effect _ e there.2) (cloned at (id_at setup.ids lane) there.0 (of_handle handle there.0 there.1))
@@ -177,9 +182,17 @@ module _ (setup : Setup) (t : Tables) (currents : (lane : ℕ) → IsKnown t.han
       let there = found what.Handle (slot_at t.handles handle) _ e is in
       let free = unrefused (is_borrowed t.guards handle) refusal.InUse (opens setup t at lane handle true) e there.2 in
       opened at lane handle true e free.1
-  by_call at lane (call.Event site) e is =
+  by_call at lane (call.Record handle fields) e is =
+      let there = found what.Handle (slot_at t.handles handle) _ e is in
+      subst Step (the_effect _ e there.2) (told at (id_at setup.ids lane) reply.Done _)
+  by_call at lane (call.HasField handle name) e is =
+      let there = found what.Handle (slot_at t.handles handle) _ e is in
+      subst Step (the_effect _ e there.2) (told at (id_at setup.ids lane) (reply.Has _) [])
+  by_call at lane (call.Event site under fields) e is =
       let there = found what.Site (event_site setup.sites site) _ e is in
-      subst Step (the_effect _ e there.2) (told at (id_at setup.ids lane) _ _)
+      let reached = found what.Handle (scope_at t (id_at setup.ids lane) under) _ e there.2 in
+      let values = found what.Field (all_values there.0 fields) _ e reached.2 in
+      subst Step (the_effect _ e values.2) (told at (id_at setup.ids lane) (reply.Enabled _) _)
   by_call at lane (call.Remote ids) e is = subst Step (the_effect _ e is) (given at (id_at setup.ids lane) None _)
   by_call at lane (call.Context handle) e is =
       let there = found what.Handle (slot_at t.handles handle) _ e is in

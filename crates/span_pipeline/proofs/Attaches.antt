@@ -113,6 +113,7 @@ module _ {S : Type 0} (spans : S → Spans) (recorded : S → Recording) (kept :
           setup_is = setup_same;
           dispatch_is = refl;
           handles_are = refl;
+          sites_are = refl;
           guards_are = skip;
           attaches_are = ap (map (option_map lane_of)) one ∙ map_push (option_map lane_of) cs.attaches (Some (record { lane = lane; attached = number }));
           named_are = made_same;
@@ -120,6 +121,7 @@ module _ {S : Type 0} (spans : S → Spans) (recorded : S → Recording) (kept :
           balanced = subst (λ (xs : List (Option Opened)). Balanced now.spans (map named_by t.handles) xs t.entries) (sym (map_push (opened_by ids) t.guards None)) (quiet_guard now.spans (map named_by t.handles) (map (opened_by ids) t.guards) t.entries fits.balanced);
           made_fit = fits.made;
           new_made = tt;
+          new_site = tt;
           new_scope = λ l e. absurd (cc e);
           still = named_push (λ (y : Guarded). slot_at t.handles y.handle ≡ Some y.scope) t.guards None fits.still (λ y e. absurd (cc e));
           few = fits.few;

@@ -21,9 +21,10 @@ use Rattle.span_pipeline.specs.Fits.{Named, State, state_of, Fits, StandsFor, Re
 
 -- nothing fits no tables
 pub new_fits : (setup : Setup) (lanes : List Laned) (recording : Recording) (layer : LayerSettings) (dispatch : ℕ) (spans : Spans) → spans ≡ no_spans
-    → Fits (record { setup = setup; spans = spans; lanes = lanes; recording = recording; dispatch = dispatch; handles = []; guards = []; contexts = record { made = []; attaches = [] }; moment = 0 }) (no_tables layer)
-new_fits setup lanes recording layer dispatch spans is = subst (λ (x : Spans). Fits (record { setup = setup; spans = x; lanes = lanes; recording = recording; dispatch = dispatch; handles = []; guards = []; contexts = record { made = []; attaches = [] }; moment = 0 }) (no_tables layer)) (sym is) (record {
+    → Fits (record { setup = setup; spans = spans; lanes = lanes; recording = recording; dispatch = dispatch; handles = []; handle_sites = []; guards = []; contexts = record { made = []; attaches = [] }; moment = 0 }) (no_tables layer)
+new_fits setup lanes recording layer dispatch spans is = subst (λ (x : Spans). Fits (record { setup = setup; spans = x; lanes = lanes; recording = recording; dispatch = dispatch; handles = []; handle_sites = []; guards = []; contexts = record { made = []; attaches = [] }; moment = 0 }) (no_tables layer)) (sym is) (record {
   handle_slots = refl;
+  site_slots = refl;
   guard_slots = refl;
   attach_slots = refl;
   paired = refl;
@@ -35,6 +36,7 @@ new_fits setup lanes recording layer dispatch spans is = subst (λ (x : Spans). 
   scopes = λ n scope there. absurd (cc there);
   still = λ n g there. absurd (cc there);
   own_scopes = λ s within. absurd (omega (arith, within));
+  sited = λ s within. absurd (omega (arith, within));
   few = omega arith;
   few_holds = λ s. omega arith;
 })

@@ -20,8 +20,9 @@ use Rattle.otel_layer.specs.Recording.{Recording, no_recording}
 use Rattle.span_pipeline.specs.Tables.{Scope, Made, Guarded, Effect, Tables, slot_at, own}
 use Rattle.span_pipeline.specs.Effects.{named, effect_of_call, clones}
 use Rattle.span_pipeline.specs.Balance.{Balanced, named_by, opened_by}
-use Rattle.span_pipeline.specs.Fits.{Named, State, state_of, laned, Fits, StandsFor, MadeFit, LanesFit, IsKept, Served, IsScope, held_of, held_by}
+use Rattle.span_pipeline.specs.Fits.{Named, State, state_of, laned, Fits, StandsFor, MadeFit, LanesFit, IsKept, Served, IsScope, held_of, held_by, site_by}
 use Rattle.span_pipeline.proofs.Naming.{find, held_slot, named_within}
+use Rattle.span_pipeline.proofs.Sited.{site_found}
 use Rattle.span_pipeline.proofs.Standing.{fits_step}
 use Rattle.span_pipeline.proofs.Reading.{Law, Recalls, ShownOn, shown_on}
 use Rattle.trace_base.proofs.Holding.{holds_other}
@@ -112,6 +113,7 @@ module _ {S : Type 0} (spans : S → Spans) (recorded : S → Recording) (attach
             setup_is = setup;
             dispatch_is = refl;
             handles_are = ap (map held_by) one ∙ map_push held_by hs (Some copy) ∙ ap (λ (x : Handle). map held_by hs ++ Some x.held ∷ []) is ∙ ap (λ (x : Held). map held_by hs ++ Some x ∷ []) line.is;
+            sites_are = ap (map site_by) one ∙ map_push site_by hs (Some copy) ∙ ap (λ (x : Handle). map site_by hs ++ Some x.site ∷ []) is ∙ ap (λ (o : Option ℕ). map site_by hs ++ Some o ∷ []) (site_found now t fits hs refl handle h found line.at line.there);
             guards_are = refl;
             attaches_are = refl;
             named_are = refl;
@@ -119,6 +121,7 @@ module _ {S : Type 0} (spans : S → Spans) (recorded : S → Recording) (attach
             balanced = subst (λ (x : Spans). Balanced x (map named_by (t.handles ++ Some line.at ∷ [])) (map (opened_by ids) t.guards) t.entries) (sym step) (balanced_clone ids sp t.handles t.guards t.entries fits.balanced handle line.at line.there);
             made_fit = subst (λ (x : Spans). MadeFit x.made t.made) (sym step) (made_clone sp t.made line.at fits.made live);
             new_made = tt;
+            new_site = tt;
             new_scope = λ l e. subst (IsScope t.made) (the_scope line.at l e) (fits.scopes handle line.at line.there);
             still = still_named_more t.guards t.handles line.at fits.still;
             few = (let l = length_push t.handles (Some line.at) in let f = fits.few in omega (arith, l, f));

@@ -109,6 +109,7 @@ module _ {S : Type 0} (spans : S → Spans) (recorded : S → Recording) (kept :
           setup_is = setup_same;
           dispatch_is = refl;
           handles_are = refl;
+          sites_are = refl;
           guards_are = refl;
           attaches_are = ap (map (option_map lane_of)) one ∙ map-set (option_map lane_of) cs.attaches guard None;
           named_are = made_same;
@@ -116,6 +117,7 @@ module _ {S : Type 0} (spans : S → Spans) (recorded : S → Recording) (kept :
           balanced = fits.balanced;
           made_fit = fits.made;
           new_made = tt;
+          new_site = tt;
           new_scope = λ l e. absurd (cc e);
           still = fits.still;
           few = fits.few;

@@ -95,9 +95,9 @@ the_open a b e = cc e
 
 -- an entry
 pub fits_entered : (k next : State) (t : Tables) (at lane handle : ℕ) (owns : Bool) (line : Scope) → Fits k t → slot_at t.handles handle ≡ Some line → next.spans ≡ spans_entered k.spans line (id_at k.setup.ids lane) → next.setup ≡ k.setup
-    → next.dispatch ≡ k.dispatch → next.handles ≡ k.handles → next.guards ≡ k.guards ++ Some (guard_of k.dispatch (record { handle = handle; lane = lane; owns = owns; scope = line })) ∷ [] → next.contexts.made ≡ k.contexts.made → next.contexts.attaches ≡ k.contexts.attaches ++ None ∷ [] → next.moment ≡ at
+    → next.dispatch ≡ k.dispatch → next.handles ≡ k.handles → next.handle_sites ≡ k.handle_sites → next.guards ≡ k.guards ++ Some (guard_of k.dispatch (record { handle = handle; lane = lane; owns = owns; scope = line })) ∷ [] → next.contexts.made ≡ k.contexts.made → next.contexts.attaches ≡ k.contexts.attaches ++ None ∷ [] → next.moment ≡ at
     → Fits next (after t (enters k.setup t at lane handle owns line))
-fits_entered k next t at lane handle owns line fits there step setup dispatch handles guards named attaches moment =
+fits_entered k next t at lane handle owns line fits there step setup dispatch handles sites guards named attaches moment =
     let g : Guarded = record { handle = handle; lane = lane; owns = owns; scope = line } in
     let id = id_at k.setup.ids lane in
     let live : (s : ℕ) (up : Scope) → line ≡ s ∷ up → 0 < (span_at k.spans.made s).holds = λ s up e. fits_live k.spans (map named_by t.handles) (map (opened_by k.setup.ids) t.guards) t.entries fits.balanced handle s (named_slot t.handles handle line there ∙ ap own e) in
@@ -105,6 +105,7 @@ fits_entered k next t at lane handle owns line fits there step setup dispatch ha
       setup_is = setup;
       dispatch_is = dispatch;
       handles_are = handles;
+      sites_are = sites;
       guards_are = guards;
       attaches_are = ap (map (option_map lane_of)) attaches ∙ map_push (option_map lane_of) k.contexts.attaches None;
       named_are = named;
@@ -112,6 +113,7 @@ fits_entered k next t at lane handle owns line fits there step setup dispatch ha
       balanced = subst (λ (x : Spans). Balanced x (map named_by t.handles) (map (opened_by k.setup.ids) (t.guards ++ Some g ∷ [])) (with_entry t.entries id (own line))) (sym step) (balanced_enter k.setup.ids k.spans t.handles t.guards t.entries fits.balanced handle lane owns line there);
       made_fit = subst (λ (x : Spans). MadeFit x.made t.made) (sym step) (made_entered k.spans t.made line id fits.made live);
       new_made = tt;
+      new_site = tt;
       new_scope = λ l e. absurd (cc e);
       still = still_more t.guards t.handles g fits.still there;
       few = fits.few;
@@ -121,14 +123,15 @@ fits_entered k next t at lane handle owns line fits there step setup dispatch ha
 
 -- an exit
 pub fits_exited : (k next : State) (t : Tables) (at guard : ℕ) (g : Guarded) → Fits k t → slot_at t.guards guard ≡ Some g → next.spans ≡ spans_exited k.spans g.scope (id_at k.setup.ids g.lane) → next.setup ≡ k.setup
-    → next.dispatch ≡ k.dispatch → next.handles ≡ k.handles → next.guards ≡ slice_set k.guards guard None → next.contexts ≡ k.contexts → next.moment ≡ at
+    → next.dispatch ≡ k.dispatch → next.handles ≡ k.handles → next.handle_sites ≡ k.handle_sites → next.guards ≡ slice_set k.guards guard None → next.contexts ≡ k.contexts → next.moment ≡ at
     → (lane : ℕ) → lane ≡ id_at k.setup.ids g.lane → Fits next (after t (exits k.setup at lane guard g.scope))
-fits_exited k next t at guard g fits there step setup dispatch handles guards contexts moment lane on =
+fits_exited k next t at guard g fits there step setup dispatch handles sites guards contexts moment lane on =
     let id = id_at k.setup.ids g.lane in
     fits_step k t fits next (exits k.setup at lane guard g.scope) (record {
       setup_is = setup;
       dispatch_is = dispatch;
       handles_are = handles;
+      sites_are = sites;
       guards_are = guards;
       attaches_are = ap (λ (c : Named). map (option_map lane_of) c.attaches) contexts;
       named_are = ap (λ (c : Named). c.made) contexts;
@@ -137,6 +140,7 @@ fits_exited k next t at guard g fits there step setup dispatch handles guards co
           (subst (λ (x : Spans). Balanced x (map named_by t.handles) (map (opened_by k.setup.ids) (slice_set t.guards guard None)) (with_exit t.entries id (own g.scope))) (sym step) (balanced_exit k.setup.ids k.spans t.handles t.guards t.entries fits.balanced guard g there g.scope refl));
       made_fit = subst (λ (x : Spans). MadeFit x.made t.made) (sym step) (made_exited k.spans t.made g.scope id fits.made);
       new_made = tt;
+      new_site = tt;
       new_scope = λ l e. absurd (cc e);
       still = λ n x is. fits.still n x (named_set t.guards guard n x is);
       few = fits.few;
@@ -299,7 +303,7 @@ module _ {S : Type 0} (spans : S → Spans) (recorded : S → Recording) (attach
           (ap (λ o. named what.Guard o (λ (y : Guarded). unless_shared (is_shared t.guards y) (exits_on y.lane lane (exits now.setup at place_id guard y.scope)))) open_one.there
           ∙ cond-false {A = Resolved} (is_shared t.guards x) _ _ (sym (ap (λ (xs : List (Option Guard)). is_shared_by xs g) fits.guard_slots ∙ shared_is dispatch t.guards g x open_one.is) ∙ alone)
           ∙ cond-true {A = Resolved} (x.lane == lane) _ _ (eq-eqb x.lane lane mine))
-          refl setup rec_is.0 rec_is.1 (fits_exited now exited_then t at guard x fits open_one.there step setup refl refl one refl refl place_id lane_is)
+          refl setup rec_is.0 rec_is.1 (fits_exited now exited_then t at guard x fits open_one.there step setup refl refl refl one refl refl place_id lane_is)
           (λ s some. known_still now exited_then t e rec_is.0 rec_is.1 stands.recording s refl (let a = exited_less now.spans x.scope (id_at now.setup.ids x.lane) s in let b = ap (λ (y : Spans). (span_at y.made s).holds) step in omega (arith, a, b, some)))
           rec_is.2
 
@@ -339,7 +343,7 @@ module _ {S : Type 0} (spans : S → Spans) (recorded : S → Recording) (attach
           (ap (λ o. named what.Handle o (λ line. enters_unless (meets_full now.setup.layer.activation line (t.contexts place_id)) lane (enters now.setup t at lane handle owns line))) line.there
           ∙ cond-false {A = Resolved} (meets_full now.setup.layer.activation line.at (t.contexts place_id)) _ _ (free t stands line.at line.there line.is))
           (ap reply.Guard (many ∙ ap length fits.guard_slots ∙ length-map t.guards (option_map (guard_of dispatch))))
-          setup rec_is.0 rec_is.1 (fits_entered now entered_then t at lane handle owns line.at fits line.there step setup refl refl guards_are named_same skip refl)
+          setup rec_is.0 rec_is.1 (fits_entered now entered_then t at lane handle owns line.at fits line.there step setup refl refl refl guards_are named_same skip refl)
           (λ s some. known_still now entered_then t e rec_is.0 rec_is.1 stands.recording s refl (entered_live now.spans line.at place_id s live (subst (λ (y : Spans). 0 < (span_at y.made s).holds) step some)))
           rec_is.2
 

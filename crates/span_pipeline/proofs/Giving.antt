@@ -93,6 +93,7 @@ module _ {S : Type 0} (spans : S → Spans) (recorded : S → Recording) (attach
         setup_is = setup;
         dispatch_is = refl;
         handles_are = refl;
+        sites_are = refl;
         guards_are = refl;
         attaches_are = ap (map (option_map lane_of)) attaches_are;
         named_are = made_is;
@@ -100,6 +101,7 @@ module _ {S : Type 0} (spans : S → Spans) (recorded : S → Recording) (attach
         balanced = subst (λ (x : Spans). Balanced x (map named_by t.handles) (map (opened_by ids) t.guards) t.entries) (sym did.spans_same) fits.balanced;
         made_fit = subst (λ (x : Spans). MadeFit x.made t.made) (sym did.spans_same) fits.made;
         new_made = tt;
+        new_site = tt;
         new_scope = λ l e. absurd (cc e);
         still = fits.still;
         few = fits.few;

@@ -18,7 +18,7 @@ use Rattle.otel_layer.specs.Recording.{Recording, no_recording}
 use Rattle.span_pipeline.specs.Tables.{Scope, slot_at}
 use Rattle.span_pipeline.proofs.Naming.{find, held_slot}
 use Rattle.span_pipeline.specs.Setups.{id_at, name_at}
-use Rattle.span_pipeline.specs.Fits.{State, state_of, Laned, laned, no_lane, lane_at, held_by, LanesFit, IsKept, held_of}
+use Rattle.span_pipeline.specs.Fits.{Named, State, state_of, Laned, laned, no_lane, lane_at, held_by, LanesFit, IsKept, held_of}
 
 pub on_err : {T E : Type 0} (result : Result T E) (P : Type 0) → P → OnErr result P
 on_err (Ok v) P p = tt
@@ -183,3 +183,16 @@ module _ {S : Type 0} (spans : S → Spans) (recorded : S → Recording) (attach
 
     pub refused_kept : IsKept kept is_whole new (state_of spans recorded new dispatch level (set lanes n later) hs gs' (record { made = made; attaches = ks' }) m)
     refused_kept = kept_alike old new (state_of spans recorded old dispatch level lanes hs gs (record { made = made; attaches = ks }) m) _ inv refused_state its_alike.0
+
+  -- the same where neither lanes nor guards were touched
+  module _ (same : S → S → Type 0) (law : (old new : Worlds S) (dispatch : ℕ) → Replaced same old new dispatch → Alike spans attaches kept is_whole old new dispatch) (records : SameRecorded same)
+      (old new : Worlds S) (dispatch : ℕ) (level : LevelFilter) (lanes : List Lane) (hs : List (Option Handle)) (gs : List (Option Guard)) (cs : Named) (m : ℕ) (inv : IsKept kept is_whole old (state_of spans recorded old dispatch level lanes hs gs cs m))
+      (handle : ℕ) (named : Handle) (found : slot_at hs handle ≡ Some named) (did : ReplacedOn (λ id s t. same s t) old new named.held) where
+    still_alike : Alike spans attaches kept is_whole old new dispatch × (new.sites ≡ old.sites) × (seen recorded no_recording new dispatch ≡ seen recorded no_recording old dispatch)
+    still_alike = let line = find (held_of dispatch) (map held_by hs) inv.tables.handles handle named.held inv.fits.handle_slots (held_slot hs handle named found) in alike_line old new dispatch line.at (alike_on same law records old new dispatch line.at named.held line.is did)
+
+    pub same_state : state_of spans recorded new dispatch level lanes hs gs cs m ≡ state_of spans recorded old dispatch level lanes hs gs cs m
+    same_state = rw (still_alike.0.spans_same, still_alike.1, still_alike.2) refl
+
+    pub same_kept : IsKept kept is_whole new (state_of spans recorded new dispatch level lanes hs gs cs m)
+    same_kept = kept_alike old new (state_of spans recorded old dispatch level lanes hs gs cs m) _ inv same_state still_alike.0

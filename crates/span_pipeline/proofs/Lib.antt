@@ -7,6 +7,7 @@ mod Copies
 mod Counting
 mod Crowded
 mod Currents
+mod Declaring
 mod Detaches
 mod Dropped
 mod Dropping
@@ -28,6 +29,7 @@ mod Refusing
 mod Requiring
 mod Scopes
 mod Serving
+mod Sited
 mod Standing
 mod Taking
 mod Telling

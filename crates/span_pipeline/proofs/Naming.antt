@@ -3,6 +3,7 @@ use Rattle.std.proofs.Common.{◌≡◌, ℕ, zero, suc, ◌+◌, ◌<◌, List,
 use Rattle.std.proofs.lemmas.List.{map_push, map-set, length-set, length_push}
 use Rattle.std.proofs.Math.ListN.{get_or-map}
 use Rattle.span_handles.specs.Handles.{Handle, Held, IsOf}
+use Rattle.trace_base.specs.declared.span.Parent.{Parent}
 use Rattle.span_pipeline.specs.declared.request.Place.{Place}
 use Rattle.span_pipeline.specs.declared.slots.Above.{Above}
 use Rattle.span_pipeline.specs.Slots.{parent_of, place_for}
@@ -93,3 +94,6 @@ of_all hs n (Some h) there dispatch all = all n h there
 -- the place behind what was found
 pub found_place : (hs' hs : List (Option Handle)) (under : Place) (o : Option Above) (x : Above) → hs' ≡ hs → option_map parent_of o ≡ place_for (map held_by hs') under → o ≡ Some x → place_for (map held_by hs) under ≡ Some (parent_of x)
 found_place hs' hs under o x same is found = ap (λ (xs : List (Option Handle)). place_for (map held_by xs) under) (sym same) ∙ sym is ∙ ap (option_map parent_of) found
+
+pub found_parent : (hs : List (Option Handle)) (under : Place) (o : Option Above) (x : Above) → option_map parent_of o ≡ place_for (map held_by hs) under → o ≡ Some x → (p : Parent) → p ≡ parent_of x → place_for (map held_by hs) under ≡ Some p
+found_parent hs under o x is found p same = found_place hs hs under o x refl is found ∙ ap Some (sym same)

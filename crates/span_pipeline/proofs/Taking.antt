@@ -26,6 +26,7 @@ use Rattle.span_pipeline.specs.Fits.{Named, State, state_of, Fits, StandsFor, La
 fits_taken : (k : State) (t : Tables) → Fits k t → Fits (without_first k) t
 fits_taken k t fits = record {
   handle_slots = fits.handle_slots;
+  site_slots = fits.site_slots;
   guard_slots = fits.guard_slots;
   attach_slots = fits.attach_slots;
   paired = fits.paired;
@@ -37,6 +38,7 @@ fits_taken k t fits = record {
   scopes = fits.scopes;
   still = fits.still;
   own_scopes = fits.own_scopes;
+  sited = fits.sited;
   few = fits.few;
   few_holds = fits.few_holds;
 }

@@ -23,7 +23,7 @@ use Rattle.span_pipeline.specs.declared.reply.Refusal.{Refusal}
 use Rattle.span_pipeline.specs.declared.reply.Refusal.TheVariants as refusal
 use Rattle.span_pipeline.specs.Setups.{Setup}
 use Rattle.span_pipeline.specs.Balance.{Balanced, named_by, opened_by}
-use Rattle.span_pipeline.specs.Tables.{Scope, Made, Owner, EntryOf, GuardOf, Attached, is_by, Guarded, Effect, Tables, History, tables, after, open_part, records_of, slot_at, own, made_of}
+use Rattle.span_pipeline.specs.Tables.{Scope, Made, Owner, EntryOf, GuardOf, Attached, is_by, Guarded, Effect, Tables, History, tables, after, open_part, records_of, slot_at, own, site_of, made_of}
 use Rattle.span_pipeline.specs.Effects.{Resolved}
 
 -- a lane, without its room
@@ -56,6 +56,7 @@ pub record State : Type 0 where
   pub recording : Recording
   pub dispatch : ℕ
   pub handles : List (Option Held)
+  pub handle_sites : List (Option (Option ℕ))
   pub guards : List (Option Guard)
   pub contexts : Named
   pub moment : ℕ
@@ -63,6 +64,10 @@ pub record State : Type 0 where
 -- what an unspent handle stands for
 abbrev pub held_by : Option Handle → Option Held
 held_by slot = option_map (λ h. h.held) slot
+
+-- the place of its callsite, if it has one
+abbrev pub site_by : Option Handle → Option (Option ℕ)
+site_by slot = option_map (λ h. h.site) slot
 
 abbrev pub setup_of : List Callsite → List Lane → LevelFilter → LayerSettings → Setup
 setup_of sites lanes level layer = record { sites = sites; ids = map (λ l. l.id) lanes; names = map (λ l. l.name) lanes; level = level; layer = layer }
@@ -75,6 +80,7 @@ state_of spans recorded world dispatch level lanes handles guards contexts momen
   recording = seen recorded no_recording world dispatch;
   dispatch = dispatch;
   handles = map held_by handles;
+  handle_sites = map site_by handles;
   guards = guards;
   contexts = contexts;
   moment = moment;
@@ -163,6 +169,7 @@ pub record RecordingFits (k : State) (t : Tables) : Type 0 where
 -- What is kept fits the tables of a history.
 pub record Fits (k : State) (t : Tables) : Type 0 where
   pub handle_slots : k.handles ≡ map (option_map (held_of k.dispatch)) t.handles
+  pub site_slots : k.handle_sites ≡ map (option_map (site_of t.made)) t.handles
   pub guard_slots : k.guards ≡ map (option_map (guard_of k.dispatch)) t.guards
   pub attach_slots : map (option_map lane_of) k.contexts.attaches ≡ t.attaches
   pub paired : length t.attaches ≡ length t.guards
@@ -176,6 +183,7 @@ pub record Fits (k : State) (t : Tables) : Type 0 where
   pub still : (n : ℕ) (g : Guarded) → slot_at t.guards n ≡ Some g → slot_at t.handles g.handle ≡ Some g.scope
   pub own_scopes : (s : ℕ) → s < length t.made
       → (own (made_of t.made s).scope ≡ Some s) × IsScope t.made (made_of t.made s).scope
+  pub sited : (s : ℕ) → s < length t.made → (made_of t.made s).site < length k.setup.sites
   pub few : length t.made ≤ length t.handles
   pub few_holds : (s : ℕ) → (span_at k.spans.made s).holds ≤ length t.handles + length t.guards
 

@@ -242,6 +242,11 @@ own (s ∷ up) = Some s
 abbrev pub made_of : List Made → ℕ → Made
 made_of makings s = slice_index_or makings s no_making
 
+-- the place of the callsite of a scope's own span, if it has one
+abbrev pub site_of : List Made → Scope → Option ℕ
+site_of makings [] = None
+site_of makings (s ∷ up) = Some (made_of makings s).site
+
 -- the scope of a span, if there is one
 abbrev pub scope_of : List Made → Option ℕ → Scope
 scope_of makings None = []

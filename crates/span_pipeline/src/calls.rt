@@ -3,5 +3,6 @@ mod contexts;
 mod currents;
 mod entries;
 mod events;
+mod fields;
 mod makings;
 mod spans;

@@ -143,10 +143,11 @@ impl Pipeline {
     }
 
     /// Runs a request. A refused step leaves the pipeline as it was: `BadMoment` where the moment falls or is above
-    /// 2^63 - 1, `UnknownName` where it names what isn't there, or a guard of the other kind, `InUse` where it spends or owns a handle with an open
-    /// guard, or exits the guard that owns a handle with another one, `WrongLane` where it spends a guard on another lane
-    /// than the guard's, `Full` where it attaches a context to a lane with 65,534 of them. It may answer `Memory`, but not
-    /// to a drop, an exit or a detach.
+    /// 2^63 - 1, `UnknownName` where it names what isn't there, or a guard of the other kind, or gives a field that the
+    /// callsite doesn't declare, `InUse` where it spends or owns a handle with an open guard, or exits the guard that owns
+    /// a handle with another one, `WrongLane` where it spends a guard on another lane than the guard's, `Full` where it
+    /// attaches a context to a lane with 65,534 of them. It may answer `Memory`, but not to a drop, an exit, a detach or a
+    /// `has_field`.
     pub fn step(&mut self, request: Request) -> Result<Reply, Refusal>
         ensures ok { (h : History) → StandsFor self.old (tables self.old.setup.layer h)
             → IfOk result (Recorded (effect_of self.old.setup (tables self.old.setup.layer h) request) h self.old self.new) }
@@ -182,11 +183,21 @@ impl Pipeline {
             Call::Drop { handle } => self.drop_handle(at, lane, handle),
             Call::Enter { handle } => self.enter(at, lane, handle, false),
             Call::Exit { guard } => self.exit(at, lane, guard),
-            Call::New { site, place } => self.make(at, lane, site, place),
+            Call::New {
+                site,
+                place,
+                fields,
+            } => self.make(at, lane, site, place, fields),
             Call::Current => self.current(at, lane),
             Call::OrCurrent { handle } => self.or_current(at, lane, handle),
             Call::Entered { handle } => self.entered(at, lane, handle),
-            Call::Event { site } => self.event(at, lane, site),
+            Call::Record { handle, fields } => self.record(at, lane, handle, fields),
+            Call::HasField { handle, name } => self.has_field(at, lane, handle, name),
+            Call::Event {
+                site,
+                place,
+                fields,
+            } => self.event(at, lane, site, place, fields),
             Call::Remote { ids } => self.remote(at, lane, ids),
             Call::Context { handle } => self.context(at, lane, handle),
             Call::Attach { context } => self.attach(at, lane, context),
