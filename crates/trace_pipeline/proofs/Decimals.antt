@@ -23,7 +23,7 @@ decimal_read n small =
     ∙ ap (λ b. if b then Some n else None) (same (decimal n))
 
 -- where a text is read as a number whose decimal it is, it spells that
-pub is_spelled : {E : Type 0} (word : List ℕ) (n : ℕ) → ParsesUnsigned {E} 128 10 word (Ok n) → decimal n ≡ word → u128_word word ≡ Some n
+pub is_spelled : (word : List ℕ) (n : ℕ) → ParsesUnsigned {E = Unit {0}} 128 10 word (Ok n) → decimal n ≡ word → u128_word word ≡ Some n
 is_spelled word n reads is = subst (λ w. u128_word w ≡ Some n) is (decimal_read n (omega (arith, reads.0.1, reads.1)))
 
 none_spelled : (word : List ℕ) (n : ℕ) → ((m : ℕ) → m < 2 ^ 128 → decimal m ≡ word → ⊥) → option_and_then (if_decimal word) (at_most (2 ^ 128 - 1) n) ≡ None
@@ -32,26 +32,26 @@ none_spelled word n none = by (nat_le n (2 ^ 128 - 1)) refl where
   by true within = ap (λ b. if b then Some n else None) (false_from_ne_true (bytes_eq (decimal n) word) (λ is. none n (grind (arith, nat_tests, within)) ((bytes_eq-Decides (decimal n) word).0 is)))
   by false past = refl
 
-abbrev IsError : {E : Type 0} → Result ℕ E → Type 0
+abbrev IsError : Result ℕ (Unit {0}) → Type 0
 IsError (Ok n) = ⊥
 IsError (Err e) = Unit {0}
 
-abbrev number_of : {E : Type 0} → Result ℕ E → ℕ
+abbrev number_of : Result ℕ (Unit {0}) → ℕ
 number_of (Ok n) = n
 number_of (Err e) = 0
 
 -- where a text is read as no number, it is the decimal of none
-pub no_number : {E : Type 0} (word : List ℕ) (e : E) → ParsesUnsigned 128 10 word (Err e) → u128_word word ≡ None
+pub no_number : (word : List ℕ) → ParsesUnsigned {E = Unit {0}} 128 10 word (Err tt) → u128_word word ≡ None
 unfolding u128_word
-no_number {E} word e reads =
-    none_spelled word (digits_value 10 word) (λ m small is. subst IsError (parse-decimal_wide 128 m word (Err e) small (omega (arith, small)) (sym is) reads) tt)
+no_number word reads =
+    none_spelled word (digits_value 10 word) (λ m small is. subst IsError (parse-decimal_wide {E = Unit {0}} 128 m word (Err tt) small (omega (arith, small)) (sym is) reads) tt)
 
 -- where it is read as a number, it is the decimal of no other
-pub no_decimal : {E : Type 0} (word : List ℕ) (n : ℕ) → ParsesUnsigned {E} 128 10 word (Ok n) → decimal n ≢ word → u128_word word ≡ None
+pub no_decimal : (word : List ℕ) (n : ℕ) → ParsesUnsigned {E = Unit {0}} 128 10 word (Ok n) → decimal n ≢ word → u128_word word ≡ None
 unfolding u128_word
-no_decimal {E} word n reads other =
+no_decimal word n reads other =
     none_spelled word (digits_value 10 word)
-    (λ m small is. other (ap (λ k. decimal k) (ap number_of (parse-decimal_wide {E} 128 m word (Ok n) small (omega (arith, small)) (sym is) reads)) ∙ is))
+    (λ m small is. other (ap (λ k. decimal k) (ap number_of (parse-decimal_wide {E = Unit {0}} 128 m word (Ok n) small (omega (arith, small)) (sym is) reads)) ∙ is))
 
 -- ---- signed numbers
 

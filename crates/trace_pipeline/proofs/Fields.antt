@@ -1,5 +1,5 @@
 -- Pairs of names and values, and fields in a text.
-use Rattle.std.proofs.Common.{◌≡◌, ◌≢◌, ℕ, ◌+◌, List, [], ◌∷◌, ◌++◌, length, Option, Some, None, option_map, option_and_then, unwrap_or, refl, sym, ap, ◌∙◌, arith, append_assoc}
+use Rattle.std.proofs.Common.{◌≡◌, ◌≢◌, ℕ, ◌+◌, List, [], ◌∷◌, ◌++◌, length, Option, Some, None, option_map, option_and_then, unwrap_or, refl, sym, ap, ◌∙◌, arith, append_assoc, length-append}
 use Rattle.json.specs.Print.{quoted}
 use Rattle.serde_json.specs.Data.{Data, null, boolean, number, string, array, object, Items, no_items, item}
 use Rattle.serde_json.specs.Find.{as_array, as_object}
@@ -22,8 +22,7 @@ pub only_two : (vs one none : List Value) (first second : Value) → length vs �
 only_two vs one [] first second two a b = a ∙ ap (λ (l : List Value). l ++ second ∷ []) b
 only_two vs one (x ∷ none) first second two a b = absurd (longer none (sym two ∙ ap (λ (l : List Value). length l) (a ∙ ap (λ (l : List Value). l ++ second ∷ []) b))) where
   longer : (none : List Value) → 2 ≡ length (((x ∷ none) ++ first ∷ []) ++ second ∷ []) → ⊥
-  longer [] same = omega (arith, same)
-  longer (y ∷ none) same = omega (arith, same)
+  longer none same = omega (arith, same, length-append (none ++ first ∷ []) (second ∷ []), length-append none (first ∷ []))
 
 pub no_pair : (vs : List Value) → length vs ≢ 2 → pair_of (items value_data vs) ≡ None
 no_pair [] other = refl

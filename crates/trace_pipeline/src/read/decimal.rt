@@ -12,7 +12,6 @@ fn is_decimal(number: u128, word: &str) -> bool
 }
 
 /// The number of 128 bits whose decimal a text is.
-#[tactic(auto, using(crate::proofs::Decimals::is_spelled, crate::proofs::Decimals::no_decimal, crate::proofs::Decimals::no_number))]
 pub(crate) fn u128_of(word: &str) -> Option<u128>
     ensures { result ≡ u128_word word.now }
 {

@@ -44,7 +44,7 @@ fn plain_field<'a>(alloc: Global, bytes: &'a [u8]) -> Option<((Text, FieldValue)
 
 // Adds a field. None where there is no memory.
 fn keep(fields: &mut Vec<(Text, FieldValue)>, field: (Text, FieldValue)) -> Option<()>
-    ensures { IfSome result (λ _. fields.new.items ≡ fields.old.items ++ field.entry ∷ []) }
+    ensures { IfSome result (λ _. fields.new.items ≡ fields.old.items ++ field ∷ []) }
 {
     fields.push(field).ok()?;
     Some(())
