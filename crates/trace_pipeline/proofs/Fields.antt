@@ -55,10 +55,10 @@ pub pair_begins : (deep : ℕ) (text inner comma more end rest name : List ℕ) 
     → text ≡ 91 ∷ inner → inner ≡ quoted name ++ comma → comma ≡ 44 ∷ more → Begins deep more d end → end ≡ 93 ∷ rest
     → Begins (deep + 1) text (array (item (string name) (item d no_items))) rest
 pair_begins deep text inner comma more end rest name d a b c v e = (
-      array (item (string name) (item v.0 no_items)),
-      a ∙ ap (λ (l : List ℕ). 91 ∷ l) (b ∙ ap (λ (l : List ℕ). quoted name ++ l) (c ∙ ap (λ (l : List ℕ). 44 ∷ l) (v.1 ∙ ap (λ (l : List ℕ). compact_text v.0 ++ l) e))) ∙ joined (quoted name) (compact_text v.0) rest,
-      ((tt, (v.2.0, tt)), omega (arith, v.2.1), ap (λ o. option_map array (option_map (item (string name)) (option_and_then (λ x. option_map (item x) (Some no_items)) o))) v.2.2),
-    )
+  array (item (string name) (item v.0 no_items)),
+  a ∙ ap (λ (l : List ℕ). 91 ∷ l) (b ∙ ap (λ (l : List ℕ). quoted name ++ l) (c ∙ ap (λ (l : List ℕ). 44 ∷ l) (v.1 ∙ ap (λ (l : List ℕ). compact_text v.0 ++ l) e))) ∙ joined (quoted name) (compact_text v.0) rest,
+  ((tt, (v.2.0, tt)), omega (arith, v.2.1), ap (λ o. option_map array (option_map (item (string name)) (option_and_then (λ x. option_map (item x) (Some no_items)) o))) v.2.2),
+)
 
 -- ---- one field more
 

@@ -20,7 +20,6 @@ mod tree;
 mod value;
 
 pub use fields::read_fields;
-
 use object::Object;
 use otel_base::memory;
 use span_pipeline::request::Request;

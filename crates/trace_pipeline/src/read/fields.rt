@@ -234,10 +234,7 @@ pub(crate) fn fields_of(
 }
 
 /// The fields that a JSON value spells, for readers of other lines. `Later` where it spells none, `Memory` freely.
-pub fn read_fields(
-    alloc: Global,
-    value: &Json,
-) -> Result<Items<(Text, FieldValue)>, LineError>
+pub fn read_fields(alloc: Global, value: &Json) -> Result<Items<(Text, FieldValue)>, LineError>
     ensures { Gives (λ f. f) result (fields_of (view value.now)) }
 {
     let tree = value.clone()?;

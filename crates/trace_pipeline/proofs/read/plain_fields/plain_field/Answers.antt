@@ -13,6 +13,6 @@ returns c =
     let field = c.in_ok-field.field in (
       array (item (string name) (item plain no_items)),
       pair_begins DEEPEST c.args.bytes.now c.in_ok-inner.inner.now c.in_ok-name.comma.now c.in_ok-more.more.now c.in_ok-plain.end.now c.in_ok-rest.rest.now name plain
-      c.in_ok-inner.ensures c.in_ok-name.ensures c.in_ok-more.ensures c.in_ok-plain.ensures c.in_ok-rest.ensures,
+          c.in_ok-inner.ensures c.in_ok-name.ensures c.in_ok-more.ensures c.in_ok-plain.ensures c.in_ok-rest.ensures,
       ap (option_map (λ (v : Value). (name, v))) c.in_ok-field.ensures.value ∙ ap (λ (n : List ℕ). Some (n, field.1)) (sym c.in_ok-field.ensures.name),
     )
