@@ -14,3 +14,6 @@ pub mod Ordered
 pub mod Values
 pub mod Adding
 pub mod Escapes
+pub mod Decimals
+pub mod Fields
+pub mod FieldRead

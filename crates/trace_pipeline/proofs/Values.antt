@@ -17,7 +17,7 @@ of_nested (string s) = refl
 of_nested (array ds) = refl
 of_nested (object ms) = refl
 
-of_nested_array : (d : Data) → as_array (nested d) ≡ as_array d
+pub of_nested_array : (d : Data) → as_array (nested d) ≡ as_array d
 of_nested_array null = refl
 of_nested_array (boolean b) = refl
 of_nested_array (number n) = refl

@@ -1,5 +1,5 @@
 -- What a compact text begins with: a value and its reading, apart from the tree.
-use Rattle.std.specs.Prelude.{◌≡◌, ◌≤◌, ◌++◌, List, ℕ, [], ◌∷◌, Some, false, negsuc, unwrap_or}
+use Rattle.std.specs.Prelude.{◌≡◌, ◌≤◌, ◌++◌, List, ℕ, [], ◌∷◌, Some, false, unwrap_or}
 use Rattle.std.specs.Borrow.{Bor}
 use Rattle.json.specs.Tree.{HasNumbers, ItemsHaveNumbers, MembersHaveNumbers, depth, items_depth, members_depth}
 use Rattle.serde_json.specs.Data.{Data, null, boolean, unsigned, negative, number, string, array, object, Items, Members, no_members, member}
@@ -21,7 +21,7 @@ nested (object ms) = object ms
 -- the value that stands plainly, of which what nests is still a text
 abbrev pub plain_data : Plain → Data
 plain_data (Whole n) = number (unsigned n)
-plain_data (Below n) = number (negative (negsuc n))
+plain_data (Below z) = number (negative z)
 plain_data (Text s) = string s.now
 plain_data (Flag b) = boolean b
 plain_data (Nested s) = nested (unwrap_or (line_value s.now) null)

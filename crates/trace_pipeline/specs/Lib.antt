@@ -5,8 +5,11 @@ pub mod Compact
 pub mod Placed
 pub mod Words
 pub mod Forms
+pub mod Decimals
+pub mod FieldForm
 pub mod SettingsForm
 pub mod RequestForm
+pub mod FieldData
 pub mod RequestData
 pub mod Spelled
 pub mod Hex

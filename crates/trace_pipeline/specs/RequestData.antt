@@ -1,20 +1,23 @@
 -- The value that a request of the first lane is read from: the form in the other direction.
-use Rattle.std.specs.Prelude.{◌≡◌, ◌<◌, ◌^◌, ℕ, List, [], ◌∷◌, ◌++◌, fold, codes}
+use Rattle.std.specs.Prelude.{◌<◌, ◌^◌, ℕ, List, [], ◌∷◌, ◌++◌, fold, codes}
 use Rattle.serde_json.specs.Data.{Data, number, string, object, unsigned, Members, no_members, put}
 use Rattle.span_pipeline.specs.declared.request.Request.{Request}
 use Rattle.span_pipeline.specs.declared.request.Call.{Call}
 use Rattle.span_pipeline.specs.declared.request.Call.TheVariants as call
 use Rattle.span_pipeline.specs.declared.request.Place.{Place}
 use Rattle.span_pipeline.specs.declared.request.Place.TheVariants as place
+use Rattle.trace_base.specs.declared.field.Value.{Value}
+use Rattle.trace_pipeline.specs.FieldData.{written_field, AreValues}
 use Rattle.trace_pipeline.specs.Hex.{hex16, hex32}
+use Rattle.trace_pipeline.specs.Object.{array_of}
 
 -- a call on the first lane at a moment
 abbrev pub first_lane : ℕ → Call → Request
 first_lane at call = record { at = at; lane = 0; call = call }
 
--- ids have 128 and 64 bits, and no fields are given
+-- ids have 128 and 64 bits, and numbers of fields those of their types
 abbrev pub IsInRange : Call → Type 0
-IsInRange (call.New site put fields) = fields ≡ []
+IsInRange (call.New site put fields) = AreValues fields
 IsInRange call.Current = Unit {0}
 IsInRange (call.Clone handle) = Unit {0}
 IsInRange (call.OrCurrent handle) = Unit {0}
@@ -22,9 +25,9 @@ IsInRange (call.Drop handle) = Unit {0}
 IsInRange (call.Enter handle) = Unit {0}
 IsInRange (call.Entered handle) = Unit {0}
 IsInRange (call.Exit guard) = Unit {0}
-IsInRange (call.Record handle fields) = ⊥
-IsInRange (call.HasField handle name) = ⊥
-IsInRange (call.Event site put fields) = (put ≡ place.Contextual) × (fields ≡ [])
+IsInRange (call.Record handle fields) = AreValues fields
+IsInRange (call.HasField handle name) = Unit {0}
+IsInRange (call.Event site put fields) = AreValues fields
 IsInRange (call.Remote ids) = (ids.trace < 2 ^ 128) × (ids.span < 2 ^ 64)
 IsInRange (call.Context handle) = Unit {0}
 IsInRange (call.Attach context) = Unit {0}
@@ -52,15 +55,19 @@ word_of (call.Detach guard) = codes "detach"
 abbrev pub names : List ℕ → ℕ → List (List ℕ × Data)
 names name n = (name, number (unsigned n)) ∷ []
 
--- the member that says where a new span is put
+-- the member that says where a new span or an event is put
 abbrev pub put_at : Place → List (List ℕ × Data)
 put_at place.Contextual = []
 put_at place.Root = (codes "parent", string (codes "root")) ∷ []
 put_at (place.Under handle) = names (codes "parent") handle
 
+-- the member that gives fields
+abbrev pub given : List (List ℕ × Value) → List (List ℕ × Data)
+given fields = (codes "fields", array_of written_field fields) ∷ []
+
 -- what a call names
 abbrev pub names_of : Call → List (List ℕ × Data)
-names_of (call.New site put fields) = names (codes "site") site ++ put_at put
+names_of (call.New site put fields) = names (codes "site") site ++ (put_at put ++ given fields)
 names_of call.Current = []
 names_of (call.Clone handle) = names (codes "handle") handle
 names_of (call.OrCurrent handle) = names (codes "handle") handle
@@ -68,9 +75,9 @@ names_of (call.Drop handle) = names (codes "handle") handle
 names_of (call.Enter handle) = names (codes "handle") handle
 names_of (call.Entered handle) = names (codes "handle") handle
 names_of (call.Exit guard) = names (codes "guard") guard
-names_of (call.Record handle fields) = names (codes "handle") handle
-names_of (call.HasField handle name) = names (codes "handle") handle
-names_of (call.Event site put fields) = names (codes "site") site
+names_of (call.Record handle fields) = names (codes "handle") handle ++ given fields
+names_of (call.HasField handle name) = names (codes "handle") handle ++ (codes "name", string name) ∷ []
+names_of (call.Event site put fields) = names (codes "site") site ++ (put_at put ++ given fields)
 names_of (call.Remote ids) =
     (codes "trace", string (hex32 ids.trace)) ∷ (codes "span", string (hex16 ids.span)) ∷ []
 names_of (call.Context handle) = names (codes "handle") handle

@@ -1,7 +1,8 @@
 -- The form of a request, with a row for each word of `do`.
-use Rattle.std.specs.Prelude.{ℕ, List, [], Option, Some, None, if◌then◌else◌, codes, bytes_eq, ⊤, option_and_then}
-use Rattle.serde_json.specs.Data.{Data, Items, no_items, item}
-use Rattle.serde_json.specs.Find.{as_str, as_array}
+use Rattle.std.specs.Prelude.{ℕ, List, [], Option, Some, None, if◌then◌else◌, codes, bytes_eq, option_and_then}
+use Rattle.serde_json.specs.Data.{Data}
+use Rattle.serde_json.specs.Find.{as_str}
+use Rattle.trace_base.specs.declared.field.Value.{Value}
 use Rattle.trace_pipeline.specs.declared.read.request.Verb.{Verb}
 use Rattle.trace_pipeline.specs.declared.read.request.Verb.TheVariants as verb
 use Rattle.span_pipeline.specs.declared.request.Request.{Request}
@@ -9,7 +10,8 @@ use Rattle.span_pipeline.specs.declared.request.Call.{Call}
 use Rattle.span_pipeline.specs.declared.request.Call.TheVariants as call
 use Rattle.span_pipeline.specs.declared.request.Place.{Place}
 use Rattle.span_pipeline.specs.declared.request.Place.TheVariants as place
-use Rattle.trace_pipeline.specs.Forms.{Form, ◌>>=◌, give, when, whole, text, optional, if_absent, as_whole}
+use Rattle.trace_pipeline.specs.FieldForm.{fields_of}
+use Rattle.trace_pipeline.specs.Forms.{Form, ◌>>=◌, give, when, whole, text, member, optional, if_absent, as_whole}
 use Rattle.trace_pipeline.specs.Hex.{id_word, long_id_word}
 
 -- the words of `do` that are built
@@ -23,11 +25,13 @@ verb_word word =
     (if bytes_eq word (codes "enter") then Some verb.Enter else
     (if bytes_eq word (codes "entered") then Some verb.Entered else
     (if bytes_eq word (codes "exit") then Some verb.Exit else
+    (if bytes_eq word (codes "record") then Some verb.Record else
+    (if bytes_eq word (codes "has_field") then Some verb.HasField else
     (if bytes_eq word (codes "event") then Some verb.Event else
     (if bytes_eq word (codes "remote") then Some verb.Remote else
     (if bytes_eq word (codes "context") then Some verb.Context else
     (if bytes_eq word (codes "attach") then Some verb.Attach else
-    (if bytes_eq word (codes "detach") then Some verb.Detach else None))))))))))))
+    (if bytes_eq word (codes "detach") then Some verb.Detach else None))))))))))))))
 
 -- the word of no span
 abbrev pub root_word : List ℕ → Option Place
@@ -41,29 +45,25 @@ place_by None d = option_and_then root_word (as_str d)
 abbrev pub place_of : Data → Option Place
 place_of d = place_by (as_whole d) d
 
--- where a new span is put: under the current one where nothing is said
+-- where a new span or an event is put: under the current span where nothing is said
 abbrev pub place_form : Form Place
 place_form = do
   there ← optional (codes "parent")
   when (if_absent place.Contextual place_of there)
 
--- no field is built
-abbrev pub none_of : Items → Option ⊤
-none_of no_items = Some tt
-none_of (item d ds) = None
-
-abbrev pub no_fields : Form ⊤
-no_fields = do
+-- the fields that are given, which are none where nothing is said
+abbrev pub fields_form : Form (List (List ℕ × Value))
+fields_form = do
   there ← optional (codes "fields")
-  when (if_absent tt (λ d. option_and_then none_of (as_array d)) there)
+  when (if_absent [] fields_of there)
 
--- `new` makes a span of a callsite
+-- `new` makes a span of a callsite, with the values of some fields
 unfoldable pub new_form : Form Call
 new_form = do
   site ← whole (codes "site")
   put ← place_form
-  none ← no_fields
-  give (call.New site put [])
+  fields ← fields_form
+  give (call.New site put fields)
 
 -- `clone` makes a handle of what a handle stands for
 unfoldable pub clone_form : Form Call
@@ -119,12 +119,28 @@ detach_form = do
   guard ← whole (codes "guard")
   give (call.Detach guard)
 
--- `event` records an event of a callsite
+-- `record` records the values of some fields on a handle's span
+unfoldable pub record_form : Form Call
+record_form = do
+  handle ← whole (codes "handle")
+  there ← member (codes "fields")
+  fields ← when (fields_of there)
+  give (call.Record handle fields)
+
+-- `has_field` asks whether a handle's callsite declares a field of a name
+unfoldable pub has_field_form : Form Call
+has_field_form = do
+  handle ← whole (codes "handle")
+  name ← text (codes "name")
+  give (call.HasField handle name)
+
+-- `event` records an event of a callsite, with the values of some fields
 unfoldable pub event_form : Form Call
 event_form = do
   site ← whole (codes "site")
-  none ← no_fields
-  give (call.Event site place.Contextual [])
+  put ← place_form
+  fields ← fields_form
+  give (call.Event site put fields)
 
 -- `remote` makes a context of ids, which are written in all their digits
 unfoldable pub remote_form : Form Call
@@ -145,6 +161,8 @@ call_form verb.Drop = drop_form
 call_form verb.Enter = enter_form
 call_form verb.Entered = entered_form
 call_form verb.Exit = exit_form
+call_form verb.Record = record_form
+call_form verb.HasField = has_field_form
 call_form verb.Event = event_form
 call_form verb.Remote = remote_form
 call_form verb.Context = context_form

@@ -11,7 +11,7 @@ pub mod told;
 pub mod write;
 
 pub use limits::MAX_INPUT;
-pub use read::{LineError, read_request, read_settings};
+pub use read::{LineError, read_fields, read_request, read_settings};
 pub use span_pipeline::{Call, LAST_MOMENT, Place, Refusal, Reply, Request, Settings, What};
 pub use told::Told;
 pub use write::{

@@ -5,17 +5,21 @@ ghost use Rattle.trace_pipeline.specs.Spelled.{settings_spelled, request_spelled
 ghost use Rattle.trace_pipeline.specs.declared.told.Told.{Told};
 ghost use Rattle.trace_pipeline.specs.declared.read.LineError.TheVariants.{Memory};
 
+mod decimal;
+mod fields;
 mod flat;
 mod hex;
 pub mod laws;
 mod object;
 mod plain;
+mod plain_fields;
 mod request;
 mod scan;
 mod settings;
 mod tree;
 mod value;
 
+pub use fields::read_fields;
 use object::Object;
 use otel_base::memory;
 use span_pipeline::request::Request;

@@ -1,5 +1,6 @@
 //! Runs of the program over sources and sinks in memory.
 
+mod field_runs;
 mod lines;
 mod runs;
 
@@ -8,6 +9,7 @@ use crate::source::{MemSource, Source, StdSource, SureSource};
 use crate::status::Status;
 use crate::top::top;
 use crate::turns::Turn;
+use field_runs::FIELD_RUNS;
 use runs::RUNS;
 use std::process::Abort;
 use std::sync::Wait;
@@ -84,7 +86,7 @@ fn ran<H: Threads + Wait + Sync + AllocGlobal>(
 fn differing<H: Threads + Wait + Sync + AllocGlobal>(rt: &H) -> Result<Option<String>, Fail> {
     let mut input = String::new(rt.alloc());
     let mut wanted = String::new(rt.alloc());
-    for line in RUNS.lines() {
+    for line in RUNS.lines().chain(FIELD_RUNS.lines()) {
         if let Some(text) = line.strip_prefix("< ") {
             add_line(&mut input, text)?;
         } else if let Some(text) = line.strip_prefix("> ") {

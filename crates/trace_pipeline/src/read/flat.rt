@@ -93,8 +93,8 @@ fn keep<'a>(values: &mut Vec<Value<'a>>, value: Value<'a>) -> Option<()>
     Some(())
 }
 
-// That nothing stands behind a value.
-fn ends(rest: &[u8]) -> Option<()>
+/// That nothing stands behind a value.
+pub(crate) fn ends(rest: &[u8]) -> Option<()>
     ensures { IfSome result (λ _. rest.now ≡ []) }
 {
     if rest.is_empty() { Some(()) } else { None }

@@ -9,8 +9,8 @@ ghost use Rattle.trace_pipeline.specs.Compact.{plain_data};
 pub(crate) enum Plain<'a> {
     /// A whole number.
     Whole(u64),
-    /// The whole number -1 less so much.
-    Below(u64),
+    /// A number below zero.
+    Below(i64),
     /// A text with no escape.
     Text(&'a str),
     /// True or false.

@@ -2,17 +2,19 @@
 ghost use Rattle.std.specs.Prelude.{◌≡◌};
 ghost use Rattle.trace_pipeline.specs.Gives.{Gives};
 ghost use Rattle.trace_pipeline.specs.Left.{value_data, left};
-ghost use Rattle.trace_pipeline.specs.Object.{items};
-ghost use Rattle.trace_pipeline.specs.RequestForm.{verb_word, root_word, place_of, place_form, none_of, no_fields, new_form, clone_form, or_current_form, drop_form, enter_form, entered_form, exit_form, event_form, remote_form, context_form, attach_form, detach_form, call_form, request_form};
+ghost use Rattle.trace_pipeline.specs.RequestForm.{verb_word, root_word, place_of, place_form, fields_form, new_form, clone_form, or_current_form, drop_form, enter_form, entered_form, exit_form, record_form, has_field_form, event_form, remote_form, context_form, attach_form, detach_form, call_form, request_form};
 
 use crate::read::LineError;
+use crate::read::fields::fields_of;
 use crate::read::hex::{id_of, long_id_of};
 use crate::read::object::Object;
 use crate::read::value::Value;
 use otel_base::context::SpanContext;
 use otel_base::list::Items;
+use otel_base::text::Text;
 use span_pipeline::request::{Call, Place, Request};
 use std::alloc::Global;
+use trace_base::field::Value as FieldValue;
 
 /// The words of `do` that are built.
 #[derive(Clone, Copy)]
@@ -25,6 +27,8 @@ pub(crate) enum Verb {
     Enter,
     Entered,
     Exit,
+    Record,
+    HasField,
     Event,
     Remote,
     Context,
@@ -44,6 +48,8 @@ fn verb_of(word: &str) -> Option<Verb>
         "enter" => Some(Verb::Enter),
         "entered" => Some(Verb::Entered),
         "exit" => Some(Verb::Exit),
+        "record" => Some(Verb::Record),
+        "has_field" => Some(Verb::HasField),
         "event" => Some(Verb::Event),
         "remote" => Some(Verb::Remote),
         "context" => Some(Verb::Context),
@@ -73,7 +79,7 @@ fn place_of(value: &Value<'_>) -> Result<Place, LineError>
     }
 }
 
-// Takes where a new span is put: under the current one where nothing is said.
+// Takes where a new span or an event is put: under the current span where nothing is said.
 fn place(object: &mut Object) -> Result<Place, LineError>
     ensures { Gives (λ place. (place, left object.new)) result (place_form (left object.old)) }
 {
@@ -83,24 +89,13 @@ fn place(object: &mut Object) -> Result<Place, LineError>
     }
 }
 
-// Makes sure that there is no field: none is built.
-fn none_of(fields: &[Value<'_>]) -> Result<(), LineError>
-    ensures { Gives (λ none. none) result (none_of (items value_data fields.now)) }
-{
-    if fields.is_empty() {
-        Ok(())
-    } else {
-        Err(LineError::Later)
-    }
-}
-
-// Takes fields, of which none is built.
-fn no_fields(alloc: Global, object: &mut Object) -> Result<(), LineError>
-    ensures { Gives (λ none. (none, left object.new)) result (no_fields (left object.old)) }
+// Takes the fields that are given, which are none where nothing is said.
+fn fields(alloc: Global, object: &mut Object) -> Result<Items<(Text, FieldValue)>, LineError>
+    ensures { Gives (λ fields. (fields, left object.new)) result (fields_form (left object.old)) }
 {
     match object.optional("fields") {
-        Some(value) => none_of(value.into_array(alloc)?.as_slice()),
-        None => Ok(()),
+        Some(value) => fields_of(alloc, value),
+        None => Ok(Items::new(alloc)),
     }
 }
 
@@ -110,11 +105,11 @@ fn new_call(alloc: Global, object: &mut Object) -> Result<Call, LineError>
 {
     let site = object.whole("site")?;
     let place = place(object)?;
-    no_fields(alloc, object)?;
+    let fields = fields(alloc, object)?;
     Ok(Call::New {
         site,
         place,
-        fields: Items::new(alloc),
+        fields,
     })
 }
 
@@ -190,16 +185,35 @@ fn detach_call(object: &mut Object) -> Result<Call, LineError>
     Ok(Call::Detach { guard })
 }
 
+#[tactic(auto, unfolding(crate::specs::RequestForm::record_form))]
+fn record_call(alloc: Global, object: &mut Object) -> Result<Call, LineError>
+    ensures { Gives (λ c. (c, left object.new)) result (record_form (left object.old)) }
+{
+    let handle = object.whole("handle")?;
+    let fields = fields_of(alloc, object.member("fields")?)?;
+    Ok(Call::Record { handle, fields })
+}
+
+#[tactic(auto, unfolding(crate::specs::RequestForm::has_field_form))]
+fn has_field_call(alloc: Global, object: &mut Object) -> Result<Call, LineError>
+    ensures { Gives (λ c. (c, left object.new)) result (has_field_form (left object.old)) }
+{
+    let handle = object.whole("handle")?;
+    let name = object.text(alloc, "name")?;
+    Ok(Call::HasField { handle, name })
+}
+
 #[tactic(auto, unfolding(crate::specs::RequestForm::event_form))]
 fn event_call(alloc: Global, object: &mut Object) -> Result<Call, LineError>
     ensures { Gives (λ c. (c, left object.new)) result (event_form (left object.old)) }
 {
     let site = object.whole("site")?;
-    no_fields(alloc, object)?;
+    let place = place(object)?;
+    let fields = fields(alloc, object)?;
     Ok(Call::Event {
         site,
-        place: Place::Contextual,
-        fields: Items::new(alloc),
+        place,
+        fields,
     })
 }
 
@@ -225,6 +239,8 @@ fn call(alloc: Global, verb: Verb, object: &mut Object) -> Result<Call, LineErro
         Verb::Enter => enter_call(object),
         Verb::Entered => entered_call(object),
         Verb::Exit => exit_call(object),
+        Verb::Record => record_call(alloc, object),
+        Verb::HasField => has_field_call(alloc, object),
         Verb::Event => event_call(alloc, object),
         Verb::Remote => remote_call(object),
         Verb::Context => context_call(object),

@@ -1,6 +1,6 @@
 //! One scan of compact JSON: numbers, texts with no escape, flags, and arrays and objects of these. None says nothing
 //! of what the text is.
-ghost use Rattle.std.specs.Prelude.{◌≡◌, ◌<◌, ◌^◌, ◌∷◌, ◌++◌, IfSome, decimal};
+ghost use Rattle.std.specs.Prelude.{◌≡◌, ◌<◌, ◌-◌, ◌^◌, ◌∷◌, ◌++◌, negsuc, IfSome, decimal};
 ghost use Rattle.json.specs.Print.{quoted};
 ghost use Rattle.serde_json.specs.Data.{Data, boolean};
 ghost use Rattle.serde_json.specs.Written.{compact_text};
@@ -11,9 +11,6 @@ use crate::write::escape::plain_run;
 
 /// How deep a value may nest.
 pub(crate) const DEEPEST: u32 = 16;
-
-// How far below -1 a number may be.
-const MOST_BELOW: u64 = 9_223_372_036_854_775_807;
 
 // The most items that are taken of an array, and members of an object.
 const MOST: u32 = 65_536;
@@ -81,17 +78,26 @@ fn whole_value(bytes: &[u8]) -> Option<(Plain<'_>, &[u8])>
     Some((Plain::Whole(whole), rest))
 }
 
+// The number that is so far below zero. None where it isn't below, or may have more than 64 bits.
+fn below_zero(whole: u64) -> Option<i64>
+    ensures number { IfSome result (λ number. number ≡ negsuc (whole - 1)) }
+    ensures fits { IfSome result (λ _. (0 < whole) × (whole < 2 ^ 63)) }
+{
+    let less = i64::try_from(whole.checked_sub(1)?).ok()?;
+    if less == i64::MAX {
+        return None;
+    }
+    Some(-1 - less)
+}
+
 // A number below zero that is no less than -2^63 + 1.
 fn below_value(bytes: &[u8]) -> Option<(Plain<'_>, &[u8])>
     ensures { IfSome result (λ r. Begins 0 bytes.now (plain_data r.0) r.1.now) }
 {
     let digits = behind(bytes, b'-')?;
     let (whole, rest) = number(digits)?;
-    let less = whole.checked_sub(1)?;
-    if less >= MOST_BELOW {
-        return None;
-    }
-    Some((Plain::Below(less), rest))
+    let number = below_zero(whole)?;
+    Some((Plain::Below(number), rest))
 }
 
 #[tactic(auto, using(crate::proofs::Plainly::flag_begins))]

@@ -1,7 +1,6 @@
 //! Reading settings: callsites, the filter, lanes and the layer.
 ghost use Rattle.std.specs.Prelude.{◌≡◌, true, option_map, IfOk};
 ghost use Rattle.otel_state.specs.Settings.{default_settings};
-ghost use Rattle.serde_json.specs.Find.{as_str};
 ghost use Rattle.trace_pipeline.specs.Gives.{Gives};
 ghost use Rattle.trace_pipeline.specs.Left.{value_data, left};
 ghost use Rattle.trace_pipeline.specs.Forms.{each, object_of, if_absent, provided};
@@ -10,6 +9,7 @@ ghost use Rattle.trace_pipeline.specs.SettingsForm.{Lane, lane_form, callsite_fo
 
 use crate::level_words::{filter_of, kind_of, level_of};
 use crate::read::LineError;
+use crate::read::fields::texts;
 use crate::read::object::Object;
 use crate::read::value::Value;
 use otel_base::list::Items;
@@ -51,16 +51,6 @@ fn lanes(alloc: Global, values: Vec<Value<'_>>) -> Result<Items<(u64, Option<Tex
     Ok(lanes)
 }
 
-fn fields(alloc: Global, values: Vec<Value<'_>>) -> Result<Items<Text>, LineError>
-    ensures { Gives (λ l. l) result (each as_str (items value_data values.entry.items)) }
-{
-    let mut fields = Items::new(alloc);
-    for value in values {
-        fields.push(value.into_text(alloc)?)?;
-    }
-    Ok(fields)
-}
-
 #[tactic(auto, unfolding(crate::specs::SettingsForm::callsite_form))]
 fn callsite_members(alloc: Global, object: &mut Object) -> Result<Callsite, LineError>
     ensures { Gives (λ c. (c, left object.new)) result (callsite_form (left object.old)) }
@@ -69,7 +59,7 @@ fn callsite_members(alloc: Global, object: &mut Object) -> Result<Callsite, Line
     let target = object.text(alloc, "target")?;
     let level = level_of(object.member("level")?.word()?).ok_or(LineError::Later)?;
     let kind = kind_of(object.member("kind")?.word()?).ok_or(LineError::Later)?;
-    let fields = fields(alloc, object.array(alloc, "fields")?)?;
+    let fields = texts(alloc, object.array(alloc, "fields")?)?;
     let file = object.optional_text(alloc, "file")?;
     let module_path = object.optional_text(alloc, "module")?;
     let line = object.optional_u32("line")?;

@@ -33,6 +33,10 @@ const REQUESTS: &str = r#"
 { "at": 0, "do": "enter", "handle": 0, "lane": 0 } => 0/0 enter 0
 {"at":18446744073709551615,"lane":0,"do":"exit","guard":7} => 18446744073709551615/0 exit 7
 {"at":15,"d\u006f":"event","lane":0,"site":1} => 15/0 event 1
+{"at":16,"do":"event","fields":[["error","x"]],"lane":0,"parent":"root","site":1} => 16/0 event_root 1
+{"at":16,"do":"event","lane":0,"parent":7,"site":1} => 16/0 event_under 7
+{"at":17,"do":"record","fields":[["a",-1],["f",{"u64":1}]],"handle":2,"lane":0} => 17/0 record 2
+{"at":18,"do":"has_field","handle":2,"lane":0,"name":"a"} => 18/0 has_field 2
 "#;
 
 // Lines that are refused, for a fault or for a form that isn't built.
@@ -49,6 +53,7 @@ const REFUSED: &str = r#"
 {"at":1,"do":"drop","handle":1,"lane":0,}
 {"at":1,"do":"remote","lane":0,"span":"00000000000000fg","trace":"80000000000000000000000000000001"}
 {"at":1,"do":"dr\u006f","handle":1,"lane":0}
+{"at":1,"do":"new","fields":[["a",-1],["zz",{"u64":7}]],"lane":0,"site":0}
 [{"at":1,"do":"drop","handle":1,"lane":0}]
 {}
 "#;
@@ -74,7 +79,11 @@ fn parts(call: &Call) -> (&'static str, u64) {
         Call::Exit { guard } => ("exit", *guard),
         Call::Record { handle, .. } => ("record", *handle),
         Call::HasField { handle, .. } => ("has_field", *handle),
-        Call::Event { site, .. } => ("event", *site),
+        Call::Event { site, place, .. } => match place {
+            Place::Contextual => ("event", *site),
+            Place::Root => ("event_root", *site),
+            Place::Under { handle } => ("event_under", *handle),
+        },
     }
 }
 

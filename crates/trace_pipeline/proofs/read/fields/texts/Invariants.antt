@@ -5,7 +5,7 @@ use Rattle.trace_pipeline.specs.Object.{items}
 use Rattle.trace_pipeline.specs.Left.{value_data}
 use Rattle.trace_pipeline.specs.Forms.{each}
 use Rattle.trace_pipeline.proofs.Items.{with_front}
-use Rattle.trace_pipeline.proofs.read.settings.fields.Given as goal
+use Rattle.trace_pipeline.proofs.read.fields.texts.Given as goal
 
 abbrev pub invariant-loop-value : goal.invariant-loop-value
-invariant-loop-value l = with_front l.fields (each as_str (items value_data (into_iter_items l.value-iterator))) ≡ each as_str (items value_data l.fn.values.items)
+invariant-loop-value l = with_front l.texts (each as_str (items value_data (into_iter_items l.value-iterator))) ≡ each as_str (items value_data l.fn.values.items)
