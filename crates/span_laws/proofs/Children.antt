@@ -52,12 +52,12 @@ behind ms x xs s p up mine there is = by_test (x == s) refl there
 before : (ms : List Made) (scope : Scope) (s p : ℕ) (up f rest : List ℕ) → AreMine ms scope → ((q : ℕ) → occurrences q scope ≤ 1) → is_in s scope ≡ true → (made_of ms s).scope ≡ s ∷ p ∷ up → scope ≡ f ++ p ∷ rest → is_in s f ≡ true
 before ms [] s p up f rest mine once there is parts = absurd (cc there)
 before ms (x ∷ xs) s p up [] rest mine once there is parts = absurd (
-  let same : x ≡ p = heads p rest x p xs rest parts in
-  let again = behind ms x xs s p up mine there is in
-  let counted = is_in_counted p xs in
-  let all = occurs_cons p x xs in
-  let one = once p in
-  grind (arith, nat_tests, same, again, counted, all, one))
+    let same : x ≡ p = heads p rest x p xs rest parts in
+    let again = behind ms x xs s p up mine there is in
+    let counted = is_in_counted p xs in
+    let all = occurs_cons p x xs in
+    let one = once p in
+    grind (arith, nat_tests, same, again, counted, all, one))
 before ms (x ∷ xs) s p up (y ∷ f) rest mine once there is parts =
     by_test (before ms xs s p up f rest mine.1 (λ q. (let all = occurs_cons q x xs in let one = once q in omega (arith, all, one)))) (x == s) refl there
   where
@@ -118,12 +118,12 @@ module _ (hs : List (Option Scope)) (gs : List (Option Guarded)) (ms : List Made
           by_open : (b : Bool) → is_open (slice_set hs k None) s ≡ b → is_open (slice_set hs k None) s ≡ false
           by_open false b = b
           by_open true b = absurd (
-            let held = open_above (slice_set hs k None) ms (cs ++ closes) later s p (p ∷ up) is (first_in p up) b in
-            let ended = later.ended p in
-            let both = occurs_append p cs closes in
-            let inside = ap (λ (l : List ℕ). occurrences p l) there ∙ occurs_append p f (p ∷ rest) in
-            let here = occurs_cons p p rest in
-            grind (arith, nat_tests, held, ended, both, inside, here))
+              let held = open_above (slice_set hs k None) ms (cs ++ closes) later s p (p ∷ up) is (first_in p up) b in
+              let ended = later.ended p in
+              let both = occurs_append p cs closes in
+              let inside = ap (λ (l : List ℕ). occurrences p l) there ∙ occurs_append p f (p ∷ rest) in
+              let here = occurs_cons p p rest in
+              grind (arith, nat_tests, held, ended, both, inside, here))
 
       by_place : (f : List ℕ) → closes ≡ f ++ p ∷ rest → (b : Bool) → is_in s cs ≡ b → is_in s (cs ++ f) ≡ true
       by_place f there true b = in_left s cs f b
