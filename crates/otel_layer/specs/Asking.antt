@@ -1,10 +1,13 @@
 -- What handles ask of the layer of their stack, and what its answers say to them.
-use Rattle.std.specs.Prelude.{◌≡◌, ℕ, Bool, true, false, Option, Some, None, Result, Ok, Err, is_some, if◌then◌else◌}
+use Rattle.std.specs.Prelude.{◌≡◌, ℕ, Bool, true, false, List, Option, Some, None, Result, Ok, Err, is_some, if◌then◌else◌}
 use Rattle.otel_base.specs.declared.context.Context.{Context}
+use Rattle.otel_base.specs.declared.context.SpanContext.{SpanContext}
 use Rattle.otel_base.specs.declared.memory.Memory.{Memory}
+use Rattle.otel_base.specs.declared.value.KeyValue.{KeyValue}
 use Rattle.otel_base.specs.Stack.{empty_context}
 use Rattle.trace_base.specs.Gate.{Worlds}
 use Rattle.otel_state.specs.declared.op.Op.{Op}
+use Rattle.otel_state.specs.declared.op.Op.TheVariants as ops
 use Rattle.otel_state.specs.declared.op.OpReply.{OpReply}
 use Rattle.otel_state.specs.declared.op.OpReply.TheVariants as replies
 use Rattle.otel_state.specs.declared.op.SetParentError.{SetParentError}
@@ -25,11 +28,23 @@ pub record Asks {S R : Type 0} (touches : S → PartCall → S → Type 0) (old 
   pub did : AppliesOn touches old new at op held answer
   pub is : result ≡ read answer
 
+-- a link
+abbrev pub link_of : SpanContext → List KeyValue → Op
+link_of context attributes = ops.Link (record { context = context; attributes = attributes })
+
+-- an event
+abbrev pub event_at : List ℕ → ℕ → List KeyValue → Op
+event_at name time attributes = ops.AddEvent (record { name = name; time = time; attributes = attributes })
+
 -- whether memory was wanted
 abbrev pub done_answer : Option (Result OpReply Memory) → Result (Unit {0}) Memory
 done_answer (Some (Err memory)) = Err memory
 done_answer (Some (Ok reply)) = Ok tt
 done_answer None = Ok tt
+
+-- an op is applied, and it is answered whether memory was wanted
+abbrev pub AsksDone : {S : Type 0} → (S → PartCall → S → Type 0) → Worlds S → Worlds S → ℕ → Op → Held → Result (Unit {0}) Memory → Type 0
+AsksDone touches old new at op held result = Asks touches old new at op held done_answer result
 
 -- whether the parent was set: a handle that is disabled has no span, and where nothing is answered there is no layer
 abbrev pub parent_reply : OpReply → Result (Unit {0}) SetParentError
@@ -41,6 +56,10 @@ parent_answer None answer = Err refusals.SpanDisabled
 parent_answer (Some held) None = Err refusals.LayerNotFound
 parent_answer (Some held) (Some (Err memory)) = Err refusals.LayerNotFound
 parent_answer (Some held) (Some (Ok reply)) = parent_reply reply
+
+-- a parent is set, and it is answered whether it was
+abbrev pub AsksParent : {S : Type 0} → (S → PartCall → S → Type 0) → Worlds S → Worlds S → ℕ → Context → Held → Result (Unit {0}) SetParentError → Type 0
+AsksParent touches old new at context held result = Asks touches old new at (ops.SetParent context) held (parent_answer held) result
 
 -- the own context of the span of an enabled handle is answered, which starts it
 abbrev pub ShowsOn : {S : Type 0} → (S → PartCall → S → Type 0) → Worlds S → Worlds S → ℕ → Held → Option Context → Type 0

@@ -26,6 +26,13 @@ pub record Roomed (T : Type 0) : Type 0 where
   pub room : ℕ
   pub token_room : ℕ
 
+-- the same with other spans, and with other settings
+abbrev pub on_spans : {T : Type 0} → (List (ℕ × Told) → List (ℕ × Told)) → Core T → Core T
+on_spans f c = record c { spans = f c.spans }
+
+abbrev pub set_in : {T : Type 0} → (LayerSettings → LayerSettings) → Core T → Core T
+set_in f c = record c { settings = f c.settings }
+
 -- a layer that knows no span
 abbrev pub new_core : {T : Type 0} → T → LayerSettings → Core T
 new_core tracer settings = record { spans = []; tokens = []; tracer = tracer; reserved = 0; made = 0; settings = settings; counting = false }
@@ -71,3 +78,7 @@ pub record IsWholeCore {T : Type 0} (spare started : T → ℕ) (c : Core T) : T
   pub rooms : length c.spans ≤ c.reserved
   pub budget : started c.tracer + waiting_in c.spans ≤ 2 ^ 62 + c.made
   pub few : c.made < 2 ^ 62
+
+-- what was whole is whole
+abbrev pub StaysWhole : {T : Type 0} → (T → ℕ) → (T → ℕ) → Core T → Core T → Type 0
+StaysWhole spare started c d = IsWholeCore spare started c → IsWholeCore spare started d

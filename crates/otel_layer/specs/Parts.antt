@@ -40,6 +40,10 @@ AppliesTo (Some told) spans id at op None now = ⊥
 AppliesTo (Some told) spans id at op (Some (Ok r)) now = (r ≡ reply told op) × (now ≡ with_op id at op spans)
 AppliesTo (Some told) spans id at op (Some (Err memory)) now = IsTrue (is_growing op) × (now ≡ spans)
 
+-- the same among spans
+abbrev pub AppliesIn : List (ℕ × Told) → ℕ → ℕ → Op → Option (Result OpReply Memory) → List (ℕ × Told) → Type 0
+AppliesIn spans id at op answer now = AppliesTo (told_at id spans) spans id at op answer now
+
 -- the own context of a span, if it is known
 abbrev pub context_at : Option Told → Option Context
 context_at None = None
@@ -49,7 +53,7 @@ context_at (Some told) = Some (record { span = told.own })
 
 -- an op is applied to the span's state; a span that is shown starts
 abbrev pub Touches : {T : Type 0} → (T → TracerCall → T → Type 0) → Core T → PartCall → Core T → Type 0
-Touches does c (Applies id at op answer) d = IsOutside op × AppliesTo (told_at id c.spans) c.spans id at op answer d.spans × (d ≡ record c { spans = d.spans })
+Touches does c (Applies id at op answer) d = IsOutside op × AppliesIn c.spans id at op answer d.spans × (d ≡ record c { spans = d.spans })
 Touches does c (Shows id at answer) d = Starts does id at c d × (answer ≡ context_at (told_at id d.spans))
 
 -- ---- what is told
@@ -61,7 +65,7 @@ ShowsIn (Some under) spans id at answer now = (given : SpanContext) × (now ≡ 
 
 -- the spans after a call, where they are told
 abbrev pub Tells : List (ℕ × Told) → PartCall → List (ℕ × Told) → Type 0
-Tells spans (Applies id at op answer) now = AppliesTo (told_at id spans) spans id at op answer now
+Tells spans (Applies id at op answer) now = AppliesIn spans id at op answer now
 Tells spans (Shows id at answer) now = ShowsIn (waits (told_at id spans)) spans id at answer now
 
 abbrev pub TellsIf : Option (List (ℕ × Told)) → PartCall → Option (List (ℕ × Told)) → Type 0

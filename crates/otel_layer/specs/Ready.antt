@@ -1,9 +1,10 @@
 -- What a prepare makes for its hook.
-use Rattle.std.specs.Prelude.{◌≡◌, ℕ, ◌+◌, ◌<◌, ◌≤◌, ◌^◌, Some, None, length}
-use Rattle.otel_base.specs.Stack.{empty_context}
+use Rattle.std.specs.Prelude.{◌≡◌, true, ℕ, ◌+◌, ◌<◌, ◌≤◌, ◌^◌, Some, None, length}
+use Rattle.otel_base.specs.Stack.{IsReady, empty_context}
 use Rattle.trace_base.specs.declared.callsite.Callsite.{Callsite}
 use Rattle.trace_base.specs.declared.field.ValueSet.{ValueSet}
 use Rattle.trace_base.specs.declared.lane.Lane.{Lane}
+use Rattle.trace_base.specs.Contexts.{AreAttached, IsFull}
 use Rattle.trace_base.specs.Hooks.{Preparation, ForNewSpan, ForRecord, ForFollows, ForEvent, ForEnter}
 use Rattle.otel_state.specs.declared.op.Op.{Op}
 use Rattle.otel_state.specs.declared.op.Op.TheVariants as ops
@@ -14,8 +15,8 @@ use Rattle.otel_state.specs.SpanFields.{span_update}
 use Rattle.otel_state.specs.States.{Kept, begun}
 use Rattle.otel_layer.specs.declared.ready.Ready.{Ready}
 use Rattle.otel_layer.specs.declared.ready.Ready.TheVariants as ready
-use Rattle.otel_layer.specs.Table.{RoomFor, RoomForLink}
-use Rattle.otel_layer.specs.Core.{Roomed}
+use Rattle.otel_layer.specs.Table.{knows_span, RoomFor, RoomForLink}
+use Rattle.otel_layer.specs.Core.{Core, Roomed, entries_by, kept_in}
 
 -- the room for a new span, with the layer and with its tracer
 pub record IsReadySpan {T : Type 0} (s : Roomed T) : Type 0 where
@@ -45,3 +46,19 @@ IsReadyOtel s (ForEvent None callsite values) r = Unit {0}
 IsReadyOtel s (ForEvent (Some id) callsite values) (ready.Happened op) = (op ≡ event_of callsite values s.core.settings 0) × RoomFor id op s.rooms
 IsReadyOtel s (ForEvent (Some id) callsite values) _ = ⊥
 IsReadyOtel s (ForEnter id lane) r = 0 < s.token_room
+
+-- ---- lanes, for a span that is known
+
+-- with activation there is room on the lane for the span's own context, and there can't be
+abbrev pub IsReadyLane : {T : Type 0} → Core T → ℕ → Lane → Type 0
+IsReadyLane c id lane = c.settings.activation ≡ true → knows_span id c.spans ≡ true → IsReady lane.contexts
+
+abbrev pub MeetsFull : {T : Type 0} → Core T → ℕ → Lane → Type 0
+MeetsFull c id lane = (c.settings.activation ≡ true) × (knows_span id c.spans ≡ true) × IsFull lane
+
+-- an entry of it is open on the lane, and what entries attached is attached there
+abbrev pub IsOpenOn : {T : Type 0} → Core T → ℕ → Lane → Type 0
+IsOpenOn c id lane = knows_span id c.spans ≡ true → 0 < entries_by c.tokens lane.id id
+
+abbrev pub IsStillOn : {T : Type 0} → Core T → ℕ → Lane → Type 0
+IsStillOn c id lane = knows_span id c.spans ≡ true → AreAttached (kept_in c) lane

@@ -29,7 +29,7 @@ use Rattle.otel_state.specs.Stack.{last_passing}
 use Rattle.otel_state.specs.States.{Told, changed, record_of}
 use Rattle.otel_layer.specs.declared.tokens.Token.{Token}
 use Rattle.otel_layer.specs.Core.{Core, Roomed, is_token}
-use Rattle.otel_layer.specs.Parts.{PartCall, Applies, Shows, AppliesTo, context_at}
+use Rattle.otel_layer.specs.Parts.{PartCall, Applies, Shows, AppliesIn, context_at}
 use Rattle.otel_layer.specs.Steps.{IfKnown, above, around, context_from, made_told, with_link}
 use Rattle.otel_layer.specs.Table.{told_at, knows_span, with_span, with_op, waits, own_or, ids_at, is_id}
 
@@ -197,7 +197,7 @@ pub record RecordsChain (at : ℕ) (next : Option ℕ) (x y : Spans) (before lat
 
 -- a call from outside: an op is applied, or a span starts whose own context is shown
 abbrev pub RecordsPart : Recording → PartCall → Recording → Type 0
-RecordsPart r (Applies id at op answer) t = AppliesTo (told_at id r.spans) r.spans id at op answer t.spans × (t ≡ record r { spans = t.spans })
+RecordsPart r (Applies id at op answer) t = AppliesIn r.spans id at op answer t.spans × (t ≡ record r { spans = t.spans })
 RecordsPart r (Shows id at answer) t = (t ≡ with_start id at r) × (answer ≡ context_at (told_at id t.spans))
 
 -- ---- the stack
@@ -206,7 +206,11 @@ RecordsPart r (Shows id at answer) t = (t ≡ with_start id at r) × (answer ≡
 abbrev pub recorded : Layered (Roomed Recorded) Registered → Recording
 recorded s = recording_of s.layer.core
 
-abbrev pub recording_in : Worlds (Layered (Roomed Recorded) Registered) → ℕ → Recording
+-- worlds whose subscribers are such stacks
+abbrev pub StackWorlds : Type 0
+StackWorlds = Worlds (Layered (Roomed Recorded) Registered)
+
+abbrev pub recording_in : StackWorlds → ℕ → Recording
 recording_in world dispatch = seen recorded no_recording world dispatch
 
 -- ---- the state of any span

@@ -16,6 +16,8 @@ use Rattle.trace_base.specs.Contexts.{KeepsLane, attached_as}
 use Rattle.trace_base.specs.Hooks.{Hook, OnNewSpan, OnRecord, OnFollows, OnEvent, OnEnter, OnExit, OnClose}
 use Rattle.otel_state.specs.declared.op.Op.TheVariants as ops
 use Rattle.otel_state.specs.declared.settings.LayerSettings.{LayerSettings}
+use Rattle.otel_state.specs.declared.update.Update.{Update}
+use Rattle.otel_state.specs.Content.{Making}
 use Rattle.otel_state.specs.EventFields.{event_of}
 use Rattle.otel_state.specs.FirstAttributes.{first_attributes}
 use Rattle.otel_state.specs.SpanFields.{span_update}
@@ -23,7 +25,7 @@ use Rattle.otel_state.specs.Stack.{last_passing}
 use Rattle.otel_state.specs.States.{Told, begun, changed, record_of}
 use Rattle.otel_layer.specs.declared.tokens.Token.{Token}
 use Rattle.otel_layer.specs.Table.{told_at, knows_span, with_span, update, with_op, waits, own_or, ids_at, is_id}
-use Rattle.otel_layer.specs.Core.{Core, is_token}
+use Rattle.otel_layer.specs.Core.{Core, on_spans, is_token}
 
 -- ---- room
 
@@ -73,6 +75,10 @@ abbrev pub context_from : List (ℕ × Told) → Context → Option ℕ → Cont
 context_from spans other None = other
 context_from spans other (Some id) = own_or other (told_at id spans)
 
+-- a making whose context and moment come later, with what its fields write
+abbrev pub begun_under : Making → Context → ℕ → Update → Told
+begun_under making context at update = changed (begun (record making { parent = context; made = at })) at (ops.Update update)
+
 -- a span that was just made: its first attributes, then what its fields write
 abbrev pub made_told : Callsite → Lane → ValueSet → Context → ℕ → LayerSettings → Bool → Told
 made_told callsite lane values context at settings counting = changed
@@ -80,16 +86,17 @@ made_told callsite lane values context at settings counting = changed
     at
     (ops.Update (span_update callsite values settings))
 
+-- a span that was made is added
+abbrev pub with_new : {T : Type 0} → ℕ → Told → Core T → Core T
+with_new id told c = record c { spans = with_span id told c.spans; made = c.made + 1 }
+
 -- the span that gives the parent's context starts, and the new one is added
 pub record MakesSpan {T : Type 0} (does : T → TracerCall → T → Type 0) (c : Core T) (id : ℕ) (lane : Lane) (at : ℕ) (place : Parent) (current : Option ℕ) (callsite : Callsite) (values : ValueSet) (d : Core T) : Type 0 where
   pub between : Core T
   pub spare : length c.spans < c.reserved
   pub few : c.made + 1 < 2 ^ 62
   pub starts : StartsAny does (above c.settings.activation place current) at c between
-  pub rest : d ≡ record between {
-    spans = with_span id (made_told callsite lane values (context_from between.spans (around lane place) (above c.settings.activation place current)) at c.settings c.counting) between.spans;
-    made = between.made + 1;
-  }
+  pub rest : d ≡ with_new id (made_told callsite lane values (context_from between.spans (around lane place) (above c.settings.activation place current)) at c.settings c.counting) between
 
 -- ---- follows
 
@@ -98,11 +105,15 @@ abbrev pub with_link : ℕ → ℕ → Option SpanContext → List (ℕ × Told)
 with_link id at None spans = spans
 with_link id at (Some context) spans = with_op id at (ops.Link (record { context = context; attributes = [] })) spans
 
+-- a span is linked to another one's own context
+abbrev pub linked_to : ℕ → ℕ → ℕ → List (ℕ × Told) → List (ℕ × Told)
+linked_to id from at spans = with_link id at (ids_at (told_at from spans)) spans
+
 -- the followed span starts, and the other is linked to it
 pub record FollowsSpan {T : Type 0} (does : T → TracerCall → T → Type 0) (c : Core T) (id from at : ℕ) (d : Core T) : Type 0 where
   pub between : Core T
   pub starts : Starts does from at c between
-  pub rest : d ≡ record between { spans = with_link id at (ids_at (told_at from between.spans)) between.spans }
+  pub rest : d ≡ on_spans (linked_to id from at) between
 
 -- ---- events
 
@@ -138,12 +149,23 @@ abbrev pub EntersLane : Bool → Context → Lane → Lane → Option ℕ → Ty
 EntersLane true own before later attached = AttachesContext own before later attached
 EntersLane false own before later attached = (later ≡ before) × (attached ≡ None)
 
+-- the own context of a span, the empty one where it isn't known
+abbrev pub own_in : {T : Type 0} → Core T → ℕ → Context
+own_in c id = own_or empty_context (told_at id c.spans)
+
+-- one open entry more, and the last one of a span on a lane taken off
+abbrev pub with_token : {T : Type 0} → Token → Core T → Core T
+with_token token c = record c { tokens = c.tokens ++ token ∷ [] }
+
+abbrev pub without_token : {T : Type 0} → ℕ → ℕ → Core T → Core T
+without_token lane id c = record c { tokens = without_last (is_token lane id) c.tokens }
+
 -- an entry with activation starts the span
 pub record EntersSpan {T : Type 0} (does : T → TracerCall → T → Type 0) (c : Core T) (id at : ℕ) (before later : Lane) (d : Core T) : Type 0 where
   pub between : Core T
   pub attached : Option ℕ
   pub starts : StartsAny does (if c.settings.activation then Some id else None) at c between
-  pub lane : EntersLane c.settings.activation (own_or empty_context (told_at id between.spans)) before later attached
+  pub lane : EntersLane c.settings.activation (own_in between id) before later attached
   pub rest : d ≡ record between { spans = with_op id at ops.Enter between.spans; tokens = between.tokens ++ record { lane = before.id; id = id; attached = attached } ∷ [] }
 
 -- an exit takes off the span's last entry on the lane, and with activation detaches what that attached
@@ -154,6 +176,10 @@ pub record ExitsSpan {T : Type 0} (c : Core T) (id at : ℕ) (before later : Lan
   pub rest : d ≡ record c { spans = with_op id at ops.Exit c.spans; tokens = without_last (is_token before.id id) c.tokens }
 
 -- ---- a close
+
+-- a record was handed to the tracer, in room that was reserved
+abbrev pub with_finish : {T : Type 0} → T → Core T → Core T
+with_finish tracer c = record c { tracer = tracer; reserved = c.reserved - 1 }
 
 -- the span starts, and its record is finished
 pub record ClosesSpan {T : Type 0} (does : T → TracerCall → T → Type 0) (c : Core T) (id at : ℕ) (d : Core T) : Type 0 where
@@ -171,15 +197,24 @@ pub record IfKnown (known : Bool) (does nothing : Type 0) : Type 0 where
   pub is_known : known ≡ true → does
   pub isnt : known ≡ false → nothing
 
+abbrev pub EntersIfKnown : {T : Type 0} → (T → TracerCall → T → Type 0) → Core T → ℕ → ℕ → Lane → Lane → Core T → Type 0
+EntersIfKnown does c id at before later d = IfKnown (knows_span id c.spans) (EntersSpan does c id at before later d) ((d ≡ c) × (later ≡ before))
+
+abbrev pub ExitsIfKnown : {T : Type 0} → Core T → ℕ → ℕ → Lane → Lane → Core T → Type 0
+ExitsIfKnown c id at before later d = IfKnown (knows_span id c.spans) (ExitsSpan c id at before later d) ((d ≡ c) × (later ≡ before))
+
+abbrev pub ClosesIfKnown : {T : Type 0} → (T → TracerCall → T → Type 0) → Core T → ℕ → ℕ → Core T → Type 0
+ClosesIfKnown does c id at d = IfKnown (knows_span id c.spans) (ClosesSpan does c id at d) (d ≡ c)
+
 abbrev pub Step : {T : Type 0} → (T → TracerCall → T → Type 0) → Events → Core T → Hook → Core T → Type 0
 Step does events c (OnNewSpan id lane at place current callsite values) d = MakesSpan does c id lane at place current callsite values d
-Step does events c (OnRecord id at callsite values) d = d ≡ record c { spans = with_op id at (ops.Update (span_update callsite values c.settings)) c.spans }
+Step does events c (OnRecord id at callsite values) d = d ≡ on_spans (with_op id at (ops.Update (span_update callsite values c.settings))) c
 Step does events c (OnFollows id from at) d = FollowsSpan does c id from at d
 Step does events c (OnEvent None lane at callsite values) d = d ≡ c
-Step does events c (OnEvent (Some id) lane at callsite values) d = d ≡ record c { spans = update id (events c.settings lane.id at callsite values) c.spans }
-Step does events c (OnEnter id at before later) d = IfKnown (knows_span id c.spans) (EntersSpan does c id at before later d) ((d ≡ c) × (later ≡ before))
-Step does events c (OnExit id at before later) d = IfKnown (knows_span id c.spans) (ExitsSpan c id at before later d) ((d ≡ c) × (later ≡ before))
-Step does events c (OnClose id at) d = IfKnown (knows_span id c.spans) (ClosesSpan does c id at d) (d ≡ c)
+Step does events c (OnEvent (Some id) lane at callsite values) d = d ≡ on_spans (update id (events c.settings lane.id at callsite values)) c
+Step does events c (OnEnter id at before later) d = EntersIfKnown does c id at before later d
+Step does events c (OnExit id at before later) d = ExitsIfKnown c id at before later d
+Step does events c (OnClose id at) d = ClosesIfKnown does c id at d
 
 -- a hook, whatever room was taken before
 pub record DoesHook {T : Type 0} (does : T → TracerCall → T → Type 0) (events : Events) (c : Core T) (hook : Hook) (d : Core T) : Type 0 where

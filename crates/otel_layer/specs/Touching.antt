@@ -124,7 +124,7 @@ layered_is {L} {S} s t l i = ap (λ (x : L). let r : Layered L S = record { laye
 
 -- ---- what stays of a stack
 
-still_layer : {L : Type 0} (seen : L → Seen) (kept : L → ℕ → ℕ → ℕ) (attaches : L → Bool) (is_whole : L → Type 0) (l m : L) → m ≡ l → StaysLayer seen kept attaches is_whole l m
+pub still_layer : {L : Type 0} (seen : L → Seen) (kept : L → ℕ → ℕ → ℕ) (attaches : L → Bool) (is_whole : L → Type 0) (l m : L) → m ≡ l → StaysLayer seen kept attaches is_whole l m
 still_layer seen kept attaches is_whole l m e = record { seen_same = ap seen e; kept_same = ap kept e; attaches_same = ap attaches e; whole = λ w. subst is_whole (sym e) w }
 
 still_stack : {S : Type 0} (spans : S → Spans) (kept : S → ℕ → ℕ → ℕ) (attaches : S → Bool) (is_whole : S → Type 0) (s t : S) → t ≡ s → StaysStack spans kept attaches is_whole s t

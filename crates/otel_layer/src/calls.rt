@@ -1,19 +1,20 @@
 //! What the hooks of the layer do, a part at a time, in room that was taken.
-ghost use Rattle.std.specs.Prelude.{◌≡◌, ◌<◌, ◌≤◌, ◌^◌, ◌+◌, ◌-◌, ◌++◌, ◌∷◌, [], true, false, length, None, Some, if◌then◌else◌};
+ghost use Rattle.std.specs.Prelude.{◌≡◌, ◌<◌, ◌≤◌, ◌^◌, ◌+◌, true, false, length, None, Some, if◌then◌else◌};
 ghost use Rattle.std.specs.Map.{remove_entry};
-ghost use Rattle.otel_base.specs.Stack.{IsReady, empty_context};
+ghost use Rattle.otel_base.specs.Stack.{IsReady};
 ghost use Rattle.otel_base.specs.Tracer.{Finish};
 ghost use Rattle.trace_base.specs.Contexts.{AreAttached};
-ghost use Rattle.trace_base.specs.Spans.{without_last};
 ghost use Rattle.otel_state.specs.declared.op.Op.TheVariants as ops;
 ghost use Rattle.otel_state.specs.Content.{Making};
 ghost use Rattle.otel_state.specs.Stack.{last_passing};
-ghost use Rattle.otel_state.specs.States.{begun, changed, is_growing};
-ghost use Rattle.otel_layer.specs.Table.{told_at, knows_span, with_span, update, with_op, own_or, ids_at, is_id, RoomFor, RoomForLink};
+ghost use Rattle.otel_state.specs.States.{begun, is_growing};
+ghost use Rattle.otel_layer.specs.Table.{told_at, knows_span, update, with_op, is_id, RoomFor, RoomForLink};
 ghost use Rattle.otel_layer.specs.Counting.{counted};
-ghost use Rattle.otel_layer.specs.Core.{entries_by, kept_in, is_token, IsWholeCore};
-ghost use Rattle.otel_layer.specs.Steps.{Starts, StartsAny, above, around, context_from, MakesSpan, with_link, FollowsSpan, EntersLane, EntersSpan, ExitsSpan, ClosesSpan, IfKnown};
-ghost use Rattle.otel_layer.specs.Ready.{IsReadyState};
+ghost use Rattle.otel_layer.specs.Core.{on_spans, entries_by, kept_in, is_token, IsWholeCore};
+ghost use Rattle.otel_layer.specs.Steps.{Starts, StartsAny, above, around, context_from, begun_under, with_new, MakesSpan};
+ghost use Rattle.otel_layer.specs.Steps.{linked_to, FollowsSpan, own_in, with_token, without_token, EntersLane, EntersSpan};
+ghost use Rattle.otel_layer.specs.Steps.{ExitsSpan, with_finish, ClosesSpan, EntersIfKnown, ExitsIfKnown, ClosesIfKnown};
+ghost use Rattle.otel_layer.specs.Ready.{IsReadyState, IsReadyLane, IsOpenOn, IsStillOn};
 
 use crate::layer::OpenTelemetryLayer;
 use crate::tokens::{Token, attach, leave, take_last};
@@ -66,7 +67,7 @@ impl<T: Tracer> OpenTelemetryLayer<T> {
     // Applies an op to a span.
     pub(crate) fn put_op(&mut self, id: Id, at: u64, op: Op)
         requires { RoomFor id op self.old.rooms }
-        ensures core { self.new.core ≡ record self.old.core { spans = with_op id at op self.old.core.spans } }
+        ensures core { self.new.core ≡ on_spans (with_op id at op) self.old.core }
         ensures rooms { is_growing op ≡ false → self.new.rooms ≡ self.old.rooms }
         ensures token_room { self.new.token_room ≡ self.old.token_room }
     {
@@ -76,7 +77,7 @@ impl<T: Tracer> OpenTelemetryLayer<T> {
     // Counts an event, and tells it to its span where it is taken.
     pub(crate) fn count_op(&mut self, id: Id, at: u64, op: Op, is_taken: bool)
         requires { RoomFor id op self.old.rooms }
-        ensures { self.new.core ≡ record self.old.core { spans = update id (counted is_taken at op) self.old.core.spans } }
+        ensures { self.new.core ≡ on_spans (update id (counted is_taken at op)) self.old.core }
     {
         self.put_op(id, at, Op::Counted);
         if is_taken {
@@ -99,7 +100,8 @@ impl<T: Tracer> OpenTelemetryLayer<T> {
     )
         requires few { T.started self.old.core.tracer < 2 ^ 63 }
         requires ready { IsReadyState self.old lane.now callsite.now _values.now state update }
-        ensures { MakesSpan T.does self.old.core id lane.now at place current callsite.now _values.now self.new.core }
+        ensures { MakesSpan T.does self.old.core id lane.now at place current callsite.now _values.now
+            self.new.core }
     {
         let source = above(self.settings.activation, place.same(), current);
         self.start_any(again(&source), at);
@@ -121,7 +123,7 @@ impl<T: Tracer> OpenTelemetryLayer<T> {
     fn add(&mut self, id: Id, state: SpanState)
         requires room { 0 < self.old.room }
         requires few { self.old.core.made + 1 < 2 ^ 62 }
-        ensures { self.new.core ≡ record self.old.core { spans = with_span id state.told self.old.core.spans; made = self.old.core.made + 1 } }
+        ensures { self.new.core ≡ with_new id state.told self.old.core }
     {
         self.table.add(id, state);
         self.made += 1;
@@ -140,7 +142,7 @@ impl<T: Tracer> OpenTelemetryLayer<T> {
     // Links a span to another.
     fn link(&mut self, id: Id, from: Id, at: u64)
         requires { RoomForLink id self.old.rooms }
-        ensures { self.new.core ≡ record self.old.core { spans = with_link id at (ids_at (told_at from self.old.core.spans)) self.old.core.spans } }
+        ensures { self.new.core ≡ on_spans (linked_to id from at) self.old.core }
     {
         match self.table.ids(from) {
             Some(context) => {
@@ -159,8 +161,8 @@ impl<T: Tracer> OpenTelemetryLayer<T> {
     pub(crate) fn enter_if_known(&mut self, id: Id, lane: &mut Lane, at: u64)
         requires few { T.started self.old.core.tracer < 2 ^ 63 }
         requires token { 0 < self.old.token_room }
-        requires room { self.old.core.settings.activation ≡ true → knows_span id self.old.core.spans ≡ true → IsReady lane.old.contexts }
-        ensures { IfKnown (knows_span id self.old.core.spans) (EntersSpan T.does self.old.core id at lane.old lane.new self.new.core) ((self.new.core ≡ self.old.core) × (lane.new ≡ lane.old)) }
+        requires room { IsReadyLane self.old.core id lane.old }
+        ensures { EntersIfKnown T.does self.old.core id at lane.old lane.new self.new.core }
     {
         if self.table.knows(id) {
             self.enter_known(id, lane, at);
@@ -183,7 +185,8 @@ impl<T: Tracer> OpenTelemetryLayer<T> {
     // Attaches a span's own context, with activation.
     fn attach(&self, id: Id, lane: &mut Lane) -> Option<Attached>
         requires { self.now.core.settings.activation ≡ true → IsReady lane.old.contexts }
-        ensures lane { EntersLane self.now.core.settings.activation (own_or empty_context (told_at id self.now.core.spans)) lane.old lane.new result }
+        ensures lane { EntersLane self.now.core.settings.activation (own_in self.now.core id) lane.old lane.new
+            result }
         ensures id { lane.new.id ≡ lane.old.id }
     {
         if self.settings.activation {
@@ -196,7 +199,7 @@ impl<T: Tracer> OpenTelemetryLayer<T> {
     // Adds an open entry.
     fn add_token(&mut self, lane: u64, id: Id, attached: Option<Attached>)
         requires { 0 < self.old.token_room }
-        ensures { self.new.core ≡ record self.old.core { tokens = self.old.core.tokens ++ record { lane = lane; id = id; attached = attached } ∷ [] } }
+        ensures { self.new.core ≡ with_token (record { lane = lane; id = id; attached = attached }) self.old.core }
     {
         match self.tokens.push(Token { lane, id, attached }) {
             Ok(()) => {}
@@ -206,9 +209,9 @@ impl<T: Tracer> OpenTelemetryLayer<T> {
 
     // Exits a span, if it is known.
     pub(crate) fn exit_if_known(&mut self, id: Id, lane: &mut Lane, at: u64)
-        requires open { knows_span id self.old.core.spans ≡ true → 0 < entries_by self.old.core.tokens lane.old.id id }
-        requires still { knows_span id self.old.core.spans ≡ true → AreAttached (kept_in self.old.core) lane.old }
-        ensures { IfKnown (knows_span id self.old.core.spans) (ExitsSpan self.old.core id at lane.old lane.new self.new.core) ((self.new.core ≡ self.old.core) × (lane.new ≡ lane.old)) }
+        requires open { IsOpenOn self.old.core id lane.old }
+        requires still { IsStillOn self.old.core id lane.old }
+        ensures { ExitsIfKnown self.old.core id at lane.old lane.new self.new.core }
     {
         if self.table.knows(id) {
             self.exit_known(id, lane, at);
@@ -233,7 +236,7 @@ impl<T: Tracer> OpenTelemetryLayer<T> {
     fn take_token(&mut self, lane: u64, id: Id) -> Token
         requires { 0 < entries_by self.old.core.tokens lane id }
         ensures last { last_passing (is_token lane id) self.old.core.tokens ≡ Some result }
-        ensures core { self.new.core ≡ record self.old.core { tokens = without_last (is_token lane id) self.old.core.tokens } }
+        ensures core { self.new.core ≡ without_token lane id self.old.core }
     {
         take_last(&mut self.tokens, lane, id)
     }
@@ -241,7 +244,7 @@ impl<T: Tracer> OpenTelemetryLayer<T> {
     // Closes a span, if it is known.
     pub(crate) fn close_if_known(&mut self, id: Id, at: u64)
         requires whole { IsWholeCore T.spare T.started self.old.core }
-        ensures { IfKnown (knows_span id self.old.core.spans) (ClosesSpan T.does self.old.core id at self.new.core) (self.new.core ≡ self.old.core) }
+        ensures { ClosesIfKnown T.does self.old.core id at self.new.core }
     {
         if self.table.knows(id) {
             self.close_known(id, at);
@@ -262,7 +265,7 @@ impl<T: Tracer> OpenTelemetryLayer<T> {
     fn remove(&mut self, id: Id) -> SpanState
         requires { knows_span id self.old.core.spans ≡ true }
         ensures told { told_at id self.old.core.spans ≡ Some result.told }
-        ensures core { self.new.core ≡ record self.old.core { spans = remove_entry (is_id id) self.old.core.spans } }
+        ensures core { self.new.core ≡ on_spans (remove_entry (is_id id)) self.old.core }
     {
         self.table.remove(id)
     }
@@ -272,7 +275,7 @@ impl<T: Tracer> OpenTelemetryLayer<T> {
         requires spare { 0 < T.spare self.old.core.tracer }
         requires reserved { 0 < self.old.core.reserved }
         ensures did { T.does self.old.core.tracer (Finish span) self.new.core.tracer }
-        ensures core { self.new.core ≡ record self.old.core { tracer = self.new.core.tracer; reserved = self.old.core.reserved - 1 } }
+        ensures core { self.new.core ≡ with_finish self.new.core.tracer self.old.core }
     {
         self.tracer.finish(span);
         self.reserved -= 1;
@@ -282,7 +285,7 @@ impl<T: Tracer> OpenTelemetryLayer<T> {
 // The state of a span that is made, with what its fields write.
 fn begun_state(state: SpanState, update: Update, context: Context, at: u64) -> SpanState
     requires { length update.attributes ≤ state.room.attributes }
-    ensures { (making : Making) → state.told ≡ begun making → result.told ≡ changed (begun (record making { parent = context; made = at })) at (ops.Update update) }
+    ensures { (making : Making) → state.told ≡ begun making → result.told ≡ begun_under making context at update }
 {
     let mut state = state;
     state.begin(context, at);

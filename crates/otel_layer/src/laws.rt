@@ -13,8 +13,8 @@ use crate::part::OtelPart;
 
 /// A parent is set exactly while the span, of an enabled handle over a layer that shows it, hasn't started.
 pub fn parents<S: OtelPart>()
-    ensures { (s t : S) (id at : ℕ) (context : Context) (answer : Option (Result OpReply Memory)) (spans : List (ℕ × Told))
-        (told : Told) (held : ℕ × ℕ) → S.touches s (Applies id at (ops.SetParent context) answer) t
+    ensures { (s t : S) (id at : ℕ) (context : Context) (answer : Option (Result OpReply Memory))
+        (spans : List (ℕ × Told)) (told : Told) (held : ℕ × ℕ) → S.touches s (Applies id at (ops.SetParent context) answer) t
         → S.told s ≡ Some spans → told_at id spans ≡ Some told
         → parent_answer (Some held) answer ≡ set_while_waiting told }
 {}

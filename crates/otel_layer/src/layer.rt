@@ -1,7 +1,7 @@
 //! The layer and its settings.
 ghost use Rattle.std.specs.Prelude.{◌≡◌, ◌≤◌, ◌^◌, [], length};
 ghost use Rattle.otel_state.specs.Settings.{default_settings};
-ghost use Rattle.otel_layer.specs.Core.{new_core, with_other, IsWholeCore};
+ghost use Rattle.otel_layer.specs.Core.{new_core, set_in, with_other, IsWholeCore, StaysWhole};
 ghost use Rattle.otel_layer.specs.Counting.{counting_core};
 ghost use Rattle.otel_layer.specs.Lending.{LendsTracer};
 ghost use Rattle.std.specs.Borrow.{sem};
@@ -37,7 +37,15 @@ impl<T> Model for OpenTelemetryLayer<T> {
     ghost Value = { Roomed T };
 
     ghost view = { λ l. record {
-      core = record { spans = l.table.spans; tokens = l.tokens.items; tracer = l.tracer; reserved = l.reserved; made = l.made; settings = l.settings; counting = l.counting };
+      core = record {
+        spans = l.table.spans;
+        tokens = l.tokens.items;
+        tracer = l.tracer;
+        reserved = l.reserved;
+        made = l.made;
+        settings = l.settings;
+        counting = l.counting;
+      };
       rooms = l.table.rooms;
       room = l.table.room;
       token_room = vec_capacity l.tokens - length l.tokens.items;
@@ -74,12 +82,14 @@ impl<T: Tracer> OpenTelemetryLayer<T> {
 }
 
 impl<T: Tracer + Drop> OpenTelemetryLayer<T> {
-    /// The same layer over another tracer, with which nothing is reserved yet; `OpenTelemetryLayer::with_tracer`. It can
+    /// The same layer over another tracer, with which nothing is reserved yet; `OpenTelemetryLayer::with_tracer`. It
+    /// can
     /// close the spans that it knows only if there are none.
     pub fn with_tracer<U: Tracer>(self, tracer: U) -> OpenTelemetryLayer<U>
         requires { U.started tracer ≤ 2 ^ 62 }
         ensures core { result.core ≡ with_other self.core tracer }
-        ensures whole { IsWholeCore T.spare T.started self.core → self.core.spans ≡ [] → IsWholeCore U.spare U.started result.core }
+        ensures whole { IsWholeCore T.spare T.started self.core → self.core.spans ≡ []
+            → IsWholeCore U.spare U.started result.core }
     {
         let OpenTelemetryLayer {
             alloc,
@@ -118,7 +128,7 @@ impl<T: Tracer> OpenTelemetryLayer<T> {
     // The same layer, counting events.
     pub(crate) fn counting(self) -> OpenTelemetryLayer<T>
         ensures core { result.core ≡ counting_core self.core }
-        ensures whole { IsWholeCore T.spare T.started self.core → IsWholeCore T.spare T.started result.core }
+        ensures whole { StaysWhole T.spare T.started self.core result.core }
     {
         let OpenTelemetryLayer {
             alloc,
@@ -148,7 +158,7 @@ impl<T: Tracer> OpenTelemetryLayer<T> {
     // The same layer with these settings.
     fn set(self, settings: LayerSettings) -> OpenTelemetryLayer<T>
         ensures core { result.core ≡ record self.core { settings = settings } }
-        ensures whole { IsWholeCore T.spare T.started self.core → IsWholeCore T.spare T.started result.core }
+        ensures whole { StaysWhole T.spare T.started self.core result.core }
     {
         let OpenTelemetryLayer {
             alloc,
@@ -172,10 +182,11 @@ impl<T: Tracer> OpenTelemetryLayer<T> {
         }
     }
 
-    /// Sets whether an error among the fields of a span or an event is told as an exception too; `OpenTelemetryLayer::with_error_fields_to_exceptions`.
+    /// Sets whether an error among the fields of a span or an event is told as an exception too;
+    /// `OpenTelemetryLayer::with_error_fields_to_exceptions`.
     pub fn with_error_fields_to_exceptions(self, on: bool) -> OpenTelemetryLayer<T>
-        ensures core { result.core ≡ record self.core { settings = record self.core.settings { error_fields_to_exceptions = on } } }
-        ensures whole { IsWholeCore T.spare T.started self.core → IsWholeCore T.spare T.started result.core }
+        ensures core { result.core ≡ set_in (λ s. record s { error_fields_to_exceptions = on }) self.core }
+        ensures whole { StaysWhole T.spare T.started self.core result.core }
     {
         let settings = LayerSettings {
             error_fields_to_exceptions: on,
@@ -184,10 +195,11 @@ impl<T: Tracer> OpenTelemetryLayer<T> {
         self.set(settings)
     }
 
-    /// Sets whether an error among the fields of an event is told as an exception of the span; `OpenTelemetryLayer::with_error_records_to_exceptions`.
+    /// Sets whether an error among the fields of an event is told as an exception of the span;
+    /// `OpenTelemetryLayer::with_error_records_to_exceptions`.
     pub fn with_error_records_to_exceptions(self, on: bool) -> OpenTelemetryLayer<T>
-        ensures core { result.core ≡ record self.core { settings = record self.core.settings { error_records_to_exceptions = on } } }
-        ensures whole { IsWholeCore T.spare T.started self.core → IsWholeCore T.spare T.started result.core }
+        ensures core { result.core ≡ set_in (λ s. record s { error_records_to_exceptions = on }) self.core }
+        ensures whole { StaysWhole T.spare T.started self.core result.core }
     {
         let settings = LayerSettings {
             error_records_to_exceptions: on,
@@ -196,10 +208,11 @@ impl<T: Tracer> OpenTelemetryLayer<T> {
         self.set(settings)
     }
 
-    /// Sets whether the special error of an event makes it an exception; `OpenTelemetryLayer::with_error_events_to_exceptions`.
+    /// Sets whether the special error of an event makes it an exception;
+    /// `OpenTelemetryLayer::with_error_events_to_exceptions`.
     pub fn with_error_events_to_exceptions(self, on: bool) -> OpenTelemetryLayer<T>
-        ensures core { result.core ≡ record self.core { settings = record self.core.settings { error_events_to_exceptions = on } } }
-        ensures whole { IsWholeCore T.spare T.started self.core → IsWholeCore T.spare T.started result.core }
+        ensures core { result.core ≡ set_in (λ s. record s { error_events_to_exceptions = on }) self.core }
+        ensures whole { StaysWhole T.spare T.started self.core result.core }
     {
         let settings = LayerSettings {
             error_events_to_exceptions: on,
@@ -208,10 +221,11 @@ impl<T: Tracer> OpenTelemetryLayer<T> {
         self.set(settings)
     }
 
-    /// Sets whether the special error of an event is an error of its span; `OpenTelemetryLayer::with_error_events_to_status`.
+    /// Sets whether the special error of an event is an error of its span;
+    /// `OpenTelemetryLayer::with_error_events_to_status`.
     pub fn with_error_events_to_status(self, on: bool) -> OpenTelemetryLayer<T>
-        ensures core { result.core ≡ record self.core { settings = record self.core.settings { error_events_to_status = on } } }
-        ensures whole { IsWholeCore T.spare T.started self.core → IsWholeCore T.spare T.started result.core }
+        ensures core { result.core ≡ set_in (λ s. record s { error_events_to_status = on }) self.core }
+        ensures whole { StaysWhole T.spare T.started self.core result.core }
     {
         let settings = LayerSettings {
             error_events_to_status: on,
@@ -220,10 +234,11 @@ impl<T: Tracer> OpenTelemetryLayer<T> {
         self.set(settings)
     }
 
-    /// Sets whether spans and events tell the file, module and line of their callsite; `OpenTelemetryLayer::with_location`.
+    /// Sets whether spans and events tell the file, module and line of their callsite;
+    /// `OpenTelemetryLayer::with_location`.
     pub fn with_location(self, on: bool) -> OpenTelemetryLayer<T>
-        ensures core { result.core ≡ record self.core { settings = record self.core.settings { location = on } } }
-        ensures whole { IsWholeCore T.spare T.started self.core → IsWholeCore T.spare T.started result.core }
+        ensures core { result.core ≡ set_in (λ s. record s { location = on }) self.core }
+        ensures whole { StaysWhole T.spare T.started self.core result.core }
     {
         let settings = LayerSettings {
             location: on,
@@ -234,8 +249,8 @@ impl<T: Tracer> OpenTelemetryLayer<T> {
 
     /// Sets whether closes tell busy and idle times; `OpenTelemetryLayer::with_tracked_inactivity`.
     pub fn with_tracked_inactivity(self, on: bool) -> OpenTelemetryLayer<T>
-        ensures core { result.core ≡ record self.core { settings = record self.core.settings { inactivity = on } } }
-        ensures whole { IsWholeCore T.spare T.started self.core → IsWholeCore T.spare T.started result.core }
+        ensures core { result.core ≡ set_in (λ s. record s { inactivity = on }) self.core }
+        ensures whole { StaysWhole T.spare T.started self.core result.core }
     {
         let settings = LayerSettings {
             inactivity: on,
@@ -246,8 +261,8 @@ impl<T: Tracer> OpenTelemetryLayer<T> {
 
     /// Sets whether spans tell the lane on which they are made; `OpenTelemetryLayer::with_threads`.
     pub fn with_threads(self, on: bool) -> OpenTelemetryLayer<T>
-        ensures core { result.core ≡ record self.core { settings = record self.core.settings { threads = on } } }
-        ensures whole { IsWholeCore T.spare T.started self.core → IsWholeCore T.spare T.started result.core }
+        ensures core { result.core ≡ set_in (λ s. record s { threads = on }) self.core }
+        ensures whole { StaysWhole T.spare T.started self.core result.core }
     {
         let settings = LayerSettings {
             threads: on,
@@ -258,8 +273,8 @@ impl<T: Tracer> OpenTelemetryLayer<T> {
 
     /// Sets whether spans tell their level; `OpenTelemetryLayer::with_level`.
     pub fn with_level(self, on: bool) -> OpenTelemetryLayer<T>
-        ensures core { result.core ≡ record self.core { settings = record self.core.settings { level = on } } }
-        ensures whole { IsWholeCore T.spare T.started self.core → IsWholeCore T.spare T.started result.core }
+        ensures core { result.core ≡ set_in (λ s. record s { level = on }) self.core }
+        ensures whole { StaysWhole T.spare T.started self.core result.core }
     {
         let settings = LayerSettings {
             level: on,
@@ -270,8 +285,8 @@ impl<T: Tracer> OpenTelemetryLayer<T> {
 
     /// Sets whether spans tell their target; `OpenTelemetryLayer::with_target`.
     pub fn with_target(self, on: bool) -> OpenTelemetryLayer<T>
-        ensures core { result.core ≡ record self.core { settings = record self.core.settings { target = on } } }
-        ensures whole { IsWholeCore T.spare T.started self.core → IsWholeCore T.spare T.started result.core }
+        ensures core { result.core ≡ set_in (λ s. record s { target = on }) self.core }
+        ensures whole { StaysWhole T.spare T.started self.core result.core }
     {
         let settings = LayerSettings {
             target: on,
@@ -282,8 +297,8 @@ impl<T: Tracer> OpenTelemetryLayer<T> {
 
     /// Sets whether an entry attaches its span's context to the lane; `OpenTelemetryLayer::with_context_activation`.
     pub fn with_context_activation(self, on: bool) -> OpenTelemetryLayer<T>
-        ensures core { result.core ≡ record self.core { settings = record self.core.settings { activation = on } } }
-        ensures whole { IsWholeCore T.spare T.started self.core → IsWholeCore T.spare T.started result.core }
+        ensures core { result.core ≡ set_in (λ s. record s { activation = on }) self.core }
+        ensures whole { StaysWhole T.spare T.started self.core result.core }
     {
         let settings = LayerSettings {
             activation: on,

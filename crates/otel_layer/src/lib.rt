@@ -1,10 +1,11 @@
-//! The OpenTelemetry layer: what becomes of spans and events that a stack of layers is told of, up to the records that
-//! a tracer gets. Everything turns on `OpenTelemetryLayer`: each hook applies ops to the state of a span.
+//! The OpenTelemetry layer: what becomes of spans and events that a stack of layers is told of, up to the records
+//! that a tracer gets. Everything turns on `OpenTelemetryLayer`: each hook applies ops to the state of a span.
 #![tactic(auto)]
 
 mod calls;
 pub mod counting;
 mod counting_hooks;
+mod filters;
 mod hooks;
 pub mod laws;
 pub mod layer;
@@ -14,8 +15,6 @@ pub mod recording;
 mod room;
 pub mod span_ext;
 mod table;
-#[cfg(test)]
-mod tests;
 mod tokens;
 
 pub use counting::FilteredOpenTelemetryLayer;

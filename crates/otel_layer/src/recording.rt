@@ -2,18 +2,15 @@
 //! nothing.
 ghost use Rattle.std.specs.Prelude.{◌≡◌, ◌≢◌, ◌==◌, if◌then◌else◌, ℕ, List, Option, None, Some, length, slice_get};
 ghost use Rattle.std.specs.Map.{remove_entry};
-ghost use Rattle.otel_base.specs.Recorder.{Recorded};
 ghost use Rattle.trace_base.specs.Gate.{Worlds};
 ghost use Rattle.trace_base.specs.Calls.{SubscriberCall};
-ghost use Rattle.span_registry.specs.declared.layered.Layered.{Layered as LayeredValue};
-ghost use Rattle.span_registry.specs.Registering.{Registered};
 ghost use Rattle.span_handles.specs.Worlds.{Replaced, Alike, Chain, spans_in};
 ghost use Rattle.otel_state.specs.declared.op.Op.{Op};
 ghost use Rattle.otel_state.specs.States.{Told};
-ghost use Rattle.otel_layer.specs.Core.{Roomed};
 ghost use Rattle.otel_layer.specs.Parts.{PartCall};
 ghost use Rattle.otel_layer.specs.Table.{told_at, with_op, with_span, waits, is_id};
-ghost use Rattle.otel_layer.specs.Recording.{Recording, RecordsCall, RecordsChain, RecordsPart, recording_in, with_start, with_close, told_after, told_started, Closes};
+ghost use Rattle.otel_layer.specs.Recording.{StackWorlds, Recording, RecordsCall, RecordsChain, RecordsPart, recording_in};
+ghost use Rattle.otel_layer.specs.Recording.{with_start, with_close, told_after, told_started, Closes};
 
 use crate::layer::OpenTelemetryLayer;
 use crate::part::{OtelPart, OtelSubscriber};
@@ -27,24 +24,24 @@ pub type RecordedStack = Layered<OpenTelemetryLayer<Recorder>, Registry>;
 
 /// One call is one step of what the layer keeps.
 pub fn calls()
-    ensures { (old new : Worlds (LayeredValue (Roomed Recorded) Registered)) (dispatch : ℕ) (call : SubscriberCall)
+    ensures { (old new : StackWorlds) (dispatch : ℕ) (call : SubscriberCall)
         → Replaced (λ s t. ⟦<RecordedStack as Subscriber>⟧.does s call t) old new dispatch
-        → RecordsCall (spans_in ⟦<RecordedStack as Subscriber>⟧.spans old dispatch) (recording_in old dispatch) call
-        (recording_in new dispatch) }
+        → RecordsCall (spans_in ⟦<RecordedStack as Subscriber>⟧.spans old dispatch) (recording_in old dispatch)
+        call (recording_in new dispatch) }
 {}
 
 /// Spare room is nothing that is kept.
 pub fn same()
-    ensures { (old new : Worlds (LayeredValue (Roomed Recorded) Registered)) (dispatch : ℕ)
+    ensures { (old new : StackWorlds) (dispatch : ℕ)
         → Replaced ⟦<RecordedStack as Subscriber>⟧.same old new dispatch
         → recording_in new dispatch ≡ recording_in old dispatch }
 {}
 
 /// A chain of closes closes each span that it closes in the recording, in order.
 pub fn chains()
-    ensures { (old new : Worlds (LayeredValue (Roomed Recorded) Registered)) (dispatch at id : ℕ)
-        → Replaced (λ s t. Chain ⟦<RecordedStack as Subscriber>⟧.spans ⟦<RecordedStack as Subscriber>⟧.does at (Some id) s t)
-        old new dispatch
+    ensures { (old new : StackWorlds) (dispatch at id : ℕ)
+        → Replaced (λ s t. Chain ⟦<RecordedStack as Subscriber>⟧.spans ⟦<RecordedStack as Subscriber>⟧.does at
+        (Some id) s t) old new dispatch
         → RecordsChain at (Some id) (spans_in ⟦<RecordedStack as Subscriber>⟧.spans old dispatch)
         (spans_in ⟦<RecordedStack as Subscriber>⟧.spans new dispatch) (recording_in old dispatch)
         (recording_in new dispatch) }
@@ -66,7 +63,7 @@ pub fn states()
 
 /// No span is known yet under the id of the next one.
 pub fn next()
-    ensures { (world : Worlds (LayeredValue (Roomed Recorded) Registered)) (dispatch : ℕ) (s : _)
+    ensures { (world : StackWorlds) (dispatch : ℕ) (s : _)
         → slice_get world.subscribers dispatch ≡ Some s → ⟦<RecordedStack as Subscriber>⟧.is_whole s
         → told_at (length (spans_in ⟦<RecordedStack as Subscriber>⟧.spans world dispatch).made)
         (recording_in world dispatch).spans ≡ None }
@@ -74,7 +71,7 @@ pub fn next()
 
 /// A call from outside is one step of what the layer keeps.
 pub fn asks()
-    ensures { (old new : Worlds (LayeredValue (Roomed Recorded) Registered)) (dispatch : ℕ) (call : PartCall)
+    ensures { (old new : StackWorlds) (dispatch : ℕ) (call : PartCall)
         → Replaced (λ s t. ⟦<RecordedStack as OtelPart>⟧.touches s call t) old new dispatch
         → RecordsPart (recording_in old dispatch) call (recording_in new dispatch) }
 {}

@@ -1,12 +1,10 @@
 //! What the hooks of the layer need, and is made and reserved before them.
-ghost use Rattle.std.specs.Prelude.{◌≡◌, ◌<◌, true, length, OnOk, IfOk, Err};
-ghost use Rattle.otel_base.specs.Stack.{IsReady};
+ghost use Rattle.std.specs.Prelude.{◌≡◌, ◌<◌, length, OnOk, IfOk, Err};
 ghost use Rattle.otel_base.specs.declared.enter_error.EnterError.TheVariants.{Full};
-ghost use Rattle.trace_base.specs.Contexts.{KeepsLive, IsFull};
+ghost use Rattle.trace_base.specs.Contexts.{KeepsLive};
 ghost use Rattle.trace_base.specs.Hooks.{ForNewSpan, ForRecord, ForFollows, ForEvent, ForEnter};
-ghost use Rattle.otel_layer.specs.Table.{knows_span};
 ghost use Rattle.otel_layer.specs.Steps.{SameCore};
-ghost use Rattle.otel_layer.specs.Ready.{IsReadySpan, IsReadyOtel};
+ghost use Rattle.otel_layer.specs.Ready.{IsReadySpan, IsReadyOtel, IsReadyLane, MeetsFull};
 
 use crate::layer::OpenTelemetryLayer;
 use crate::ready::Ready;
@@ -110,9 +108,9 @@ impl<T: Tracer> OpenTelemetryLayer<T> {
 
     // Room on the lane for the span's own context, with activation, if the span is known.
     pub(crate) fn prepare_lane(&self, id: Id, lane: &mut Lane) -> Result<(), EnterError>
-        ensures room { OnOk result (self.now.core.settings.activation ≡ true → knows_span id self.now.core.spans ≡ true → IsReady lane.new.contexts) }
+        ensures room { OnOk result (IsReadyLane self.now.core id lane.new) }
         ensures leaves { KeepsLive self.now.core.settings.activation lane.old lane.new }
-        ensures full { result ≡ Err Full → (self.now.core.settings.activation ≡ true) × (knows_span id self.now.core.spans ≡ true) × IsFull lane.old }
+        ensures full { result ≡ Err Full → MeetsFull self.now.core id lane.old }
     {
         if self.settings.activation && self.table.knows(id) {
             lane.contexts.reserve()

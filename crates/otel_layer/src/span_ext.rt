@@ -6,7 +6,8 @@ ghost use Rattle.span_handles.specs.Worlds.{Has, Replaced};
 ghost use Rattle.span_handles.specs.Handles.{Held, HasOn};
 ghost use Rattle.span_handles.specs.Entries.{IsThere};
 ghost use Rattle.otel_layer.specs.Parts.{Applies, Shows, IsOutside};
-ghost use Rattle.otel_layer.specs.Asking.{AppliesOn, Asks, ShowsOn, AsksContext, done_answer, parent_answer, parent_reply, context_or_empty};
+ghost use Rattle.otel_layer.specs.Asking.{AppliesOn, AsksDone, AsksParent, ShowsOn, AsksContext};
+ghost use Rattle.otel_layer.specs.Asking.{link_of, event_at, done_answer, parent_answer};
 
 use crate::part::OtelPart;
 use otel_base::context::{Context, SpanContext};
@@ -38,7 +39,7 @@ pub trait OpenTelemetrySpanExt {
         cx: Context,
     ) -> Result<(), SetParentError>
         requires { IsThere world.old (held self.now) }
-        ensures { Asks S.touches world.old world.new at (ops.SetParent cx) (held self.now) (parent_answer (held self.now)) result };
+        ensures { AsksParent S.touches world.old world.new at cx (held self.now) result };
 
     /// Links the span to another; an invalid context is ignored.
     fn add_link<S: Subscriber + OtelPart>(
@@ -48,7 +49,8 @@ pub trait OpenTelemetrySpanExt {
         cx: SpanContext,
     ) -> Result<(), Memory>
         requires { IsThere world.old (held self.now) }
-        ensures valid { is_valid cx ≡ true → Asks S.touches world.old world.new at (ops.Link (record { context = cx; attributes = [] })) (held self.now) done_answer result }
+        ensures valid { is_valid cx ≡ true
+            → AsksDone S.touches world.old world.new at (link_of cx []) (held self.now) result }
         ensures invalid { is_valid cx ≡ false → (result ≡ Ok tt) × (world.new ≡ world.old) };
 
     /// Links the span to another with attributes; an invalid context is ignored.
@@ -60,7 +62,8 @@ pub trait OpenTelemetrySpanExt {
         attributes: Items<KeyValue>,
     ) -> Result<(), Memory>
         requires { IsThere world.old (held self.now) }
-        ensures valid { is_valid cx ≡ true → Asks S.touches world.old world.new at (ops.Link (record { context = cx; attributes = attributes })) (held self.now) done_answer result }
+        ensures valid { is_valid cx ≡ true
+            → AsksDone S.touches world.old world.new at (link_of cx attributes) (held self.now) result }
         ensures invalid { is_valid cx ≡ false → (result ≡ Ok tt) × (world.new ≡ world.old) };
 
     /// Starts the span, and answers its own context; the empty one where there is none.
@@ -78,12 +81,14 @@ pub trait OpenTelemetrySpanExt {
         value: OtelValue,
     ) -> Result<(), Memory>
         requires { IsThere world.old (held self.now) }
-        ensures { Asks S.touches world.old world.new at (ops.SetAttribute (record { key = key; value = value })) (held self.now) done_answer result };
+        ensures { AsksDone S.touches world.old world.new at (ops.SetAttribute (record { key = key; value = value }))
+            (held self.now) result };
 
     /// Writes a status on the span, which never lowers the one that it has.
     fn set_status<S: Subscriber + OtelPart>(&self, world: &mut World<S>, at: u64, status: Status)
         requires { IsThere world.old (held self.now) }
-        ensures { (answer : _) × AppliesOn S.touches world.old world.new at (ops.SetStatus status) (held self.now) answer };
+        ensures { (answer : _)
+            × AppliesOn S.touches world.old world.new at (ops.SetStatus status) (held self.now) answer };
 
     /// Adds an event to the span, which happens now.
     fn add_event<S: Subscriber + OtelPart>(
@@ -94,7 +99,7 @@ pub trait OpenTelemetrySpanExt {
         attributes: Items<KeyValue>,
     ) -> Result<(), Memory>
         requires { IsThere world.old (held self.now) }
-        ensures { Asks S.touches world.old world.new at (ops.AddEvent (record { name = name; time = at; attributes = attributes })) (held self.now) done_answer result };
+        ensures { AsksDone S.touches world.old world.new at (event_at name at attributes) (held self.now) result };
 
     /// Adds an event to the span, which happened at a time.
     fn add_event_with_timestamp<S: Subscriber + OtelPart>(
@@ -106,7 +111,7 @@ pub trait OpenTelemetrySpanExt {
         attributes: Items<KeyValue>,
     ) -> Result<(), Memory>
         requires { IsThere world.old (held self.now) }
-        ensures { Asks S.touches world.old world.new at (ops.AddEvent (record { name = name; time = time; attributes = attributes })) (held self.now) done_answer result };
+        ensures { AsksDone S.touches world.old world.new at (event_at name time attributes) (held self.now) result };
 }
 
 impl OpenTelemetrySpanExt for Span {

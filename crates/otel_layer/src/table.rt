@@ -3,7 +3,7 @@ ghost use Rattle.std.specs.Prelude.{◌≡◌, ◌==◌, ℕ, ◌<◌, ◌≤◌
 ghost use Rattle.std.specs.List.{position, list_any};
 ghost use Rattle.std.specs.Map.{lookup, remove_entry};
 ghost use Rattle.otel_state.specs.States.{is_growing};
-ghost use Rattle.otel_layer.specs.Parts.{AppliesTo, context_at};
+ghost use Rattle.otel_layer.specs.Parts.{AppliesIn, context_at};
 ghost use Rattle.otel_layer.specs.Table.{MayRise, RisesTo, is_of, told_entry, room_entry, is_id, told_at, knows_span, with_op, with_span, waits, own_or, ids_at, RoomFor, RoomForLink};
 
 use otel_base::context::{Context, SpanContext};
@@ -31,7 +31,7 @@ pub(crate) struct Table {
 
 impl Model for Table {
     ghost use Rattle.std.specs.Prelude.{◌-◌, length, vec_capacity};
-    ghost use Rattle.otel_layer.specs.Parts.{AppliesTo, context_at};
+    ghost use Rattle.otel_layer.specs.Parts.{AppliesIn, context_at};
     ghost use Rattle.otel_layer.specs.Table.{Tabled, tabled, MayRise};
 
     ghost Value = { Tabled };
@@ -100,7 +100,7 @@ impl Table {
 
     // Applies an op to a span, and answers it; none where it isn't there.
     pub(crate) fn apply(&mut self, id: Id, at: u64, op: Op) -> Option<Result<OpReply, Memory>>
-        ensures { AppliesTo (told_at id self.old.spans) self.old.spans id at op result self.new.spans }
+        ensures { AppliesIn self.old.spans id at op result self.new.spans }
     {
         apply(self.entries.as_mut_slice(), self.rising, id, at, op)
     }
@@ -294,7 +294,8 @@ fn remove(entries: &mut Vec<Entry>, rising: bool, id: Id) -> SpanState
     requires rises { MayRise rising entries.old.items }
     requires known { list_any (is_of id) entries.old.items ≡ true }
     ensures told { told_at id (map told_entry entries.old.items) ≡ Some result.told }
-    ensures rest { map told_entry entries.new.items ≡ remove_entry (is_id id) (map told_entry entries.old.items) }
+    ensures rest { map told_entry entries.new.items
+        ≡ remove_entry (is_id id) (map told_entry entries.old.items) }
 {
     match find(entries.as_slice(), rising, id) {
         Some(place) => {
@@ -313,7 +314,7 @@ fn apply(
     op: Op,
 ) -> Option<Result<OpReply, Memory>>
     requires rises { MayRise rising entries.old }
-    ensures { AppliesTo (told_at id (map told_entry entries.old)) (map told_entry entries.old) id at op result (map told_entry entries.new) }
+    ensures { AppliesIn (map told_entry entries.old) id at op result (map told_entry entries.new) }
 {
     match find(entries, rising, id) {
         Some(place) => Some(entries[place].state.apply(at, op)),

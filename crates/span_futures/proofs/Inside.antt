@@ -29,6 +29,7 @@ keeps_nothing spans kept is_whole world lane = record {
   whole = λ w. w;
   lane_id = refl;
   attached = λ a. a;
+  others_attached = λ number. omega arith;
   default = λ o. o;
 }
 
@@ -138,6 +139,11 @@ module _ {S : Type 0} (spans : S → Spans) (attaches : S → Bool) (kept : S �
         whole = λ w. ends.whole (lent.whole (inside.whole w));
         lane_id = ends.lane_id ∙ lent.lane_id ∙ inside.lane_id;
         attached = λ a. ends.attached (lent.attached (inside.attached a));
+        others_attached = λ number. (
+            let a = inside.others_attached number in
+            let b = lent.others_attached number in
+            let c = ends.others_attached number in
+            omega (arith, a, b, c));
         default = λ d. ends.default (lent.default (inside.default d));
       }
 
@@ -174,6 +180,11 @@ module _ {S : Type 0} (spans : S → Spans) (kept : S → ℕ → ℕ → ℕ) (
         let a = ap (λ xs. count_by (λ item. item.0 == number) xs) left.live in
         let b = all number in
         omega (arith, k, i, a, b));
+    others_attached = λ number. (
+        let k = same_kept same old new dispatch r kept (same_kept_law r.before r.later r.did) before.id number in
+        let i = ap (λ (l : ℕ). all_kept kept new l number) left.id in
+        let a = ap (λ xs. count_by (λ item. item.0 == number) xs) left.live in
+        omega (arith, k, i, a));
     default = own_after same old new dispatch r before later left.default;
   } where
     spans_stay : (d : ℕ) → d ≡ dispatch → spans_in spans new d ≡ spans_in spans old d
@@ -192,6 +203,10 @@ module _ {S : Type 0} (spans : S → Spans) (kept : S → ℕ → ℕ → ℕ) (
             let a = ap (λ xs. count_by (λ item. item.0 == number) xs) left.live in
             let b = all number in
             omega (arith, i, a, b));
+        others_attached = λ number. (
+            let i = ap (λ (l : ℕ). all_kept kept old l number) left.id in
+            let a = ap (λ xs. count_by (λ item. item.0 == number) xs) left.live in
+            omega (arith, i, a));
         default = λ own. subst (λ (o : Option ℕ). IsOwn old o) (sym left.default) own;
       })
   refused (Some h) old new before later r left = refused_world old new h.0 before later r left

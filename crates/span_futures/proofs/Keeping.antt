@@ -17,7 +17,7 @@ use Rattle.span_handles.specs.Worlds.{Has, Replaced, spans_in, no_spans}
 use Rattle.span_handles.specs.Knowing.{KeepsKnown}
 use Rattle.span_handles.proofs.Knowing.{keeps_call}
 use Rattle.span_handles.proofs.Showing.{as_many, keeps, seen_before, seen_later}
-use Rattle.span_futures.specs.Lent.{HasAll, AreAllAttached, KeepsParts, KeepsOpen, KeepsLent, all_kept}
+use Rattle.span_futures.specs.Lent.{HasAll, AreAllAttached, KeepsParts, KeepsOpen, KeepsLent, KeepsAttachments, all_kept}
 
 get_other : {X : Type 0} (xs : List X) (n m : ℕ) (y : X) → (m ≡ n → ⊥) → slice_get (slice_set xs n y) m ≡ slice_get xs m
 get_other [] n m y apart = refl
@@ -63,6 +63,16 @@ module _ {S : Type 0} (R : S → S → Type 0) (old new : Worlds S) (dispatch : 
       let m = kept_moves kept lane number in
       let e = ap (λ (k : ℕ → ℕ → ℕ). k lane number) same in
       omega (arith, m, e)
+
+  -- what is attached beside what is kept stays
+  pub attached_moves : (kept : S → ℕ → ℕ → ℕ) (before later : Lane) → later.id ≡ before.id → KeepsAttached (kept r.before) before later (kept r.later) → KeepsAttachments kept old new before later
+  attached_moves kept before later same moves number =
+      let k = moves before.id number in
+      let x = cond-true {A = ℕ} (before.id == before.id) (attached_as number before) 0 (eq-eqb before.id before.id refl) in
+      let y = cond-true {A = ℕ} (later.id == before.id) (attached_as number later) 0 (eq-eqb later.id before.id same) in
+      let z = kept_moves kept before.id number in
+      let w = ap (λ (l : ℕ). all_kept kept new l number) same in
+      omega (arith, k, x, y, z, w)
 
   pub attached_after : (kept : S → ℕ → ℕ → ℕ) (before later : Lane) → later.id ≡ before.id → KeepsAttached (kept r.before) before later (kept r.later) → AreAllAttached kept old before → AreAllAttached kept new later
   attached_after kept before later same moves still number =
@@ -162,6 +172,7 @@ module _ {S : Type 0} (spans : S → Spans) (attaches : S → Bool) (kept : S �
         whole = keeps_all R old new dispatch r is_whole (λ s t d w. keeps_whole s call t d w);
         lane_id = l.0.id;
         attached = attached_after R old new dispatch r kept before later l.0.id l.1;
+        others_attached = attached_moves R old new dispatch r kept before later l.0.id l.1;
         default = own_after R old new dispatch r before later l.0.default;
       }
 
@@ -181,6 +192,7 @@ module _ {S : Type 0} (spans : S → Spans) (attaches : S → Bool) (kept : S �
     pub whole : HasAll is_whole old → HasAll is_whole new
     pub lane_id : later.id ≡ before.id
     pub attached : AreAllAttached kept old before → AreAllAttached kept new later
+    pub others_attached : KeepsAttachments kept old new before later
     pub default : IsOwn old before.default → IsOwn new later.default
 
   pub exit_ends : (old new : Worlds S) (dispatch id at : ℕ) (before later : Lane) → Replaced (λ s t. does s (Exit id at before later) t) old new dispatch → 0 < times spans old dispatch before.id id → Ends old new before later dispatch id
@@ -207,5 +219,6 @@ module _ {S : Type 0} (spans : S → Spans) (attaches : S → Bool) (kept : S �
         whole = keeps_all R old new dispatch r is_whole (λ s t d w. keeps_whole s call t d w);
         lane_id = l.0.id;
         attached = attached_after R old new dispatch r kept before later l.0.id l.1;
+        others_attached = attached_moves R old new dispatch r kept before later l.0.id l.1;
         default = own_after R old new dispatch r before later l.0.default;
       }

@@ -17,5 +17,6 @@ under_keeps spans kept is_whole old new before left dispatch lent = record {
   whole = lent.whole;
   lane_id = lent.lane_id;
   attached = lent.attached;
+  others_attached = lent.others_attached;
   default = own_carries old new before.default lent.parts;
 }

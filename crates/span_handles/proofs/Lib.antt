@@ -1,5 +1,6 @@
 pub mod Chaining
 pub mod Knowing
+pub mod Owning
 pub mod Scoping
 pub mod Showing
 pub mod Telling

@@ -1,5 +1,5 @@
 -- Handles, and what a call on one makes of its world.
-use Rattle.std.specs.Prelude.{◌≡◌, ◌<◌, ◌==◌, ◌&&◌, ℕ, Bool, false, [], ◌∷◌, length, Option, Some, None, IfSome, option_map, slice_get}
+use Rattle.std.specs.Prelude.{◌≡◌, ◌<◌, ◌+◌, ◌==◌, ◌&&◌, ℕ, Bool, false, [], ◌∷◌, length, Option, Some, None, IfSome, option_map, slice_get}
 use Rattle.trace_base.specs.declared.callsite.Callsite.{Callsite}
 use Rattle.trace_base.specs.declared.field.Field.{Field}
 use Rattle.trace_base.specs.declared.field.Value.{Value}
@@ -8,7 +8,7 @@ use Rattle.trace_base.specs.declared.lane.Lane.{Lane}
 use Rattle.trace_base.specs.declared.span.Parent.{Parent}
 use Rattle.trace_base.specs.declared.span.Parent.TheVariants as parent
 use Rattle.trace_base.specs.Gate.{Worlds}
-use Rattle.trace_base.specs.Spans.{Spans, span_at, current_on}
+use Rattle.trace_base.specs.Spans.{Spans, span_at, current_on, bound_holds}
 use Rattle.trace_base.specs.Calls.{SubscriberCall, NewSpan, Records, Follows, CloneSpan}
 use Rattle.trace_base.specs.Conditions.{HasOwnHold, HasFewHoldsAbove, AreFew, IsLivePlace}
 use Rattle.span_handles.specs.Worlds.{Has, Replaced}
@@ -43,6 +43,11 @@ same_held (Some held) (Some other) = held.0 == other.0 && held.1 == other.1
 abbrev pub IsKnown : {S : Type 0} → (S → Spans) → Worlds S → Held → Type 0
 IsKnown spans world None = Unit {0}
 IsKnown spans world (Some held) = (held.0 < length world.subscribers) × Has (λ s. HasOwnHold (spans s) held.1) world held.0
+
+-- it is known beside some other handles of its span: there is a hold more for each of them
+abbrev pub IsKnownBeside : {S : Type 0} → (S → Spans) → ℕ → Worlds S → Held → Type 0
+IsKnownBeside spans others world None = Unit {0}
+IsKnownBeside spans others world (Some held) = (held.0 < length world.subscribers) × Has (λ s. bound_holds (spans s) held.1 + others < (span_at (spans s).made held.1).holds) world held.0
 
 -- something holds of the subscriber and of the id of an enabled handle
 abbrev pub HasOn : {S : Type 0} → (S → ℕ → Type 0) → Worlds S → Held → Type 0

@@ -1,4 +1,5 @@
--- A world with one registry, which serves all lanes without their own subscriber.
+-- A world with one registry, which serves all lanes without their own subscriber. It is for tests alone: no contract
+-- of a call on a handle names it, since those are over any subscriber.
 use Rattle.std.specs.Prelude.{◌≡◌, ℕ, [], ◌∷◌, length, Some, None}
 use Rattle.trace_base.specs.declared.lane.Lane.{Lane}
 use Rattle.trace_base.specs.declared.span.Parent.{Parent}

@@ -1,11 +1,12 @@
 //! Single calls on a subscriber of a world, for the handles that make them.
-ghost use Rattle.std.specs.Prelude.{◌≡◌, ◌<◌, ◌==◌, ℕ, length, Some, None, IfOk, OnOk, OnErr, slice_get};
+ghost use Rattle.std.specs.Prelude.{◌≡◌, ◌<◌, ◌==◌, ℕ, length, Some, None, IfOk, IsOk, OnOk, OnErr, slice_get};
 ghost use Rattle.trace_base.specs.Spans.{span_at};
 ghost use Rattle.trace_base.specs.Calls.{CloneSpan, Follows};
 ghost use Rattle.trace_base.specs.declared.span.Parent.TheVariants as parent;
 ghost use Rattle.trace_base.specs.Conditions.{HasFewHolds, HasFewHoldsAbove, HasOwnHold, IsLive};
 ghost use Rattle.span_handles.specs.Worlds.{Has, Replaced, Chain};
 ghost use Rattle.span_handles.specs.Handles.{IsKnown, MayMake, MayMakeIf, Makes, MakesIf, IsCurrent, ReplacedIf, RecordsAt, ClosesOn};
+ghost use Rattle.span_handles.specs.Knowing.{KeepsHandles, KeepsOthers, GainsOne, LosesOne};
 
 use crate::span::Span;
 use otel_base::memory::Memory;
@@ -32,6 +33,8 @@ pub(crate) fn make_if<S: Subscriber>(
     ensures ok { IfOk result
         (MakesIf S.spans S.does world.old world.new lane.now at parent site values.now dispatch) }
     ensures known { IfOk result (λ handle. IsKnown S.spans world.new handle.held) }
+    ensures keeps { KeepsHandles S.spans world.old world.new }
+    ensures unserved { dispatch ≡ None → IsOk result }
     ensures memory_leaves { OnErr result (ReplacedIf S.same world.old world.new dispatch) }
 {
     match dispatch {
@@ -55,6 +58,7 @@ pub(crate) fn make<S: Subscriber>(
     ensures ok { IfOk result
         (Makes S.spans S.does world.old world.new lane.now at parent site values.now dispatch) }
     ensures known { IfOk result (λ handle. IsKnown S.spans world.new handle.held) }
+    ensures keeps { KeepsHandles S.spans world.old world.new }
     ensures memory_leaves { OnErr result (Replaced S.same world.old world.new dispatch) }
 {
     let (subscriber, callsite) = world.subscriber_and_site(dispatch, site);
@@ -72,6 +76,8 @@ pub(crate) fn current_in<S: Subscriber>(world: &mut World<S>, dispatch: Dispatch
     requires few_holds { Has (λ s. HasFewHoldsAbove (S.spans s) lane parent.Current) world.old dispatch }
     ensures value { IsCurrent S.spans S.does world.old world.new lane (Some dispatch) result }
     ensures known { IsKnown S.spans world.new result.held }
+    ensures keeps { KeepsHandles S.spans world.old world.new }
+    ensures more { GainsOne S.spans world.old world.new result.held }
 {
     match world.subscriber(dispatch).current_span(lane) {
         None => Span::none(),
@@ -93,6 +99,8 @@ pub(crate) fn hold<S: Subscriber>(world: &mut World<S>, dispatch: Dispatch, id: 
     requires few_holds { Has (λ s. HasFewHolds (S.spans s).made id) world.old dispatch }
     ensures did { Replaced (λ s t. S.does s (CloneSpan id) t) world.old world.new dispatch }
     ensures known { IsKnown S.spans world.new (Some (dispatch, id)) }
+    ensures keeps { KeepsHandles S.spans world.old world.new }
+    ensures more { GainsOne S.spans world.old world.new (Some (dispatch, id)) }
 {
     world.subscriber_mut(dispatch).clone_span(id);
 }
@@ -109,6 +117,8 @@ pub(crate) fn release<S: Subscriber>(
     requires own { Has (λ s. HasOwnHold (S.spans s) id) world.old dispatch }
     ensures value { ClosesOn S.spans world.old (Some (dispatch, id)) result }
     ensures did { Replaced (λ s t. Chain S.spans S.does at (Some id) s t) world.old world.new dispatch }
+    ensures keeps { KeepsOthers S.spans world.old world.new (Some (dispatch, id)) }
+    ensures fewer { LosesOne S.spans world.old world.new (Some (dispatch, id)) }
 {
     close_chain(world.subscriber_mut(dispatch), id, at)
 }
@@ -144,6 +154,7 @@ pub(crate) fn record<S: Subscriber>(
     ensures did { OnOk result
         (RecordsAt S.does world.old world.new at values.now (Some (dispatch, id))
         (slice_get world.old.sites site)) }
+    ensures keeps { KeepsHandles S.spans world.old world.new }
     ensures memory_leaves { OnErr result (Replaced S.same world.old world.new dispatch) }
 {
     let (subscriber, callsite) = world.subscriber_and_site(dispatch, site);
@@ -164,6 +175,7 @@ pub(crate) fn follow<S: Subscriber>(
     requires from_live { Has (λ s. IsLive (S.spans s).made from) world.old dispatch }
     ensures did { OnOk result
         (Replaced (λ s t. S.does s (Follows id from at) t) world.old world.new dispatch) }
+    ensures keeps { KeepsHandles S.spans world.old world.new }
     ensures memory_leaves { OnErr result (Replaced S.same world.old world.new dispatch) }
 {
     world

@@ -1,12 +1,12 @@
 //! Entries of spans, which don't borrow their handles.
-ghost use Rattle.std.specs.Prelude.{◌≡◌, ◌<◌, ℕ, length, Some, None, Err, IfOk, OnOk, OnErr, IsErr, true};
+ghost use Rattle.std.specs.Prelude.{◌≡◌, ◌<◌, ℕ, length, Some, None, Err, IfOk, OnOk, OnErr, IsErr, IsOk, true};
 ghost use Rattle.otel_base.specs.declared.enter_error.EnterError.TheVariants.{Full};
 ghost use Rattle.trace_base.specs.Calls.{Enter, Exit};
 ghost use Rattle.trace_base.specs.Conditions.{HasFewHolds, IsLive, MayExit};
 ghost use Rattle.trace_base.specs.Contexts.{AreAttached, KeepsLive};
 ghost use Rattle.span_handles.specs.Worlds.{Has, Replaced};
 ghost use Rattle.span_handles.specs.Handles.{IsKnown, HasOn, ReplacedOn};
-ghost use Rattle.span_handles.specs.Knowing.{KeepsKnown};
+ghost use Rattle.span_handles.specs.Knowing.{KeepsHandles};
 ghost use Rattle.span_handles.specs.Entries.{IsThere, LeavesLane, MeetsFullLane};
 
 use crate::span::Span;
@@ -73,6 +73,8 @@ impl Span {
             self.now.held) }
         ensures none { self.now.held ≡ None → lane.new ≡ lane.old }
         ensures known { IsKnown S.spans world.new self.now.held }
+        ensures keeps { KeepsHandles S.spans world.old world.new }
+        ensures disabled { self.now.held ≡ None → IsOk result }
         ensures leaves { OnErr result (ReplacedOn (λ id s t. S.same s t) world.old world.new self.now.held) }
         ensures lane_leaves { OnErr result (LeavesLane lane.old lane.new) }
         ensures full { result ≡ Err Full → MeetsFullLane S.activates world.old lane.old self.now.held }
@@ -106,6 +108,7 @@ impl Span {
             self.now.held }
         ensures none { self.now.held ≡ None → lane.new ≡ lane.old }
         ensures known { IsKnown S.spans world.old self.now.held → IsKnown S.spans world.new self.now.held }
+        ensures keeps { KeepsHandles S.spans world.old world.new }
     {
         match entry.spend() {
             None => {}
@@ -128,7 +131,7 @@ fn enter<S: Subscriber>(
     requires few_holds { Has (λ s. HasFewHolds (S.spans s).made id) world.old dispatch }
     ensures did { OnOk result
         (Replaced (λ s t. S.does s (Enter id at lane.old lane.new) t) world.old world.new dispatch) }
-    ensures keeps { KeepsKnown S.spans world.old world.new }
+    ensures keeps { KeepsHandles S.spans world.old world.new }
     ensures leaves { OnErr result (Replaced S.same world.old world.new dispatch) }
     ensures lane_leaves { OnErr result (LeavesLane lane.old lane.new) }
     ensures full { result ≡ Err Full → MeetsFullLane S.activates world.old lane.old (Some (dispatch, id)) }
@@ -144,7 +147,7 @@ fn exit<S: Subscriber>(world: &mut World<S>, dispatch: Dispatch, id: Id, lane: &
     requires may { Has (λ s. MayExit (S.spans s) id lane.old.id) world.old dispatch }
     requires still { Has (λ s. AreAttached (S.kept s) lane.old) world.old dispatch }
     ensures did { Replaced (λ s t. S.does s (Exit id at lane.old lane.new) t) world.old world.new dispatch }
-    ensures keeps { KeepsKnown S.spans world.old world.new }
+    ensures keeps { KeepsHandles S.spans world.old world.new }
 {
     world.subscriber_mut(dispatch).exit(id, lane, at);
 }

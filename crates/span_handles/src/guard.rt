@@ -1,10 +1,11 @@
 //! Guards of entries, and calls inside a span.
-ghost use Rattle.std.specs.Prelude.{◌≡◌, ℕ, Option, Some, None, Err, IfOk, IfErr, OnOk, OnErr, IsErr};
+ghost use Rattle.std.specs.Prelude.{◌≡◌, ℕ, Option, Some, None, Err, IfOk, IfErr, OnOk, OnErr, IsErr, IsOk};
 ghost use Rattle.otel_base.specs.declared.enter_error.EnterError.TheVariants.{Full};
 ghost use Rattle.trace_base.specs.Calls.{Enter, Exit};
 ghost use Rattle.trace_base.specs.Conditions.{HasFewHolds, MayExit};
 ghost use Rattle.trace_base.specs.Contexts.{AreAttached};
 ghost use Rattle.span_handles.specs.Handles.{Handle, IsKnown, HasOn, ReplacedOn, id_of};
+ghost use Rattle.span_handles.specs.Knowing.{KeepsHandles};
 ghost use Rattle.span_handles.specs.Entries.{IsThere, IsStillOn, Begins, Keeps, LeavesLane, MeetsFullLane};
 
 use crate::entry::Entry;
@@ -72,6 +73,8 @@ impl Span {
             self.now.held) }
         ensures none { self.now.held ≡ None → lane.new ≡ lane.old }
         ensures known { IsKnown S.spans world.new self.now.held }
+        ensures keeps { KeepsHandles S.spans world.old world.new }
+        ensures disabled { self.now.held ≡ None → IsOk result }
         ensures leaves { OnErr result (ReplacedOn (λ id s t. S.same s t) world.old world.new self.now.held) }
         ensures lane_leaves { OnErr result (LeavesLane lane.old lane.new) }
         ensures full { result ≡ Err Full → MeetsFullLane S.activates world.old lane.old self.now.held }
@@ -103,6 +106,8 @@ impl Span {
             self.held) }
         ensures none { self.held ≡ None → lane.new ≡ lane.old }
         ensures known { IsKnown S.spans world.new self.held }
+        ensures keeps { KeepsHandles S.spans world.old world.new }
+        ensures disabled { self.held ≡ None → IsOk result }
         ensures back { IfErr result (λ refused. refused.0 ≡ self) }
         ensures leaves { OnErr result (ReplacedOn (λ id s t. S.same s t) world.old world.new self.held) }
         ensures lane_leaves { OnErr result (LeavesLane lane.old lane.new) }
@@ -147,6 +152,11 @@ impl Span {
             × Begins S.does at self.now.held world.old lane.old w.now l.now × F.post f w l answer t m
             × ReplacedOn (λ id s u. S.does s (Exit id at m.now lane.new) u) t.now world.new self.now.held
             × (self.now.held ≡ None → lane.new ≡ m.now)) }
+        ensures known { IsKnown S.spans world.new self.now.held }
+        ensures keeps { ((w : _) (l : _) (r : T) (t : _) (m : _)
+            → Begins S.does at self.now.held world.old lane.old w.now l.now → F.post f w l r t m
+            → KeepsHandles S.spans w.now t.now) → KeepsHandles S.spans world.old world.new }
+        ensures disabled { self.now.held ≡ None → IsOk result }
         ensures leaves { OnErr result (ReplacedOn (λ id s t. S.same s t) world.old world.new self.now.held) }
         ensures lane_leaves { OnErr result (LeavesLane lane.old lane.new) }
         ensures full { result ≡ Err Full → MeetsFullLane S.activates world.old lane.old self.now.held }
@@ -170,6 +180,8 @@ impl<'a> Entered<'a> {
         ensures did { ReplacedOn (λ id s t. S.does s (Exit id at lane.old lane.new) t) world.old world.new
             self.entry.span.held }
         ensures none { self.entry.span.held ≡ None → lane.new ≡ lane.old }
+        ensures known { IsKnown S.spans world.old self.entry.span.held → IsKnown S.spans world.new self.entry.span.held }
+        ensures keeps { KeepsHandles S.spans world.old world.new }
     {
         let Entered {
             span,
@@ -200,6 +212,7 @@ impl EnteredSpan {
             self.span.held }
         ensures none { self.span.held ≡ None → lane.new ≡ lane.old }
         ensures known { IsKnown S.spans world.old self.span.held → IsKnown S.spans world.new self.span.held }
+        ensures keeps { KeepsHandles S.spans world.old world.new }
     {
         let EnteredSpan {
             span,

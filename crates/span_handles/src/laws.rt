@@ -1,9 +1,9 @@
 //! What the calls of a subscriber in a world make of its plain data.
 ghost use Rattle.std.specs.Prelude.{ℕ, Some};
 ghost use Rattle.trace_base.specs.Gate.{Worlds};
-ghost use Rattle.trace_base.specs.Calls.{SubscriberCall};
+ghost use Rattle.trace_base.specs.Calls.{SubscriberCall, CloneSpan};
 ghost use Rattle.span_handles.specs.Worlds.{Replaced, Shown, Alike, Chain, ChainShown, ToldChain, AreToldBy, spans_in, seen};
-ghost use Rattle.span_handles.specs.Knowing.{KeepsKnown, KeepsOthers, TakesNoHold};
+ghost use Rattle.span_handles.specs.Knowing.{KeepsHandles, KeepsOthers, GainsOne, LosesOne, IsNoClose};
 
 use trace_base::subscriber::Subscriber;
 
@@ -27,17 +27,24 @@ pub fn chains<S: Subscriber>()
         → ChainShown S.spans S.attaches S.kept S.is_whole old new dispatch id }
 {}
 
-/// Each call but a release keeps known the handles that were known, and a chain of closes those of other spans than the
-/// one that it begins with.
+/// Each call but a close keeps known the handles that were known, each beside as many others, and a chain of closes those
+/// of other spans than the one that it begins with. Beside a handle of that span there is one other less; after a copy
+/// there is one more.
 pub fn keeps<S: Subscriber>()
     ensures call { (old new : Worlds S) (dispatch : ℕ) (call : SubscriberCall)
-        → Replaced (λ s t. S.does s call t) old new dispatch → TakesNoHold call
-        → KeepsKnown S.spans old new }
+        → Replaced (λ s t. S.does s call t) old new dispatch → IsNoClose call
+        → KeepsHandles S.spans old new }
+    ensures copy { (old new : Worlds S) (dispatch id : ℕ)
+        → Replaced (λ s t. S.does s (CloneSpan id) t) old new dispatch
+        → GainsOne S.spans old new (Some (dispatch, id)) }
     ensures same { (old new : Worlds S) (dispatch : ℕ) → Replaced S.same old new dispatch
-        → KeepsKnown S.spans old new }
+        → KeepsHandles S.spans old new }
     ensures chain { (old new : Worlds S) (dispatch at id : ℕ)
         → Replaced (λ s t. Chain S.spans S.does at (Some id) s t) old new dispatch
-        → KeepsOthers S.spans old new dispatch id }
+        → KeepsOthers S.spans old new (Some (dispatch, id)) }
+    ensures fewer { (old new : Worlds S) (dispatch at id : ℕ)
+        → Replaced (λ s t. Chain S.spans S.does at (Some id) s t) old new dispatch
+        → LosesOne S.spans old new (Some (dispatch, id)) }
 {}
 
 /// What a close makes of something that the subscriber keeps, the chain makes of it for each span that closes, in order.

@@ -1,6 +1,7 @@
 //! What is recorded on the span of a handle.
 ghost use Rattle.std.specs.Prelude.{◌≡◌, None, IfOk, IsOk, OnOk, OnErr};
 ghost use Rattle.span_handles.specs.Handles.{IsKnown, HasOn, IsSite, AreOfOne, ReplacedOn, RecordsOn, RecordsField, FollowsOn, field_in};
+ghost use Rattle.span_handles.specs.Knowing.{KeepsHandles};
 
 use crate::calls;
 use crate::span::Span;
@@ -11,8 +12,8 @@ use trace_base::subscriber::Subscriber;
 use trace_base::world::World;
 
 impl Span {
-    /// Records the value of a field, and changes nothing where the callsite declares no such field; `Span::record`. On a
-    /// disabled handle it takes no memory.
+    /// Records the value of a field, and changes nothing where the callsite declares no such field; `Span::record`. There,
+    /// and on a disabled handle, it takes no memory.
     pub fn record<S: Subscriber, Q: AsField>(
         &self,
         world: &mut World<S>,
@@ -25,9 +26,12 @@ impl Span {
         requires whole { HasOn (λ s id. S.is_whole s) world.old self.now.held }
         ensures value { IfOk result (λ handle. handle.now ≡ self.now) }
         ensures disabled { self.now.held ≡ None → IsOk result }
+        ensures undeclared { field_in (Q.field_of field.now) world.old self.now.site ≡ None → IsOk result }
         ensures did { OnOk result
             (RecordsField S.does world.old world.new at
             (field_in (Q.field_of field.now) world.old self.now.site) value self.now) }
+        ensures known { IsKnown S.spans world.new self.now.held }
+        ensures keeps { KeepsHandles S.spans world.old world.new }
         ensures memory_leaves { OnErr result
             (ReplacedOn (λ id s t. S.same s t) world.old world.new self.now.held) }
     {
@@ -56,7 +60,10 @@ impl Span {
         requires whole { HasOn (λ s id. S.is_whole s) world.old self.now.held }
         ensures value { IfOk result (λ handle. handle.now ≡ self.now) }
         ensures disabled { self.now.held ≡ None → IsOk result }
+        ensures no_callsite { self.now.site ≡ None → IsOk result }
         ensures did { OnOk result (RecordsOn S.does world.old world.new at values.now self.now) }
+        ensures known { IsKnown S.spans world.new self.now.held }
+        ensures keeps { KeepsHandles S.spans world.old world.new }
         ensures memory_leaves { OnErr result
             (ReplacedOn (λ id s t. S.same s t) world.old world.new self.now.held) }
     {
@@ -82,7 +89,10 @@ impl Span {
         requires whole { HasOn (λ s id. S.is_whole s) world.old self.now.held }
         ensures value { IfOk result (λ handle. handle.now ≡ self.now) }
         ensures disabled { self.now.held ≡ None → IsOk result }
+        ensures from_disabled { from.now.held ≡ None → IsOk result }
         ensures did { OnOk result (FollowsOn S.does world.old world.new at self.now.held from.now.held) }
+        ensures known { IsKnown S.spans world.new self.now.held }
+        ensures keeps { KeepsHandles S.spans world.old world.new }
         ensures memory_leaves { OnErr result
             (ReplacedOn (λ id s t. S.same s t) world.old world.new self.now.held) }
     {

@@ -1,11 +1,12 @@
 //! Handles of spans.
-ghost use Rattle.std.specs.Prelude.{◌≡◌, ◌<◌, ◌↔◌, ℕ, length, is_some, Option, Some, None, IfOk, IfSome, OnOk, OnErr, IsTrue, option_map};
+ghost use Rattle.std.specs.Prelude.{◌≡◌, ◌<◌, ◌↔◌, ℕ, length, is_some, Option, Some, None, IfOk, IfSome, IsOk, OnOk, OnErr, IsTrue, option_map};
 ghost use Rattle.trace_base.specs.declared.span.Parent.TheVariants as parent;
 ghost use Rattle.trace_base.specs.Gate.{IsOwn, dispatch_on};
 ghost use Rattle.trace_base.specs.Calls.{CloneSpan};
 ghost use Rattle.trace_base.specs.Conditions.{HasFewHolds, HasFewHoldsAbove};
 ghost use Rattle.span_handles.specs.Worlds.{Has, Replaced, Chain};
 ghost use Rattle.span_handles.specs.Handles.{Handle, no_handle, id_of, same_held, IsKnown, HasOn, HasIf, IsSite, IsOf, ReplacedOn, ReplacedIf, MayMake, MayMakeIf, Makes, MakesIf, place_under, IsCurrent, callsite_in, field_in, ClosesOn};
+ghost use Rattle.span_handles.specs.Knowing.{KeepsHandles, KeepsOthers, GainsOne, LosesOne};
 
 use crate::calls::{current_in, hold, make, make_if, release};
 use otel_base::memory::Memory;
@@ -53,6 +54,8 @@ impl Span {
             (MakesIf S.spans S.does world.old world.new lane.now at parent.Current site values.now
             (dispatch_on lane.now.default world.old.global)) }
         ensures known { IfOk result (λ handle. IsKnown S.spans world.new handle.held) }
+        ensures keeps { KeepsHandles S.spans world.old world.new }
+        ensures unserved { dispatch_on lane.now.default world.old.global ≡ None → IsOk result }
         ensures memory_leaves { OnErr result
             (ReplacedIf S.same world.old world.new (dispatch_on lane.now.default world.old.global)) }
     {
@@ -76,6 +79,8 @@ impl Span {
             (MakesIf S.spans S.does world.old world.new lane.now at parent.Root site values.now
             (dispatch_on lane.now.default world.old.global)) }
         ensures known { IfOk result (λ handle. IsKnown S.spans world.new handle.held) }
+        ensures keeps { KeepsHandles S.spans world.old world.new }
+        ensures unserved { dispatch_on lane.now.default world.old.global ≡ None → IsOk result }
         ensures memory_leaves { OnErr result
             (ReplacedIf S.same world.old world.new (dispatch_on lane.now.default world.old.global)) }
     {
@@ -101,6 +106,8 @@ impl Span {
             (MakesIf S.spans S.does world.old world.new lane.now at (place_under parent.now.held) site
             values.now (dispatch_on lane.now.default world.old.global)) }
         ensures known { IfOk result (λ handle. IsKnown S.spans world.new handle.held) }
+        ensures keeps { KeepsHandles S.spans world.old world.new }
+        ensures unserved { dispatch_on lane.now.default world.old.global ≡ None → IsOk result }
         ensures memory_leaves { OnErr result
             (ReplacedIf S.same world.old world.new (dispatch_on lane.now.default world.old.global)) }
     {
@@ -122,6 +129,7 @@ impl Span {
         ensures ok { IfOk result
             (Makes S.spans S.does world.old world.new lane.now at parent.Current site values.now dispatch) }
         ensures known { IfOk result (λ handle. IsKnown S.spans world.new handle.held) }
+        ensures keeps { KeepsHandles S.spans world.old world.new }
         ensures memory_leaves { OnErr result (Replaced S.same world.old world.new dispatch) }
     {
         make(world, dispatch, lane, at, Parent::Current, site, values)
@@ -141,6 +149,7 @@ impl Span {
         ensures ok { IfOk result
             (Makes S.spans S.does world.old world.new lane.now at parent.Root site values.now dispatch) }
         ensures known { IfOk result (λ handle. IsKnown S.spans world.new handle.held) }
+        ensures keeps { KeepsHandles S.spans world.old world.new }
         ensures memory_leaves { OnErr result (Replaced S.same world.old world.new dispatch) }
     {
         make(world, dispatch, lane, at, Parent::Root, site, values)
@@ -164,6 +173,7 @@ impl Span {
             (Makes S.spans S.does world.old world.new lane.now at (place_under parent.now.held) site
             values.now dispatch) }
         ensures known { IfOk result (λ handle. IsKnown S.spans world.new handle.held) }
+        ensures keeps { KeepsHandles S.spans world.old world.new }
         ensures memory_leaves { OnErr result (Replaced S.same world.old world.new dispatch) }
     {
         make(world, dispatch, lane, at, parent.place(), site, values)
@@ -198,6 +208,8 @@ impl Span {
         ensures value { IsCurrent S.spans S.does world.old world.new lane.now.id
             (dispatch_on lane.now.default world.old.global) result }
         ensures known { IsKnown S.spans world.new result.held }
+        ensures keeps { KeepsHandles S.spans world.old world.new }
+        ensures more { GainsOne S.spans world.old world.new result.held }
     {
         match get_default(world, lane) {
             None => Span::none(),
@@ -216,6 +228,8 @@ impl Span {
             → IsCurrent S.spans S.does world.old world.new lane.now.id
             (dispatch_on lane.now.default world.old.global) result }
         ensures known { IsKnown S.spans world.old self.held → IsKnown S.spans world.new result.held }
+        ensures keeps { KeepsHandles S.spans world.old world.new }
+        ensures more { self.held ≡ None → GainsOne S.spans world.old world.new result.held }
     {
         if self.held.is_some() {
             return self;
@@ -232,6 +246,8 @@ impl Span {
         ensures value { result ≡ self.now }
         ensures did { ReplacedOn (λ id s t. S.does s (CloneSpan id) t) world.old world.new self.now.held }
         ensures known { IsKnown S.spans world.new result.held }
+        ensures keeps { KeepsHandles S.spans world.old world.new }
+        ensures more { GainsOne S.spans world.old world.new self.now.held }
     {
         let site = again(&self.site);
         match &self.held {
@@ -247,13 +263,15 @@ impl Span {
     }
 
     /// Spends the handle and its hold, and answers whether its span closed; `Drop` of the Rust crate's handle. With its
-    /// last hold a span closes, and then its parent is released, and so on up.
+    /// last hold a span closes, and then its parent is released, and so on up. Of two handles the other stays known.
     pub fn close<S: Subscriber>(self, world: &mut World<S>, at: u64) -> bool
         requires known { IsKnown S.spans world.old self.held }
         requires whole { HasOn (λ s id. S.is_whole s) world.old self.held }
         ensures value { ClosesOn S.spans world.old self.held result }
         ensures did { ReplacedOn (λ id s t. Chain S.spans S.does at (Some id) s t) world.old world.new
             self.held }
+        ensures keeps { KeepsOthers S.spans world.old world.new self.held }
+        ensures fewer { LosesOne S.spans world.old world.new self.held }
     {
         let Span { held, site: _ } = self;
         match held {

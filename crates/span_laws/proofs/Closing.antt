@@ -184,7 +184,7 @@ pub step_stands : (setup : Setup) (t : Tables) (at : ℕ) (is_drop : Bool) (e : 
 step_stands setup t at is_drop e now step = record {
   sound = spends_stand _ _ _ t.closed (named setup t at is_drop e now step) e.spent_handle e.closes step.spends;
   guarded = guards_stand setup.ids _ _ _
-      (guarding.guarded_more setup.ids t.handles _ _ (guarding.guarded_after setup.ids t.handles t.guards t.entries now.guarded e.lane e.new_guard e.spent_guard e.entry e.exit step.enters) e.new_handle)
+      (guarding.guarded_more setup.ids t.handles _ _ (guarding.guarded_after setup.ids t.handles t.guards t.entries now.guarded e.lane e.new_guard e.new_attach e.spent_guard e.entry e.exit step.enters) e.new_handle)
       e.spent_handle e.closes step.spends;
 }
 

@@ -8,7 +8,7 @@ use Rattle.trace_base.proofs.Entering.{count_push}
 use Rattle.trace_base.proofs.Holding.{times_without}
 use Rattle.span_pipeline.specs.Setups.{id_at}
 use Rattle.span_pipeline.specs.Balance.{guards, opened_by}
-use Rattle.span_pipeline.specs.Tables.{Scope, Guarded, with_new, slots_after, slot_at, own, with_entry, with_exit}
+use Rattle.span_pipeline.specs.Tables.{Scope, Guarded, with_new, either_after, slot_at, own, with_entry, with_exit}
 use Rattle.span_pipeline.specs.Effects.{borrows, is_borrowed}
 use Rattle.span_laws.proofs.Occurrences.{pick, slot_push, slot_kept, named_push, named_set, named_within}
 
@@ -20,11 +20,13 @@ pub record IsGuarded (ids : List ℕ) (hs : List (Option Scope)) (gs : List (Opt
   pub still : (n : ℕ) (g : Guarded) → slot_at gs n ≡ Some g → slot_at hs g.handle ≡ Some g.scope
   pub counted : (l s : ℕ) → times_in s (es l) ≡ count_by (is_on ids l s) gs
 
--- What an effect does to guards and entries: nothing, a guard more with its entry, or a guard less with it.
-pub data Enters (ids : List ℕ) (hs : List (Option Scope)) (gs : List (Option Guarded)) (lane : ℕ) : Option Guarded → Option ℕ → Option ℕ → Option ℕ → Type 0 where
-  no_entry : Enters ids hs gs lane None None None None
-  enters_by : (g : Guarded) → slot_at hs g.handle ≡ Some g.scope → lane ≡ id_at ids g.lane → Enters ids hs gs lane (Some g) None (own g.scope) None
-  exits_by : (n : ℕ) (g : Guarded) → slot_at gs n ≡ Some g → lane ≡ id_at ids g.lane → Enters ids hs gs lane None (Some n) None (own g.scope)
+-- What an effect does to the guards of entries and to entries: nothing, a number passed over for an attach, a guard more with
+-- its entry, or a guard less with it.
+pub data Enters (ids : List ℕ) (hs : List (Option Scope)) (gs : List (Option Guarded)) (lane : ℕ) : Option Guarded → Option ℕ → Option ℕ → Option ℕ → Option ℕ → Type 0 where
+  no_entry : Enters ids hs gs lane None None None None None
+  skips : (place : ℕ) → Enters ids hs gs lane None (Some place) None None None
+  enters_by : (g : Guarded) → slot_at hs g.handle ≡ Some g.scope → lane ≡ id_at ids g.lane → Enters ids hs gs lane (Some g) None None (own g.scope) None
+  exits_by : (n : ℕ) (g : Guarded) → slot_at gs n ≡ Some g → lane ≡ id_at ids g.lane → Enters ids hs gs lane None None (Some n) None (own g.scope)
 
 the_guard : (a b : Guarded) → ◌≡◌ {A = Option Guarded} (Some a) (Some b) → a ≡ b
 the_guard a b e = cc e
@@ -91,13 +93,17 @@ module _ (ids : List ℕ) (hs : List (Option Scope)) (gs : List (Option Guarded)
           omega (arith, c, slot, mine, before)
 
   -- after an effect's guard
-  pub guarded_after : (lane : ℕ) (new : Option Guarded) (spent entry exit : Option ℕ) → Enters ids hs gs lane new spent entry exit → IsGuarded ids hs (slots_after gs new spent) (with_exit (with_entry es lane entry) lane exit)
-  guarded_after lane _ _ _ _ no_entry = now
-  guarded_after lane _ _ _ _ (enters_by g there at) = record {
+  pub guarded_after : (lane : ℕ) (new : Option Guarded) (attach spent entry exit : Option ℕ) → Enters ids hs gs lane new attach spent entry exit → IsGuarded ids hs (either_after gs new attach spent) (with_exit (with_entry es lane entry) lane exit)
+  guarded_after lane _ _ _ _ _ no_entry = now
+  guarded_after lane _ _ _ _ _ (skips place) = record {
+    still = λ n x is. named_push (λ (y : Guarded). slot_at hs y.handle ≡ Some y.scope) gs None now.still (λ y e. absurd (cc e)) n x is;
+    counted = λ l s. (let push = count_push (is_on ids l s) gs None in let before = now.counted l s in omega (arith, push, before));
+  }
+  guarded_after lane _ _ _ _ _ (enters_by g there at) = record {
     still = λ n x is. named_push (λ (y : Guarded). slot_at hs y.handle ≡ Some y.scope) gs (Some g) now.still (λ y e. subst (λ (z : Guarded). slot_at hs z.handle ≡ Some z.scope) (the_guard g y e) there) n x is;
     counted = entered_by g lane there at g.scope refl;
   }
-  guarded_after lane _ _ _ _ (exits_by n g there at) = record {
+  guarded_after lane _ _ _ _ _ (exits_by n g there at) = record {
     still = λ m x is. now.still m x (named_set gs n m x is);
     counted = exited_by n g lane there at g.scope refl;
   }

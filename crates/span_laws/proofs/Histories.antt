@@ -234,7 +234,7 @@ module _ (setup : Setup) (h : History) (now : IsWhole setup h (tables setup.laye
   did = ops_stories settings (first_of ms) e.at timed.most order (is_open hs) (length ms) begun_done (guards_of t.guards) (with_made (length t.made) e.made (fold (λ r s. with_start s e.at r) t.recording e.starts)) e.ops made (unstarted_all t.handles e.ops step.reached)
 
   within : (s : ℕ) → opened s ≤ guards_of (after t e).guards s
-  within s = turns_within setup.ids t.handles t.guards e.lane e.new_guard e.spent_guard e.entry e.exit step.enters e.ops step.turns s
+  within s = turns_within setup.ids t.handles t.guards e.lane e.new_guard e.new_attach e.spent_guard e.entry e.exit step.enters e.ops step.turns s
 
   shut : (s : ℕ) → 0 < occurrences s e.closes → opened s ≡ 0
   shut s some =

@@ -27,17 +27,20 @@ use Rattle.span_pipeline.specs.declared.request.Place.{Place}
 use Rattle.span_pipeline.specs.declared.request.Place.TheVariants as place
 use Rattle.span_pipeline.specs.declared.request.Call.{Call}
 use Rattle.span_pipeline.specs.declared.request.Call.TheVariants as call
+use Rattle.span_pipeline.specs.declared.reply.Reply.{Reply}
+use Rattle.span_pipeline.specs.declared.reply.Reply.TheVariants as reply
 use Rattle.span_pipeline.specs.declared.reply.Refusal.{Refusal}
 use Rattle.span_pipeline.specs.declared.reply.Refusal.TheVariants as refusal
 use Rattle.span_pipeline.specs.declared.reply.What.{What}
 use Rattle.span_pipeline.specs.declared.reply.What.TheVariants as what
 use Rattle.span_pipeline.specs.Setups.{Setup, id_at, span_site, event_site}
-use Rattle.span_pipeline.specs.Tables.{Scope, Made, Done, Guarded, Effect, Tables, with_new, slots_after, slot_at, own}
-use Rattle.span_pipeline.specs.Effects.{Resolved, named, is_open, holds, closed_of, is_borrowed, scope_at, parent_at, lane_in, no_values, made_at, makes_span, declines, clones, drops, current_scope, scope_or_current, exchanges, on, active, enters, meets_full, opens, exits, exits_on, is_shared, told_to, if_told, tells, is_bad_moment, effect_of, effect_of_call}
+use Rattle.span_pipeline.specs.Tables.{Scope, Made, Done, Guarded, Effect, Tables, with_new, either_after, slot_at, own}
+use Rattle.span_pipeline.specs.Fields.{Fields, all_values, values_of}
+use Rattle.span_pipeline.specs.Effects.{Resolved, named, is_open, holds, closed_of, is_borrowed, scope_at, parent_at, lane_in, made_at, makes_span, declines, clones, drops, current_scope, scope_or_current, exchanges, on, active, enters, meets_full, opens, exits, exits_on, is_shared, if_told, callsite_of, updates, tells, is_full, gives, own_context, attaches, detaches, is_bad_moment, effect_of, effect_of_call}
 use Rattle.span_laws.specs.Closes.{is_drop}
 use Rattle.span_laws.specs.Laws.{occurrences}
 use Rattle.span_laws.specs.Records.{Began}
-use Rattle.span_laws.proofs.Guarding.{Enters, no_entry, enters_by, exits_by}
+use Rattle.span_laws.proofs.Guarding.{Enters, no_entry, skips, enters_by, exits_by}
 use Rattle.span_laws.proofs.Occurrences.{held_push, held_set, any_counted, is_in_counted, occurs_cons, occurs_filter, slot_open, slot_push}
 
 -- a scope that an unspent handle has, or none
@@ -86,8 +89,8 @@ pub record IsTimed (before at : ℕ) : Type 0 where
 pub record IsStep (setup : Setup) (t : Tables) (at : ℕ) (is_drop : Bool) (e : Effect) : Type 0 where
   pub moment : e.at ≡ at
   pub names : Names t.handles t.made e.new_handle e.made
-  pub enters : Enters setup.ids t.handles t.guards e.lane e.new_guard e.spent_guard e.entry e.exit
-  pub spends : Spends (with_new t.handles (option_map Some e.new_handle)) (slots_after t.guards e.new_guard e.spent_guard) e.spent_handle e.closes
+  pub enters : Enters setup.ids t.handles t.guards e.lane e.new_guard e.new_attach e.spent_guard e.entry e.exit
+  pub spends : Spends (with_new t.handles (option_map Some e.new_handle)) (either_after t.guards e.new_guard e.new_attach e.spent_guard) e.spent_handle e.closes
   pub begins : Begins setup.layer e.at e.made
   pub starts : AllByRecursion (λ s. is_open t.handles s ≡ true) e.starts
   pub reached : AllByRecursion (IsReached t.handles) e.ops
@@ -182,16 +185,16 @@ module _ (setup : Setup) (t : Tables) (fit : IsFit setup.layer t) where
   declined : (at lane : ℕ) → Step at false (declines t at lane)
   declined at lane = record { moment = refl; names = another [] no_scope; enters = no_entry; spends = no_spending; begins = tt; starts = tt; reached = tt; turns = tt; closing = λ no. refl }
 
-  made_span : (at lane site : ℕ) (callsite : Callsite) (under : Place) (up : Scope) → IsKnown t.handles up → Step at false (makes_span setup t at lane site callsite under up)
-  made_span at lane site callsite under up known =
+  made_span : (at lane site : ℕ) (callsite : Callsite) (values : ValueSet) (under : Place) (up : Scope) → IsKnown t.handles up → Step at false (makes_span setup t at lane site callsite values under up)
+  made_span at lane site callsite values under up known =
       let source = above setup.layer.activation (parent_at under up) (current_of (t.entries (id_at setup.ids lane))) in
       let keep = starts_keep source at t.recording in
       record {
         moment = refl;
-        names = new_span (record { site = site; scope = length t.made ∷ up; told = made_at setup t at lane callsite (parent_at under up) }) up known refl;
+        names = new_span (record { site = site; scope = length t.made ∷ up; told = made_at setup t at lane callsite values (parent_at under up) }) up known refl;
         enters = no_entry;
         spends = no_spending;
-        begins = told_begins setup.layer (with_starts source at t.recording).settings callsite (lane_in setup lane) no_values _ at (with_starts source at t.recording).counting (keep.0 ∙ fit.settings_are) (keep.1 ∙ fit.uncounted);
+        begins = told_begins setup.layer (with_starts source at t.recording).settings callsite (lane_in setup lane) values _ at (with_starts source at t.recording).counting (keep.0 ∙ fit.settings_are) (keep.1 ∙ fit.uncounted);
         starts = source_open setup.layer.activation under up (id_at setup.ids lane) known;
         reached = tt;
         turns = tt;
@@ -265,22 +268,39 @@ module _ (setup : Setup) (t : Tables) (fit : IsFit setup.layer t) where
     closing = λ no. refl;
   }
 
-  -- an event, if it is let through, on the current span
-  event_reached : (enabled : Bool) (lane : ℕ) (op : Op) → (deed op).own ≡ None → AllByRecursion (IsReached t.handles) (if_told enabled (told_to (current_of (t.entries lane)) op))
-  event_reached false lane op unstarted = tt
-  event_reached true lane op unstarted = by_current (current_of (t.entries lane)) refl
-    where
-      by_current : (o : Option ℕ) → current_of (t.entries lane) ≡ o → AllByRecursion (IsReached t.handles) (told_to o op)
-      by_current None is = tt
-      by_current (Some s) is = (record { there = fit.entered lane s is; unstarted = unstarted }, tt)
+  on_calm : (scope : Scope) (op : Op) → (deed op).enters ≡ false → (deed op).exits ≡ false → AllByRecursion IsCalm (on scope op)
+  on_calm [] op unentered unleft = tt
+  on_calm (s ∷ up) op unentered unleft = ((unentered, unleft), tt)
 
-  event_calm : (enabled : Bool) (o : Option ℕ) (op : Op) → (deed op).enters ≡ false → (deed op).exits ≡ false → AllByRecursion IsCalm (if_told enabled (told_to o op))
-  event_calm false o op unentered unleft = tt
-  event_calm true None op unentered unleft = tt
-  event_calm true (Some s) op unentered unleft = ((unentered, unleft), tt)
+  -- an event, if it is let through
+  event_reached : (enabled : Bool) (scope : Scope) (op : Op) → IsKnown t.handles scope → (deed op).own ≡ None → AllByRecursion (IsReached t.handles) (if_told enabled (on scope op))
+  event_reached false scope op known unstarted = tt
+  event_reached true scope op known unstarted = on_reached scope op known unstarted
 
-  told : (at lane : ℕ) (enabled : Bool) (done : List Done) → AllByRecursion (IsReached t.handles) done → AllByRecursion IsCalm done → Step at false (tells t at lane enabled done)
-  told at lane enabled done reached calm = record { moment = refl; names = no_name; enters = no_entry; spends = no_spending; begins = tt; starts = tt; reached = reached; turns = calm; closing = λ no. refl }
+  event_calm : (enabled : Bool) (scope : Scope) (op : Op) → (deed op).enters ≡ false → (deed op).exits ≡ false → AllByRecursion IsCalm (if_told enabled (on scope op))
+  event_calm false scope op unentered unleft = tt
+  event_calm true scope op unentered unleft = on_calm scope op unentered unleft
+
+  -- fields of a callsite, if it is there
+  updates_reached : (scope : Scope) (fields : Fields) (callsite : Option Callsite) → IsKnown t.handles scope → AllByRecursion (IsReached t.handles) (updates setup.layer scope fields callsite)
+  updates_reached scope fields None known = tt
+  updates_reached scope fields (Some callsite) known = on_reached scope (ops.Update (span_update callsite (values_of callsite fields) setup.layer)) known refl
+
+  updates_calm : (scope : Scope) (fields : Fields) (callsite : Option Callsite) → AllByRecursion IsCalm (updates setup.layer scope fields callsite)
+  updates_calm scope fields None = tt
+  updates_calm scope fields (Some callsite) = on_calm scope (ops.Update (span_update callsite (values_of callsite fields) setup.layer)) refl refl
+
+  told : (at lane : ℕ) (answer : Reply) (done : List Done) → AllByRecursion (IsReached t.handles) done → AllByRecursion IsCalm done → Step at false (tells at lane answer done)
+  told at lane answer done reached calm = record { moment = refl; names = no_name; enters = no_entry; spends = no_spending; begins = tt; starts = tt; reached = reached; turns = calm; closing = λ no. refl }
+
+  given : (at lane : ℕ) (starting : Option ℕ) (context : Context) → Open (option_to_list starting) → Step at false (gives t at lane starting context)
+  given at lane starting context held = record { moment = refl; names = no_name; enters = no_entry; spends = no_spending; begins = tt; starts = held; reached = tt; turns = tt; closing = λ no. refl }
+
+  attached : (at lane : ℕ) (context : Context) → Step at false (attaches setup t at lane context)
+  attached at lane context = record { moment = refl; names = no_name; enters = skips lane; spends = no_spending; begins = tt; starts = tt; reached = tt; turns = tt; closing = λ no. refl }
+
+  detached : (at lane guard : ℕ) → Step at false (detaches at lane guard)
+  detached at lane guard = record { moment = refl; names = no_name; enters = no_entry; spends = no_spending; begins = tt; starts = tt; reached = tt; turns = tt; closing = λ no. refl }
 
   if_both : (at : ℕ) (b : Bool) (x y : Effect) → Step at false x → Step at false y → Step at false (cond b x y)
   if_both at true x y one two = one
@@ -323,12 +343,13 @@ module _ (setup : Setup) (t : Tables) (fit : IsFit setup.layer t) where
       subst (Step at false) (the_effect _ e room.1) (entered at lane handle owns there.0 there.1)
 
   by_call : (at lane : ℕ) (what_for : Call) (e : Effect) → effect_of_call setup t at lane what_for ≡ Ok e → Step at (is_drop what_for) e
-  by_call at lane (call.New site under) e is =
+  by_call at lane (call.New site under fields) e is =
       let callsite = found what.Site (span_site setup.sites site) _ e is in
       let up = found what.Handle (scope_at t (id_at setup.ids lane) under) _ e callsite.2 in
-      subst (Step at false) (the_effect _ e up.2)
+      let values = found what.Field (all_values callsite.0 fields) _ e up.2 in
+      subst (Step at false) (the_effect _ e values.2)
       (if_both at (is_within callsite.0.level setup.level) _ _
-      (made_span at lane site callsite.0 under up.0 (known_place (id_at setup.ids lane) under up.0 up.1)) (declined at (id_at setup.ids lane)))
+      (made_span at lane site callsite.0 values.0 under up.0 (known_place (id_at setup.ids lane) under up.0 up.1)) (declined at (id_at setup.ids lane)))
   by_call at lane (call.Clone handle) e is =
       let there = found what.Handle (slot_at t.handles handle) _ e is in
       subst (Step at false) (the_effect _ e there.2) (cloned at (id_at setup.ids lane) there.0 (of_handle handle there.0 there.1))
@@ -352,16 +373,35 @@ module _ (setup : Setup) (t : Tables) (fit : IsFit setup.layer t) where
       let there = found what.Handle (slot_at t.handles handle) _ e is in
       let free = unrefused (is_borrowed t.guards handle) refusal.InUse (opens setup t at lane handle true) e there.2 in
       opened at lane handle true e free.1
-  by_call at lane (call.Event site) e is =
+  by_call at lane (call.Event site under fields) e is =
       let there = found what.Site (event_site setup.sites site) _ e is in
-      let op = event_of there.0 no_values setup.layer at in
+      let reached = found what.Handle (scope_at t (id_at setup.ids lane) under) _ e there.2 in
+      let values = found what.Field (all_values there.0 fields) _ e reached.2 in
+      let op = event_of there.0 values.0 setup.layer at in
       let enabled = is_within there.0.level setup.level in
+      let known = known_place (id_at setup.ids lane) under reached.0 reached.1 in
+      subst (Step at false) (the_effect _ e values.2)
+      (told at (id_at setup.ids lane) (reply.Enabled enabled) _ (event_reached enabled reached.0 op known refl) (event_calm enabled reached.0 op refl refl))
+  by_call at lane (call.Record handle fields) e is =
+      let there = found what.Handle (slot_at t.handles handle) _ e is in
+      let callsite = callsite_of setup t there.0 in
       subst (Step at false) (the_effect _ e there.2)
-      (told at (id_at setup.ids lane) enabled _ (event_reached enabled (id_at setup.ids lane) op refl) (event_calm enabled (current_of (t.entries (id_at setup.ids lane))) op refl refl))
-  by_call at lane (call.Remote ids) e is = absurd (cc is)
-  by_call at lane (call.Context handle) e is = absurd (cc is)
-  by_call at lane (call.Attach context) e is = absurd (cc is)
-  by_call at lane (call.Detach guard) e is = absurd (cc is)
+      (told at (id_at setup.ids lane) reply.Done _ (updates_reached there.0 fields callsite (of_handle handle there.0 there.1)) (updates_calm there.0 fields callsite))
+  by_call at lane (call.HasField handle name) e is =
+      let there = found what.Handle (slot_at t.handles handle) _ e is in
+      subst (Step at false) (the_effect _ e there.2) (told at (id_at setup.ids lane) (reply.Has _) [] tt tt)
+  by_call at lane (call.Remote ids) e is = subst (Step at false) (the_effect _ e is) (given at (id_at setup.ids lane) None _ tt)
+  by_call at lane (call.Context handle) e is =
+      let there = found what.Handle (slot_at t.handles handle) _ e is in
+      subst (Step at false) (the_effect _ e there.2) (given at (id_at setup.ids lane) (own there.0) _ (active_open true there.0 (of_handle handle there.0 there.1)))
+  by_call at lane (call.Attach context) e is =
+      let there = found what.Context (slice_get t.named context) _ e is in
+      let room = unrefused (is_full (t.contexts (id_at setup.ids lane))) (refusal.Full lane) (Ok (attaches setup t at lane there.0)) e there.2 in
+      subst (Step at false) (the_effect _ e room.1) (attached at lane there.0)
+  by_call at lane (call.Detach guard) e is =
+      let there = found what.Guard (slot_at t.attaches guard) _ e is in
+      let mine = allowed (there.0 == lane) (refusal.WrongLane there.0) (Ok (detaches at (id_at setup.ids lane) guard)) e there.2 in
+      subst (Step at false) (the_effect _ e mine.1) (detached at (id_at setup.ids lane) guard)
 
   pub step_of : (request : Request) (e : Effect) → effect_of setup t request ≡ Ok e → IsTimed t.moment e.at × IsStep setup t request.at (is_drop request.call) e
   step_of request e is =

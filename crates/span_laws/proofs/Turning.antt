@@ -8,9 +8,9 @@ use Rattle.trace_base.specs.Spans.{is_in}
 use Rattle.trace_base.proofs.Entering.{count_push}
 use Rattle.otel_state.specs.declared.op.Op.TheVariants as ops
 use Rattle.otel_state.specs.Deeds.{Deed, deed}
-use Rattle.span_pipeline.specs.Tables.{Scope, Done, Guarded, slots_after, slot_at, own}
+use Rattle.span_pipeline.specs.Tables.{Scope, Done, Guarded, either_after, slot_at, own}
 use Rattle.span_pipeline.specs.Effects.{is_open}
-use Rattle.span_laws.proofs.Guarding.{IsGuarded, Enters, no_entry, enters_by, exits_by}
+use Rattle.span_laws.proofs.Guarding.{IsGuarded, Enters, no_entry, skips, enters_by, exits_by}
 use Rattle.span_laws.proofs.Occurrences.{pick, named_within, slot_open}
 use Rattle.span_laws.proofs.Recorded.{turned_by}
 use Rattle.span_laws.proofs.Steps.{IsCalm, Turns}
@@ -88,7 +88,8 @@ module _ (ids : List ℕ) (hs : List (Option Scope)) (gs : List (Option Guarded)
           by_test true is = omega (arith, is)
           by_test false is = omega (arith, is)
 
-  pub turns_within : (new : Option Guarded) (spent entry exit : Option ℕ) → Enters ids hs gs lane new spent entry exit → (ds : List Done) → Turns entry exit ds → (s : ℕ) → all_turned ds s ≤ guards_of (slots_after gs new spent) s
-  turns_within _ _ _ _ no_entry ds turns s = let same = calm ds (guards_of gs) s turns in omega (arith, same)
-  turns_within _ _ _ _ (enters_by g there at) ds turns s = by_entry g g.scope refl ds turns s
-  turns_within _ _ _ _ (exits_by n g there at) ds turns s = by_exit n g there g.scope refl ds turns s
+  pub turns_within : (new : Option Guarded) (attach spent entry exit : Option ℕ) → Enters ids hs gs lane new attach spent entry exit → (ds : List Done) → Turns entry exit ds → (s : ℕ) → all_turned ds s ≤ guards_of (either_after gs new attach spent) s
+  turns_within _ _ _ _ _ (skips place) ds turns s = let same = calm ds (guards_of gs) s turns in let push = count_push (guards_span s) gs None in omega (arith, same, push)
+  turns_within _ _ _ _ _ no_entry ds turns s = let same = calm ds (guards_of gs) s turns in omega (arith, same)
+  turns_within _ _ _ _ _ (enters_by g there at) ds turns s = by_entry g g.scope refl ds turns s
+  turns_within _ _ _ _ _ (exits_by n g there at) ds turns s = by_exit n g there g.scope refl ds turns s

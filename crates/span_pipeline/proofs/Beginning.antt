@@ -13,18 +13,22 @@ use Rattle.span_handles.specs.Handles.{Handle}
 use Rattle.span_pipeline.specs.declared.slots.Guard.{Guard}
 use Rattle.span_pipeline.specs.Setups.{Setup, HasOwnIds, id_at}
 use Rattle.otel_layer.specs.Recording.{Recording, no_recording, recording_of}
-use Rattle.span_pipeline.specs.Tables.{no_tables, nothing_recorded, open_part}
+use Rattle.span_pipeline.specs.Tables.{Owner, EntryOf, GuardOf, no_tables, nothing_recorded, open_part}
 use Rattle.otel_base.specs.declared.context.Context.{Context}
 use Rattle.otel_base.specs.Recorder.{Recorded}
 use Rattle.span_pipeline.proofs.Keeping.{SameRecorded}
-use Rattle.span_pipeline.specs.Fits.{State, state_of, Fits, StandsFor, RecordingFits, ContextsFit, Laned, laned, lane_at, LanesFit, IsKept}
+use Rattle.span_pipeline.specs.Fits.{Named, State, state_of, Fits, StandsFor, RecordingFits, numbers_by, ContextsFit, Laned, laned, lane_at, LanesFit, IsKept}
 
 -- nothing fits no tables
 pub new_fits : (setup : Setup) (lanes : List Laned) (recording : Recording) (layer : LayerSettings) (dispatch : ℕ) (spans : Spans) → spans ≡ no_spans
-    → Fits (record { setup = setup; spans = spans; lanes = lanes; recording = recording; dispatch = dispatch; handles = []; guards = []; moment = 0 }) (no_tables layer)
-new_fits setup lanes recording layer dispatch spans is = subst (λ (x : Spans). Fits (record { setup = setup; spans = x; lanes = lanes; recording = recording; dispatch = dispatch; handles = []; guards = []; moment = 0 }) (no_tables layer)) (sym is) (record {
+    → Fits (record { setup = setup; spans = spans; lanes = lanes; recording = recording; dispatch = dispatch; handles = []; handle_sites = []; guards = []; contexts = record { made = []; attaches = [] }; moment = 0 }) (no_tables layer)
+new_fits setup lanes recording layer dispatch spans is = subst (λ (x : Spans). Fits (record { setup = setup; spans = x; lanes = lanes; recording = recording; dispatch = dispatch; handles = []; handle_sites = []; guards = []; contexts = record { made = []; attaches = [] }; moment = 0 }) (no_tables layer)) (sym is) (record {
   handle_slots = refl;
+  site_slots = refl;
   guard_slots = refl;
+  attach_slots = refl;
+  paired = refl;
+  named = refl;
   latest = refl;
   balanced = record { holds = λ s. refl; entries = λ lane. refl; guarded = λ lane s. refl; borrowed = λ n g there. absurd (cc there) };
   made = record { count = refl; parent = λ s live. absurd (omega (arith, live)); site = λ s live. absurd (omega (arith, live)) };
@@ -32,6 +36,7 @@ new_fits setup lanes recording layer dispatch spans is = subst (λ (x : Spans). 
   scopes = λ n scope there. absurd (cc there);
   still = λ n g there. absurd (cc there);
   own_scopes = λ s within. absurd (omega (arith, within));
+  sited = λ s within. absurd (omega (arith, within));
   few = omega arith;
   few_holds = λ s. omega arith;
 })
@@ -90,6 +95,12 @@ module _ {S : Type 0} (same : S → S → Type 0) (spans : S → Spans) (recorde
       by_list (x ∷ []) e = only_first world x e (are.each 0 first x refl (ap (λ (ys : List S). slice_get ys 0) e))
       by_list (x ∷ y ∷ ys) e = absurd (let c = are.count in let k = ap (λ (zs : List S). length zs) e in omega (arith, c, k))
 
+-- nobody attached anything
+no_numbers : (activation : Bool) (place lane : ℕ) (o : Owner) → numbers_by activation place lane [] [] o ≡ []
+no_numbers true place lane (EntryOf s) = refl
+no_numbers false place lane (EntryOf s) = refl
+no_numbers activation place lane (GuardOf n) = refl
+
 -- lanes without contexts
 no_live : (lanes : List Lane) → map (λ (l : Lane). l.contexts.live) lanes ≡ map (λ (l : Lane). []) lanes → (n : ℕ) → (lane_at (map laned lanes) n).live ≡ []
 no_live [] are n = refl
@@ -101,26 +112,29 @@ module _ {S : Type 0} (same : S → S → Type 0) (spans : S → Spans) (recorde
     (law : (old new : Worlds S) (dispatch : ℕ) → Replaced same old new dispatch → Alike spans attaches kept is_whole old new dispatch) (records : SameRecorded spans recorded attaches kept is_whole same) (first : S)
     (world before : Worlds S) (dispatch : ℕ) (level : LevelFilter) (lanes : List Lane) (ids : List ℕ) (is : dispatch ≡ length before.subscribers) (empty : length before.subscribers ≡ 0) (are : AreSame same (before.subscribers ++ first ∷ []) world.subscribers)
     (none : spans first ≡ no_spans) (layer : LayerSettings) (nothing : recorded first ≡ nothing_recorded layer) (quiet : map (λ (l : Lane). l.contexts.live) lanes ≡ map (λ (l : Lane). []) lanes)
-    (hs : List (Option Handle)) (no_handles : hs ≡ []) (gs : List (Option Guard)) (no_guards : gs ≡ []) where
+    (hs : List (Option Handle)) (no_handles : hs ≡ []) (gs : List (Option Guard)) (no_guards : gs ≡ []) (cs : Named) (no_contexts : cs ≡ record { made = []; attaches = [] }) where
   its_only : Only same spans recorded attaches kept is_whole law records first world dispatch
   its_only = only_one same spans recorded attaches kept is_whole law records first world dispatch (is ∙ empty) (subst (λ (xs : List S). AreSame same (xs ++ first ∷ []) world.subscribers) (no_items before.subscribers empty) are)
 
   abbrev begun_state : State
-  begun_state = state_of spans recorded world dispatch level lanes hs gs 0
+  begun_state = state_of spans recorded world dispatch level lanes hs gs cs 0
 
   pub recorded_nothing : begun_state.recording ≡ nothing_recorded layer
   recorded_nothing = its_only.recorded_is ∙ nothing
 
   fits_begun : Fits begun_state (no_tables layer)
-  fits_begun = subst (λ (x : List (Option Handle)). Fits (state_of spans recorded world dispatch level lanes x gs 0) (no_tables layer)) (sym no_handles)
-      (subst (λ (x : List (Option Guard)). Fits (state_of spans recorded world dispatch level lanes [] x 0) (no_tables layer)) (sym no_guards) (new_fits _ _ _ layer _ _ (its_only.spans_are ∙ none)))
+  fits_begun = subst (λ (x : List (Option Handle)). Fits (state_of spans recorded world dispatch level lanes x gs cs 0) (no_tables layer)) (sym no_handles)
+      (subst (λ (x : List (Option Guard)). Fits (state_of spans recorded world dispatch level lanes [] x cs 0) (no_tables layer)) (sym no_guards)
+      (subst (λ (x : Named). Fits (state_of spans recorded world dispatch level lanes [] [] x 0) (no_tables layer)) (sym no_contexts) (new_fits _ _ _ layer _ _ (its_only.spans_are ∙ none))))
 
   records_begun : RecordingFits begun_state (no_tables layer)
   records_begun = record {
     recorded = ap open_part recorded_nothing;
     known = λ s live. absurd (let e = ap (λ (x : Spans). (span_at x.made s).holds) (its_only.spans_are ∙ none) in omega (arith, e, live));
-    attached = λ n within. subst (λ (live : List (ℕ × Context)). ContextsFit begun_state.setup.layer.activation (lane_at (map laned lanes) n).id live begun_state.recording.tokens []) (sym (no_live lanes quiet n))
-        (subst (λ (r : Recording). ContextsFit begun_state.setup.layer.activation (lane_at (map laned lanes) n).id [] r.tokens []) (sym recorded_nothing) (record { contexts = refl; distinct = tt; tokens_are = λ on s. refl }));
+    attached = λ n within. subst (λ (live : List (ℕ × Context)). ContextsFit (numbers_by begun_state.setup.layer.activation n (lane_at (map laned lanes) n).id begun_state.recording.tokens cs.attaches) live []) (sym (no_live lanes quiet n))
+        (subst (λ (r : Recording). ContextsFit (numbers_by begun_state.setup.layer.activation n (lane_at (map laned lanes) n).id r.tokens cs.attaches) [] []) (sym recorded_nothing)
+        (subst (λ (x : Named). ContextsFit (numbers_by begun_state.setup.layer.activation n (lane_at (map laned lanes) n).id [] x.attaches) [] []) (sym no_contexts)
+        (record { contexts = refl; distinct = tt; numbers_are = λ o. sym (no_numbers begun_state.setup.layer.activation n (lane_at (map laned lanes) n).id o) })));
   }
 
   pub begins : StandsFor begun_state (no_tables layer)

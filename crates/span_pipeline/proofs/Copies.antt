@@ -20,8 +20,9 @@ use Rattle.otel_layer.specs.Recording.{Recording, no_recording}
 use Rattle.span_pipeline.specs.Tables.{Scope, Made, Guarded, Effect, Tables, slot_at, own}
 use Rattle.span_pipeline.specs.Effects.{named, effect_of_call, clones}
 use Rattle.span_pipeline.specs.Balance.{Balanced, named_by, opened_by}
-use Rattle.span_pipeline.specs.Fits.{State, state_of, laned, Fits, StandsFor, MadeFit, LanesFit, IsKept, Served, IsScope, held_of, held_by}
+use Rattle.span_pipeline.specs.Fits.{Named, State, state_of, laned, Fits, StandsFor, MadeFit, LanesFit, IsKept, Served, IsScope, held_of, held_by, site_by}
 use Rattle.span_pipeline.proofs.Naming.{find, held_slot, named_within}
+use Rattle.span_pipeline.proofs.Sited.{site_found}
 use Rattle.span_pipeline.proofs.Standing.{fits_step}
 use Rattle.span_pipeline.proofs.Reading.{Law, Recalls, ShownOn, shown_on}
 use Rattle.trace_base.proofs.Holding.{holds_other}
@@ -77,12 +78,12 @@ module _ {S : Type 0} (spans : S → Spans) (recorded : S → Recording) (attach
   clone_recorded dispatch (s ∷ up) shown = shown.2
 
   module _ (does : S → SubscriberCall → S → Type 0) (law : Law spans recorded attaches kept is_whole does) (recalls : Recalls spans recorded attaches kept is_whole does)
-      (dispatch : ℕ) (level : LevelFilter) (lanes : List Lane) (hs hs' : List (Option Handle)) (gs : List (Option Guard)) (m at lane number : ℕ) (many : number ≡ length hs) (inv : IsKept kept is_whole old (state_of spans recorded old dispatch level lanes hs gs m)) where
+      (dispatch : ℕ) (level : LevelFilter) (lanes : List Lane) (hs hs' : List (Option Handle)) (gs : List (Option Guard)) (cs : Named) (m at lane number : ℕ) (many : number ≡ length hs) (inv : IsKept kept is_whole old (state_of spans recorded old dispatch level lanes hs gs cs m)) where
     abbrev now : State
-    now = state_of spans recorded old dispatch level lanes hs gs m
+    now = state_of spans recorded old dispatch level lanes hs gs cs m
 
     abbrev then : State
-    then = state_of spans recorded new dispatch level lanes hs' gs at
+    then = state_of spans recorded new dispatch level lanes hs' gs cs at
 
     abbrev place_id : ℕ
     place_id = id_at now.setup.ids lane
@@ -112,11 +113,15 @@ module _ {S : Type 0} (spans : S → Spans) (recorded : S → Recording) (attach
             setup_is = setup;
             dispatch_is = refl;
             handles_are = ap (map held_by) one ∙ map_push held_by hs (Some copy) ∙ ap (λ (x : Handle). map held_by hs ++ Some x.held ∷ []) is ∙ ap (λ (x : Held). map held_by hs ++ Some x ∷ []) line.is;
+            sites_are = ap (map site_by) one ∙ map_push site_by hs (Some copy) ∙ ap (λ (x : Handle). map site_by hs ++ Some x.site ∷ []) is ∙ ap (λ (o : Option ℕ). map site_by hs ++ Some o ∷ []) (site_found now t fits hs refl handle h found line.at line.there);
             guards_are = refl;
+            attaches_are = refl;
+            named_are = refl;
             moment_is = refl;
             balanced = subst (λ (x : Spans). Balanced x (map named_by (t.handles ++ Some line.at ∷ [])) (map (opened_by ids) t.guards) t.entries) (sym step) (balanced_clone ids sp t.handles t.guards t.entries fits.balanced handle line.at line.there);
             made_fit = subst (λ (x : Spans). MadeFit x.made t.made) (sym step) (made_clone sp t.made line.at fits.made live);
             new_made = tt;
+            new_site = tt;
             new_scope = λ l e. subst (IsScope t.made) (the_scope line.at l e) (fits.scopes handle line.at line.there);
             still = still_named_more t.guards t.handles line.at fits.still;
             few = (let l = length_push t.handles (Some line.at) in let f = fits.few in omega (arith, l, f));
@@ -124,7 +129,7 @@ module _ {S : Type 0} (spans : S → Spans) (recorded : S → Recording) (attach
             one = subst (λ (x : Spans). OneEach x.lanes) (sym step) (one_clone sp line.at fits.one_lane);
           }))
           (λ s some. known_still now then t e (seen recorded no_recording old dispatch).tokens same stands.recording s refl (clone_live sp line.at s live (subst (λ (x : Spans). 0 < (span_at x.made s).holds) step some)))
-          (all_same now then t.contexts setup refl (ap (λ (r : Recording). r.tokens) same) stands.recording.attached)
+          (all_same now then t.contexts setup refl refl (ap (λ (r : Recording). r.tokens) same) stands.recording.attached)
 
       pub keeps_cloned : IsKept kept is_whole new then
       keeps_cloned =

@@ -1,6 +1,6 @@
 -- An entry on a lane with as many contexts as may be.
-use Rattle.std.specs.Prelude.{◌==◌, ◌&&◌, ◌||◌, ◌≢◌}
-use Rattle.std.proofs.Common.{◌≡◌, ℕ, ◌<◌, List, [], ◌∷◌, length, get_or, Bool, true, false, Option, Some, None, Ok, Err, map, refl, sym, ap, subst, ◌∙◌, arith, inl, inr, slice_get}
+use Rattle.std.specs.Prelude.{◌&&◌, ◌||◌, ◌≢◌}
+use Rattle.std.proofs.Common.{◌≡◌, ℕ, ◌<◌, List, [], ◌∷◌, length, get_or, Bool, true, false, Option, Some, None, Err, map, refl, sym, ap, subst, ◌∙◌, arith, inl, inr, slice_get}
 use Rattle.std.proofs.lemmas.Bool.{cases_Bool, eq-eqb, eqb-true, cond-true, true≢false}
 use Rattle.std.proofs.lemmas.List.{length-map}
 use Rattle.otel_base.specs.declared.context.Context.{Context}
@@ -13,19 +13,17 @@ use Rattle.trace_base.specs.declared.lane.Lane.{Lane}
 use Rattle.trace_base.specs.declared.level.LevelFilter.{LevelFilter}
 use Rattle.trace_base.specs.Gate.{Worlds}
 use Rattle.trace_base.specs.Spans.{Spans}
-use Rattle.span_handles.specs.Worlds.{Has, seen}
 use Rattle.span_handles.specs.Handles.{Handle, Held}
 use Rattle.span_handles.specs.Entries.{MeetsFullLane}
 use Rattle.span_pipeline.specs.declared.slots.Guard.{Guard}
 use Rattle.span_pipeline.specs.declared.reply.Refusal.{Refusal}
-use Rattle.span_pipeline.specs.declared.reply.Refusal.TheVariants as refusal
 use Rattle.span_pipeline.specs.declared.reply.What.TheVariants as what
 use Rattle.span_pipeline.specs.Setups.{id_at}
 use Rattle.span_pipeline.specs.Balance.{named_by, opened_by}
 use Rattle.span_pipeline.specs.Tables.{Scope, Attached, Tables, slot_at}
 use Rattle.span_pipeline.specs.Effects.{Resolved, named, meets_full, enters, enters_unless, opens}
 use Rattle.span_pipeline.specs.Refusals.{refused_entry}
-use Rattle.span_pipeline.specs.Fits.{State, state_of, Laned, laned, lane_at, StandsFor, IsKept, is_room, held_by, held_of}
+use Rattle.span_pipeline.specs.Fits.{Named, State, state_of, Laned, laned, lane_at, StandsFor, IsKept, is_room, held_by, held_of}
 use Rattle.span_pipeline.proofs.Balancing.{named_slot}
 use Rattle.span_pipeline.proofs.Fitting.{fits_live}
 use Rattle.span_pipeline.proofs.Keeping.{lane_seen, id_seen}
@@ -55,10 +53,10 @@ meets_made true s up items on many = eq-eqb (length items) 65534 many
 meets_made false s up items on many = absurd (true≢false (sym on))
 
 module _ {S : Type 0} (spans : S → Spans) (recorded : S → Recording) (activates : S → ℕ → Bool) (kept : S → ℕ → ℕ → ℕ) (is_whole : S → Type 0) (acts : Activates recorded activates) (old : Worlds S)
-    (dispatch : ℕ) (level : LevelFilter) (lanes : List Lane) (hs : List (Option Handle)) (gs : List (Option Guard)) (m at lane : ℕ) (before : Lane) (within : lane < length lanes) (here : before ≡ get_or lanes lane before)
-    (handle : ℕ) (h : Handle) (found : slot_at hs handle ≡ Some h) (inv : IsKept kept is_whole old (state_of spans recorded old dispatch level lanes hs gs m)) where
+    (dispatch : ℕ) (level : LevelFilter) (lanes : List Lane) (hs : List (Option Handle)) (gs : List (Option Guard)) (cs : Named) (m at lane : ℕ) (before : Lane) (within : lane < length lanes) (here : before ≡ get_or lanes lane before)
+    (handle : ℕ) (h : Handle) (found : slot_at hs handle ≡ Some h) (inv : IsKept kept is_whole old (state_of spans recorded old dispatch level lanes hs gs cs m)) where
   abbrev now : State
-  now = state_of spans recorded old dispatch level lanes hs gs m
+  now = state_of spans recorded old dispatch level lanes hs gs cs m
 
   abbrev place_id : ℕ
   place_id = id_at now.setup.ids lane

@@ -1,5 +1,5 @@
 -- Handles of a lane's current span, and handles that are exchanged for one of these, served.
-use Rattle.std.proofs.Common.{◌≡◌, ℕ, ◌+◌, ◌<◌, ◌≤◌, List, [], ◌∷◌, ◌++◌, length, Bool, true, false, cond, count_by, set, slice_set, get_or, Option, Some, None, Ok, Err, option_map, map, refl, sym, ap, subst, ◌∙◌, arith}
+use Rattle.std.proofs.Common.{◌≡◌, ℕ, ◌+◌, ◌<◌, ◌≤◌, List, [], ◌∷◌, ◌++◌, length, Bool, true, false, cond, set, slice_set, get_or, Option, Some, None, Ok, Err, option_map, map, refl, sym, ap, subst, ◌∙◌, arith}
 use Rattle.std.specs.Prelude.{is_some, IfSome}
 use Rattle.std.specs.Option.{option_map_or}
 use Rattle.std.proofs.lemmas.Bool.{cond-true, cond-false}
@@ -15,8 +15,8 @@ use Rattle.trace_base.specs.Calls.{SubscriberCall, CloneSpan}
 use Rattle.trace_base.specs.Conditions.{IsLive}
 use Rattle.trace_base.specs.Sound.{OneEach}
 use Rattle.trace_base.proofs.Entering.{count_push}
-use Rattle.span_handles.specs.Worlds.{Has, Replaced, seen, spans_in, kept_in, no_spans}
-use Rattle.span_handles.specs.Handles.{Handle, Held, id_of, no_handle, handle_of, ReplacedOn, Copies, IsCurrent}
+use Rattle.span_handles.specs.Worlds.{Has, seen, spans_in, kept_in, no_spans}
+use Rattle.span_handles.specs.Handles.{Handle, Held, id_of, ReplacedOn, Copies, IsCurrent}
 use Rattle.span_pipeline.specs.declared.slots.Guard.{Guard}
 use Rattle.span_pipeline.specs.declared.reply.Reply.TheVariants as reply
 use Rattle.span_pipeline.specs.declared.reply.Refusal.TheVariants as refusal
@@ -25,19 +25,20 @@ use Rattle.span_pipeline.specs.declared.request.Call.TheVariants as call
 use Rattle.span_pipeline.specs.declared.request.Place.TheVariants as place
 use Rattle.span_pipeline.specs.Setups.{id_at}
 use Rattle.otel_layer.specs.Recording.{Recording, no_recording}
-use Rattle.span_pipeline.specs.Tables.{Scope, Guarded, Effect, Tables, slot_at, slots_after, own}
+use Rattle.span_pipeline.specs.Tables.{Scope, Made, Guarded, Effect, Tables, slot_at, slots_after, own, site_of}
 use Rattle.span_pipeline.specs.Effects.{Resolved, named, effect_of_call, clones, current_scope, scope_or_current, exchanges, is_borrowed, drops_unless}
 use Rattle.span_pipeline.specs.Slots.{is_named}
-use Rattle.span_pipeline.specs.Balance.{Balanced, Opened, names, named_by, opened_by}
-use Rattle.span_pipeline.specs.Fits.{State, state_of, Laned, laned, Fits, StandsFor, MadeFit, LanesFit, IsKept, Served, IsScope, held_of, held_by}
+use Rattle.span_pipeline.specs.Balance.{Balanced, names, named_by, opened_by}
+use Rattle.span_pipeline.specs.Fits.{Named, State, state_of, Laned, laned, Fits, StandsFor, MadeFit, LanesFit, IsKept, Served, IsScope, held_of, held_by, site_by}
 use Rattle.span_pipeline.proofs.Naming.{Found, find, held_slot, named_within}
+use Rattle.span_pipeline.proofs.Sited.{site_slot, site_found, copied_site}
 use Rattle.span_pipeline.proofs.Standing.{fits_step}
 use Rattle.span_pipeline.proofs.Balancing.{named_slot, set_none}
-use Rattle.span_pipeline.proofs.Reading.{Law, Recalls, ShownOn, shown_on}
+use Rattle.span_pipeline.proofs.Reading.{Law, Recalls, shown_on}
 use Rattle.span_pipeline.proofs.Keeping.{id_seen, ids_same, names_same, lanes_same}
 use Rattle.span_pipeline.proofs.Refusing.{within_get}
 use Rattle.span_pipeline.proofs.Serving.{serve, known_still, all_same, kept_served, call_count, call_sites, call_whole}
-use Rattle.span_pipeline.proofs.Cloning.{FoundUp, find_up, spans_held, balanced_decline, another_handle}
+use Rattle.span_pipeline.proofs.Cloning.{find_up, spans_held, balanced_decline, another_handle}
 use Rattle.span_pipeline.proofs.Copies.{held_scope_most, clone_live, one_clone, made_clone, the_scope, enabled_is, still_named_more, held_spans, clone_kept, clone_recorded}
 use Rattle.span_pipeline.proofs.Dropping.{not_borrowed, opened_handle, borrowed_is, still_spent}
 
@@ -114,6 +115,17 @@ current_copied {S} spans does old new dispatch lane line h there on did =
     let same : current_of (entries_on lane (spans at.0).lanes) ≡ own line = ap (λ (x : Spans). current_of (entries_on lane x.lanes)) (sym is) ∙ on in
     copied does old new dispatch (λ id. (span_at (spans at.0).made id).site) line h
     (subst (λ (o : Option ℕ). Copies does old new dispatch (option_map (λ id. (id, (span_at (spans at.0).made id).site)) o) h) same (did at.0 at.1))
+
+-- its callsite is that of the span that was made
+current_site : {S : Type 0} (spans : S → Spans) (does : S → SubscriberCall → S → Type 0) (old new : Worlds S) (dispatch lane : ℕ) (line : Scope) (h : Handle) → dispatch < length old.subscribers → current_of (entries_on lane (spans_in spans old dispatch).lanes) ≡ own line
+    → IsCurrent spans does old new lane (Some dispatch) h → (made : List Made) → MadeFit (spans_in spans old dispatch).made made → IfSome (own line) (λ s. IsLive (spans_in spans old dispatch).made s) → h.site ≡ site_of made line
+current_site {S} spans does old new dispatch lane line h there on did made fit live =
+    let at = within_get old.subscribers dispatch there in
+    let is : spans_in spans old dispatch ≡ spans at.0 = ap (λ (o : Option S). option_map_or spans o no_spans) at.1 in
+    let same : current_of (entries_on lane (spans at.0).lanes) ≡ own line = ap (λ (x : Spans). current_of (entries_on lane x.lanes)) (sym is) ∙ on in
+    copied_site does old new dispatch (λ id. (span_at (spans at.0).made id).site) made line h
+    (subst (λ (o : Option ℕ). Copies does old new dispatch (option_map (λ id. (id, (span_at (spans at.0).made id).site)) o) h) same (did at.0 at.1))
+    (λ s up e. ap (λ (x : Spans). (span_at x.made s).site) (sym is) ∙ fit.site s (live_at (spans_in spans old dispatch) line live s up e))
 
 -- a handle with an open guard isn't exchanged
 pub refuses_in_use : (k : State) (hs : List (Option Handle)) → k.handles ≡ map held_by hs → (handle : ℕ) (h : Handle) → slot_at hs handle ≡ Some h → is_named k.guards handle ≡ true → (at lane : ℕ) (t : Tables) → StandsFor k t
@@ -194,13 +206,13 @@ handed_on k t fits handle s up there free = record {
 
 module _ {S : Type 0} (spans : S → Spans) (recorded : S → Recording) (attaches : S → Bool) (kept : S → ℕ → ℕ → ℕ) (is_whole : S → Type 0) (old new : Worlds S) where
   module _ (does : S → SubscriberCall → S → Type 0) (law : Law spans recorded attaches kept is_whole does) (recalls : Recalls spans recorded attaches kept is_whole does)
-      (dispatch : ℕ) (level : LevelFilter) (lanes : List Lane) (hs hs' : List (Option Handle)) (gs : List (Option Guard)) (m at lane number : ℕ) (many : number ≡ length hs) (before : Lane) (within : lane < length lanes) (here : before ≡ get_or lanes lane before)
-      (inv : IsKept kept is_whole old (state_of spans recorded old dispatch level lanes hs gs m)) where
+      (dispatch : ℕ) (level : LevelFilter) (lanes : List Lane) (hs hs' : List (Option Handle)) (gs : List (Option Guard)) (cs : Named) (m at lane number : ℕ) (many : number ≡ length hs) (before : Lane) (within : lane < length lanes) (here : before ≡ get_or lanes lane before)
+      (inv : IsKept kept is_whole old (state_of spans recorded old dispatch level lanes hs gs cs m)) where
     abbrev now : State
-    now = state_of spans recorded old dispatch level lanes hs gs m
+    now = state_of spans recorded old dispatch level lanes hs gs cs m
 
     abbrev then : State
-    then = state_of spans recorded new dispatch level (set lanes lane (using before dispatch)) hs' gs at
+    then = state_of spans recorded new dispatch level (set lanes lane (using before dispatch)) hs' gs cs at
 
     abbrev place_id : ℕ
     place_id = id_at now.setup.ids lane
@@ -215,9 +227,9 @@ module _ {S : Type 0} (spans : S → Spans) (recorded : S → Recording) (attach
     on_id t fits = ap (λ (l : ℕ). current_of (entries_on l now.spans.lanes)) (id_seen lanes lane before within here) ∙ (is_on now t fits place_id).on
 
     serves_handed : (t : Tables) → StandsFor now t → (resolved : Resolved) (line : Scope) (spent : Option ℕ) (enabled : Bool) → resolved ≡ Ok (hands t at place_id line spent) → enabled ≡ is_some (own line) → new.sites ≡ old.sites
-        → seen recorded no_recording new dispatch ≡ seen recorded no_recording old dispatch → then.handles ≡ slots_after now.handles (Some (held_of dispatch line)) spent → Handed now t then.spans line spent
+        → seen recorded no_recording new dispatch ≡ seen recorded no_recording old dispatch → then.handles ≡ slots_after now.handles (Some (held_of dispatch line)) spent → then.handle_sites ≡ slots_after now.handle_sites (Some (site_of t.made line)) spent → Handed now t then.spans line spent
         → Served resolved t now then (reply.Made enabled number)
-    serves_handed t stands resolved line spent enabled is shows sites same handles handed =
+    serves_handed t stands resolved line spent enabled is shows sites same handles handle_sites handed =
         let fits = stands.fits in
         let setup : then.setup ≡ now.setup = rw (sites, ids_same lanes lane before (using before dispatch) within here refl, names_same lanes lane before (using before dispatch) within here refl, same) refl in
         let e : Effect = hands t at place_id line spent in
@@ -229,11 +241,15 @@ module _ {S : Type 0} (spans : S → Spans) (recorded : S → Recording) (attach
           setup_is = setup;
           dispatch_is = refl;
           handles_are = handles;
+          sites_are = handle_sites;
           guards_are = refl;
+          attaches_are = refl;
+          named_are = refl;
           moment_is = refl;
           balanced = handed.balanced;
           made_fit = handed.made;
           new_made = tt;
+          new_site = tt;
           new_scope = λ l e. subst (IsScope t.made) (the_scope line l e) handed.scope;
           still = handed.still;
           few = (let f = fits.few in omega (arith, more, f));
@@ -241,7 +257,7 @@ module _ {S : Type 0} (spans : S → Spans) (recorded : S → Recording) (attach
           one = handed.one;
         }))
         (λ s some. known_still now then t e (seen recorded no_recording old dispatch).tokens same stands.recording s refl (handed.live s some))
-        (all_same now then t.contexts setup lanes_are (ap (λ (r : Recording). r.tokens) same) stands.recording.attached)
+        (all_same now then t.contexts setup refl lanes_are (ap (λ (r : Recording). r.tokens) same) stands.recording.attached)
 
     keeps_handed : (resolved : Resolved) (enabled : Bool) → Served resolved inv.tables now then (reply.Made enabled number) → length new.subscribers ≡ length old.subscribers → (Has is_whole old dispatch → Has is_whole new dispatch) → kept_in kept new dispatch ≡ kept_in kept old dispatch → IsKept kept is_whole new then
     keeps_handed resolved enabled served count whole same = kept_served spans recorded attaches kept is_whole old new now then inv resolved _ served refl count whole
@@ -259,6 +275,7 @@ module _ {S : Type 0} (spans : S → Spans) (recorded : S → Recording) (attach
           serves_handed t stands _ line None enabled refl (shows ∙ enabled_is dispatch line h.held copy.0) (call_sites spans recorded attaches kept is_whole old new dispatch line (λ id. CloneSpan id) shown)
           (clone_recorded spans recorded attaches kept is_whole old new dispatch line shown)
           (ap (map held_by) one ∙ map_push held_by hs (Some h) ∙ ap (λ (x : Held). map held_by hs ++ Some x ∷ []) copy.0)
+          (ap (map site_by) one ∙ map_push site_by hs (Some h) ∙ ap (λ (o : Option ℕ). map site_by hs ++ Some o ∷ []) (current_site spans does old new dispatch before.id line h inv.there (on_id t fits) did t.made fits.made on.live))
           (subst (λ (x : Spans). Handed now t x line None) (sym (held_spans spans recorded attaches kept is_whole old new dispatch line shown)) (handed_more now t fits line on.scope on.live))
 
       pub keeps_current : IsKept kept is_whole new then
@@ -278,6 +295,13 @@ module _ {S : Type 0} (spans : S → Spans) (recorded : S → Recording) (attach
           ap (map held_by) one ∙ map_push held_by (slice_set hs handle None) (Some next) ∙ ap (λ (x : Held). map held_by (slice_set hs handle None) ++ Some x ∷ []) is
           ∙ ap (λ (ys : List (Option Held)). ys ++ Some (held_of dispatch line) ∷ []) (map-set held_by hs handle None)
           ∙ sym (set-append_left xs (Some (held_of dispatch line) ∷ []) handle None (named_within xs handle h.held (held_slot hs handle h found)))
+
+      sites_are : (made : List Made) (line : Scope) → next.site ≡ site_of made line → then.handle_sites ≡ slots_after now.handle_sites (Some (site_of made line)) (Some handle)
+      sites_are made line is =
+          let xs : List (Option (Option ℕ)) = map site_by hs in
+          ap (map site_by) one ∙ map_push site_by (slice_set hs handle None) (Some next) ∙ ap (λ (o : Option ℕ). map site_by (slice_set hs handle None) ++ Some o ∷ []) is
+          ∙ ap (λ (ys : List (Option (Option ℕ))). ys ++ Some (site_of made line) ∷ []) (map-set site_by hs handle None)
+          ∙ sym (set-append_left xs (Some (site_of made line) ∷ []) handle None (named_within xs handle h.site (site_slot hs handle h found)))
 
       not_used : (t : Tables) → Fits now t → is_borrowed t.guards handle ≡ false
       not_used t fits = sym (borrowed_is dispatch t.guards handle) ∙ ap (λ (xs : List (Option Guard)). is_named xs handle) (sym fits.guard_slots) ∙ free
@@ -304,7 +328,7 @@ module _ {S : Type 0} (spans : S → Spans) (recorded : S → Recording) (attach
           let shown = shown_on spans recorded attaches kept is_whole does law recalls old new dispatch line next.held copy.0 (λ id. CloneSpan id) copy.1 in
           record {
             served = serves_handed t stands _ line (Some handle) enabled (its_effect t fits [] there) (shows ∙ enabled_is dispatch line next.held copy.0) (call_sites spans recorded attaches kept is_whole old new dispatch line (λ id. CloneSpan id) shown)
-                (clone_recorded spans recorded attaches kept is_whole old new dispatch line shown) (slots_are line copy.0)
+                (clone_recorded spans recorded attaches kept is_whole old new dispatch line shown) (slots_are line copy.0) (sites_are t.made line (current_site spans does old new dispatch before.id line next inv.there (on_id t fits) (takes is) t.made fits.made on.live))
                 (subst (λ (x : Spans). Handed now t x line (Some handle)) (sym (held_spans spans recorded attaches kept is_whole old new dispatch line shown)) (handed_instead now t fits line on.scope on.live handle there (not_used t fits)));
             count = call_count spans recorded attaches kept is_whole old new dispatch line (λ id. CloneSpan id) shown;
             whole = call_whole spans recorded attaches kept is_whole old new dispatch line (λ id. CloneSpan id) shown;
@@ -316,7 +340,7 @@ module _ {S : Type 0} (spans : S → Spans) (recorded : S → Recording) (attach
           let held_is : next.held ≡ held_of dispatch (s ∷ up) = ap (λ (x : Handle). x.held) mine.0 ∙ is in
           record {
             served = serves_handed t stands _ (s ∷ up) (Some handle) enabled (its_effect t fits (s ∷ up) there) (shows ∙ enabled_is dispatch (s ∷ up) next.held held_is) (ap (λ (w : Worlds S). w.sites) mine.1)
-                (ap (λ (w : Worlds S). seen recorded no_recording w dispatch) mine.1) (slots_are (s ∷ up) held_is)
+                (ap (λ (w : Worlds S). seen recorded no_recording w dispatch) mine.1) (slots_are (s ∷ up) held_is) (sites_are t.made (s ∷ up) (ap (λ (x : Handle). x.site) mine.0 ∙ site_found now t fits hs refl handle h found (s ∷ up) there))
                 (subst (λ (x : Spans). Handed now t x (s ∷ up) (Some handle)) (sym (ap (λ (w : Worlds S). spans_in spans w dispatch) mine.1)) (handed_on now t fits handle s up there (not_used t fits)));
             count = ap (λ (w : Worlds S). length w.subscribers) mine.1;
             whole = λ has. subst (λ (w : Worlds S). Has is_whole w dispatch) (sym mine.1) has;

@@ -20,7 +20,7 @@ use Rattle.otel_layer.specs.Recording.{Recording, no_recording, RecordsChain, wi
 use Rattle.span_pipeline.specs.Tables.{Scope, Effect, Tables, after, recorded_by, slot_at}
 use Rattle.span_pipeline.specs.Effects.{Resolved, named, effect_of_call, is_open, closed_of, drops, drops_unless, is_borrowed}
 use Rattle.span_pipeline.specs.Slots.{is_named}
-use Rattle.span_pipeline.specs.Fits.{State, state_of, laned, Fits, StandsFor, LanesFit, IsKept, Served, held_of, held_by}
+use Rattle.span_pipeline.specs.Fits.{Named, State, state_of, laned, Fits, StandsFor, LanesFit, IsKept, Served, held_of, held_by, site_by}
 use Rattle.span_pipeline.proofs.Naming.{find, held_slot}
 use Rattle.span_pipeline.proofs.Recordings.{recorded_settings, recorded_tokens}
 use Rattle.span_pipeline.proofs.Serving.{serve, known_still, all_same, kept_served}
@@ -91,12 +91,12 @@ module _ {S : Type 0} (spans : S → Spans) (recorded : S → Recording) (attach
   chain_recorded at (s ∷ up) shown hs order = shown.2.is ∙ ap (λ (ss : List ℕ). fold (λ r s. with_close s at r) (rec_in old) ss) (order s up refl shown.2.chain)
 
   module _ (law : ChainLaw) (recalls : ChainRecalls)
-      (level : LevelFilter) (lanes : List Lane) (hs hs' : List (Option Handle)) (gs : List (Option Guard)) (m at lane handle : ℕ) (h : Handle) (found : slot_at hs handle ≡ Some h) (inv : IsKept kept is_whole old (state_of spans recorded old dispatch level lanes hs gs m)) where
+      (level : LevelFilter) (lanes : List Lane) (hs hs' : List (Option Handle)) (gs : List (Option Guard)) (cs : Named) (m at lane handle : ℕ) (h : Handle) (found : slot_at hs handle ≡ Some h) (inv : IsKept kept is_whole old (state_of spans recorded old dispatch level lanes hs gs cs m)) where
     abbrev now : State
-    now = state_of spans recorded old dispatch level lanes hs gs m
+    now = state_of spans recorded old dispatch level lanes hs gs cs m
 
     abbrev then : State
-    then = state_of spans recorded new dispatch level lanes hs' gs at
+    then = state_of spans recorded new dispatch level lanes hs' gs cs at
 
     abbrev place_id : ℕ
     place_id = id_at now.setup.ids lane
@@ -118,10 +118,10 @@ module _ {S : Type 0} (spans : S → Spans) (recorded : S → Recording) (attach
           let chain = chain_on at law recalls line.at h.held line.is did in
           let e : Effect = drops t at place_id handle line.at in
           let sites = (chain_kept at line.at chain).sites in
-          let later_of : (next : State) → next.spans ≡ then.spans → next.setup ≡ now.setup → next.dispatch ≡ dispatch → next.handles ≡ then.handles → next.guards ≡ gs → next.moment ≡ at → Fits next (after t e) = λ next sp setup dis hd gd mo.
-          fits_dropped now next t at place_id handle line.at fits line.there not_used (subst (λ (y : Spans). ReleasedOn now.spans y line.at) (sym sp) (chain_spans at line.at chain)) setup dis (hd ∙ ap (map held_by) one ∙ map-set held_by hs handle None) gd mo in
+          let later_of : (next : State) → next.spans ≡ then.spans → next.setup ≡ now.setup → next.dispatch ≡ dispatch → next.handles ≡ then.handles → next.handle_sites ≡ then.handle_sites → next.guards ≡ gs → next.contexts ≡ cs → next.moment ≡ at → Fits next (after t e) = λ next sp setup dis hd st gd ct mo.
+          fits_dropped now next t at place_id handle line.at fits line.there not_used (subst (λ (y : Spans). ReleasedOn now.spans y line.at) (sym sp) (chain_spans at line.at chain)) setup dis (hd ∙ ap (map held_by) one ∙ map-set held_by hs handle None) (st ∙ ap (map site_by) one ∙ map-set site_by hs handle None) gd ct mo in
           let bare : State = record then { setup = now.setup } in
-          let bare_fits : Fits bare (after t e) = later_of bare refl refl refl refl refl refl in
+          let bare_fits : Fits bare (after t e) = later_of bare refl refl refl refl refl refl refl refl in
           let rec_is : rec_in new ≡ recorded_by (length t.made) e (rec_in old) = chain_recorded at line.at chain (slice_set t.handles handle None) (λ s up is r.
           drop_order now bare t at place_id handle s up fits (line.there ∙ ap Some is) (subst (λ (l : Scope). Fits bare (after t (drops t at place_id handle l))) is bare_fits) r ∙ ap (closed_of (slice_set t.handles handle None)) (sym is)) in
           let settings = ap (λ (r : Recording). r.settings) rec_is ∙ recorded_settings (length t.made) e (rec_in old) in
@@ -129,9 +129,9 @@ module _ {S : Type 0} (spans : S → Spans) (recorded : S → Recording) (attach
           let setup : then.setup ≡ now.setup = ap (λ x. record now.setup { sites = x; layer = (rec_in new).settings }) sites ∙ ap (λ x. record now.setup { layer = x }) settings in
           serve now then t e _ reply.Done stands
           (ap (λ o. named what.Handle o (λ line. drops_unless (is_borrowed t.guards handle) (drops t at place_id handle line))) line.there ∙ cond-false {A = Resolved} (is_borrowed t.guards handle) _ _ not_used)
-          refl setup (recorded_by (length t.made) e (rec_in old)).tokens rec_is (later_of then refl setup refl refl refl refl)
+          refl setup (recorded_by (length t.made) e (rec_in old)).tokens rec_is (later_of then refl setup refl refl refl refl refl refl)
           (λ s some. let left = drop_known now bare t at place_id handle line.at fits line.there bare_fits s some in known_still now then t e (recorded_by (length t.made) e (rec_in old)).tokens rec_is stands.recording s left.0 left.1)
-          (all_same now then t.contexts setup refl tokens stands.recording.attached)
+          (all_same now then t.contexts setup refl refl tokens stands.recording.attached)
 
       pub keeps_dropped : IsKept kept is_whole new then
       keeps_dropped =

@@ -15,7 +15,7 @@ use Rattle.span_pipeline.specs.Balance.{Balanced, Opened, names, named_by, opene
 use Rattle.span_pipeline.specs.Tables.{Scope, Made, Guarded, Tables, after, slot_at, own}
 use Rattle.span_pipeline.specs.Effects.{drops, borrows, is_borrowed}
 use Rattle.span_pipeline.specs.Slots.{is_named}
-use Rattle.span_pipeline.specs.Fits.{State, Fits, MadeFit, guard_of}
+use Rattle.span_pipeline.specs.Fits.{Named, State, Fits, MadeFit, guard_of, lane_of}
 use Rattle.span_pipeline.proofs.Naming.{named_within}
 use Rattle.span_pipeline.proofs.Standing.{fits_step}
 use Rattle.span_pipeline.proofs.Balancing.{named_slot, released_less, set_none}
@@ -144,8 +144,8 @@ pub still_spent : (gs : List (Option Guarded)) (hs : List (Option Scope)) (handl
 still_spent gs hs handle free still n x there = get_or-set_other hs handle x.handle None None (not_borrowed gs handle n x free there) ∙ still n x there
 
 pub fits_dropped : (k next : State) (t : Tables) (at lane handle : ℕ) (line : Scope) → Fits k t → slot_at t.handles handle ≡ Some line → is_borrowed t.guards handle ≡ false → ReleasedOn k.spans next.spans line → next.setup ≡ k.setup
-    → next.dispatch ≡ k.dispatch → next.handles ≡ slice_set k.handles handle None → next.guards ≡ k.guards → next.moment ≡ at → Fits next (after t (drops t at lane handle line))
-fits_dropped k next t at lane handle line fits there free chain setup dispatch handles guards moment =
+    → next.dispatch ≡ k.dispatch → next.handles ≡ slice_set k.handles handle None → next.handle_sites ≡ slice_set k.handle_sites handle None → next.guards ≡ k.guards → next.contexts ≡ k.contexts → next.moment ≡ at → Fits next (after t (drops t at lane handle line))
+fits_dropped k next t at lane handle line fits there free chain setup dispatch handles sites guards contexts moment =
     let ids = k.setup.ids in
     let hs = map named_by t.handles in
     let ends = drop_ends k.spans next.spans hs (map (opened_by ids) t.guards) t.entries fits.balanced handle line (named_slot t.handles handle line there) chain in
@@ -154,7 +154,10 @@ fits_dropped k next t at lane handle line fits there free chain setup dispatch h
       setup_is = setup;
       dispatch_is = dispatch;
       handles_are = handles;
+      sites_are = sites;
       guards_are = guards;
+      attaches_are = ap (λ (c : Named). map (option_map lane_of) c.attaches) contexts;
+      named_are = ap (λ (c : Named). c.made) contexts;
       moment_is = moment;
       balanced = subst (λ (xs : List (Option ℕ)). Balanced next.spans xs (map (opened_by ids) t.guards) t.entries) spent (record {
         holds = ends.holds;
@@ -166,6 +169,7 @@ fits_dropped k next t at lane handle line fits there free chain setup dispatch h
       });
       made_fit = ends.made t.made fits.made;
       new_made = tt;
+      new_site = tt;
       new_scope = λ l e. absurd (cc e);
       still = still_spent t.guards t.handles handle free fits.still;
       few = (let l = length-set t.handles handle None in let f = fits.few in omega (arith, l, f));

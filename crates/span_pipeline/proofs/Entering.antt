@@ -1,8 +1,8 @@
 -- Entries and exits, served.
 use Rattle.std.specs.Prelude.{Result, IfOk, IfErr, ◌==◌, ◌≢◌, ◌&&◌, nat_lt, count_by, if◌then◌else◌}
-use Rattle.std.proofs.Common.{◌≡◌, ℕ, ◌+◌, ◌<◌, List, [], ◌∷◌, ◌++◌, length, Bool, true, false, fold, get_or, set, slice_set, Option, Some, None, Ok, option_map, map, refl, sym, ap, subst, ◌∙◌, arith, inl, inr, cond, Err}
+use Rattle.std.proofs.Common.{◌≡◌, ℕ, ◌+◌, ◌<◌, List, [], ◌∷◌, ◌++◌, length, Bool, true, false, fold, get_or, set, slice_set, Option, Some, None, option_map, map, refl, sym, ap, subst, ◌∙◌, arith, inl, inr, cond, Err}
 use Rattle.std.proofs.lemmas.Bool.{cases_eq, cases_Bool, eq-eqb, ne_eqb, cond-true, cond-false}
-use Rattle.std.proofs.lemmas.List.{length-set, length-map, length_push}
+use Rattle.std.proofs.lemmas.List.{length-set, length-map, length_push, map_push}
 use Rattle.trace_base.specs.declared.lane.Lane.{Lane}
 use Rattle.trace_base.specs.declared.level.LevelFilter.{LevelFilter}
 use Rattle.trace_base.specs.Gate.{Worlds}
@@ -14,6 +14,7 @@ use Rattle.trace_base.proofs.Entering.{count_cons}
 use Rattle.span_handles.specs.Worlds.{seen, spans_in}
 use Rattle.span_handles.specs.Handles.{Handle, Held, ReplacedOn}
 use Rattle.span_pipeline.specs.declared.slots.Guard.{Guard}
+use Rattle.span_pipeline.specs.declared.contexts.Attach.{Attach}
 use Rattle.span_pipeline.specs.declared.reply.Reply.TheVariants as reply
 use Rattle.span_pipeline.specs.declared.request.Call.TheVariants as call
 use Rattle.span_pipeline.specs.declared.reply.Refusal.TheVariants as refusal
@@ -28,14 +29,14 @@ use Rattle.otel_state.specs.States.{Told}
 use Rattle.otel_layer.specs.Core.{is_token}
 use Rattle.otel_layer.specs.Table.{told_at, own_or}
 use Rattle.otel_layer.specs.Recording.{Recording, no_recording, with_start, with_starts, with_applied, source_of, RecordsCall, Enters, Exits}
-use Rattle.span_pipeline.specs.Tables.{Scope, Made, Guarded, Effect, Tables, after, recorded_by, slot_at, own, with_entry, with_exit, with_attached, with_detached, open_part, quiet, Attached}
+use Rattle.span_pipeline.specs.Tables.{Scope, Made, Guarded, Effect, Tables, after, recorded_by, slot_at, own, with_entry, with_exit, with_attached, with_detached, open_part, quiet, EntryOf, Attached}
 use Rattle.span_pipeline.specs.Effects.{Resolved, named, effect_of_call, borrows, is_borrowed, active, attached_by, meets_full, opens, enters, enters_unless, is_shared, unless_shared, exits, exits_on}
 use Rattle.span_pipeline.specs.Slots.{names_handle, is_named, is_shared_by}
 use Rattle.span_pipeline.proofs.Dropping.{borrowed_is}
 use Rattle.span_pipeline.specs.declared.reply.Reply.{Reply}
 use Rattle.span_pipeline.specs.declared.reply.Refusal.{Refusal}
 use Rattle.span_pipeline.specs.Balance.{Balanced, named_by, opened_by}
-use Rattle.span_pipeline.specs.Fits.{State, state_of, Laned, laned, lane_at, Fits, StandsFor, RecordingFits, ContextsFit, MadeFit, IsKept, Served, IsRefusal, held_of, guard_of, held_by}
+use Rattle.span_pipeline.specs.Fits.{Named, State, state_of, Laned, laned, lane_at, Fits, StandsFor, RecordingFits, AllContextsFit, MadeFit, IsKept, Served, IsRefusal, held_of, guard_of, lane_of, held_by}
 use Rattle.span_pipeline.proofs.Balancing.{spans_entered, spans_exited, balanced_enter, balanced_exit, entered_most, exited_less, named_slot}
 use Rattle.span_pipeline.proofs.Fitting.{fits_live}
 use Rattle.span_pipeline.proofs.Makings.{made_if, made_held, made_released}
@@ -46,7 +47,7 @@ use Rattle.span_pipeline.proofs.Keeping.{lanes_step, lanes_same, id_seen, ids_sa
 use Rattle.span_pipeline.proofs.Known.{knows_it}
 use Rattle.trace_base.proofs.Holding.{holds_other}
 use Rattle.span_pipeline.proofs.Recordings.{recorded_settings, start_open, starts_fold, entry_tokens}
-use Rattle.span_pipeline.proofs.Laned.{all_entered, all_exited}
+use Rattle.span_pipeline.proofs.Laned.{all_skipped, all_entered, all_exited}
 use Rattle.span_pipeline.proofs.Serving.{AllFit, serve, known_still, kept_served, call_count, call_sites, call_whole, call_lanes}
 
 the_guard : (a b : Guarded) → ◌≡◌ {A = Option Guarded} (Some a) (Some b) → a ≡ b
@@ -94,9 +95,9 @@ the_open a b e = cc e
 
 -- an entry
 pub fits_entered : (k next : State) (t : Tables) (at lane handle : ℕ) (owns : Bool) (line : Scope) → Fits k t → slot_at t.handles handle ≡ Some line → next.spans ≡ spans_entered k.spans line (id_at k.setup.ids lane) → next.setup ≡ k.setup
-    → next.dispatch ≡ k.dispatch → next.handles ≡ k.handles → next.guards ≡ k.guards ++ Some (guard_of k.dispatch (record { handle = handle; lane = lane; owns = owns; scope = line })) ∷ [] → next.moment ≡ at
+    → next.dispatch ≡ k.dispatch → next.handles ≡ k.handles → next.handle_sites ≡ k.handle_sites → next.guards ≡ k.guards ++ Some (guard_of k.dispatch (record { handle = handle; lane = lane; owns = owns; scope = line })) ∷ [] → next.contexts.made ≡ k.contexts.made → next.contexts.attaches ≡ k.contexts.attaches ++ None ∷ [] → next.moment ≡ at
     → Fits next (after t (enters k.setup t at lane handle owns line))
-fits_entered k next t at lane handle owns line fits there step setup dispatch handles guards moment =
+fits_entered k next t at lane handle owns line fits there step setup dispatch handles sites guards named attaches moment =
     let g : Guarded = record { handle = handle; lane = lane; owns = owns; scope = line } in
     let id = id_at k.setup.ids lane in
     let live : (s : ℕ) (up : Scope) → line ≡ s ∷ up → 0 < (span_at k.spans.made s).holds = λ s up e. fits_live k.spans (map named_by t.handles) (map (opened_by k.setup.ids) t.guards) t.entries fits.balanced handle s (named_slot t.handles handle line there ∙ ap own e) in
@@ -104,11 +105,15 @@ fits_entered k next t at lane handle owns line fits there step setup dispatch ha
       setup_is = setup;
       dispatch_is = dispatch;
       handles_are = handles;
+      sites_are = sites;
       guards_are = guards;
+      attaches_are = ap (map (option_map lane_of)) attaches ∙ map_push (option_map lane_of) k.contexts.attaches None;
+      named_are = named;
       moment_is = moment;
       balanced = subst (λ (x : Spans). Balanced x (map named_by t.handles) (map (opened_by k.setup.ids) (t.guards ++ Some g ∷ [])) (with_entry t.entries id (own line))) (sym step) (balanced_enter k.setup.ids k.spans t.handles t.guards t.entries fits.balanced handle lane owns line there);
       made_fit = subst (λ (x : Spans). MadeFit x.made t.made) (sym step) (made_entered k.spans t.made line id fits.made live);
       new_made = tt;
+      new_site = tt;
       new_scope = λ l e. absurd (cc e);
       still = still_more t.guards t.handles g fits.still there;
       few = fits.few;
@@ -118,20 +123,24 @@ fits_entered k next t at lane handle owns line fits there step setup dispatch ha
 
 -- an exit
 pub fits_exited : (k next : State) (t : Tables) (at guard : ℕ) (g : Guarded) → Fits k t → slot_at t.guards guard ≡ Some g → next.spans ≡ spans_exited k.spans g.scope (id_at k.setup.ids g.lane) → next.setup ≡ k.setup
-    → next.dispatch ≡ k.dispatch → next.handles ≡ k.handles → next.guards ≡ slice_set k.guards guard None → next.moment ≡ at
+    → next.dispatch ≡ k.dispatch → next.handles ≡ k.handles → next.handle_sites ≡ k.handle_sites → next.guards ≡ slice_set k.guards guard None → next.contexts ≡ k.contexts → next.moment ≡ at
     → (lane : ℕ) → lane ≡ id_at k.setup.ids g.lane → Fits next (after t (exits k.setup at lane guard g.scope))
-fits_exited k next t at guard g fits there step setup dispatch handles guards moment lane on =
+fits_exited k next t at guard g fits there step setup dispatch handles sites guards contexts moment lane on =
     let id = id_at k.setup.ids g.lane in
     fits_step k t fits next (exits k.setup at lane guard g.scope) (record {
       setup_is = setup;
       dispatch_is = dispatch;
       handles_are = handles;
+      sites_are = sites;
       guards_are = guards;
+      attaches_are = ap (λ (c : Named). map (option_map lane_of) c.attaches) contexts;
+      named_are = ap (λ (c : Named). c.made) contexts;
       moment_is = moment;
       balanced = subst (λ (l : ℕ). Balanced next.spans (map named_by t.handles) (map (opened_by k.setup.ids) (slice_set t.guards guard None)) (with_exit t.entries l (own g.scope))) (sym on)
           (subst (λ (x : Spans). Balanced x (map named_by t.handles) (map (opened_by k.setup.ids) (slice_set t.guards guard None)) (with_exit t.entries id (own g.scope))) (sym step) (balanced_exit k.setup.ids k.spans t.handles t.guards t.entries fits.balanced guard g there g.scope refl));
       made_fit = subst (λ (x : Spans). MadeFit x.made t.made) (sym step) (made_exited k.spans t.made g.scope id fits.made);
       new_made = tt;
+      new_site = tt;
       new_scope = λ l e. absurd (cc e);
       still = λ n x is. fits.still n x (named_set t.guards guard n x is);
       few = fits.few;
@@ -157,8 +166,8 @@ entered_live spans (s ∷ up) lane q live some = elim (cases_Bool (is_in s (entr
 
 -- what the effect attaches is what the layer attached
 attach_is : (b : Bool) (s at : ℕ) (up : Scope) (r x : Recording) → open_part r ≡ x
-    → (if b then Some (record { span = s; context = own_or empty_context (told_at s (with_starts (source_of b s) at r).spans) }) else None) ≡ attached_by x at (active b (s ∷ up))
-attach_is true s at up r x is = ap (λ (xs : List (ℕ × Told)). Some (record { span = s; context = own_or empty_context (told_at s xs) })) (start_open s at r x is)
+    → (if b then Some (record { owner = EntryOf s; context = own_or empty_context (told_at s (with_starts (source_of b s) at r).spans) }) else None) ≡ attached_by x at (active b (s ∷ up))
+attach_is true s at up r x is = ap (λ (xs : List (ℕ × Told)). Some (record { owner = EntryOf s; context = own_or empty_context (told_at s xs) })) (start_open s at r x is)
 attach_is false s at up r x is = refl
 
 module _ {S : Type 0} (spans : S → Spans) (recorded : S → Recording) (attaches : S → Bool) (kept : S → ℕ → ℕ → ℕ) (is_whole : S → Type 0) (old new : Worlds S) where
@@ -181,9 +190,9 @@ module _ {S : Type 0} (spans : S → Spans) (recorded : S → Recording) (attach
 
   -- over what the code has
   module _ (does : S → SubscriberCall → S → Type 0) (law : Law spans recorded attaches kept is_whole does) (recalls : Recalls spans recorded attaches kept is_whole does)
-      (dispatch : ℕ) (level : LevelFilter) (lanes : List Lane) (hs : List (Option Handle)) (gs : List (Option Guard)) (m at lane : ℕ) (before later : Lane) (within : lane < length lanes) (here : before ≡ get_or lanes lane before) where
+      (dispatch : ℕ) (level : LevelFilter) (lanes : List Lane) (hs : List (Option Handle)) (gs : List (Option Guard)) (cs : Named) (m at lane : ℕ) (before later : Lane) (within : lane < length lanes) (here : before ≡ get_or lanes lane before) where
     abbrev now : State
-    now = state_of spans recorded old dispatch level lanes hs gs m
+    now = state_of spans recorded old dispatch level lanes hs gs cs m
 
     abbrev place_id : ℕ
     place_id = id_at now.setup.ids lane
@@ -197,11 +206,14 @@ module _ {S : Type 0} (spans : S → Spans) (recorded : S → Recording) (attach
     abbrev r' : Recording
     r' = seen recorded no_recording new dispatch
 
-    setup_after : new.sites ≡ old.sites → later.id ≡ before.id → later.name ≡ before.name → r'.settings ≡ r.settings → (state_of spans recorded new dispatch level (set lanes lane later) hs gs at).setup ≡ now.setup
+    setup_after : new.sites ≡ old.sites → later.id ≡ before.id → later.name ≡ before.name → r'.settings ≡ r.settings → (state_of spans recorded new dispatch level (set lanes lane later) hs gs cs at).setup ≡ now.setup
     setup_after sites id name settings = rw (sites, ids_same lanes lane before later within here id, names_same lanes lane before later within here name, settings) refl
 
-    abbrev then_with : List (Option Guard) → State
-    then_with gs' = state_of spans recorded new dispatch level (set lanes lane later) hs gs' at
+    abbrev then_with : List (Option Guard) → Named → State
+    then_with gs' cs' = state_of spans recorded new dispatch level (set lanes lane later) hs gs' cs' at
+
+    abbrev ls' : List Laned
+    ls' = map laned (set lanes lane later)
 
     abbrev lanes_of : Type 0
     lanes_of = (n m : ℕ) → n < length (map laned lanes) → m < length (map laned lanes) → (lane_at (map laned lanes) n).id ≡ (lane_at (map laned lanes) m).id → n ≡ m
@@ -209,39 +221,41 @@ module _ {S : Type 0} (spans : S → Spans) (recorded : S → Recording) (attach
     -- an exit, by the scope of its guard
     exited_record : (gs' : List (Option Guard)) (t : Tables) (guard : ℕ) (line : Scope) → RecordingFits now t → ((s : ℕ) (up : Scope) → line ≡ s ∷ up → 0 < (span_at now.spans.made s).holds) → lanes_of → later.id ≡ before.id → (line ≡ [] → later ≡ before)
         → ShownOn spans recorded attaches kept is_whole old new dispatch line (λ id. Exit id at before later)
-        → (toks : List Token) × (r' ≡ record (recorded_by (length t.made) (exits now.setup at place_id guard line) r) { tokens = toks }) × AllFit (then_with gs') (after t (exits now.setup at place_id guard line)).contexts
+        → (toks : List Token) × (r' ≡ record (recorded_by (length t.made) (exits now.setup at place_id guard line) r) { tokens = toks }) × AllFit (then_with gs' cs) (after t (exits now.setup at place_id guard line)).contexts
     exited_record gs' t guard [] fit live differ same none shown =
         let is = ap (λ (w : Worlds S). seen recorded no_recording w dispatch) shown in (
           r.tokens,
           is,
-          subst (λ (c : Recording). (n : ℕ) → n < length (map laned (set lanes lane later)) → ContextsFit c.settings.activation (lane_at (map laned (set lanes lane later)) n).id (lane_at (map laned (set lanes lane later)) n).live c.tokens ((after t (exits now.setup at place_id guard [])).contexts (lane_at (map laned (set lanes lane later)) n).id)) (sym is)
-              (subst (λ (ls : List Laned). (n : ℕ) → n < length ls → ContextsFit r.settings.activation (lane_at ls n).id (lane_at ls n).live r.tokens ((after t (exits now.setup at place_id guard [])).contexts (lane_at ls n).id)) (sym (lanes_same lanes lane before later within here (ap laned (none refl))))
-              (subst (λ (o : Option ℕ). (n : ℕ) → n < length (map laned lanes) → ContextsFit r.settings.activation (lane_at (map laned lanes) n).id (lane_at (map laned lanes) n).live r.tokens (with_detached t.contexts place_id o (lane_at (map laned lanes) n).id)) (sym (no_active r.settings.activation)) fit.attached)),
+          subst (λ (c : Recording). AllContextsFit c.settings.activation ls' c.tokens cs.attaches (after t (exits now.setup at place_id guard [])).contexts) (sym is)
+              (subst (λ (ls : List Laned). AllContextsFit r.settings.activation ls r.tokens cs.attaches (after t (exits now.setup at place_id guard [])).contexts) (sym (lanes_same lanes lane before later within here (ap laned (none refl))))
+              (subst (λ (o : Option ℕ). AllContextsFit r.settings.activation (map laned lanes) r.tokens cs.attaches (with_detached t.contexts place_id (option_map EntryOf o))) (sym (no_active r.settings.activation)) fit.attached)),
         )
     exited_record gs' t guard (s ∷ up) fit live differ same none shown =
         let x = exit_told dispatch at before later s (fit.known s (live s up refl)) shown.2 in
         let toks = without_last (is_token before.id s) r.tokens in (
           toks,
           x.is,
-          subst (λ (c : Recording). (n : ℕ) → n < length (map laned (set lanes lane later)) → ContextsFit c.settings.activation (lane_at (map laned (set lanes lane later)) n).id (lane_at (map laned (set lanes lane later)) n).live c.tokens ((after t (exits now.setup at place_id guard (s ∷ up))).contexts (lane_at (map laned (set lanes lane later)) n).id)) (sym x.is)
-              (subst (λ (l : ℕ). (n : ℕ) → n < length (map laned (set lanes lane later)) → ContextsFit r.settings.activation (lane_at (map laned (set lanes lane later)) n).id (lane_at (map laned (set lanes lane later)) n).live toks (with_detached t.contexts l (if r.settings.activation then Some s else None) (lane_at (map laned (set lanes lane later)) n).id)) id_is
-              (all_exited r.settings.activation lanes lane before later within here same differ r.tokens t.contexts fit.attached s x.token x.last x.lane)),
+          subst (λ (c : Recording). AllContextsFit c.settings.activation ls' c.tokens cs.attaches (after t (exits now.setup at place_id guard (s ∷ up))).contexts) (sym x.is)
+              (subst (λ (l : ℕ). AllContextsFit r.settings.activation ls' toks cs.attaches (with_detached t.contexts l (option_map EntryOf (if r.settings.activation then Some s else None)))) id_is
+              (all_exited r.settings.activation lanes lane before later within here same differ r.tokens cs.attaches t.contexts fit.attached s x.token x.last x.lane)),
         )
 
     -- an entry, by the scope of its handle
-    entered_record : (gs' : List (Option Guard)) (t : Tables) (handle : ℕ) (owns : Bool) (line : Scope) → RecordingFits now t → ((s : ℕ) (up : Scope) → line ≡ s ∷ up → 0 < (span_at now.spans.made s).holds) → lanes_of → later.id ≡ before.id → (line ≡ [] → later ≡ before)
-        → ShownOn spans recorded attaches kept is_whole old new dispatch line (λ id. Enter id at before later)
-        → (toks : List Token) × (r' ≡ record (recorded_by (length t.made) (enters now.setup t at lane handle owns line) r) { tokens = toks }) × AllFit (then_with gs') (after t (enters now.setup t at lane handle owns line)).contexts
-    entered_record gs' t handle owns [] fit live differ same none shown =
+    entered_record : (gs' : List (Option Guard)) (cs' : Named) (t : Tables) (handle : ℕ) (owns : Bool) (line : Scope) → RecordingFits now t → ((s : ℕ) (up : Scope) → line ≡ s ∷ up → 0 < (span_at now.spans.made s).holds) → lanes_of → later.id ≡ before.id → (line ≡ [] → later ≡ before)
+        → cs'.attaches ≡ cs.attaches ++ None ∷ [] → ShownOn spans recorded attaches kept is_whole old new dispatch line (λ id. Enter id at before later)
+        → (toks : List Token) × (r' ≡ record (recorded_by (length t.made) (enters now.setup t at lane handle owns line) r) { tokens = toks }) × AllFit (then_with gs' cs') (after t (enters now.setup t at lane handle owns line)).contexts
+    entered_record gs' cs' t handle owns [] fit live differ same none skip shown =
         let is = ap (λ (w : Worlds S). seen recorded no_recording w dispatch) shown in
         let nothing : (b : Bool) → recorded_by (length t.made) (record (quiet at place_id (reply.Guard 0)) { starts = option_to_list (active b []) }) r ≡ r = λ b. ap (λ (o : Option ℕ). recorded_by (length t.made) (record (quiet at place_id (reply.Guard 0)) { starts = option_to_list o }) r) (no_active b) in (
           r.tokens,
           is ∙ ap (λ (x : Recording). record x { tokens = r.tokens }) (sym (nothing r.settings.activation)),
-          subst (λ (c : Recording). (n : ℕ) → n < length (map laned (set lanes lane later)) → ContextsFit c.settings.activation (lane_at (map laned (set lanes lane later)) n).id (lane_at (map laned (set lanes lane later)) n).live c.tokens ((after t (enters now.setup t at lane handle owns [])).contexts (lane_at (map laned (set lanes lane later)) n).id)) (sym is)
-              (subst (λ (ls : List Laned). (n : ℕ) → n < length ls → ContextsFit r.settings.activation (lane_at ls n).id (lane_at ls n).live r.tokens ((after t (enters now.setup t at lane handle owns [])).contexts (lane_at ls n).id)) (sym (lanes_same lanes lane before later within here (ap laned (none refl))))
-              (subst (λ (o : Option ℕ). (n : ℕ) → n < length (map laned lanes) → ContextsFit r.settings.activation (lane_at (map laned lanes) n).id (lane_at (map laned lanes) n).live r.tokens (with_attached t.contexts place_id (attached_by t.recording at o) (lane_at (map laned lanes) n).id)) (sym (no_active r.settings.activation)) fit.attached)),
+          subst (λ (ks : List (Option Attach)). AllContextsFit r'.settings.activation ls' r'.tokens ks (after t (enters now.setup t at lane handle owns [])).contexts) (sym skip)
+              (all_skipped r'.settings.activation ls' r'.tokens cs.attaches (after t (enters now.setup t at lane handle owns [])).contexts
+              (subst (λ (c : Recording). AllContextsFit c.settings.activation ls' c.tokens cs.attaches (after t (enters now.setup t at lane handle owns [])).contexts) (sym is)
+              (subst (λ (ls : List Laned). AllContextsFit r.settings.activation ls r.tokens cs.attaches (after t (enters now.setup t at lane handle owns [])).contexts) (sym (lanes_same lanes lane before later within here (ap laned (none refl))))
+              (subst (λ (o : Option ℕ). AllContextsFit r.settings.activation (map laned lanes) r.tokens cs.attaches (with_attached t.contexts place_id (attached_by t.recording at o))) (sym (no_active r.settings.activation)) fit.attached)))),
         )
-    entered_record gs' t handle owns (s ∷ up) fit live differ same none shown =
+    entered_record gs' cs' t handle owns (s ∷ up) fit live differ same none skip shown =
         let x = entry_told dispatch at before later s (fit.known s (live s up refl)) shown.2 in
         let b = r.settings.activation in
         let token : Token = record { lane = before.id; id = s; attached = x.attached } in
@@ -254,17 +268,18 @@ module _ {S : Type 0} (spans : S → Spans) (recorded : S → Recording) (attach
         let tokens : r'.tokens ≡ toks = ap (λ (c : Recording). c.tokens) rec_is in (
           toks,
           rec_is,
-          subst (λ (ts : List Token). (n : ℕ) → n < length (map laned (set lanes lane later)) → ContextsFit r'.settings.activation (lane_at (map laned (set lanes lane later)) n).id (lane_at (map laned (set lanes lane later)) n).live ts ((after t (enters now.setup t at lane handle owns (s ∷ up))).contexts (lane_at (map laned (set lanes lane later)) n).id)) (sym tokens)
-              (subst (λ (c : LayerSettings). (n : ℕ) → n < length (map laned (set lanes lane later)) → ContextsFit c.activation (lane_at (map laned (set lanes lane later)) n).id (lane_at (map laned (set lanes lane later)) n).live toks ((after t (enters now.setup t at lane handle owns (s ∷ up))).contexts (lane_at (map laned (set lanes lane later)) n).id)) (sym settings)
-              (subst (λ (o : Option Attached). (n : ℕ) → n < length (map laned (set lanes lane later)) → ContextsFit b (lane_at (map laned (set lanes lane later)) n).id (lane_at (map laned (set lanes lane later)) n).live toks (with_attached t.contexts place_id o (lane_at (map laned (set lanes lane later)) n).id)) (attach_is b s at up r t.recording fit.recorded)
-              (subst (λ (l : ℕ). (n : ℕ) → n < length (map laned (set lanes lane later)) → ContextsFit b (lane_at (map laned (set lanes lane later)) n).id (lane_at (map laned (set lanes lane later)) n).live toks (with_attached t.contexts l (if b then Some (record { span = s; context = own }) else None) (lane_at (map laned (set lanes lane later)) n).id)) id_is
-              (all_entered b lanes lane before later within here same differ r.tokens t.contexts fit.attached s own x.attached x.lane)))),
+          subst (λ (ks : List (Option Attach)). AllContextsFit r'.settings.activation ls' r'.tokens ks (after t (enters now.setup t at lane handle owns (s ∷ up))).contexts) (sym skip)
+              (subst (λ (ts : List Token). AllContextsFit r'.settings.activation ls' ts (cs.attaches ++ None ∷ []) (after t (enters now.setup t at lane handle owns (s ∷ up))).contexts) (sym tokens)
+              (subst (λ (c : LayerSettings). AllContextsFit c.activation ls' toks (cs.attaches ++ None ∷ []) (after t (enters now.setup t at lane handle owns (s ∷ up))).contexts) (sym settings)
+              (subst (λ (o : Option Attached). AllContextsFit b ls' toks (cs.attaches ++ None ∷ []) (with_attached t.contexts place_id o)) (attach_is b s at up r t.recording fit.recorded)
+              (subst (λ (l : ℕ). AllContextsFit b ls' toks (cs.attaches ++ None ∷ []) (with_attached t.contexts l (if b then Some (record { owner = EntryOf s; context = own }) else None))) id_is
+              (all_entered b lanes lane before later within here same differ r.tokens cs.attaches t.contexts fit.attached s own x.attached x.lane))))),
         )
 
     module _ (guard : ℕ) (g : Guard) (found : slot_at gs guard ≡ Some g) (on : g.lane ≡ lane) (gs' : List (Option Guard)) (one : gs' ≡ slice_set gs guard None) (h : Handle) (entry_is : g.entry ≡ h.held)
         (did : ReplacedOn (λ id s t. does s (Exit id at before later) t) old new h.held) (none : h.held ≡ None → later ≡ before) (alone : is_shared_by gs g ≡ false) (inv : IsKept kept is_whole old now) where
       abbrev exited_then : State
-      exited_then = then_with gs'
+      exited_then = then_with gs' cs
 
       pub serves_exited : (t : Tables) → StandsFor now t → Served (effect_of_call now.setup t at lane (call.Exit guard)) t now exited_then reply.Done
       serves_exited t stands =
@@ -288,7 +303,7 @@ module _ {S : Type 0} (spans : S → Spans) (recorded : S → Recording) (attach
           (ap (λ o. named what.Guard o (λ (y : Guarded). unless_shared (is_shared t.guards y) (exits_on y.lane lane (exits now.setup at place_id guard y.scope)))) open_one.there
           ∙ cond-false {A = Resolved} (is_shared t.guards x) _ _ (sym (ap (λ (xs : List (Option Guard)). is_shared_by xs g) fits.guard_slots ∙ shared_is dispatch t.guards g x open_one.is) ∙ alone)
           ∙ cond-true {A = Resolved} (x.lane == lane) _ _ (eq-eqb x.lane lane mine))
-          refl setup rec_is.0 rec_is.1 (fits_exited now exited_then t at guard x fits open_one.there step setup refl refl one refl place_id lane_is)
+          refl setup rec_is.0 rec_is.1 (fits_exited now exited_then t at guard x fits open_one.there step setup refl refl refl one refl refl place_id lane_is)
           (λ s some. known_still now exited_then t e rec_is.0 rec_is.1 stands.recording s refl (let a = exited_less now.spans x.scope (id_at now.setup.ids x.lane) s in let b = ap (λ (y : Spans). (span_at y.made s).holds) step in omega (arith, a, b, some)))
           rec_is.2
 
@@ -303,10 +318,11 @@ module _ {S : Type 0} (spans : S → Spans) (recorded : S → Recording) (attach
           (lanes_step _ _ lanes lane before later within here inv.lanes moved.0 moved.2)
 
     module _ (handle number : ℕ) (owns : Bool) (h : Handle) (entry : Held) (gs' : List (Option Guard)) (found : slot_at hs handle ≡ Some h) (is : entry ≡ h.held) (many : number ≡ length gs) (one : gs' ≡ gs ++ Some (record { handle = handle; lane = lane; owns = owns; entry = entry }) ∷ [])
+        (cs' : Named) (named_same : cs'.made ≡ cs.made) (skip : cs'.attaches ≡ cs.attaches ++ None ∷ [])
         (did : ReplacedOn (λ id s t. does s (Enter id at before later) t) old new h.held) (none : h.held ≡ None → later ≡ before) (inv : IsKept kept is_whole old now)
         (free : (t : Tables) → StandsFor now t → (line : Scope) → slot_at t.handles handle ≡ Some line → h.held ≡ held_of dispatch line → meets_full now.setup.layer.activation line (t.contexts place_id) ≡ false) where
       abbrev entered_then : State
-      entered_then = then_with gs'
+      entered_then = then_with gs' cs'
 
       pub serves_entered : (t : Tables) → StandsFor now t → Served (opens now.setup t at lane handle owns) t now entered_then (reply.Guard number)
       serves_entered t stands =
@@ -319,7 +335,7 @@ module _ {S : Type 0} (spans : S → Spans) (recorded : S → Recording) (attach
           let guards_are : gs' ≡ gs ++ Some (guard_of dispatch (record { handle = handle; lane = lane; owns = owns; scope = line.at })) ∷ [] = one ∙ ap (λ (h : Held). gs ++ Some (record { handle = handle; lane = lane; owns = owns; entry = h }) ∷ []) (is ∙ line.is) in
           let e : Effect = enters now.setup t at lane handle owns line.at in
           let live : (s : ℕ) (up : Scope) → line.at ≡ s ∷ up → 0 < (span_at now.spans.made s).holds = λ s up e. fits_live now.spans (map named_by t.handles) (map (opened_by now.setup.ids) t.guards) t.entries fits.balanced handle s (named_slot t.handles handle line.at line.there ∙ ap own e) in
-          let rec_is = entered_record gs' t handle owns line.at stands.recording live inv.lanes.differ moved.0 none_at shown in
+          let rec_is = entered_record gs' cs' t handle owns line.at stands.recording live inv.lanes.differ moved.0 none_at skip shown in
           let settings = ap (λ (c : Recording). c.settings) rec_is.1 ∙ recorded_settings (length t.made) e r in
           let setup = setup_after sites moved.0 moved.1 settings in
           let step = entered_spans dispatch at place_id before later line.at id_is shown in
@@ -327,7 +343,7 @@ module _ {S : Type 0} (spans : S → Spans) (recorded : S → Recording) (attach
           (ap (λ o. named what.Handle o (λ line. enters_unless (meets_full now.setup.layer.activation line (t.contexts place_id)) lane (enters now.setup t at lane handle owns line))) line.there
           ∙ cond-false {A = Resolved} (meets_full now.setup.layer.activation line.at (t.contexts place_id)) _ _ (free t stands line.at line.there line.is))
           (ap reply.Guard (many ∙ ap length fits.guard_slots ∙ length-map t.guards (option_map (guard_of dispatch))))
-          setup rec_is.0 rec_is.1 (fits_entered now entered_then t at lane handle owns line.at fits line.there step setup refl refl guards_are refl)
+          setup rec_is.0 rec_is.1 (fits_entered now entered_then t at lane handle owns line.at fits line.there step setup refl refl refl guards_are named_same skip refl)
           (λ s some. known_still now entered_then t e rec_is.0 rec_is.1 stands.recording s refl (entered_live now.spans line.at place_id s live (subst (λ (y : Spans). 0 < (span_at y.made s).holds) step some)))
           rec_is.2
 

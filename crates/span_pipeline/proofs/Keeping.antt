@@ -1,5 +1,5 @@
 -- Lanes, and what every pipeline keeps.
-use Rattle.std.proofs.Common.{◌≡◌, ℕ, Bool, false, zero, suc, ◌<◌, List, [], ◌∷◌, length, count_by, get_or, set, Option, Some, map, refl, sym, ap, subst, ◌∙◌, arith, inl, inr}
+use Rattle.std.proofs.Common.{◌≡◌, ℕ, Bool, false, zero, suc, ◌<◌, ◌≤◌, List, [], ◌∷◌, length, count_by, get_or, set, Option, Some, map, refl, sym, ap, subst, ◌∙◌, arith, inl, inr}
 use Rattle.std.specs.Prelude.{Result, Ok, Err, OnErr, ◌==◌}
 use Rattle.std.proofs.lemmas.Bool.{cases_eq, eq-eqb, ne_eqb, cond-true, cond-false}
 use Rattle.std.proofs.lemmas.List.{length-set, length-map, map-set, get_or-set_same, get_or-set_other}
@@ -11,12 +11,14 @@ use Rattle.trace_base.specs.Contexts.{attached_as, AreAttached, KeepsAttached}
 use Rattle.span_handles.specs.Worlds.{Has, Alike, Replaced, seen, spans_in, kept_in}
 use Rattle.span_handles.specs.Handles.{Handle, Held, ReplacedOn}
 use Rattle.span_handles.specs.Entries.{LeavesLane}
+use Rattle.otel_base.specs.declared.context.Context.{Context}
 use Rattle.span_pipeline.specs.declared.slots.Guard.{Guard}
+use Rattle.span_pipeline.specs.declared.contexts.Attach.{Attach}
 use Rattle.otel_layer.specs.Recording.{Recording, no_recording}
 use Rattle.span_pipeline.specs.Tables.{Scope, slot_at}
 use Rattle.span_pipeline.proofs.Naming.{find, held_slot}
 use Rattle.span_pipeline.specs.Setups.{id_at, name_at}
-use Rattle.span_pipeline.specs.Fits.{State, state_of, Laned, laned, no_lane, lane_at, held_by, LanesFit, IsKept, held_of}
+use Rattle.span_pipeline.specs.Fits.{Named, State, state_of, Laned, laned, no_lane, lane_at, held_by, LanesFit, IsKept, held_of}
 
 pub on_err : {T E : Type 0} (result : Result T E) (P : Type 0) → P → OnErr result P
 on_err (Ok v) P p = tt
@@ -71,9 +73,10 @@ are_attached kept lanes n before within is fits number =
     let k = ap (λ (l : Laned). kept l.id number) at in
     omega (arith, a, w, k)
 
-pub lanes_step : (kept now : ℕ → ℕ → ℕ) (lanes : List Lane) (n : ℕ) (before later : Lane) → n < length lanes → before ≡ get_or lanes n before → LanesFit kept (map laned lanes) → later.id ≡ before.id → KeepsAttached kept before later now
-    → LanesFit now (map laned (set lanes n later))
-lanes_step kept now lanes n before later within is fits same keeps =
+-- what is kept on a lane that was written, and on the others
+pub lanes_after : (kept now : ℕ → ℕ → ℕ) (lanes : List Lane) (n : ℕ) (before later : Lane) → n < length lanes → before ≡ get_or lanes n before → LanesFit kept (map laned lanes) → later.id ≡ before.id
+    → ((number : ℕ) → now before.id number ≤ attached_as number later) → ((lane number : ℕ) → (before.id ≡ lane → ⊥) → now lane number ≡ kept lane number) → LanesFit now (map laned (set lanes n later))
+lanes_after kept now lanes n before later within is fits same most others =
     let ls = map laned lanes in
     let ls' = map laned (set lanes n later) in
     let at = lane_seen lanes n before within is in
@@ -90,25 +93,36 @@ lanes_step kept now lanes n before later within is fits same keeps =
     record {
       differ = λ a b ina inb e. fits.differ a b (omega (arith, ina, counts)) (omega (arith, inb, counts)) (sym (ids a) ∙ e ∙ ids b);
       attached = λ m number below. (
-          let k = keeps (lane_at ls m).id number in
           let q = ap (λ (x : ℕ). now x number) (ids m) in
-          let f = fits.attached m number (omega (arith, below, counts)) in
           elim (cases_eq m n) [
             | inl e ↦ (
-                let id_is : before.id ≡ (lane_at ls m).id = mine ∙ ap (λ (x : ℕ). (lane_at ls x).id) (sym e) in
-                let a = cond-true {A = ℕ} (before.id == (lane_at ls m).id) (attached_as number before) 0 (eq-eqb before.id (lane_at ls m).id id_is) in
-                let b = cond-true {A = ℕ} (later.id == (lane_at ls m).id) (attached_as number later) 0 (eq-eqb later.id (lane_at ls m).id (same ∙ id_is)) in
-                let w = ap (λ (x : ℕ). count_by (λ item. item.0 == number) (lane_at ls x).live) e ∙ ap (λ (l : Laned). count_by (λ item. item.0 == number) l.live) at in
+                let k = most number in
+                let p = ap (λ (x : ℕ). now x number) (mine ∙ ap (λ (x : ℕ). (lane_at ls x).id) (sym e)) in
                 let z = ap (λ (x : ℕ). count_by (λ item. item.0 == number) (lane_at ls' x).live) e ∙ ap (λ (l : Laned). count_by (λ item. item.0 == number) l.live) here in
-                omega (arith, k, a, b, f, w, z, q))
+                omega (arith, k, p, z, q))
             | inr other ↦ (
-                let apart : before.id ≡ (lane_at ls m).id → ⊥ = λ e. other (fits.differ m n (omega (arith, below, counts)) inside (sym e ∙ mine)) in
-                let a = cond-false {A = ℕ} (before.id == (lane_at ls m).id) (attached_as number before) 0 (ne_eqb before.id (lane_at ls m).id apart) in
-                let b = cond-false {A = ℕ} (later.id == (lane_at ls m).id) (attached_as number later) 0 (ne_eqb later.id (lane_at ls m).id (λ e. apart (sym same ∙ e))) in
+                let f = fits.attached m number (omega (arith, below, counts)) in
+                let k = others (lane_at ls m).id number (λ e. other (fits.differ m n (omega (arith, below, counts)) inside (sym e ∙ mine))) in
                 let w = ap (λ (l : Laned). count_by (λ item. item.0 == number) l.live) (there m other) in
-                omega (arith, k, a, b, f, w, q))
+                omega (arith, k, f, w, q))
           ]);
     }
+
+-- where a call keeps what it attached
+pub lanes_step : (kept now : ℕ → ℕ → ℕ) (lanes : List Lane) (n : ℕ) (before later : Lane) → n < length lanes → before ≡ get_or lanes n before → LanesFit kept (map laned lanes) → later.id ≡ before.id → KeepsAttached kept before later now
+    → LanesFit now (map laned (set lanes n later))
+lanes_step kept now lanes n before later within is fits same keeps = lanes_after kept now lanes n before later within is fits same
+    (λ number. (
+    let k = keeps before.id number in
+    let still = are_attached kept lanes n before within is fits number in
+    let a = cond-true {A = ℕ} (before.id == before.id) (attached_as number before) 0 (eq-eqb before.id before.id refl) in
+    let b = cond-true {A = ℕ} (later.id == before.id) (attached_as number later) 0 (eq-eqb later.id before.id same) in
+    omega (arith, k, still, a, b)))
+    (λ lane number apart. (
+    let k = keeps lane number in
+    let a = cond-false {A = ℕ} (before.id == lane) (attached_as number before) 0 (ne_eqb before.id lane apart) in
+    let b = cond-false {A = ℕ} (later.id == lane) (attached_as number later) 0 (ne_eqb later.id lane (λ e. apart (sym same ∙ e))) in
+    omega (arith, k, a, b)))
 
 module _ {S : Type 0} (spans : S → Spans) (recorded : S → Recording) (attaches : S → Bool) (kept : S → ℕ → ℕ → ℕ) (is_whole : S → Type 0) where
   abbrev pub AlikeOn : Worlds S → Worlds S → ℕ → Scope → Type 0
@@ -140,11 +154,11 @@ module _ {S : Type 0} (spans : S → Spans) (recorded : S → Recording) (attach
   alike_line old new dispatch (s ∷ up) same = same
 
   -- after a refusal for want of memory
-  pub state_alike : (old new : Worlds S) (dispatch : ℕ) (level : LevelFilter) (lanes : List Lane) (hs : List (Option Handle)) (gs gs' : List (Option Guard)) (moment : ℕ) → Alike spans attaches kept is_whole old new dispatch → new.sites ≡ old.sites → seen recorded no_recording new dispatch ≡ seen recorded no_recording old dispatch
-      → (n : ℕ) (before later : Lane) → n < length lanes → before ≡ get_or lanes n before → later.id ≡ before.id → later.name ≡ before.name → later.contexts.live ≡ before.contexts.live → gs' ≡ gs
-      → state_of spans recorded new dispatch level (set lanes n later) hs gs' moment ≡ state_of spans recorded old dispatch level lanes hs gs moment
-  state_alike old new dispatch level lanes hs gs gs' moment same sites records n before later within is id name live guards_same =
-      rw (same.spans_same, sites, records, lanes_same lanes n before later within is (same_lane before later id live), ids_same lanes n before later within is id, names_same lanes n before later within is name, guards_same) refl
+  pub state_alike : (old new : Worlds S) (dispatch : ℕ) (level : LevelFilter) (lanes : List Lane) (hs : List (Option Handle)) (gs gs' : List (Option Guard)) (made : List Context) (ks ks' : List (Option Attach)) (moment : ℕ) → Alike spans attaches kept is_whole old new dispatch → new.sites ≡ old.sites → seen recorded no_recording new dispatch ≡ seen recorded no_recording old dispatch
+      → (n : ℕ) (before later : Lane) → n < length lanes → before ≡ get_or lanes n before → later.id ≡ before.id → later.name ≡ before.name → later.contexts.live ≡ before.contexts.live → gs' ≡ gs → ks' ≡ ks
+      → state_of spans recorded new dispatch level (set lanes n later) hs gs' (record { made = made; attaches = ks' }) moment ≡ state_of spans recorded old dispatch level lanes hs gs (record { made = made; attaches = ks }) moment
+  state_alike old new dispatch level lanes hs gs gs' made ks ks' moment same sites records n before later within is id name live guards_same attaches_same =
+      rw (same.spans_same, sites, records, lanes_same lanes n before later within is (same_lane before later id live), ids_same lanes n before later within is id, names_same lanes n before later within is name, guards_same, attaches_same) refl
 
   pub kept_alike : (old new : Worlds S) (k next : State) → IsKept kept is_whole old k → next ≡ k → Alike spans attaches kept is_whole old new k.dispatch → IsKept kept is_whole new next
   kept_alike old new k next inv same alike = subst (λ (x : State). IsKept kept is_whole new x) (sym same) (record {
@@ -158,14 +172,27 @@ module _ {S : Type 0} (spans : S → Spans) (recorded : S → Recording) (attach
 
   -- after a refusal for want of room what is kept is as it was
   module _ (same : S → S → Type 0) (law : (old new : Worlds S) (dispatch : ℕ) → Replaced same old new dispatch → Alike spans attaches kept is_whole old new dispatch) (records : SameRecorded same)
-      (old new : Worlds S) (dispatch : ℕ) (level : LevelFilter) (lanes : List Lane) (hs : List (Option Handle)) (gs gs' : List (Option Guard)) (m : ℕ) (inv : IsKept kept is_whole old (state_of spans recorded old dispatch level lanes hs gs m))
+      (old new : Worlds S) (dispatch : ℕ) (level : LevelFilter) (lanes : List Lane) (hs : List (Option Handle)) (gs gs' : List (Option Guard)) (made : List Context) (ks ks' : List (Option Attach)) (m : ℕ) (inv : IsKept kept is_whole old (state_of spans recorded old dispatch level lanes hs gs (record { made = made; attaches = ks }) m))
       (handle : ℕ) (named : Handle) (found : slot_at hs handle ≡ Some named) (did : ReplacedOn (λ id s t. same s t) old new named.held)
-      (n : ℕ) (before later : Lane) (within : n < length lanes) (seen_is : before ≡ get_or lanes n before) (lane : LeavesLane before later) (guards_same : gs' ≡ gs) where
+      (n : ℕ) (before later : Lane) (within : n < length lanes) (seen_is : before ≡ get_or lanes n before) (lane : LeavesLane before later) (guards_same : gs' ≡ gs) (attaches_same : ks' ≡ ks) where
     its_alike : Alike spans attaches kept is_whole old new dispatch × (new.sites ≡ old.sites) × (seen recorded no_recording new dispatch ≡ seen recorded no_recording old dispatch)
     its_alike = let line = find (held_of dispatch) (map held_by hs) inv.tables.handles handle named.held inv.fits.handle_slots (held_slot hs handle named found) in alike_line old new dispatch line.at (alike_on same law records old new dispatch line.at named.held line.is did)
 
-    pub refused_state : state_of spans recorded new dispatch level (set lanes n later) hs gs' m ≡ state_of spans recorded old dispatch level lanes hs gs m
-    refused_state = state_alike old new dispatch level lanes hs gs gs' m its_alike.0 its_alike.1 its_alike.2 n before later within seen_is lane.id lane.name lane.live guards_same
+    pub refused_state : state_of spans recorded new dispatch level (set lanes n later) hs gs' (record { made = made; attaches = ks' }) m ≡ state_of spans recorded old dispatch level lanes hs gs (record { made = made; attaches = ks }) m
+    refused_state = state_alike old new dispatch level lanes hs gs gs' made ks ks' m its_alike.0 its_alike.1 its_alike.2 n before later within seen_is lane.id lane.name lane.live guards_same attaches_same
 
-    pub refused_kept : IsKept kept is_whole new (state_of spans recorded new dispatch level (set lanes n later) hs gs' m)
-    refused_kept = kept_alike old new (state_of spans recorded old dispatch level lanes hs gs m) _ inv refused_state its_alike.0
+    pub refused_kept : IsKept kept is_whole new (state_of spans recorded new dispatch level (set lanes n later) hs gs' (record { made = made; attaches = ks' }) m)
+    refused_kept = kept_alike old new (state_of spans recorded old dispatch level lanes hs gs (record { made = made; attaches = ks }) m) _ inv refused_state its_alike.0
+
+  -- the same where neither lanes nor guards were touched
+  module _ (same : S → S → Type 0) (law : (old new : Worlds S) (dispatch : ℕ) → Replaced same old new dispatch → Alike spans attaches kept is_whole old new dispatch) (records : SameRecorded same)
+      (old new : Worlds S) (dispatch : ℕ) (level : LevelFilter) (lanes : List Lane) (hs : List (Option Handle)) (gs : List (Option Guard)) (cs : Named) (m : ℕ) (inv : IsKept kept is_whole old (state_of spans recorded old dispatch level lanes hs gs cs m))
+      (handle : ℕ) (named : Handle) (found : slot_at hs handle ≡ Some named) (did : ReplacedOn (λ id s t. same s t) old new named.held) where
+    still_alike : Alike spans attaches kept is_whole old new dispatch × (new.sites ≡ old.sites) × (seen recorded no_recording new dispatch ≡ seen recorded no_recording old dispatch)
+    still_alike = let line = find (held_of dispatch) (map held_by hs) inv.tables.handles handle named.held inv.fits.handle_slots (held_slot hs handle named found) in alike_line old new dispatch line.at (alike_on same law records old new dispatch line.at named.held line.is did)
+
+    pub same_state : state_of spans recorded new dispatch level lanes hs gs cs m ≡ state_of spans recorded old dispatch level lanes hs gs cs m
+    same_state = rw (still_alike.0.spans_same, still_alike.1, still_alike.2) refl
+
+    pub same_kept : IsKept kept is_whole new (state_of spans recorded new dispatch level lanes hs gs cs m)
+    same_kept = kept_alike old new (state_of spans recorded old dispatch level lanes hs gs cs m) _ inv same_state still_alike.0

@@ -1,3 +1,4 @@
+mod Attaches
 mod Attaching
 mod Balancing
 mod Beginning
@@ -6,16 +7,20 @@ mod Copies
 mod Counting
 mod Crowded
 mod Currents
+mod Declaring
+mod Detaches
 mod Dropped
 mod Dropping
 mod Entering
 mod Fitting
+mod Giving
 mod Keeping
 mod Known
 mod Laned
 mod Making
 mod Makings
 mod Naming
+mod Numbers
 mod Openness
 mod Ordering
 mod Reading
@@ -24,6 +29,7 @@ mod Refusing
 mod Requiring
 mod Scopes
 mod Serving
+mod Sited
 mod Standing
 mod Taking
 mod Telling

@@ -46,16 +46,18 @@ use Rattle.trace_base.specs.Spans.{current_of}
 use Rattle.trace_base.proofs.Entering.{length_held}
 use Rattle.trace_base.proofs.Holding.{holds_other}
 use Rattle.span_pipeline.specs.Tables.{Scope, Made, Attached, no_making, Effect, Tables, recorded_by, open_part, slot_at, own, made_of}
-use Rattle.span_pipeline.specs.Effects.{named, effect_of_call, no_values, lane_in, made_at, context_around, parent_at, makes, makes_span, declines, scope_at}
+use Rattle.span_pipeline.specs.Effects.{named, effect_of_call, lane_in, made_at, context_around, parent_at, makes, makes_span, declines, scope_at}
 use Rattle.span_pipeline.proofs.Known.{recorded_known, new_known}
 use Rattle.span_pipeline.proofs.Attaching.{last_is}
 use Rattle.span_pipeline.proofs.Laned.{own_fit}
 use Rattle.span_pipeline.proofs.Recordings.{recorded_settings, recorded_tokens, starts_fold, starts_open, entry_settings, entry_counting}
+use Rattle.span_pipeline.specs.Fields.{Fields, all_values}
 use Rattle.span_pipeline.specs.Slots.{place_for, MakesOnly}
 use Rattle.span_pipeline.specs.Balance.{Balanced, named_by, opened_by}
-use Rattle.span_pipeline.specs.Fits.{State, state_of, laned, Fits, StandsFor, MadeFit, LanesFit, IsKept, Served, IsScope, above as parent_above, held_of, guard_of, held_by}
+use Rattle.span_pipeline.specs.Fits.{Named, State, state_of, laned, Fits, StandsFor, MadeFit, LanesFit, IsKept, Served, IsScope, above as parent_above, held_of, guard_of, held_by, site_by}
 use Rattle.span_pipeline.proofs.Naming.{find}
 use Rattle.span_pipeline.proofs.Scopes.{new_line}
+use Rattle.span_pipeline.proofs.Sited.{got_within}
 use Rattle.span_pipeline.proofs.Standing.{fits_step}
 use Rattle.span_pipeline.proofs.Reading.{Law, Recalls, has_by}
 use Rattle.span_pipeline.proofs.Balancing.{held_most}
@@ -135,7 +137,7 @@ around_is (parent.Of s) lane items same = refl
 around_is parent.Current lane items same = last_is empty_context lane.contexts.live items same
 
 -- the callsite of a span at a place
-site_is : (sites : List Callsite) (site : ℕ) (callsite : Callsite) → span_site sites site ≡ Some callsite → slice_get sites site ≡ Some callsite
+pub site_is : (sites : List Callsite) (site : ℕ) (callsite : Callsite) → span_site sites site ≡ Some callsite → slice_get sites site ≡ Some callsite
 site_is sites site callsite is = by_site (slice_get sites site) is
   where
     by_kind : (c : Callsite) (kind : Kind) → if_span c kind ≡ Some callsite → Some c ≡ Some callsite
@@ -150,34 +152,34 @@ the_callsite : (a b : Callsite) → ◌≡◌ {A = Option Callsite} (Some a) (So
 the_callsite a b e = cc e
 
 -- the settings are those of the open part, whatever started
-told_settings : (setup : Setup) (t : Tables) (at lane : ℕ) (callsite : Callsite) (q : Parent) (r : Recording) → open_part r ≡ t.recording
-    → made_told callsite (lane_in setup lane) no_values
+told_settings : (setup : Setup) (t : Tables) (at lane : ℕ) (callsite : Callsite) (values : ValueSet) (q : Parent) (r : Recording) → open_part r ≡ t.recording
+    → made_told callsite (lane_in setup lane) values
     (context_from (with_starts (above r.settings.activation q (current_of (t.entries (id_at setup.ids lane)))) at t.recording).spans (context_around (t.contexts (id_at setup.ids lane)) q) (above r.settings.activation q (current_of (t.entries (id_at setup.ids lane))))) at r.settings r.counting
-    ≡ made_at (record setup { layer = r.settings }) t at lane callsite q
-told_settings setup t at lane callsite q r is =
+    ≡ made_at (record setup { layer = r.settings }) t at lane callsite values q
+told_settings setup t at lane callsite values q r is =
     let source = above r.settings.activation q (current_of (t.entries (id_at setup.ids lane))) in
     let c = context_from (with_starts source at t.recording).spans (context_around (t.contexts (id_at setup.ids lane)) q) source in
-    ap (λ (x : LayerSettings). made_told callsite (lane_in setup lane) no_values c at x r.counting) (ap (λ (x : Recording). x.settings) is ∙ sym (entry_settings source at t.recording))
-    ∙ ap (λ (b : Bool). made_told callsite (lane_in setup lane) no_values c at (with_starts source at t.recording).settings b) (ap (λ (x : Recording). x.counting) is ∙ sym (entry_counting source at t.recording))
+    ap (λ (x : LayerSettings). made_told callsite (lane_in setup lane) values c at x r.counting) (ap (λ (x : Recording). x.settings) is ∙ sym (entry_settings source at t.recording))
+    ∙ ap (λ (b : Bool). made_told callsite (lane_in setup lane) values c at (with_starts source at t.recording).settings b) (ap (λ (x : Recording). x.counting) is ∙ sym (entry_counting source at t.recording))
 
 -- the recording with a span more
 abbrev made_record : ℕ → Told → Recording → Recording
 made_record n told x = record x { spans = add_span n told x.spans }
 
 -- what was made is what the effect makes
-made_is : (setup : Setup) (t : Tables) (at lane : ℕ) (callsite c : Callsite) (p q : Parent) (before : Lane) (r : Recording) (current : Option ℕ) → open_part r ≡ t.recording → setup.layer ≡ r.settings → c ≡ callsite → p ≡ q
+made_is : (setup : Setup) (t : Tables) (at lane : ℕ) (callsite c : Callsite) (values : ValueSet) (p q : Parent) (before : Lane) (r : Recording) (current : Option ℕ) → open_part r ≡ t.recording → setup.layer ≡ r.settings → c ≡ callsite → p ≡ q
     → before.id ≡ id_at setup.ids lane → before.name ≡ name_at setup.names lane → current ≡ current_of (t.entries (id_at setup.ids lane)) → map (λ (x : ℕ × Context). x.1) before.contexts.live ≡ map (λ (a : Attached). a.context) (t.contexts (id_at setup.ids lane))
-    → made_told c before no_values (context_from (with_starts (above r.settings.activation p current) at r).spans (around before p) (above r.settings.activation p current)) at r.settings r.counting
-    ≡ made_told callsite (lane_in setup lane) no_values
+    → made_told c before values (context_from (with_starts (above r.settings.activation p current) at r).spans (around before p) (above r.settings.activation p current)) at r.settings r.counting
+    ≡ made_told callsite (lane_in setup lane) values
     (context_from (with_starts (above r.settings.activation q (current_of (t.entries (id_at setup.ids lane)))) at t.recording).spans (context_around (t.contexts (id_at setup.ids lane)) q) (above r.settings.activation q (current_of (t.entries (id_at setup.ids lane))))) at r.settings r.counting
-made_is setup t at lane callsite c p q before r current recorded layer c_is p_is id name current_is contexts =
+made_is setup t at lane callsite c values p q before r current recorded layer c_is p_is id name current_is contexts =
     let source = λ (x : Parent) (o : Option ℕ). above r.settings.activation x o in
-    ap (λ (x : Callsite). made_told x before no_values (context_from (with_starts (source p current) at r).spans (around before p) (source p current)) at r.settings r.counting) c_is
-    ∙ ap (λ (x : Parent). made_told callsite before no_values (context_from (with_starts (source x current) at r).spans (around before x) (source x current)) at r.settings r.counting) p_is
-    ∙ ap (λ (o : Option ℕ). made_told callsite before no_values (context_from (with_starts (source q o) at r).spans (around before q) (source q o)) at r.settings r.counting) current_is
-    ∙ ap (λ (xs : List (ℕ × Told)). made_told callsite before no_values (context_from xs (around before q) (source q (current_of (t.entries (id_at setup.ids lane))))) at r.settings r.counting) (starts_open (source q (current_of (t.entries (id_at setup.ids lane)))) at r t.recording recorded)
-    ∙ ap (λ (x : Context). made_told callsite before no_values (context_from (with_starts (source q (current_of (t.entries (id_at setup.ids lane)))) at t.recording).spans x (source q (current_of (t.entries (id_at setup.ids lane))))) at r.settings r.counting) (around_is q before (t.contexts (id_at setup.ids lane)) contexts)
-    ∙ ap (λ (first : List KeyValue). changed (begun (record { name = callsite.name; parent = context_from (with_starts (source q (current_of (t.entries (id_at setup.ids lane)))) at t.recording).spans (context_around (t.contexts (id_at setup.ids lane)) q) (source q (current_of (t.entries (id_at setup.ids lane)))); made = at; first = first; counting = r.counting; inactivity = r.settings.inactivity })) at (ops.Update (span_update callsite no_values r.settings))) (first_same callsite before (lane_in setup lane) r.settings id name)
+    ap (λ (x : Callsite). made_told x before values (context_from (with_starts (source p current) at r).spans (around before p) (source p current)) at r.settings r.counting) c_is
+    ∙ ap (λ (x : Parent). made_told callsite before values (context_from (with_starts (source x current) at r).spans (around before x) (source x current)) at r.settings r.counting) p_is
+    ∙ ap (λ (o : Option ℕ). made_told callsite before values (context_from (with_starts (source q o) at r).spans (around before q) (source q o)) at r.settings r.counting) current_is
+    ∙ ap (λ (xs : List (ℕ × Told)). made_told callsite before values (context_from xs (around before q) (source q (current_of (t.entries (id_at setup.ids lane))))) at r.settings r.counting) (starts_open (source q (current_of (t.entries (id_at setup.ids lane)))) at r t.recording recorded)
+    ∙ ap (λ (x : Context). made_told callsite before values (context_from (with_starts (source q (current_of (t.entries (id_at setup.ids lane)))) at t.recording).spans x (source q (current_of (t.entries (id_at setup.ids lane))))) at r.settings r.counting) (around_is q before (t.contexts (id_at setup.ids lane)) contexts)
+    ∙ ap (λ (first : List KeyValue). changed (begun (record { name = callsite.name; parent = context_from (with_starts (source q (current_of (t.entries (id_at setup.ids lane)))) at t.recording).spans (context_around (t.contexts (id_at setup.ids lane)) q) (source q (current_of (t.entries (id_at setup.ids lane)))); made = at; first = first; counting = r.counting; inactivity = r.settings.inactivity })) at (ops.Update (span_update callsite values r.settings))) (first_same callsite before (lane_in setup lane) r.settings id name)
 
 leveled_site : (o : Option Callsite) (lvl : Level) → option_map (λ (c : Callsite). c.level) o ≡ Some lvl → (callsite : Callsite) × (o ≡ Some callsite) × (callsite.level ≡ lvl)
 leveled_site None lvl is = absurd (cc is)
@@ -185,12 +187,12 @@ leveled_site (Some c) lvl is = (c, refl, cc is)
 
 module _ {S : Type 0} (spans : S → Spans) (recorded : S → Recording) (attaches : S → Bool) (kept : S → ℕ → ℕ → ℕ) (is_whole : S → Type 0) (old new : Worlds S) where
   module _ (does : S → SubscriberCall → S → Type 0) (law : Law spans recorded attaches kept is_whole does) (recalls : Recalls spans recorded attaches kept is_whole does)
-      (dispatch : ℕ) (level : LevelFilter) (lanes : List Lane) (hs hs' : List (Option Handle)) (gs : List (Option Guard)) (m at lane number : ℕ) (many : number ≡ length hs) (inv : IsKept kept is_whole old (state_of spans recorded old dispatch level lanes hs gs m)) where
+      (dispatch : ℕ) (level : LevelFilter) (lanes : List Lane) (hs hs' : List (Option Handle)) (gs : List (Option Guard)) (cs : Named) (m at lane number : ℕ) (many : number ≡ length hs) (inv : IsKept kept is_whole old (state_of spans recorded old dispatch level lanes hs gs cs m)) where
     abbrev now : State
-    now = state_of spans recorded old dispatch level lanes hs gs m
+    now = state_of spans recorded old dispatch level lanes hs gs cs m
 
     abbrev then : State
-    then = state_of spans recorded new dispatch level lanes hs' gs at
+    then = state_of spans recorded new dispatch level lanes hs' gs cs at
 
     abbrev place_id : ℕ
     place_id = id_at now.setup.ids lane
@@ -203,7 +205,7 @@ module _ {S : Type 0} (spans : S → Spans) (recorded : S → Recording) (attach
 
     module _ (under : Place) (p : Parent) (site : ℕ) (callsite : Callsite) (sited : span_site old.sites site ≡ Some callsite) (found : place_for (map held_by hs) under ≡ Some p) where
       -- a span that is let through
-      module _ (values : ValueSet) (made : Handle) (before : Lane) (within : lane < length lanes) (seen_is : before ≡ get_or lanes lane before) (through : is_within callsite.level level ≡ true) (one : hs' ≡ hs ++ Some made ∷ [])
+      module _ (fields : Fields) (values : ValueSet) (valued : all_values callsite fields ≡ Some values) (made : Handle) (before : Lane) (within : lane < length lanes) (seen_is : before ≡ get_or lanes lane before) (through : is_within callsite.level level ≡ true) (one : hs' ≡ hs ++ Some made ∷ [])
           (did : Makes spans does old new before at p site values dispatch made) where
         abbrev made_call : Replaced (λ s t. does s (NewSpan before at p site did.callsite values) t) old new dispatch
         made_call = record { before = did.made.before; later = did.made.later; there = did.made.there; did = did.made.did.1; others = did.made.others }
@@ -214,8 +216,8 @@ module _ {S : Type 0} (spans : S → Spans) (recorded : S → Recording) (attach
         id_is : did.id ≡ length (spans_in spans old dispatch).made
         id_is = did.made.did.0 ∙ ap (λ (x : Spans). length x.made) (sym (seen_before (λ s t. does s (NewSpan before at p site did.callsite values) t) old new dispatch made_call spans no_spans))
 
-        pub serves_made : (t : Tables) → StandsFor now t → values ≡ no_values → Served (effect_of_call now.setup t at lane (call.New site under)) t now then (reply.Made true number)
-        serves_made t stands plain =
+        pub serves_made : (t : Tables) → StandsFor now t → Served (effect_of_call now.setup t at lane (call.New site under fields)) t now then (reply.Made true number)
+        serves_made t stands =
             let fits = stands.fits in
             let up = find_up now t fits place_id under p found in
             let sp = spans_in spans old dispatch in
@@ -229,15 +231,14 @@ module _ {S : Type 0} (spans : S → Spans) (recorded : S → Recording) (attach
             let current_is : current ≡ current_of (t.entries place_id) = ap (λ (l : ℕ). current_of (entries_on l sp.lanes)) id_is' ∙ ap current_of (fits.balanced.entries place_id) in
             let callsite_is : did.callsite ≡ callsite = the_callsite did.callsite callsite (sym did.is ∙ site_is old.sites site callsite sited) in
             let contexts : map (λ (x : ℕ × Context). x.1) before.contexts.live ≡ map (λ (a : Attached). a.context) (t.contexts place_id) =
-            (own_fit r.settings.activation lanes lane before before within seen_is refl inv.lanes.differ r.tokens t.contexts stands.recording.attached).contexts ∙ ap (λ (l : ℕ). map (λ (a : Attached). a.context) (t.contexts l)) id_is' in
-            let told : Told = made_at now.setup t at lane callsite q in
+            (own_fit r.settings.activation lanes lane before before within seen_is refl inv.lanes.differ r.tokens cs.attaches t.contexts stands.recording.attached).contexts ∙ ap (λ (l : ℕ). map (λ (a : Attached). a.context) (t.contexts l)) id_is' in
+            let told : Told = made_at now.setup t at lane callsite values q in
             let raw : Told = made_told did.callsite before values (context_from (with_starts (above r.settings.activation p current) at r).spans (around before p) (above r.settings.activation p current)) at r.settings r.counting in
             let told_is : raw ≡ told =
-            ap (λ (v : ValueSet). made_told did.callsite before v (context_from (with_starts (above r.settings.activation p current) at r).spans (around before p) (above r.settings.activation p current)) at r.settings r.counting) plain
-            ∙ made_is now.setup t at lane callsite did.callsite p q before r current stands.recording.recorded refl callsite_is up.parent_is id_is' (name_seen lanes lane before within seen_is) current_is contexts
-            ∙ told_settings now.setup t at lane callsite q r stands.recording.recorded in
+            made_is now.setup t at lane callsite did.callsite values p q before r current stands.recording.recorded refl callsite_is up.parent_is id_is' (name_seen lanes lane before within seen_is) current_is contexts
+            ∙ told_settings now.setup t at lane callsite values q r stands.recording.recorded in
             let new_made : Made = record { site = site; scope = line; told = told } in
-            let e : Effect = makes_span now.setup t at lane site callsite under up.up in
+            let e : Effect = makes_span now.setup t at lane site callsite values under up.up in
             let source = above r.settings.activation p current in
             let source_is : source ≡ above r.settings.activation q (current_of (t.entries place_id)) = ap (λ (x : Parent). above r.settings.activation x current) up.parent_is ∙ ap (λ (o : Option ℕ). above r.settings.activation q o) current_is in
             let recalled = recalls old new dispatch _ made_call in
@@ -253,8 +254,9 @@ module _ {S : Type 0} (spans : S → Spans) (recorded : S → Recording) (attach
               | inr other ↦ known_still now then t e r.tokens rec_is stands.recording s refl (new_live sp.made (own up.up) site s up.live (λ e. other (e ∙ length_held sp.made (own up.up) ∙ fits.made.count)) (subst (λ (x : Spans). 0 < (span_at x.made s).holds) step some))
             ] in
             serve now then t e _ (reply.Made true number) stands
-            (ap (λ o. named what.Site o (λ callsite. named what.Handle (scope_at t place_id under) (λ up. Ok (makes now.setup t at lane site callsite under up)))) sited
-            ∙ ap (λ o. named what.Handle o (λ up. Ok (makes now.setup t at lane site callsite under up))) up.is
+            (ap (λ o. named what.Site o (λ callsite. named what.Handle (scope_at t place_id under) (λ up. named what.Field (all_values callsite fields) (λ v. Ok (makes now.setup t at lane site callsite v under up))))) sited
+            ∙ ap (λ o. named what.Handle o (λ up. named what.Field (all_values callsite fields) (λ v. Ok (makes now.setup t at lane site callsite v under up)))) up.is
+            ∙ ap (λ o. named what.Field o (λ v. Ok (makes now.setup t at lane site callsite v under up.up))) valued
             ∙ ap Ok (cond-true {A = Effect} (is_within callsite.level level) _ _ through))
             (ap (λ n. reply.Made true n) (next_number t fits))
             setup r.tokens rec_is
@@ -262,11 +264,15 @@ module _ {S : Type 0} (spans : S → Spans) (recorded : S → Recording) (attach
               setup_is = setup;
               dispatch_is = refl;
               handles_are = ap (map held_by) one ∙ map_push held_by hs (Some made) ∙ ap (λ (x : Handle). map held_by hs ++ Some x.held ∷ []) did.handle_is ∙ ap (λ (i : ℕ). map held_by hs ++ Some (Some (dispatch, i)) ∷ []) mine;
+              sites_are = ap (map site_by) one ∙ map_push site_by hs (Some made) ∙ ap (λ (x : Handle). map site_by hs ++ Some x.site ∷ []) did.handle_is ∙ ap (λ (x : Made). map site_by hs ++ Some (Some x.site) ∷ []) (sym (get_or_push t.made new_made no_making (length t.made) refl));
               guards_are = refl;
+              attaches_are = refl;
+              named_are = refl;
               moment_is = refl;
               balanced = subst (λ (x : Spans). Balanced x (map named_by (t.handles ++ Some line ∷ [])) (map (opened_by ids) t.guards) t.entries) (sym step) (balanced_new ids sp t.handles t.guards t.entries fits.balanced up.up site (length t.made) up.live fits.made.count);
               made_fit = subst (λ (x : Spans). MadeFit x.made (t.made ++ new_made ∷ [])) (sym step) (made_pushed (held_by_child sp.made (own up.up)) t.made up.up site told (made_child sp.made t.made (own up.up) fits.made up.live));
               new_made = (up.up, refl, up.scope);
+              new_site = got_within old.sites site callsite (site_is old.sites site callsite sited);
               new_scope = λ l e. subst (IsScope (t.made ++ new_made ∷ [])) (the_scope line l e) (new_line t.made new_made up.up refl up.scope);
               still = still_named_more t.guards t.handles line fits.still;
               few = (let a = length_push t.handles (Some line) in let b = length_push t.made new_made in let f = fits.few in omega (arith, a, b, f));
@@ -274,15 +280,15 @@ module _ {S : Type 0} (spans : S → Spans) (recorded : S → Recording) (attach
               one = subst (λ (x : Spans). OneEach x.lanes) (sym step) fits.one_lane;
             }))
             known
-            (all_same now then t.contexts setup refl (ap (λ (x : Recording). x.tokens) rec_is) stands.recording.attached)
+            (all_same now then t.contexts setup refl refl (ap (λ (x : Recording). x.tokens) rec_is) stands.recording.attached)
 
-        pub keeps_made : values ≡ no_values → IsKept kept is_whole new then
-        keeps_made plain = kept_served spans recorded attaches kept is_whole old new now then inv _ _ (serves_made inv.tables (record { fits = inv.fits; recording = inv.recording }) plain) refl made_shown.count made_shown.whole
+        pub keeps_made : IsKept kept is_whole new then
+        keeps_made = kept_served spans recorded attaches kept is_whole old new now then inv _ _ (serves_made inv.tables (record { fits = inv.fits; recording = inv.recording })) refl made_shown.count made_shown.whole
             (subst (λ (f : ℕ → ℕ → ℕ). LanesFit f (map laned lanes)) (sym made_shown.lanes) inv.lanes)
 
       -- one that isn't
-      module _ (through : is_within callsite.level level ≡ false) (one : hs' ≡ hs ++ Some no_handle ∷ []) (same : new ≡ old) where
-        pub serves_declined : (t : Tables) → StandsFor now t → Served (effect_of_call now.setup t at lane (call.New site under)) t now then (reply.Made false number)
+      module _ (fields : Fields) (values : ValueSet) (valued : all_values callsite fields ≡ Some values) (through : is_within callsite.level level ≡ false) (one : hs' ≡ hs ++ Some no_handle ∷ []) (same : new ≡ old) where
+        pub serves_declined : (t : Tables) → StandsFor now t → Served (effect_of_call now.setup t at lane (call.New site under fields)) t now then (reply.Made false number)
         serves_declined t stands =
             let fits = stands.fits in
             let up = find_up now t fits place_id under p found in
@@ -293,8 +299,9 @@ module _ {S : Type 0} (spans : S → Spans) (recorded : S → Recording) (attach
             let setup : then.setup ≡ now.setup = ap (λ (w : Worlds S). record now.setup { sites = w.sites; layer = (seen recorded no_recording w dispatch).settings }) same in
             let e : Effect = declines t at place_id in
             serve now then t e _ (reply.Made false number) stands
-            (ap (λ o. named what.Site o (λ callsite. named what.Handle (scope_at t place_id under) (λ up. Ok (makes now.setup t at lane site callsite under up)))) sited
-            ∙ ap (λ o. named what.Handle o (λ up. Ok (makes now.setup t at lane site callsite under up))) up.is
+            (ap (λ o. named what.Site o (λ callsite. named what.Handle (scope_at t place_id under) (λ up. named what.Field (all_values callsite fields) (λ v. Ok (makes now.setup t at lane site callsite v under up))))) sited
+            ∙ ap (λ o. named what.Handle o (λ up. named what.Field (all_values callsite fields) (λ v. Ok (makes now.setup t at lane site callsite v under up)))) up.is
+            ∙ ap (λ o. named what.Field o (λ v. Ok (makes now.setup t at lane site callsite v under up.up))) valued
             ∙ ap Ok (cond-false {A = Effect} (is_within callsite.level level) _ _ through))
             (ap (λ n. reply.Made false n) (next_number t fits))
             setup r.tokens rec_is
@@ -302,11 +309,15 @@ module _ {S : Type 0} (spans : S → Spans) (recorded : S → Recording) (attach
               setup_is = setup;
               dispatch_is = refl;
               handles_are = ap (map held_by) one ∙ map_push held_by hs (Some no_handle);
+              sites_are = ap (map site_by) one ∙ map_push site_by hs (Some no_handle);
               guards_are = refl;
+              attaches_are = refl;
+              named_are = refl;
               moment_is = refl;
               balanced = subst (λ (x : Spans). Balanced x (map named_by (t.handles ++ Some [] ∷ [])) (map (opened_by ids) t.guards) t.entries) (sym step) (balanced_decline ids sp t.handles t.guards t.entries fits.balanced);
               made_fit = subst (λ (x : Spans). MadeFit x.made t.made) (sym step) fits.made;
               new_made = tt;
+              new_site = tt;
               new_scope = λ l e. subst (IsScope t.made) (the_scope [] l e) tt;
               still = still_named_more t.guards t.handles [] fits.still;
               few = (let l = length_push t.handles (Some []) in let f = fits.few in omega (arith, l, f));
@@ -314,7 +325,7 @@ module _ {S : Type 0} (spans : S → Spans) (recorded : S → Recording) (attach
               one = subst (λ (x : Spans). OneEach x.lanes) (sym step) fits.one_lane;
             }))
             (λ s some. known_still now then t e r.tokens rec_is stands.recording s refl (subst (λ (x : Spans). 0 < (span_at x.made s).holds) step some))
-            (all_same now then t.contexts setup refl (ap (λ (x : Recording). x.tokens) rec_is) stands.recording.attached)
+            (all_same now then t.contexts setup refl refl (ap (λ (x : Recording). x.tokens) rec_is) stands.recording.attached)
 
         pub keeps_declined : IsKept kept is_whole new then
         keeps_declined = kept_served spans recorded attaches kept is_whole old new now then inv _ _ (serves_declined inv.tables (record { fits = inv.fits; recording = inv.recording })) refl (ap (λ (w : Worlds S). length w.subscribers) same) (λ has. subst (λ (w : Worlds S). Has is_whole w dispatch) (sym same) has)
@@ -322,18 +333,22 @@ module _ {S : Type 0} (spans : S → Spans) (recorded : S → Recording) (attach
 
     -- let through or not
     module _ (under : Place) (p : Parent) (found_site site : ℕ) (sited_is : found_site ≡ site) (lvl : Level) (leveled : option_map (λ (c : Callsite). c.level) (span_site old.sites site) ≡ Some lvl) (found : place_for (map held_by hs) under ≡ Some p)
-        (values : ValueSet) (made : Handle) (before : Lane) (within : lane < length lanes) (seen_is : before ≡ get_or lanes lane before) (one : hs' ≡ hs ++ Some made ∷ []) where
+        (fields : Fields) (values : ValueSet) (given : Callsite) (given_is : slice_get old.sites found_site ≡ Some given) (valued : all_values given fields ≡ Some values)
+        (made : Handle) (before : Lane) (within : lane < length lanes) (seen_is : before ≡ get_or lanes lane before) (one : hs' ≡ hs ++ Some made ∷ []) where
       its_site : (callsite : Callsite) × (span_site old.sites site ≡ Some callsite) × (callsite.level ≡ lvl)
       its_site = leveled_site (span_site old.sites site) lvl leveled
 
-      pub serves_new : (enabled : Bool) → enabled ≡ is_within lvl level → MakesOnly spans does enabled old new before at p found_site values dispatch made
-          → values ≡ no_values → (t : Tables) → StandsFor now t → Served (effect_of_call now.setup t at lane (call.New site under)) t now then (reply.Made enabled number)
-      serves_new true is did plain t stands = serves_made under p site its_site.0 its_site.1 found values made before within seen_is (ap (λ (l : Level). is_within l level) its_site.2 ∙ sym is) one (subst (λ (k : ℕ). Makes spans does old new before at p k values dispatch made) sited_is did) t stands plain
-      serves_new false is did plain t stands = serves_declined under p site its_site.0 its_site.1 found (ap (λ (l : Level). is_within l level) its_site.2 ∙ sym is) (one ∙ ap (λ (h : Handle). hs ++ Some h ∷ []) did.0) did.1 t stands
+      its_values : all_values its_site.0 fields ≡ Some values
+      its_values = ap (λ (c : Callsite). all_values c fields) (sym (the_callsite given its_site.0 (sym given_is ∙ ap (λ (k : ℕ). slice_get old.sites k) sited_is ∙ site_is old.sites site its_site.0 its_site.1))) ∙ valued
 
-      pub keeps_new : (enabled : Bool) → enabled ≡ is_within lvl level → MakesOnly spans does enabled old new before at p found_site values dispatch made → values ≡ no_values → IsKept kept is_whole new then
-      keeps_new true is did plain = keeps_made under p site its_site.0 its_site.1 found values made before within seen_is (ap (λ (l : Level). is_within l level) its_site.2 ∙ sym is) one (subst (λ (k : ℕ). Makes spans does old new before at p k values dispatch made) sited_is did) plain
-      keeps_new false is did plain = keeps_declined under p site its_site.0 its_site.1 found (ap (λ (l : Level). is_within l level) its_site.2 ∙ sym is) (one ∙ ap (λ (h : Handle). hs ++ Some h ∷ []) did.0) did.1
+      pub serves_new : (enabled : Bool) → enabled ≡ is_within lvl level → MakesOnly spans does enabled old new before at p found_site values dispatch made
+          → (t : Tables) → StandsFor now t → Served (effect_of_call now.setup t at lane (call.New site under fields)) t now then (reply.Made enabled number)
+      serves_new true is did t stands = serves_made under p site its_site.0 its_site.1 found fields values its_values made before within seen_is (ap (λ (l : Level). is_within l level) its_site.2 ∙ sym is) one (subst (λ (k : ℕ). Makes spans does old new before at p k values dispatch made) sited_is did) t stands
+      serves_new false is did t stands = serves_declined under p site its_site.0 its_site.1 found fields values its_values (ap (λ (l : Level). is_within l level) its_site.2 ∙ sym is) (one ∙ ap (λ (h : Handle). hs ++ Some h ∷ []) did.0) did.1 t stands
+
+      pub keeps_new : (enabled : Bool) → enabled ≡ is_within lvl level → MakesOnly spans does enabled old new before at p found_site values dispatch made → IsKept kept is_whole new then
+      keeps_new true is did = keeps_made under p site its_site.0 its_site.1 found fields values its_values made before within seen_is (ap (λ (l : Level). is_within l level) its_site.2 ∙ sym is) one (subst (λ (k : ℕ). Makes spans does old new before at p k values dispatch made) sited_is did)
+      keeps_new false is did = keeps_declined under p site its_site.0 its_site.1 found fields values its_values (ap (λ (l : Level). is_within l level) its_site.2 ∙ sym is) (one ∙ ap (λ (h : Handle). hs ++ Some h ∷ []) did.0) did.1
 
 -- what a making requires
 few_if : (o : Option ℕ) (made : List Span) → ((s : ℕ) → HasFewHolds made s) → IfSome o (HasFewHolds made)
@@ -344,7 +359,7 @@ of_held : (dispatch : ℕ) (line : Scope) (held : ℕ × ℕ) → Some held ≡ 
 of_held dispatch [] held is = absurd (cc is)
 of_held dispatch (s ∷ up) held is = (let e : held ≡ (dispatch, s) = cc is in ap (λ (h : ℕ × ℕ). h.0) e)
 
-module _ {S : Type 0} (spans : S → Spans) (recorded : S → Recording) (kept : S → ℕ → ℕ → ℕ) (is_whole : S → Type 0) (world : Worlds S) (dispatch : ℕ) (level : LevelFilter) (lanes : List Lane) (hs : List (Option Handle)) (gs : List (Option Guard)) (m : ℕ) (inv : IsKept kept is_whole world (state_of spans recorded world dispatch level lanes hs gs m)) where
+module _ {S : Type 0} (spans : S → Spans) (recorded : S → Recording) (kept : S → ℕ → ℕ → ℕ) (is_whole : S → Type 0) (world : Worlds S) (dispatch : ℕ) (level : LevelFilter) (lanes : List Lane) (hs : List (Option Handle)) (gs : List (Option Guard)) (cs : Named) (m : ℕ) (inv : IsKept kept is_whole world (state_of spans recorded world dispatch level lanes hs gs cs m)) where
   pub make_may : (under : Place) (p : Parent) → place_for (map held_by hs) under ≡ Some p → (lane : ℕ) → length hs < 2 ^ 62 → length gs < 2 ^ 62 → MayMake spans is_whole world lane p dispatch
   make_may under p found lane few_handles few_guards =
       let a = sym (length-map hs held_by) ∙ ap length inv.fits.handle_slots ∙ length-map inv.tables.handles (option_map (held_of dispatch)) in
@@ -352,11 +367,14 @@ module _ {S : Type 0} (spans : S → Spans) (recorded : S → Recording) (kept :
       record {
         there = inv.there;
         whole = inv.whole;
-        live = has_by spans no_spans world dispatch (λ (x : Spans). IsLivePlace x.made p) (find_up (state_of spans recorded world dispatch level lanes hs gs m) inv.tables inv.fits 0 under p found).live_place;
+        live = has_by spans no_spans world dispatch (λ (x : Spans). IsLivePlace x.made p) (find_up (state_of spans recorded world dispatch level lanes hs gs cs m) inv.tables inv.fits 0 under p found).live_place;
         few = has_by spans no_spans world dispatch (λ (x : Spans). AreFew x) (let c = inv.fits.made.count in let f = inv.fits.few in omega (arith, a, c, f, few_handles));
         few_holds = has_by spans no_spans world dispatch (λ (x : Spans). HasFewHoldsAbove x lane p)
             (few_if (place_on (entries_on lane (spans_in spans world dispatch).lanes) p) (spans_in spans world dispatch).made (λ s. let f = inv.fits.few_holds s in omega (arith, f, a, b, few_handles, few_guards)));
       }
+
+  pub tell_live : (under : Place) (p : Parent) → place_for (map held_by hs) under ≡ Some p → Has (λ s. IsLivePlace (spans s).made p) world dispatch
+  tell_live under p found = has_by spans no_spans world dispatch (λ (x : Spans). IsLivePlace x.made p) (find_up (state_of spans recorded world dispatch level lanes hs gs cs m) inv.tables inv.fits 0 under p found).live_place
 
   all_held : (n : ℕ) (held : ℕ × ℕ) → slot_at (map held_by hs) n ≡ Some (Some held) → held.0 ≡ dispatch
   all_held n held there = (let f = find (held_of dispatch) (map held_by hs) inv.tables.handles n (Some held) inv.fits.handle_slots there in of_held dispatch f.at held f.is)
@@ -366,10 +384,10 @@ module _ {S : Type 0} (spans : S → Spans) (recorded : S → Recording) (kept :
 
 -- after a refusal for want of memory
 pub made_alike : {S : Type 0} (spans : S → Spans) (recorded : S → Recording) (attaches : S → Bool) (kept : S → ℕ → ℕ → ℕ) (is_whole : S → Type 0) (same : S → S → Type 0) → ((old new : Worlds S) (dispatch : ℕ) → Replaced same old new dispatch → Alike spans attaches kept is_whole old new dispatch) → SameRecorded spans recorded attaches kept is_whole same
-    → (old new : Worlds S) (dispatch : ℕ) (level : LevelFilter) (lanes : List Lane) (hs hs' : List (Option Handle)) (gs : List (Option Guard)) (m : ℕ) → hs' ≡ hs → Replaced same old new dispatch
-    → (state_of spans recorded new dispatch level lanes hs' gs m ≡ state_of spans recorded old dispatch level lanes hs gs m) × (IsKept kept is_whole old (state_of spans recorded old dispatch level lanes hs gs m) → IsKept kept is_whole new (state_of spans recorded new dispatch level lanes hs' gs m))
-made_alike {S} spans recorded attaches kept is_whole same law records old new dispatch level lanes hs hs' gs m handles did =
+    → (old new : Worlds S) (dispatch : ℕ) (level : LevelFilter) (lanes : List Lane) (hs hs' : List (Option Handle)) (gs : List (Option Guard)) (cs : Named) (m : ℕ) → hs' ≡ hs → Replaced same old new dispatch
+    → (state_of spans recorded new dispatch level lanes hs' gs cs m ≡ state_of spans recorded old dispatch level lanes hs gs cs m) × (IsKept kept is_whole old (state_of spans recorded old dispatch level lanes hs gs cs m) → IsKept kept is_whole new (state_of spans recorded new dispatch level lanes hs' gs cs m))
+made_alike {S} spans recorded attaches kept is_whole same law records old new dispatch level lanes hs hs' gs cs m handles did =
     let alike = law old new dispatch did in
     let sites = ap (λ (w : Worlds S). w.sites) did.others in
-    let state : state_of spans recorded new dispatch level lanes hs' gs m ≡ state_of spans recorded old dispatch level lanes hs gs m = rw (alike.spans_same, sites, records old new dispatch did, handles) refl in
+    let state : state_of spans recorded new dispatch level lanes hs' gs cs m ≡ state_of spans recorded old dispatch level lanes hs gs cs m = rw (alike.spans_same, sites, records old new dispatch did, handles) refl in
     (state, λ inv. kept_alike spans recorded attaches kept is_whole old new _ _ inv state alike)

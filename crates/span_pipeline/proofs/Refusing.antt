@@ -1,12 +1,10 @@
 -- Requests that are refused, and steps as a whole.
 use Rattle.std.proofs.Common.{◌≡◌, ℕ, ◌<◌, zero, suc, List, [], ◌∷◌, length, false, Option, Some, None, Ok, Err, option_map, map, refl, sym, ap, subst, ◌∙◌, arith}
 use Rattle.std.specs.Prelude.{Result, IfOk, IfErr, slice_get}
-use Rattle.std.proofs.lemmas.Bool.{cond-false, true≢false}
+use Rattle.std.proofs.lemmas.Bool.{cond-false}
 use Rattle.std.proofs.lemmas.List.{length-map}
 use Rattle.std.proofs.lemmas.List.Sums.{fold_push}
 use Rattle.std.proofs.Math.ListN.{get_or-map}
-use Rattle.otel_base.specs.declared.enter_error.EnterError.{EnterError}
-use Rattle.otel_base.specs.declared.enter_error.EnterError.TheVariants as errors
 use Rattle.trace_base.specs.declared.lane.Lane.{Lane}
 use Rattle.span_handles.specs.Handles.{Handle}
 use Rattle.span_pipeline.specs.declared.request.Request.{Request}
@@ -16,8 +14,7 @@ use Rattle.span_pipeline.specs.declared.reply.Refusal.TheVariants as refusal
 use Rattle.span_pipeline.specs.declared.reply.What.TheVariants as what
 use Rattle.span_pipeline.specs.Tables.{Scope, Tables, History, tables, after, no_tables, slot_at}
 use Rattle.span_pipeline.specs.Effects.{Resolved, named, is_bad_moment, effect_of, effect_of_call}
-use Rattle.span_pipeline.specs.Refusals.{refused_entry}
-use Rattle.span_pipeline.specs.Fits.{State, Fits, StandsFor, Served, Recorded, IsRefusal, is_room, held_by, held_of}
+use Rattle.span_pipeline.specs.Fits.{State, Fits, StandsFor, Served, Recorded, IsRefusal, held_by, held_of}
 
 -- a handle that isn't there
 pub refuses_unknown : (view k : State) → view ≡ k → (hs : List (Option Handle)) → view.handles ≡ map held_by hs → (handle : ℕ) → slot_at hs handle ≡ None → (t : Tables) → Fits k t → (go : Scope → Resolved)

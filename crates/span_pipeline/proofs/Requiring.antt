@@ -8,7 +8,7 @@ use Rattle.trace_base.specs.Gate.{Worlds}
 use Rattle.trace_base.specs.Spans.{Spans}
 use Rattle.trace_base.specs.Conditions.{HasOwnHold, HasFewHolds, MayExit}
 use Rattle.trace_base.specs.Contexts.{AreAttached}
-use Rattle.span_handles.specs.Worlds.{spans_in, kept_in, no_spans}
+use Rattle.span_handles.specs.Worlds.{Has, spans_in, kept_in, no_spans}
 use Rattle.span_handles.specs.Handles.{Handle, Held, HasOn, IsKnown}
 use Rattle.span_handles.specs.Entries.{IsThere}
 use Rattle.span_pipeline.specs.declared.slots.Guard.{Guard}
@@ -16,7 +16,7 @@ use Rattle.span_pipeline.specs.Setups.{id_at}
 use Rattle.otel_layer.specs.Recording.{Recording}
 use Rattle.span_pipeline.specs.Tables.{Scope, slot_at, own}
 use Rattle.span_pipeline.specs.Balance.{named_by, opened_on, opened_by}
-use Rattle.span_pipeline.specs.Fits.{state_of, held_by, IsKept, held_of, guard_of}
+use Rattle.span_pipeline.specs.Fits.{Named, state_of, held_by, IsKept, held_of, guard_of}
 use Rattle.span_pipeline.proofs.Naming.{Found, find, held_slot}
 use Rattle.span_pipeline.proofs.Fitting.{fits_own, fits_may_exit}
 use Rattle.span_pipeline.proofs.Balancing.{named_slot, opened_slot}
@@ -26,10 +26,10 @@ use Rattle.span_pipeline.proofs.Keeping.{are_attached, id_seen}
 the_held : (a b : Held) → ◌≡◌ {A = Option Held} (Some a) (Some b) → a ≡ b
 the_held a b e = cc e
 
-module _ {S : Type 0} (spans : S → Spans) (recorded : S → Recording) (kept : S → ℕ → ℕ → ℕ) (is_whole : S → Type 0) (world : Worlds S) (dispatch : ℕ) (level : LevelFilter) (lanes : List Lane) (handles : List (Option Handle)) (guards : List (Option Guard)) (moment : ℕ)
-    (inv : IsKept kept is_whole world (state_of spans recorded world dispatch level lanes handles guards moment)) where
+module _ {S : Type 0} (spans : S → Spans) (recorded : S → Recording) (kept : S → ℕ → ℕ → ℕ) (is_whole : S → Type 0) (world : Worlds S) (dispatch : ℕ) (level : LevelFilter) (lanes : List Lane) (handles : List (Option Handle)) (guards : List (Option Guard)) (contexts : Named) (moment : ℕ)
+    (inv : IsKept kept is_whole world (state_of spans recorded world dispatch level lanes handles guards contexts moment)) where
   abbrev ids : List ℕ
-  ids = (state_of spans recorded world dispatch level lanes handles guards moment).setup.ids
+  ids = (state_of spans recorded world dispatch level lanes handles guards contexts moment).setup.ids
 
   abbrev sp : Spans
   sp = spans_in spans world dispatch
@@ -47,6 +47,10 @@ module _ {S : Type 0} (spans : S → Spans) (recorded : S → Recording) (kept :
 
     pub needs_whole : HasOn (λ s id. is_whole s) world h.held
     needs_whole = has_on (λ s id. is_whole s) world dispatch scope_is.at h.held scope_is.is (λ s up e. inv.whole)
+
+    -- what every subscriber has that is whole
+    pub needs_has : (P : S → Type 0) → Has P world dispatch → HasOn (λ s id. P s) world h.held
+    needs_has P has = has_on (λ s id. P s) world dispatch scope_is.at h.held scope_is.is (λ s up e. has)
 
     pub needs_known : IsKnown spans world h.held
     needs_known = known_on spans world dispatch scope_is.at h.held scope_is.is inv.there

@@ -1,8 +1,9 @@
 -- Scopes stay scopes when one more span is made.
-use Rattle.std.proofs.Common.{◌≡◌, ℕ, ◌<◌, List, [], ◌∷◌, ◌++◌, length, Option, Some, None, refl, sym, ap, subst, ◌∙◌, arith, inl, inr}
+use Rattle.std.proofs.Common.{◌≡◌, ℕ, ◌<◌, zero, suc, List, [], ◌∷◌, ◌++◌, length, Option, Some, None, option_map, map, refl, sym, ap, subst, ◌∙◌, arith, inl, inr}
+use Rattle.std.specs.Prelude.{IfSome}
 use Rattle.std.proofs.lemmas.Bool.{cases_eq}
 use Rattle.std.proofs.lemmas.List.{length_push, get_or_push, get_or_append_left}
-use Rattle.span_pipeline.specs.Tables.{Scope, Made, made_of, own, with_new}
+use Rattle.span_pipeline.specs.Tables.{Scope, Made, no_making, made_of, own, site_of, slot_at, with_new}
 use Rattle.span_pipeline.specs.Fits.{IsScope, IsUnder}
 
 pub made_left : (made : List Made) (m : Made) (s : ℕ) → s < length made → made_of (made ++ m ∷ []) s ≡ made_of made s
@@ -40,3 +41,34 @@ lines_after made (Some m) ok old s within =
           let was = old s below in
           subst P (sym (ap (λ (x : Made). x.scope) (made_left made m s below))) (was.0, line_push made m (made_of made s).scope was.1))
     ]
+
+-- ---- callsites
+
+pub site_left : (made : List Made) (new : Option Made) (scope : Scope) → IsScope made scope → site_of (with_new made new) scope ≡ site_of made scope
+site_left made None scope is = refl
+site_left made (Some m) [] is = refl
+site_left made (Some m) (s ∷ up) is = ap (λ (x : Made). Some x.site) (made_left made m s is.0)
+
+-- handles keep the callsites of their spans
+pub sites_left : (made : List Made) (new : Option Made) (slots : List (Option Scope)) → ((n : ℕ) (scope : Scope) → slot_at slots n ≡ Some scope → IsScope made scope)
+    → map (option_map (site_of made)) slots ≡ map (option_map (site_of (with_new made new))) slots
+sites_left made new [] are = refl
+sites_left made new (None ∷ slots) are = ap (λ (xs : List (Option (Option ℕ))). None ∷ xs) (sites_left made new slots (λ n scope there. are (suc n) scope there))
+sites_left made new (Some scope ∷ slots) are =
+    ap (λ (o : Option ℕ). Some o ∷ map (option_map (site_of made)) slots) (sym (site_left made new scope (are zero scope refl)))
+    ∙ ap (λ (xs : List (Option (Option ℕ))). Some (site_of (with_new made new) scope) ∷ xs) (sites_left made new slots (λ n scope there. are (suc n) scope there))
+
+-- a span that is made has a callsite that is there
+abbrev pub NewSite : ℕ → Option Made → Type 0
+NewSite many new = IfSome new (λ m. m.site < many)
+
+pub sited_after : (many : ℕ) (made : List Made) (new : Option Made) → NewSite many new → ((s : ℕ) → s < length made → (made_of made s).site < many) → (s : ℕ) → s < length (with_new made new) → (made_of (with_new made new) s).site < many
+sited_after many made None ok old s within = old s within
+sited_after many made (Some m) ok old s within = elim (cases_eq s (length made)) [
+  | inl here ↦ (let e = ap (λ (x : Made). x.site) (get_or_push made m no_making s (sym here)) in omega (arith, e, ok))
+  | inr other ↦ (
+      let below : s < length made = (let n = length_push made m in omega (arith, n, other, within)) in
+      let e = ap (λ (x : Made). x.site) (made_left made m s below) in
+      let was = old s below in
+      omega (arith, e, was))
+]

@@ -1,5 +1,5 @@
 -- What calls on the span of a scope keep, whatever their kind.
-use Rattle.std.proofs.Common.{◌≡◌, ℕ, ◌<◌, List, [], ◌∷◌, length, Bool, None, false, Ok, Err, refl, sym, ap, subst, ◌∙◌, arith}
+use Rattle.std.proofs.Common.{◌≡◌, ℕ, ◌<◌, List, [], ◌∷◌, length, Bool, Option, None, false, Ok, Err, refl, sym, ap, subst, ◌∙◌, arith}
 use Rattle.trace_base.specs.declared.lane.Lane.{Lane}
 use Rattle.trace_base.specs.Gate.{Worlds}
 use Rattle.trace_base.specs.Spans.{Spans, span_at}
@@ -14,10 +14,11 @@ use Rattle.std.specs.Prelude.{◌==◌, ◌≢◌}
 use Rattle.std.specs.List.{list_any}
 use Rattle.otel_layer.specs.Table.{told_at}
 use Rattle.otel_layer.specs.Recording.{Recording}
+use Rattle.span_pipeline.specs.declared.contexts.Attach.{Attach}
 use Rattle.span_pipeline.specs.Setups.{Setup}
 use Rattle.span_pipeline.specs.Tables.{Scope, Attached, Effect, Tables, after, recorded_by}
 use Rattle.span_pipeline.specs.Effects.{Resolved, effect_of_call}
-use Rattle.span_pipeline.specs.Fits.{State, Laned, lane_at, Fits, StandsFor, RecordingFits, ContextsFit, LanesFit, IsKept, Served}
+use Rattle.span_pipeline.specs.Fits.{State, Laned, Fits, StandsFor, RecordingFits, AllContextsFit, LanesFit, IsKept, Served}
 use Rattle.span_pipeline.proofs.Known.{still_known}
 use Rattle.span_pipeline.proofs.Recordings.{recording_step}
 use Rattle.span_pipeline.proofs.Reading.{ShownOn}
@@ -33,7 +34,7 @@ by_view_refused at lane request given view k is refuses = subst (λ (x : State).
 
 -- what the lanes' contexts have to fit
 abbrev pub AllFit : State → (ℕ → List Attached) → Type 0
-AllFit k contexts = (n : ℕ) → n < length k.lanes → ContextsFit k.setup.layer.activation (lane_at k.lanes n).id (lane_at k.lanes n).live k.recording.tokens (contexts (lane_at k.lanes n).id)
+AllFit k contexts = AllContextsFit k.setup.layer.activation k.lanes k.recording.tokens k.contexts.attaches contexts
 
 -- a request is served where its effect makes what is kept
 pub serve : (k next : State) (t : Tables) (e : Effect) (resolved : Resolved) (answer : Reply) → StandsFor k t → resolved ≡ Ok e → answer ≡ e.reply → next.setup ≡ k.setup → (toks : List Token)
@@ -47,12 +48,13 @@ pub known_still : (k next : State) (t : Tables) (e : Effect) (toks : List Token)
     → 0 < (span_at k.spans.made s).holds → told_at s next.recording.spans ≢ None
 known_still k next t e toks is fit s out live none = still_known (length t.made) s e k.recording out (fit.known s live) (ap (λ (r : Recording). told_at s r.spans) (sym is) ∙ none)
 
--- where neither lanes nor open entries changed
-pub all_same : (k next : State) (contexts : ℕ → List Attached) → next.setup ≡ k.setup → next.lanes ≡ k.lanes → next.recording.tokens ≡ k.recording.tokens → AllFit k contexts → AllFit next contexts
-all_same k next contexts setup lanes tokens fit =
-    subst (λ (x : Setup). (n : ℕ) → n < length next.lanes → ContextsFit x.layer.activation (lane_at next.lanes n).id (lane_at next.lanes n).live next.recording.tokens (contexts (lane_at next.lanes n).id)) (sym setup)
-    (subst (λ (ls : List Laned). (n : ℕ) → n < length ls → ContextsFit k.setup.layer.activation (lane_at ls n).id (lane_at ls n).live next.recording.tokens (contexts (lane_at ls n).id)) (sym lanes)
-    (subst (λ (ts : List Token). (n : ℕ) → n < length k.lanes → ContextsFit k.setup.layer.activation (lane_at k.lanes n).id (lane_at k.lanes n).live ts (contexts (lane_at k.lanes n).id)) (sym tokens) fit))
+-- where neither lanes nor open entries nor guards of attaches changed
+pub all_same : (k next : State) (contexts : ℕ → List Attached) → next.setup ≡ k.setup → next.contexts.attaches ≡ k.contexts.attaches → next.lanes ≡ k.lanes → next.recording.tokens ≡ k.recording.tokens → AllFit k contexts → AllFit next contexts
+all_same k next contexts setup attaches lanes tokens fit =
+    subst (λ (x : Setup). AllContextsFit x.layer.activation next.lanes next.recording.tokens next.contexts.attaches contexts) (sym setup)
+    (subst (λ (xs : List (Option Attach)). AllContextsFit k.setup.layer.activation next.lanes next.recording.tokens xs contexts) (sym attaches)
+    (subst (λ (ls : List Laned). AllContextsFit k.setup.layer.activation ls next.recording.tokens k.contexts.attaches contexts) (sym lanes)
+    (subst (λ (ts : List Token). AllContextsFit k.setup.layer.activation k.lanes ts k.contexts.attaches contexts) (sym tokens) fit)))
 
 module _ {S : Type 0} (spans : S → Spans) (recorded : S → Recording) (attaches : S → Bool) (kept : S → ℕ → ℕ → ℕ) (is_whole : S → Type 0) (old new : Worlds S) where
   -- what is kept besides what fits the tables

@@ -1,16 +1,16 @@
 -- A record that is taken, and how many spans are open.
 use Rattle.std.specs.Prelude.{◌+◌, MatchOption}
-use Rattle.std.proofs.Common.{◌≡◌, ℕ, zero, suc, ◌<◌, ◌≤◌, List, [], ◌∷◌, ◌++◌, length, drop, set, count_by, cond, Bool, true, false, Option, Some, None, option_map, map, refl, sym, ap, subst, ◌∙◌, arith, inl, inr, slice_get}
+use Rattle.std.proofs.Common.{◌≡◌, ℕ, zero, suc, List, [], ◌∷◌, drop, set, Bool, Option, Some, map, refl, sym, ap, subst, ◌∙◌, arith, slice_get}
 use Rattle.std.proofs.lemmas.List.{length-set}
 use Rattle.otel_base.specs.Recorder.{Recorded}
 use Rattle.trace_base.specs.declared.lane.Lane.{Lane}
 use Rattle.trace_base.specs.declared.level.LevelFilter.{LevelFilter}
 use Rattle.trace_base.specs.Gate.{Worlds}
-use Rattle.trace_base.specs.Spans.{Spans, span_at}
+use Rattle.trace_base.specs.Spans.{Spans}
 use Rattle.span_registry.specs.declared.layered.Layered.{Layered}
 use Rattle.span_registry.specs.Registering.{Registered}
 use Rattle.span_registry.specs.Both.{IsWholeBoth}
-use Rattle.span_handles.specs.Worlds.{Has, Replaced, seen, spans_in, kept_in, no_spans}
+use Rattle.span_handles.specs.Worlds.{Replaced, seen, no_spans}
 use Rattle.span_handles.specs.Handles.{Handle}
 use Rattle.span_handles.proofs.Showing.{seen_before, seen_later}
 use Rattle.otel_layer.specs.Core.{Core, Roomed, IsWholeCore, seen_in}
@@ -20,13 +20,17 @@ use Rattle.std.specs.Option.{option_map_or}
 use Rattle.otel_layer.specs.Recording.{Recording, no_recording, recorded}
 use Rattle.span_pipeline.specs.declared.slots.Guard.{Guard}
 use Rattle.span_pipeline.specs.Tables.{Tables}
-use Rattle.span_pipeline.specs.Fits.{State, state_of, Fits, RecordingFits, StandsFor, LanesFit, IsKept, laned, without_first}
+use Rattle.span_pipeline.specs.Fits.{Named, State, state_of, Fits, StandsFor, LanesFit, IsKept, laned, without_first}
 
 -- what is kept fits without its oldest record
 fits_taken : (k : State) (t : Tables) → Fits k t → Fits (without_first k) t
 fits_taken k t fits = record {
   handle_slots = fits.handle_slots;
+  site_slots = fits.site_slots;
   guard_slots = fits.guard_slots;
+  attach_slots = fits.attach_slots;
+  paired = fits.paired;
+  named = fits.named;
   latest = fits.latest;
   balanced = fits.balanced;
   made = fits.made;
@@ -34,6 +38,7 @@ fits_taken k t fits = record {
   scopes = fits.scopes;
   still = fits.still;
   own_scopes = fits.own_scopes;
+  sited = fits.sited;
   few = fits.few;
   few_holds = fits.few_holds;
 }
@@ -52,7 +57,7 @@ pub record Taken {S : Type 0} (spans : S → Spans) (recorded : S → Recording)
   pub whole : is_whole s → is_whole t
 
 module _ {S : Type 0} (spans : S → Spans) (recorded : S → Recording) (kept : S → ℕ → ℕ → ℕ) (is_whole : S → Type 0) (world : Worlds S) (dispatch : ℕ) (s t : S) (there : slice_get world.subscribers dispatch ≡ Some s) (taken : Taken spans recorded kept is_whole s t)
-    (level : LevelFilter) (lanes : List Lane) (hs : List (Option Handle)) (gs : List (Option Guard)) (m : ℕ) where
+    (level : LevelFilter) (lanes : List Lane) (hs : List (Option Handle)) (gs : List (Option Guard)) (cs : Named) (m : ℕ) where
   abbrev new : Worlds S
   new = record world { subscribers = set world.subscribers dispatch t }
 
@@ -63,10 +68,10 @@ module _ {S : Type 0} (spans : S → Spans) (recorded : S → Recording) (kept :
   unfolding step
   now_is read none f same = seen_later _ world new dispatch step read none ∙ same ∙ ap f (sym (seen_before _ world new dispatch step read none))
 
-  pub state_taken : state_of spans recorded new dispatch level lanes hs gs m ≡ without_first (state_of spans recorded world dispatch level lanes hs gs m)
+  pub state_taken : state_of spans recorded new dispatch level lanes hs gs cs m ≡ without_first (state_of spans recorded world dispatch level lanes hs gs cs m)
   state_taken = rw (now_is spans no_spans (λ x. x) taken.spans_same, now_is recorded no_recording (λ r. record r { finished = drop 1 r.finished }) taken.records) refl
 
-  pub kept_taken : IsKept kept is_whole world (state_of spans recorded world dispatch level lanes hs gs m) → IsKept kept is_whole new (state_of spans recorded new dispatch level lanes hs gs m)
+  pub kept_taken : IsKept kept is_whole world (state_of spans recorded world dispatch level lanes hs gs cs m) → IsKept kept is_whole new (state_of spans recorded new dispatch level lanes hs gs cs m)
   kept_taken inv =
       let stands = stands_taken _ inv.tables (record { fits = inv.fits; recording = inv.recording }) in
       subst (λ (k : State). IsKept kept is_whole new k) (sym state_taken) (record {

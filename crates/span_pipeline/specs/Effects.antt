@@ -1,14 +1,17 @@
 -- What each request changes, or the first refusal that applies.
-use Rattle.std.specs.Prelude.{ℕ, List, [], ◌∷◌, length, filter, count_by, Bool, true, not, false, if◌then◌else◌, ◌==◌, ◌||◌, ◌&&◌, nat_lt, is_some, Option, Some, None, Result, Ok, Err, slice_get, slice_set}
+use Rattle.std.specs.Prelude.{ℕ, List, [], ◌∷◌, length, filter, count_by, Bool, true, not, false, if◌then◌else◌, ◌==◌, ◌||◌, ◌&&◌, nat_lt, is_some, Option, Some, None, Result, Ok, Err, slice_get, slice_set, option_map, option_and_then}
 use Rattle.std.specs.List.{list_any, range_with_len}
 use Rattle.trace_base.specs.Level.{is_within}
 use Rattle.trace_base.specs.Spans.{is_in, current_of}
 use Rattle.std.specs.Option.{option_to_list}
 use Rattle.otel_base.specs.declared.context.Context.{Context}
+use Rattle.otel_base.specs.Ids.{ids_of}
 use Rattle.otel_base.specs.Stack.{empty_context}
 use Rattle.otel_state.specs.declared.op.Op.{Op}
 use Rattle.otel_state.specs.declared.op.Op.TheVariants as ops
+use Rattle.otel_state.specs.declared.settings.LayerSettings.{LayerSettings}
 use Rattle.otel_state.specs.EventFields.{event_of}
+use Rattle.otel_state.specs.SpanFields.{span_update}
 use Rattle.otel_state.specs.States.{Told}
 use Rattle.otel_layer.specs.Steps.{above, context_from, made_told}
 use Rattle.otel_layer.specs.Table.{told_at, own_or}
@@ -18,6 +21,7 @@ use Rattle.trace_base.specs.declared.lane.Lane.{Lane}
 use Rattle.trace_base.specs.declared.span.Parent.{Parent}
 use Rattle.trace_base.specs.declared.span.Parent.TheVariants as parent
 use Rattle.trace_base.specs.declared.callsite.Callsite.{Callsite}
+use Rattle.span_pipeline.specs.declared.reply.Reply.{Reply}
 use Rattle.span_pipeline.specs.declared.reply.Reply.TheVariants as reply
 use Rattle.span_pipeline.specs.declared.reply.Refusal.{Refusal}
 use Rattle.span_pipeline.specs.declared.reply.Refusal.TheVariants as refusal
@@ -30,7 +34,8 @@ use Rattle.span_pipeline.specs.declared.request.Call.TheVariants as call
 use Rattle.span_pipeline.specs.declared.request.Request.{Request}
 use Rattle.span_pipeline.specs.declared.request.TheConstants.{LAST_MOMENT}
 use Rattle.span_pipeline.specs.Setups.{Setup, id_at, name_at, span_site, event_site}
-use Rattle.span_pipeline.specs.Tables.{Scope, Done, Attached, Guarded, Effect, quiet, Tables, slot_at, own, scope_of}
+use Rattle.span_pipeline.specs.Tables.{Scope, Done, EntryOf, GuardOf, Attached, Guarded, Effect, quiet, Tables, slot_at, own, site_of, scope_of}
+use Rattle.span_pipeline.specs.Fields.{Fields, all_values, values_of, declared_by}
 
 abbrev pub Resolved : Type 0
 Resolved = Result Effect Refusal
@@ -102,30 +107,27 @@ context_around items parent.Current = last_attached empty_context items
 abbrev pub lane_in : Setup → ℕ → Lane
 lane_in setup lane = record { id = id_at setup.ids lane; name = name_at setup.names lane; default = None; contexts = record { live = []; room = 0 } }
 
-abbrev pub no_values : ValueSet
-no_values = record { pairs = [] }
-
--- a new span at a place: what gives its parent's context starts before
-abbrev pub made_at : Setup → Tables → ℕ → ℕ → Callsite → Parent → Told
-made_at setup t at lane callsite p =
+-- a new span at a place with some values: what gives its parent's context starts before
+abbrev pub made_at : Setup → Tables → ℕ → ℕ → Callsite → ValueSet → Parent → Told
+made_at setup t at lane callsite values p =
     let source = above setup.layer.activation p (current_of (t.entries (id_at setup.ids lane))) in
     let r = with_starts source at t.recording in
-    made_told callsite (lane_in setup lane) no_values
+    made_told callsite (lane_in setup lane) values
     (context_from r.spans (context_around (t.contexts (id_at setup.ids lane)) p) source) at r.settings r.counting
 
-abbrev pub makes_span : Setup → Tables → ℕ → ℕ → ℕ → Callsite → Place → Scope → Effect
-makes_span setup t at lane site callsite under up =
+abbrev pub makes_span : Setup → Tables → ℕ → ℕ → ℕ → Callsite → ValueSet → Place → Scope → Effect
+makes_span setup t at lane site callsite values under up =
     let scope : Scope = length t.made ∷ up in
     record (quiet at (id_at setup.ids lane) (reply.Made true (length t.handles))) {
       new_handle = Some scope;
-      made = Some (record { site = site; scope = scope; told = made_at setup t at lane callsite (parent_at under up) });
+      made = Some (record { site = site; scope = scope; told = made_at setup t at lane callsite values (parent_at under up) });
       starts = option_to_list (above setup.layer.activation (parent_at under up) (current_of (t.entries (id_at setup.ids lane))));
     }
 
 -- a callsite within the level gives a span, any other a disabled handle
-abbrev pub makes : Setup → Tables → ℕ → ℕ → ℕ → Callsite → Place → Scope → Effect
-makes setup t at lane site callsite under up =
-    if is_within callsite.level setup.level then makes_span setup t at lane site callsite under up else declines t at (id_at setup.ids lane)
+abbrev pub makes : Setup → Tables → ℕ → ℕ → ℕ → Callsite → ValueSet → Place → Scope → Effect
+makes setup t at lane site callsite values under up =
+    if is_within callsite.level setup.level then makes_span setup t at lane site callsite values under up else declines t at (id_at setup.ids lane)
 
 -- another handle of a scope: enabled if the scope has a span
 abbrev pub clones : Tables → ℕ → ℕ → Scope → Effect
@@ -167,7 +169,7 @@ active activation scope = if activation then own scope else None
 
 abbrev pub attached_by : Recording → ℕ → Option ℕ → Option Attached
 attached_by r at None = None
-attached_by r at (Some s) = Some (record { span = s; context = own_or empty_context (told_at s (with_start s at r).spans) })
+attached_by r at (Some s) = Some (record { owner = EntryOf s; context = own_or empty_context (told_at s (with_start s at r).spans) })
 
 -- an entry of a handle's span on the lane at a place, by a guard that owns the handle or not
 abbrev pub enters : Setup → Tables → ℕ → ℕ → ℕ → Bool → Scope → Effect
@@ -179,10 +181,15 @@ enters setup t at lane handle owns scope = record (quiet at (id_at setup.ids lan
   entry = own scope;
 }
 
--- an entry that attaches a context meets a full lane: one with as many contexts as may be
-abbrev pub meets_full : Bool → Scope → List Attached → Bool
-meets_full activation scope items = is_some (active activation scope) && length items == 65534
+-- a lane is full that has as many contexts as may be
+abbrev pub is_full : List Attached → Bool
+is_full items = length items == 65534
 
+-- an entry that attaches a context meets a full lane
+abbrev pub meets_full : Bool → Scope → List Attached → Bool
+meets_full activation scope items = is_some (active activation scope) && is_full items
+
+-- what attaches is refused on a full lane
 abbrev pub enters_unless : Bool → ℕ → Effect → Resolved
 enters_unless full lane effect = if full then Err (refusal.Full lane) else Ok effect
 
@@ -195,7 +202,7 @@ abbrev pub exits : Setup → ℕ → ℕ → ℕ → Scope → Effect
 exits setup at lane guard scope = record (quiet at lane reply.Done) {
   spent_guard = Some guard;
   ops = on scope ops.Exit;
-  detach = active setup.layer.activation scope;
+  detach = option_map EntryOf (active setup.layer.activation scope);
   exit = own scope;
 }
 
@@ -212,26 +219,65 @@ exits_on mine lane effect = if mine == lane then Ok effect else Err (refusal.Wro
 
 -- ---- events
 
--- an op of the span that an event reaches, if it reaches one
-abbrev pub told_to : Option ℕ → Op → List Done
-told_to None op = []
-told_to (Some s) op = record { span = s; op = op } ∷ []
-
 -- an event that isn't let through leaves nothing
 abbrev pub if_told : Bool → List Done → List Done
 if_told enabled done = if enabled then done else []
 
-abbrev pub tells : Tables → ℕ → ℕ → Bool → List Done → Effect
-tells t at lane enabled done = record (quiet at lane (reply.Enabled enabled)) { ops = done }
+-- ops on spans and nothing else
+abbrev pub tells : ℕ → ℕ → Reply → List Done → Effect
+tells at lane answer done = record (quiet at lane answer) { ops = done }
+
+-- an event goes to the own span of the scope that its place names
+abbrev pub events : Setup → ℕ → ℕ → Callsite → ValueSet → Scope → Effect
+events setup at lane callsite values reached =
+    let enabled = is_within callsite.level setup.level in
+    tells at lane (reply.Enabled enabled) (if_told enabled (on reached (event_of callsite values setup.layer at)))
+
+-- ---- fields
+
+-- the callsite of a scope's own span, if it has one
+abbrev pub callsite_of : Setup → Tables → Scope → Option Callsite
+callsite_of setup t scope = option_and_then (λ site. slice_get setup.sites site) (site_of t.made scope)
+
+-- the update that some fields are for the span of a callsite: those that it declares
+abbrev pub updates : LayerSettings → Scope → Fields → Option Callsite → List Done
+updates settings scope fields None = []
+updates settings scope fields (Some callsite) =
+    on scope (ops.Update (span_update callsite (values_of callsite fields) settings))
+
+-- ---- contexts
+
+-- a context more, and the span that starts for it
+abbrev pub gives : Tables → ℕ → ℕ → Option ℕ → Context → Effect
+gives t at lane starting context = record (quiet at lane (reply.Context (length t.named) (ids_of context))) {
+  new_context = Some context;
+  starts = option_to_list starting;
+}
+
+-- the own context of a scope's span, which starts; the empty one where there is no span
+abbrev pub own_context : Recording → ℕ → Scope → Context
+own_context r at [] = empty_context
+own_context r at (s ∷ up) = own_or empty_context (told_at s (with_start s at r).spans)
+
+-- an attach to the lane at a place
+abbrev pub attaches : Setup → Tables → ℕ → ℕ → Context → Effect
+attaches setup t at lane context = record (quiet at (id_at setup.ids lane) (reply.Guard (length t.guards))) {
+  new_attach = Some lane;
+  attach = Some (record { owner = GuardOf (length t.guards); context = context });
+}
+
+abbrev pub detaches : ℕ → ℕ → ℕ → Effect
+detaches at lane guard = record (quiet at lane reply.Done) { spent_attach = Some guard; detach = Some (GuardOf guard) }
 
 -- ---- all calls
 
--- what a call on a lane, which is named by its place, at a moment changes; no other kind is built
+-- what a call on a lane, which is named by its place, at a moment changes
 abbrev pub effect_of_call : Setup → Tables → ℕ → ℕ → Call → Resolved
-effect_of_call setup t at lane (call.New site under) =
+effect_of_call setup t at lane (call.New site under fields) =
     named what.Site (span_site setup.sites site)
     (λ callsite. named what.Handle (scope_at t (id_at setup.ids lane) under)
-    (λ up. Ok (makes setup t at lane site callsite under up)))
+    (λ up. named what.Field (all_values callsite fields)
+    (λ values. Ok (makes setup t at lane site callsite values under up))))
 effect_of_call setup t at lane (call.Clone handle) =
     named what.Handle (slot_at t.handles handle) (λ scope. Ok (clones t at (id_at setup.ids lane) scope))
 effect_of_call setup t at lane (call.Drop handle) =
@@ -250,15 +296,27 @@ effect_of_call setup t at lane (call.OrCurrent handle) =
 effect_of_call setup t at lane (call.Entered handle) =
     named what.Handle (slot_at t.handles handle)
     (λ scope. if is_borrowed t.guards handle then Err refusal.InUse else opens setup t at lane handle true)
-effect_of_call setup t at lane (call.Event site) =
+effect_of_call setup t at lane (call.Record handle fields) =
+    named what.Handle (slot_at t.handles handle)
+    (λ scope. Ok (tells at (id_at setup.ids lane) reply.Done (updates setup.layer scope fields (callsite_of setup t scope))))
+effect_of_call setup t at lane (call.HasField handle name) =
+    named what.Handle (slot_at t.handles handle)
+    (λ scope. Ok (quiet at (id_at setup.ids lane) (reply.Has (declared_by (callsite_of setup t scope) name))))
+effect_of_call setup t at lane (call.Event site under fields) =
     named what.Site (event_site setup.sites site)
-    (λ callsite. Ok (tells t at (id_at setup.ids lane) (is_within callsite.level setup.level)
-    (if_told (is_within callsite.level setup.level)
-    (told_to (current_of (t.entries (id_at setup.ids lane))) (event_of callsite no_values setup.layer at)))))
-effect_of_call setup t at lane (call.Remote ids) = Err refusal.Later
-effect_of_call setup t at lane (call.Context handle) = Err refusal.Later
-effect_of_call setup t at lane (call.Attach context) = Err refusal.Later
-effect_of_call setup t at lane (call.Detach guard) = Err refusal.Later
+    (λ callsite. named what.Handle (scope_at t (id_at setup.ids lane) under)
+    (λ reached. named what.Field (all_values callsite fields)
+    (λ values. Ok (events setup at (id_at setup.ids lane) callsite values reached))))
+effect_of_call setup t at lane (call.Remote ids) = Ok (gives t at (id_at setup.ids lane) None (record { span = Some ids }))
+effect_of_call setup t at lane (call.Context handle) =
+    named what.Handle (slot_at t.handles handle)
+    (λ scope. Ok (gives t at (id_at setup.ids lane) (own scope) (own_context t.recording at scope)))
+effect_of_call setup t at lane (call.Attach context) =
+    named what.Context (slice_get t.named context)
+    (λ given. enters_unless (is_full (t.contexts (id_at setup.ids lane))) lane (attaches setup t at lane given))
+effect_of_call setup t at lane (call.Detach guard) =
+    named what.Guard (slot_at t.attaches guard)
+    (λ mine. exits_on mine lane (detaches at (id_at setup.ids lane) guard))
 
 -- a moment below the one before, or above the last one
 abbrev pub is_bad_moment : ℕ → ℕ → Bool

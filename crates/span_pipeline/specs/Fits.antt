@@ -16,12 +16,14 @@ use Rattle.otel_layer.specs.Recording.{Recording, no_recording}
 use Rattle.span_handles.specs.Worlds.{Has, seen, spans_in, kept_in}
 use Rattle.span_handles.specs.Handles.{Handle, Held}
 use Rattle.span_pipeline.specs.declared.slots.Guard.{Guard}
+use Rattle.span_pipeline.specs.declared.contexts.Attach.{Attach}
+use Rattle.span_pipeline.specs.declared.contexts.Contexts.{Contexts}
 use Rattle.span_pipeline.specs.declared.reply.Reply.{Reply}
 use Rattle.span_pipeline.specs.declared.reply.Refusal.{Refusal}
 use Rattle.span_pipeline.specs.declared.reply.Refusal.TheVariants as refusal
 use Rattle.span_pipeline.specs.Setups.{Setup}
 use Rattle.span_pipeline.specs.Balance.{Balanced, named_by, opened_by}
-use Rattle.span_pipeline.specs.Tables.{Scope, Made, Attached, Guarded, Effect, Tables, History, tables, after, open_part, records_of, slot_at, own, made_of}
+use Rattle.span_pipeline.specs.Tables.{Scope, Made, Owner, EntryOf, GuardOf, Attached, is_by, Guarded, Effect, Tables, History, tables, after, open_part, records_of, slot_at, own, site_of, made_of}
 use Rattle.span_pipeline.specs.Effects.{Resolved}
 
 -- a lane, without its room
@@ -38,6 +40,14 @@ no_lane = record { id = 0; live = [] }
 abbrev pub lane_at : List Laned → ℕ → Laned
 lane_at lanes n = slice_index_or lanes n no_lane
 
+-- the contexts that a script names, and the guards of its attaches
+pub record Named : Type 0 where
+  pub made : List Context
+  pub attaches : List (Option Attach)
+
+abbrev pub named_in : Contexts → Named
+named_in contexts = record { made = contexts.made.items; attaches = contexts.attaches.items }
+
 -- what is kept, without spare room
 pub record State : Type 0 where
   pub setup : Setup
@@ -46,25 +56,33 @@ pub record State : Type 0 where
   pub recording : Recording
   pub dispatch : ℕ
   pub handles : List (Option Held)
+  pub handle_sites : List (Option (Option ℕ))
   pub guards : List (Option Guard)
+  pub contexts : Named
   pub moment : ℕ
 
 -- what an unspent handle stands for
 abbrev pub held_by : Option Handle → Option Held
 held_by slot = option_map (λ h. h.held) slot
 
+-- the place of its callsite, if it has one
+abbrev pub site_by : Option Handle → Option (Option ℕ)
+site_by slot = option_map (λ h. h.site) slot
+
 abbrev pub setup_of : List Callsite → List Lane → LevelFilter → LayerSettings → Setup
 setup_of sites lanes level layer = record { sites = sites; ids = map (λ l. l.id) lanes; names = map (λ l. l.name) lanes; level = level; layer = layer }
 
-abbrev pub state_of : {S : Type 0} → (S → Spans) → (S → Recording) → Worlds S → ℕ → LevelFilter → List Lane → List (Option Handle) → List (Option Guard) → ℕ → State
-state_of spans recorded world dispatch level lanes handles guards moment = record {
+abbrev pub state_of : {S : Type 0} → (S → Spans) → (S → Recording) → Worlds S → ℕ → LevelFilter → List Lane → List (Option Handle) → List (Option Guard) → Named → ℕ → State
+state_of spans recorded world dispatch level lanes handles guards contexts moment = record {
   setup = setup_of world.sites lanes level (seen recorded no_recording world dispatch).settings;
   spans = spans_in spans world dispatch;
   lanes = map laned lanes;
   recording = seen recorded no_recording world dispatch;
   dispatch = dispatch;
   handles = map held_by handles;
+  handle_sites = map site_by handles;
   guards = guards;
+  contexts = contexts;
   moment = moment;
 }
 
@@ -75,6 +93,10 @@ held_of dispatch (s ∷ up) = Some (dispatch, s)
 
 abbrev pub guard_of : ℕ → Guarded → Guard
 guard_of dispatch g = record { handle = g.handle; lane = g.lane; owns = g.owns; entry = held_of dispatch g.scope }
+
+-- the place of the lane of an attach's guard
+abbrev pub lane_of : Attach → ℕ
+lane_of = λ a. a.lane
 
 -- a scope is of spans that were made, each under the next
 abbrev pub IsUnder : ℕ → Scope → Type 0
@@ -104,36 +126,54 @@ pub record LanesFit (kept : ℕ → ℕ → ℕ) (lanes : List Laned) : Type 0 w
 
 -- ---- what was recorded, and the contexts of lanes
 
--- the numbers of the attaches that a span's entries made, by the contexts that are live
-abbrev pub numbers_of : ℕ → List (ℕ × Context) → List Attached → List (Option ℕ)
-numbers_of s [] items = []
-numbers_of s (x ∷ live) [] = []
-numbers_of s (x ∷ live) (a ∷ items) = if a.span == s then Some x.0 ∷ numbers_of s live items else numbers_of s live items
+-- the numbers of what an owner attached, by the contexts that are live
+abbrev pub numbers_of : Owner → List (ℕ × Context) → List Attached → List (Option ℕ)
+numbers_of o [] items = []
+numbers_of o (x ∷ live) [] = []
+numbers_of o (x ∷ live) (a ∷ items) = if is_by o a then Some x.0 ∷ numbers_of o live items else numbers_of o live items
 
--- the same by the layer's open entries
+-- the same of a span by the layer's open entries, and of an attach on the lane at a place by its guard
 abbrev pub tokens_of : ℕ → ℕ → List Token → List (Option ℕ)
 tokens_of lane s tokens = map (λ k. k.attached) (filter (is_token lane s) tokens)
+
+abbrev pub kept_on : ℕ → Option Attach → List (Option ℕ)
+kept_on place None = []
+kept_on place (Some a) = if a.lane == place then Some a.attached ∷ [] else []
+
+-- without activation entries attach nothing
+abbrev pub numbers_by : Bool → ℕ → ℕ → List Token → List (Option Attach) → Owner → List (Option ℕ)
+numbers_by activation place lane tokens attaches (EntryOf s) = if activation then tokens_of lane s tokens else []
+numbers_by activation place lane tokens attaches (GuardOf n) = kept_on place (slot_at attaches n)
 
 -- each live context has a number of its own
 abbrev pub AreDistinct : List (ℕ × Context) → Type 0
 AreDistinct [] = Unit {0}
 AreDistinct (x ∷ live) = (has x.0 live ≡ false) × AreDistinct live
 
--- a lane's contexts are those that the history attached, and with activation each entry of a span keeps the number of its own
-pub record ContextsFit (activation : Bool) (lane : ℕ) (live : List (ℕ × Context)) (tokens : List Token) (items : List Attached) : Type 0 where
+-- a lane's contexts are those that the history attached, and each owner keeps the numbers of its own
+pub record ContextsFit (numbers : Owner → List (Option ℕ)) (live : List (ℕ × Context)) (items : List Attached) : Type 0 where
   pub contexts : map (λ x. x.1) live ≡ map (λ a. a.context) items
   pub distinct : AreDistinct live
-  pub tokens_are : activation ≡ true → (s : ℕ) → numbers_of s live items ≡ tokens_of lane s tokens
+  pub numbers_are : (o : Owner) → numbers_of o live items ≡ numbers o
+
+-- so do those of all lanes
+abbrev pub AllContextsFit : Bool → List Laned → List Token → List (Option Attach) → (ℕ → List Attached) → Type 0
+AllContextsFit activation lanes tokens attaches contexts = (n : ℕ) → n < length lanes
+    → ContextsFit (numbers_by activation n (lane_at lanes n).id tokens attaches) (lane_at lanes n).live (contexts (lane_at lanes n).id)
 
 pub record RecordingFits (k : State) (t : Tables) : Type 0 where
   pub recorded : open_part k.recording ≡ t.recording
   pub known : (s : ℕ) → 0 < (span_at k.spans.made s).holds → told_at s k.recording.spans ≢ None
-  pub attached : (n : ℕ) → n < length k.lanes → ContextsFit k.setup.layer.activation (lane_at k.lanes n).id (lane_at k.lanes n).live k.recording.tokens (t.contexts (lane_at k.lanes n).id)
+  pub attached : AllContextsFit k.setup.layer.activation k.lanes k.recording.tokens k.contexts.attaches t.contexts
 
 -- What is kept fits the tables of a history.
 pub record Fits (k : State) (t : Tables) : Type 0 where
   pub handle_slots : k.handles ≡ map (option_map (held_of k.dispatch)) t.handles
+  pub site_slots : k.handle_sites ≡ map (option_map (site_of t.made)) t.handles
   pub guard_slots : k.guards ≡ map (option_map (guard_of k.dispatch)) t.guards
+  pub attach_slots : map (option_map lane_of) k.contexts.attaches ≡ t.attaches
+  pub paired : length t.attaches ≡ length t.guards
+  pub named : k.contexts.made ≡ t.named
   pub latest : k.moment ≡ t.moment
   pub balanced : Balanced k.spans (map named_by t.handles) (map (opened_by k.setup.ids) t.guards) t.entries
   pub made : MadeFit k.spans.made t.made
@@ -143,6 +183,7 @@ pub record Fits (k : State) (t : Tables) : Type 0 where
   pub still : (n : ℕ) (g : Guarded) → slot_at t.guards n ≡ Some g → slot_at t.handles g.handle ≡ Some g.scope
   pub own_scopes : (s : ℕ) → s < length t.made
       → (own (made_of t.made s).scope ≡ Some s) × IsScope t.made (made_of t.made s).scope
+  pub sited : (s : ℕ) → s < length t.made → (made_of t.made s).site < length k.setup.sites
   pub few : length t.made ≤ length t.handles
   pub few_holds : (s : ℕ) → (span_at k.spans.made s).holds ≤ length t.handles + length t.guards
 

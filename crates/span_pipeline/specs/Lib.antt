@@ -1,6 +1,7 @@
 pub mod Admission
 pub mod Balance
 pub mod Effects
+pub mod Fields
 pub mod Fits
 pub mod Refusals
 pub mod Setups

@@ -13,7 +13,7 @@ refused_entry lane errors.Memory = refusals.Memory
 
 -- what was opened or made is given back without memory
 abbrev pub takes_no_memory : Call → Bool
-takes_no_memory (call.New site under) = false
+takes_no_memory (call.New site under fields) = false
 takes_no_memory (call.Clone handle) = false
 takes_no_memory (call.Drop handle) = true
 takes_no_memory (call.Enter handle) = false
@@ -21,8 +21,10 @@ takes_no_memory (call.Exit guard) = true
 takes_no_memory call.Current = false
 takes_no_memory (call.OrCurrent handle) = false
 takes_no_memory (call.Entered handle) = false
-takes_no_memory (call.Event site) = false
+takes_no_memory (call.Record handle fields) = false
+takes_no_memory (call.HasField handle name) = true
+takes_no_memory (call.Event site under fields) = false
 takes_no_memory (call.Remote ids) = false
 takes_no_memory (call.Context handle) = false
 takes_no_memory (call.Attach context) = false
-takes_no_memory (call.Detach guard) = false
+takes_no_memory (call.Detach guard) = true

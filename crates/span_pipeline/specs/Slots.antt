@@ -50,12 +50,12 @@ abbrev pub MakesOnly : {S : Type 0} → (S → Spans) → (S → SubscriberCall 
 MakesOnly spans does true old new lane at place site values dispatch handle = Makes spans does old new lane at place site values dispatch handle
 MakesOnly spans does false old new lane at place site values dispatch handle = (handle ≡ no_handle) × (new ≡ old)
 
--- an event was told to a subscriber, which reaches the lane's current span, or nothing happened
-pub record Tells {S : Type 0} (does : S → SubscriberCall → S → Type 0) (old new : Worlds S) (lane : Lane) (at site : ℕ) (values : ValueSet) (dispatch : ℕ) : Type 0 where
+-- an event was told to a subscriber with its place, or nothing happened
+pub record Tells {S : Type 0} (does : S → SubscriberCall → S → Type 0) (old new : Worlds S) (lane : Lane) (at : ℕ) (place : Parent) (site : ℕ) (values : ValueSet) (dispatch : ℕ) : Type 0 where
   pub callsite : Callsite
   pub is : slice_get old.sites site ≡ Some callsite
-  pub told : Replaced (λ s t. does s (Event lane at parent.Current site callsite values) t) old new dispatch
+  pub told : Replaced (λ s t. does s (Event lane at place site callsite values) t) old new dispatch
 
-abbrev pub TellsOnly : {S : Type 0} → (S → SubscriberCall → S → Type 0) → Bool → Worlds S → Worlds S → Lane → ℕ → ℕ → ValueSet → ℕ → Type 0
-TellsOnly does true old new lane at site values dispatch = Tells does old new lane at site values dispatch
-TellsOnly does false old new lane at site values dispatch = new ≡ old
+abbrev pub TellsOnly : {S : Type 0} → (S → SubscriberCall → S → Type 0) → Bool → Worlds S → Worlds S → Lane → ℕ → Parent → ℕ → ValueSet → ℕ → Type 0
+TellsOnly does true old new lane at place site values dispatch = Tells does old new lane at place site values dispatch
+TellsOnly does false old new lane at place site values dispatch = new ≡ old

@@ -31,12 +31,26 @@ pub record Done : Type 0 where
   pub span : ℕ
   pub op : Op
 
--- a context that is attached to a lane, and the span whose entry attached it
+-- who attached a context: an entry of a span, or an attach, by the number of its guard
+pub data Owner : Type 0 where
+  EntryOf : (span : ℕ) → Owner
+  GuardOf : (guard : ℕ) → Owner
+
+abbrev pub is_owner : Owner → Owner → Bool
+is_owner (EntryOf s) (EntryOf q) = s == q
+is_owner (EntryOf s) (GuardOf m) = false
+is_owner (GuardOf n) (EntryOf q) = false
+is_owner (GuardOf n) (GuardOf m) = n == m
+
+-- a context that is attached to a lane, and who attached it
 pub record Attached : Type 0 where
-  pub span : ℕ
+  pub owner : Owner
   pub context : Context
 
--- what a guard keeps: its handle, the place of the lane that it was made on, whether it owns the handle, and the scope
+abbrev pub is_by : Owner → Attached → Bool
+is_by owner = λ a. is_owner a.owner owner
+
+-- what the guard of an entry keeps: its handle, the place of the lane that it was made on, whether it owns the handle, and the scope
 -- that the handle had
 pub record Guarded : Type 0 where
   pub handle : ℕ
@@ -51,9 +65,14 @@ pub record Effect : Type 0 where
   -- the scope of the handle that it made, and the handle that it spent
   pub new_handle : Option Scope
   pub spent_handle : Option ℕ
-  -- what the guard that it made keeps, and the guard that it spent
+  -- what the guard of an entry that it made keeps, and the one that it spent
   pub new_guard : Option Guarded
   pub spent_guard : Option ℕ
+  -- the place of the lane that the guard of an attach was made on, and the one that it spent
+  pub new_attach : Option ℕ
+  pub spent_attach : Option ℕ
+  -- the context that it made
+  pub new_context : Option Context
   -- the span that it made
   pub made : Option Made
   -- the spans that it starts unless they have started, and what else it does to spans, in order
@@ -64,9 +83,9 @@ pub record Effect : Type 0 where
   -- the entry that it added to its lane, and the span whose last entry it took off
   pub entry : Option ℕ
   pub exit : Option ℕ
-  -- the context that it attached to its lane, and the span whose last context it detached there
+  -- the context that it attached to its lane, and whose last context it detached there
   pub attach : Option Attached
-  pub detach : Option ℕ
+  pub detach : Option Owner
   pub reply : Reply
 
 -- what changes nothing
@@ -78,6 +97,9 @@ quiet at lane answer = record {
   spent_handle = None;
   new_guard = None;
   spent_guard = None;
+  new_attach = None;
+  spent_attach = None;
+  new_context = None;
   made = None;
   starts = [];
   ops = [];
@@ -94,10 +116,14 @@ History = List Effect
 
 -- The tables: handles and guards in the order of making, none where one is spent; spans in the order of making and in
 -- the order of closing; the entries and the contexts of each lane, by its id; what was recorded of the open spans; and
--- the moment of the last request, 0 before the first.
+-- the moment of the last request, 0 before the first. The guards of entries and those of attaches, each by the place of
+-- its lane, are numbered together: at a number of the one kind there is none of the other. The contexts that a script
+-- names are never spent.
 pub record Tables : Type 0 where
   pub handles : List (Option Scope)
   pub guards : List (Option Guarded)
+  pub attaches : List (Option ℕ)
+  pub named : List Context
   pub made : List Made
   pub closed : List ℕ
   pub entries : ℕ → List ℕ
@@ -113,6 +139,8 @@ abbrev pub no_tables : LayerSettings → Tables
 no_tables settings = record {
   handles = [];
   guards = [];
+  attaches = [];
+  named = [];
   made = [];
   closed = [];
   entries = λ lane. [];
@@ -135,6 +163,15 @@ spend slots (Some n) = slice_set slots n None
 abbrev pub slots_after : {A : Type 0} → List (Option A) → Option A → Option ℕ → List (Option A)
 slots_after slots new spent = spend (with_new slots (option_map Some new)) spent
 
+-- names that share their numbers with those of another kind: one more of these, or of those
+abbrev pub with_either : {A B : Type 0} → List (Option A) → Option A → Option B → List (Option A)
+with_either slots (Some x) other = slots ++ Some x ∷ []
+with_either slots None (Some y) = slots ++ None ∷ []
+with_either slots None None = slots
+
+abbrev pub either_after : {A B : Type 0} → List (Option A) → Option A → Option B → Option ℕ → List (Option A)
+either_after slots new other spent = spend (with_either slots new other) spent
+
 -- what stands at a number, none past the end
 abbrev pub slot_at : {A : Type 0} → List (Option A) → ℕ → Option A
 slot_at slots n = slice_index_or slots n None
@@ -151,14 +188,14 @@ abbrev pub with_exit : (ℕ → List ℕ) → ℕ → Option ℕ → ℕ → Lis
 with_exit es lane None = es
 with_exit es lane (Some s) = on_lane es lane (without_last (λ x. x == s) (es lane))
 
--- the contexts of all lanes with one more on one of them, and without the last one of a span
+-- the contexts of all lanes with one more on one of them, and without the last one of an owner
 abbrev pub with_attached : (ℕ → List Attached) → ℕ → Option Attached → ℕ → List Attached
 with_attached cs lane None = cs
 with_attached cs lane (Some a) = λ l. if lane == l then cs lane ++ a ∷ [] else cs l
 
-abbrev pub with_detached : (ℕ → List Attached) → ℕ → Option ℕ → ℕ → List Attached
+abbrev pub with_detached : (ℕ → List Attached) → ℕ → Option Owner → ℕ → List Attached
 with_detached cs lane None = cs
-with_detached cs lane (Some s) = λ l. if lane == l then without_last (λ a. a.span == s) (cs lane) else cs l
+with_detached cs lane (Some owner) = λ l. if lane == l then without_last (is_by owner) (cs lane) else cs l
 
 -- What an effect makes of what was recorded: spans start, one is made, ops are done, and spans close.
 abbrev pub with_made : ℕ → Option Made → Recording → Recording
@@ -183,7 +220,9 @@ records_of t e = (recorded_by (length t.made) e t.recording).finished
 abbrev pub after : Tables → Effect → Tables
 after t e = record {
   handles = slots_after t.handles e.new_handle e.spent_handle;
-  guards = slots_after t.guards e.new_guard e.spent_guard;
+  guards = either_after t.guards e.new_guard e.new_attach e.spent_guard;
+  attaches = either_after t.attaches e.new_attach e.new_guard e.spent_attach;
+  named = with_new t.named e.new_context;
   made = with_new t.made e.made;
   closed = t.closed ++ e.closes;
   entries = with_exit (with_entry t.entries e.lane e.entry) e.lane e.exit;
@@ -202,6 +241,11 @@ own (s ∷ up) = Some s
 
 abbrev pub made_of : List Made → ℕ → Made
 made_of makings s = slice_index_or makings s no_making
+
+-- the place of the callsite of a scope's own span, if it has one
+abbrev pub site_of : List Made → Scope → Option ℕ
+site_of makings [] = None
+site_of makings (s ∷ up) = Some (made_of makings s).site
 
 -- the scope of a span, if there is one
 abbrev pub scope_of : List Made → Option ℕ → Scope

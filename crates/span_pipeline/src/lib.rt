@@ -1,11 +1,13 @@
 //! Scripts of span calls on the stack of a registry and the OpenTelemetry layer.
 //!
 //! All turns on `Pipeline::step`, which appends a request to the history that the pipeline stands for. It serves `new`
-//! in every place, `current`, `or_current`, `clone`, `drop`, `enter`, `entered`, `exit` and `event`, on every lane and with
-//! any number of open guards. Every other kind of request is answered `Later`.
+//! and `event` in every place and with fields, `record`, `has_field`, `current`, `or_current`, `clone`, `drop`, `enter`,
+//! `entered`, `exit`, `remote`, `context`, `attach` and `detach`, on every lane and with any number of open guards.
 #![tactic(auto)]
 
 mod calls;
+pub mod contexts;
+mod fields;
 pub mod laws;
 mod level_words;
 mod opening;

@@ -3,6 +3,7 @@ ghost use Rattle.std.specs.Prelude.{◌≡◌, ◌<◌, ℕ, [], true, map, leng
 ghost use Rattle.span_pipeline.specs.Setups.{HasOwnIds, setup_by};
 ghost use Rattle.span_pipeline.specs.Effects.{is_bad_moment};
 
+use crate::contexts::Contexts;
 use crate::level_words::filter_of;
 use crate::opening::{self, add_sites, stack};
 use crate::reply::{Refusal, Reply, What};
@@ -43,22 +44,23 @@ pub struct Pipeline {
     pub(crate) lanes: Vec<Lane>,
     pub(crate) handles: Vec<Option<Span>>,
     pub(crate) guards: Vec<Option<Guard>>,
+    pub(crate) contexts: Contexts,
     pub(crate) moment: Moment,
 }
 
 impl Model for Pipeline {
     ghost use Rattle.otel_layer.specs.Recording.{recorded};
-    ghost use Rattle.span_pipeline.specs.Fits.{State, state_of, IsKept};
+    ghost use Rattle.span_pipeline.specs.Fits.{State, named_in, state_of, IsKept};
 
     ghost Value = { State };
 
     ghost view = { λ p. state_of ⟦<Layered<OpenTelemetryLayer<Recorder>, Registry> as Subscriber>⟧.spans recorded
-        p.world p.dispatch p.level p.lanes.items p.handles.items p.guards.items p.moment };
+        p.world p.dispatch p.level p.lanes.items p.handles.items p.guards.items (named_in p.contexts) p.moment };
 
     ghost invariant = { λ p. IsKept ⟦<Layered<OpenTelemetryLayer<Recorder>, Registry> as Subscriber>⟧.kept
         ⟦<Layered<OpenTelemetryLayer<Recorder>, Registry> as Subscriber>⟧.is_whole p.world
         (state_of ⟦<Layered<OpenTelemetryLayer<Recorder>, Registry> as Subscriber>⟧.spans recorded
-        p.world p.dispatch p.level p.lanes.items p.handles.items p.guards.items p.moment) };
+        p.world p.dispatch p.level p.lanes.items p.handles.items p.guards.items (named_in p.contexts) p.moment) };
 }
 
 /// What isn't spent is given up.
@@ -71,11 +73,13 @@ impl Discard for Pipeline {
             lanes: _,
             handles,
             guards,
+            contexts,
             moment: _,
         } = self;
         world.discard();
         handles.discard();
         guards.discard();
+        contexts.discard();
     }
 }
 
@@ -127,6 +131,7 @@ impl Pipeline {
                 lanes,
                 handles: Vec::new(alloc),
                 guards: Vec::new(alloc),
+                contexts: Contexts::new(alloc),
                 moment: 0,
             }),
             Err((stack, _)) => {
@@ -138,10 +143,11 @@ impl Pipeline {
     }
 
     /// Runs a request. A refused step leaves the pipeline as it was: `BadMoment` where the moment falls or is above
-    /// 2^63 - 1, `UnknownName` where it names what isn't there, `InUse` where it spends or owns a handle with an open
-    /// guard, or exits the guard that owns a handle with another one, `WrongLane` where it spends a guard on another lane
-    /// than the guard's, `Full` where it attaches a context to a lane with 65,534 of them, `Later` where its kind isn't
-    /// built. It may answer `Memory`, but not to a drop or an exit.
+    /// 2^63 - 1, `UnknownName` where it names what isn't there, or a guard of the other kind, or gives a field that the
+    /// callsite doesn't declare, `InUse` where it spends or owns a handle with an open guard, or exits the guard that owns
+    /// a handle with another one, `WrongLane` where it spends a guard on another lane than the guard's, `Full` where it
+    /// attaches a context to a lane with 65,534 of them. It may answer `Memory`, but not to a drop, an exit, a detach or a
+    /// `has_field`.
     pub fn step(&mut self, request: Request) -> Result<Reply, Refusal>
         ensures ok { (h : History) → StandsFor self.old (tables self.old.setup.layer h)
             → IfOk result (Recorded (effect_of self.old.setup (tables self.old.setup.layer h) request) h self.old self.new) }
@@ -177,15 +183,25 @@ impl Pipeline {
             Call::Drop { handle } => self.drop_handle(at, lane, handle),
             Call::Enter { handle } => self.enter(at, lane, handle, false),
             Call::Exit { guard } => self.exit(at, lane, guard),
-            Call::New { site, place } => self.make(at, lane, site, place),
+            Call::New {
+                site,
+                place,
+                fields,
+            } => self.make(at, lane, site, place, fields),
             Call::Current => self.current(at, lane),
             Call::OrCurrent { handle } => self.or_current(at, lane, handle),
             Call::Entered { handle } => self.entered(at, lane, handle),
-            Call::Event { site } => self.event(at, lane, site),
-            Call::Remote { .. } => Err(Refusal::Later),
-            Call::Context { .. } => Err(Refusal::Later),
-            Call::Attach { .. } => Err(Refusal::Later),
-            Call::Detach { .. } => Err(Refusal::Later),
+            Call::Record { handle, fields } => self.record(at, lane, handle, fields),
+            Call::HasField { handle, name } => self.has_field(at, lane, handle, name),
+            Call::Event {
+                site,
+                place,
+                fields,
+            } => self.event(at, lane, site, place, fields),
+            Call::Remote { ids } => self.remote(at, lane, ids),
+            Call::Context { handle } => self.context(at, lane, handle),
+            Call::Attach { context } => self.attach(at, lane, context),
+            Call::Detach { guard } => self.detach(at, lane, guard),
         }
     }
 }

@@ -19,6 +19,8 @@ pub enum Reply {
     Context { context: u64, ids: SpanContext },
     /// An event, which the filter let through or not.
     Enabled { enabled: bool },
+    /// Whether a handle's callsite declares a field of the name that was asked for; `tracing::Span::has_field`.
+    Has { has: bool },
     /// Nothing was made.
     Done,
 }
@@ -36,6 +38,8 @@ pub enum What {
     Guard,
     /// A context, by its number.
     Context,
+    /// A field of a new span or an event, by its name, which their callsite declares.
+    Field,
 }
 
 /// Why a request is refused.
@@ -45,7 +49,7 @@ pub enum Refusal {
     Later,
     /// The moment is below that of the request before (0 before the first), or above 2^63 - 1; both in nanoseconds.
     BadMoment { before: u64, given: u64 },
-    /// A lane, site, handle, guard or context isn't there, is spent, or is of another kind.
+    /// A lane, site, handle, guard or context isn't there, is spent, or is of another kind; or a field isn't declared.
     UnknownName { what: What },
     /// The handle has an open guard, and the request would spend or own it.
     InUse,

@@ -7,6 +7,7 @@ use crate::request::Place;
 use span_handles::entry::Entry;
 use span_handles::span::Span;
 use trace_base::discard::Discard;
+use trace_base::span::Parent;
 
 /// What an open guard keeps.
 pub struct Guard {
@@ -33,7 +34,7 @@ impl Discard for Guard {
     }
 }
 
-/// Where a new span is put, with the handle that it is put under.
+/// Where a new span or an event is put, with the handle that it is put under.
 #[derive(Clone, Copy)]
 pub enum Above<'a> {
     /// Under the lane's current span.
@@ -44,7 +45,23 @@ pub enum Above<'a> {
     Span { span: &'a Span },
 }
 
-/// The place of a new span, if the handle that it names is there.
+impl Above<'_> {
+    /// The place, as a subscriber is given it.
+    pub fn parent(self) -> Parent
+        ensures { result ≡ parent_of self.entry }
+    {
+        match self {
+            Above::Current => Parent::Current,
+            Above::Nothing => Parent::Root,
+            Above::Span { span } => match span.id() {
+                Some(id) => Parent::Of(id),
+                None => Parent::Root,
+            },
+        }
+    }
+}
+
+/// The place of a new span or an event, if the handle that it names is there.
 pub fn place_above(handles: &Vec<Option<Span>>, place: Place) -> Option<Above<'_>>
     ensures place { option_map parent_of result ≡ place_for (map held_by handles.now.items) place }
     ensures of { (dispatch : ℕ) → ((n : ℕ) (held : ℕ × ℕ) → slice_index_or (map held_by handles.now.items) n None ≡ Some (Some held) → held.0 ≡ dispatch)
@@ -76,6 +93,17 @@ pub fn keep<T>(slots: &mut Vec<Option<T>>, value: T)
     ensures { slots.new.items ≡ slots.old.items ++ Some value ∷ [] }
 {
     match slots.push(Some(value)) {
+        Ok(()) => {}
+        Err(_) => unreachable!(),
+    }
+}
+
+/// Passes over a number, which is a name of another kind, in the room that there is.
+pub fn skip<T>(slots: &mut Vec<Option<T>>)
+    requires { vec_len slots.old < vec_capacity slots.old }
+    ensures { slots.new.items ≡ slots.old.items ++ None ∷ [] }
+{
+    match slots.push(None) {
         Ok(()) => {}
         Err(_) => unreachable!(),
     }

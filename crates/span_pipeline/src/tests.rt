@@ -58,6 +58,24 @@ fn answers(pipeline: &mut Pipeline, at: u64, lane: u64, call: Call, reply: Reply
     }
 }
 
+// Whether a new span of a callsite, without fields, is answered so.
+fn makes(
+    pipeline: &mut Pipeline,
+    at: u64,
+    lane: u64,
+    site: u64,
+    place: Place,
+    reply: Reply,
+) -> bool {
+    let fields = Items::new(pipeline.world.allocator());
+    let call = Call::New {
+        site,
+        place,
+        fields,
+    };
+    answers(pipeline, at, lane, call, reply)
+}
+
 fn refuses(pipeline: &mut Pipeline, at: u64, lane: u64, call: Call, refusal: Refusal) -> bool {
     match pipeline.step(Request { at, lane, call }) {
         Ok(_) => false,
@@ -74,26 +92,8 @@ fn chain(pipeline: &mut Pipeline) -> [bool; 10] {
     let (root, under) = (Place::Root, Place::Under { handle: 0 });
     let contextual = Place::Contextual;
     [
-        answers(
-            pipeline,
-            0,
-            0,
-            Call::New {
-                site: 0,
-                place: root,
-            },
-            made(true, 0),
-        ),
-        answers(
-            pipeline,
-            1,
-            1,
-            Call::New {
-                site: 0,
-                place: under,
-            },
-            made(true, 1),
-        ),
+        makes(pipeline, 0, 0, 0, root, made(true, 0)),
+        makes(pipeline, 1, 1, 0, under, made(true, 1)),
         answers(
             pipeline,
             2,
@@ -101,16 +101,7 @@ fn chain(pipeline: &mut Pipeline) -> [bool; 10] {
             Call::Enter { handle: 1 },
             Reply::Guard { guard: 0 },
         ),
-        answers(
-            pipeline,
-            3,
-            1,
-            Call::New {
-                site: 1,
-                place: contextual,
-            },
-            made(false, 2),
-        ),
+        makes(pipeline, 3, 1, 1, contextual, made(false, 2)),
         answers(pipeline, 4, 0, Call::Drop { handle: 0 }, Reply::Done),
         refuses(pipeline, 5, 1, Call::Drop { handle: 1 }, Refusal::InUse),
         refuses(

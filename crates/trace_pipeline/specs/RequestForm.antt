@@ -1,5 +1,5 @@
 -- The form of a request, with a row for each word of `do`.
-use Rattle.std.specs.Prelude.{ℕ, List, Option, Some, None, if◌then◌else◌, codes, bytes_eq, ⊤, option_and_then}
+use Rattle.std.specs.Prelude.{ℕ, List, [], Option, Some, None, if◌then◌else◌, codes, bytes_eq, ⊤, option_and_then}
 use Rattle.serde_json.specs.Data.{Data, Items, no_items, item}
 use Rattle.serde_json.specs.Find.{as_str, as_array}
 use Rattle.trace_pipeline.specs.declared.read.request.Verb.{Verb}
@@ -63,7 +63,7 @@ new_form = do
   site ← whole (codes "site")
   put ← place_form
   none ← no_fields
-  give (call.New site put)
+  give (call.New site put [])
 
 -- `clone` makes a handle of what a handle stands for
 unfoldable pub clone_form : Form Call
@@ -124,7 +124,7 @@ unfoldable pub event_form : Form Call
 event_form = do
   site ← whole (codes "site")
   none ← no_fields
-  give (call.Event site)
+  give (call.Event site place.Contextual [])
 
 -- `remote` makes a context of ids, which are written in all their digits
 unfoldable pub remote_form : Form Call

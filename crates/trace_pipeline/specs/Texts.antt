@@ -25,6 +25,7 @@ reply_members (reply.Context context ids) =
     (codes "context", whole_number context)
     ∷ (codes "span", string (hex16 ids.span)) ∷ (codes "trace", string (hex32 ids.trace)) ∷ []
 reply_members reply.Done = []
+reply_members (reply.Has has) = (codes "has", boolean has) ∷ []
 reply_members (reply.Enabled enabled) = (codes "enabled", boolean enabled) ∷ []
 
 -- a reply, with the number of its request's line
@@ -50,6 +51,7 @@ what_name what.Site = codes "site"
 what_name what.Handle = codes "handle"
 what_name what.Guard = codes "guard"
 what_name what.Context = codes "context"
+what_name what.Field = codes "field"
 
 -- the member that names a refusal
 abbrev pub refused_as : List ℕ → List ℕ × Data

@@ -12,7 +12,7 @@ use Rattle.otel_state.specs.declared.op.OpReply.{OpReply}
 use Rattle.trace_threads.specs.declared.turns.View.{View}
 use Rattle.trace_threads.specs.declared.turns.Stage.TheVariants.{Idle}
 use Rattle.trace_threads.specs.Moves.{move_of, count, opens_after}
-use Rattle.trace_threads.specs.History.{start, sum, IsLegal, may, may_do, may_move, has, entries_by, IsHeld, IsOut, written, is_closed, opens, move_in}
+use Rattle.trace_threads.specs.History.{start, sum, is_legal, IsLegal, may, may_do, may_move, has, entries_by, IsHeld, IsOut, written, is_closed, opens, move_in}
 use Rattle.trace_threads.specs.Shared.{Shared, shared, nothing, reply_at}
 use Rattle.trace_threads.specs.Turns.{Turn, Slot, Mine, entries, home_of, AllBegin, passed, passed_by, MayTurn, MayEnd, left_of, right_of, both_of}
 use Rattle.trace_threads.specs.Calls.{IsIdle, IsAtRest, Begun, Made, Called, LeftAsIs, Finishes, Closes, IsCloneOf, ClosesWith}
@@ -177,8 +177,11 @@ module _ (m w : Mine) (t : ℕ) (state : Shared) (k : ℕ) (num : m.0.number ≡
     after_none : u ≡ (passed w.0 None, [])
     after_none = after ∙ ap (λ (x : Turn). (passed w.0 x, [])) (same_turn w.0.seen turn None (ap (λ (x : Shared). x.log) (sym back ∙ is ∙ b.state) ∙ sym (entries_none w.0.seen)))
 
+    log_still : entries u.0.seen ≡ entries w.0.seen
+    log_still = ap (λ (x : Mine). entries x.0.seen) after_none ∙ entries_none w.0.seen
+
     own_still : entries_by k (entries u.0.seen) ≡ u.0.mine
-    own_still = ap (entries_by k) (ap (λ (x : Mine). entries x.0.seen) after_none ∙ entries_none w.0.seen) ∙ held.0 ∙ sym (ap (λ (x : Mine). x.0.mine) after_none ∙ ap (λ (x : View). x.mine) b.view)
+    own_still = ap (entries_by k) log_still ∙ held.0 ∙ sym (ap (λ (x : Mine). x.0.mine) after_none ∙ ap (λ (x : View). x.mine) b.view)
 
     pub rest_after_none : IsAtRest u k
     rest_after_none = (
@@ -193,6 +196,7 @@ module _ (m w : Mine) (t : ℕ) (state : Shared) (k : ℕ) (num : m.0.number ≡
       begins = subst (IsPrefix m.0.seen) (sym (ap (λ (x : Mine). x.0.seen) after_none)) (prefix_more m.0.seen w.0.seen (None ∷ []) b.begins);
       mine = ap (λ (x : Mine). x.0.mine) after_none ∙ ap (λ (x : View). x.mine) b.view;
       own = own_still;
+      legal = ap (is_legal (start m.0.origin.made)) log_still ∙ b.legal;
       same = ap (λ (x : Mine). x.0.origin) after_none ∙ same_origin;
     }
 
@@ -333,16 +337,17 @@ module _ (m o m' w : Mine) (t : ℕ) (state : Shared) (k j : ℕ) (r : IsAtRest 
         own_after m' w t state k num_met b at (Join j) s is u turn back after,
       )
 
-      both_begin : AllBegin (m.0.seen ∷ o.0.seen ∷ (m.0.earlier ++ o.0.earlier)) w.0.seen
-      both_begin = subst (λ (x : Mine). AllBegin x.0.earlier w.0.seen) met b.before
+      both_begin : AllBegin m.0.origin ((m.0.origin, m.0.seen) ∷ (o.0.origin, o.0.seen) ∷ (m.0.earlier ++ o.0.earlier)) w.0.seen
+      both_begin = subst (λ (x : Mine). AllBegin x.0.origin x.0.earlier w.0.seen) met b.before
 
       pub join_made : Made m.0 u.0 k at (Join j)
-      join_made = made m' w t state k num_met b at (Join j) s is u turn back after m.0 both_begin.0 (ap (λ (x : Mine). x.0.mine) met) (ap (λ (x : Mine). x.0.origin) met) can_join
+      join_made = made m' w t state k num_met b at (Join j) s is u turn back after m.0 both_begin.1 (ap (λ (x : Mine). x.0.mine) met) (ap (λ (x : Mine). x.0.origin) met) can_join
 
-      pub join_theirs : IsPrefix o.0.seen u.0.seen × (entries_by j (entries u.0.seen) ≡ o.0.mine)
+      pub join_theirs : IsPrefix o.0.seen u.0.seen × (entries_by j (entries u.0.seen) ≡ o.0.mine) × (o.0.origin ≡ m.0.origin)
       join_theirs = (
-        prefix_after m' w t state k num_met b at (Join j) s is u turn back after o.0.seen both_begin.1.0,
+        prefix_after m' w t state k num_met b at (Join j) s is u turn back after o.0.seen both_begin.2.1,
         ap (entries_by j) (log_after m' w t state k num_met b at (Join j) s is u turn back after) ∙ by_other j (entries w.0.seen) (written m'.0.origin.made (entries w.0.seen) k at (Join j)) (λ e. differ (sym e)) ∙ theirs_are,
+        both_begin.2.0,
       )
 
 -- ---- a release
@@ -396,3 +401,7 @@ some_same a b e = ap in_some e
 -- how many entries a handle has open after an entry more
 pub made_opens : (v w : View) (k at : ℕ) (what : What) → Made v w k at what → opens w.mine ≡ opens_after (opens v.mine) (move_in what)
 made_opens v w k at what made = ap opens made.mine ∙ opens_push v.mine (written v.origin.made (entries (v.seen ++ made.between)) k at what)
+
+-- what was seen is legal by the making that is known now
+pub made_legal : (v w : View) (k at : ℕ) (what : What) → Made v w k at what → IsLegal w.origin.made (entries w.seen)
+made_legal v w k at what made = ap (λ (o : Making). is_legal (start o.made) (entries w.seen)) made.same ∙ made.legal

@@ -1,12 +1,12 @@
 -- A history with one entry more.
-use Rattle.std.proofs.Common.{◌≡◌, ◌≢◌, ⊎_elim, ℕ, ◌+◌, ◌<◌, ◌≤◌, ◌==◌, Bool, true, false, ◌||◌, max, List, [], ◌∷◌, ◌++◌, length, refl, ap, sym, ◌∙◌, subst, arith}
+use Rattle.std.proofs.Common.{◌≡◌, ◌≢◌, ⊎_elim, ℕ, ◌+◌, ◌<◌, ◌≤◌, ◌==◌, Bool, true, false, ◌||◌, max, List, [], ◌∷◌, ◌++◌, length, refl, ap, sym, ◌∙◌, subst, arith, true≢false}
 use Rattle.std.specs.Prelude.{nat_le}
 use Rattle.std.proofs.lemmas.Bool.Decides.{nat_tests}
 use Rattle.std.proofs.lemmas.List.{append-nil}
 use Rattle.trace_threads.specs.declared.history.Entry.{Entry}
 use Rattle.trace_threads.specs.declared.history.What.{What}
 use Rattle.trace_threads.specs.declared.history.What.TheVariants.{Clone, Call, Join, Release}
-use Rattle.trace_threads.specs.History.{Sum, start, entry, has, is_none, clones_after, held_after, after, may, may_do, sum_of, is_legal, IsLegal, sum, IsHeld, entries_by, EndedForGood, NothingFollows}
+use Rattle.trace_threads.specs.History.{Sum, start, entry, has, without, is_none, clones_after, held_after, after, may, may_do, sum_of, is_legal, IsLegal, sum, IsHeld, entries_by, EndedForGood, NothingFollows, ends, has_end, WholeIsSeen}
 use Rattle.trace_threads.proofs.Helds.{both, has_more, has_new, has_back, has_without, in_without, Distinct, distinct_more, distinct_without}
 
 pub sum_push : (s : Sum) (log : List Entry) (e : Entry) → sum_of s (log ++ e ∷ []) ≡ after (sum_of s log) e
@@ -200,3 +200,68 @@ nothing_after s (y ∷ ys) l e = absurd (none_held y.caller s.held e (tested s y
 
 pub nothing_follows : NothingFollows
 nothing_follows made xs ys l e = nothing_after (sum made xs) ys (legal_rest (start made) xs ys l) e
+
+-- ---- the whole history
+
+gone_case : (m x : ℕ) (h : List ℕ) (b : Bool) → (x == m) ≡ b → has m (without m h) ≡ false → has m (without m (x ∷ h)) ≡ false
+gone_case m x h true is ih = rw is ih
+gone_case m x h false is ih = rw is (rw is ih)
+
+gone_self : (m : ℕ) (h : List ℕ) → has m (without m h) ≡ false
+gone_self m [] = refl
+gone_self m (x ∷ h) = gone_case m x h (x == m) refl (gone_self m h)
+
+gone_by : (k m : ℕ) (h : List ℕ) → (m == k) ≡ true → has k (without m h) ≡ true → ⊥
+gone_by k m h is at =
+    let same : m ≡ k = grind (arith, nat_tests) in
+    true≢false (sym at ∙ subst (λ (j : ℕ). has j (without m h) ≡ false) same (gone_self m h))
+
+ended_at : (s : Sum) (k c : ℕ) (w : What) → ends k c w ≡ true → has k (held_after s.held c w) ≡ true → ⊥
+ended_at s k c (Clone n) e at = absurd cc
+ended_at s k c (Call op) e at = absurd cc
+ended_at s k c (Join m) e at = gone_by k m s.held e at
+ended_at s k c Release e at = gone_by k c s.held e at
+
+-- who is ended had a number
+ended_low : (s : Sum) (k c : ℕ) (w : What) → Numbered s → has c s.held ≡ true → may_do s c w ≡ true → ends k c w ≡ true → k ≤ s.clones
+ended_low s k c (Clone n) i h m e = absurd cc
+ended_low s k c (Call op) i h m e = absurd cc
+ended_low s k c (Join j) i h m e = let same : j ≡ k = grind (arith, nat_tests) in let low = i.within j (both (has j s.held) _ m).0 in omega (arith, same, low)
+ended_low s k c Release i h m e = let same : c ≡ k = grind (arith, nat_tests) in let low = i.within c h in omega (arith, same, low)
+
+stays_gone : (s : Sum) (log : List Entry) (k : ℕ) → is_legal s log ≡ true → (has k s.held ≡ true → ⊥) → k ≤ s.clones → has k (sum_of s log).held ≡ true → ⊥
+stays_gone s [] k l gone low at = gone at
+stays_gone s (e ∷ log) k l gone low at =
+    let p = both (may s e) _ l in
+    let more = clones_step s.clones e.what in
+    stays_gone (after s e) log k p.1 (still_gone s k e.caller e.what gone low (tested s e p.0).done) (omega (arith, more, low)) at
+
+end_case : (s : Sum) (e : Entry) (log : List Entry) (k : ℕ) (b : Bool) → Numbered s → is_legal s (e ∷ log) ≡ true → ends k e.caller e.what ≡ b → (b || has_end k log) ≡ true
+    → (Numbered (after s e) → is_legal (after s e) log ≡ true → has_end k log ≡ true → has k (sum_of (after s e) log).held ≡ true → ⊥) → has k (sum_of (after s e) log).held ≡ true → ⊥
+end_case s e log k true i l is h ih at =
+    let p = both (may s e) _ l in
+    let t = tested s e p.0 in
+    let low = ended_low s k e.caller e.what i t.held t.done is in
+    let more = clones_step s.clones e.what in
+    stays_gone (after s e) log k p.1 (ended_at s k e.caller e.what is) (omega (arith, more, low)) at
+end_case s e log k false i l is h ih at =
+    let p = both (may s e) _ l in
+    ih (numbered_step s e.caller e.at e.what i (tested s e p.0).done) p.1 h at
+
+after_end : (s : Sum) (log : List Entry) (k : ℕ) → Numbered s → is_legal s log ≡ true → has_end k log ≡ true → has k (sum_of s log).held ≡ true → ⊥
+after_end s [] k i l h at = absurd cc
+after_end s (e ∷ log) k i l h at = end_case s e log k (ends k e.caller e.what) i l refl h (λ i' l' h'. after_end (after s e) log k i' l' h') at
+
+legal_first : (s : Sum) (xs ys : List Entry) → is_legal s (xs ++ ys) ≡ true → is_legal s xs ≡ true
+legal_first s [] ys l = refl
+legal_first s (x ∷ xs) ys l = let p = both (may s x) _ l in rw p.0 (legal_first (after s x) xs ys p.1)
+
+none_left : (h : List ℕ) → ((k : ℕ) → has k h ≡ true → ⊥) → is_none h ≡ true
+none_left [] f = refl
+none_left (x ∷ h) f = let hit : (x == x) ≡ true = grind (arith, nat_tests) in absurd (f x (rw hit refl))
+
+pub whole_is_seen : WholeIsSeen
+whole_is_seen made xs ys l ended =
+    let first = legal_first (start made) xs ys l in
+    let closed = none_left (sum made xs).held (λ k at. after_end (start made) xs k (numbered_start made) first (ended k ((numbered made xs first).within k at)) at) in
+    (closed, nothing_follows made xs ys l closed)

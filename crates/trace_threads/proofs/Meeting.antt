@@ -13,7 +13,7 @@ use Rattle.trace_threads.specs.declared.making.Making.{Making}
 use Rattle.trace_threads.specs.declared.turns.View.{View}
 use Rattle.trace_threads.specs.declared.turns.Stage.TheVariants.{Idle}
 use Rattle.trace_threads.specs.Shared.{shared}
-use Rattle.trace_threads.specs.Turns.{Turn, Slot, AllBegin, Staged, Placed, Fits, IsHolder, IsHome, Ruled, Kept, first_view, left_of, right_of, longer, both_of, spent_view}
+use Rattle.trace_threads.specs.Turns.{Turn, Earlier, Slot, AllBegin, Staged, Placed, Fits, IsHolder, IsHome, Ruled, Kept, first_view, left_of, right_of, longer, both_of, spent_view}
 use Rattle.trace_threads.proofs.Seats.{prefix_self, fits_set, there, same_view, home_else, no_holder, sides}
 
 abbrev is_at : Option ℕ → ℕ → Bool
@@ -94,14 +94,14 @@ longer_case : (xs ys turns : List Turn) (b : Bool) → IsPrefix xs turns → IsP
 longer_case xs ys turns true p q = q
 longer_case xs ys turns false p q = p
 
-all_append : (xs ys : List (List Turn)) (turns : List Turn) → AllBegin xs turns → AllBegin ys turns → AllBegin (xs ++ ys) turns
-all_append [] ys turns p q = q
-all_append (x ∷ xs) ys turns p q = (p.0, all_append xs ys turns p.1 q)
+all_append : (making : Making) (xs ys : List Earlier) (turns : List Turn) → AllBegin making xs turns → AllBegin making ys turns → AllBegin making (xs ++ ys) turns
+all_append making [] ys turns p q = q
+all_append making (x ∷ xs) ys turns p q = (p.0, p.1, all_append making xs ys turns p.2 q)
 
 spent_fits : (making : Making) (turns : List Turn) (owner : ℕ → ℕ) (place : ℕ → ℕ × Bool) (tickets j : ℕ) → Fits making turns owner place tickets j spent_view
 spent_fits making turns owner place tickets j = record { same = λ e. absurd cc; begins = (turns, refl); before = tt; staged = tt; own = tt; own_place = tt; other = tt; other_place = tt }
 
-module _ (making : Making) (turns : List Turn) (owner : ℕ → ℕ) (place : ℕ → ℕ × Bool) (tickets : ℕ) (home : core.Option Slot) (views : List View) (id : ℕ) (v : View) (other : ℕ) (w : View) (live : v.live ≡ true) (r : Ruled making turns owner place tickets home views)
+module _ (making : Making) (turns : List Turn) (owner : ℕ → ℕ) (place : ℕ → ℕ × Bool) (tickets : ℕ) (home : core.Option Slot) (views : List View) (id : ℕ) (v : View) (other : ℕ) (w : View) (live : v.live ≡ true) (live' : w.live ≡ true) (r : Ruled making turns owner place tickets home views)
     (at : get_elem? views id ≡ core.some v) (apart : other ≢ id) (at' : get_elem? views other ≡ core.some w) (idle : v.stage ≡ Idle) (idle' : w.stage ≡ Idle) where
   f : Fits making turns owner place tickets id v
   f = r.each id v at
@@ -113,7 +113,7 @@ module _ (making : Making) (turns : List Turn) (owner : ℕ → ℕ) (place : �
   both_fits = record {
     same = λ _. f.same live;
     begins = longer_case v.seen w.seen turns (nat_lt (length v.seen) (length w.seen)) f.begins f'.begins;
-    before = (f.begins, (f'.begins, all_append v.earlier w.earlier turns f.before f'.before));
+    before = (f.same live, f.begins, (f'.same live', f'.begins, all_append making v.earlier w.earlier turns f.before f'.before));
     staged = subst (Staged turns owner tickets id (longer v.seen w.seen)) (sym idle) tt;
     own = f.own;
     own_place = moved_else place w.number v.number (other, false) (id, true) (id, false) f'.own_place f.own_place (fst_apart other id false false apart);
@@ -138,10 +138,10 @@ module _ (making : Making) (turns : List Turn) (owner : ℕ → ℕ) (place : �
     each = join_each;
   }
 
-pub joins : (making : Making) (id : ℕ) (v : View) (other : ℕ) (w : View) → v.stage ≡ Idle → v.live ≡ true → w.stage ≡ Idle → Joins (Kept making) id v other w (both_of v w) spent_view
-joins making id v other w idle live idle' s k at apart there_it =
+pub joins : (making : Making) (id : ℕ) (v : View) (other : ℕ) (w : View) → v.stage ≡ Idle → v.live ≡ true → w.stage ≡ Idle → w.live ≡ true → Joins (Kept making) id v other w (both_of v w) spent_view
+joins making id v other w idle live idle' live' s k at apart there_it =
     let at' : get_elem? s.views other ≡ core.some w = sym (set_else s.views id other (both_of v w) apart) ∙ there_it in
-    record { turns = k.turns; owner = k.owner; place = moved k.place w.number (id, true); tickets = k.tickets; home = k.home; words = k.words; homes = k.homes; ruled = join_ruled making k.turns k.owner k.place k.tickets k.home s.views id v other w live k.ruled at apart at' idle idle' }
+    record { turns = k.turns; owner = k.owner; place = moved k.place w.number (id, true); tickets = k.tickets; home = k.home; words = k.words; homes = k.homes; ruled = join_ruled making k.turns k.owner k.place k.tickets k.home s.views id v other w live live' k.ruled at apart at' idle idle' }
 
 -- ---- make
 

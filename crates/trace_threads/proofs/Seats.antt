@@ -13,7 +13,7 @@ use Rattle.trace_threads.specs.declared.making.Making.{Making}
 use Rattle.trace_threads.specs.declared.turns.View.{View}
 use Rattle.trace_threads.specs.declared.turns.Stage.{Stage}
 use Rattle.trace_threads.specs.declared.turns.Stage.TheVariants.{Idle}
-use Rattle.trace_threads.specs.Turns.{Turn, Slot, Mine, AllBegin, Placed, Fits, IsHolder, IsHome, Ruled, Kept}
+use Rattle.trace_threads.specs.Turns.{Turn, Earlier, Slot, Mine, AllBegin, Placed, Fits, IsHolder, IsHome, Ruled, Kept}
 
 pub prefix_self : {A : Type 0} (xs : List A) → IsPrefix xs xs
 prefix_self xs = ([], append-nil xs)
@@ -21,9 +21,9 @@ prefix_self xs = ([], append-nil xs)
 pub prefix_more : {A : Type 0} (xs ys zs : List A) → IsPrefix xs ys → IsPrefix xs (ys ++ zs)
 prefix_more xs ys zs p = (p.0 ++ zs, sym (append_assoc xs p.0 zs) ∙ ap (λ w. w ++ zs) p.1)
 
-pub all_more : (xs : List (List Turn)) (ys zs : List Turn) → AllBegin xs ys → AllBegin xs (ys ++ zs)
-all_more [] ys zs p = tt
-all_more (x ∷ xs) ys zs p = (prefix_more x ys zs p.0, all_more xs ys zs p.1)
+pub all_more : (making : Making) (xs : List Earlier) (ys zs : List Turn) → AllBegin making xs ys → AllBegin making xs (ys ++ zs)
+all_more making [] ys zs p = tt
+all_more making (x ∷ xs) ys zs p = (p.0, prefix_more x.1 ys zs p.1, all_more making xs ys zs p.2)
 
 -- what a step asks, at a table that is known
 abbrev pub Goes : Making → (ℕ → ℕ) → ℕ → ℕ → Mine → (ℕ → Mine → Type 0) → List ℕ → List (core.Option Slot) → List View → Type 0

@@ -36,7 +36,7 @@ pub record Begun (m w : Mine) (ticket : ℕ) (had : Shared) : Type 0 where
   pub slot : w.1 ≡ (0, None) ∷ []
   pub state : had ≡ shared m.0.origin (entries w.0.seen)
   pub begins : IsPrefix m.0.seen w.0.seen
-  pub before : AllBegin m.0.earlier w.0.seen
+  pub before : AllBegin m.0.origin m.0.earlier w.0.seen
   pub legal : IsLegal m.0.origin.made (entries w.0.seen)
   pub own : Known m.0.origin (entries w.0.seen) m.0.mine m.0.number
   pub other : Known m.0.origin (entries w.0.seen) m.0.theirs m.0.other
@@ -64,6 +64,7 @@ pub record LeftAsIs (v w : View) (k : ℕ) : Type 0 where
   pub begins : IsPrefix v.seen w.seen
   pub mine : w.mine ≡ v.mine
   pub own : entries_by k (entries w.seen) ≡ w.mine
+  pub legal : IsLegal v.origin.made (entries w.seen)
   pub same : w.origin ≡ v.origin
 
 -- what `finish` asks: the state with what this turn added, and some handle held

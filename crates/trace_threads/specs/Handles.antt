@@ -8,9 +8,9 @@ use Rattle.trace_threads.specs.declared.history.What.{What}
 use Rattle.otel_state.specs.declared.op.Op.{Op}
 use Rattle.otel_state.specs.declared.op.OpReply.{OpReply}
 use Rattle.trace_threads.specs.declared.turns.View.{View}
-use Rattle.trace_threads.specs.History.{is_closed, opens}
+use Rattle.trace_threads.specs.History.{IsLegal, is_closed, opens}
 use Rattle.trace_threads.specs.Shared.{content_of}
-use Rattle.trace_threads.specs.Turns.{Mine, IsSized}
+use Rattle.trace_threads.specs.Turns.{Mine, IsSized, entries}
 use Rattle.trace_threads.specs.Calls.{IsIdle, IsAtRest, Made, Called, LeftAsIs}
 
 -- a handle: of which span it is, its number, and what it knows
@@ -30,6 +30,7 @@ pub record IsHandle (table seat : TableId) (me : Mine) (number entered : ℕ) : 
   pub of_table : seat ≡ table
   pub rests : IsAtRest me number
   pub counts : entered ≡ opens me.0.mine
+  pub legal : IsLegal me.0.origin.made (entries me.0.seen)
 
 pub record IsPass (table seat : TableId) (me : Mine) : Type 0 where
   pub sized : IsSized table

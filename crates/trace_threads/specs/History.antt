@@ -134,6 +134,20 @@ opens_from n (e ∷ es) = opens_from (opens_after n (move_in e.what)) es
 abbrev pub opens : List Entry → ℕ
 opens mine = opens_from 0 mine
 
+-- ---- the end of a handle
+
+-- an entry by c ends the handle k
+abbrev pub ends : ℕ → ℕ → What → Bool
+ends k c (Clone n) = false
+ends k c (Call op) = false
+ends k c (Join m) = m == k
+ends k c Release = c == k
+
+-- a history has the end of this handle
+abbrev pub has_end : ℕ → List Entry → Bool
+has_end k [] = false
+has_end k (e ∷ es) = ends k e.caller e.what || has_end k es
+
 -- ---- laws
 
 -- a handle that was ended makes no entry any more
@@ -146,6 +160,12 @@ EndedForGood =
 abbrev pub NothingFollows : Type 0
 NothingFollows =
     (made : ℕ) (xs ys : List Entry) → IsLegal made (xs ++ ys) → is_closed made xs ≡ true → ys ≡ []
+
+-- whoever has seen the end of handle 0 and of each clone has seen the whole history, after which no handle is held
+abbrev pub WholeIsSeen : Type 0
+WholeIsSeen =
+    (made : ℕ) (xs ys : List Entry) → IsLegal made (xs ++ ys)
+    → ((k : ℕ) → k ≤ (sum made xs).clones → has_end k xs ≡ true) → (is_closed made xs ≡ true) × (ys ≡ [])
 
 -- a handle's open entries, counted from its own entries alone, are those of the whole history
 abbrev pub OwnCount : Type 0

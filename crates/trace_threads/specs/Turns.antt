@@ -26,6 +26,10 @@ entries [] = []
 entries (None ∷ ts) = entries ts
 entries (Some e ∷ ts) = e ∷ entries ts
 
+-- what was seen earlier, and of which making
+abbrev pub Earlier : Type 0
+Earlier = Making × List Turn
+
 -- what the slot has: the shared state, as its making and its history
 abbrev pub Slot : Type 0
 Slot = Option Shared
@@ -38,7 +42,7 @@ Mine = Me Slot View
 abbrev pub home_of : Making → List Entry → Slot
 home_of making log = if is_closed making.made log then None else Some (shared making log)
 
-abbrev pub view : Making → List Turn → List (List Turn) → Option ℕ → List Entry → Option ℕ → List Entry → Stage → View
+abbrev pub view : Making → List Turn → List Earlier → Option ℕ → List Entry → Option ℕ → List Entry → Stage → View
 view origin seen earlier number mine other theirs stage =
     record {
       live = true;
@@ -57,10 +61,10 @@ first_view making = view making [] [] (Some 0) [] None [] Idle
 
 -- ---- the rule
 
--- earlier lists begin the list of all turns
-abbrev pub AllBegin : List (List Turn) → List Turn → Type 0
-AllBegin [] turns = Unit {0}
-AllBegin (x ∷ xs) turns = IsPrefix x turns × AllBegin xs turns
+-- earlier lists begin the list of all turns, and are of this making
+abbrev pub AllBegin : Making → List Earlier → List Turn → Type 0
+AllBegin making [] turns = Unit {0}
+AllBegin making (x ∷ xs) turns = (x.0 ≡ making) × IsPrefix x.1 turns × AllBegin making xs turns
 
 -- owner: which seat drew a ticket. Who holds the turn has seen all turns
 abbrev pub Staged : List Turn → (ℕ → ℕ) → ℕ → ℕ → List Turn → Stage → Type 0
@@ -82,7 +86,7 @@ Placed place p (Some k) = place k ≡ p
 pub record Fits (making : Making) (turns : List Turn) (owner : ℕ → ℕ) (place : ℕ → ℕ × Bool) (tickets : ℕ) (j : ℕ) (v : View) : Type 0 where
   pub same : v.live ≡ true → v.origin ≡ making
   pub begins : IsPrefix v.seen turns
-  pub before : AllBegin v.earlier turns
+  pub before : AllBegin making v.earlier turns
   pub staged : Staged turns owner tickets j v.seen v.stage
   pub own : Known making (entries turns) v.mine v.number
   pub own_place : Placed place (j, false) v.number
@@ -141,7 +145,7 @@ pub record HasTurn (m : Mine) (t : ℕ) (w : Mine) : Type 0 where
   pub view : w.0 ≡ view m.0.origin w.0.seen [] m.0.number m.0.mine m.0.other m.0.theirs (Holds t)
   pub slot : w.1 ≡ (0, home_of m.0.origin (entries w.0.seen)) ∷ m.1
   pub begins : IsPrefix m.0.seen w.0.seen
-  pub before : AllBegin m.0.earlier w.0.seen
+  pub before : AllBegin m.0.origin m.0.earlier w.0.seen
   pub legal : IsLegal m.0.origin.made (entries w.0.seen)
   pub own : Known m.0.origin (entries w.0.seen) m.0.mine m.0.number
   pub other : Known m.0.origin (entries w.0.seen) m.0.theirs m.0.other
@@ -159,7 +163,7 @@ Looked st m n w = LookedAs m n w m.0.stage
 pub record AllSeen (m : Mine) (w : Mine) : Type 0 where
   pub view : w ≡ (view m.0.origin w.0.seen [] m.0.number m.0.mine m.0.other m.0.theirs Idle, m.1)
   pub begins : IsPrefix m.0.seen w.0.seen
-  pub before : AllBegin m.0.earlier w.0.seen
+  pub before : AllBegin m.0.origin m.0.earlier w.0.seen
   pub legal : IsLegal m.0.origin.made (entries w.0.seen)
 
 abbrev pub Noticed : Step Slot → Mine → ℕ → Mine → Type 0
@@ -220,7 +224,7 @@ longer xs ys = if nat_lt (length xs) (length ys) then ys else xs
 -- the other's number comes along with its entries, and both lists stay as earlier ones
 abbrev pub both_of : View → View → View
 both_of v w =
-    let earlier = v.seen ∷ w.seen ∷ (v.earlier ++ w.earlier) in
+    let earlier = (v.origin, v.seen) ∷ (w.origin, w.seen) ∷ (v.earlier ++ w.earlier) in
     view v.origin (longer v.seen w.seen) earlier v.number v.mine w.number w.mine v.stage
 
 -- What is left of a view that was joined into another. No seat has it any more, and its making says nothing.

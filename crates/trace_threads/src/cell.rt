@@ -204,6 +204,7 @@ pub(crate) fn join_once<R: Wait>(
     ensures made { Made seat.old.me.0 seat.new.me.0 caller at (Join ended) }
     ensures seen { IsPrefix other.me.0.seen seat.new.me.0.seen }
     ensures theirs { entries_by ended (entries seat.new.me.0.seen) ≡ other.me.0.mine }
+    ensures origin { other.me.0.origin ≡ seat.old.me.0.origin }
 {
     take_in(board, seat, other);
     let (_, mut state) = begin(rt, board, seat);

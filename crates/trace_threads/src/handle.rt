@@ -161,6 +161,8 @@ impl Handle {
         ensures entered { open_of self.new ≡ open_of self.old }
         ensures seen { IsPrefix other.view.seen self.new.view.seen }
         ensures theirs { entries_by other.number (entries self.new.view.seen) ≡ other.view.mine }
+        // Handles of one span know the same making.
+        ensures origin { other.view.origin ≡ self.old.view.origin }
     {
         let Handle {
             turns: _,

@@ -47,6 +47,8 @@ impl Pass {
         ensures span { self.new.span ≡ self.old.span }
         ensures seen { IsPrefix self.old.view.seen self.new.view.seen }
         ensures theirs { IsPrefix other.view.seen self.new.view.seen }
+        // Passes of one span know the same making.
+        ensures origin { other.view.origin ≡ self.old.view.origin }
         ensures same { self.new.view.origin ≡ self.old.view.origin }
         ensures legal { IsLegal self.old.view.origin.made (entries self.new.view.seen) }
     {

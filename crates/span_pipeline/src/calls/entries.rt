@@ -5,7 +5,7 @@ ghost use Rattle.span_pipeline.specs.declared.request.Call.{Call};
 
 use crate::pipeline::{MOST, Pipeline};
 use crate::reply::{Refusal, Reply, What};
-use crate::slots::{Guard, is_borrowed, is_shared, keep, slot_at, take};
+use crate::slots::{Guard, is_borrowed, is_shared, keep, skip, slot_at, take};
 use otel_base::record::Moment;
 use otel_base::recorder::Recorder;
 use otel_layer::layer::OpenTelemetryLayer;
@@ -46,6 +46,7 @@ impl Pipeline {
             return Err(Refusal::UnknownName { what: What::Handle });
         };
         self.guards.reserve(1)?;
+        self.contexts.attaches.reserve(1)?;
         let entry = match span.open_entry(&mut self.world, &mut self.lanes[lane as usize], at) {
             Ok(entry) => entry,
             Err(error) => return Err(Refusal::of_entry(lane, error)),
@@ -59,6 +60,7 @@ impl Pipeline {
                 entry,
             },
         );
+        skip(&mut self.contexts.attaches);
         self.moment = at;
         Ok(Reply::Guard { guard })
     }

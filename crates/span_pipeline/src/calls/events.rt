@@ -1,17 +1,21 @@
 //! Recording events.
 ghost use Rattle.std.specs.Prelude.{◌≡◌, ◌<◌, length, option_map, None, Some, IfSome, IfOk, OnOk, IfErr, OnErr};
-ghost use Rattle.trace_base.specs.declared.span.Parent.TheVariants as parent;
+ghost use Rattle.trace_base.specs.Conditions.{IsLivePlace};
 ghost use Rattle.span_handles.specs.Worlds.{Has, Replaced};
 ghost use Rattle.span_pipeline.specs.declared.request.Call.{Call};
 ghost use Rattle.span_pipeline.specs.Setups.{event_site};
 ghost use Rattle.span_pipeline.specs.Slots.{TellsOnly};
 
+use crate::fields::all_values;
 use crate::pipeline::Pipeline;
 use crate::reply::{Refusal, Reply, What};
+use crate::request::Place;
+use crate::slots::place_above;
 use otel_base::list::Items;
 use otel_base::memory::Memory;
 use otel_base::record::Moment;
 use otel_base::recorder::Recorder;
+use otel_base::text::Text;
 use otel_layer::layer::OpenTelemetryLayer;
 use otel_layer::recording;
 use span_handles::laws::{calls, same};
@@ -19,7 +23,7 @@ use span_registry::layered::Layered;
 use span_registry::registry::Registry;
 use trace_base::callsite::{Kind, SiteId};
 use trace_base::dispatcher::Dispatch;
-use trace_base::field::ValueSet;
+use trace_base::field::{Value, ValueSet};
 use trace_base::lane::Lane;
 use trace_base::level::Level;
 use trace_base::span::Parent;
@@ -40,28 +44,30 @@ fn event_site<S: Subscriber>(world: &World<S>, place: u64) -> Option<(SiteId, Le
     }
 }
 
-// An event on the lane's current span if it is let through.
+// An event at a place if it is let through.
 fn tell_if<S: Subscriber>(
     enabled: bool,
     world: &mut World<S>,
     dispatch: Dispatch,
     lane: &Lane,
     at: Moment,
+    place: Parent,
     site: SiteId,
     values: &ValueSet,
 ) -> Result<(), Memory>
     requires site { site < length world.old.sites }
     requires there { dispatch < length world.old.subscribers }
     requires whole { Has S.is_whole world.old dispatch }
+    requires live { Has (λ s. IsLivePlace (S.spans s).made place) world.old dispatch }
     ensures ok { OnOk result
-        (TellsOnly S.does enabled world.old world.new lane.now at site values.now dispatch) }
+        (TellsOnly S.does enabled world.old world.new lane.now at place site values.now dispatch) }
     ensures memory_leaves { OnErr result (Replaced S.same world.old world.new dispatch) }
 {
     if !enabled {
         return Ok(());
     }
     let (subscriber, callsite) = world.subscriber_and_site(dispatch, site);
-    subscriber.event(lane, at, Parent::Current, site, callsite, values)
+    subscriber.event(lane, at, place, site, callsite, values)
 }
 
 impl Pipeline {
@@ -69,23 +75,35 @@ impl Pipeline {
     ghost use Rattle.span_pipeline.specs.Effects.{effect_of_call};
     ghost use Rattle.span_pipeline.specs.Fits.{StandsFor, Served, IsRefusal};
 
-    pub(crate) fn event(&mut self, at: Moment, lane: u64, place: u64) -> Result<Reply, Refusal>
+    pub(crate) fn event(
+        &mut self,
+        at: Moment,
+        lane: u64,
+        place: u64,
+        under: Place,
+        fields: Items<(Text, Value)>,
+    ) -> Result<Reply, Refusal>
         requires { lane < length self.old.lanes }
         ensures ok { (t : Tables) → StandsFor self.old t
-            → IfOk result (Served (effect_of_call self.old.setup t at lane (Call.Event place)) t self.old self.new) }
+            → IfOk result (Served (effect_of_call self.old.setup t at lane (Call.Event place under fields)) t self.old self.new) }
         ensures refused { (t : Tables) → StandsFor self.old t
-            → IfErr result (IsRefusal (effect_of_call self.old.setup t at lane (Call.Event place))) }
+            → IfErr result (IsRefusal (effect_of_call self.old.setup t at lane (Call.Event place under fields))) }
         ensures err { OnErr result (self.new ≡ self.old) }
     {
         calls::<Layered<OpenTelemetryLayer<Recorder>, Registry>>();
         recording::calls();
         same::<Layered<OpenTelemetryLayer<Recorder>, Registry>>();
         recording::same();
-        let values = ValueSet {
-            pairs: Items::new(self.world.allocator()),
-        };
         let Some(found) = event_site(&self.world, place) else {
             return Err(Refusal::UnknownName { what: What::Site });
+        };
+        let Some(above) = place_above(&self.handles, under) else {
+            return Err(Refusal::UnknownName { what: What::Handle });
+        };
+        let parent = above.parent();
+        let callsite = self.world.site(found.0);
+        let Some(values) = all_values(self.world.allocator(), callsite, fields)? else {
+            return Err(Refusal::UnknownName { what: What::Field });
         };
         let enabled = self.level.lets_through(found.1);
         tell_if(
@@ -94,6 +112,7 @@ impl Pipeline {
             self.dispatch,
             &self.lanes[lane as usize],
             at,
+            parent,
             found.0,
             &values,
         )?;

@@ -6,6 +6,7 @@ ghost use Rattle.span_pipeline.specs.declared.request.Call.{Call};
 ghost use Rattle.span_pipeline.specs.Setups.{span_site};
 ghost use Rattle.span_pipeline.specs.Slots.{parent_of, IsAbove, MakesOnly};
 
+use crate::fields::all_values;
 use crate::pipeline::{MOST, Pipeline};
 use crate::reply::{Refusal, Reply, What};
 use crate::request::Place;
@@ -14,6 +15,7 @@ use otel_base::list::Items;
 use otel_base::memory::Memory;
 use otel_base::record::Moment;
 use otel_base::recorder::Recorder;
+use otel_base::text::Text;
 use otel_layer::layer::OpenTelemetryLayer;
 use otel_layer::recording;
 use span_handles::laws::{calls, same};
@@ -22,7 +24,7 @@ use span_registry::layered::Layered;
 use span_registry::registry::Registry;
 use trace_base::callsite::{Kind, SiteId};
 use trace_base::dispatcher::Dispatch;
-use trace_base::field::ValueSet;
+use trace_base::field::{Value, ValueSet};
 use trace_base::lane::Lane;
 use trace_base::level::Level;
 use trace_base::subscriber::Subscriber;
@@ -84,21 +86,19 @@ impl Pipeline {
         lane: u64,
         place: u64,
         under: Place,
+        fields: Items<(Text, Value)>,
     ) -> Result<Reply, Refusal>
         requires { lane < length self.old.lanes }
         ensures ok { (t : Tables) → StandsFor self.old t
-            → IfOk result (Served (effect_of_call self.old.setup t at lane (Call.New place under)) t self.old self.new) }
+            → IfOk result (Served (effect_of_call self.old.setup t at lane (Call.New place under fields)) t self.old self.new) }
         ensures refused { (t : Tables) → StandsFor self.old t
-            → IfErr result (IsRefusal (effect_of_call self.old.setup t at lane (Call.New place under))) }
+            → IfErr result (IsRefusal (effect_of_call self.old.setup t at lane (Call.New place under fields))) }
         ensures err { OnErr result (self.new ≡ self.old) }
     {
         calls::<Layered<OpenTelemetryLayer<Recorder>, Registry>>();
         recording::calls();
         same::<Layered<OpenTelemetryLayer<Recorder>, Registry>>();
         recording::same();
-        let values = ValueSet {
-            pairs: Items::new(self.world.allocator()),
-        };
         if self.handles.len() >= MOST || self.guards.len() >= MOST {
             return Err(Refusal::Memory);
         }
@@ -109,6 +109,10 @@ impl Pipeline {
         self.handles.reserve(1)?;
         let Some(above) = place_above(&self.handles, under) else {
             return Err(Refusal::UnknownName { what: What::Handle });
+        };
+        let callsite = self.world.site(found.0);
+        let Some(values) = all_values(self.world.allocator(), callsite, fields)? else {
+            return Err(Refusal::UnknownName { what: What::Field });
         };
         let enabled = self.level.lets_through(found.1);
         let span = make_if(

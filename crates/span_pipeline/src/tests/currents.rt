@@ -1,5 +1,5 @@
 //! Handles of current spans, and guards that own their handles.
-use super::{answers, made, refuses, settings};
+use super::{answers, made, makes, refuses, settings};
 use crate::pipeline::Pipeline;
 use crate::reply::{Refusal, Reply, What};
 use crate::request::{Call, Place};
@@ -9,14 +9,10 @@ use trace_base::discard::Discard;
 
 // Handles of the current span, of each lane its own.
 fn takes_current(pipeline: &mut Pipeline) -> [bool; 5] {
-    let root = Call::New {
-        site: 0,
-        place: Place::Root,
-    };
     let guard = Reply::Guard { guard: 0 };
     [
         answers(pipeline, 0, 0, Call::Current, made(false, 0)),
-        answers(pipeline, 1, 0, root, made(true, 1)),
+        makes(pipeline, 1, 0, 0, Place::Root, made(true, 1)),
         answers(pipeline, 2, 0, Call::Enter { handle: 1 }, guard),
         answers(pipeline, 3, 0, Call::Current, made(true, 2)),
         answers(pipeline, 4, 1, Call::Current, made(false, 3)),
@@ -27,13 +23,18 @@ fn takes_current(pipeline: &mut Pipeline) -> [bool; 5] {
 fn exchanges(pipeline: &mut Pipeline) -> [bool; 7] {
     let gone = Refusal::UnknownName { what: What::Handle };
     let used = Refusal::InUse;
-    let (first, second) = (Call::OrCurrent { handle: 3 }, Call::OrCurrent { handle: 0 });
     [
         refuses(pipeline, 5, 0, Call::OrCurrent { handle: 1 }, used),
-        answers(pipeline, 6, 0, first, made(true, 4)),
+        answers(pipeline, 6, 0, Call::OrCurrent { handle: 3 }, made(true, 4)),
         answers(pipeline, 7, 1, Call::OrCurrent { handle: 2 }, made(true, 5)),
-        answers(pipeline, 8, 1, second, made(false, 6)),
-        refuses(pipeline, 9, 0, first, gone),
+        answers(
+            pipeline,
+            8,
+            1,
+            Call::OrCurrent { handle: 0 },
+            made(false, 6),
+        ),
+        refuses(pipeline, 9, 0, Call::OrCurrent { handle: 3 }, gone),
         answers(pipeline, 10, 0, Call::Exit { guard: 0 }, Reply::Done),
         answers(
             pipeline,
@@ -49,10 +50,9 @@ fn exchanges(pipeline: &mut Pipeline) -> [bool; 7] {
 fn owns(pipeline: &mut Pipeline) -> [bool; 6] {
     let used = Refusal::InUse;
     let (own, other) = (Reply::Guard { guard: 1 }, Reply::Guard { guard: 2 });
-    let entered = Call::Entered { handle: 1 };
     [
-        answers(pipeline, 12, 1, entered, own),
-        refuses(pipeline, 13, 0, entered, used),
+        answers(pipeline, 12, 1, Call::Entered { handle: 1 }, own),
+        refuses(pipeline, 13, 0, Call::Entered { handle: 1 }, used),
         answers(pipeline, 14, 0, Call::Enter { handle: 1 }, other),
         refuses(pipeline, 15, 0, Call::Exit { guard: 1 }, used),
         answers(pipeline, 16, 0, Call::Exit { guard: 2 }, Reply::Done),

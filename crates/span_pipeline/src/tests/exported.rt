@@ -1,5 +1,5 @@
 //! What an exporter gets of a script.
-use super::{answers, made, settings};
+use super::{answers, made, makes, settings};
 use crate::pipeline::Pipeline;
 use crate::reply::Reply;
 use crate::request::{Call, Place};
@@ -9,19 +9,11 @@ use trace_base::discard::Discard;
 
 // A child that outlives the handle of its parent.
 fn outlives(pipeline: &mut Pipeline) -> [bool; 5] {
-    let root = Call::New {
-        site: 0,
-        place: Place::Root,
-    };
-    let child = Call::New {
-        site: 0,
-        place: Place::Contextual,
-    };
     let guard = Reply::Guard { guard: 0 };
     [
-        answers(pipeline, 0, 0, root, made(true, 0)),
+        makes(pipeline, 0, 0, 0, Place::Root, made(true, 0)),
         answers(pipeline, 1, 0, Call::Enter { handle: 0 }, guard),
-        answers(pipeline, 2, 0, child, made(true, 1)),
+        makes(pipeline, 2, 0, 0, Place::Contextual, made(true, 1)),
         answers(pipeline, 3, 0, Call::Exit { guard: 0 }, Reply::Done),
         answers(pipeline, 4, 0, Call::Drop { handle: 0 }, Reply::Done),
     ]

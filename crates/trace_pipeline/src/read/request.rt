@@ -10,6 +10,7 @@ use crate::read::hex::{id_of, long_id_of};
 use crate::read::object::Object;
 use crate::read::value::Value;
 use otel_base::context::SpanContext;
+use otel_base::list::Items;
 use span_pipeline::request::{Call, Place, Request};
 use std::alloc::Global;
 
@@ -110,7 +111,11 @@ fn new_call(alloc: Global, object: &mut Object) -> Result<Call, LineError>
     let site = object.whole("site")?;
     let place = place(object)?;
     no_fields(alloc, object)?;
-    Ok(Call::New { site, place })
+    Ok(Call::New {
+        site,
+        place,
+        fields: Items::new(alloc),
+    })
 }
 
 #[tactic(auto, unfolding(crate::specs::RequestForm::clone_form))]
@@ -191,7 +196,11 @@ fn event_call(alloc: Global, object: &mut Object) -> Result<Call, LineError>
 {
     let site = object.whole("site")?;
     no_fields(alloc, object)?;
-    Ok(Call::Event { site })
+    Ok(Call::Event {
+        site,
+        place: Place::Contextual,
+        fields: Items::new(alloc),
+    })
 }
 
 #[tactic(auto, unfolding(crate::specs::RequestForm::remote_form))]

@@ -65,6 +65,7 @@ fn name_of(what: What) -> &'static str
         What::Handle => "handle",
         What::Guard => "guard",
         What::Context => "context",
+        What::Field => "field",
     }
 }
 

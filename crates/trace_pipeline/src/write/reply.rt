@@ -53,6 +53,15 @@ fn add_enabled(out: &mut Vec<u8>, line: u64, enabled: bool) -> Result<(), AllocE
     Ok(())
 }
 
+fn add_has(out: &mut Vec<u8>, line: u64, has: bool) -> Result<(), AllocError>
+    ensures { Writes result out.old out.new (compact_text (reply_data line (Reply.Has has))) }
+{
+    add_flag(out, "{\"has\":", has)?;
+    add_number(out, ",\"reply\":", line)?;
+    add(out, "}")?;
+    Ok(())
+}
+
 fn add_done(out: &mut Vec<u8>, line: u64) -> Result<(), AllocError>
     ensures { Writes result out.old out.new (compact_text (reply_data line Reply.Done)) }
 {
@@ -71,5 +80,6 @@ pub fn add_reply(out: &mut Vec<u8>, line: u64, reply: &Reply) -> Result<(), Allo
         Reply::Context { context, ids } => add_context(out, line, *context, *ids),
         Reply::Done => add_done(out, line),
         Reply::Enabled { enabled } => add_enabled(out, line, *enabled),
+        Reply::Has { has } => add_has(out, line, *has),
     }
 }

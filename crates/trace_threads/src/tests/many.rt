@@ -156,12 +156,29 @@ fn is_in_turn(
         }
     }
     state.apply(11, Op::Start { own: OWN })?;
-    let same = state.close(11);
-    Ok(
-        is_in_order
-            && same.end == record.end
-            && have_same(same.attributes.as_slice(), record.attributes.as_slice()),
-    )
+    Ok(is_in_order && is_same_record(&state.close(11), record))
+}
+
+// Whether two records are the same, and have no events and links, since nothing here writes one.
+fn is_same_record(one: &Record, other: &Record) -> bool {
+    is_same_span(one, other)
+        && one.status == other.status
+        && have_same(one.attributes.as_slice(), other.attributes.as_slice())
+        && has_attributes_alone(one)
+        && has_attributes_alone(other)
+}
+
+fn is_same_span(one: &Record, other: &Record) -> bool {
+    one.name == other.name
+        && one.kind == other.kind
+        && one.context == other.context
+        && one.parent == other.parent
+        && one.start == other.start
+        && one.end == other.end
+}
+
+fn has_attributes_alone(record: &Record) -> bool {
+    record.events.as_slice().is_empty() && record.links.as_slice().is_empty()
 }
 
 fn have_same(some: &[KeyValue], others: &[KeyValue]) -> bool {

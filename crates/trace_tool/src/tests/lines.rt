@@ -56,7 +56,7 @@ const REFUSED: &str = r#"
 // The word of a call, and the number that it names.
 fn parts(call: &Call) -> (&'static str, u64) {
     match call {
-        Call::New { site, place } => match place {
+        Call::New { site, place, .. } => match place {
             Place::Contextual => ("new", *site),
             Place::Root => ("new_root", *site),
             Place::Under { handle } => ("new_under", *handle),
@@ -72,7 +72,9 @@ fn parts(call: &Call) -> (&'static str, u64) {
         Call::Drop { handle } => ("drop", *handle),
         Call::Enter { handle } => ("enter", *handle),
         Call::Exit { guard } => ("exit", *guard),
-        Call::Event { site } => ("event", *site),
+        Call::Record { handle, .. } => ("record", *handle),
+        Call::HasField { handle, .. } => ("has_field", *handle),
+        Call::Event { site, .. } => ("event", *site),
     }
 }
 

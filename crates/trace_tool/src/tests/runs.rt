@@ -351,6 +351,133 @@ P
 > {"attributes":[["busy_ns",30],["idle_ns",10]],"end":40,"events":[],"kind":"internal","links":[],"name":"s","parent":"0000000000000000","record":2,"span":"0000000000000001","start":0,"status":"unset","trace":"00000000000000000000000000000001"}
 > {"done":true,"open":1,"records":2}
 = 0
+# a span under a context of ids that are given
+P
+< {"at":0,"do":"remote","lane":0,"span":"00000000000000fe","trace":"80000000000000000000000000000001"}
+< {"at":1,"context":0,"do":"attach","lane":0}
+< {"at":2,"do":"new","lane":0,"site":0}
+< {"at":3,"do":"detach","guard":0,"lane":0}
+< {"at":4,"do":"drop","handle":0,"lane":0}
+> {"context":0,"reply":2,"span":"00000000000000fe","trace":"80000000000000000000000000000001"}
+> {"guard":0,"reply":3}
+> {"enabled":true,"handle":0,"reply":4}
+> {"reply":5}
+> {"reply":6}
+> {"attributes":[["busy_ns",0],["idle_ns",0]],"end":4,"events":[],"kind":"internal","links":[],"name":"s","parent":"00000000000000fe","record":1,"span":"0000000000000001","start":2,"status":"unset","trace":"80000000000000000000000000000001"}
+> {"done":true,"open":0,"records":1}
+= 0
+# contexts of two spans, of which the second starts first
+P
+< {"at":0,"do":"new","lane":0,"site":0}
+< {"at":1,"do":"new","lane":0,"site":0}
+< {"at":2,"do":"context","handle":1,"lane":0}
+< {"at":3,"do":"context","handle":0,"lane":0}
+< {"at":4,"do":"context","handle":1,"lane":0}
+> {"enabled":true,"handle":0,"reply":2}
+> {"enabled":true,"handle":1,"reply":3}
+> {"context":0,"reply":4,"span":"0000000000000001","trace":"00000000000000000000000000000001"}
+> {"context":1,"reply":5,"span":"0000000000000002","trace":"00000000000000000000000000000002"}
+> {"context":2,"reply":6,"span":"0000000000000001","trace":"00000000000000000000000000000001"}
+> {"done":true,"open":2,"records":0}
+= 0
+# the context of a disabled handle, and ids of zeros, attached
+P
+< {"at":0,"do":"new","lane":0,"site":4}
+< {"at":1,"do":"context","handle":0,"lane":0}
+< {"at":2,"do":"remote","lane":0,"span":"0000000000000000","trace":"00000000000000000000000000000000"}
+< {"at":3,"context":1,"do":"attach","lane":0}
+< {"at":4,"do":"new","lane":0,"site":0}
+< {"at":5,"do":"drop","handle":1,"lane":0}
+> {"enabled":false,"handle":0,"reply":2}
+> {"context":0,"reply":3,"span":"0000000000000000","trace":"00000000000000000000000000000000"}
+> {"context":1,"reply":4,"span":"0000000000000000","trace":"00000000000000000000000000000000"}
+> {"guard":0,"reply":5}
+> {"enabled":true,"handle":1,"reply":6}
+> {"reply":7}
+> {"attributes":[["busy_ns",0],["idle_ns",0]],"end":5,"events":[],"kind":"internal","links":[],"name":"s","parent":"0000000000000000","record":1,"span":"0000000000000001","start":4,"status":"unset","trace":"00000000000000000000000000000001"}
+> {"done":true,"open":0,"records":1}
+= 0
+# an exit under an attach, which takes off its entry's context
+P
+< {"at":0,"do":"new","lane":0,"site":0}
+< {"at":1,"do":"enter","handle":0,"lane":0}
+< {"at":2,"do":"remote","lane":0,"span":"00000000000000fe","trace":"80000000000000000000000000000001"}
+< {"at":3,"context":0,"do":"attach","lane":0}
+< {"at":4,"do":"exit","guard":0,"lane":0}
+< {"at":5,"do":"new","lane":0,"site":0}
+< {"at":6,"do":"drop","handle":1,"lane":0}
+> {"enabled":true,"handle":0,"reply":2}
+> {"guard":0,"reply":3}
+> {"context":0,"reply":4,"span":"00000000000000fe","trace":"80000000000000000000000000000001"}
+> {"guard":1,"reply":5}
+> {"reply":6}
+> {"enabled":true,"handle":1,"reply":7}
+> {"reply":8}
+> {"attributes":[["busy_ns",0],["idle_ns",0]],"end":6,"events":[],"kind":"internal","links":[],"name":"s","parent":"00000000000000fe","record":1,"span":"0000000000000002","start":5,"status":"unset","trace":"80000000000000000000000000000001"}
+> {"done":true,"open":1,"records":1}
+= 0
+# a detach under an entry
+P
+< {"at":0,"do":"remote","lane":0,"span":"00000000000000fe","trace":"80000000000000000000000000000001"}
+< {"at":1,"context":0,"do":"attach","lane":0}
+< {"at":2,"do":"new","lane":0,"site":0}
+< {"at":3,"do":"enter","handle":0,"lane":0}
+< {"at":4,"do":"detach","guard":0,"lane":0}
+< {"at":5,"do":"new","lane":0,"site":0}
+< {"at":6,"do":"drop","handle":1,"lane":0}
+> {"context":0,"reply":2,"span":"00000000000000fe","trace":"80000000000000000000000000000001"}
+> {"guard":0,"reply":3}
+> {"enabled":true,"handle":0,"reply":4}
+> {"guard":1,"reply":5}
+> {"reply":6}
+> {"enabled":true,"handle":1,"reply":7}
+> {"reply":8}
+> {"attributes":[["busy_ns",0],["idle_ns",0]],"end":6,"events":[],"kind":"internal","links":[],"name":"s","parent":"0000000000000001","record":1,"span":"0000000000000002","start":5,"status":"unset","trace":"80000000000000000000000000000001"}
+> {"done":true,"open":1,"records":1}
+= 0
+# an exit by the guard of an attach
+P
+< {"at":0,"do":"remote","lane":0,"span":"00000000000000fe","trace":"80000000000000000000000000000001"}
+< {"at":1,"context":0,"do":"attach","lane":0}
+< {"at":2,"do":"exit","guard":0,"lane":0}
+> {"context":0,"reply":2,"span":"00000000000000fe","trace":"80000000000000000000000000000001"}
+> {"guard":0,"reply":3}
+> {"line":4,"refused":"UnknownName","what":"guard"}
+= 2
+# a detach by the guard of an entry
+P
+< {"at":0,"do":"new","lane":0,"site":0}
+< {"at":1,"do":"enter","handle":0,"lane":0}
+< {"at":2,"do":"detach","guard":0,"lane":0}
+> {"enabled":true,"handle":0,"reply":2}
+> {"guard":0,"reply":3}
+> {"line":4,"refused":"UnknownName","what":"guard"}
+= 2
+# a detach on another lane
+P
+< {"at":0,"do":"remote","lane":0,"span":"00000000000000fe","trace":"80000000000000000000000000000001"}
+< {"at":1,"context":0,"do":"attach","lane":0}
+< {"at":2,"do":"detach","guard":0,"lane":1}
+> {"context":0,"reply":2,"span":"00000000000000fe","trace":"80000000000000000000000000000001"}
+> {"guard":0,"reply":3}
+> {"lane":0,"line":4,"refused":"WrongLane"}
+= 2
+# a second detach
+P
+< {"at":0,"do":"remote","lane":0,"span":"00000000000000fe","trace":"80000000000000000000000000000001"}
+< {"at":1,"context":0,"do":"attach","lane":0}
+< {"at":2,"do":"detach","guard":0,"lane":0}
+< {"at":3,"do":"detach","guard":0,"lane":0}
+> {"context":0,"reply":2,"span":"00000000000000fe","trace":"80000000000000000000000000000001"}
+> {"guard":0,"reply":3}
+> {"reply":4}
+> {"line":5,"refused":"UnknownName","what":"guard"}
+= 2
+# a context that is not there
+P
+< {"at":0,"context":0,"do":"attach","lane":0}
+> {"line":2,"refused":"UnknownName","what":"context"}
+= 2
 # a request that is not built
 P
 < {"at":0,"do":"enabled","lane":0,"site":0}

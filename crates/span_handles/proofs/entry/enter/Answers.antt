@@ -1,8 +1,8 @@
 -- An entry releases nothing, and a refused one nothing either.
-use Rattle.span_handles.proofs.Knowing.{keeps_entry}
+use Rattle.span_handles.proofs.Knowing.{handles_result}
 use Rattle.span_handles.proofs.entry.enter.Goals as goal
 
 pub returns-clause-keeps : goal.returns-clause-keeps
 returns-clause-keeps g c =
-    keeps_entry g.S.Subscriber.spans g.S.Subscriber.does g.met.S.Subscriber.sound g.met.S.Subscriber.allowed g.met.S.Subscriber.shows g.S.Subscriber.same g.met.S.Subscriber.same_spans c.args.world.now c.args.dispatch
+    handles_result g.S.Subscriber.spans g.S.Subscriber.does g.met.S.Subscriber.sound g.met.S.Subscriber.allowed g.met.S.Subscriber.shows g.S.Subscriber.same g.met.S.Subscriber.same_spans c.args.world.now c.args.dispatch
     _ _ _ c.subscriber_mut.ensures.value c.enter.result c.enter.ensures.did tt c.enter.ensures.leaves

@@ -1,12 +1,18 @@
 -- By the trait's laws.
-use Rattle.span_handles.proofs.Knowing.{keeps_call, keeps_same, keeps_chain}
+use Rattle.span_handles.proofs.Knowing.{handles_call, handles_same, gains_call, others_chain, loses_chain}
 use Rattle.span_handles.proofs.laws.keeps.Goals as goal
 
 pub returns-clause-call : goal.returns-clause-call
-returns-clause-call g c = keeps_call g.S.Subscriber.spans g.S.Subscriber.does g.met.S.Subscriber.sound g.met.S.Subscriber.allowed g.met.S.Subscriber.shows
+returns-clause-call g c = handles_call g.S.Subscriber.spans g.S.Subscriber.does g.met.S.Subscriber.sound g.met.S.Subscriber.allowed g.met.S.Subscriber.shows
+
+pub returns-clause-copy : goal.returns-clause-copy
+returns-clause-copy g c = gains_call g.S.Subscriber.spans g.S.Subscriber.does g.met.S.Subscriber.sound g.met.S.Subscriber.allowed g.met.S.Subscriber.shows
 
 pub returns-clause-same : goal.returns-clause-same
-returns-clause-same g c = keeps_same g.S.Subscriber.spans g.S.Subscriber.same g.met.S.Subscriber.same_spans
+returns-clause-same g c = λ old new dispatch. handles_same g.S.Subscriber.spans g.S.Subscriber.same g.met.S.Subscriber.same_spans old new dispatch
 
 pub returns-clause-chain : goal.returns-clause-chain
-returns-clause-chain g c = keeps_chain g.S.Subscriber.spans g.S.Subscriber.does g.met.S.Subscriber.allowed g.met.S.Subscriber.shows
+returns-clause-chain g c = λ old new dispatch at id. others_chain g.S.Subscriber.spans g.S.Subscriber.does g.met.S.Subscriber.allowed g.met.S.Subscriber.shows old new dispatch at id
+
+pub returns-clause-fewer : goal.returns-clause-fewer
+returns-clause-fewer g c = λ old new dispatch at id. loses_chain g.S.Subscriber.spans g.S.Subscriber.does g.met.S.Subscriber.allowed g.met.S.Subscriber.shows old new dispatch at id

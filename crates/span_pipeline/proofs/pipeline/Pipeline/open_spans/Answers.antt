@@ -1,8 +1,5 @@
 -- How many spans are open.
-use Rattle.std.proofs.Common.{rules, refl, ap, ◌∙◌}
-use Rattle.trace_base.specs.Spans.{Spans}
-use Rattle.span_handles.specs.Worlds.{no_spans}
-use Rattle.span_pipeline.proofs.Taking.{seen_there}
+use Rattle.std.proofs.Common.{rules, refl, ◌∙◌}
 use Rattle.span_pipeline.proofs.Counting.{open_counted}
 use Rattle.span_pipeline.proofs.pipeline.Pipeline.open_spans.Goals as goal
 

@@ -10,9 +10,9 @@ use Rattle.trace_pipeline.proofs.read.laws.every_request.Goals as goal
 
 is_read : (at : ℕ) (call : Call) → IsInRange call → object_of request_form (request_data (first_lane at call)) ≡ Some (first_lane at call)
 unfolding request_form new_form clone_form or_current_form drop_form enter_form entered_form exit_form event_form remote_form context_form attach_form detach_form
-is_read at (call.New site place.Contextual) range = refl
-is_read at (call.New site place.Root) range = refl
-is_read at (call.New site (place.Under handle)) range = refl
+is_read at (call.New site place.Contextual fields) range = rw range refl
+is_read at (call.New site place.Root fields) range = rw range refl
+is_read at (call.New site (place.Under handle) fields) range = rw range refl
 is_read at call.Current range = refl
 is_read at (call.Clone handle) range = refl
 is_read at (call.OrCurrent handle) range = refl
@@ -20,7 +20,9 @@ is_read at (call.Drop handle) range = refl
 is_read at (call.Enter handle) range = refl
 is_read at (call.Entered handle) range = refl
 is_read at (call.Exit guard) range = refl
-is_read at (call.Event site) range = refl
+is_read at (call.Record handle fields) range = absurd range
+is_read at (call.HasField handle name) range = absurd range
+is_read at (call.Event site put fields) range = rw (range.0, range.1) refl
 is_read at (call.Remote ids) range = rw (long_id_read ids.trace range.0, id_read ids.span range.1) refl
 is_read at (call.Context handle) range = refl
 is_read at (call.Attach context) range = refl

@@ -1,0 +1,153 @@
+//! Contexts: making them, attaching them to a lane, and detaching them again.
+ghost use Rattle.std.specs.Prelude.{◌≡◌, ◌↔◌, ◌<◌, ◌++◌, ℕ, [], ◌∷◌, true, false, length, IfOk, IfErr, OnErr, Err};
+ghost use Rattle.otel_base.specs.Stack.{has, without};
+ghost use Rattle.otel_base.specs.declared.enter_error.EnterError.TheVariants.{Full};
+ghost use Rattle.trace_base.specs.Gate.{Worlds};
+ghost use Rattle.span_handles.specs.Worlds.{Has};
+ghost use Rattle.span_pipeline.specs.declared.reply.Refusal.TheVariants.{Memory as NoMemory};
+ghost use Rattle.span_pipeline.specs.declared.request.Call.{Call};
+
+use crate::contexts::{Attach, add, context_at};
+use crate::pipeline::{MOST, Pipeline};
+use crate::reply::{Refusal, Reply, What};
+use crate::slots::{keep, skip, slot_at, take};
+use otel_base::context::{Context, SpanContext};
+use otel_base::enter_error::EnterError;
+use otel_base::record::Moment;
+use otel_base::recorder::Recorder;
+use otel_base::stack::Attached;
+use otel_layer::layer::OpenTelemetryLayer;
+use otel_layer::part::OtelSubscriber;
+use otel_layer::recording;
+use otel_layer::span_ext::OpenTelemetrySpanExt;
+use span_registry::layered::Layered;
+use span_registry::registry::Registry;
+use trace_base::lane::Lane;
+
+// Whatever spans a whole subscriber has can be started.
+fn starts<S: OtelSubscriber>()
+    ensures { (world : Worlds S) (dispatch : ℕ) → Has S.is_whole world dispatch → Has S.can_start world dispatch }
+{}
+
+// Attaches a context to a lane above all others.
+fn attach_to(lane: &mut Lane, context: Context) -> Result<Attached, EnterError>
+    ensures id { lane.new.id ≡ lane.old.id }
+    ensures name { lane.new.name ≡ lane.old.name }
+    ensures live { IfOk result (λ number. lane.new.contexts.live ≡ lane.old.contexts.live ++ (number, context) ∷ []) }
+    ensures number { IfOk result (λ number. has number lane.old.contexts.live ≡ false) }
+    ensures full { (result ≡ Err Full) ↔ (length lane.old.contexts.live ≡ 65534) }
+    ensures leaves { OnErr result (lane.new.contexts.live ≡ lane.old.contexts.live) }
+{
+    lane.contexts.attach(context)
+}
+
+// Detaches a context of a lane, wherever it stands.
+fn detach_from(lane: &mut Lane, attached: Attached)
+    requires { has attached lane.old.contexts.live ≡ true }
+    ensures id { lane.new.id ≡ lane.old.id }
+    ensures name { lane.new.name ≡ lane.old.name }
+    ensures live { lane.new.contexts.live ≡ without attached lane.old.contexts.live }
+{
+    lane.contexts.detach(attached);
+}
+
+impl Pipeline {
+    ghost use Rattle.span_pipeline.specs.Tables.{Tables};
+    ghost use Rattle.span_pipeline.specs.Effects.{effect_of_call};
+    ghost use Rattle.span_pipeline.specs.Fits.{StandsFor, Served, IsRefusal};
+
+    pub(crate) fn remote(
+        &mut self,
+        at: Moment,
+        lane: u64,
+        ids: SpanContext,
+    ) -> Result<Reply, Refusal>
+        ensures ok { (t : Tables) → StandsFor self.old t
+            → IfOk result (Served (effect_of_call self.old.setup t at lane (Call.Remote ids)) t self.old self.new) }
+        ensures refused { (t : Tables) → StandsFor self.old t
+            → IfErr result (IsRefusal (effect_of_call self.old.setup t at lane (Call.Remote ids))) }
+        ensures err { OnErr result (self.new ≡ self.old) }
+    {
+        let context = self.contexts.made.len() as u64;
+        self.contexts.made.push(Context { span: Some(ids) })?;
+        self.moment = at;
+        Ok(Reply::Context { context, ids })
+    }
+
+    pub(crate) fn context(&mut self, at: Moment, lane: u64, handle: u64) -> Result<Reply, Refusal>
+        ensures ok { (t : Tables) → StandsFor self.old t
+            → IfOk result (Served (effect_of_call self.old.setup t at lane (Call.Context handle)) t self.old self.new) }
+        ensures refused { (t : Tables) → StandsFor self.old t
+            → IfErr result (IsRefusal (effect_of_call self.old.setup t at lane (Call.Context handle))) }
+        ensures err { OnErr result (self.new ≡ self.old) }
+    {
+        starts::<Layered<OpenTelemetryLayer<Recorder>, Registry>>();
+        recording::leaves::<Layered<OpenTelemetryLayer<Recorder>, Registry>>();
+        recording::asks();
+        let number = self.contexts.made.len() as u64;
+        self.contexts.made.reserve(1)?;
+        let Some(span) = slot_at(&self.handles, handle) else {
+            return Err(Refusal::UnknownName { what: What::Handle });
+        };
+        let context = span.context(&mut self.world, at);
+        add(&mut self.contexts.made, context);
+        self.moment = at;
+        Ok(Reply::Context {
+            context: number,
+            ids: context.span_context(),
+        })
+    }
+
+    pub(crate) fn attach(&mut self, at: Moment, lane: u64, context: u64) -> Result<Reply, Refusal>
+        requires { lane < length self.old.lanes }
+        ensures ok { (t : Tables) → StandsFor self.old t
+            → IfOk result (Served (effect_of_call self.old.setup t at lane (Call.Attach context)) t self.old self.new) }
+        ensures refused { (t : Tables) → StandsFor self.old t
+            → IfErr result (IsRefusal (effect_of_call self.old.setup t at lane (Call.Attach context))) }
+        ensures err { OnErr result (self.new ≡ self.old) }
+    {
+        if self.handles.len() >= MOST || self.guards.len() >= MOST {
+            return Err(Refusal::Memory);
+        }
+        let guard = self.guards.len() as u64;
+        let Some(given) = context_at(&self.contexts.made, context) else {
+            return Err(Refusal::UnknownName {
+                what: What::Context,
+            });
+        };
+        self.guards.reserve(1)?;
+        self.contexts.attaches.reserve(1)?;
+        let attached = match attach_to(&mut self.lanes[lane as usize], given) {
+            Ok(attached) => attached,
+            Err(error) => return Err(Refusal::of_entry(lane, error)),
+        };
+        skip(&mut self.guards);
+        keep(&mut self.contexts.attaches, Attach { lane, attached });
+        self.moment = at;
+        Ok(Reply::Guard { guard })
+    }
+
+    pub(crate) fn detach(&mut self, at: Moment, lane: u64, guard: u64) -> Result<Reply, Refusal>
+        requires { lane < length self.old.lanes }
+        ensures ok { (t : Tables) → StandsFor self.old t
+            → IfOk result (Served (effect_of_call self.old.setup t at lane (Call.Detach guard)) t self.old self.new) }
+        ensures refused { (t : Tables) → StandsFor self.old t
+            → IfErr result (IsRefusal (effect_of_call self.old.setup t at lane (Call.Detach guard))) }
+        ensures err { OnErr result (self.new ≡ self.old) }
+        ensures room { ¬ (result ≡ Err NoMemory) }
+    {
+        let Some(named) = slot_at(&self.contexts.attaches, guard) else {
+            return Err(Refusal::UnknownName { what: What::Guard });
+        };
+        if named.lane != lane {
+            return Err(Refusal::WrongLane { lane: named.lane });
+        }
+        let Some(open) = take(&mut self.contexts.attaches, guard) else {
+            unreachable!()
+        };
+        let Attach { lane: _, attached } = open;
+        detach_from(&mut self.lanes[lane as usize], attached);
+        self.moment = at;
+        Ok(Reply::Done)
+    }
+}
