@@ -1,7 +1,7 @@
 //! Calls on enabled handles, over a registry that serves all lanes.
 ghost use Rattle.std.specs.Prelude.{◌≡◌, ◌<◌, ◌∷◌, if◌then◌else◌, length, false, [], IfOk, OnOk, Some, None};
 ghost use Rattle.trace_base.specs.declared.span.Parent.TheVariants as parent;
-ghost use Rattle.trace_base.specs.Spans.{current_on, held, released, span_at};
+ghost use Rattle.trace_base.specs.Spans.{current_on, held};
 ghost use Rattle.trace_base.specs.Conditions.{HasFewHolds, HasFewHoldsAbove, HasOwnHold};
 ghost use Rattle.span_registry.specs.Registering.{DoesRegistry, no_spans};
 ghost use Rattle.span_handles.specs.Handles.{Copies, IsOf, handle_of, place_under};
@@ -208,17 +208,16 @@ fn copy(world: &mut World<Registry>, span: &Span, id: Id) -> Span
     span.clone_handle(world)
 }
 
-// Closes a handle of a span that has other holds of handles.
-fn close(world: &mut World<Registry>, span: Span, id: Id, at: u64) -> bool
+// Closes a copy of a handle, and then the handle, which stays known.
+fn close_both(world: &mut World<Registry>, span: Span, id: Id) -> [bool; 2]
     requires single { IsSingle world.old }
     requires is { span.held ≡ Some (0, id) }
     requires own { HasOwnHold (spans_of world.old) id }
-    requires others { 1 < (span_at (spans_of world.old).made id).holds }
-    ensures closed { result ≡ false }
-    ensures released { Leaves world.old world.new
-        (record (spans_of world.old) { made = released (spans_of world.old).made id }) }
+    requires few_holds { HasFewHolds (spans_of world.old).made id }
+    ensures { length world.new.subscribers ≡ length world.old.subscribers }
 {
-    span.close(world, at)
+    let copy = span.clone_handle(world);
+    [copy.close(world, 6), span.close(world, 7)]
 }
 
 // A handle of the lane's current span, or what stands for none.
@@ -229,6 +228,16 @@ fn now(world: &mut World<Registry>, lane: &Lane) -> Span
     ensures is { Copies DoesRegistry world.old world.new 0 (current_on lane.now.id (spans_of world.old)) result }
 {
     Span::current(world, lane)
+}
+
+// What stands for a disabled handle: one of the lane's current span, or what stands for none.
+fn instead(world: &mut World<Registry>, lane: &Lane, site: SiteId) -> Span
+    requires single { IsSingle world.old }
+    requires own { lane.now.default ≡ None }
+    requires few_holds { HasFewHoldsAbove (spans_of world.old) lane.now.id parent.Current }
+    ensures is { Copies DoesRegistry world.old world.new 0 (current_on lane.now.id (spans_of world.old)) result }
+{
+    Span::new_disabled(site).or_current(world, lane)
 }
 
 // The current span outside of all spans, and what `or_current` makes of a disabled handle and of an enabled one there.
@@ -242,12 +251,12 @@ fn currents_outside(
 {
     let id = Id::at(0);
     let outside = is_none(now(world, lane));
+    let none = is_none(instead(world, lane, making.site));
     let copy = copy(world, first, id);
     let kept = copy.or_current(world, lane);
     let same = kept.same_span(first);
-    let open = !close(world, kept, id, 1);
-    let none = is_none(Span::new_disabled(making.site).or_current(world, lane));
-    [outside, same, open, none]
+    let open = !kept.close(world, 1);
+    [outside, none, same, open]
 }
 
 // Whether the current span inside a first one is that one, as `current` gives it, or `or_current` for a disabled handle.
@@ -379,24 +388,18 @@ fn recorded(
     ])
 }
 
-// Whether the span of each handle closed with it: a second handle of a first span, a second one of its child, and the
-// child; and the holds that are left of the first, which lost that of its child.
+// Whether the span of each handle closed with it: a copy of the handle of a first span's child, and that handle; and the
+// holds that are left of the first, which lost that of its child.
 fn closed(
     world: &mut World<Registry>,
     lane: &Lane,
     making: &Making,
     first: &Span,
-) -> Result<([bool; 3], u64), Memory>
+) -> Result<([bool; 2], u64), Memory>
     requires { IsFirst world.old lane.now making.now.site making.now.registry first.now }
 {
     let child = child(world, lane, making, first, false)?;
-    let second = copy(world, first, Id::at(0));
-    let third = copy(world, &child, Id::at(1));
-    let closed = [
-        close(world, second, Id::at(0), 5),
-        close(world, third, Id::at(1), 6),
-        child.close(world, 7),
-    ];
+    let closed = close_both(world, child, Id::at(1));
     Ok((closed, world.subscriber(making.registry).holds(Id::at(0))))
 }
 
@@ -451,7 +454,7 @@ fn makes_spans_under_their_parents(rt: HostRuntime) {
     let told = with_first(rt.alloc(), |world, lane, making, first| {
         closed(world, lane, making, first)
     });
-    assert_eq!(rt; told, Ok(Ok(([false, false, true], 1))));
+    assert_eq!(rt; told, Ok(Ok(([false, true], 1))));
 }
 
 #[test]
