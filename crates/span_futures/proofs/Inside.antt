@@ -13,7 +13,7 @@ use Rattle.trace_base.specs.Contexts.{AreAttached, Lanes}
 use Rattle.span_handles.specs.Worlds.{Has, Replaced, spans_in, no_spans}
 use Rattle.span_handles.specs.Handles.{Held, IsKnown, HasOn, ReplacedOn}
 use Rattle.span_handles.specs.Entries.{IsOpenOn, IsStillOn, Begins, Keeps, LeavesLane}
-use Rattle.span_handles.specs.Knowing.{KeepsKnown}
+use Rattle.span_handles.specs.Knowing.{KeepsKnown, KeepsHandles, KeepsOthers}
 use Rattle.span_handles.proofs.Knowing.{keeps_same}
 use Rattle.span_handles.proofs.Scoping.{MayEnd, may_end}
 use Rattle.span_handles.proofs.Showing.{keeps, seen_before, seen_later}
@@ -224,3 +224,13 @@ pub whole_after : {S : Type 0} (is_whole : S → Type 0) (does : S → Subscribe
     → (call : ℕ → SubscriberCall) (held : Held) (old new : Worlds S) → ReplacedOn (λ id s t. does s (call id) t) old new held → HasOn (λ s id. is_whole s) old held → HasOn (λ s id. is_whole s) new held
 whole_after is_whole does keeps_whole call None old new r whole = tt
 whole_after {S} is_whole does keeps_whole call (Some h) old new r whole = keeps (λ (s t : S). does s (call h.1) t) old new h.0 r is_whole (λ s t d w. keeps_whole s (call h.1) t d w) whole
+
+-- handles of other spans, where all or those are kept
+pub others_of : {S : Type 0} (spans : S → Spans) (old new : Worlds S) (closed : Held) → KeepsHandles spans old new → KeepsOthers spans old new closed
+others_of spans old new closed all = record { known = λ held apart known. all.known held known; beside = λ others held apart known. all.beside others held known }
+
+pub others_after : {S : Type 0} (spans : S → Spans) (old now new : Worlds S) (closed : Held) → KeepsHandles spans old now → KeepsOthers spans now new closed → KeepsOthers spans old new closed
+others_after spans old now new closed first second = record {
+  known = λ held apart known. second.known held apart (first.known held known);
+  beside = λ others held apart known. second.beside others held apart (first.beside others held known);
+}

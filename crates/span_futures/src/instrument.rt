@@ -1,5 +1,5 @@
 //! Futures under spans.
-ghost use Rattle.std.specs.Prelude.{◌≡◌, ◌⊎◌, Some, IfErr, OnOk, OnErr, IsErr};
+ghost use Rattle.std.specs.Prelude.{◌≡◌, ◌⊎◌, Some, None, IfErr, OnOk, OnErr, IsErr, IsOk};
 ghost use Rattle.std.specs.Borrow.{sem};
 ghost use Rattle.otel_base.specs.declared.enter_error.EnterError.TheVariants.{Full};
 ghost use Rattle.trace_base.specs.declared.span.Parent.TheVariants as parent;
@@ -7,6 +7,7 @@ ghost use Rattle.trace_base.specs.Conditions.{HasFewHolds, HasFewHoldsAbove};
 ghost use Rattle.trace_base.specs.Gate.{IsOwn, dispatch_on};
 ghost use Rattle.span_handles.specs.Worlds.{Chain};
 ghost use Rattle.span_handles.specs.Handles.{IsKnown, HasIf, HasOn, IsCurrent, ReplacedOn};
+ghost use Rattle.span_handles.specs.Knowing.{KeepsHandles, KeepsOthers, GainsOne, LosesOne};
 ghost use Rattle.span_handles.specs.Entries.{Begins, LeavesLane, MeetsFullLane, IsStillOn};
 ghost use Rattle.span_futures.specs.Lending.{LendsInner, LendsSpan};
 ghost use Rattle.span_futures.specs.Polls.{IsRefused, IsInside, EndsInside};
@@ -49,6 +50,8 @@ pub trait Instrument: Sized {
         ensures current { IsCurrent S.spans S.does world.old world.new lane.now.id
             (dispatch_on lane.now.default world.old.global) result.span }
         ensures known { IsKnown S.spans world.new result.span.held }
+        ensures keeps { KeepsHandles S.spans world.old world.new }
+        ensures more { GainsOne S.spans world.old world.new result.span.held }
     {
         let span = Span::current(world, lane);
         Instrumented { inner: self, span }
@@ -95,6 +98,8 @@ impl<T> Instrumented<T> {
         ensures value { result ≡ self.inner }
         ensures did { ReplacedOn (λ id s t. Chain S.spans S.does at (Some id) s t) world.old world.new
             self.span.held }
+        ensures keeps { KeepsOthers S.spans world.old world.new self.span.held }
+        ensures fewer { LosesOne S.spans world.old world.new self.span.held }
     {
         let Instrumented {
             inner,
@@ -120,6 +125,8 @@ impl<T> Instrumented<T> {
         requires callable { F.pre f self.inner }
         ensures ok { OnOk result (EndsInside S.spans S.does at self.span.held world.old lane.old world.new lane.new
             × F.post f self.inner tt) }
+        ensures keeps { KeepsOthers S.spans world.old world.new self.span.held }
+        ensures disabled { self.span.held ≡ None → IsOk result }
         ensures back { IfErr result (λ refused. refused.0 ≡ self) }
         ensures leaves { OnErr result
             (ReplacedOn (λ id s t. S.same s t) world.old world.new self.span.held) }

@@ -32,6 +32,8 @@ use trace_base::span::Id;
 use trace_base::subscriber::Subscriber;
 use trace_base::world::World;
 
+mod leaving;
+
 // Pending once, and then 7.
 #[derive(Drop)]
 struct Twice {
@@ -167,12 +169,13 @@ fn first(
     Ok((registry, span))
 }
 
-// What a poll answers: 0 where it is pending, and 99 where it is refused.
+// What a poll answers: 0 where it is pending, and 99 where it is refused since a lane is full.
 fn told(polled: Result<Poll<u64>, EnterError>) -> u64 {
     match polled {
         Ok(Poll::Pending) => 0,
         Ok(Poll::Ready(answer)) => answer,
-        Err(_) => 99,
+        Err(EnterError::Full) => 99,
+        Err(EnterError::Memory) => 97,
     }
 }
 

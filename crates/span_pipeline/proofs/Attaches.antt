@@ -47,12 +47,6 @@ lives_there k t stands lanes are n before within here =
     ap (λ (l : Laned). length l.live) (sym seen_at) ∙ sym (length-map (lane_at k.lanes n).live (λ (x : ℕ × Context). x.1)) ∙ ap length fit.contexts
     ∙ length-map (t.contexts (lane_at k.lanes n).id) (λ (a : Attached). a.context) ∙ ap (λ (l : Laned). length (t.contexts l.id)) seen_at
 
--- a context that isn't there
-pub refuses_context : (view k : State) → view ≡ k → (made : List Context) → view.contexts.made ≡ made → (context : ℕ) → slice_get made context ≡ None → (at lane : ℕ) (t : Tables) → StandsFor k t → effect_of_call k.setup t at lane (call.Attach context) ≡ Err (refusal.UnknownName what.Context)
-refuses_context view k is made are context none at lane t stands =
-    let gone : slice_get t.named context ≡ None = ap (λ (cs : List Context). slice_get cs context) (sym stands.fits.named ∙ ap (λ (x : State). x.contexts.made) (sym is) ∙ are) ∙ none in
-    ap (λ o. named what.Context o (λ given. enters_unless (is_full (t.contexts (id_at k.setup.ids lane))) lane (attaches k.setup t at lane given))) gone
-
 module _ {S : Type 0} (spans : S → Spans) (recorded : S → Recording) (kept : S → ℕ → ℕ → ℕ) (is_whole : S → Type 0) (world : Worlds S)
     (dispatch : ℕ) (level : LevelFilter) (lanes : List Lane) (hs : List (Option Handle)) (gs : List (Option Guard)) (cs : Named) (m at lane : ℕ) (before : Lane) (within : lane < length lanes) (here : before ≡ get_or lanes lane before)
     (inv : IsKept kept is_whole world (state_of spans recorded world dispatch level lanes hs gs cs m)) (context : ℕ) (given : Context) (found : slice_get cs.made context ≡ Some given) where

@@ -41,21 +41,6 @@ attach_told k t fits n = ap (λ (xs : List (Option ℕ)). slot_at xs n) (sym fit
 abbrev detached : State → Tables → ℕ → ℕ → ℕ → Option ℕ → Resolved
 detached k t at lane guard o = named what.Guard o (λ mine. exits_on mine lane (detaches at (id_at k.setup.ids lane) guard))
 
--- a guard that isn't there, or is an entry's
-pub refuses_guard : (view k : State) → view ≡ k → (slots : List (Option Attach)) → view.contexts.attaches ≡ slots → (guard : ℕ) → slot_at slots guard ≡ None → (at lane : ℕ) (t : Tables) → StandsFor k t → effect_of_call k.setup t at lane (call.Detach guard) ≡ Err (refusal.UnknownName what.Guard)
-refuses_guard view k is slots are guard none at lane t stands =
-    ap (detached k t at lane guard) (attach_told k t stands.fits guard ∙ ap (λ (xs : List (Option Attach)). option_map lane_of (slot_at xs guard)) (ap (λ (x : State). x.contexts.attaches) (sym is) ∙ are) ∙ ap (option_map lane_of) none)
-
-abbrev on_lane : ℕ → Resolved
-on_lane lane = Err (refusal.WrongLane lane)
-
--- one on another lane than the guard's
-pub refuses_other_lane : (view k : State) → view ≡ k → (slots : List (Option Attach)) → view.contexts.attaches ≡ slots → (guard : ℕ) (a : Attach) → slot_at slots guard ≡ Some a → (at lane : ℕ) → (a.lane ≡ lane → ⊥) → (t : Tables) → StandsFor k t
-    → effect_of_call k.setup t at lane (call.Detach guard) ≡ Err (refusal.WrongLane a.lane)
-refuses_other_lane view k is slots are guard a there at lane other t stands =
-    ap (detached k t at lane guard) (attach_told k t stands.fits guard ∙ ap (λ (xs : List (Option Attach)). option_map lane_of (slot_at xs guard)) (ap (λ (x : State). x.contexts.attaches) (sym is) ∙ are) ∙ ap (option_map lane_of) there)
-    ∙ cond-false {A = Resolved} (a.lane == lane) _ _ (ne_eqb a.lane lane other)
-
 -- the others stay as often live
 count_without : (n number : ℕ) (live : List (ℕ × Context)) → (n ≡ number → ⊥) → count_by (λ (item : ℕ × Context). item.0 == number) (without n live) ≡ count_by (λ (item : ℕ × Context). item.0 == number) live
 count_without n number [] apart = refl

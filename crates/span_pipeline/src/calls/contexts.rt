@@ -106,7 +106,7 @@ impl Pipeline {
             → IfErr result (IsRefusal (effect_of_call self.old.setup t at lane (Call.Attach context))) }
         ensures err { OnErr result (self.new ≡ self.old) }
     {
-        if self.handles.len() >= MOST || self.guards.len() >= MOST {
+        if self.guards.len() >= MOST {
             return Err(Refusal::Memory);
         }
         let guard = self.guards.len() as u64;

@@ -1,6 +1,7 @@
 -- The span is entered and exited, and the handle closed.
 use Rattle.trace_base.specs.Calls.{Exit}
-use Rattle.span_futures.proofs.Inside.{exit_at_once, whole_after}
+use Rattle.span_handles.proofs.Knowing.{handles_trans}
+use Rattle.span_futures.proofs.Inside.{exit_at_once, whole_after, others_of, others_after}
 use Rattle.span_futures.proofs.instrument.Instrumented.end.Goals as goal
 
 pub close_entry-requires-clause-there : goal.close_entry-requires-clause-there
@@ -36,3 +37,11 @@ returns-in-Ok-clause-ok g c = (
   },
   c.f.ensures,
 )
+
+pub returns-in-Ok-clause-keeps : goal.returns-in-Ok-clause-keeps
+returns-in-Ok-clause-keeps g c =
+    others_after g.S.Subscriber.spans c.args.world.now c.close_entry.new.world c.close.new.world c.args.self.span.held
+    (handles_trans g.S.Subscriber.spans c.args.world.now c.open_entry.new.world c.close_entry.new.world c.open_entry.ensures.keeps c.close_entry.ensures.keeps) c.close.ensures.keeps
+
+pub returns-in-Err-clause-keeps : goal.returns-in-Err-clause-keeps
+returns-in-Err-clause-keeps g c = others_of g.S.Subscriber.spans c.args.world.now c.open_entry.new.world c.args.self.span.held c.open_entry.ensures.keeps

@@ -61,7 +61,7 @@ returns-in-Ok-clause-known_after g c =
 
 pub returns-in-Err-clause-did : goal.returns-in-Err-clause-did
 returns-in-Err-clause-did g c =
-    inl (record { error = c.in-Err.error; is = refl; future_same = refl; nothing = c.in-Err.ensures.leaves; lane_same = c.in-Err.ensures.lane_leaves; full = λ f. c.in-Err.ensures.full (cc) })
+    inl (record { error = c.in-Err.error; is = refl; enabled = λ none. true≢false (sym (c.in-Err.ensures.disabled none)); future_same = refl; nothing = c.in-Err.ensures.leaves; lane_same = c.in-Err.ensures.lane_leaves; full = λ f. c.in-Err.ensures.full (cc) })
 
 pub returns-in-Err-clause-keeps : goal.returns-in-Err-clause-keeps
 returns-in-Err-clause-keeps g c =
