@@ -9,7 +9,7 @@ use Rattle.span_pipeline.specs.Tables.{Scope, History, tables}
 use Rattle.span_pipeline.specs.Effects.{is_open, open_spans}
 use Rattle.span_laws.specs.Laws.{IsHistory, occurrences}
 use Rattle.span_laws.proofs.Occurrences.{occurs_cons, range_more}
-use Rattle.span_laws.proofs.Closing.{stands}
+use Rattle.span_laws.proofs.Histories.{whole}
 
 -- how often each of the first n numbers stands in a list, in sum
 abbrev among : List ℕ → ℕ → ℕ
@@ -59,4 +59,4 @@ module _ (hs : List (Option Scope)) (n : ℕ) (cs : List ℕ) (ended : (s : ℕ)
       omega (arith, all, sum)
 
 pub closed_and_open : (setup : Setup) (h : History) → IsHistory setup h → length (tables setup.layer h).closed + open_spans (tables setup.layer h) ≡ length (tables setup.layer h).made
-closed_and_open setup h legal = let t = tables setup.layer h in balanced t.handles (length t.made) t.closed (stands setup h legal).sound.ended
+closed_and_open setup h legal = let t = tables setup.layer h in balanced t.handles (length t.made) t.closed (whole setup h legal).stands.sound.ended

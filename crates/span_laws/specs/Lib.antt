@@ -1,1 +1,5 @@
 pub mod Laws
+pub mod Closes
+pub mod Starts
+pub mod Records
+pub mod Telling

@@ -1,4 +1,9 @@
 //! What holds of every history of span calls, whatever requests give it.
 #![tactic(auto)]
 
+pub mod attributes;
+pub mod chains;
+pub mod contents;
+pub mod ids;
 pub mod laws;
+pub mod times;

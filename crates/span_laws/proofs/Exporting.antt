@@ -1,0 +1,66 @@
+-- What the records of a history tell.
+use Rattle.std.proofs.Common.{◌≡◌, ℕ, ◌<◌, ◌≤◌, ◌&&◌, List, [], ◌∷◌, length, Bool, true, false, cond, not, nat_lt, Some, Ok, refl, sym, ap, ◌∙◌, arith}
+use Rattle.std.specs.Prelude.{IsTrue}
+use Rattle.std.proofs.lemmas.Bool.Decides.{nat_tests}
+use Rattle.otel_base.specs.declared.record.Record.{Record}
+use Rattle.otel_state.specs.Content.{attributes_of}
+use Rattle.otel_state.specs.Laws.{TellsTimes, was_entered}
+use Rattle.otel_state.specs.Times.{last_exit}
+use Rattle.trace_base.specs.Spans.{is_in}
+use Rattle.span_pipeline.specs.declared.request.Request.{Request}
+use Rattle.span_pipeline.specs.Effects.{effect_of}
+use Rattle.span_pipeline.specs.Setups.{Setup}
+use Rattle.span_pipeline.specs.Tables.{Effect, Guarded, History, Tables, made_of, records_of, slot_at, tables}
+use Rattle.span_laws.specs.Closes.{is_drop}
+use Rattle.span_laws.specs.Laws.{IsHistory}
+use Rattle.span_laws.specs.Records.{Each, IsRecord, closed_at, ops_of, records}
+use Rattle.span_laws.specs.Starts.{place_in, started}
+use Rattle.span_laws.specs.Telling.{TellsAttributes, TellsSpan}
+use Rattle.span_laws.proofs.Histories.{IsClosed, done_in, effect_each, fits, whole}
+use Rattle.span_laws.proofs.Making.{first_of}
+use Rattle.span_laws.proofs.Occurrences.{is_in_counted, slot_open}
+use Rattle.span_laws.proofs.Pairs.{each_length, each_map}
+use Rattle.span_laws.proofs.Steps.{step_of}
+use Rattle.span_laws.proofs.Telling.{attributes_told, span_told, times_told}
+
+pub as_many_as_closed : (setup : Setup) (h : History) → IsHistory setup h → length (records setup.layer h) ≡ length (tables setup.layer h).closed
+as_many_as_closed setup h legal = each_length (IsClosed setup.layer (tables setup.layer h).made h) (tables setup.layer h).closed (records setup.layer h) (whole setup h legal).each
+
+pub as_many_as_close : (setup : Setup) (h : History) (request : Request) (e : Effect) → IsHistory setup h → effect_of setup (tables setup.layer h) request ≡ Ok e → length (records_of (tables setup.layer h) e) ≡ length e.closes
+as_many_as_close setup h request e legal is =
+    let now = whole setup h legal in
+    let step = step_of setup (tables setup.layer h) (fits setup h now) request e is in
+    each_length _ e.closes (records_of (tables setup.layer h) e) (effect_each setup h now request.at (is_drop request.call) e step.0 step.1)
+
+pub contents : (setup : Setup) (h : History) → IsHistory setup h
+    → Each (λ s r. IsRecord setup.layer (made_of (tables setup.layer h).made s).told (λ own. ops_of own h s) (place_in (started h) s) (closed_at h s) r) (tables setup.layer h).closed (records setup.layer h)
+contents setup h legal = (whole setup h legal).each
+
+-- what is read off each record
+module _ (setup : Setup) (h : History) (legal : IsHistory setup h) where
+  abbrev t : Tables
+  t = tables setup.layer h
+
+  read_off : (P : ℕ → Record → Type 0) → ((s : ℕ) (r : Record) → IsClosed setup.layer t.made h s r → P s r) → Each P t.closed (records setup.layer h)
+  read_off P read = each_map (IsClosed setup.layer t.made h) P t.closed (records setup.layer h) (λ s r some c. read s r c) (whole setup h legal).each
+
+  pub spans : Each (λ s r. TellsSpan (made_of t.made s).told.made (last_exit (ops_of r.context h s)) (closed_at h s) r) t.closed (records setup.layer h)
+  spans = read_off (λ s r. TellsSpan (made_of t.made s).told.made (last_exit (ops_of r.context h s)) (closed_at h s) r)
+      (λ s r c. span_told setup.layer (first_of t.made s) (done_in h s) (place_in (started h) s) (closed_at h s) r c)
+
+  pub add_up : IsTrue setup.layer.inactivity → Each (λ s r. TellsTimes (was_entered (ops_of r.context h s)) (last_exit (ops_of r.context h s)) r) t.closed (records setup.layer h)
+  add_up tracked = read_off (λ s r. TellsTimes (was_entered (ops_of r.context h s)) (last_exit (ops_of r.context h s)) r)
+      (λ s r c. times_told setup.layer (first_of t.made s) (done_in h s) (place_in (started h) s) (closed_at h s) r c tracked)
+
+  pub attributes : Each (λ s r. TellsAttributes setup.layer.inactivity (made_of t.made s).told.attributes (attributes_of (ops_of r.context h s)) r) t.closed (records setup.layer h)
+  attributes = read_off (λ s r. TellsAttributes setup.layer.inactivity (made_of t.made s).told.attributes (attributes_of (ops_of r.context h s)) r)
+      (λ s r c. attributes_told setup.layer (first_of t.made s) (done_in h s) (place_in (started h) s) (closed_at h s) r c)
+
+pub none_open : (setup : Setup) (h : History) (n s : ℕ) (g : Guarded) → IsHistory setup h → slot_at (tables setup.layer h).guards n ≡ Some g → is_in s g.scope ≡ true → is_in s (tables setup.layer h).closed ≡ false
+none_open setup h n s g legal there inside =
+    let t = tables setup.layer h in
+    let now = (whole setup h legal).stands in
+    let held = slot_open t.handles g.handle s g.scope (now.guarded.still n g there) inside in
+    let ended = now.sound.ended s in
+    let counted = is_in_counted s t.closed in
+    grind (arith, nat_tests, held, ended, counted)

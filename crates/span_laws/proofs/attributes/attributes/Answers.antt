@@ -1,0 +1,5 @@
+use Rattle.span_laws.proofs.Exporting.{attributes}
+use Rattle.span_laws.proofs.attributes.attributes.Goals as goal
+
+pub returns : goal.returns
+returns c = attributes

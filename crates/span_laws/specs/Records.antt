@@ -1,0 +1,80 @@
+-- The records of a history, and what a span's record tells.
+use Rattle.std.specs.Prelude.{◌≡◌, ℕ, ◌<◌, ◌==◌, ◌&&◌, Bool, false, not, List, [], ◌∷◌, ◌++◌, fold, filter, map, if◌then◌else◌}
+use Rattle.otel_base.specs.declared.context.SpanContext.{SpanContext}
+use Rattle.otel_base.specs.declared.record.Record.{Record}
+use Rattle.otel_base.specs.Ids.{ids_of}
+use Rattle.otel_base.specs.RecorderIds.{recorder_ids}
+use Rattle.otel_state.specs.declared.op.Op.TheVariants as ops
+use Rattle.otel_state.specs.declared.settings.LayerSettings.{LayerSettings}
+use Rattle.otel_state.specs.declared.update.Update.{Update}
+use Rattle.otel_state.specs.Content.{Making, content}
+use Rattle.otel_state.specs.Deeds.{Stamped}
+use Rattle.otel_state.specs.Opening.{parent_of}
+use Rattle.otel_state.specs.States.{Told, begun, changed}
+use Rattle.otel_state.specs.Times.{InOrder, open_by}
+use Rattle.trace_base.specs.Spans.{is_in}
+use Rattle.span_pipeline.specs.Tables.{Effect, History, Tables, no_tables, after, records_of}
+use Rattle.span_laws.specs.Starts.{with_started, starts_of}
+
+-- the records of a history that goes on from some tables: those of each effect, in order
+abbrev pub records_from : Tables → History → List Record
+records_from t [] = []
+records_from t (e ∷ h) = records_of t e ++ records_from (after t e) h
+
+abbrev pub records : LayerSettings → History → List Record
+records settings h = records_from (no_tables settings) h
+
+-- each record is that of the span at its place
+abbrev pub Each : (ℕ → Record → Type 0) → List ℕ → List Record → Type 0
+Each IsOf [] [] = Unit {0}
+Each IsOf (s ∷ spans) (r ∷ rs) = IsOf s r × Each IsOf spans rs
+Each IsOf [] (r ∷ rs) = ⊥
+Each IsOf (s ∷ spans) [] = ⊥
+
+-- ---- the ops of a span, whose own ids are given
+
+-- the start of a span, where it is among those that start, and hasn't started
+abbrev pub start_in : SpanContext → ℕ → ℕ → List ℕ → List ℕ → List Stamped
+start_in own at s order ids = if is_in s ids && not (is_in s order) then record { at = at; op = ops.Start own } ∷ [] else []
+
+-- what an effect does to a span: it starts it, it does its ops in order, or it starts it at its close
+abbrev pub ops_in : SpanContext → ℕ → List ℕ → Effect → List Stamped
+ops_in own s order e =
+    start_in own e.at s order e.starts
+    ++ map (λ d. record { at = e.at; op = d.op }) (filter (λ d. d.span == s) e.ops)
+    ++ start_in own e.at s (fold with_started order e.starts) e.closes
+
+-- the ops of a span in the effects of a history, some spans having started before
+abbrev pub ops_from : SpanContext → ℕ → List ℕ → History → List Stamped
+ops_from own s order [] = []
+ops_from own s order (e ∷ h) = ops_in own s order e ++ ops_from own s (fold with_started order (starts_of e)) h
+
+abbrev pub ops_of : SpanContext → History → ℕ → List Stamped
+ops_of own h s = ops_from own s [] h
+
+-- the moment of the effect that closes a span
+abbrev pub closed_at : History → ℕ → ℕ
+closed_at h s = fold (λ at e. if is_in s e.closes then e.at else at) 0 h
+
+-- what a span was made with: an update at the moment of its making, under the settings of the layer
+pub record Began (settings : LayerSettings) (at : ℕ) (first : Told) (making : Making) : Type 0 where
+  pub update : Update
+  pub is : first ≡ changed (begun making) at (ops.Update update)
+  pub made : making.made ≡ at
+  pub tracked : making.inactivity ≡ settings.inactivity
+  pub uncounted : making.counting ≡ false
+
+-- the making's update, and then the ops of a span
+abbrev pub all_ops : Making → Update → List Stamped → List Stamped
+all_ops making update done = record { at = making.made; op = ops.Update update } ∷ done
+
+-- A span's record is the content of its making and its ops at a moment, none of its entries being open. Its own ids are
+-- those of a recorder for its place among the starts, under its parent.
+pub record IsRecord (settings : LayerSettings) (first : Told) (done : SpanContext → List Stamped) (place at : ℕ) (r : Record) : Type 0 where
+  pub making : Making
+  pub began : Began settings making.made first making
+  pub in_order : InOrder making.made (all_ops making began.update (done r.context))
+  pub shut : open_by 0 (all_ops making began.update (done r.context)) ≡ 0
+  pub is : r ≡ content making (all_ops making began.update (done r.context)) at
+  pub started : 0 < place
+  pub own : r.context ≡ recorder_ids place (ids_of (parent_of making.parent (all_ops making began.update (done r.context))))

@@ -1,0 +1,25 @@
+-- The order in which the spans of a history started, which gives them their ids.
+use Rattle.std.specs.Prelude.{ℕ, ◌+◌, ◌==◌, List, [], ◌∷◌, ◌++◌, fold, flat_map, if◌then◌else◌}
+use Rattle.trace_base.specs.Spans.{is_in}
+use Rattle.span_pipeline.specs.Tables.{Effect, History}
+
+-- a span more that started, unless it had
+abbrev pub with_started : List ℕ → ℕ → List ℕ
+with_started order s = if is_in s order then order else order ++ s ∷ []
+
+-- the spans that an effect starts, unless they have started: those that it says, and those that it closes
+abbrev pub starts_of : Effect → List ℕ
+starts_of e = e.starts ++ e.closes
+
+-- the spans in the order in which they started
+abbrev pub started : History → List ℕ
+started h = fold with_started [] (flat_map starts_of h)
+
+-- the place of a span in an order, counted from a number on; 0 where it isn't there
+abbrev pub place_from : ℕ → List ℕ → ℕ → ℕ
+place_from n [] s = 0
+place_from n (x ∷ order) s = if x == s then n else place_from (n + 1) order s
+
+-- the place of a span, from 1 on
+abbrev pub place_in : List ℕ → ℕ → ℕ
+place_in order s = place_from 1 order s

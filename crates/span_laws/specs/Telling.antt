@@ -1,0 +1,28 @@
+-- What a span's record tells of the span: its id, its times and its attributes.
+use Rattle.std.specs.Prelude.{◌≡◌, ℕ, List, ◌++◌, Bool, Option, Some, None}
+use Rattle.otel_base.specs.declared.record.Record.{Record}
+use Rattle.otel_base.specs.declared.value.KeyValue.{KeyValue}
+use Rattle.otel_base.specs.Ids.{ids_or_zeros}
+use Rattle.otel_state.specs.Content.{closing_times}
+use Rattle.otel_state.specs.Deeds.{Stamped}
+use Rattle.otel_state.specs.States.{Told}
+use Rattle.otel_state.specs.Times.{end_of, last_exit}
+
+-- the id of a record's span, and of an open span, 0 before its start
+abbrev pub id_of : Record → ℕ
+id_of r = r.context.span
+
+abbrev pub id_told : Option Told → ℕ
+id_told None = 0
+id_told (Some told) = (ids_or_zeros told.own).span
+
+-- It starts with the making, and ends with the last exit, else with the close.
+pub record TellsSpan (made : ℕ) (left : Option ℕ) (closed : ℕ) (r : Record) : Type 0 where
+  pub start : r.start ≡ made
+  pub end : r.end ≡ end_of left closed
+
+-- The first attributes, those that ops added, in order, and then those of the close.
+pub record TellsAttributes (inactivity : Bool) (first more : List KeyValue) (r : Record) : Type 0 where
+  pub busy : ℕ
+  pub idle : ℕ
+  pub told : r.attributes ≡ first ++ more ++ closing_times inactivity busy idle

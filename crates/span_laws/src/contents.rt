@@ -1,0 +1,23 @@
+//! What the records of each history are: one for each closed span, the content of its making and its ops.
+ghost use Rattle.std.specs.Prelude.{◌≡◌, ℕ, length, Ok};
+ghost use Rattle.span_pipeline.specs.declared.request.Request.{Request};
+ghost use Rattle.span_pipeline.specs.Effects.{effect_of};
+ghost use Rattle.span_pipeline.specs.Setups.{Setup};
+ghost use Rattle.span_pipeline.specs.Tables.{Effect, History, made_of, records_of, tables};
+ghost use Rattle.span_laws.specs.Laws.{IsHistory};
+ghost use Rattle.span_laws.specs.Records.{Each, IsRecord, closed_at, ops_of, records};
+ghost use Rattle.span_laws.specs.Starts.{place_in, started};
+
+/// The records of a history are as many as its closed spans, and in their order. Each is the content of its span's making
+/// and of the ops that requests did to the span, with no entry open, at the moment of its close; the ids of its start are
+/// those of a recorder for its place among the starts.
+pub fn contents()
+    ensures as_many_as_closed { (setup : Setup) (h : History) → IsHistory setup h
+        → length (records setup.layer h) ≡ length (tables setup.layer h).closed }
+    ensures as_many_as_close { (setup : Setup) (h : History) (request : Request) (e : Effect) → IsHistory setup h
+        → effect_of setup (tables setup.layer h) request ≡ Ok e
+        → length (records_of (tables setup.layer h) e) ≡ length e.closes }
+    ensures contents { (setup : Setup) (h : History) → IsHistory setup h
+        → Each (λ s r. IsRecord setup.layer (made_of (tables setup.layer h).made s).told (λ own. ops_of own h s)
+        (place_in (started h) s) (closed_at h s) r) (tables setup.layer h).closed (records setup.layer h) }
+{}

@@ -1,0 +1,27 @@
+//! The ids of spans, by the order in which they started.
+ghost use Rattle.std.specs.Prelude.{◌≡◌, ◌≤◌, ℕ, true, length, map};
+ghost use Rattle.std.specs.List.{range_with_len};
+ghost use Rattle.otel_layer.specs.Table.{told_at};
+ghost use Rattle.span_pipeline.specs.Effects.{is_open};
+ghost use Rattle.span_pipeline.specs.Setups.{Setup};
+ghost use Rattle.span_pipeline.specs.Tables.{History, tables};
+ghost use Rattle.span_laws.specs.Laws.{IsHistory, occurrences};
+ghost use Rattle.span_laws.specs.Records.{records};
+ghost use Rattle.span_laws.specs.Starts.{place_in, started};
+ghost use Rattle.span_laws.specs.Telling.{id_of, id_told};
+
+/// The spans that started have the ids 1, 2 and so on, in the order of their starts, each a different one. An open span
+/// has the id 0 until it starts, and no record has it.
+pub fn ids()
+    ensures started_once { (h : History) (s : ℕ) → occurrences s (started h) ≤ 1 }
+    ensures from_one { (h : History) → map (place_in (started h)) (started h) ≡ range_with_len 1 (length (started h)) }
+    ensures of_open { (setup : Setup) (h : History) (s : ℕ) → IsHistory setup h
+        → is_open (tables setup.layer h).handles s ≡ true
+        → id_told (told_at s (tables setup.layer h).recording.spans) ≡ place_in (started h) s }
+    ensures of_records { (setup : Setup) (h : History) → IsHistory setup h
+        → map id_of (records setup.layer h) ≡ map (place_in (started h)) (tables setup.layer h).closed }
+    ensures no_two_alike { (setup : Setup) (h : History) (id : ℕ) → IsHistory setup h
+        → occurrences id (map id_of (records setup.layer h)) ≤ 1 }
+    ensures none_zero { (setup : Setup) (h : History) → IsHistory setup h
+        → occurrences 0 (map id_of (records setup.layer h)) ≡ 0 }
+{}
