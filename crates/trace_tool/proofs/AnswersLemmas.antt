@@ -148,7 +148,11 @@ beside : (k : State) (t : Tables) → StandsFor k t → StandsFor (without_recor
 beside k t s = record {
   fits = record {
     handle_slots = s.fits.handle_slots;
+    site_slots = s.fits.site_slots;
     guard_slots = s.fits.guard_slots;
+    attach_slots = s.fits.attach_slots;
+    paired = s.fits.paired;
+    named = s.fits.named;
     latest = s.fits.latest;
     balanced = s.fits.balanced;
     made = s.fits.made;
@@ -156,6 +160,7 @@ beside k t s = record {
     scopes = s.fits.scopes;
     still = s.fits.still;
     own_scopes = s.fits.own_scopes;
+    sited = s.fits.sited;
     few = s.fits.few;
     few_holds = s.fits.few_holds;
   };
@@ -166,7 +171,11 @@ back : (k : State) (t : Tables) → StandsFor (without_records k) t → StandsFo
 back k t s = record {
   fits = record {
     handle_slots = s.fits.handle_slots;
+    site_slots = s.fits.site_slots;
     guard_slots = s.fits.guard_slots;
+    attach_slots = s.fits.attach_slots;
+    paired = s.fits.paired;
+    named = s.fits.named;
     latest = s.fits.latest;
     balanced = s.fits.balanced;
     made = s.fits.made;
@@ -174,6 +183,7 @@ back k t s = record {
     scopes = s.fits.scopes;
     still = s.fits.still;
     own_scopes = s.fits.own_scopes;
+    sited = s.fits.sited;
     few = s.fits.few;
     few_holds = s.fits.few_holds;
   };
