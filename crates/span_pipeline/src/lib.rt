@@ -17,6 +17,7 @@ pub mod reply;
 pub mod request;
 pub mod settings;
 pub mod slots;
+mod stack;
 #[cfg(test)]
 mod tests;
 

@@ -5,19 +5,16 @@ ghost use Rattle.span_pipeline.specs.Effects.{is_bad_moment};
 
 use crate::contexts::Contexts;
 use crate::level_words::filter_of;
-use crate::opening::{self, add_sites, stack};
+use crate::opening::{self, add_sites};
 use crate::reply::{Refusal, Reply, What};
 use crate::request::{Call, LAST_MOMENT, Request};
 use crate::settings::Settings;
 use crate::slots::Guard;
+use crate::stack::{Stack, new_stack};
 use otel_base::record::Moment;
-use otel_base::recorder::Recorder;
-use otel_layer::layer::OpenTelemetryLayer;
 use otel_layer::recording;
 use span_handles::laws::same;
 use span_handles::span::Span;
-use span_registry::layered::Layered;
-use span_registry::registry::Registry;
 use std::alloc::Global;
 use std::marker::Model;
 use trace_base::discard::Discard;
@@ -38,7 +35,7 @@ pub enum OpenError {
 /// `tracing_opentelemetry::OpenTelemetryLayer` over an exporter that keeps what it gets. It has to be spent, by
 /// `discard`.
 pub struct Pipeline {
-    pub(crate) world: World<Layered<OpenTelemetryLayer<Recorder>, Registry>>,
+    pub(crate) world: World<Stack>,
     pub(crate) dispatch: Dispatch,
     pub(crate) level: LevelFilter,
     pub(crate) lanes: Vec<Lane>,
@@ -54,12 +51,12 @@ impl Model for Pipeline {
 
     ghost Value = { State };
 
-    ghost view = { λ p. state_of ⟦<Layered<OpenTelemetryLayer<Recorder>, Registry> as Subscriber>⟧.spans recorded
+    ghost view = { λ p. state_of ⟦<Stack as Subscriber>⟧.spans recorded
         p.world p.dispatch p.level p.lanes.items p.handles.items p.guards.items (named_in p.contexts) p.moment };
 
-    ghost invariant = { λ p. IsKept ⟦<Layered<OpenTelemetryLayer<Recorder>, Registry> as Subscriber>⟧.kept
-        ⟦<Layered<OpenTelemetryLayer<Recorder>, Registry> as Subscriber>⟧.is_whole p.world
-        (state_of ⟦<Layered<OpenTelemetryLayer<Recorder>, Registry> as Subscriber>⟧.spans recorded
+    ghost invariant = { λ p. IsKept ⟦<Stack as Subscriber>⟧.kept
+        ⟦<Stack as Subscriber>⟧.is_whole p.world
+        (state_of ⟦<Stack as Subscriber>⟧.spans recorded
         p.world p.dispatch p.level p.lanes.items p.handles.items p.guards.items (named_in p.contexts) p.moment) };
 }
 
@@ -106,7 +103,7 @@ impl Pipeline {
         ensures stands { IfOk result (λ pipeline. StandsFor pipeline (tables settings.layer [])) }
         ensures records { IfOk result (λ pipeline. pipeline.recording.finished ≡ []) }
     {
-        same::<Layered<OpenTelemetryLayer<Recorder>, Registry>>();
+        same::<Stack>();
         recording::same();
         let Settings {
             filter,
@@ -123,7 +120,7 @@ impl Pipeline {
             world.discard();
             return Err(OpenError::Memory);
         }
-        match world.add(stack(alloc, layer)) {
+        match world.add(new_stack(alloc, layer)) {
             Ok(dispatch) => Ok(Pipeline {
                 world,
                 dispatch,

@@ -11,17 +11,14 @@ use crate::contexts::{Attach, add, context_at};
 use crate::pipeline::{MOST, Pipeline};
 use crate::reply::{Refusal, Reply, What};
 use crate::slots::{keep, skip, slot_at, take};
+use crate::stack::Stack;
 use otel_base::context::{Context, SpanContext};
 use otel_base::enter_error::EnterError;
 use otel_base::record::Moment;
-use otel_base::recorder::Recorder;
 use otel_base::stack::Attached;
-use otel_layer::layer::OpenTelemetryLayer;
 use otel_layer::part::OtelSubscriber;
 use otel_layer::recording;
 use otel_layer::span_ext::OpenTelemetrySpanExt;
-use span_registry::layered::Layered;
-use span_registry::registry::Registry;
 use trace_base::lane::Lane;
 
 // Whatever spans a whole subscriber has can be started.
@@ -81,8 +78,8 @@ impl Pipeline {
             → IfErr result (IsRefusal (effect_of_call self.old.setup t at lane (Call.Context handle))) }
         ensures err { OnErr result (self.new ≡ self.old) }
     {
-        starts::<Layered<OpenTelemetryLayer<Recorder>, Registry>>();
-        recording::leaves::<Layered<OpenTelemetryLayer<Recorder>, Registry>>();
+        starts::<Stack>();
+        recording::leaves::<Stack>();
         recording::asks();
         let number = self.contexts.made.len() as u64;
         self.contexts.made.reserve(1)?;

@@ -5,14 +5,11 @@ ghost use Rattle.span_pipeline.specs.declared.request.Call.TheVariants as reques
 use crate::pipeline::{MOST, Pipeline};
 use crate::reply::{Refusal, Reply, What};
 use crate::slots::{is_borrowed, keep, slot_at, take};
+use crate::stack::Stack;
 use otel_base::record::Moment;
-use otel_base::recorder::Recorder;
-use otel_layer::layer::OpenTelemetryLayer;
 use otel_layer::recording;
 use span_handles::laws::calls;
 use span_handles::span::Span;
-use span_registry::layered::Layered;
-use span_registry::registry::Registry;
 
 impl Pipeline {
     ghost use Rattle.span_pipeline.specs.Tables.{Tables};
@@ -27,7 +24,7 @@ impl Pipeline {
             → IfErr result (IsRefusal (effect_of_call self.old.setup t at lane request.Current)) }
         ensures err { OnErr result (self.new ≡ self.old) }
     {
-        calls::<Layered<OpenTelemetryLayer<Recorder>, Registry>>();
+        calls::<Stack>();
         recording::calls();
         if self.handles.len() >= MOST || self.guards.len() >= MOST {
             return Err(Refusal::Memory);
@@ -60,7 +57,7 @@ impl Pipeline {
             → IfErr result (IsRefusal (effect_of_call self.old.setup t at lane (request.OrCurrent handle))) }
         ensures err { OnErr result (self.new ≡ self.old) }
     {
-        calls::<Layered<OpenTelemetryLayer<Recorder>, Registry>>();
+        calls::<Stack>();
         recording::calls();
         if self.handles.len() >= MOST || self.guards.len() >= MOST {
             return Err(Refusal::Memory);

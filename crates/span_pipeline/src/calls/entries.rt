@@ -6,13 +6,10 @@ ghost use Rattle.span_pipeline.specs.declared.request.Call.{Call};
 use crate::pipeline::{MOST, Pipeline};
 use crate::reply::{Refusal, Reply, What};
 use crate::slots::{Guard, is_borrowed, is_shared, keep, skip, slot_at, take};
+use crate::stack::Stack;
 use otel_base::record::Moment;
-use otel_base::recorder::Recorder;
-use otel_layer::layer::OpenTelemetryLayer;
 use otel_layer::recording;
 use span_handles::laws::{calls, same};
-use span_registry::layered::Layered;
-use span_registry::registry::Registry;
 
 impl Pipeline {
     ghost use Rattle.span_pipeline.specs.Tables.{Tables};
@@ -34,9 +31,9 @@ impl Pipeline {
             → IfErr result (IsRefusal (opens self.old.setup t at lane handle owns)) }
         ensures err { OnErr result (self.new ≡ self.old) }
     {
-        calls::<Layered<OpenTelemetryLayer<Recorder>, Registry>>();
+        calls::<Stack>();
         recording::calls();
-        same::<Layered<OpenTelemetryLayer<Recorder>, Registry>>();
+        same::<Stack>();
         recording::same();
         if self.handles.len() >= MOST || self.guards.len() >= MOST {
             return Err(Refusal::Memory);
@@ -91,7 +88,7 @@ impl Pipeline {
         ensures err { OnErr result (self.new ≡ self.old) }
         ensures room { ¬ (result ≡ Err NoMemory) }
     {
-        calls::<Layered<OpenTelemetryLayer<Recorder>, Registry>>();
+        calls::<Stack>();
         recording::calls();
         let Some(named) = slot_at(&self.guards, guard) else {
             return Err(Refusal::UnknownName { what: What::Guard });

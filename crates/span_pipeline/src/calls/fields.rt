@@ -7,15 +7,12 @@ use crate::fields::values_by;
 use crate::pipeline::Pipeline;
 use crate::reply::{Refusal, Reply, What};
 use crate::slots::slot_at;
+use crate::stack::Stack;
 use otel_base::list::Items;
 use otel_base::record::Moment;
-use otel_base::recorder::Recorder;
 use otel_base::text::Text;
-use otel_layer::layer::OpenTelemetryLayer;
 use otel_layer::recording;
 use span_handles::laws::{calls, same};
-use span_registry::layered::Layered;
-use span_registry::registry::Registry;
 use trace_base::field::Value;
 
 impl Pipeline {
@@ -36,9 +33,9 @@ impl Pipeline {
             → IfErr result (IsRefusal (effect_of_call self.old.setup t at lane (Call.Record handle fields))) }
         ensures err { OnErr result (self.new ≡ self.old) }
     {
-        calls::<Layered<OpenTelemetryLayer<Recorder>, Registry>>();
+        calls::<Stack>();
         recording::calls();
-        same::<Layered<OpenTelemetryLayer<Recorder>, Registry>>();
+        same::<Stack>();
         recording::same();
         let Some(span) = slot_at(&self.handles, handle) else {
             return Err(Refusal::UnknownName { what: What::Handle });

@@ -11,17 +11,14 @@ use crate::pipeline::{MOST, Pipeline};
 use crate::reply::{Refusal, Reply, What};
 use crate::request::Place;
 use crate::slots::{Above, keep, place_above};
+use crate::stack::Stack;
 use otel_base::list::Items;
 use otel_base::memory::Memory;
 use otel_base::record::Moment;
-use otel_base::recorder::Recorder;
 use otel_base::text::Text;
-use otel_layer::layer::OpenTelemetryLayer;
 use otel_layer::recording;
 use span_handles::laws::{calls, same};
 use span_handles::span::Span;
-use span_registry::layered::Layered;
-use span_registry::registry::Registry;
 use trace_base::callsite::{Kind, SiteId};
 use trace_base::dispatcher::Dispatch;
 use trace_base::field::{Value, ValueSet};
@@ -95,9 +92,9 @@ impl Pipeline {
             → IfErr result (IsRefusal (effect_of_call self.old.setup t at lane (Call.New place under fields))) }
         ensures err { OnErr result (self.new ≡ self.old) }
     {
-        calls::<Layered<OpenTelemetryLayer<Recorder>, Registry>>();
+        calls::<Stack>();
         recording::calls();
-        same::<Layered<OpenTelemetryLayer<Recorder>, Registry>>();
+        same::<Stack>();
         recording::same();
         if self.handles.len() >= MOST || self.guards.len() >= MOST {
             return Err(Refusal::Memory);

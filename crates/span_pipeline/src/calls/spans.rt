@@ -6,13 +6,10 @@ ghost use Rattle.span_pipeline.specs.declared.request.Call.{Call};
 use crate::pipeline::{MOST, Pipeline};
 use crate::reply::{Refusal, Reply, What};
 use crate::slots::{is_borrowed, keep, slot_at, take};
+use crate::stack::Stack;
 use otel_base::record::Moment;
-use otel_base::recorder::Recorder;
-use otel_layer::layer::OpenTelemetryLayer;
 use otel_layer::recording;
 use span_handles::laws::{calls, chains};
-use span_registry::layered::Layered;
-use span_registry::registry::Registry;
 
 impl Pipeline {
     ghost use Rattle.span_pipeline.specs.Tables.{Tables};
@@ -31,7 +28,7 @@ impl Pipeline {
             → IfErr result (IsRefusal (effect_of_call self.old.setup t at lane (Call.Clone handle))) }
         ensures err { OnErr result (self.new ≡ self.old) }
     {
-        calls::<Layered<OpenTelemetryLayer<Recorder>, Registry>>();
+        calls::<Stack>();
         recording::calls();
         if self.handles.len() >= MOST || self.guards.len() >= MOST {
             return Err(Refusal::Memory);
@@ -64,7 +61,7 @@ impl Pipeline {
         ensures err { OnErr result (self.new ≡ self.old) }
         ensures room { ¬ (result ≡ Err NoMemory) }
     {
-        chains::<Layered<OpenTelemetryLayer<Recorder>, Registry>>();
+        chains::<Stack>();
         recording::chains();
         let Some(_named) = slot_at(&self.handles, handle) else {
             return Err(Refusal::UnknownName { what: What::Handle });
