@@ -1,0 +1,49 @@
+-- A stack admits by the rule of the filter in place: what lies below takes everything.
+use Rattle.std.proofs.Common.{◌≡◌, ℕ, Bool, true, Option, Some, None, refl, ap, ◌∙◌, slice_get}
+use Rattle.std.specs.Prelude.{◌&&◌}
+use Rattle.std.specs.Option.{option_map, option_map_or}
+use Rattle.trace_base.specs.declared.callsite.Callsite.{Callsite}
+use Rattle.trace_base.specs.declared.level.LevelFilter.{LevelFilter}
+use Rattle.trace_base.specs.declared.subscriber.Interest.TheVariants as interests
+use Rattle.trace_base.specs.Gate.{Admits, IsFresh}
+use Rattle.trace_base.proofs.Caching.{fresh_admits}
+use Rattle.span_registry.specs.Both.{hint_both}
+use Rattle.span_handles.specs.Worlds.{Has, seen}
+use Rattle.env_filter.specs.Filtering.{Filtered, Filtering, plain, AreWhole, hint_in, enables_in, is_admitted}
+use Rattle.env_filter.specs.Reloading.{if_there, HoldsIfThere, never_enabled}
+use Rattle.env_filter.specs.Worlds.{in_place_rule, IsWholeInPlace}
+use Rattle.env_filter.proofs.Worlds.{over_all_in_place}
+use Rattle.span_stack.specs.Reading.{Stacks, StackWorlds, in_place, stack_interest}
+
+abbrev pub hint_over : Stacks → Option LevelFilter
+hint_over s = hint_both (if_there None (λ f. Some (hint_in (plain f))) s.layer.inner) None
+
+abbrev pub enables_over : Stacks → ℕ → Callsite → Bool
+enables_over s lane c = if_there never_enabled (λ f. enables_in (plain f)) s.layer.inner lane c && true
+
+-- what is read of a subscriber was there to be read
+record ReadOf {S A : Type 0} (read : S → Option A) (o : Option S) (a : A) : Type 0 where
+  from : S
+  there : o ≡ Some from
+  is : read from ≡ Some a
+
+read_of : {S A : Type 0} (read : S → Option A) (o : Option S) (a : A) → option_map_or read o None ≡ Some a → ReadOf read o a
+read_of read None a e = absurd (cc e)
+read_of read (Some s) a e = record { from = s; there = refl; is = e }
+
+rule_of : (o : Option Filtering) (f : Filtered) (lane : ℕ) (c : Callsite) → option_map plain o ≡ Some f → in_place_rule o lane c ≡ is_admitted f lane c
+rule_of None f lane c e = absurd (cc e)
+rule_of (Some g) f lane c e = (let same : plain g ≡ f = cc e in ap (λ (x : Filtered). is_admitted x lane c) same)
+
+whole_in : (o : Option Filtering) → HoldsIfThere (λ f. AreWhole (plain f)) o → IsWholeInPlace o
+whole_in None w = tt
+whole_in (Some f) w = w
+
+pub admits_by_rule : (world : StackWorlds) (dispatch lane site : ℕ) (answer : Bool) → Admits hint_over enables_over world lane site (Some dispatch) answer → IsFresh stack_interest world
+    → Has (λ (s : Stacks). HoldsIfThere (λ f. AreWhole (plain f)) s.layer.inner) world dispatch
+    → (f : Filtered) (c : Callsite) → seen in_place None world dispatch ≡ Some f → slice_get world.sites site ≡ Some c → answer ≡ is_admitted f lane c
+admits_by_rule world dispatch lane site answer admits fresh whole f c in_force at =
+    let read = read_of in_place (slice_get world.subscribers dispatch) f in_force in
+    let o = read.from.layer.inner in
+    fresh_admits stack_interest hint_over enables_over world lane site (Some dispatch) answer admits fresh read.from c read.there at
+    ∙ over_all_in_place o interests.Always None true lane c refl refl refl (whole_in o (whole read.from read.there)) ∙ rule_of o f lane c read.is

@@ -1,0 +1,74 @@
+-- What is read of worlds below the outer layers, and of subscribers at a place.
+use Rattle.std.proofs.Common.{◌≡◌, ℕ, zero, suc, Bool, List, [], ◌∷◌, map, Option, Some, None, refl, sym, ap, subst, ◌∙◌, slice_get, slice_set}
+use Rattle.std.specs.Option.{option_map_or, option_map}
+use Rattle.std.proofs.lemmas.Option.{slice_get-map}
+use Rattle.trace_base.specs.Gate.{Worlds}
+use Rattle.trace_base.specs.Spans.{Spans}
+use Rattle.span_registry.specs.declared.layered.Layered.{Layered}
+use Rattle.span_handles.specs.Worlds.{Has, Replaced, Alike, seen}
+use Rattle.span_handles.proofs.Showing.{seen_before, seen_later, alike}
+use Rattle.span_stack.specs.Through.{inner_of, below}
+
+-- a change at a place, seen through a function
+map_set : {X Y : Type 0} (f : X → Y) (xs : List X) (n : ℕ) (y : X) → map f (slice_set xs n y) ≡ slice_set (map f xs) n (f y)
+map_set f [] n y = refl
+map_set f (x ∷ xs) zero y = refl
+map_set {X} {Y} f (x ∷ xs) (suc n) y = ap (λ (ys : List Y). f x ∷ ys) (map_set f xs n y)
+
+pub replaced_below : {L S : Type 0} (R : Layered L S → Layered L S → Type 0) (Q : S → S → Type 0) → ((s t : Layered L S) → R s t → Q s.inner t.inner)
+    → (old new : Worlds (Layered L S)) (dispatch : ℕ) → Replaced R old new dispatch → Replaced Q (below old) (below new) dispatch
+replaced_below {L} {S} R Q step old new dispatch r = record {
+  before = r.before.inner;
+  later = r.later.inner;
+  there = slice_get-map inner_of old.subscribers dispatch ∙ ap (λ (o : Option (Layered L S)). option_map inner_of o) r.there;
+  did = step r.before r.later r.did;
+  others = ap (λ (w : Worlds (Layered L S)). below w) r.others ∙ ap (λ (xs : List S). record (below old) { subscribers = xs }) (map_set inner_of old.subscribers dispatch r.later);
+}
+
+read_inner : {L S A : Type 0} (read : S → A) (none : A) (o : Option (Layered L S)) → option_map_or read (option_map inner_of o) none ≡ option_map_or (λ (s : Layered L S). read s.inner) o none
+read_inner read none None = refl
+read_inner read none (Some s) = refl
+
+pub seen_below : {L S A : Type 0} (read : S → A) (none : A) (world : Worlds (Layered L S)) (dispatch : ℕ) → seen read none (below world) dispatch ≡ seen (λ (s : Layered L S). read s.inner) none world dispatch
+seen_below {L} {S} {A} read none world dispatch = ap (λ (o : Option S). option_map_or read o none) (slice_get-map inner_of world.subscribers dispatch) ∙ read_inner read none (slice_get world.subscribers dispatch)
+
+pub the_one : {X : Type 0} (x y : X) → ◌≡◌ {A = Option X} (Some x) (Some y) → x ≡ y
+the_one x y e = cc e
+
+inner_there : {L S : Type 0} (P : S → Type 0) (o : Option (Layered L S)) (x : S) → option_map inner_of o ≡ Some x → ((s : Layered L S) → o ≡ Some s → P s.inner) → P x
+inner_there P None x e all = absurd (cc e)
+inner_there P (Some s) x e all = subst P (the_one s.inner x e) (all s refl)
+
+pub has_below : {L S : Type 0} (Q : Layered L S → Type 0) (P : S → Type 0) → ((s : Layered L S) → Q s → P s.inner) → (world : Worlds (Layered L S)) (dispatch : ℕ) → Has Q world dispatch → Has P (below world) dispatch
+has_below P' P step world dispatch has x there = inner_there P (slice_get world.subscribers dispatch) x (sym (slice_get-map inner_of world.subscribers dispatch) ∙ there) (λ s at. step s (has s at))
+
+pub see : {S A : Type 0} (read : S → A) (none : A) (world : Worlds S) (dispatch : ℕ) (s : S) → slice_get world.subscribers dispatch ≡ Some s → seen read none world dispatch ≡ read s
+see {S} read none world dispatch s there = ap (λ (o : Option S). option_map_or read o none) there
+
+-- of three things, along what they are
+pub along : {A B C : Type 0} (P : A → B → C → Type 0) {a a' : A} {b b' : B} {c c' : C} → a ≡ a' → b ≡ b' → c ≡ c' → P a b c → P a' b' c'
+along P {a} {a'} {b} {b'} {c} {c'} e f g h = subst (P a' b') g (subst (λ y. P a' y c) f (subst (λ x. P x b c) e h))
+
+pub replaced_as : {S : Type 0} (R Q : S → S → Type 0) → ((s t : S) → R s t → Q s t) → (old new : Worlds S) (dispatch : ℕ) → Replaced R old new dispatch → Replaced Q old new dispatch
+replaced_as R Q step old new dispatch r = record { before = r.before; later = r.later; there = r.there; did = step r.before r.later r.did; others = r.others }
+
+pub along_four : {A B C D : Type 0} (P : A → B → C → D → Type 0) {a a' : A} {b b' : B} {c c' : C} {d d' : D} → a ≡ a' → b ≡ b' → c ≡ c' → d ≡ d' → P a b c d → P a' b' c' d'
+along_four P {a} {a'} {b} {b'} {c} {c'} {d} {d'} e f g h k = subst (P a' b' c') h (along (λ x y z. P x y z d) e f g k)
+
+pub along_two : {A B : Type 0} (P : A → B → Type 0) {a a' : A} {b b' : B} → a ≡ a' → b ≡ b' → P a b → P a' b'
+along_two P {a} {a'} {b} {b'} e f h = subst (P a') f (subst (λ x. P x b) e h)
+
+-- what is read of a subscriber, where it is replaced by one with the same
+pub kept_place : {S A : Type 0} {R : S → S → Type 0} (read : S → A) (none : A) → ((s t : S) → R s t → read t ≡ read s) → (old new : Worlds S) (dispatch : ℕ) → Replaced R old new dispatch → seen read none new dispatch ≡ seen read none old dispatch
+kept_place {S} {A} {R} read none keeps old new dispatch r = seen_later R old new dispatch r read none ∙ keeps r.before r.later r.did ∙ sym (seen_before R old new dispatch r read none)
+
+pub below_at : {L S : Type 0} (world : Worlds (Layered L S)) (dispatch : ℕ) (s : Layered L S) → slice_get world.subscribers dispatch ≡ Some s → slice_get (below world).subscribers dispatch ≡ Some s.inner
+below_at {L} {S} world dispatch s there = slice_get-map inner_of world.subscribers dispatch ∙ ap (λ (o : Option (Layered L S)). option_map inner_of o) there
+
+-- what a change of a subscriber leaves, if it leaves it of each
+pub leave_alike : {S : Type 0} (spans : S → Spans) (attaches : S → Bool) (kept : S → ℕ → ℕ → ℕ) (is_whole : S → Type 0) (change : S → S)
+    → ((s : S) → spans (change s) ≡ spans s) → ((s : S) → attaches (change s) ≡ attaches s) → ((s : S) → kept (change s) ≡ kept s) → ((s : S) → is_whole s → is_whole (change s))
+    → (old new : Worlds S) (dispatch : ℕ) → Replaced (λ s t. t ≡ change s) old new dispatch → Alike spans attaches kept is_whole old new dispatch
+leave_alike {S} spans attaches kept is_whole change same_spans same_attaches same_kept same_whole old new dispatch r =
+    alike spans attaches kept is_whole (λ s t. t ≡ change s) (λ s t e. ap spans e ∙ same_spans s) (λ s t e. ap attaches e ∙ same_attaches s) (λ s t e. ap kept e ∙ same_kept s)
+    (λ s t e w. subst is_whole (sym e) (same_whole s w)) old new dispatch r

@@ -1,0 +1,52 @@
+-- What is read of a stack, and of worlds whose subscribers are stacks.
+use Rattle.std.specs.Prelude.{ℕ, drop, Option, None}
+use Rattle.std.specs.Option.{option_map}
+use Rattle.trace_base.specs.declared.callsite.Callsite.{Callsite}
+use Rattle.trace_base.specs.declared.subscriber.Interest.{Interest}
+use Rattle.trace_base.specs.declared.subscriber.Interest.TheVariants as interests
+use Rattle.trace_base.specs.Gate.{Worlds, IsFresh}
+use Rattle.span_registry.specs.declared.layered.Layered.{Layered}
+use Rattle.span_registry.specs.Registering.{Registered}
+use Rattle.span_registry.specs.Both.{picked}
+use Rattle.span_handles.specs.Worlds.{seen}
+use Rattle.otel_base.specs.Recorder.{Recorded}
+use Rattle.otel_layer.specs.Core.{Roomed}
+use Rattle.otel_layer.specs.Recording.{Recording, no_recording, recording_of}
+use Rattle.env_filter.specs.declared.reload.Layer.{Layer}
+use Rattle.env_filter.specs.Filtering.{Filtered, Filtering, plain, interest_in}
+use Rattle.env_filter.specs.Reloading.{if_there, sometimes}
+
+-- a stack: the filter that is in place, the OpenTelemetry layer, and the registry
+abbrev pub Stacks : Type 0
+Stacks = Layered (Layer Filtering) (Layered (Roomed Recorded) Registered)
+
+abbrev pub StackWorlds : Type 0
+StackWorlds = Worlds Stacks
+
+-- what the OpenTelemetry layer keeps
+abbrev pub recorded : Stacks → Recording
+recorded s = recording_of s.inner.layer.core
+
+abbrev pub recording_in : StackWorlds → ℕ → Recording
+recording_in world dispatch = seen recorded no_recording world dispatch
+
+-- the filter in place over any subscriber, if it wasn't retired
+abbrev pub in_place : {S : Type 0} → Layered (Layer Filtering) S → Option Filtered
+in_place s = option_map plain s.layer.inner
+
+abbrev pub filter_in : {S : Type 0} → Worlds (Layered (Layer Filtering) S) → ℕ → Option Filtered
+filter_in world dispatch = seen in_place None world dispatch
+
+-- The cached interests are those of the filters that are in place; what lies below a filter is interested in everything.
+abbrev pub interest_over : Layer Filtering → Callsite → Interest
+interest_over l = λ c. picked (if_there sometimes (λ f. interest_in (plain f)) l.inner c) interests.Always
+
+abbrev pub stack_interest : Stacks → Callsite → Interest
+stack_interest s = interest_over s.layer
+
+abbrev pub IsCurrent : StackWorlds → Type 0
+IsCurrent world = IsFresh stack_interest world
+
+-- the same stack without the oldest record
+abbrev pub without_first : Stacks → Stacks
+without_first s = record s { inner = record s.inner { layer = record s.inner.layer { core = record s.inner.layer.core { tracer = record s.inner.layer.core.tracer { finished = drop 1 s.inner.layer.core.tracer.finished } } } } }

@@ -1,0 +1,90 @@
+//! The gate of a stack, and the exchange of its filter.
+ghost use Rattle.std.specs.Prelude.{◌≡◌, ◌≢◌, ◌<◌, ℕ, true, None, Some, length, is_some, slice_get, OnOk, OnErr};
+ghost use Rattle.trace_base.specs.declared.callsite.Callsite.{Callsite};
+ghost use Rattle.trace_base.specs.Gate.{AreSame};
+ghost use Rattle.span_handles.specs.Worlds.{Has, Replaced, Alike};
+ghost use Rattle.otel_layer.specs.Parts.{StaysStack};
+ghost use Rattle.env_filter.specs.Filtering.{Filtered, plain, is_admitted, IsNew};
+ghost use Rattle.env_filter.specs.Reloading.{Swaps};
+ghost use Rattle.span_stack.specs.Reading.{recording_in, filter_in, IsCurrent};
+
+use crate::stack::Stack;
+use env_filter::filter::EnvFilter;
+use otel_base::memory::Memory;
+use otel_base::stack::ContextStack;
+use trace_base::callsite::SiteId;
+use trace_base::dispatcher::Dispatch;
+use trace_base::lane::Lane;
+use trace_base::subscriber::Subscriber;
+use trace_base::world::World;
+
+/// Whether what a callsite makes is let through on a lane that a stack serves, by the interest that was cached: what
+/// the macros of `tracing` ask.
+pub fn admits(world: &World<Stack>, dispatch: Dispatch, lane: &Lane, site: SiteId) -> bool
+    requires site { site < length world.now.sites }
+    requires there { dispatch < length world.now.subscribers }
+    requires whole { Has ⟦<Stack as Subscriber>⟧.is_whole world.now dispatch }
+    requires current { IsCurrent world.now }
+    ensures { (f : Filtered) (c : Callsite) → filter_in world.now dispatch ≡ Some f
+        → slice_get world.now.sites site ≡ Some c → result ≡ is_admitted f lane.now.id c }
+{
+    let served = Lane {
+        id: lane.id,
+        name: None,
+        default: Some(dispatch),
+        contexts: ContextStack::new(world.allocator()),
+    };
+    world.admits(&served, site)
+}
+
+// Room leaves the plain data as they are.
+fn room<S: Subscriber>()
+    ensures { (s t : S) → S.same s t → StaysStack S.spans S.kept S.attaches S.is_whole s t }
+{}
+
+// Exchanges the filter in place, if it wasn't retired.
+fn exchange(world: &mut World<Stack>, dispatch: Dispatch, filter: &mut EnvFilter)
+    requires { dispatch < length world.old.subscribers }
+    ensures { Replaced (λ s t. (t.inner ≡ s.inner) × Swaps s.layer.inner filter.old t.layer.inner filter.new)
+        world.old world.new dispatch }
+{
+    let _ = world.subscriber_mut(dispatch).layer_mut().exchange(filter);
+}
+
+/// Puts another filter in force, and asks for all interests again; `reload::Handle::reload`. After `Memory` everything
+/// is as it was, but for spare room.
+pub fn put_in_force(
+    world: &mut World<Stack>,
+    dispatch: Dispatch,
+    filter: EnvFilter,
+) -> Result<(), Memory>
+    requires new { IsNew (plain filter) }
+    requires there { dispatch < length world.old.subscribers }
+    requires in_place { is_some (filter_in world.old dispatch) ≡ true }
+    ensures filter { OnOk result (filter_in world.new dispatch ≡ Some (plain filter)) }
+    ensures recording { recording_in world.new dispatch ≡ recording_in world.old dispatch }
+    ensures others { Alike ⟦<Stack as Subscriber>⟧.spans ⟦<Stack as Subscriber>⟧.attaches
+        ⟦<Stack as Subscriber>⟧.kept ⟦<Stack as Subscriber>⟧.is_whole world.old world.new dispatch }
+    ensures current { OnOk result (IsCurrent world.new) }
+    ensures sites { world.new.sites ≡ world.old.sites }
+    ensures global { world.new.global ≡ world.old.global }
+    ensures rest { OnOk result ((other : ℕ) (s t : _) → other ≢ dispatch
+        → slice_get world.old.subscribers other ≡ Some s → slice_get world.new.subscribers other ≡ Some t
+        → ⟦<Stack as Subscriber>⟧.same s t) }
+    ensures memory_same { OnErr result
+        (AreSame ⟦<Stack as Subscriber>⟧.same world.old.subscribers world.new.subscribers) }
+    ensures memory_leaves { OnErr result (filter_in world.new dispatch ≡ filter_in world.old dispatch) }
+    ensures memory_cached { OnErr result (world.new.cached ≡ world.old.cached) }
+    ensures memory_current { OnErr result (IsCurrent world.old → IsCurrent world.new) }
+{
+    room::<Stack>();
+    let mut other = filter;
+    exchange(world, dispatch, &mut other);
+    match world.rebuild_interest() {
+        Ok(()) => Ok(()),
+        Err(memory) => {
+            exchange(world, dispatch, &mut other);
+            Err(memory)
+        }
+    }
+}

@@ -1,0 +1,74 @@
+//! The stack, its making, and what is asked of its parts.
+ghost use Rattle.std.specs.Prelude.{◌≡◌, ◌<◌, Some, MatchOption, ◌∷◌, [], length, drop};
+ghost use Rattle.trace_base.specs.declared.callsite.Callsite.{Callsite};
+ghost use Rattle.span_registry.specs.Registering.{no_spans};
+ghost use Rattle.otel_layer.specs.Core.{new_core};
+ghost use Rattle.env_filter.specs.Filtering.{plain, IsNew};
+ghost use Rattle.span_handles.specs.Worlds.{Replaced, spans_in};
+ghost use Rattle.span_stack.specs.Reading.{recording_in, without_first};
+
+use env_filter::filter::EnvFilter;
+use env_filter::reload;
+use otel_base::record::Record;
+use otel_base::recorder::Recorder;
+use otel_layer::layer::OpenTelemetryLayer;
+use otel_layer::recording::RecordedStack;
+use otel_state::settings::LayerSettings;
+use span_registry::layered::Layered;
+use span_registry::registry::Registry;
+use std::alloc::Global;
+use trace_base::dispatcher::Dispatch;
+use trace_base::subscriber::Subscriber;
+use trace_base::world::World;
+
+/// A registry under the OpenTelemetry layer, whose spans a recorder gets, and a filter outside that can be exchanged.
+pub type Stack = Layered<reload::Layer<EnvFilter>, RecordedStack>;
+
+/// The stack under a filter that was just made, with a layer of these settings.
+pub fn new_stack(alloc: Global, settings: LayerSettings, filter: EnvFilter) -> Stack
+    requires new { IsNew (plain filter) }
+    ensures registry { result.inner.inner.spans ≡ no_spans }
+    ensures core { result.inner.layer.core ≡ new_core (record { started = 0; spare = 0; finished = [] }) settings }
+    ensures filter { result.layer.inner ≡ Some filter }
+    ensures whole { ⟦<Stack as Subscriber>⟧.is_whole result }
+{
+    let layer = OpenTelemetryLayer::new(alloc, Recorder::new(alloc))
+        .with_context_activation(settings.activation)
+        .with_error_events_to_exceptions(settings.error_events_to_exceptions)
+        .with_error_events_to_status(settings.error_events_to_status)
+        .with_error_fields_to_exceptions(settings.error_fields_to_exceptions)
+        .with_error_records_to_exceptions(settings.error_records_to_exceptions)
+        .with_tracked_inactivity(settings.inactivity)
+        .with_level(settings.level)
+        .with_location(settings.location)
+        .with_target(settings.target)
+        .with_threads(settings.threads);
+    Registry::new(alloc)
+        .with(layer)
+        .with(reload::Layer::new(filter))
+}
+
+/// The registry of a stack.
+pub fn registry(world: &World<Stack>, dispatch: Dispatch) -> &Registry
+    requires { dispatch < length world.now.subscribers }
+    ensures { result.now.spans ≡ spans_in ⟦<Stack as Subscriber>⟧.spans world.now dispatch }
+{
+    world.subscriber(dispatch).inner().inner()
+}
+
+/// The oldest record that hasn't been taken from a stack, if there is one: what an
+/// `opentelemetry_sdk::trace::SpanExporter` would get next.
+pub fn take_record(world: &mut World<Stack>, dispatch: Dispatch) -> Option<Record>
+    requires { dispatch < length world.old.subscribers }
+    ensures oldest { MatchOption result ((recording_in world.old dispatch).finished ≡ [])
+        (λ record'. (recording_in world.old dispatch).finished
+        ≡ record' ∷ drop 1 (recording_in world.old dispatch).finished) }
+    ensures rest { Replaced (λ s t. t ≡ without_first s) world.old world.new dispatch }
+{
+    world
+        .subscriber_mut(dispatch)
+        .inner_mut()
+        .layer_mut()
+        .tracer_mut()
+        .take()
+}
