@@ -1,0 +1,6 @@
+pub mod Asking
+pub mod Begins
+pub mod Held
+pub mod Moves
+pub mod Quiet
+pub mod Steps

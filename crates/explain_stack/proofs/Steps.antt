@@ -1,0 +1,37 @@
+-- What one step of a stack keeps of a scene.
+use Rattle.std.proofs.Common.{◌≡◌, ℕ, ◌+◌, ◌≤◌, length, Some, None, refl, sym, ap, subst, ◌∙◌, arith}
+use Rattle.trace_base.specs.declared.lane.Lane.{Lane}
+use Rattle.trace_base.specs.Gate.{Worlds}
+use Rattle.trace_base.specs.Spans.{Spans}
+use Rattle.span_handles.specs.Worlds.{Replaced}
+use Rattle.span_handles.specs.Handles.{Held, ReplacedOn}
+use Rattle.span_handles.specs.Knowing.{KeepsKnown}
+use Rattle.span_handles.proofs.Knowing.{keeps_same}
+use Rattle.span_handles.proofs.Showing.{as_many}
+use Rattle.span_futures.specs.Lent.{HasAll}
+use Rattle.span_futures.proofs.Keeping.{keeps_all, same_kept, own_after}
+use Rattle.explain_stack.specs.Order.{Stands}
+
+module _ {S : Type 0} (spans : S → Spans) (kept : S → ℕ → ℕ → ℕ) (is_whole : S → Type 0) where
+  -- a step that leaves lanes, keeps stacks whole and makes no span
+  pub record IsQuiet (R : S → S → Type 0) : Type 0 where
+    pub stays_whole : (s t : S) → R s t → is_whole s → is_whole t
+    pub as_many_made : (s t : S) → R s t → length (spans t).made ≡ length (spans s).made
+    pub as_kept : (s t : S) → R s t → kept t ≡ kept s
+
+  pub quiet_stands : (R : S → S → Type 0) (q : IsQuiet R) (old new : Worlds S) (d dispatch made sites : ℕ) (lane : Lane) → Replaced R old new d → Stands spans kept is_whole dispatch made sites old lane → Stands spans kept is_whole dispatch made sites new lane
+  quiet_stands R q old new d dispatch made sites lane r stands = record {
+    there = (let n = as_many R old new d r in omega (arith, n, stands.there));
+    whole = keeps_all R old new d r is_whole q.stays_whole stands.whole;
+    few = keeps_all R old new d r (λ s. length (spans s).made ≤ made) (λ s t did few. (let e = q.as_many_made s t did in omega (arith, e, few))) stands.few;
+    declared = (let e = ap (λ (w : Worlds S). length w.sites) r.others in omega (arith, e, stands.declared));
+    attached = λ number. (
+        let k = same_kept R old new d r kept (q.as_kept r.before r.later r.did) lane.id number in
+        let a = stands.attached number in
+        omega (arith, k, a));
+    own = own_after R old new d r lane lane refl stands.own;
+  }
+
+  pub quiet_on : (R : ℕ → S → S → Type 0) (q : (id : ℕ) → IsQuiet (R id)) (old new : Worlds S) (held : Held) (dispatch made sites : ℕ) (lane : Lane) → ReplacedOn R old new held → Stands spans kept is_whole dispatch made sites old lane → Stands spans kept is_whole dispatch made sites new lane
+  quiet_on R q old new None dispatch made sites lane r stands = subst (λ (w : Worlds S). Stands spans kept is_whole dispatch made sites w lane) (sym r) stands
+  quiet_on R q old new (Some h) dispatch made sites lane r stands = quiet_stands (R h.1) (q h.1) old new h.0 dispatch made sites lane r stands

@@ -1,0 +1,22 @@
+-- Three handles, of which one is taken or put.
+use Rattle.std.specs.Prelude.{◌≡◌, ◌⊎◌, ℕ}
+use Rattle.trace_base.specs.Gate.{Worlds}
+use Rattle.trace_base.specs.Spans.{Spans}
+use Rattle.span_handles.specs.Handles.{Handle, no_handle}
+use Rattle.explain_stack.specs.declared.handles.Handles.{Handles}
+use Rattle.explain_stack.specs.Order.{IsHeld}
+
+-- one is taken, and a disabled one is left
+abbrev pub Takes : Handles → Handles → Handle → Type 0
+Takes old new slot = ((slot ≡ old.a) × (new ≡ record old { a = no_handle }))
+    ⊎ (((slot ≡ old.b) × (new ≡ record old { b = no_handle })) ⊎ ((slot ≡ old.c) × (new ≡ record old { c = no_handle })))
+
+-- one is put, or none where there is no such place
+abbrev pub Puts : Handles → Handle → Handles → Type 0
+Puts old slot new = (new ≡ record old { a = slot }) ⊎ ((new ≡ record old { b = slot }) ⊎ ((new ≡ record old { c = slot }) ⊎ (new ≡ old)))
+
+-- all three are known, with callsites of the world
+pub record AreHeld {S : Type 0} (spans : S → Spans) (sites : ℕ) (world : Worlds S) (handles : Handles) : Type 0 where
+  pub a : IsHeld spans sites world handles.a
+  pub b : IsHeld spans sites world handles.b
+  pub c : IsHeld spans sites world handles.c

@@ -1,0 +1,131 @@
+//! What handles in a scene ask of the OpenTelemetry layer, and events.
+ghost use Rattle.std.specs.Prelude.{◌≡◌, ◌<◌, length, OnOk, OnErr};
+ghost use Rattle.trace_base.specs.Calls.{Event};
+ghost use Rattle.trace_base.specs.Conditions.{IsLivePlace};
+ghost use Rattle.span_handles.specs.Worlds.{Has, Replaced};
+ghost use Rattle.span_handles.specs.Handles.{IsKnown};
+ghost use Rattle.span_handles.specs.Knowing.{KeepsKnown};
+ghost use Rattle.explain_stack.specs.Order.{InOrder};
+
+use crate::scene::Scene;
+use crate::stack::Stack;
+use otel_base::context::{Context, SpanContext};
+use otel_base::memory::Memory;
+use otel_base::status::Status;
+use otel_layer::span_ext::OpenTelemetrySpanExt;
+use otel_state::op::SetParentError;
+use span_handles::span::Span;
+use trace_base::callsite::SiteId;
+use trace_base::dispatcher::Dispatch;
+use trace_base::field::ValueSet;
+use trace_base::lane::Lane;
+use trace_base::span::Parent;
+use trace_base::subscriber::Subscriber;
+use trace_base::world::World;
+
+impl<S: Stack> Scene<S> {
+    /// Sets the parent of a span.
+    pub fn set_parent(
+        &mut self,
+        at: u64,
+        span: &Span,
+        context: Context,
+    ) -> Result<(), SetParentError>
+        requires order { InOrder S.spans S.kept S.is_whole self.old }
+        requires known { IsKnown S.spans self.old.world span.now.held }
+        ensures order { InOrder S.spans S.kept S.is_whole self.new }
+        ensures known { KeepsKnown S.spans self.old.world self.new.world }
+        ensures sites { self.new.sites ≡ self.old.sites }
+    {
+        span.set_parent(&mut self.world, at, context)
+    }
+
+    /// Links a span to another.
+    pub fn link(&mut self, at: u64, span: &Span, context: SpanContext) -> Result<(), Memory>
+        requires order { InOrder S.spans S.kept S.is_whole self.old }
+        requires known { IsKnown S.spans self.old.world span.now.held }
+        ensures order { InOrder S.spans S.kept S.is_whole self.new }
+        ensures known { KeepsKnown S.spans self.old.world self.new.world }
+        ensures sites { self.new.sites ≡ self.old.sites }
+    {
+        span.add_link(&mut self.world, at, context)
+    }
+
+    /// Starts a span, and answers its own context.
+    pub fn context(&mut self, at: u64, span: &Span) -> Context
+        requires order { InOrder S.spans S.kept S.is_whole self.old }
+        requires known { IsKnown S.spans self.old.world span.now.held }
+        ensures order { InOrder S.spans S.kept S.is_whole self.new }
+        ensures known { KeepsKnown S.spans self.old.world self.new.world }
+        ensures sites { self.new.sites ≡ self.old.sites }
+    {
+        span.context(&mut self.world, at)
+    }
+
+    /// Writes a status on a span.
+    pub fn set_status(&mut self, at: u64, span: &Span, status: Status)
+        requires order { InOrder S.spans S.kept S.is_whole self.old }
+        requires known { IsKnown S.spans self.old.world span.now.held }
+        ensures order { InOrder S.spans S.kept S.is_whole self.new }
+        ensures known { KeepsKnown S.spans self.old.world self.new.world }
+        ensures sites { self.new.sites ≡ self.old.sites }
+    {
+        span.set_status(&mut self.world, at, status);
+    }
+
+    /// Tells an event on the span of a handle, where it is of the scene's stack; on the current one under a disabled handle.
+    pub fn event(
+        &mut self,
+        at: u64,
+        span: &Span,
+        site: SiteId,
+        values: &ValueSet,
+    ) -> Result<(), Memory>
+        requires order { InOrder S.spans S.kept S.is_whole self.old }
+        requires known { IsKnown S.spans self.old.world span.now.held }
+        requires site { site < self.old.sites }
+        ensures order { InOrder S.spans S.kept S.is_whole self.new }
+        ensures known { KeepsKnown S.spans self.old.world self.new.world }
+        ensures sites { self.new.sites ≡ self.old.sites }
+    {
+        if !self.has_room(span) {
+            return Ok(());
+        }
+        let place = match span.id() {
+            Some(id) => Parent::Of(id),
+            None => Parent::Current,
+        };
+        tell(
+            &mut self.world,
+            self.dispatch,
+            &self.lane,
+            at,
+            place,
+            site,
+            values,
+        )
+    }
+}
+
+// Tells an event at a place.
+fn tell<S: Subscriber>(
+    world: &mut World<S>,
+    dispatch: Dispatch,
+    lane: &Lane,
+    at: u64,
+    place: Parent,
+    site: SiteId,
+    values: &ValueSet,
+) -> Result<(), Memory>
+    requires there { dispatch < length world.old.subscribers }
+    requires site { site < length world.old.sites }
+    requires whole { Has S.is_whole world.old dispatch }
+    requires live { Has (λ s. IsLivePlace (S.spans s).made place) world.old dispatch }
+    ensures did { OnOk result ((callsite : _)
+        × Replaced (λ s t. S.does s (Event lane.now at place site callsite values.now) t) world.old world.new
+        dispatch) }
+    ensures memory_leaves { OnErr result (Replaced S.same world.old world.new dispatch) }
+{
+    let (subscriber, callsite) = world.subscriber_and_site(dispatch, site);
+    subscriber.event(lane, at, place, site, callsite, values)
+}

@@ -1,0 +1,122 @@
+//! The calls of handles in a scene.
+ghost use Rattle.std.specs.Prelude.{◌≡◌, ◌<◌, IfOk, IfSome, OnOk, OnErr};
+ghost use Rattle.span_handles.specs.Handles.{IsKnown};
+ghost use Rattle.span_handles.specs.Knowing.{KeepsKnown, KeepsOthers};
+ghost use Rattle.explain_stack.specs.Order.{InOrder, IsHeld};
+
+use crate::scene::Scene;
+use crate::stack::Stack;
+use otel_base::enter_error::EnterError;
+use otel_base::memory::Memory;
+use span_handles::entry::Entry;
+use span_handles::span::Span;
+use trace_base::callsite::SiteId;
+use trace_base::field::ValueSet;
+
+impl<S: Stack> Scene<S> {
+    /// A new child of a handle's span, a root under a disabled one; none where no more are made.
+    pub fn make_under(
+        &mut self,
+        at: u64,
+        parent: &Span,
+        site: SiteId,
+        values: &ValueSet,
+    ) -> Result<Option<Span>, Memory>
+        requires order { InOrder S.spans S.kept S.is_whole self.old }
+        requires known { IsKnown S.spans self.old.world parent.now.held }
+        requires site { site < self.old.sites }
+        ensures order { InOrder S.spans S.kept S.is_whole self.new }
+        ensures known { KeepsKnown S.spans self.old.world self.new.world }
+        ensures sites { self.new.sites ≡ self.old.sites }
+        ensures made { IfOk result (λ made. IfSome made (IsHeld S.spans self.new.sites self.new.world)) }
+    {
+        if self.made >= 1000 || !self.has_room(parent) {
+            return Ok(None);
+        }
+        let span = Span::child_of_with(
+            parent,
+            &mut self.world,
+            &self.lane,
+            at,
+            site,
+            values,
+            self.dispatch,
+        )?;
+        self.made += 1;
+        Ok(Some(span))
+    }
+
+    /// Enters a span; none where it can't be entered.
+    pub fn enter(&mut self, at: u64, span: &Span) -> Result<Option<Entry>, Memory>
+        requires order { InOrder S.spans S.kept S.is_whole self.old }
+        requires known { IsKnown S.spans self.old.world span.now.held }
+        ensures order { InOrder S.spans S.kept S.is_whole self.new }
+        ensures known { KeepsKnown S.spans self.old.world self.new.world }
+        ensures sites { self.new.sites ≡ self.old.sites }
+        ensures entry { IfOk result (λ entry. IfSome entry (λ e. e ≡ span.now.held)) }
+    {
+        if !self.has_room(span) {
+            return Ok(None);
+        }
+        match span.open_entry(&mut self.world, &mut self.lane, at) {
+            Ok(entry) => Ok(Some(entry)),
+            Err(EnterError::Full) => Ok(None),
+            Err(EnterError::Memory) => Err(Memory),
+        }
+    }
+
+    /// Exits a span, and spends the entry; that comes back where none is open.
+    pub fn exit(&mut self, at: u64, span: &Span, entry: Entry) -> Option<Entry>
+        requires order { InOrder S.spans S.kept S.is_whole self.old }
+        requires known { IsKnown S.spans self.old.world span.now.held }
+        requires own { entry ≡ span.now.held }
+        ensures order { InOrder S.spans S.kept S.is_whole self.new }
+        ensures known { KeepsKnown S.spans self.old.world self.new.world }
+        ensures sites { self.new.sites ≡ self.old.sites }
+        ensures back { IfSome result (λ e. e ≡ span.now.held) }
+    {
+        if !self.is_open(span) {
+            return Some(entry);
+        }
+        span.close_entry(entry, &mut self.world, &mut self.lane, at);
+        None
+    }
+
+    /// Closes a handle, and answers whether its span closed.
+    pub fn close(&mut self, at: u64, span: Span) -> bool
+        requires order { InOrder S.spans S.kept S.is_whole self.old }
+        requires known { IsKnown S.spans self.old.world span.held }
+        ensures order { InOrder S.spans S.kept S.is_whole self.new }
+        ensures others { KeepsOthers S.spans self.old.world self.new.world span.held }
+        ensures sites { self.new.sites ≡ self.old.sites }
+    {
+        span.close(&mut self.world, at)
+    }
+
+    /// Records values on a span.
+    pub fn record(&mut self, at: u64, span: &Span, values: &ValueSet) -> Result<(), Memory>
+        requires order { InOrder S.spans S.kept S.is_whole self.old }
+        requires held { IsHeld S.spans self.old.sites self.old.world span.now }
+        ensures order { InOrder S.spans S.kept S.is_whole self.new }
+        ensures known { KeepsKnown S.spans self.old.world self.new.world }
+        ensures sites { self.new.sites ≡ self.old.sites }
+    {
+        span.record_all(&mut self.world, at, values)?;
+        Ok(())
+    }
+
+    /// Records that a span follows from another, where both are of the scene's stack.
+    pub fn follow(&mut self, at: u64, span: &Span, from: &Span) -> Result<(), Memory>
+        requires order { InOrder S.spans S.kept S.is_whole self.old }
+        requires known { IsKnown S.spans self.old.world span.now.held }
+        requires from { IsKnown S.spans self.old.world from.now.held }
+        ensures order { InOrder S.spans S.kept S.is_whole self.new }
+        ensures known { KeepsKnown S.spans self.old.world self.new.world }
+        ensures sites { self.new.sites ≡ self.old.sites }
+    {
+        if self.has_room(span) && self.has_room(from) {
+            span.follows_from(&mut self.world, at, from)?;
+        }
+        Ok(())
+    }
+}

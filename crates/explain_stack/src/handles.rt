@@ -1,0 +1,126 @@
+//! Three handles, by name.
+ghost use Rattle.std.specs.Prelude.{◌≡◌, false, IfSome, None};
+ghost use Rattle.span_handles.specs.Handles.{no_handle, same_held};
+ghost use Rattle.explain_stack.specs.Places.{Takes, Puts};
+
+use span_handles::entry::Entry;
+use span_handles::span::Span;
+use std::marker::Model;
+use std::mem;
+
+/// A handle, and an entry of its span while one is open.
+pub struct Slot {
+    pub(crate) span: Span,
+    pub(crate) entry: Option<Entry>,
+}
+
+impl Model for Slot {
+    ghost use Rattle.std.specs.Prelude.{◌≡◌, IfSome};
+    ghost use Rattle.span_handles.specs.Handles.{Handle};
+
+    ghost Value = { Handle };
+
+    ghost view = { λ s. s.span };
+
+    ghost invariant = { λ s. IfSome s.entry (λ e. e ≡ s.span.held) };
+}
+
+impl Slot {
+    /// A handle whose span isn't entered.
+    pub fn of(span: Span) -> Slot
+        ensures { result ≡ span }
+    {
+        Slot { span, entry: None }
+    }
+
+    /// The handle.
+    pub fn span(&self) -> &Span
+        ensures { result.now ≡ self.now }
+    {
+        &self.span
+    }
+
+    /// Whether an entry is open.
+    pub fn is_entered(&self) -> bool {
+        self.entry.is_some()
+    }
+
+    /// The handle; an entry stays open for good.
+    pub fn into_span(self) -> Span
+        ensures { result ≡ self }
+    {
+        let Slot { span, entry } = self;
+        match entry {
+            Some(entry) => entry.discard(),
+            None => {}
+        }
+        span
+    }
+
+    /// Keeps its hold and its entry for good.
+    pub fn discard(self) {
+        self.into_span().discard();
+    }
+}
+
+/// Three handles.
+pub struct Handles {
+    pub(crate) a: Slot,
+    pub(crate) b: Slot,
+    pub(crate) c: Slot,
+}
+
+impl Handles {
+    /// Disabled ones.
+    pub fn new() -> Handles
+        ensures { result ≡ record { a = no_handle; b = no_handle; c = no_handle } }
+    {
+        Handles {
+            a: Slot::of(Span::none()),
+            b: Slot::of(Span::none()),
+            c: Slot::of(Span::none()),
+        }
+    }
+
+    /// Takes the handle of a name, and leaves a disabled one there; none where there is no such name.
+    pub fn take(&mut self, name: &str) -> Option<Slot>
+        ensures some { IfSome result (Takes self.old self.new) }
+        ensures none { result ≡ None → self.new ≡ self.old }
+    {
+        match name {
+            "a" => Some(mem::replace(&mut self.a, Slot::of(Span::none()))),
+            "b" => Some(mem::replace(&mut self.b, Slot::of(Span::none()))),
+            "c" => Some(mem::replace(&mut self.c, Slot::of(Span::none()))),
+            _ => None,
+        }
+    }
+
+    /// Puts a handle where one was taken.
+    pub fn put(&mut self, name: &str, slot: Slot)
+        ensures { Puts self.old slot self.new }
+    {
+        match name {
+            "a" => mem::replace(&mut self.a, slot).discard(),
+            "b" => mem::replace(&mut self.b, slot).discard(),
+            "c" => mem::replace(&mut self.c, slot).discard(),
+            _ => slot.discard(),
+        }
+    }
+
+    /// Whether one of them is of a span.
+    pub fn has(&self, span: &Span) -> bool
+        ensures a { result ≡ false → same_held self.now.a.held span.now.held ≡ false }
+        ensures b { result ≡ false → same_held self.now.b.held span.now.held ≡ false }
+        ensures c { result ≡ false → same_held self.now.c.held span.now.held ≡ false }
+    {
+        self.a.span.same_span(span) || self.b.span.same_span(span) || self.c.span.same_span(span)
+    }
+
+    /// Keeps their holds for good.
+    pub fn discard(self) {
+        let Handles { a, b, c } = self;
+        a.discard();
+        b.discard();
+        c.discard();
+    }
+}

@@ -1,0 +1,37 @@
+//! Explains what becomes of spans in stacks: reads scripts of calls on handles, one call a line, and prints behind each what
+//! is answered, and behind the last of a script the records that its stack gave.
+#![tactic(auto)]
+
+mod asks;
+mod calls;
+mod handles;
+mod play;
+mod scene;
+mod script;
+mod stack;
+mod told;
+mod words;
+
+use std::io::{self, ErrorKind};
+
+fn main(rt: HostRuntime) -> io::Result<()> {
+    let mut stack = String::new(rt.alloc());
+    let mut lines = Vec::new(rt.alloc());
+    for line in rt.lines(rt.alloc()) {
+        let line = line?;
+        match line.as_str().strip_prefix("stack ") {
+            Some(words) => {
+                let told = script::run(rt.alloc(), stack.as_str(), lines.as_slice());
+                let told = told.map_err(|_| ErrorKind::OutOfMemory)?;
+                print!(rt; "{told}stack {words}\n")?;
+                stack = String::from_str(rt.alloc(), words)?;
+                lines = Vec::new(rt.alloc());
+            }
+            None => lines.push(line)?,
+        }
+    }
+    let told = script::run(rt.alloc(), stack.as_str(), lines.as_slice());
+    let told = told.map_err(|_| ErrorKind::OutOfMemory)?;
+    print!(rt; "{told}")?;
+    Ok(())
+}

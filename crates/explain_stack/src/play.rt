@@ -1,0 +1,408 @@
+//! Lines of calls, made on the handles of a scene.
+ghost use Rattle.std.specs.Prelude.{◌≡◌, ◌<◌, IfOk, IfSome};
+ghost use Rattle.span_handles.specs.Handles.{IsKnown};
+ghost use Rattle.span_handles.specs.Knowing.{KeepsKnown};
+ghost use Rattle.explain_stack.specs.Order.{InOrder, IsHeld};
+ghost use Rattle.explain_stack.specs.Places.{AreHeld};
+
+use crate::handles::{Handles, Slot};
+use crate::scene::Scene;
+use crate::stack::Stack;
+use crate::{told, words};
+use otel_base::context::Context;
+use otel_base::memory::Memory;
+use span_handles::span::Span;
+use std::alloc::Global;
+use trace_base::callsite::SiteId;
+use trace_base::field::ValueSet;
+
+/// Makes the call of a line `AT CALL NAME WORDS`, and tells what is answered.
+pub fn answer<S: Stack>(
+    alloc: Global,
+    scene: &mut Scene<S>,
+    handles: &mut Handles,
+    line: &str,
+) -> Result<String, Memory>
+    requires order { InOrder S.spans S.kept S.is_whole scene.old }
+    requires held { AreHeld S.spans scene.old.sites scene.old.world handles.old }
+    ensures order { InOrder S.spans S.kept S.is_whole scene.new }
+    ensures held { AreHeld S.spans scene.new.sites scene.new.world handles.new }
+{
+    let (at, line) = line.split_once(' ').unwrap_or((line, ""));
+    let (call, line) = line.split_once(' ').unwrap_or((line, ""));
+    let (name, words) = line.split_once(' ').unwrap_or((line, ""));
+    let Some(at) = words::number(at) else {
+        return told::refused(alloc);
+    };
+    match call {
+        "new" => make(alloc, scene, handles, at, name, words),
+        "follows" => follow(alloc, scene, handles, at, name, words),
+        "close" => close(alloc, scene, handles, at, name),
+        _ => one(alloc, scene, handles, at, call, name, words),
+    }
+}
+
+// A new span of the words `PARENT SITE VALUES`, where a parent is a handle or `root`.
+fn make<S: Stack>(
+    alloc: Global,
+    scene: &mut Scene<S>,
+    handles: &mut Handles,
+    at: u64,
+    name: &str,
+    words: &str,
+) -> Result<String, Memory>
+    requires order { InOrder S.spans S.kept S.is_whole scene.old }
+    requires held { AreHeld S.spans scene.old.sites scene.old.world handles.old }
+    ensures order { InOrder S.spans S.kept S.is_whole scene.new }
+    ensures held { AreHeld S.spans scene.new.sites scene.new.world handles.new }
+{
+    let (parent, words) = words.split_once(' ').unwrap_or((words, ""));
+    let (site, words) = words.split_once(' ').unwrap_or((words, ""));
+    let Some(site) = scene.site_at(words::number(site).unwrap_or(0)) else {
+        return told::refused(alloc);
+    };
+    let values = words::values(alloc, words)?;
+    if !scene.admits(site) {
+        handles.put(name, Slot::of(Span::new_disabled(site)));
+        return told::done(alloc, false);
+    }
+    let made = made(scene, handles, at, parent, site, &values)?;
+    match made {
+        Some(span) => {
+            handles.put(name, Slot::of(span));
+            told::done(alloc, true)
+        }
+        None => told::refused(alloc),
+    }
+}
+
+// The span that is made.
+#[tactic(auto, using(crate::proofs::Held::takes_held, crate::proofs::Held::puts_held, crate::proofs::Held::still_held))]
+fn made<S: Stack>(
+    scene: &mut Scene<S>,
+    handles: &mut Handles,
+    at: u64,
+    parent: &str,
+    site: SiteId,
+    values: &ValueSet,
+) -> Result<Option<Span>, Memory>
+    requires order { InOrder S.spans S.kept S.is_whole scene.old }
+    requires held { AreHeld S.spans scene.old.sites scene.old.world handles.old }
+    requires site { site < scene.old.sites }
+    ensures order { InOrder S.spans S.kept S.is_whole scene.new }
+    ensures held { AreHeld S.spans scene.new.sites scene.new.world handles.new }
+    ensures made { IfOk result (λ made. IfSome made (IsHeld S.spans scene.new.sites scene.new.world)) }
+{
+    if parent == "root" {
+        let root = Span::none();
+        let made = scene.make_under(at, &root, site, values);
+        root.discard();
+        return made;
+    }
+    let Some(slot) = handles.take(parent) else {
+        return Ok(None);
+    };
+    let made = scene.make_under(at, slot.span(), site, values);
+    handles.put(parent, slot);
+    made
+}
+
+// A span follows from another, which may be itself.
+fn follow<S: Stack>(
+    alloc: Global,
+    scene: &mut Scene<S>,
+    handles: &mut Handles,
+    at: u64,
+    name: &str,
+    other: &str,
+) -> Result<String, Memory>
+    requires order { InOrder S.spans S.kept S.is_whole scene.old }
+    requires held { AreHeld S.spans scene.old.sites scene.old.world handles.old }
+    ensures order { InOrder S.spans S.kept S.is_whole scene.new }
+    ensures held { AreHeld S.spans scene.new.sites scene.new.world handles.new }
+{
+    if name == other {
+        follow_itself(scene, handles, at, name)?;
+    } else {
+        follow_other(scene, handles, at, name, other)?;
+    }
+    told::done(alloc, true)
+}
+
+#[tactic(auto, using(crate::proofs::Held::takes_held, crate::proofs::Held::puts_held, crate::proofs::Held::still_held))]
+fn follow_itself<S: Stack>(
+    scene: &mut Scene<S>,
+    handles: &mut Handles,
+    at: u64,
+    name: &str,
+) -> Result<(), Memory>
+    requires order { InOrder S.spans S.kept S.is_whole scene.old }
+    requires held { AreHeld S.spans scene.old.sites scene.old.world handles.old }
+    ensures order { InOrder S.spans S.kept S.is_whole scene.new }
+    ensures held { AreHeld S.spans scene.new.sites scene.new.world handles.new }
+{
+    let Some(slot) = handles.take(name) else {
+        return Ok(());
+    };
+    let done = scene.follow(at, slot.span(), slot.span());
+    handles.put(name, slot);
+    done
+}
+
+#[tactic(auto, using(crate::proofs::Held::takes_held, crate::proofs::Held::puts_held, crate::proofs::Held::still_held))]
+fn follow_other<S: Stack>(
+    scene: &mut Scene<S>,
+    handles: &mut Handles,
+    at: u64,
+    name: &str,
+    other: &str,
+) -> Result<(), Memory>
+    requires order { InOrder S.spans S.kept S.is_whole scene.old }
+    requires held { AreHeld S.spans scene.old.sites scene.old.world handles.old }
+    ensures order { InOrder S.spans S.kept S.is_whole scene.new }
+    ensures held { AreHeld S.spans scene.new.sites scene.new.world handles.new }
+{
+    let Some(slot) = handles.take(name) else {
+        return Ok(());
+    };
+    let done = follow_slot(scene, handles, at, slot.span(), other);
+    handles.put(name, slot);
+    done
+}
+
+// The span of a handle that was taken follows from another.
+#[tactic(auto, using(crate::proofs::Held::takes_held, crate::proofs::Held::puts_held, crate::proofs::Held::still_held))]
+fn follow_slot<S: Stack>(
+    scene: &mut Scene<S>,
+    handles: &mut Handles,
+    at: u64,
+    span: &Span,
+    other: &str,
+) -> Result<(), Memory>
+    requires order { InOrder S.spans S.kept S.is_whole scene.old }
+    requires held { AreHeld S.spans scene.old.sites scene.old.world handles.old }
+    requires known { IsKnown S.spans scene.old.world span.now.held }
+    ensures known { KeepsKnown S.spans scene.old.world scene.new.world }
+    ensures sites { scene.new.sites ≡ scene.old.sites }
+    ensures order { InOrder S.spans S.kept S.is_whole scene.new }
+    ensures held { AreHeld S.spans scene.new.sites scene.new.world handles.new }
+{
+    let Some(from) = handles.take(other) else {
+        return Ok(());
+    };
+    let done = scene.follow(at, span, from.span());
+    handles.put(other, from);
+    done
+}
+
+// A handle is closed, where no other is of its span and it isn't entered.
+#[tactic(auto, using(crate::proofs::Held::takes_held, crate::proofs::Held::puts_held, crate::proofs::Held::others_held))]
+fn close<S: Stack>(
+    alloc: Global,
+    scene: &mut Scene<S>,
+    handles: &mut Handles,
+    at: u64,
+    name: &str,
+) -> Result<String, Memory>
+    requires order { InOrder S.spans S.kept S.is_whole scene.old }
+    requires held { AreHeld S.spans scene.old.sites scene.old.world handles.old }
+    ensures order { InOrder S.spans S.kept S.is_whole scene.new }
+    ensures held { AreHeld S.spans scene.new.sites scene.new.world handles.new }
+{
+    let Some(slot) = handles.take(name) else {
+        return told::refused(alloc);
+    };
+    if slot.is_entered() || handles.has(slot.span()) {
+        handles.put(name, slot);
+        return told::refused(alloc);
+    }
+    let closed = scene.close(at, slot.into_span());
+    Ok(format!(in alloc; "  closed {closed}\n")?)
+}
+
+// A call on one handle.
+#[tactic(auto, using(crate::proofs::Held::takes_held, crate::proofs::Held::puts_held, crate::proofs::Held::still_held))]
+fn one<S: Stack>(
+    alloc: Global,
+    scene: &mut Scene<S>,
+    handles: &mut Handles,
+    at: u64,
+    call: &str,
+    name: &str,
+    words: &str,
+) -> Result<String, Memory>
+    requires order { InOrder S.spans S.kept S.is_whole scene.old }
+    requires held { AreHeld S.spans scene.old.sites scene.old.world handles.old }
+    ensures order { InOrder S.spans S.kept S.is_whole scene.new }
+    ensures held { AreHeld S.spans scene.new.sites scene.new.world handles.new }
+{
+    let Some(slot) = handles.take(name) else {
+        return told::refused(alloc);
+    };
+    let (slot, told) = act(alloc, scene, slot, at, call, words);
+    handles.put(name, slot);
+    told
+}
+
+fn act<S: Stack>(
+    alloc: Global,
+    scene: &mut Scene<S>,
+    slot: Slot,
+    at: u64,
+    call: &str,
+    words: &str,
+) -> (Slot, Result<String, Memory>)
+    requires order { InOrder S.spans S.kept S.is_whole scene.old }
+    requires held { IsHeld S.spans scene.old.sites scene.old.world slot }
+    ensures order { InOrder S.spans S.kept S.is_whole scene.new }
+    ensures known { KeepsKnown S.spans scene.old.world scene.new.world }
+    ensures sites { scene.new.sites ≡ scene.old.sites }
+    ensures slot { result.0 ≡ slot }
+{
+    match call {
+        "enter" => enter(alloc, scene, slot, at),
+        "exit" => exit(alloc, scene, slot, at),
+        _ => {
+            let told = tell(alloc, scene, slot.span(), at, call, words);
+            (slot, told)
+        }
+    }
+}
+
+// Enters the span of a handle that isn't entered.
+fn enter<S: Stack>(
+    alloc: Global,
+    scene: &mut Scene<S>,
+    slot: Slot,
+    at: u64,
+) -> (Slot, Result<String, Memory>)
+    requires order { InOrder S.spans S.kept S.is_whole scene.old }
+    requires held { IsHeld S.spans scene.old.sites scene.old.world slot }
+    ensures order { InOrder S.spans S.kept S.is_whole scene.new }
+    ensures known { KeepsKnown S.spans scene.old.world scene.new.world }
+    ensures sites { scene.new.sites ≡ scene.old.sites }
+    ensures slot { result.0 ≡ slot }
+{
+    let Slot { span, entry } = slot;
+    match entry {
+        Some(entry) => {
+            let entry = Some(entry);
+            (Slot { span, entry }, told::refused(alloc))
+        }
+        None => match scene.enter(at, &span) {
+            Ok(entry) => {
+                let entered = entry.is_some();
+                (Slot { span, entry }, told::done(alloc, entered))
+            }
+            Err(memory) => (Slot { span, entry: None }, Err(memory)),
+        },
+    }
+}
+
+// Exits the span of a handle that is entered.
+fn exit<S: Stack>(
+    alloc: Global,
+    scene: &mut Scene<S>,
+    slot: Slot,
+    at: u64,
+) -> (Slot, Result<String, Memory>)
+    requires order { InOrder S.spans S.kept S.is_whole scene.old }
+    requires held { IsHeld S.spans scene.old.sites scene.old.world slot }
+    ensures order { InOrder S.spans S.kept S.is_whole scene.new }
+    ensures known { KeepsKnown S.spans scene.old.world scene.new.world }
+    ensures sites { scene.new.sites ≡ scene.old.sites }
+    ensures slot { result.0 ≡ slot }
+{
+    let Slot { span, entry } = slot;
+    match entry {
+        Some(entry) => {
+            let entry = scene.exit(at, &span, entry);
+            let exited = entry.is_none();
+            (Slot { span, entry }, told::done(alloc, exited))
+        }
+        None => (Slot { span, entry: None }, told::refused(alloc)),
+    }
+}
+
+// A call that leaves entries.
+fn tell<S: Stack>(
+    alloc: Global,
+    scene: &mut Scene<S>,
+    span: &Span,
+    at: u64,
+    call: &str,
+    words: &str,
+) -> Result<String, Memory>
+    requires order { InOrder S.spans S.kept S.is_whole scene.old }
+    requires held { IsHeld S.spans scene.old.sites scene.old.world span.now }
+    ensures order { InOrder S.spans S.kept S.is_whole scene.new }
+    ensures known { KeepsKnown S.spans scene.old.world scene.new.world }
+    ensures sites { scene.new.sites ≡ scene.old.sites }
+{
+    match call {
+        "record" => scene.record(at, span, &words::values(alloc, words)?)?,
+        "event" => event(alloc, scene, span, at, words)?,
+        "link" => scene.link(at, span, words::ids(words))?,
+        "status" => scene.set_status(at, span, words::status(alloc, words)?),
+        _ => return ask(alloc, scene, span, at, call, words),
+    }
+    told::done(alloc, true)
+}
+
+// An event of the words `SITE VALUES`.
+fn event<S: Stack>(
+    alloc: Global,
+    scene: &mut Scene<S>,
+    span: &Span,
+    at: u64,
+    words: &str,
+) -> Result<(), Memory>
+    requires order { InOrder S.spans S.kept S.is_whole scene.old }
+    requires held { IsHeld S.spans scene.old.sites scene.old.world span.now }
+    ensures order { InOrder S.spans S.kept S.is_whole scene.new }
+    ensures known { KeepsKnown S.spans scene.old.world scene.new.world }
+    ensures sites { scene.new.sites ≡ scene.old.sites }
+{
+    let (site, words) = words.split_once(' ').unwrap_or((words, ""));
+    let values = words::values(alloc, words)?;
+    if let Some(site) = scene.site_at(words::number(site).unwrap_or(0)) {
+        if scene.admits(site) {
+            scene.event(at, span, site, &values)?;
+        }
+    }
+    Ok(())
+}
+
+// A call that answers something.
+fn ask<S: Stack>(
+    alloc: Global,
+    scene: &mut Scene<S>,
+    span: &Span,
+    at: u64,
+    call: &str,
+    words: &str,
+) -> Result<String, Memory>
+    requires order { InOrder S.spans S.kept S.is_whole scene.old }
+    requires held { IsHeld S.spans scene.old.sites scene.old.world span.now }
+    ensures order { InOrder S.spans S.kept S.is_whole scene.new }
+    ensures known { KeepsKnown S.spans scene.old.world scene.new.world }
+    ensures sites { scene.new.sites ≡ scene.old.sites }
+{
+    match call {
+        "context" => {
+            let own = scene.context(at, span).span_context();
+            let (trace, id) = (own.trace, own.span);
+            Ok(format!(in alloc; "  context {trace} {id}\n")?)
+        }
+        "parent" => {
+            let context = Context {
+                span: Some(words::ids(words)),
+            };
+            match scene.set_parent(at, span, context) {
+                Ok(()) => told::done(alloc, true),
+                Err(error) => Ok(format!(in alloc; "  {error}\n")?),
+            }
+        }
+        _ => told::refused(alloc),
+    }
+}

@@ -1,0 +1,162 @@
+//! A world with one stack, and the calls that are made in it.
+ghost use Rattle.std.specs.Prelude.{◌≡◌, ◌<◌, ◌≤◌, ℕ, true, length, Some, None, IfOk, IfSome, IsTrue};
+ghost use Rattle.trace_base.specs.Conditions.{HasFewHolds};
+ghost use Rattle.trace_base.specs.Spans.{entries_on, is_in};
+ghost use Rattle.span_registry.specs.Registering.{no_spans};
+ghost use Rattle.span_handles.specs.Handles.{IsKnown, HasOn, IsOf};
+ghost use Rattle.span_handles.specs.Knowing.{KeepsKnown, KeepsOthers};
+ghost use Rattle.explain_stack.specs.Order.{InOrder, IsHeld};
+
+use crate::stack::Stack;
+use crate::told;
+use otel_base::memory::Memory;
+use otel_base::stack::ContextStack;
+use span_handles::span::Span;
+use span_registry::registry::Registry;
+use std::alloc::Global;
+use trace_base::callsite::SiteId;
+use trace_base::discard::Discard;
+use trace_base::dispatcher::Dispatch;
+use trace_base::lane::Lane;
+use trace_base::span::Id;
+use trace_base::subscriber::Subscriber;
+use trace_base::world::World;
+
+/// A world with one stack, and the lane on which all calls are made.
+pub struct Scene<S> {
+    pub(crate) world: World<S>,
+    pub(crate) lane: Lane,
+    pub(crate) dispatch: Dispatch,
+    // At least as many as were made.
+    pub(crate) made: u64,
+    pub(crate) sites: u64,
+}
+
+impl<S: Stack> Scene<S> {
+    /// The stack, which knows no span, in a world that has as many callsites and nothing else.
+    pub fn new(alloc: Global, mut world: World<S>, sites: u64, stack: S) -> Result<Scene<S>, Memory>
+        requires whole { S.is_whole stack }
+        requires spans { S.spans stack ≡ no_spans }
+        requires kept { (lane number : ℕ) → S.kept stack lane number ≡ 0 }
+        requires empty { length world.subscribers ≡ 0 }
+        ensures { IfOk result (λ scene. InOrder S.spans S.kept S.is_whole scene) }
+    {
+        let sites = declared(&world, sites);
+        match world.add(stack) {
+            Ok(dispatch) => Ok(Scene {
+                world,
+                lane: Lane {
+                    id: 1,
+                    name: None,
+                    default: Some(dispatch),
+                    contexts: ContextStack::new(alloc),
+                },
+                dispatch,
+                made: 0,
+                sites,
+            }),
+            Err((stack, memory)) => {
+                stack.discard();
+                world.discard();
+                Err(memory)
+            }
+        }
+    }
+
+    /// The callsite of a number, if there is one.
+    pub fn site_at(&self, place: u64) -> Option<SiteId>
+        ensures { IfSome result (λ site. site < self.now.sites) }
+    {
+        if place < self.sites {
+            self.world.site_at(place)
+        } else {
+            None
+        }
+    }
+
+    /// Whether the stack takes what a callsite makes.
+    pub fn admits(&self, site: SiteId) -> bool
+        requires order { InOrder S.spans S.kept S.is_whole self.now }
+        requires site { site < self.now.sites }
+    {
+        self.world.admits(&self.lane, site)
+    }
+
+    /// The records that the stack's recorder still has; the rest of the scene is given up.
+    pub fn end(self, alloc: Global) -> Result<String, Memory>
+        requires order { InOrder S.spans S.kept S.is_whole self }
+    {
+        let Scene {
+            mut world,
+            lane: _,
+            dispatch,
+            made: _,
+            sites: _,
+        } = self;
+        let told = records(alloc, world.subscriber_mut(dispatch));
+        world.discard();
+        told
+    }
+
+    /// Whether a span may be held once more.
+    pub(crate) fn has_room(&self, span: &Span) -> bool
+        requires order { InOrder S.spans S.kept S.is_whole self.now }
+        ensures own { IsTrue result → IsOf span.now.held self.now.dispatch }
+        ensures few { IsTrue result
+            → HasOn (λ s id. HasFewHolds (S.spans s).made id) self.now.world span.now.held }
+    {
+        match span.with_subscriber(|held| held) {
+            None => true,
+            Some((id, dispatch)) => {
+                let registry = self.world.subscriber(self.dispatch).registry();
+                dispatch == self.dispatch && registry.holds(id) < 1000
+            }
+        }
+    }
+
+    /// Whether an entry of a span is open on the lane.
+    pub(crate) fn is_open(&self, span: &Span) -> bool
+        requires order { InOrder S.spans S.kept S.is_whole self.now }
+        ensures { IsTrue result
+            → HasOn (λ s id. is_in id (entries_on self.now.lane.id (S.spans s).lanes) ≡ true) self.now.world
+            span.now.held }
+    {
+        match span.with_subscriber(|held| held) {
+            None => true,
+            Some((id, dispatch)) => {
+                let registry = self.world.subscriber(self.dispatch).registry();
+                dispatch == self.dispatch && has_entry(registry, self.lane.id, id)
+            }
+        }
+    }
+}
+
+// So many callsites, if the world has them.
+fn declared<S: Subscriber>(world: &World<S>, sites: u64) -> u64
+    ensures { result ≤ length world.now.sites }
+{
+    if sites > 0 && world.site_at(sites - 1).is_some() {
+        sites
+    } else {
+        0
+    }
+}
+
+// Whether an entry of a span is open on a lane.
+fn has_entry(registry: &Registry, lane: u64, id: Id) -> bool
+    ensures { result ≡ is_in id (entries_on lane registry.now.spans.lanes) }
+{
+    registry.entries(lane).iter().any(|open| *open == id)
+}
+
+// The records that are left.
+fn records<S: Stack>(alloc: Global, stack: &mut S) -> Result<String, Memory> {
+    let mut told = String::new(alloc);
+    for _ in 0..100 {
+        let Some(record) = stack.take() else {
+            break;
+        };
+        told.push_str(told::record(alloc, &record)?.as_str())?;
+    }
+    Ok(told)
+}

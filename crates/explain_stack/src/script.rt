@@ -1,0 +1,105 @@
+//! Scripts: a stack, callsites, and calls.
+ghost use Rattle.std.specs.Prelude.{◌≡◌, ℕ, [], length};
+ghost use Rattle.span_registry.specs.Registering.{no_spans};
+ghost use Rattle.explain_stack.specs.Order.{InOrder};
+ghost use Rattle.explain_stack.specs.Places.{AreHeld};
+
+use crate::handles::Handles;
+use crate::scene::Scene;
+use crate::stack::Stack;
+use crate::{play, words};
+use env_filter::filter::EnvFilter;
+use otel_base::memory::Memory;
+use otel_base::recorder::Recorder;
+use otel_layer::layer::OpenTelemetryLayer;
+use span_registry::registry::Registry;
+use std::alloc::Global;
+use trace_base::discard::Discard;
+use trace_base::world::World;
+
+/// Runs the lines of a script on the stack of some words, and tells each line and what came of it.
+pub fn run(alloc: Global, stack: &str, lines: &[String]) -> Result<String, Memory> {
+    let (kind, words) = stack.split_once(' ').unwrap_or((stack, ""));
+    let filter = EnvFilter::new(alloc, words)?;
+    let layer = OpenTelemetryLayer::new(alloc, Recorder::new(alloc));
+    let registry = Registry::new(alloc);
+    match kind {
+        "layer" => run_on(alloc, registry.with(layer), lines),
+        "passive" => {
+            let layer = layer.with_context_activation(false);
+            run_on(alloc, registry.with(layer), lines)
+        }
+        "counting" => {
+            let layer = layer.with_counting_event_filter(filter);
+            run_on(alloc, registry.with(layer), lines)
+        }
+        "filtered" => run_on(alloc, registry.with(layer).with(filter), lines),
+        _ => {
+            layer.discard();
+            run_on(alloc, registry, lines)
+        }
+    }
+}
+
+// Runs them on a stack that knows no span.
+fn run_on<S: Stack>(alloc: Global, stack: S, lines: &[String]) -> Result<String, Memory>
+    requires whole { S.is_whole stack }
+    requires spans { S.spans stack ≡ no_spans }
+    requires kept { (lane number : ℕ) → S.kept stack lane number ≡ 0 }
+{
+    let mut world = World::new(alloc);
+    let sites = match declare(alloc, &mut world, lines) {
+        Ok(sites) => sites,
+        Err(memory) => {
+            world.discard();
+            stack.discard();
+            return Err(memory);
+        }
+    };
+    let mut scene = Scene::new(alloc, world, sites, stack)?;
+    let mut handles = Handles::new();
+    let told = play(alloc, &mut scene, &mut handles, lines);
+    handles.discard();
+    let records = scene.end(alloc);
+    let mut told = told?;
+    told.push_str(records?.as_str())?;
+    Ok(told)
+}
+
+// Adds the callsites of the lines `site LEVEL NAME FIELD ..` to a world, and answers how many there are.
+fn declare<S: Stack>(alloc: Global, world: &mut World<S>, lines: &[String]) -> Result<u64, Memory>
+    requires { length world.old.subscribers ≡ 0 }
+    ensures { length world.new.subscribers ≡ 0 }
+{
+    let mut sites = 0;
+    for line in lines {
+        if let Some(words) = line.as_str().strip_prefix("site ") {
+            if let Some(callsite) = words::callsite(alloc, words)? {
+                sites = world.add_site(callsite)?.number().wrapping_add(1);
+            }
+        }
+    }
+    Ok(sites)
+}
+
+// Makes the calls of the other lines.
+fn play<S: Stack>(
+    alloc: Global,
+    scene: &mut Scene<S>,
+    handles: &mut Handles,
+    lines: &[String],
+) -> Result<String, Memory>
+    requires order { InOrder S.spans S.kept S.is_whole scene.old }
+    requires held { AreHeld S.spans scene.old.sites scene.old.world handles.old }
+    ensures { InOrder S.spans S.kept S.is_whole scene.new }
+{
+    let mut told = String::new(alloc);
+    for line in lines {
+        told.push_str(line.as_str())?;
+        told.push_str("\n")?;
+        if !line.as_str().starts_with("site ") && !line.as_str().starts_with('#') {
+            told.push_str(play::answer(alloc, scene, handles, line.as_str())?.as_str())?;
+        }
+    }
+    Ok(told)
+}

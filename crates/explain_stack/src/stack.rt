@@ -1,0 +1,95 @@
+//! Stacks of layers over a registry.
+ghost use Rattle.std.specs.Prelude.{◌≡◌};
+
+use env_filter::filter::EnvFilter;
+use otel_base::record::Record;
+use otel_base::recorder::Recorder;
+use otel_base::tracer::Tracer;
+use otel_layer::counting::FilteredOpenTelemetryLayer;
+use otel_layer::layer::OpenTelemetryLayer;
+use otel_layer::part::OtelSubscriber;
+use span_registry::layered::Layered;
+use span_registry::registry::Registry;
+use trace_base::discard::Discard;
+use trace_base::filter::Filter;
+
+/// A stack over a registry, which may have an OpenTelemetry layer over a recorder.
+pub trait Stack: OtelSubscriber + Discard {
+    /// The registry at its bottom.
+    fn registry(&self) -> &Registry
+        ensures { result.now.spans ≡ Self.Subscriber.spans self.now };
+
+    /// Takes out the oldest record that its recorder still has; none where there is none.
+    fn take(&mut self) -> Option<Record>;
+
+    /// The filter that it has, if it has one.
+    fn filter(&self) -> Option<&EnvFilter>;
+}
+
+/// A tracer that may keep records until they are taken.
+pub trait Taken: Tracer {
+    /// Takes out the oldest one; none where it has none.
+    fn take_one(&mut self) -> Option<Record>;
+}
+
+impl Taken for Recorder {
+    fn take_one(&mut self) -> Option<Record> {
+        self.take()
+    }
+}
+
+impl Stack for Registry {
+    fn registry(&self) -> &Registry {
+        self
+    }
+
+    fn take(&mut self) -> Option<Record> {
+        None
+    }
+
+    fn filter(&self) -> Option<&EnvFilter> {
+        None
+    }
+}
+
+impl<T: Taken + Drop> Stack for Layered<OpenTelemetryLayer<T>, Registry> {
+    fn registry(&self) -> &Registry {
+        self.inner()
+    }
+
+    fn take(&mut self) -> Option<Record> {
+        self.layer_mut().tracer_mut().take_one()
+    }
+
+    fn filter(&self) -> Option<&EnvFilter> {
+        None
+    }
+}
+
+impl<F: Filter + Drop> Stack for Layered<FilteredOpenTelemetryLayer<Recorder, F>, Registry> {
+    fn registry(&self) -> &Registry {
+        self.inner()
+    }
+
+    fn take(&mut self) -> Option<Record> {
+        self.layer_mut().tracer_mut().take()
+    }
+
+    fn filter(&self) -> Option<&EnvFilter> {
+        None
+    }
+}
+
+impl<S: Stack> Stack for Layered<EnvFilter, S> {
+    fn registry(&self) -> &Registry {
+        self.inner().registry()
+    }
+
+    fn take(&mut self) -> Option<Record> {
+        self.inner_mut().take()
+    }
+
+    fn filter(&self) -> Option<&EnvFilter> {
+        Some(self.layer())
+    }
+}

@@ -1,0 +1,69 @@
+//! The lines that tell what became of a span.
+use otel_base::memory::Memory;
+use otel_base::record::Record;
+use otel_base::status::Status;
+use otel_base::value::{KeyValue, OtelValue};
+use std::alloc::Global;
+
+/// A record: ids, times, and behind them its status, links, events and attributes, each on a line of its own.
+pub fn record(alloc: Global, record: &Record) -> Result<String, Memory> {
+    let (id, trace, parent) = (record.context.span, record.context.trace, record.parent);
+    let (name, start, end) = (record.name.as_str(), record.start, record.end);
+    let mut told = format!(in alloc;
+        "  record {id} `{name}` in {trace} under {parent}, {start} to {end}\n"
+    )?;
+    told.push_str(status(alloc, &record.status)?.as_str())?;
+    for link in record.links.as_slice() {
+        let (trace, span) = (link.context.trace, link.context.span);
+        told.push_str(format!(in alloc; "    link {trace} {span}\n")?.as_str())?;
+    }
+    for event in record.events.as_slice() {
+        let (name, time) = (event.name.as_str(), event.time);
+        told.push_str(format!(in alloc; "    event `{name}` at {time}\n")?.as_str())?;
+    }
+    for pair in record.attributes.as_slice() {
+        told.push_str(attribute(alloc, pair)?.as_str())?;
+    }
+    Ok(told)
+}
+
+fn status(alloc: Global, status: &Status) -> Result<String, Memory> {
+    match status {
+        Status::Unset => Ok(String::new(alloc)),
+        Status::Error { description } => {
+            let description = description.as_str();
+            Ok(format!(in alloc; "    error `{description}`\n")?)
+        }
+        Status::Ok => Ok(String::from_str(alloc, "    ok\n")?),
+    }
+}
+
+fn attribute(alloc: Global, pair: &KeyValue) -> Result<String, Memory> {
+    let key = pair.key.as_str();
+    match &pair.value {
+        OtelValue::Bool(value) => Ok(format!(in alloc; "    {key} {value}\n")?),
+        OtelValue::I64(value) => Ok(format!(in alloc; "    {key} {value}\n")?),
+        OtelValue::Str(value) => {
+            let value = value.as_str();
+            Ok(format!(in alloc; "    {key} `{value}`\n")?)
+        }
+        OtelValue::List(values) => {
+            let count = values.as_slice().len();
+            Ok(format!(in alloc; "    {key} of {count} texts\n")?)
+        }
+    }
+}
+
+/// A line that is no call, or one that can't be made now.
+pub fn refused(alloc: Global) -> Result<String, Memory> {
+    Ok(String::from_str(alloc, "  refused\n")?)
+}
+
+/// That a call was made, if it was.
+pub fn done(alloc: Global, done: bool) -> Result<String, Memory> {
+    if done {
+        Ok(String::from_str(alloc, "  done\n")?)
+    } else {
+        refused(alloc)
+    }
+}

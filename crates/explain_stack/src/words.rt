@@ -1,0 +1,78 @@
+//! What the words of a line name.
+use otel_base::context::SpanContext;
+use otel_base::list::Items;
+use otel_base::memory::Memory;
+use otel_base::status::Status;
+use otel_base::text::Text;
+use std::alloc::Global;
+use trace_base::callsite::{Callsite, Kind};
+use trace_base::field::{Value, ValueSet};
+use trace_base::level::Level;
+
+/// The number that a word spells, if it does.
+pub fn number(word: &str) -> Option<u64> {
+    let number = word.parse::<u32>().ok()?;
+    Some(number as u64)
+}
+
+/// The callsite of the words `LEVEL NAME FIELD ..`; none where they aren't such words.
+pub fn callsite(alloc: Global, words: &str) -> Result<Option<Callsite>, Memory> {
+    let Some((level, rest)) = words.split_once(' ') else {
+        return Ok(None);
+    };
+    let Ok(level) = level.parse::<Level>() else {
+        return Ok(None);
+    };
+    let (name, names) = rest.split_once(' ').unwrap_or((rest, ""));
+    let mut fields = Items::new(alloc);
+    for field in names.split(' ') {
+        if !field.is_empty() {
+            fields.push(text(alloc, field)?)?;
+        }
+    }
+    Ok(Some(Callsite {
+        name: text(alloc, name)?,
+        target: text(alloc, "app")?,
+        level,
+        kind: Kind::Span,
+        file: None,
+        module_path: None,
+        line: None,
+        fields,
+    }))
+}
+
+/// The values of words `PLACE=NUMBER` for the fields of a callsite; other words are left out.
+pub fn values(alloc: Global, words: &str) -> Result<ValueSet, Memory> {
+    let mut pairs = Items::new(alloc);
+    for word in words.split(' ') {
+        let (place, value) = word.split_once('=').unwrap_or((word, ""));
+        if let Some(place) = number(place) {
+            pairs.push((place as usize, Value::Str(text(alloc, value)?)))?;
+        }
+    }
+    Ok(ValueSet { pairs })
+}
+
+/// The ids of the words `TRACE SPAN`, 0 where there are none.
+pub fn ids(words: &str) -> SpanContext {
+    let (trace, span) = words.split_once(' ').unwrap_or((words, ""));
+    SpanContext {
+        trace: u128::from(number(trace).unwrap_or(0)),
+        span: number(span).unwrap_or(0),
+    }
+}
+
+/// The status of a word: `ok`, or the description of an error.
+pub fn status(alloc: Global, word: &str) -> Result<Status, Memory> {
+    if word == "ok" {
+        return Ok(Status::Ok);
+    }
+    let description = text(alloc, word)?;
+    Ok(Status::Error { description })
+}
+
+/// A text of a word.
+pub fn text(alloc: Global, word: &str) -> Result<Text, Memory> {
+    Ok(Text::from(String::from_str(alloc, word)?))
+}
