@@ -5,6 +5,7 @@ use Rattle.std.specs.Option.{option_to_list}
 use Rattle.std.proofs.lemmas.Bool.{eq-eqb, eqb-true}
 use Rattle.std.proofs.lemmas.Bool.Decides.{nat_tests}
 use Rattle.otel_base.specs.declared.context.Context.{Context}
+use Rattle.otel_base.specs.Ids.{ids_of, is_valid}
 use Rattle.otel_state.specs.declared.op.Op.{Op}
 use Rattle.otel_state.specs.declared.op.Op.TheVariants as ops
 use Rattle.otel_state.specs.declared.settings.LayerSettings.{LayerSettings}
@@ -14,13 +15,14 @@ use Rattle.otel_state.specs.Deeds.{deed}
 use Rattle.otel_state.specs.EventFields.{event_of}
 use Rattle.otel_state.specs.FirstAttributes.{first_attributes}
 use Rattle.otel_state.specs.SpanFields.{span_update}
+use Rattle.otel_layer.specs.Asking.{link_of, event_at}
 use Rattle.otel_layer.specs.Recording.{Recording, started_under, with_starts}
 use Rattle.otel_layer.specs.Steps.{above, made_told}
 use Rattle.otel_layer.specs.Table.{told_at, waits}
 use Rattle.trace_base.specs.declared.callsite.Callsite.{Callsite}
 use Rattle.trace_base.specs.declared.field.ValueSet.{ValueSet}
 use Rattle.trace_base.specs.declared.lane.Lane.{Lane}
-use Rattle.trace_base.specs.Level.{is_within}
+use Rattle.trace_base.specs.Hooks.{Hook}
 use Rattle.trace_base.specs.Spans.{is_in, current_of}
 use Rattle.span_pipeline.specs.declared.request.Request.{Request}
 use Rattle.span_pipeline.specs.declared.request.Place.{Place}
@@ -36,7 +38,8 @@ use Rattle.span_pipeline.specs.declared.reply.What.TheVariants as what
 use Rattle.span_pipeline.specs.Setups.{Setup, id_at, span_site, event_site}
 use Rattle.span_pipeline.specs.Tables.{Scope, Made, Done, Guarded, Effect, Tables, with_new, either_after, slot_at, own}
 use Rattle.span_pipeline.specs.Fields.{Fields, all_values, values_of}
-use Rattle.span_pipeline.specs.Effects.{Resolved, named, is_open, holds, closed_of, is_borrowed, scope_at, parent_at, lane_in, made_at, makes_span, declines, clones, drops, current_scope, scope_or_current, exchanges, on, active, enters, meets_full, opens, exits, exits_on, is_shared, if_told, callsite_of, updates, tells, is_full, gives, own_context, attaches, detaches, is_bad_moment, effect_of, effect_of_call}
+use Rattle.span_pipeline.specs.Effects.{Resolved, named, is_open, holds, closed_of, is_borrowed, scope_at, parent_at, lane_in, made_at, makes_span, declines, clones, drops, current_scope, scope_or_current, exchanges, on, active, enters, meets_full, opens, exits, exits_on, is_shared, if_told, callsite_of, updates, tells, is_full, gives, own_context, attaches, detaches, follows, happens_at, is_bad_moment, effect_of, effect_of_call, admitted, reloads, reloads_if, heard_values}
+use Rattle.span_pipeline.specs.Admission.{TextRead, text_read}
 use Rattle.span_laws.specs.Closes.{is_drop}
 use Rattle.span_laws.specs.Laws.{occurrences}
 use Rattle.span_laws.specs.Records.{Began}
@@ -293,6 +296,30 @@ module _ (setup : Setup) (t : Tables) (fit : IsFit setup.layer t) where
   told : (at lane : ℕ) (answer : Reply) (done : List Done) → AllByRecursion (IsReached t.handles) done → AllByRecursion IsCalm done → Step at false (tells at lane answer done)
   told at lane answer done reached calm = record { moment = refl; names = no_name; enters = no_entry; spends = no_spending; begins = tt; starts = tt; reached = reached; turns = calm; closing = λ no. refl }
 
+  -- one op on a known scope's own span
+  one_told : (at lane : ℕ) (answer : Reply) (scope : Scope) (op : Op) → IsKnown t.handles scope → (deed op).own ≡ None → (deed op).enters ≡ false → (deed op).exits ≡ false → Step at false (tells at lane answer (on scope op))
+  one_told at lane answer scope op known unstarted unentered unleft = told at lane answer (on scope op) (on_reached scope op known unstarted) (on_calm scope op unentered unleft)
+
+  -- the followed span starts, and the other one is linked
+  follower : (at lane : ℕ) (scope from : Scope) → IsKnown t.handles scope → IsKnown t.handles from → Step at false (follows t at lane scope from)
+  follower at lane [] from known other = told at lane reply.Done [] tt tt
+  follower at lane (s ∷ up) [] known other = told at lane reply.Done [] tt tt
+  follower at lane (s ∷ up) (f ∷ above) known other = (let op = link_of (ids_of (own_context t.recording at (f ∷ above))) [] in record {
+    moment = refl;
+    names = no_name;
+    enters = no_entry;
+    spends = no_spending;
+    begins = tt;
+    starts = (own_open (f ∷ above) other f above refl, tt);
+    reached = on_reached (s ∷ up) op known refl;
+    turns = on_calm (s ∷ up) op refl refl;
+    closing = λ no. refl;
+  })
+
+  -- what a filter hears, or which is put in force, is no part of a step
+  heard : (at : ℕ) (e : Effect) (text : Option (List ℕ)) (hooks : List Hook) → Step at false e → Step at false (record e { filter = text; heard = hooks })
+  heard at e text hooks s = record { moment = s.moment; names = s.names; enters = s.enters; spends = s.spends; begins = s.begins; starts = s.starts; reached = s.reached; turns = s.turns; closing = s.closing }
+
   given : (at lane : ℕ) (starting : Option ℕ) (context : Context) → Open (option_to_list starting) → Step at false (gives t at lane starting context)
   given at lane starting context held = record { moment = refl; names = no_name; enters = no_entry; spends = no_spending; begins = tt; starts = held; reached = tt; turns = tt; closing = λ no. refl }
 
@@ -348,7 +375,7 @@ module _ (setup : Setup) (t : Tables) (fit : IsFit setup.layer t) where
       let up = found what.Handle (scope_at t (id_at setup.ids lane) under) _ e callsite.2 in
       let values = found what.Field (all_values callsite.0 fields) _ e up.2 in
       subst (Step at false) (the_effect _ e values.2)
-      (if_both at (is_within callsite.0.level setup.level) _ _
+      (if_both at (admitted setup t (id_at setup.ids lane) callsite.0) _ _
       (made_span at lane site callsite.0 values.0 under up.0 (known_place (id_at setup.ids lane) under up.0 up.1)) (declined at (id_at setup.ids lane)))
   by_call at lane (call.Clone handle) e is =
       let there = found what.Handle (slot_at t.handles handle) _ e is in
@@ -378,7 +405,7 @@ module _ (setup : Setup) (t : Tables) (fit : IsFit setup.layer t) where
       let reached = found what.Handle (scope_at t (id_at setup.ids lane) under) _ e there.2 in
       let values = found what.Field (all_values there.0 fields) _ e reached.2 in
       let op = event_of there.0 values.0 setup.layer at in
-      let enabled = is_within there.0.level setup.level in
+      let enabled = admitted setup t (id_at setup.ids lane) there.0 in
       let known = known_place (id_at setup.ids lane) under reached.0 reached.1 in
       subst (Step at false) (the_effect _ e values.2)
       (told at (id_at setup.ids lane) (reply.Enabled enabled) _ (event_reached enabled reached.0 op known refl) (event_calm enabled reached.0 op refl refl))
@@ -386,7 +413,8 @@ module _ (setup : Setup) (t : Tables) (fit : IsFit setup.layer t) where
       let there = found what.Handle (slot_at t.handles handle) _ e is in
       let callsite = callsite_of setup t there.0 in
       subst (Step at false) (the_effect _ e there.2)
-      (told at (id_at setup.ids lane) reply.Done _ (updates_reached there.0 fields callsite (of_handle handle there.0 there.1)) (updates_calm there.0 fields callsite))
+      (heard at (tells at (id_at setup.ids lane) reply.Done (updates setup.layer there.0 fields callsite)) None (heard_values at there.0 fields callsite)
+      (told at (id_at setup.ids lane) reply.Done _ (updates_reached there.0 fields callsite (of_handle handle there.0 there.1)) (updates_calm there.0 fields callsite)))
   by_call at lane (call.HasField handle name) e is =
       let there = found what.Handle (slot_at t.handles handle) _ e is in
       subst (Step at false) (the_effect _ e there.2) (told at (id_at setup.ids lane) (reply.Has _) [] tt tt)
@@ -402,6 +430,38 @@ module _ (setup : Setup) (t : Tables) (fit : IsFit setup.layer t) where
       let there = found what.Guard (slot_at t.attaches guard) _ e is in
       let mine = allowed (there.0 == lane) (refusal.WrongLane there.0) (Ok (detaches at (id_at setup.ids lane) guard)) e there.2 in
       subst (Step at false) (the_effect _ e mine.1) (detached at (id_at setup.ids lane) guard)
+  by_call at lane (call.Follows handle from) e is =
+      let there = found what.Handle (slot_at t.handles handle) _ e is in
+      let followed = found what.Handle (slot_at t.handles from) _ e there.2 in
+      subst (Step at false) (the_effect _ e followed.2) (follower at (id_at setup.ids lane) there.0 followed.0 (of_handle handle there.0 there.1) (of_handle from followed.0 followed.1))
+  by_call at lane (call.SetParent handle context) e is =
+      let there = found what.Handle (slot_at t.handles handle) _ e is in
+      let given = found what.Context (slice_get t.named context) _ e there.2 in
+      subst (Step at false) (the_effect _ e given.2) (one_told at (id_at setup.ids lane) _ there.0 (ops.SetParent given.0) (of_handle handle there.0 there.1) refl refl refl)
+  by_call at lane (call.AddLink handle context attributes) e is =
+      let there = found what.Handle (slot_at t.handles handle) _ e is in
+      let given = found what.Context (slice_get t.named context) _ e there.2 in
+      let op = link_of (ids_of given.0) attributes in
+      let valid = is_valid (ids_of given.0) in
+      let known = of_handle handle there.0 there.1 in
+      subst (Step at false) (the_effect _ e given.2) (told at (id_at setup.ids lane) reply.Done _ (event_reached valid there.0 op known refl) (event_calm valid there.0 op refl refl))
+  by_call at lane (call.SetAttribute handle key value) e is =
+      let there = found what.Handle (slot_at t.handles handle) _ e is in
+      subst (Step at false) (the_effect _ e there.2) (one_told at (id_at setup.ids lane) _ there.0 (ops.SetAttribute (record { key = key; value = value })) (of_handle handle there.0 there.1) refl refl refl)
+  by_call at lane (call.SetStatus handle status) e is =
+      let there = found what.Handle (slot_at t.handles handle) _ e is in
+      subst (Step at false) (the_effect _ e there.2) (one_told at (id_at setup.ids lane) _ there.0 (ops.SetStatus status) (of_handle handle there.0 there.1) refl refl refl)
+  by_call at lane (call.AddEvent handle name attributes time) e is =
+      let there = found what.Handle (slot_at t.handles handle) _ e is in
+      subst (Step at false) (the_effect _ e there.2) (one_told at (id_at setup.ids lane) _ there.0 (event_at name (happens_at at time) attributes) (of_handle handle there.0 there.1) refl refl refl)
+  by_call at lane (call.Enabled site) e is =
+      let there = found what.Site (slice_get setup.sites site) _ e is in
+      subst (Step at false) (the_effect _ e there.2) (told at (id_at setup.ids lane) (reply.Enabled _) [] tt tt)
+  by_call at lane (call.Reload text) e is = by_read (text_read text) is
+    where
+      by_read : (r : TextRead) → reloads_if at (id_at setup.ids lane) text r ≡ Ok e → Step at false e
+      by_read (Ok ds) read = subst (Step at false) (the_effect _ e read) (heard at (tells at (id_at setup.ids lane) reply.Done []) (Some text) [] (told at (id_at setup.ids lane) reply.Done [] tt tt))
+      by_read (Err piece) read = absurd (cc read)
 
   pub step_of : (request : Request) (e : Effect) → effect_of setup t request ≡ Ok e → IsTimed t.moment e.at × IsStep setup t request.at (is_drop request.call) e
   step_of request e is =

@@ -4,6 +4,7 @@
 pub mod attributes;
 pub mod chains;
 pub mod contents;
+pub mod filters;
 pub mod ids;
 pub mod laws;
 pub mod times;

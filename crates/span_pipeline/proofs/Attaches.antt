@@ -8,7 +8,6 @@ use Rattle.otel_base.specs.declared.enter_error.EnterError.{EnterError}
 use Rattle.otel_base.specs.declared.enter_error.EnterError.TheVariants as errors
 use Rattle.otel_base.specs.Stack.{has}
 use Rattle.trace_base.specs.declared.lane.Lane.{Lane}
-use Rattle.trace_base.specs.declared.level.LevelFilter.{LevelFilter}
 use Rattle.trace_base.specs.Gate.{Worlds}
 use Rattle.trace_base.specs.Spans.{Spans}
 use Rattle.trace_base.proofs.Entering.{count_push}
@@ -18,7 +17,6 @@ use Rattle.span_handles.specs.Handles.{Handle}
 use Rattle.span_pipeline.specs.declared.contexts.Attach.{Attach}
 use Rattle.span_pipeline.specs.declared.slots.Guard.{Guard}
 use Rattle.span_pipeline.specs.declared.reply.Refusal.{Refusal}
-use Rattle.span_pipeline.specs.declared.reply.Refusal.TheVariants as refusal
 use Rattle.span_pipeline.specs.declared.reply.Reply.TheVariants as reply
 use Rattle.span_pipeline.specs.declared.reply.What.TheVariants as what
 use Rattle.span_pipeline.specs.declared.request.Call.TheVariants as call
@@ -27,11 +25,12 @@ use Rattle.span_pipeline.specs.Setups.{id_at}
 use Rattle.span_pipeline.specs.Tables.{GuardOf, Attached, Guarded, Effect, Tables, slot_at, with_attached}
 use Rattle.span_pipeline.specs.Effects.{Resolved, named, effect_of_call, is_full, enters_unless, attaches}
 use Rattle.span_pipeline.specs.Balance.{Balanced, Opened, named_by, opened_by}
-use Rattle.span_pipeline.specs.Fits.{Named, State, state_of, Laned, laned, lane_at, lane_of, StandsFor, AllContextsFit, IsKept, Served, is_room}
+use Rattle.span_pipeline.specs.Fits.{Views, Named, State, state_of, Laned, laned, lane_at, lane_of, StandsFor, AllContextsFit, IsKept, Served, is_room}
 use Rattle.span_pipeline.proofs.Balancing.{quiet_guard}
 use Rattle.span_pipeline.proofs.Keeping.{lane_seen, lanes_same, same_lane, id_seen, ids_same, names_same, are_attached, lanes_after}
 use Rattle.span_pipeline.proofs.Laned.{all_attached}
 use Rattle.span_pipeline.proofs.Naming.{named_push}
+use Rattle.span_pipeline.proofs.Filtering.{heard_none}
 use Rattle.span_pipeline.proofs.Serving.{serve, known_still, kept_served}
 use Rattle.span_pipeline.proofs.Standing.{fits_step}
 
@@ -47,17 +46,17 @@ lives_there k t stands lanes are n before within here =
     ap (λ (l : Laned). length l.live) (sym seen_at) ∙ sym (length-map (lane_at k.lanes n).live (λ (x : ℕ × Context). x.1)) ∙ ap length fit.contexts
     ∙ length-map (t.contexts (lane_at k.lanes n).id) (λ (a : Attached). a.context) ∙ ap (λ (l : Laned). length (t.contexts l.id)) seen_at
 
-module _ {S : Type 0} (spans : S → Spans) (recorded : S → Recording) (kept : S → ℕ → ℕ → ℕ) (is_whole : S → Type 0) (world : Worlds S)
-    (dispatch : ℕ) (level : LevelFilter) (lanes : List Lane) (hs : List (Option Handle)) (gs : List (Option Guard)) (cs : Named) (m at lane : ℕ) (before : Lane) (within : lane < length lanes) (here : before ≡ get_or lanes lane before)
-    (inv : IsKept kept is_whole world (state_of spans recorded world dispatch level lanes hs gs cs m)) (context : ℕ) (given : Context) (found : slice_get cs.made context ≡ Some given) where
+module _ {S : Type 0} (spans : S → Spans) (views : Views S) (kept : S → ℕ → ℕ → ℕ) (is_whole : S → Type 0) (world : Worlds S)
+    (dispatch : ℕ) (opening : List ℕ) (lanes : List Lane) (hs : List (Option Handle)) (gs : List (Option Guard)) (cs : Named) (m at lane : ℕ) (before : Lane) (within : lane < length lanes) (here : before ≡ get_or lanes lane before)
+    (inv : IsKept kept is_whole world (state_of spans views world dispatch opening lanes hs gs cs m)) (context : ℕ) (given : Context) (found : slice_get cs.made context ≡ Some given) where
   abbrev now : State
-  now = state_of spans recorded world dispatch level lanes hs gs cs m
+  now = state_of spans views world dispatch opening lanes hs gs cs m
 
   abbrev place_id : ℕ
   place_id = id_at now.setup.ids lane
 
   abbrev r : Recording
-  r = seen recorded no_recording world dispatch
+  r = seen views.recorded no_recording world dispatch
 
   id_is : before.id ≡ place_id
   id_is = id_seen lanes lane before within here
@@ -70,10 +69,10 @@ module _ {S : Type 0} (spans : S → Spans) (recorded : S → Recording) (kept :
 
   -- after a refusal what is kept is as it was
   module _ (later : Lane) (same_id : later.id ≡ before.id) (same_name : later.name ≡ before.name) (live : later.contexts.live ≡ before.contexts.live) (gs' : List (Option Guard)) (guards_same : gs' ≡ gs) (ks' : List (Option Attach)) (attaches_same : ks' ≡ cs.attaches) where
-    pub left_state : state_of spans recorded world dispatch level (set lanes lane later) hs gs' (record { made = cs.made; attaches = ks' }) m ≡ now
+    pub left_state : state_of spans views world dispatch opening (set lanes lane later) hs gs' (record { made = cs.made; attaches = ks' }) m ≡ now
     left_state = rw (lanes_same lanes lane before later within here (same_lane before later same_id live), ids_same lanes lane before later within here same_id, names_same lanes lane before later within here same_name, guards_same, attaches_same) refl
 
-    pub left_kept : IsKept kept is_whole world (state_of spans recorded world dispatch level (set lanes lane later) hs gs' (record { made = cs.made; attaches = ks' }) m)
+    pub left_kept : IsKept kept is_whole world (state_of spans views world dispatch opening (set lanes lane later) hs gs' (record { made = cs.made; attaches = ks' }) m)
     left_kept = subst (IsKept kept is_whole world) (sym left_state) inv
 
   -- a lane with as many contexts as may be
@@ -87,7 +86,7 @@ module _ {S : Type 0} (spans : S → Spans) (recorded : S → Recording) (kept :
   module _ (later : Lane) (same_id : later.id ≡ before.id) (same_name : later.name ≡ before.name) (number guard : ℕ) (many : guard ≡ length gs) (fresh : has number before.contexts.live ≡ false) (live : later.contexts.live ≡ before.contexts.live ++ (number, given) ∷ [])
       (room : length before.contexts.live ≡ 65534 → ⊥) (gs' : List (Option Guard)) (skip : gs' ≡ gs ++ None ∷ []) (cs' : Named) (made_same : cs'.made ≡ cs.made) (one : cs'.attaches ≡ cs.attaches ++ Some (record { lane = lane; attached = number }) ∷ []) where
     abbrev then : State
-    then = state_of spans recorded world dispatch level (set lanes lane later) hs gs' cs' at
+    then = state_of spans views world dispatch opening (set lanes lane later) hs gs' cs' at
 
     setup_same : then.setup ≡ now.setup
     setup_same = rw (ids_same lanes lane before later within here same_id, names_same lanes lane before later within here same_name) refl
@@ -130,10 +129,11 @@ module _ {S : Type 0} (spans : S → Spans) (recorded : S → Recording) (kept :
         }))
         (λ s some. known_still now then t e r.tokens refl stands.recording s refl some)
         (all_fit t stands)
+        (record { quiet = refl; before = seen views.filtered None world dispatch; later = seen views.filtered None world dispatch; shown_before = refl; shown_later = refl; told = heard_none (seen views.filtered None world dispatch); known = refl; cached = refl })
 
     pub keeps_attached : IsKept kept is_whole world then
     keeps_attached =
-        kept_served spans recorded (λ x. false) kept is_whole world world now then inv _ _ (serves_attached inv.tables (record { fits = inv.fits; recording = inv.recording })) refl refl (λ has. has)
+        kept_served spans views (λ x. false) kept is_whole world world now then inv _ _ (serves_attached inv.tables (record { fits = inv.fits; recording = inv.recording; filtering = inv.filtering })) refl refl (λ has. has)
         (lanes_after (kept_in kept world dispatch) (kept_in kept world dispatch) lanes lane before later within here inv.lanes same_id
         (λ n. (
         let still = are_attached (kept_in kept world dispatch) lanes lane before within here inv.lanes n in

@@ -1,10 +1,13 @@
 -- A pipeline without requests.
-use Rattle.std.proofs.Common.{◌≡◌, ℕ, ◌+◌, ◌<◌, List, [], ◌∷◌, ◌++◌, length, Bool, true, false, Option, Some, map, refl, sym, ap, subst, ◌∙◌, arith, zero, suc, slice_get}
+use Rattle.std.proofs.Common.{◌≡◌, ℕ, ◌+◌, ◌<◌, List, [], ◌∷◌, ◌++◌, length, Bool, true, false, Option, Some, None, option_map, map, refl, sym, ap, subst, ◌∙◌, arith, zero, suc, slice_get}
 use Rattle.std.proofs.lemmas.List.{length-map}
 use Rattle.trace_base.specs.declared.lane.Lane.{Lane}
 use Rattle.trace_base.specs.declared.callsite.Callsite.{Callsite}
-use Rattle.trace_base.specs.declared.level.LevelFilter.{LevelFilter}
-use Rattle.trace_base.specs.Gate.{Worlds, AreSame}
+use Rattle.trace_base.specs.Gate.{Worlds, AreSame, IsFresh}
+use Rattle.trace_base.specs.declared.subscriber.Interest.{Interest}
+use Rattle.env_filter.specs.Filtering.{Filtered, interest_in}
+use Rattle.span_pipeline.specs.Admission.{filter_if, text_filter, IsTextFilter}
+use Rattle.span_pipeline.proofs.Filtering.{cached_rows}
 use Rattle.trace_base.specs.Spans.{Spans, span_at}
 use Rattle.span_handles.specs.Worlds.{Has, Alike, Replaced, seen, spans_in, kept_in, no_spans}
 use Rattle.otel_state.specs.declared.settings.LayerSettings.{LayerSettings}
@@ -17,12 +20,12 @@ use Rattle.span_pipeline.specs.Tables.{Owner, EntryOf, GuardOf, no_tables, nothi
 use Rattle.otel_base.specs.declared.context.Context.{Context}
 use Rattle.otel_base.specs.Recorder.{Recorded}
 use Rattle.span_pipeline.proofs.Keeping.{SameRecorded}
-use Rattle.span_pipeline.specs.Fits.{Named, State, state_of, Fits, StandsFor, RecordingFits, numbers_by, ContextsFit, Laned, laned, lane_at, LanesFit, IsKept}
+use Rattle.span_pipeline.specs.Fits.{Views, ShownFilter, shown_of, Named, State, state_of, Fits, StandsFor, RecordingFits, FilteringFits, numbers_by, ContextsFit, Laned, laned, lane_at, LanesFit, IsKept}
 
 -- nothing fits no tables
-pub new_fits : (setup : Setup) (lanes : List Laned) (recording : Recording) (layer : LayerSettings) (dispatch : ℕ) (spans : Spans) → spans ≡ no_spans
-    → Fits (record { setup = setup; spans = spans; lanes = lanes; recording = recording; dispatch = dispatch; handles = []; handle_sites = []; guards = []; contexts = record { made = []; attaches = [] }; moment = 0 }) (no_tables layer)
-new_fits setup lanes recording layer dispatch spans is = subst (λ (x : Spans). Fits (record { setup = setup; spans = x; lanes = lanes; recording = recording; dispatch = dispatch; handles = []; handle_sites = []; guards = []; contexts = record { made = []; attaches = [] }; moment = 0 }) (no_tables layer)) (sym is) (record {
+pub new_fits : (setup : Setup) (lanes : List Laned) (recording : Recording) (filter : Option ShownFilter) (cached : List (List Interest)) (layer : LayerSettings) (dispatch : ℕ) (spans : Spans) → spans ≡ no_spans
+    → Fits (record { setup = setup; spans = spans; lanes = lanes; recording = recording; filter = filter; cached = cached; dispatch = dispatch; handles = []; handle_sites = []; guards = []; contexts = record { made = []; attaches = [] }; moment = 0 }) (no_tables layer)
+new_fits setup lanes recording filter cached layer dispatch spans is = subst (λ (x : Spans). Fits (record { setup = setup; spans = x; lanes = lanes; recording = recording; filter = filter; cached = cached; dispatch = dispatch; handles = []; handle_sites = []; guards = []; contexts = record { made = []; attaches = [] }; moment = 0 }) (no_tables layer)) (sym is) (record {
   handle_slots = refl;
   site_slots = refl;
   guard_slots = refl;
@@ -65,13 +68,15 @@ the_one : {A : Type 0} (a b : A) → Some a ≡ Some b → a ≡ b
 the_one a b e = cc e
 
 -- the only subscriber of a world, seen through what is the same
-module _ {S : Type 0} (same : S → S → Type 0) (spans : S → Spans) (recorded : S → Recording) (attaches : S → Bool) (kept : S → ℕ → ℕ → ℕ) (is_whole : S → Type 0)
-    (law : (old new : Worlds S) (dispatch : ℕ) → Replaced same old new dispatch → Alike spans attaches kept is_whole old new dispatch) (records : SameRecorded spans recorded attaches kept is_whole same) (first : S) where
+module _ {S : Type 0} (same : S → S → Type 0) (spans : S → Spans) (views : Views S) (attaches : S → Bool) (kept : S → ℕ → ℕ → ℕ) (is_whole : S → Type 0)
+    (law : (old new : Worlds S) (dispatch : ℕ) → Replaced same old new dispatch → Alike spans attaches kept is_whole old new dispatch) (records : SameRecorded spans views attaches kept is_whole same) (first : S) where
   pub record Only (world : Worlds S) (dispatch : ℕ) : Type 0 where
     pub there : dispatch < length world.subscribers
     pub spans_are : spans_in spans world dispatch ≡ spans first
     pub kept_is : kept_in kept world dispatch ≡ kept first
-    pub recorded_is : seen recorded no_recording world dispatch ≡ recorded first
+    pub recorded_is : seen views.recorded no_recording world dispatch ≡ views.recorded first
+    pub filter_is : seen views.filtered None world dispatch ≡ views.filtered first
+    pub alone : length world.subscribers ≡ 1
     pub whole : is_whole first → Has is_whole world dispatch
 
   only_first : (world : Worlds S) (x : S) → world.subscribers ≡ x ∷ [] → same first x → Only world 0
@@ -83,7 +88,9 @@ module _ {S : Type 0} (same : S → S → Type 0) (spans : S → Spans) (recorde
         there = (let k = ap (λ (ys : List S). length ys) is in omega (arith, k));
         spans_are = alike.spans_same;
         kept_is = alike.kept_same;
-        recorded_is = records old world 0 r;
+        recorded_is = (records old world 0 r).0;
+        filter_is = (records old world 0 r).1;
+        alone = ap (λ (ys : List S). length ys) is;
         whole = λ was. alike.whole (λ s there. (let e : first ≡ s = the_one first s there in subst is_whole e was));
       }
 
@@ -108,24 +115,26 @@ no_live (l ∷ ls) are zero = cc are
 no_live (l ∷ ls) are (suc n) = no_live ls (cc are) n
 
 -- what a pipeline begins with
-module _ {S : Type 0} (same : S → S → Type 0) (spans : S → Spans) (recorded : S → Recording) (attaches : S → Bool) (kept : S → ℕ → ℕ → ℕ) (is_whole : S → Type 0)
-    (law : (old new : Worlds S) (dispatch : ℕ) → Replaced same old new dispatch → Alike spans attaches kept is_whole old new dispatch) (records : SameRecorded spans recorded attaches kept is_whole same) (first : S)
-    (world before : Worlds S) (dispatch : ℕ) (level : LevelFilter) (lanes : List Lane) (ids : List ℕ) (is : dispatch ≡ length before.subscribers) (empty : length before.subscribers ≡ 0) (are : AreSame same (before.subscribers ++ first ∷ []) world.subscribers)
-    (none : spans first ≡ no_spans) (layer : LayerSettings) (nothing : recorded first ≡ nothing_recorded layer) (quiet : map (λ (l : Lane). l.contexts.live) lanes ≡ map (λ (l : Lane). []) lanes)
+module _ {S : Type 0} (same : S → S → Type 0) (spans : S → Spans) (views : Views S) (attaches : S → Bool) (kept : S → ℕ → ℕ → ℕ) (is_whole : S → Type 0)
+    (law : (old new : Worlds S) (dispatch : ℕ) → Replaced same old new dispatch → Alike spans attaches kept is_whole old new dispatch) (records : SameRecorded spans views attaches kept is_whole same) (first : S)
+    (world before : Worlds S) (dispatch : ℕ) (opening : List ℕ) (lanes : List Lane) (ids : List ℕ) (is : dispatch ≡ length before.subscribers) (empty : length before.subscribers ≡ 0) (are : AreSame same (before.subscribers ++ first ∷ []) world.subscribers)
+    (none : spans first ≡ no_spans) (layer : LayerSettings) (nothing : views.recorded first ≡ nothing_recorded layer) (quiet : map (λ (l : Lane). l.contexts.live) lanes ≡ map (λ (l : Lane). []) lanes)
+    (interest : S → Callsite → Interest) (shown : (s : S) (f : Filtered) (c : Callsite) → views.filtered s ≡ Some f → interest s c ≡ interest_in f c) (fresh : IsFresh interest world)
+    (f : Filtered) (opened : IsTextFilter opening f) (gate : views.filtered first ≡ Some f)
     (hs : List (Option Handle)) (no_handles : hs ≡ []) (gs : List (Option Guard)) (no_guards : gs ≡ []) (cs : Named) (no_contexts : cs ≡ record { made = []; attaches = [] }) where
-  its_only : Only same spans recorded attaches kept is_whole law records first world dispatch
-  its_only = only_one same spans recorded attaches kept is_whole law records first world dispatch (is ∙ empty) (subst (λ (xs : List S). AreSame same (xs ++ first ∷ []) world.subscribers) (no_items before.subscribers empty) are)
+  its_only : Only same spans views attaches kept is_whole law records first world dispatch
+  its_only = only_one same spans views attaches kept is_whole law records first world dispatch (is ∙ empty) (subst (λ (xs : List S). AreSame same (xs ++ first ∷ []) world.subscribers) (no_items before.subscribers empty) are)
 
   abbrev begun_state : State
-  begun_state = state_of spans recorded world dispatch level lanes hs gs cs 0
+  begun_state = state_of spans views world dispatch opening lanes hs gs cs 0
 
   pub recorded_nothing : begun_state.recording ≡ nothing_recorded layer
   recorded_nothing = its_only.recorded_is ∙ nothing
 
   fits_begun : Fits begun_state (no_tables layer)
-  fits_begun = subst (λ (x : List (Option Handle)). Fits (state_of spans recorded world dispatch level lanes x gs cs 0) (no_tables layer)) (sym no_handles)
-      (subst (λ (x : List (Option Guard)). Fits (state_of spans recorded world dispatch level lanes [] x cs 0) (no_tables layer)) (sym no_guards)
-      (subst (λ (x : Named). Fits (state_of spans recorded world dispatch level lanes [] [] x 0) (no_tables layer)) (sym no_contexts) (new_fits _ _ _ layer _ _ (its_only.spans_are ∙ none))))
+  fits_begun = subst (λ (x : List (Option Handle)). Fits (state_of spans views world dispatch opening lanes x gs cs 0) (no_tables layer)) (sym no_handles)
+      (subst (λ (x : List (Option Guard)). Fits (state_of spans views world dispatch opening lanes [] x cs 0) (no_tables layer)) (sym no_guards)
+      (subst (λ (x : Named). Fits (state_of spans views world dispatch opening lanes [] [] x 0) (no_tables layer)) (sym no_contexts) (new_fits _ _ _ _ _ layer _ _ (its_only.spans_are ∙ none))))
 
   records_begun : RecordingFits begun_state (no_tables layer)
   records_begun = record {
@@ -137,21 +146,33 @@ module _ {S : Type 0} (same : S → S → Type 0) (spans : S → Spans) (recorde
         (record { contexts = refl; distinct = tt; numbers_are = λ o. sym (no_numbers begun_state.setup.layer.activation n (lane_at (map laned lanes) n).id o) })));
   }
 
-  pub begins : StandsFor begun_state (no_tables layer)
-  begins = record { fits = fits_begun; recording = records_begun }
+  filter_begun : FilteringFits begun_state (no_tables layer)
+  filter_begun =
+      let now : text_filter opening ≡ f = ap filter_if opened.read ∙ sym opened.is in
+      record {
+        in_place = ap (option_map (shown_of (length (spans_in spans world dispatch).made) begun_state.setup.ids)) (its_only.filter_is ∙ gate)
+            ∙ ap (λ (x : Spans). Some (shown_of (length x.made) begun_state.setup.ids f)) (its_only.spans_are ∙ none) ∙ ap (λ (x : Filtered). Some (shown_of 0 begun_state.setup.ids x)) (sym now);
+        fresh = cached_rows views interest shown world dispatch f its_only.alone its_only.there (its_only.filter_is ∙ gate) fresh
+            ∙ ap (λ (x : Filtered). map (λ (c : Callsite). interest_in x c ∷ []) world.sites) (sym now);
+      }
 
-  pub begun_setup : (sites : List Callsite) (names : List (Option (List ℕ))) (force : LevelFilter) → world.sites ≡ sites → map (λ (l : Lane). l.id) lanes ≡ ids → map (λ (l : Lane). l.name) lanes ≡ names → level ≡ force
-      → begun_state.setup ≡ record { sites = sites; ids = ids; names = names; level = force; layer = layer }
+  pub begins : StandsFor begun_state (no_tables layer)
+  begins = record { fits = fits_begun; recording = records_begun; filtering = filter_begun }
+
+  pub begun_setup : (sites : List Callsite) (names : List (Option (List ℕ))) (force : List ℕ) → world.sites ≡ sites → map (λ (l : Lane). l.id) lanes ≡ ids → map (λ (l : Lane). l.name) lanes ≡ names → opening ≡ force
+      → begun_state.setup ≡ record { sites = sites; ids = ids; names = names; filter = force; layer = layer }
   begun_setup sites names force sites_are ids_are names_are is_force = rw (sites_are, ids_are, names_are, is_force, ap (λ (r : Recording). r.settings) recorded_nothing) refl
 
   pub keeps_begun : is_whole first → map (λ (l : Lane). l.id) lanes ≡ ids → HasOwnIds ids → ((lane number : ℕ) → kept first lane number ≡ 0) → IsKept kept is_whole world begun_state
   keeps_begun whole ids_are own free = record {
     there = its_only.there;
+    alone = its_only.alone;
     whole = its_only.whole whole;
     lanes = new_lanes lanes ids ids_are own _ (λ lane number. ap (λ (f : ℕ → ℕ → ℕ). f lane number) its_only.kept_is ∙ free lane number);
     tables = no_tables layer;
     fits = fits_begun;
     recording = records_begun;
+    filtering = filter_begun;
   }
 
 -- a layer that knows no span has recorded nothing

@@ -4,7 +4,6 @@ use Rattle.std.specs.Prelude.{is_some}
 use Rattle.std.proofs.lemmas.Bool.{cases_eq}
 use Rattle.std.proofs.lemmas.List.{length-map, length_push, map_push, get_or_append_left}
 use Rattle.trace_base.specs.declared.lane.Lane.{Lane}
-use Rattle.trace_base.specs.declared.level.LevelFilter.{LevelFilter}
 use Rattle.trace_base.specs.Gate.{Worlds}
 use Rattle.trace_base.specs.Spans.{Spans, span_at}
 use Rattle.trace_base.specs.Calls.{SubscriberCall, CloneSpan}
@@ -20,7 +19,7 @@ use Rattle.otel_layer.specs.Recording.{Recording, no_recording}
 use Rattle.span_pipeline.specs.Tables.{Scope, Made, Guarded, Effect, Tables, slot_at, own}
 use Rattle.span_pipeline.specs.Effects.{named, effect_of_call, clones}
 use Rattle.span_pipeline.specs.Balance.{Balanced, named_by, opened_by}
-use Rattle.span_pipeline.specs.Fits.{Named, State, state_of, laned, Fits, StandsFor, MadeFit, LanesFit, IsKept, Served, IsScope, held_of, held_by, site_by}
+use Rattle.span_pipeline.specs.Fits.{Views, Named, State, state_of, laned, Fits, StandsFor, MadeFit, LanesFit, IsKept, Served, IsScope, held_of, held_by, site_by}
 use Rattle.span_pipeline.proofs.Naming.{find, held_slot, named_within}
 use Rattle.span_pipeline.proofs.Sited.{site_found}
 use Rattle.span_pipeline.proofs.Standing.{fits_step}
@@ -29,7 +28,8 @@ use Rattle.trace_base.proofs.Holding.{holds_other}
 use Rattle.span_pipeline.proofs.Balancing.{held_most, named_slot}
 use Rattle.span_pipeline.proofs.Fitting.{fits_live}
 use Rattle.span_pipeline.proofs.Makings.{made_held}
-use Rattle.span_pipeline.proofs.Serving.{serve, known_still, all_same, kept_served, call_count, call_sites, call_whole}
+use Rattle.span_pipeline.proofs.Serving.{serve, known_still, all_same, kept_served, call_count, call_sites, call_cached, call_whole}
+use Rattle.span_pipeline.proofs.Filtering.{heard_none}
 use Rattle.span_pipeline.proofs.Cloning.{spans_held, balanced_clone}
 
 pub held_scope_most : (spans : Spans) (line : Scope) (q : ℕ) → (span_at (spans_held spans line).made q).holds ≤ (span_at spans.made q).holds + 1
@@ -64,26 +64,30 @@ pub still_named_more : (gs : List (Option Guarded)) (hs : List (Option Scope)) (
     → (n : ℕ) (x : Guarded) → slot_at gs n ≡ Some x → slot_at (hs ++ Some line ∷ []) x.handle ≡ Some x.scope
 still_named_more gs hs line still n x there = let at = still n x there in get_or_append_left hs (Some line ∷ []) None x.handle (named_within hs x.handle x.scope at) ∙ at
 
-module _ {S : Type 0} (spans : S → Spans) (recorded : S → Recording) (attaches : S → Bool) (kept : S → ℕ → ℕ → ℕ) (is_whole : S → Type 0) (old new : Worlds S) where
-  pub held_spans : (dispatch : ℕ) (line : Scope) → ShownOn spans recorded attaches kept is_whole old new dispatch line (λ id. CloneSpan id) → spans_in spans new dispatch ≡ spans_held (spans_in spans old dispatch) line
+module _ {S : Type 0} (spans : S → Spans) (views : Views S) (attaches : S → Bool) (kept : S → ℕ → ℕ → ℕ) (is_whole : S → Type 0) (old new : Worlds S) where
+  pub held_spans : (dispatch : ℕ) (line : Scope) → ShownOn spans views attaches kept is_whole old new dispatch line (λ id. CloneSpan id) → spans_in spans new dispatch ≡ spans_held (spans_in spans old dispatch) line
   held_spans dispatch [] same = ap (λ (w : Worlds S). spans_in spans w dispatch) same
   held_spans dispatch (s ∷ up) shown = shown.0.spans_after
 
-  pub clone_kept : (dispatch : ℕ) (line : Scope) → ShownOn spans recorded attaches kept is_whole old new dispatch line (λ id. CloneSpan id) → kept_in kept new dispatch ≡ kept_in kept old dispatch
+  pub clone_kept : (dispatch : ℕ) (line : Scope) → ShownOn spans views attaches kept is_whole old new dispatch line (λ id. CloneSpan id) → kept_in kept new dispatch ≡ kept_in kept old dispatch
   clone_kept dispatch [] same = ap (λ (w : Worlds S). kept_in kept w dispatch) same
   clone_kept dispatch (s ∷ up) shown = shown.0.lanes
 
-  pub clone_recorded : (dispatch : ℕ) (line : Scope) → ShownOn spans recorded attaches kept is_whole old new dispatch line (λ id. CloneSpan id) → seen recorded no_recording new dispatch ≡ seen recorded no_recording old dispatch
-  clone_recorded dispatch [] same = ap (λ (w : Worlds S). seen recorded no_recording w dispatch) same
+  pub clone_recorded : (dispatch : ℕ) (line : Scope) → ShownOn spans views attaches kept is_whole old new dispatch line (λ id. CloneSpan id) → seen views.recorded no_recording new dispatch ≡ seen views.recorded no_recording old dispatch
+  clone_recorded dispatch [] same = ap (λ (w : Worlds S). seen views.recorded no_recording w dispatch) same
   clone_recorded dispatch (s ∷ up) shown = shown.2
 
-  module _ (does : S → SubscriberCall → S → Type 0) (law : Law spans recorded attaches kept is_whole does) (recalls : Recalls spans recorded attaches kept is_whole does)
-      (dispatch : ℕ) (level : LevelFilter) (lanes : List Lane) (hs hs' : List (Option Handle)) (gs : List (Option Guard)) (cs : Named) (m at lane number : ℕ) (many : number ≡ length hs) (inv : IsKept kept is_whole old (state_of spans recorded old dispatch level lanes hs gs cs m)) where
+  pub clone_filter : (dispatch : ℕ) (line : Scope) → ShownOn spans views attaches kept is_whole old new dispatch line (λ id. CloneSpan id) → seen views.filtered None new dispatch ≡ seen views.filtered None old dispatch
+  clone_filter dispatch [] same = ap (λ (w : Worlds S). seen views.filtered None w dispatch) same
+  clone_filter dispatch (s ∷ up) shown = shown.3 ∙ sym (heard_none (seen views.filtered None old dispatch))
+
+  module _ (does : S → SubscriberCall → S → Type 0) (law : Law spans views attaches kept is_whole does) (recalls : Recalls spans views attaches kept is_whole does)
+      (dispatch : ℕ) (opening : List ℕ) (lanes : List Lane) (hs hs' : List (Option Handle)) (gs : List (Option Guard)) (cs : Named) (m at lane number : ℕ) (many : number ≡ length hs) (inv : IsKept kept is_whole old (state_of spans views old dispatch opening lanes hs gs cs m)) where
     abbrev now : State
-    now = state_of spans recorded old dispatch level lanes hs gs cs m
+    now = state_of spans views old dispatch opening lanes hs gs cs m
 
     abbrev then : State
-    then = state_of spans recorded new dispatch level lanes hs' gs cs at
+    then = state_of spans views new dispatch opening lanes hs' gs cs at
 
     abbrev place_id : ℕ
     place_id = id_at now.setup.ids lane
@@ -96,19 +100,19 @@ module _ {S : Type 0} (spans : S → Spans) (recorded : S → Recording) (attach
       serves_cloned t stands =
           let fits = stands.fits in
           let line = find (held_of dispatch) (map held_by hs) t.handles handle h.held fits.handle_slots (held_slot hs handle h found) in
-          let shown = shown_on spans recorded attaches kept is_whole does law recalls old new dispatch line.at h.held line.is (λ id. CloneSpan id) did in
+          let shown = shown_on spans views attaches kept is_whole does law recalls old new dispatch line.at h.held line.is (λ id. CloneSpan id) did in
           let step = held_spans dispatch line.at shown in
           let sp = spans_in spans old dispatch in
           let ids = now.setup.ids in
           let same = clone_recorded dispatch line.at shown in
-          let sites = call_sites spans recorded attaches kept is_whole old new dispatch line.at (λ id. CloneSpan id) shown in
-          let setup : then.setup ≡ now.setup = ap (λ x. record now.setup { sites = x; layer = (seen recorded no_recording new dispatch).settings }) sites ∙ ap (λ (r : Recording). record now.setup { layer = r.settings }) same in
+          let sites = call_sites spans views attaches kept is_whole old new dispatch line.at (λ id. CloneSpan id) shown in
+          let setup : then.setup ≡ now.setup = ap (λ x. record now.setup { sites = x; layer = (seen views.recorded no_recording new dispatch).settings }) sites ∙ ap (λ (r : Recording). record now.setup { layer = r.settings }) same in
           let live : (s : ℕ) (up : Scope) → line.at ≡ s ∷ up → 0 < (span_at sp.made s).holds = λ s up e. fits_live sp (map named_by t.handles) (map (opened_by ids) t.guards) t.entries fits.balanced handle s (named_slot t.handles handle line.at line.there ∙ ap own e) in
           let e : Effect = clones t at place_id line.at in
           serve now then t e _ (reply.Made enabled number) stands
           (ap (λ o. named what.Handle o (λ line. Ok (clones t at place_id line))) line.there)
           (ap (λ n. reply.Made enabled n) (next_number t fits) ∙ ap (λ b. reply.Made b (length t.handles)) (shows ∙ enabled_is dispatch line.at h.held line.is))
-          setup (seen recorded no_recording old dispatch).tokens same
+          setup (seen views.recorded no_recording old dispatch).tokens same
           (fits_step now t fits then e (record {
             setup_is = setup;
             dispatch_is = refl;
@@ -128,12 +132,13 @@ module _ {S : Type 0} (spans : S → Spans) (recorded : S → Recording) (attach
             few_holds = λ s. (let a = held_scope_most sp line.at s in let f = fits.few_holds s in let e = ap (λ (x : Spans). (span_at x.made s).holds) step in let l = length_push t.handles (Some line.at) in omega (arith, a, f, e, l));
             one = subst (λ (x : Spans). OneEach x.lanes) (sym step) (one_clone sp line.at fits.one_lane);
           }))
-          (λ s some. known_still now then t e (seen recorded no_recording old dispatch).tokens same stands.recording s refl (clone_live sp line.at s live (subst (λ (x : Spans). 0 < (span_at x.made s).holds) step some)))
+          (λ s some. known_still now then t e (seen views.recorded no_recording old dispatch).tokens same stands.recording s refl (clone_live sp line.at s live (subst (λ (x : Spans). 0 < (span_at x.made s).holds) step some)))
           (all_same now then t.contexts setup refl refl (ap (λ (r : Recording). r.tokens) same) stands.recording.attached)
+          (record { quiet = refl; before = seen views.filtered None old dispatch; later = seen views.filtered None new dispatch; shown_before = refl; shown_later = refl; told = clone_filter dispatch line.at shown ∙ heard_none (seen views.filtered None old dispatch); known = refl; cached = call_cached spans views attaches kept is_whole old new dispatch line.at (λ id. CloneSpan id) shown })
 
       pub keeps_cloned : IsKept kept is_whole new then
       keeps_cloned =
           let line = find (held_of dispatch) (map held_by hs) inv.tables.handles handle h.held inv.fits.handle_slots (held_slot hs handle h found) in
-          let shown = shown_on spans recorded attaches kept is_whole does law recalls old new dispatch line.at h.held line.is (λ id. CloneSpan id) did in
-          kept_served spans recorded attaches kept is_whole old new now then inv _ _ (serves_cloned inv.tables (record { fits = inv.fits; recording = inv.recording })) refl (call_count spans recorded attaches kept is_whole old new dispatch line.at (λ id. CloneSpan id) shown) (call_whole spans recorded attaches kept is_whole old new dispatch line.at (λ id. CloneSpan id) shown)
+          let shown = shown_on spans views attaches kept is_whole does law recalls old new dispatch line.at h.held line.is (λ id. CloneSpan id) did in
+          kept_served spans views attaches kept is_whole old new now then inv _ _ (serves_cloned inv.tables (record { fits = inv.fits; recording = inv.recording; filtering = inv.filtering })) refl (call_count spans views attaches kept is_whole old new dispatch line.at (λ id. CloneSpan id) shown) (call_whole spans views attaches kept is_whole old new dispatch line.at (λ id. CloneSpan id) shown)
           (subst (λ (f : ℕ → ℕ → ℕ). LanesFit f (map laned lanes)) (sym (clone_kept dispatch line.at shown)) inv.lanes)

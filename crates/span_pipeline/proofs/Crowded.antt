@@ -10,7 +10,6 @@ use Rattle.otel_state.specs.States.{Told}
 use Rattle.otel_layer.specs.Table.{told_at, knows_span}
 use Rattle.otel_layer.specs.Recording.{Recording, no_recording}
 use Rattle.trace_base.specs.declared.lane.Lane.{Lane}
-use Rattle.trace_base.specs.declared.level.LevelFilter.{LevelFilter}
 use Rattle.trace_base.specs.Gate.{Worlds}
 use Rattle.trace_base.specs.Spans.{Spans}
 use Rattle.span_handles.specs.Handles.{Handle, Held}
@@ -23,7 +22,7 @@ use Rattle.span_pipeline.specs.Balance.{named_by, opened_by}
 use Rattle.span_pipeline.specs.Tables.{Scope, Attached, Tables, slot_at}
 use Rattle.span_pipeline.specs.Effects.{Resolved, named, meets_full, enters, enters_unless, opens}
 use Rattle.span_pipeline.specs.Refusals.{refused_entry}
-use Rattle.span_pipeline.specs.Fits.{Named, State, state_of, Laned, laned, lane_at, StandsFor, IsKept, is_room, held_by, held_of}
+use Rattle.span_pipeline.specs.Fits.{Views, Named, State, state_of, Laned, laned, lane_at, StandsFor, IsKept, is_room, held_by, held_of}
 use Rattle.span_pipeline.proofs.Balancing.{named_slot}
 use Rattle.span_pipeline.proofs.Fitting.{fits_live}
 use Rattle.span_pipeline.proofs.Keeping.{lane_seen, id_seen}
@@ -31,10 +30,12 @@ use Rattle.span_pipeline.proofs.Known.{knows_it}
 use Rattle.span_pipeline.proofs.Naming.{find, held_slot}
 use Rattle.span_pipeline.proofs.Refusing.{within_get}
 use Rattle.span_pipeline.proofs.Taking.{seen_there}
+use Rattle.env_filter.specs.Filtering.{Filtering}
+use Rattle.env_filter.specs.Reloading.{if_there}
 
 -- an entry of a span that the layer knows attaches where the layer activates
-abbrev pub Activates : {S : Type 0} → (S → Recording) → (S → ℕ → Bool) → Type 0
-Activates {S} recorded activates = (s : S) (id : ℕ) → told_at id (recorded s).spans ≢ None → activates s id ≡ (recorded s).settings.activation
+abbrev pub Activates : {S : Type 0} → Views S → (S → ℕ → Bool) → Type 0
+Activates {S} views activates = (s : S) (id : ℕ) → told_at id (views.recorded s).spans ≢ None → activates s id ≡ (views.recorded s).settings.activation
 
 pub layer_activates : (activation : Bool) (id : ℕ) (spans : List (ℕ × Told)) → told_at id spans ≢ None → ((activation && knows_span id spans) || false) ≡ activation
 layer_activates true id spans known = ap (λ b. b || false) (knows_it id spans known)
@@ -52,11 +53,11 @@ meets_made : (b : Bool) (s : ℕ) (up : Scope) (items : List Attached) → b ≡
 meets_made true s up items on many = eq-eqb (length items) 65534 many
 meets_made false s up items on many = absurd (true≢false (sym on))
 
-module _ {S : Type 0} (spans : S → Spans) (recorded : S → Recording) (activates : S → ℕ → Bool) (kept : S → ℕ → ℕ → ℕ) (is_whole : S → Type 0) (acts : Activates recorded activates) (old : Worlds S)
-    (dispatch : ℕ) (level : LevelFilter) (lanes : List Lane) (hs : List (Option Handle)) (gs : List (Option Guard)) (cs : Named) (m at lane : ℕ) (before : Lane) (within : lane < length lanes) (here : before ≡ get_or lanes lane before)
-    (handle : ℕ) (h : Handle) (found : slot_at hs handle ≡ Some h) (inv : IsKept kept is_whole old (state_of spans recorded old dispatch level lanes hs gs cs m)) where
+module _ {S : Type 0} (spans : S → Spans) (views : Views S) (activates : S → ℕ → Bool) (kept : S → ℕ → ℕ → ℕ) (is_whole : S → Type 0) (acts : Activates views activates) (old : Worlds S)
+    (dispatch : ℕ) (opening : List ℕ) (lanes : List Lane) (hs : List (Option Handle)) (gs : List (Option Guard)) (cs : Named) (m at lane : ℕ) (before : Lane) (within : lane < length lanes) (here : before ≡ get_or lanes lane before)
+    (handle : ℕ) (h : Handle) (found : slot_at hs handle ≡ Some h) (inv : IsKept kept is_whole old (state_of spans views old dispatch opening lanes hs gs cs m)) where
   abbrev now : State
-  now = state_of spans recorded old dispatch level lanes hs gs cs m
+  now = state_of spans views old dispatch opening lanes hs gs cs m
 
   abbrev place_id : ℕ
   place_id = id_at now.setup.ids lane
@@ -74,7 +75,7 @@ module _ {S : Type 0} (spans : S → Spans) (recorded : S → Recording) (activa
   acts_here : (t : Tables) → StandsFor now t → (s : ℕ) (up : Scope) → slot_at t.handles handle ≡ Some (s ∷ up) → (x : S) → slice_get old.subscribers dispatch ≡ Some x → activates x s ≡ now.setup.layer.activation
   acts_here t stands s up there x is =
       let live = fits_live now.spans (map named_by t.handles) (map (opened_by now.setup.ids) t.guards) t.entries stands.fits.balanced handle s (named_slot t.handles handle (s ∷ up) there) in
-      let same = seen_there recorded no_recording old dispatch x is in
+      let same = seen_there views.recorded no_recording old dispatch x is in
       acts x s (λ none. stands.recording.known s live (ap (λ (r : Recording). told_at s r.spans) same ∙ none)) ∙ ap (λ (r : Recording). r.settings.activation) (sym same)
 
   meets_of : (t : Tables) → StandsFor now t → (line : Scope) → slot_at t.handles handle ≡ Some line → MeetsFullLane activates old before (held_of dispatch line) → meets_full now.setup.layer.activation line (t.contexts place_id) ≡ true
@@ -107,3 +108,8 @@ module _ {S : Type 0} (spans : S → Spans) (recorded : S → Recording) (activa
       let meets = meets_full_of t stands line.at line.there line.is (full refl) in
       ap (λ o. named what.Handle o (λ line. enters_unless (meets_full now.setup.layer.activation line (t.contexts place_id)) lane (enters now.setup t at lane handle owns line))) line.there
       ∙ cond-true {A = Resolved} (meets_full now.setup.layer.activation line.at (t.contexts place_id)) _ _ meets ∙ ap (λ (x : Refusal). Err x) (sym is)
+
+-- a filter over a stack attaches nothing
+pub filtered_activates : (o : Option Filtering) (knows inner activation : Bool) → inner ≡ activation → ((if_there false (λ (f : Filtering). false) o && knows) || inner) ≡ activation
+filtered_activates None knows inner activation is = is
+filtered_activates (Some f) knows inner activation is = is

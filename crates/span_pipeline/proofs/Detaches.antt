@@ -1,13 +1,12 @@
 -- Detaches from a lane, served.
 use Rattle.std.specs.Prelude.{◌==◌, slice_set}
-use Rattle.std.proofs.Common.{◌≡◌, ℕ, ◌+◌, ◌<◌, List, [], ◌∷◌, length, get_or, set, true, false, count_by, Option, Some, None, Err, option_map, map, refl, sym, ap, subst, ◌∙◌, arith, inl, inr}
+use Rattle.std.proofs.Common.{◌≡◌, ℕ, ◌+◌, ◌<◌, List, [], ◌∷◌, length, get_or, set, true, false, count_by, Option, Some, None, option_map, map, refl, sym, ap, subst, ◌∙◌, arith, inl, inr}
 use Rattle.std.proofs.lemmas.Bool.{cases_Bool, cases_eq, ne_eqb, eq-eqb, eqb-true, cond-true, cond-false}
 use Rattle.std.proofs.lemmas.List.{map-set}
 use Rattle.std.proofs.Math.ListN.{get_or-map}
 use Rattle.otel_base.specs.declared.context.Context.{Context}
 use Rattle.otel_base.specs.Stack.{has, without}
 use Rattle.trace_base.specs.declared.lane.Lane.{Lane}
-use Rattle.trace_base.specs.declared.level.LevelFilter.{LevelFilter}
 use Rattle.trace_base.specs.Gate.{Worlds}
 use Rattle.trace_base.specs.Spans.{Spans}
 use Rattle.trace_base.proofs.Entering.{count_cons}
@@ -17,22 +16,24 @@ use Rattle.span_handles.specs.Worlds.{seen, kept_in}
 use Rattle.span_handles.specs.Handles.{Handle}
 use Rattle.span_pipeline.specs.declared.contexts.Attach.{Attach}
 use Rattle.span_pipeline.specs.declared.slots.Guard.{Guard}
-use Rattle.span_pipeline.specs.declared.reply.Refusal.TheVariants as refusal
 use Rattle.span_pipeline.specs.declared.reply.Reply.TheVariants as reply
 use Rattle.span_pipeline.specs.declared.reply.What.TheVariants as what
 use Rattle.span_pipeline.specs.declared.request.Call.TheVariants as call
 use Rattle.span_pipeline.specs.Setups.{id_at}
 use Rattle.span_pipeline.specs.Tables.{GuardOf, Effect, Tables, slot_at, with_detached}
 use Rattle.span_pipeline.specs.Effects.{Resolved, named, effect_of_call, exits_on, detaches}
-use Rattle.span_pipeline.specs.Fits.{Named, State, state_of, lane_of, numbers_by, StandsFor, Fits, ContextsFit, AllContextsFit, IsKept, Served}
+use Rattle.span_pipeline.specs.Fits.{Views, Named, State, state_of, lane_of, numbers_by, StandsFor, Fits, ContextsFit, AllContextsFit, IsKept, Served}
 use Rattle.span_pipeline.proofs.Attaching.{owned_has}
 use Rattle.span_pipeline.proofs.Keeping.{id_seen, ids_same, names_same, are_attached, lanes_after}
 use Rattle.span_pipeline.proofs.Laned.{own_fit, all_detached}
 use Rattle.span_pipeline.proofs.Numbers.{guard_keeps, guard_alone}
 use Rattle.span_pipeline.proofs.Refusing.{within_get}
+use Rattle.span_pipeline.proofs.Filtering.{heard_none}
 use Rattle.span_pipeline.proofs.Serving.{serve, known_still, kept_served}
 use Rattle.span_pipeline.proofs.Standing.{fits_step}
 use Rattle.span_pipeline.proofs.Taking.{seen_there}
+use Rattle.env_filter.specs.Filtering.{Filtering}
+use Rattle.env_filter.specs.Reloading.{if_there, none_kept}
 
 -- a guard of an attach, as its table tells it
 attach_told : (k : State) (t : Tables) → Fits k t → (n : ℕ) → slot_at t.attaches n ≡ option_map lane_of (slot_at k.contexts.attaches n)
@@ -59,20 +60,20 @@ count_without n number (x ∷ live) apart =
     ]
 
 -- what a subscriber keeps attached its layer's open entries keep
-abbrev pub KeepsTokens : {S : Type 0} → (S → Recording) → (S → ℕ → ℕ → ℕ) → Type 0
-KeepsTokens {S} recorded kept = (s : S) (lane number : ℕ) → kept s lane number ≡ kept_by (recorded s).settings.activation (recorded s).tokens lane number
+abbrev pub KeepsTokens : {S : Type 0} → Views S → (S → ℕ → ℕ → ℕ) → Type 0
+KeepsTokens {S} views kept = (s : S) (lane number : ℕ) → kept s lane number ≡ kept_by (views.recorded s).settings.activation (views.recorded s).tokens lane number
 
-module _ {S : Type 0} (spans : S → Spans) (recorded : S → Recording) (kept : S → ℕ → ℕ → ℕ) (is_whole : S → Type 0) (world : Worlds S)
-    (dispatch : ℕ) (level : LevelFilter) (lanes : List Lane) (hs : List (Option Handle)) (gs : List (Option Guard)) (cs : Named) (m at lane : ℕ) (before : Lane) (within : lane < length lanes) (here : before ≡ get_or lanes lane before)
-    (inv : IsKept kept is_whole world (state_of spans recorded world dispatch level lanes hs gs cs m)) (guard : ℕ) (a : Attach) (found : slot_at cs.attaches guard ≡ Some a) (on : a.lane ≡ lane) where
+module _ {S : Type 0} (spans : S → Spans) (views : Views S) (kept : S → ℕ → ℕ → ℕ) (is_whole : S → Type 0) (world : Worlds S)
+    (dispatch : ℕ) (opening : List ℕ) (lanes : List Lane) (hs : List (Option Handle)) (gs : List (Option Guard)) (cs : Named) (m at lane : ℕ) (before : Lane) (within : lane < length lanes) (here : before ≡ get_or lanes lane before)
+    (inv : IsKept kept is_whole world (state_of spans views world dispatch opening lanes hs gs cs m)) (guard : ℕ) (a : Attach) (found : slot_at cs.attaches guard ≡ Some a) (on : a.lane ≡ lane) where
   abbrev now : State
-  now = state_of spans recorded world dispatch level lanes hs gs cs m
+  now = state_of spans views world dispatch opening lanes hs gs cs m
 
   abbrev place_id : ℕ
   place_id = id_at now.setup.ids lane
 
   abbrev r : Recording
-  r = seen recorded no_recording world dispatch
+  r = seen views.recorded no_recording world dispatch
 
   id_is : before.id ≡ place_id
   id_is = id_seen lanes lane before within here
@@ -87,7 +88,7 @@ module _ {S : Type 0} (spans : S → Spans) (recorded : S → Recording) (kept :
   module _ (later : Lane) (same_id : later.id ≡ before.id) (same_name : later.name ≡ before.name) (live : later.contexts.live ≡ without a.attached before.contexts.live)
       (cs' : Named) (made_same : cs'.made ≡ cs.made) (one : cs'.attaches ≡ slice_set cs.attaches guard None) where
     abbrev then : State
-    then = state_of spans recorded world dispatch level (set lanes lane later) hs gs cs' at
+    then = state_of spans views world dispatch opening (set lanes lane later) hs gs cs' at
 
     setup_same : then.setup ≡ now.setup
     setup_same = rw (ids_same lanes lane before later within here same_id, names_same lanes lane before later within here same_name) refl
@@ -126,10 +127,11 @@ module _ {S : Type 0} (spans : S → Spans) (recorded : S → Recording) (kept :
         }))
         (λ s some. known_still now then t e r.tokens refl stands.recording s refl some)
         (all_fit t stands)
+        (record { quiet = refl; before = seen views.filtered None world dispatch; later = seen views.filtered None world dispatch; shown_before = refl; shown_later = refl; told = heard_none (seen views.filtered None world dispatch); known = refl; cached = refl })
 
     pub keeps_detached : ((lane number : ℕ) → kept_in kept world dispatch lane number ≡ kept_by r.settings.activation r.tokens lane number) → IsKept kept is_whole world then
     keeps_detached keeps =
-        kept_served spans recorded (λ x. false) kept is_whole world world now then inv _ _ (serves_detached inv.tables (record { fits = inv.fits; recording = inv.recording })) refl refl (λ has. has)
+        kept_served spans views (λ x. false) kept is_whole world world now then inv _ _ (serves_detached inv.tables (record { fits = inv.fits; recording = inv.recording; filtering = inv.filtering })) refl refl (λ has. has)
         (lanes_after (kept_in kept world dispatch) (kept_in kept world dispatch) lanes lane before later within here inv.lanes same_id
         (λ n. (
         let less = ap (λ (xs : List (ℕ × Context)). count_by (λ item. item.0 == n) xs) live in
@@ -146,14 +148,18 @@ module _ {S : Type 0} (spans : S → Spans) (recorded : S → Recording) (kept :
         (λ other n apart. refl))
 
 -- the same, of a world's subscriber
-pub keeps_tokens : {S : Type 0} (recorded : S → Recording) (kept : S → ℕ → ℕ → ℕ) (world : Worlds S) (dispatch : ℕ) → dispatch < length world.subscribers → KeepsTokens recorded kept
-    → (lane number : ℕ) → kept_in kept world dispatch lane number ≡ kept_by (seen recorded no_recording world dispatch).settings.activation (seen recorded no_recording world dispatch).tokens lane number
-keeps_tokens {S} recorded kept world dispatch there law lane number =
+pub keeps_tokens : {S : Type 0} (views : Views S) (kept : S → ℕ → ℕ → ℕ) (world : Worlds S) (dispatch : ℕ) → dispatch < length world.subscribers → KeepsTokens views kept
+    → (lane number : ℕ) → kept_in kept world dispatch lane number ≡ kept_by (seen views.recorded no_recording world dispatch).settings.activation (seen views.recorded no_recording world dispatch).tokens lane number
+keeps_tokens {S} views kept world dispatch there law lane number =
     let x = within_get world.subscribers dispatch there in
     let one = seen_there kept (λ lane number. 0) world dispatch x.0 x.1 in
-    let two = seen_there recorded no_recording world dispatch x.0 x.1 in
+    let two = seen_there views.recorded no_recording world dispatch x.0 x.1 in
     ap (λ (f : ℕ → ℕ → ℕ). f lane number) one ∙ law x.0 lane number ∙ ap (λ (r : Recording). kept_by r.settings.activation r.tokens lane number) (sym two)
 
--- a registry keeps nothing attached
+-- a registry keeps nothing attached, and so does a filter
 pub none_more : (n : ℕ) → n + 0 ≡ n
 none_more n = omega arith
+
+pub filtered_keeps : (o : Option Filtering) (lane number inner n : ℕ) → inner ≡ n → if_there none_kept (λ (f : Filtering) (l k : ℕ). 0) o lane number + inner ≡ n
+filtered_keeps None lane number inner n is = omega (arith, is)
+filtered_keeps (Some f) lane number inner n is = omega (arith, is)

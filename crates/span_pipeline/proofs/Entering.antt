@@ -4,7 +4,6 @@ use Rattle.std.proofs.Common.{◌≡◌, ℕ, ◌+◌, ◌<◌, List, [], ◌∷
 use Rattle.std.proofs.lemmas.Bool.{cases_eq, cases_Bool, eq-eqb, ne_eqb, cond-true, cond-false}
 use Rattle.std.proofs.lemmas.List.{length-set, length-map, length_push, map_push}
 use Rattle.trace_base.specs.declared.lane.Lane.{Lane}
-use Rattle.trace_base.specs.declared.level.LevelFilter.{LevelFilter}
 use Rattle.trace_base.specs.Gate.{Worlds}
 use Rattle.trace_base.specs.Spans.{Span, Spans, span_at, held, released, without_last, is_in, times_in, entries_on}
 use Rattle.trace_base.specs.Calls.{SubscriberCall, Enter, Exit, entered, exited}
@@ -30,13 +29,13 @@ use Rattle.otel_layer.specs.Core.{is_token}
 use Rattle.otel_layer.specs.Table.{told_at, own_or}
 use Rattle.otel_layer.specs.Recording.{Recording, no_recording, with_start, with_starts, with_applied, source_of, RecordsCall, Enters, Exits}
 use Rattle.span_pipeline.specs.Tables.{Scope, Made, Guarded, Effect, Tables, after, recorded_by, slot_at, own, with_entry, with_exit, with_attached, with_detached, open_part, quiet, EntryOf, Attached}
-use Rattle.span_pipeline.specs.Effects.{Resolved, named, effect_of_call, borrows, is_borrowed, active, attached_by, meets_full, opens, enters, enters_unless, is_shared, unless_shared, exits, exits_on}
+use Rattle.span_pipeline.specs.Effects.{bare_lane, heard_on, Resolved, named, effect_of_call, borrows, is_borrowed, active, attached_by, meets_full, opens, enters, enters_unless, is_shared, unless_shared, exits, exits_on}
 use Rattle.span_pipeline.specs.Slots.{names_handle, is_named, is_shared_by}
 use Rattle.span_pipeline.proofs.Dropping.{borrowed_is}
 use Rattle.span_pipeline.specs.declared.reply.Reply.{Reply}
 use Rattle.span_pipeline.specs.declared.reply.Refusal.{Refusal}
 use Rattle.span_pipeline.specs.Balance.{Balanced, named_by, opened_by}
-use Rattle.span_pipeline.specs.Fits.{Named, State, state_of, Laned, laned, lane_at, Fits, StandsFor, RecordingFits, AllContextsFit, MadeFit, IsKept, Served, IsRefusal, held_of, guard_of, lane_of, held_by}
+use Rattle.span_pipeline.specs.Fits.{Views, IsScope, Named, State, state_of, Laned, laned, lane_at, Fits, StandsFor, RecordingFits, AllContextsFit, MadeFit, IsKept, Served, IsRefusal, held_of, guard_of, lane_of, held_by}
 use Rattle.span_pipeline.proofs.Balancing.{spans_entered, spans_exited, balanced_enter, balanced_exit, entered_most, exited_less, named_slot}
 use Rattle.span_pipeline.proofs.Fitting.{fits_live}
 use Rattle.span_pipeline.proofs.Makings.{made_if, made_held, made_released}
@@ -48,7 +47,11 @@ use Rattle.span_pipeline.proofs.Known.{knows_it}
 use Rattle.trace_base.proofs.Holding.{holds_other}
 use Rattle.span_pipeline.proofs.Recordings.{recorded_settings, start_open, starts_fold, entry_tokens}
 use Rattle.span_pipeline.proofs.Laned.{all_skipped, all_entered, all_exited}
-use Rattle.span_pipeline.proofs.Serving.{AllFit, serve, known_still, kept_served, call_count, call_sites, call_whole, call_lanes}
+use Rattle.span_pipeline.proofs.Serving.{AllFit, serve, known_still, kept_served, call_count, call_sites, call_cached, call_whole, call_lanes}
+use Rattle.span_pipeline.proofs.Filtering.{IsKnownHook, count_hook, AreKnown, heard_none}
+use Rattle.trace_base.specs.Hooks.{Hook, OnEnter, OnExit}
+use Rattle.env_filter.specs.Filtering.{Filtered}
+use Rattle.env_filter.specs.Filtering.{after as hears}
 
 the_guard : (a b : Guarded) → ◌≡◌ {A = Option Guarded} (Some a) (Some b) → a ≡ b
 the_guard a b e = cc e
@@ -170,29 +173,34 @@ attach_is : (b : Bool) (s at : ℕ) (up : Scope) (r x : Recording) → open_part
 attach_is true s at up r x is = ap (λ (xs : List (ℕ × Told)). Some (record { owner = EntryOf s; context = own_or empty_context (told_at s xs) })) (start_open s at r x is)
 attach_is false s at up r x is = refl
 
-module _ {S : Type 0} (spans : S → Spans) (recorded : S → Recording) (attaches : S → Bool) (kept : S → ℕ → ℕ → ℕ) (is_whole : S → Type 0) (old new : Worlds S) where
-  entered_spans : (dispatch at lane : ℕ) (before later : Lane) (line : Scope) → before.id ≡ lane → ShownOn spans recorded attaches kept is_whole old new dispatch line (λ id. Enter id at before later) → spans_in spans new dispatch ≡ spans_entered (spans_in spans old dispatch) line lane
+-- what is heard of a scope's own span, which was made
+on_known : (line : Scope) (hook : ℕ → Hook) (n : ℕ) → ((s : ℕ) (up : Scope) → line ≡ s ∷ up → IsKnownHook n (hook s) × (count_hook n (hook s) ≡ n)) → AreKnown n (heard_on line hook) n
+on_known [] hook n known = refl
+on_known (s ∷ up) hook n known = let k = known s up refl in (k.0, k.1)
+
+module _ {S : Type 0} (spans : S → Spans) (views : Views S) (attaches : S → Bool) (kept : S → ℕ → ℕ → ℕ) (is_whole : S → Type 0) (old new : Worlds S) where
+  entered_spans : (dispatch at lane : ℕ) (before later : Lane) (line : Scope) → before.id ≡ lane → ShownOn spans views attaches kept is_whole old new dispatch line (λ id. Enter id at before later) → spans_in spans new dispatch ≡ spans_entered (spans_in spans old dispatch) line lane
   entered_spans dispatch at lane before later [] id same = ap (λ (w : Worlds S). spans_in spans w dispatch) same
   entered_spans dispatch at lane before later (s ∷ up) id shown = shown.0.spans_after ∙ ap (λ (l : ℕ). entered (spans_in spans old dispatch) s l) id
 
-  exited_spans : (dispatch at lane : ℕ) (before later : Lane) (line : Scope) → before.id ≡ lane → ShownOn spans recorded attaches kept is_whole old new dispatch line (λ id. Exit id at before later) → spans_in spans new dispatch ≡ spans_exited (spans_in spans old dispatch) line lane
+  exited_spans : (dispatch at lane : ℕ) (before later : Lane) (line : Scope) → before.id ≡ lane → ShownOn spans views attaches kept is_whole old new dispatch line (λ id. Exit id at before later) → spans_in spans new dispatch ≡ spans_exited (spans_in spans old dispatch) line lane
   exited_spans dispatch at lane before later [] id same = ap (λ (w : Worlds S). spans_in spans w dispatch) same
   exited_spans dispatch at lane before later (s ∷ up) id shown = shown.0.spans_after ∙ ap (λ (l : ℕ). exited (spans_in spans old dispatch) s l) id
 
   -- what was recorded: the span is known, so the layer was told
-  entry_told : (dispatch at : ℕ) (before later : Lane) (s : ℕ) → told_at s (seen recorded no_recording old dispatch).spans ≢ None → RecordsCall (spans_in spans old dispatch) (seen recorded no_recording old dispatch) (Enter s at before later) (seen recorded no_recording new dispatch)
-      → Enters (seen recorded no_recording old dispatch) s at before later (seen recorded no_recording new dispatch)
-  entry_told dispatch at before later s known told = told.is_known (knows_it s (seen recorded no_recording old dispatch).spans known)
+  entry_told : (dispatch at : ℕ) (before later : Lane) (s : ℕ) → told_at s (seen views.recorded no_recording old dispatch).spans ≢ None → RecordsCall (spans_in spans old dispatch) (seen views.recorded no_recording old dispatch) (Enter s at before later) (seen views.recorded no_recording new dispatch)
+      → Enters (seen views.recorded no_recording old dispatch) s at before later (seen views.recorded no_recording new dispatch)
+  entry_told dispatch at before later s known told = told.is_known (knows_it s (seen views.recorded no_recording old dispatch).spans known)
 
-  exit_told : (dispatch at : ℕ) (before later : Lane) (s : ℕ) → told_at s (seen recorded no_recording old dispatch).spans ≢ None → RecordsCall (spans_in spans old dispatch) (seen recorded no_recording old dispatch) (Exit s at before later) (seen recorded no_recording new dispatch)
-      → Exits (seen recorded no_recording old dispatch) s at before later (seen recorded no_recording new dispatch)
-  exit_told dispatch at before later s known told = told.is_known (knows_it s (seen recorded no_recording old dispatch).spans known)
+  exit_told : (dispatch at : ℕ) (before later : Lane) (s : ℕ) → told_at s (seen views.recorded no_recording old dispatch).spans ≢ None → RecordsCall (spans_in spans old dispatch) (seen views.recorded no_recording old dispatch) (Exit s at before later) (seen views.recorded no_recording new dispatch)
+      → Exits (seen views.recorded no_recording old dispatch) s at before later (seen views.recorded no_recording new dispatch)
+  exit_told dispatch at before later s known told = told.is_known (knows_it s (seen views.recorded no_recording old dispatch).spans known)
 
   -- over what the code has
-  module _ (does : S → SubscriberCall → S → Type 0) (law : Law spans recorded attaches kept is_whole does) (recalls : Recalls spans recorded attaches kept is_whole does)
-      (dispatch : ℕ) (level : LevelFilter) (lanes : List Lane) (hs : List (Option Handle)) (gs : List (Option Guard)) (cs : Named) (m at lane : ℕ) (before later : Lane) (within : lane < length lanes) (here : before ≡ get_or lanes lane before) where
+  module _ (does : S → SubscriberCall → S → Type 0) (law : Law spans views attaches kept is_whole does) (recalls : Recalls spans views attaches kept is_whole does)
+      (dispatch : ℕ) (opening : List ℕ) (lanes : List Lane) (hs : List (Option Handle)) (gs : List (Option Guard)) (cs : Named) (m at lane : ℕ) (before later : Lane) (within : lane < length lanes) (here : before ≡ get_or lanes lane before) where
     abbrev now : State
-    now = state_of spans recorded old dispatch level lanes hs gs cs m
+    now = state_of spans views old dispatch opening lanes hs gs cs m
 
     abbrev place_id : ℕ
     place_id = id_at now.setup.ids lane
@@ -201,16 +209,16 @@ module _ {S : Type 0} (spans : S → Spans) (recorded : S → Recording) (attach
     id_is = id_seen lanes lane before within here
 
     abbrev r : Recording
-    r = seen recorded no_recording old dispatch
+    r = seen views.recorded no_recording old dispatch
 
     abbrev r' : Recording
-    r' = seen recorded no_recording new dispatch
+    r' = seen views.recorded no_recording new dispatch
 
-    setup_after : new.sites ≡ old.sites → later.id ≡ before.id → later.name ≡ before.name → r'.settings ≡ r.settings → (state_of spans recorded new dispatch level (set lanes lane later) hs gs cs at).setup ≡ now.setup
+    setup_after : new.sites ≡ old.sites → later.id ≡ before.id → later.name ≡ before.name → r'.settings ≡ r.settings → (state_of spans views new dispatch opening (set lanes lane later) hs gs cs at).setup ≡ now.setup
     setup_after sites id name settings = rw (sites, ids_same lanes lane before later within here id, names_same lanes lane before later within here name, settings) refl
 
     abbrev then_with : List (Option Guard) → Named → State
-    then_with gs' cs' = state_of spans recorded new dispatch level (set lanes lane later) hs gs' cs' at
+    then_with gs' cs' = state_of spans views new dispatch opening (set lanes lane later) hs gs' cs' at
 
     abbrev ls' : List Laned
     ls' = map laned (set lanes lane later)
@@ -218,12 +226,23 @@ module _ {S : Type 0} (spans : S → Spans) (recorded : S → Recording) (attach
     abbrev lanes_of : Type 0
     lanes_of = (n m : ℕ) → n < length (map laned lanes) → m < length (map laned lanes) → (lane_at (map laned lanes) n).id ≡ (lane_at (map laned lanes) m).id → n ≡ m
 
+    -- what the filter hears of an entry and of an exit
+    entry_heard : (line : Scope) → ShownOn spans views attaches kept is_whole old new dispatch line (λ id. Enter id at before later)
+        → seen views.filtered None new dispatch ≡ option_map (λ f. fold hears f (heard_on line (λ s. OnEnter s at (bare_lane place_id) (bare_lane place_id)))) (seen views.filtered None old dispatch)
+    entry_heard [] same = ap (λ (w : Worlds S). seen views.filtered None w dispatch) same ∙ heard_none (seen views.filtered None old dispatch)
+    entry_heard (s ∷ up) shown = shown.3 ∙ ap (λ (l : ℕ). option_map (λ (f : Filtered). hears f (OnEnter s at (bare_lane l) (bare_lane l))) (seen views.filtered None old dispatch)) id_is
+
+    exit_heard : (line : Scope) → ShownOn spans views attaches kept is_whole old new dispatch line (λ id. Exit id at before later)
+        → seen views.filtered None new dispatch ≡ option_map (λ f. fold hears f (heard_on line (λ s. OnExit s at (bare_lane place_id) (bare_lane place_id)))) (seen views.filtered None old dispatch)
+    exit_heard [] same = ap (λ (w : Worlds S). seen views.filtered None w dispatch) same ∙ heard_none (seen views.filtered None old dispatch)
+    exit_heard (s ∷ up) shown = shown.3 ∙ ap (λ (l : ℕ). option_map (λ (f : Filtered). hears f (OnExit s at (bare_lane l) (bare_lane l))) (seen views.filtered None old dispatch)) id_is
+
     -- an exit, by the scope of its guard
     exited_record : (gs' : List (Option Guard)) (t : Tables) (guard : ℕ) (line : Scope) → RecordingFits now t → ((s : ℕ) (up : Scope) → line ≡ s ∷ up → 0 < (span_at now.spans.made s).holds) → lanes_of → later.id ≡ before.id → (line ≡ [] → later ≡ before)
-        → ShownOn spans recorded attaches kept is_whole old new dispatch line (λ id. Exit id at before later)
+        → ShownOn spans views attaches kept is_whole old new dispatch line (λ id. Exit id at before later)
         → (toks : List Token) × (r' ≡ record (recorded_by (length t.made) (exits now.setup at place_id guard line) r) { tokens = toks }) × AllFit (then_with gs' cs) (after t (exits now.setup at place_id guard line)).contexts
     exited_record gs' t guard [] fit live differ same none shown =
-        let is = ap (λ (w : Worlds S). seen recorded no_recording w dispatch) shown in (
+        let is = ap (λ (w : Worlds S). seen views.recorded no_recording w dispatch) shown in (
           r.tokens,
           is,
           subst (λ (c : Recording). AllContextsFit c.settings.activation ls' c.tokens cs.attaches (after t (exits now.setup at place_id guard [])).contexts) (sym is)
@@ -242,10 +261,10 @@ module _ {S : Type 0} (spans : S → Spans) (recorded : S → Recording) (attach
 
     -- an entry, by the scope of its handle
     entered_record : (gs' : List (Option Guard)) (cs' : Named) (t : Tables) (handle : ℕ) (owns : Bool) (line : Scope) → RecordingFits now t → ((s : ℕ) (up : Scope) → line ≡ s ∷ up → 0 < (span_at now.spans.made s).holds) → lanes_of → later.id ≡ before.id → (line ≡ [] → later ≡ before)
-        → cs'.attaches ≡ cs.attaches ++ None ∷ [] → ShownOn spans recorded attaches kept is_whole old new dispatch line (λ id. Enter id at before later)
+        → cs'.attaches ≡ cs.attaches ++ None ∷ [] → ShownOn spans views attaches kept is_whole old new dispatch line (λ id. Enter id at before later)
         → (toks : List Token) × (r' ≡ record (recorded_by (length t.made) (enters now.setup t at lane handle owns line) r) { tokens = toks }) × AllFit (then_with gs' cs') (after t (enters now.setup t at lane handle owns line)).contexts
     entered_record gs' cs' t handle owns [] fit live differ same none skip shown =
-        let is = ap (λ (w : Worlds S). seen recorded no_recording w dispatch) shown in
+        let is = ap (λ (w : Worlds S). seen views.recorded no_recording w dispatch) shown in
         let nothing : (b : Bool) → recorded_by (length t.made) (record (quiet at place_id (reply.Guard 0)) { starts = option_to_list (active b []) }) r ≡ r = λ b. ap (λ (o : Option ℕ). recorded_by (length t.made) (record (quiet at place_id (reply.Guard 0)) { starts = option_to_list o }) r) (no_active b) in (
           r.tokens,
           is ∙ ap (λ (x : Recording). record x { tokens = r.tokens }) (sym (nothing r.settings.activation)),
@@ -288,10 +307,10 @@ module _ {S : Type 0} (spans : S → Spans) (recorded : S → Recording) (attach
           let x = open_one.at in
           let mine : x.lane ≡ lane = ap (λ (x : Guard). x.lane) (sym open_one.is) ∙ on in
           let is : h.held ≡ held_of dispatch x.scope = sym entry_is ∙ ap (λ (x : Guard). x.entry) open_one.is in
-          let shown = shown_on spans recorded attaches kept is_whole does law recalls old new dispatch x.scope h.held is (λ id. Exit id at before later) did in
+          let shown = shown_on spans views attaches kept is_whole does law recalls old new dispatch x.scope h.held is (λ id. Exit id at before later) did in
           let none_at : x.scope ≡ [] → later ≡ before = λ e. none (is ∙ ap (held_of dispatch) e) in
-          let moved = call_lanes spans recorded attaches kept is_whole old new dispatch x.scope (λ id. Exit id at before later) before later (λ s b f g l. (l.0.id, l.0.name, l.1)) none_at shown in
-          let sites = call_sites spans recorded attaches kept is_whole old new dispatch x.scope (λ id. Exit id at before later) shown in
+          let moved = call_lanes spans views attaches kept is_whole old new dispatch x.scope (λ id. Exit id at before later) before later (λ s b f g l. (l.0.id, l.0.name, l.1)) none_at shown in
+          let sites = call_sites spans views attaches kept is_whole old new dispatch x.scope (λ id. Exit id at before later) shown in
           let lane_is : place_id ≡ id_at now.setup.ids x.lane = ap (id_at now.setup.ids) (sym mine) in
           let e : Effect = exits now.setup at place_id guard x.scope in
           let live : (s : ℕ) (up : Scope) → x.scope ≡ s ∷ up → 0 < (span_at now.spans.made s).holds = λ s up e. fits_live now.spans (map named_by t.handles) (map (opened_by now.setup.ids) t.guards) t.entries fits.balanced x.handle s (named_slot t.handles x.handle x.scope (fits.still guard x open_one.there) ∙ ap own e) in
@@ -306,15 +325,16 @@ module _ {S : Type 0} (spans : S → Spans) (recorded : S → Recording) (attach
           refl setup rec_is.0 rec_is.1 (fits_exited now exited_then t at guard x fits open_one.there step setup refl refl refl one refl refl place_id lane_is)
           (λ s some. known_still now exited_then t e rec_is.0 rec_is.1 stands.recording s refl (let a = exited_less now.spans x.scope (id_at now.setup.ids x.lane) s in let b = ap (λ (y : Spans). (span_at y.made s).holds) step in omega (arith, a, b, some)))
           rec_is.2
+          (record { quiet = refl; before = seen views.filtered None old dispatch; later = seen views.filtered None new dispatch; shown_before = refl; shown_later = refl; told = exit_heard x.scope shown; known = on_known x.scope (λ s. OnExit s at (bare_lane place_id) (bare_lane place_id)) (length t.made) (λ s up e. ((subst (IsScope t.made) e (fits.scopes x.handle x.scope (fits.still guard x open_one.there))).0, refl)); cached = call_cached spans views attaches kept is_whole old new dispatch x.scope (λ id. Exit id at before later) shown })
 
       pub keeps_exited : IsKept kept is_whole new exited_then
       keeps_exited =
           let open_one = find (guard_of dispatch) gs inv.tables.guards guard g inv.fits.guard_slots found in
           let x = open_one.at in
           let is : h.held ≡ held_of dispatch x.scope = sym entry_is ∙ ap (λ (x : Guard). x.entry) open_one.is in
-          let shown = shown_on spans recorded attaches kept is_whole does law recalls old new dispatch x.scope h.held is (λ id. Exit id at before later) did in
-          let moved = call_lanes spans recorded attaches kept is_whole old new dispatch x.scope (λ id. Exit id at before later) before later (λ s b f g l. (l.0.id, l.0.name, l.1)) (λ e. none (is ∙ ap (held_of dispatch) e)) shown in
-          kept_served spans recorded attaches kept is_whole old new now exited_then inv _ _ (serves_exited inv.tables (record { fits = inv.fits; recording = inv.recording })) refl (call_count spans recorded attaches kept is_whole old new dispatch x.scope (λ id. Exit id at before later) shown) (call_whole spans recorded attaches kept is_whole old new dispatch x.scope (λ id. Exit id at before later) shown)
+          let shown = shown_on spans views attaches kept is_whole does law recalls old new dispatch x.scope h.held is (λ id. Exit id at before later) did in
+          let moved = call_lanes spans views attaches kept is_whole old new dispatch x.scope (λ id. Exit id at before later) before later (λ s b f g l. (l.0.id, l.0.name, l.1)) (λ e. none (is ∙ ap (held_of dispatch) e)) shown in
+          kept_served spans views attaches kept is_whole old new now exited_then inv _ _ (serves_exited inv.tables (record { fits = inv.fits; recording = inv.recording; filtering = inv.filtering })) refl (call_count spans views attaches kept is_whole old new dispatch x.scope (λ id. Exit id at before later) shown) (call_whole spans views attaches kept is_whole old new dispatch x.scope (λ id. Exit id at before later) shown)
           (lanes_step _ _ lanes lane before later within here inv.lanes moved.0 moved.2)
 
     module _ (handle number : ℕ) (owns : Bool) (h : Handle) (entry : Held) (gs' : List (Option Guard)) (found : slot_at hs handle ≡ Some h) (is : entry ≡ h.held) (many : number ≡ length gs) (one : gs' ≡ gs ++ Some (record { handle = handle; lane = lane; owns = owns; entry = entry }) ∷ [])
@@ -328,10 +348,10 @@ module _ {S : Type 0} (spans : S → Spans) (recorded : S → Recording) (attach
       serves_entered t stands =
           let fits = stands.fits in
           let line = find (held_of dispatch) (map held_by hs) t.handles handle h.held fits.handle_slots (held_slot hs handle h found) in
-          let shown = shown_on spans recorded attaches kept is_whole does law recalls old new dispatch line.at h.held line.is (λ id. Enter id at before later) did in
+          let shown = shown_on spans views attaches kept is_whole does law recalls old new dispatch line.at h.held line.is (λ id. Enter id at before later) did in
           let none_at : line.at ≡ [] → later ≡ before = λ e. none (line.is ∙ ap (held_of dispatch) e) in
-          let moved = call_lanes spans recorded attaches kept is_whole old new dispatch line.at (λ id. Enter id at before later) before later (λ s b f g l. (l.0.id, l.0.name, l.1)) none_at shown in
-          let sites = call_sites spans recorded attaches kept is_whole old new dispatch line.at (λ id. Enter id at before later) shown in
+          let moved = call_lanes spans views attaches kept is_whole old new dispatch line.at (λ id. Enter id at before later) before later (λ s b f g l. (l.0.id, l.0.name, l.1)) none_at shown in
+          let sites = call_sites spans views attaches kept is_whole old new dispatch line.at (λ id. Enter id at before later) shown in
           let guards_are : gs' ≡ gs ++ Some (guard_of dispatch (record { handle = handle; lane = lane; owns = owns; scope = line.at })) ∷ [] = one ∙ ap (λ (h : Held). gs ++ Some (record { handle = handle; lane = lane; owns = owns; entry = h }) ∷ []) (is ∙ line.is) in
           let e : Effect = enters now.setup t at lane handle owns line.at in
           let live : (s : ℕ) (up : Scope) → line.at ≡ s ∷ up → 0 < (span_at now.spans.made s).holds = λ s up e. fits_live now.spans (map named_by t.handles) (map (opened_by now.setup.ids) t.guards) t.entries fits.balanced handle s (named_slot t.handles handle line.at line.there ∙ ap own e) in
@@ -346,13 +366,14 @@ module _ {S : Type 0} (spans : S → Spans) (recorded : S → Recording) (attach
           setup rec_is.0 rec_is.1 (fits_entered now entered_then t at lane handle owns line.at fits line.there step setup refl refl refl guards_are named_same skip refl)
           (λ s some. known_still now entered_then t e rec_is.0 rec_is.1 stands.recording s refl (entered_live now.spans line.at place_id s live (subst (λ (y : Spans). 0 < (span_at y.made s).holds) step some)))
           rec_is.2
+          (record { quiet = refl; before = seen views.filtered None old dispatch; later = seen views.filtered None new dispatch; shown_before = refl; shown_later = refl; told = entry_heard line.at shown; known = on_known line.at (λ s. OnEnter s at (bare_lane place_id) (bare_lane place_id)) (length t.made) (λ s up e. ((subst (IsScope t.made) e (fits.scopes handle line.at line.there)).0, refl)); cached = call_cached spans views attaches kept is_whole old new dispatch line.at (λ id. Enter id at before later) shown })
 
       pub keeps_entered : IsKept kept is_whole new entered_then
       keeps_entered =
           let line = find (held_of dispatch) (map held_by hs) inv.tables.handles handle h.held inv.fits.handle_slots (held_slot hs handle h found) in
-          let shown = shown_on spans recorded attaches kept is_whole does law recalls old new dispatch line.at h.held line.is (λ id. Enter id at before later) did in
-          let moved = call_lanes spans recorded attaches kept is_whole old new dispatch line.at (λ id. Enter id at before later) before later (λ s b f g l. (l.0.id, l.0.name, l.1)) (λ e. none (line.is ∙ ap (held_of dispatch) e)) shown in
-          kept_served spans recorded attaches kept is_whole old new now entered_then inv _ _ (serves_entered inv.tables (record { fits = inv.fits; recording = inv.recording })) refl (call_count spans recorded attaches kept is_whole old new dispatch line.at (λ id. Enter id at before later) shown) (call_whole spans recorded attaches kept is_whole old new dispatch line.at (λ id. Enter id at before later) shown)
+          let shown = shown_on spans views attaches kept is_whole does law recalls old new dispatch line.at h.held line.is (λ id. Enter id at before later) did in
+          let moved = call_lanes spans views attaches kept is_whole old new dispatch line.at (λ id. Enter id at before later) before later (λ s b f g l. (l.0.id, l.0.name, l.1)) (λ e. none (line.is ∙ ap (held_of dispatch) e)) shown in
+          kept_served spans views attaches kept is_whole old new now entered_then inv _ _ (serves_entered inv.tables (record { fits = inv.fits; recording = inv.recording; filtering = inv.filtering })) refl (call_count spans views attaches kept is_whole old new dispatch line.at (λ id. Enter id at before later) shown) (call_whole spans views attaches kept is_whole old new dispatch line.at (λ id. Enter id at before later) shown)
           (lanes_step _ _ lanes lane before later within here inv.lanes moved.0 moved.2)
 
 -- an exit of a guard that owns its handle, which has another open guard

@@ -6,7 +6,6 @@ use Rattle.otel_base.specs.Ids.{ids_of}
 use Rattle.otel_base.specs.Stack.{empty_context}
 use Rattle.otel_state.specs.States.{Told}
 use Rattle.trace_base.specs.declared.lane.Lane.{Lane}
-use Rattle.trace_base.specs.declared.level.LevelFilter.{LevelFilter}
 use Rattle.trace_base.specs.Gate.{Worlds}
 use Rattle.trace_base.specs.Spans.{Spans, span_at}
 use Rattle.trace_base.specs.Sound.{OneEach}
@@ -25,14 +24,15 @@ use Rattle.span_pipeline.specs.Setups.{id_at}
 use Rattle.span_pipeline.specs.Tables.{Scope, Effect, Tables, recorded_by, slot_at, own, open_part}
 use Rattle.span_pipeline.specs.Effects.{Resolved, named, effect_of_call, gives, own_context}
 use Rattle.span_pipeline.specs.Balance.{Balanced, named_by, opened_by}
-use Rattle.span_pipeline.specs.Fits.{Named, State, state_of, laned, lane_of, held_by, held_of, StandsFor, MadeFit, LanesFit, IsKept, Served}
+use Rattle.span_pipeline.specs.Fits.{Views, Named, State, state_of, laned, lane_of, held_by, held_of, StandsFor, MadeFit, LanesFit, IsKept, Served}
 use Rattle.span_pipeline.proofs.Naming.{find, held_slot}
 use Rattle.span_pipeline.proofs.Standing.{fits_step}
 use Rattle.span_pipeline.proofs.Recordings.{recorded_settings, recorded_tokens, starts_fold, start_open}
+use Rattle.span_pipeline.proofs.Filtering.{heard_none}
 use Rattle.span_pipeline.proofs.Serving.{serve, known_still, all_same, kept_served}
 
 -- the own context of a scope's span, by the open part of what was recorded
-own_open : (line : Scope) (at : ℕ) (r x : Recording) → open_part r ≡ x → own_context r at line ≡ own_context x at line
+pub own_open : (line : Scope) (at : ℕ) (r x : Recording) → open_part r ≡ x → own_context r at line ≡ own_context x at line
 own_open [] at r x is = refl
 own_open (s ∷ up) at r x is = ap (λ (spans : List (ℕ × Told)). own_or empty_context (told_at s spans)) (start_open s at r x is)
 
@@ -40,23 +40,23 @@ shown_is : (o : Option Told) → context_or_empty (context_at o) ≡ own_or empt
 shown_is None = refl
 shown_is (Some told) = refl
 
-module _ {S : Type 0} (spans : S → Spans) (recorded : S → Recording) (attaches : S → Bool) (kept : S → ℕ → ℕ → ℕ) (is_whole : S → Type 0) (old new : Worlds S)
-    (dispatch : ℕ) (level : LevelFilter) (lanes : List Lane) (hs : List (Option Handle)) (gs : List (Option Guard)) (cs : Named) (m at lane number : ℕ) (many : number ≡ length cs.made)
-    (inv : IsKept kept is_whole old (state_of spans recorded old dispatch level lanes hs gs cs m)) where
+module _ {S : Type 0} (spans : S → Spans) (views : Views S) (attaches : S → Bool) (kept : S → ℕ → ℕ → ℕ) (is_whole : S → Type 0) (old new : Worlds S)
+    (dispatch : ℕ) (opening : List ℕ) (lanes : List Lane) (hs : List (Option Handle)) (gs : List (Option Guard)) (cs : Named) (m at lane number : ℕ) (many : number ≡ length cs.made)
+    (inv : IsKept kept is_whole old (state_of spans views old dispatch opening lanes hs gs cs m)) where
   abbrev now : State
-  now = state_of spans recorded old dispatch level lanes hs gs cs m
+  now = state_of spans views old dispatch opening lanes hs gs cs m
 
   abbrev then_with : Named → State
-  then_with cs' = state_of spans recorded new dispatch level lanes hs gs cs' at
+  then_with cs' = state_of spans views new dispatch opening lanes hs gs cs' at
 
   abbrev place_id : ℕ
   place_id = id_at now.setup.ids lane
 
   abbrev r : Recording
-  r = seen recorded no_recording old dispatch
+  r = seen views.recorded no_recording old dispatch
 
   abbrev r' : Recording
-  r' = seen recorded no_recording new dispatch
+  r' = seen views.recorded no_recording new dispatch
 
   -- what a start leaves
   record Starts (o : Option ℕ) : Type 0 where
@@ -66,15 +66,19 @@ module _ {S : Type 0} (spans : S → Spans) (recorded : S → Recording) (attach
     kept_same : kept_in kept new dispatch ≡ kept_in kept old dispatch
     count : length new.subscribers ≡ length old.subscribers
     whole : Has is_whole old dispatch → Has is_whole new dispatch
+    filter_same : seen views.filtered None new dispatch ≡ seen views.filtered None old dispatch
+    cached_same : new.cached ≡ old.cached
 
   unchanged : new ≡ old → Starts None
   unchanged same = record {
     spans_same = ap (λ (w : Worlds S). spans_in spans w dispatch) same;
     sites = ap (λ (w : Worlds S). w.sites) same;
-    records = ap (λ (w : Worlds S). seen recorded no_recording w dispatch) same;
+    records = ap (λ (w : Worlds S). seen views.recorded no_recording w dispatch) same;
     kept_same = ap (λ (w : Worlds S). kept_in kept w dispatch) same;
     count = ap (λ (w : Worlds S). length w.subscribers) same;
     whole = λ has. subst (λ (w : Worlds S). Has is_whole w dispatch) (sym same) has;
+    filter_same = ap (λ (w : Worlds S). seen views.filtered None w dispatch) same;
+    cached_same = ap (λ (w : Worlds S). w.cached) same;
   }
 
   given_served : (t : Tables) → StandsFor now t → (o : Option ℕ) → Starts o → (context : Context) (cs' : Named) → cs'.made ≡ cs.made ++ context ∷ [] → cs'.attaches ≡ cs.attaches → (resolved : Resolved) → resolved ≡ Ok (gives t at place_id o context)
@@ -110,10 +114,11 @@ module _ {S : Type 0} (spans : S → Spans) (recorded : S → Recording) (attach
       }))
       (λ s some. known_still now then t e r.tokens rec_is stands.recording s refl (subst (λ (x : Spans). 0 < (span_at x.made s).holds) did.spans_same some))
       (all_same now then t.contexts setup attaches_are refl (ap (λ (x : Recording). x.tokens) rec_is) stands.recording.attached)
+      (record { quiet = refl; before = seen views.filtered None old dispatch; later = seen views.filtered None new dispatch; shown_before = refl; shown_later = refl; told = did.filter_same ∙ heard_none (seen views.filtered None old dispatch); known = refl; cached = did.cached_same })
 
   given_kept : (cs' : Named) (o : Option ℕ) → Starts o → (resolved : Resolved) (answer : _) → Served resolved inv.tables now (then_with cs') answer → IsKept kept is_whole new (then_with cs')
   given_kept cs' o did resolved answer served =
-      kept_served spans recorded attaches kept is_whole old new now (then_with cs') inv _ _ served refl did.count did.whole (subst (λ (f : ℕ → ℕ → ℕ). LanesFit f (map laned lanes)) (sym did.kept_same) inv.lanes)
+      kept_served spans views attaches kept is_whole old new now (then_with cs') inv _ _ served refl did.count did.whole (subst (λ (f : ℕ → ℕ → ℕ). LanesFit f (map laned lanes)) (sym did.kept_same) inv.lanes)
 
   -- a context of ids that are given
   module _ (same : new ≡ old) (ids : SpanContext) (cs' : Named) (made_is : cs'.made ≡ cs.made ++ record { span = Some ids } ∷ []) (attaches_are : cs'.attaches ≡ cs.attaches) where
@@ -121,11 +126,11 @@ module _ {S : Type 0} (spans : S → Spans) (recorded : S → Recording) (attach
     serves_remote t stands = given_served t stands None (unchanged same) (record { span = Some ids }) cs' made_is attaches_are _ refl
 
     pub keeps_remote : IsKept kept is_whole new (then_with cs')
-    keeps_remote = given_kept cs' None (unchanged same) _ _ (serves_remote inv.tables (record { fits = inv.fits; recording = inv.recording }))
+    keeps_remote = given_kept cs' None (unchanged same) _ _ (serves_remote inv.tables (record { fits = inv.fits; recording = inv.recording; filtering = inv.filtering }))
 
   -- the context of a handle's span
   module _ (touches : S → PartCall → S → Type 0) (leaves : (old new : Worlds S) (dispatch : ℕ) (call : PartCall) → Replaced (λ s t. touches s call t) old new dispatch → Alike spans attaches kept is_whole old new dispatch)
-      (asks : (old new : Worlds S) (dispatch : ℕ) (call : PartCall) → Replaced (λ s t. touches s call t) old new dispatch → RecordsPart (seen recorded no_recording old dispatch) call (seen recorded no_recording new dispatch))
+      (asks : (old new : Worlds S) (dispatch : ℕ) (call : PartCall) → Replaced (λ s t. touches s call t) old new dispatch → RecordsPart (seen views.recorded no_recording old dispatch) call (seen views.recorded no_recording new dispatch) × (seen views.filtered None new dispatch ≡ seen views.filtered None old dispatch))
       (handle : ℕ) (h : Handle) (found : slot_at hs handle ≡ Some h) (given : Context) (did : AsksContext touches old new at h.held given) (cs' : Named) (made_is : cs'.made ≡ cs.made ++ given ∷ []) (attaches_are : cs'.attaches ≡ cs.attaches) where
     asked : (line : Scope) (held : Held) → held ≡ held_of dispatch line → AsksContext touches old new at held given → Starts (own line) × (given ≡ own_context r at line)
     asked [] held is asks_it =
@@ -134,8 +139,9 @@ module _ {S : Type 0} (spans : S → Spans) (recorded : S → Recording) (attach
     asked (s ∷ up) held is asks_it =
         let replaced = subst (λ (x : Held). ShowsOn touches old new at x asks_it.answer) is asks_it.did in
         let alike = leaves old new dispatch (Shows s at asks_it.answer) replaced in
-        let records = asks old new dispatch (Shows s at asks_it.answer) replaced in (
-          record { spans_same = alike.spans_same; sites = ap (λ (w : Worlds S). w.sites) replaced.others; records = records.0; kept_same = alike.kept_same; count = alike.count; whole = alike.whole },
+        let told = asks old new dispatch (Shows s at asks_it.answer) replaced in
+        let records = told.0 in (
+          record { spans_same = alike.spans_same; sites = ap (λ (w : Worlds S). w.sites) replaced.others; records = records.0; kept_same = alike.kept_same; count = alike.count; whole = alike.whole; filter_same = told.1; cached_same = ap (λ (w : Worlds S). w.cached) replaced.others },
           asks_it.is ∙ ap context_or_empty records.1 ∙ shown_is (told_at s r'.spans) ∙ ap (λ (x : Recording). own_or empty_context (told_at s x.spans)) records.0,
         )
 
@@ -151,4 +157,4 @@ module _ {S : Type 0} (spans : S → Spans) (recorded : S → Recording) (attach
     pub keeps_context : IsKept kept is_whole new (then_with cs')
     keeps_context =
         let line = find (held_of dispatch) (map held_by hs) inv.tables.handles handle h.held inv.fits.handle_slots (held_slot hs handle h found) in
-        given_kept cs' (own line.at) (asked line.at h.held line.is did).0 _ _ (serves_context (ids_of given) refl inv.tables (record { fits = inv.fits; recording = inv.recording }))
+        given_kept cs' (own line.at) (asked line.at h.held line.is did).0 _ _ (serves_context (ids_of given) refl inv.tables (record { fits = inv.fits; recording = inv.recording; filtering = inv.filtering }))

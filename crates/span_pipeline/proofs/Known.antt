@@ -23,7 +23,7 @@ started_none : (o : Option Context) (b : Bool) (n at : ℕ) (x : Option Told) �
 started_none None b n at x e = e
 started_none (Some under) b n at x e = after_none b at _ x e
 
-start_known : (s at q : ℕ) (r : Recording) → IsKnown q r → IsKnown q (with_start s at r)
+pub start_known : (s at q : ℕ) (r : Recording) → IsKnown q r → IsKnown q (with_start s at r)
 start_known s at q r known none = known (started_none (waits (told_at s r.spans)) (q == s) r.started at (told_at q r.spans) (sym (told_at_start s q at r) ∙ none))
 
 op_known : (s at q : ℕ) (op : Op) (r : Recording) → IsKnown q r → IsKnown q (with_applied s at op r)

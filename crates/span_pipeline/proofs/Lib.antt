@@ -1,3 +1,4 @@
+mod Asking
 mod Attaches
 mod Attaching
 mod Balancing
@@ -12,7 +13,10 @@ mod Detaches
 mod Dropped
 mod Dropping
 mod Entering
+mod Filtering
 mod Fitting
+mod Following
+mod Gating
 mod Giving
 mod Guarding
 mod Keeping
@@ -27,6 +31,7 @@ mod Ordering
 mod Reading
 mod Recordings
 mod Refusing
+mod Reloading
 mod Requiring
 mod Scopes
 mod Serving
@@ -34,3 +39,4 @@ mod Sited
 mod Standing
 mod Taking
 mod Telling
+mod TextReads

@@ -1,16 +1,16 @@
 -- Makings, served.
 use Rattle.std.proofs.Common.{◌≡◌, ℕ, ◌+◌, ◌<◌, ◌≤◌, ◌^◌, List, [], ◌∷◌, ◌++◌, length, Bool, true, false, fold, get_or, Option, Some, None, Ok, option_map, map, refl, sym, ap, subst, ◌∙◌, arith, inl, inr}
-use Rattle.std.specs.Prelude.{IfSome, slice_get}
-use Rattle.std.proofs.lemmas.Bool.{cases_eq, cases_lt, cond-true, cond-false}
+use Rattle.std.specs.Prelude.{IfSome, slice_get, is_some}
+use Rattle.std.proofs.lemmas.Bool.{cases_eq, cases_lt, cond-true, cond-false, true≢false}
 use Rattle.std.proofs.lemmas.List.{length-map, length_push, map_push, get_or_past, get_or_push, get_or_append_left}
 use Rattle.trace_base.specs.declared.lane.Lane.{Lane}
-use Rattle.trace_base.specs.declared.level.LevelFilter.{LevelFilter}
-use Rattle.trace_base.specs.declared.level.Level.{Level}
 use Rattle.trace_base.specs.declared.span.Parent.{Parent}
 use Rattle.trace_base.specs.declared.callsite.Callsite.{Callsite}
 use Rattle.trace_base.specs.declared.field.ValueSet.{ValueSet}
 use Rattle.trace_base.specs.Gate.{Worlds}
-use Rattle.trace_base.specs.Level.{is_within}
+use Rattle.trace_base.specs.Hooks.{OnNewSpan}
+use Rattle.env_filter.specs.Filtering.{Filtered}
+use Rattle.env_filter.specs.Filtering.{after as hears}
 use Rattle.trace_base.specs.Spans.{Span, Spans, no_span, span_at, held_by_child, entries_on, place_on}
 use Rattle.trace_base.specs.Calls.{SubscriberCall, NewSpan, with_span}
 use Rattle.trace_base.specs.Conditions.{IsLivePlace, HasFewHolds, AreFew, HasFewHoldsAbove}
@@ -46,21 +46,23 @@ use Rattle.trace_base.specs.Spans.{current_of}
 use Rattle.trace_base.proofs.Entering.{length_held}
 use Rattle.trace_base.proofs.Holding.{holds_other}
 use Rattle.span_pipeline.specs.Tables.{Scope, Made, Attached, no_making, Effect, Tables, recorded_by, open_part, slot_at, own, made_of}
-use Rattle.span_pipeline.specs.Effects.{named, effect_of_call, lane_in, made_at, context_around, parent_at, makes, makes_span, declines, scope_at}
+use Rattle.span_pipeline.specs.Effects.{named, effect_of_call, admitted, bare_lane, lane_in, made_at, context_around, parent_at, makes, makes_span, declines, scope_at}
 use Rattle.span_pipeline.proofs.Known.{recorded_known, new_known}
 use Rattle.span_pipeline.proofs.Attaching.{last_is}
 use Rattle.span_pipeline.proofs.Laned.{own_fit}
 use Rattle.span_pipeline.proofs.Recordings.{recorded_settings, recorded_tokens, starts_fold, starts_open, entry_settings, entry_counting}
 use Rattle.span_pipeline.specs.Fields.{Fields, all_values}
-use Rattle.span_pipeline.specs.Slots.{place_for, MakesOnly}
+use Rattle.span_pipeline.specs.Slots.{place_for, MakesOnly, LetsThrough}
 use Rattle.span_pipeline.specs.Balance.{Balanced, named_by, opened_by}
-use Rattle.span_pipeline.specs.Fits.{Named, State, state_of, laned, Fits, StandsFor, MadeFit, LanesFit, IsKept, Served, IsScope, above as parent_above, held_of, guard_of, held_by, site_by}
+use Rattle.span_pipeline.specs.Fits.{Views, Named, State, state_of, laned, Fits, StandsFor, MadeFit, LanesFit, IsKept, Served, IsScope, above as parent_above, held_of, guard_of, held_by, site_by}
 use Rattle.span_pipeline.proofs.Naming.{find}
 use Rattle.span_pipeline.proofs.Scopes.{new_line}
 use Rattle.span_pipeline.proofs.Sited.{got_within}
 use Rattle.span_pipeline.proofs.Standing.{fits_step}
 use Rattle.span_pipeline.proofs.Reading.{Law, Recalls, has_by}
 use Rattle.span_pipeline.proofs.Balancing.{held_most}
+use Rattle.span_pipeline.proofs.Filtering.{heard_none}
+use Rattle.span_pipeline.proofs.Gating.{answered}
 use Rattle.span_pipeline.proofs.Keeping.{id_seen, name_seen, kept_alike, SameRecorded}
 use Rattle.span_pipeline.proofs.Makings.{made_held}
 use Rattle.span_pipeline.proofs.Serving.{serve, known_still, all_same, kept_served}
@@ -181,31 +183,31 @@ made_is setup t at lane callsite c values p q before r current recorded layer c_
     ∙ ap (λ (x : Context). made_told callsite before values (context_from (with_starts (source q (current_of (t.entries (id_at setup.ids lane)))) at t.recording).spans x (source q (current_of (t.entries (id_at setup.ids lane))))) at r.settings r.counting) (around_is q before (t.contexts (id_at setup.ids lane)) contexts)
     ∙ ap (λ (first : List KeyValue). changed (begun (record { name = callsite.name; parent = context_from (with_starts (source q (current_of (t.entries (id_at setup.ids lane)))) at t.recording).spans (context_around (t.contexts (id_at setup.ids lane)) q) (source q (current_of (t.entries (id_at setup.ids lane)))); made = at; first = first; counting = r.counting; inactivity = r.settings.inactivity })) at (ops.Update (span_update callsite values r.settings))) (first_same callsite before (lane_in setup lane) r.settings id name)
 
-leveled_site : (o : Option Callsite) (lvl : Level) → option_map (λ (c : Callsite). c.level) o ≡ Some lvl → (callsite : Callsite) × (o ≡ Some callsite) × (callsite.level ≡ lvl)
-leveled_site None lvl is = absurd (cc is)
-leveled_site (Some c) lvl is = (c, refl, cc is)
+found_site_is : (o : Option Callsite) → is_some o ≡ true → (callsite : Callsite) × (o ≡ Some callsite)
+found_site_is None is = absurd (true≢false (sym is))
+found_site_is (Some c) is = (c, refl)
 
-module _ {S : Type 0} (spans : S → Spans) (recorded : S → Recording) (attaches : S → Bool) (kept : S → ℕ → ℕ → ℕ) (is_whole : S → Type 0) (old new : Worlds S) where
-  module _ (does : S → SubscriberCall → S → Type 0) (law : Law spans recorded attaches kept is_whole does) (recalls : Recalls spans recorded attaches kept is_whole does)
-      (dispatch : ℕ) (level : LevelFilter) (lanes : List Lane) (hs hs' : List (Option Handle)) (gs : List (Option Guard)) (cs : Named) (m at lane number : ℕ) (many : number ≡ length hs) (inv : IsKept kept is_whole old (state_of spans recorded old dispatch level lanes hs gs cs m)) where
+module _ {S : Type 0} (spans : S → Spans) (views : Views S) (attaches : S → Bool) (kept : S → ℕ → ℕ → ℕ) (is_whole : S → Type 0) (old new : Worlds S) where
+  module _ (does : S → SubscriberCall → S → Type 0) (law : Law spans views attaches kept is_whole does) (recalls : Recalls spans views attaches kept is_whole does)
+      (dispatch : ℕ) (opening : List ℕ) (lanes : List Lane) (hs hs' : List (Option Handle)) (gs : List (Option Guard)) (cs : Named) (m at lane number : ℕ) (many : number ≡ length hs) (inv : IsKept kept is_whole old (state_of spans views old dispatch opening lanes hs gs cs m)) where
     abbrev now : State
-    now = state_of spans recorded old dispatch level lanes hs gs cs m
+    now = state_of spans views old dispatch opening lanes hs gs cs m
 
     abbrev then : State
-    then = state_of spans recorded new dispatch level lanes hs' gs cs at
+    then = state_of spans views new dispatch opening lanes hs' gs cs at
 
     abbrev place_id : ℕ
     place_id = id_at now.setup.ids lane
 
     abbrev r : Recording
-    r = seen recorded no_recording old dispatch
+    r = seen views.recorded no_recording old dispatch
 
     next_number : (t : Tables) → Fits now t → number ≡ length t.handles
     next_number t fits = many ∙ sym (length-map hs held_by) ∙ ap length fits.handle_slots ∙ length-map t.handles (option_map (held_of dispatch))
 
     module _ (under : Place) (p : Parent) (site : ℕ) (callsite : Callsite) (sited : span_site old.sites site ≡ Some callsite) (found : place_for (map held_by hs) under ≡ Some p) where
       -- a span that is let through
-      module _ (fields : Fields) (values : ValueSet) (valued : all_values callsite fields ≡ Some values) (made : Handle) (before : Lane) (within : lane < length lanes) (seen_is : before ≡ get_or lanes lane before) (through : is_within callsite.level level ≡ true) (one : hs' ≡ hs ++ Some made ∷ [])
+      module _ (fields : Fields) (values : ValueSet) (valued : all_values callsite fields ≡ Some values) (made : Handle) (before : Lane) (within : lane < length lanes) (seen_is : before ≡ get_or lanes lane before) (through : (t : Tables) → StandsFor now t → admitted now.setup t place_id callsite ≡ true) (one : hs' ≡ hs ++ Some made ∷ [])
           (did : Makes spans does old new before at p site values dispatch made) where
         abbrev made_call : Replaced (λ s t. does s (NewSpan before at p site did.callsite values) t) old new dispatch
         made_call = record { before = did.made.before; later = did.made.later; there = did.made.there; did = did.made.did.1; others = did.made.others }
@@ -242,14 +244,14 @@ module _ {S : Type 0} (spans : S → Spans) (recorded : S → Recording) (attach
             let source = above r.settings.activation p current in
             let source_is : source ≡ above r.settings.activation q (current_of (t.entries place_id)) = ap (λ (x : Parent). above r.settings.activation x current) up.parent_is ∙ ap (λ (o : Option ℕ). above r.settings.activation q o) current_is in
             let recalled = recalls old new dispatch _ made_call in
-            let rec_is : seen recorded no_recording new dispatch ≡ record (recorded_by (length t.made) e r) { tokens = r.tokens } =
-            recalled ∙ ap (λ (n : ℕ). made_record n raw (with_starts source at r)) fits.made.count ∙ ap (λ (x : Told). made_record (length t.made) x (with_starts source at r)) told_is
+            let rec_is : seen views.recorded no_recording new dispatch ≡ record (recorded_by (length t.made) e r) { tokens = r.tokens } =
+            recalled.0 ∙ ap (λ (n : ℕ). made_record n raw (with_starts source at r)) fits.made.count ∙ ap (λ (x : Told). made_record (length t.made) x (with_starts source at r)) told_is
             ∙ ap (λ (x : Recording). made_record (length t.made) told x) (sym (starts_fold source at r) ∙ ap (λ (o : Option ℕ). fold (λ r s. with_start s at r) r (option_to_list o)) source_is)
             ∙ ap (λ (ts : List Token). record (recorded_by (length t.made) e r) { tokens = ts }) (recorded_tokens (length t.made) e r) in
             let settings = ap (λ (x : Recording). x.settings) rec_is ∙ recorded_settings (length t.made) e r in
             let sites = ap (λ (w : Worlds S). w.sites) did.made.others in
-            let setup : then.setup ≡ now.setup = ap (λ x. record now.setup { sites = x; layer = (seen recorded no_recording new dispatch).settings }) sites ∙ ap (λ x. record now.setup { layer = x }) settings in
-            let known : (s : ℕ) → 0 < (span_at then.spans.made s).holds → told_at s (seen recorded no_recording new dispatch).spans ≢ None = λ s some. elim (cases_eq s (length t.made)) [
+            let setup : then.setup ≡ now.setup = ap (λ x. record now.setup { sites = x; layer = (seen views.recorded no_recording new dispatch).settings }) sites ∙ ap (λ x. record now.setup { layer = x }) settings in
+            let known : (s : ℕ) → 0 < (span_at then.spans.made s).holds → told_at s (seen views.recorded no_recording new dispatch).spans ≢ None = λ s some. elim (cases_eq s (length t.made)) [
               | inl here ↦ (λ none. recorded_known (length t.made) s e r refl (subst (λ (k : ℕ). told_at k (add_span (length t.made) told (fold (λ r s. with_start s at r) r e.starts).spans) ≢ None) (sym here) (new_known (length t.made) told (fold (λ r s. with_start s at r) r e.starts).spans)) (ap (λ (x : Recording). told_at s x.spans) (sym rec_is) ∙ none))
               | inr other ↦ known_still now then t e r.tokens rec_is stands.recording s refl (new_live sp.made (own up.up) site s up.live (λ e. other (e ∙ length_held sp.made (own up.up) ∙ fits.made.count)) (subst (λ (x : Spans). 0 < (span_at x.made s).holds) step some))
             ] in
@@ -257,7 +259,7 @@ module _ {S : Type 0} (spans : S → Spans) (recorded : S → Recording) (attach
             (ap (λ o. named what.Site o (λ callsite. named what.Handle (scope_at t place_id under) (λ up. named what.Field (all_values callsite fields) (λ v. Ok (makes now.setup t at lane site callsite v under up))))) sited
             ∙ ap (λ o. named what.Handle o (λ up. named what.Field (all_values callsite fields) (λ v. Ok (makes now.setup t at lane site callsite v under up)))) up.is
             ∙ ap (λ o. named what.Field o (λ v. Ok (makes now.setup t at lane site callsite v under up.up))) valued
-            ∙ ap Ok (cond-true {A = Effect} (is_within callsite.level level) _ _ through))
+            ∙ ap Ok (cond-true {A = Effect} (admitted now.setup t place_id callsite) _ _ (through t stands)))
             (ap (λ n. reply.Made true n) (next_number t fits))
             setup r.tokens rec_is
             (fits_step now t fits then e (record {
@@ -281,13 +283,24 @@ module _ {S : Type 0} (spans : S → Spans) (recorded : S → Recording) (attach
             }))
             known
             (all_same now then t.contexts setup refl refl (ap (λ (x : Recording). x.tokens) rec_is) stands.recording.attached)
+            (record {
+              quiet = refl;
+              before = seen views.filtered None old dispatch;
+              later = seen views.filtered None new dispatch;
+              shown_before = refl;
+              shown_later = refl;
+              known = (refl, sym (length_push t.made new_made));
+              told = recalled.1 ∙ ap (λ (n : ℕ). option_map (λ (f : Filtered). hears f (OnNewSpan n (bare_lane place_id) at q None did.callsite values)) (seen views.filtered None old dispatch)) fits.made.count
+                  ∙ ap (λ (c : Callsite). option_map (λ (f : Filtered). hears f (OnNewSpan (length t.made) (bare_lane place_id) at q None c values)) (seen views.filtered None old dispatch)) callsite_is;
+              cached = ap (λ (w : Worlds S). w.cached) did.made.others;
+            })
 
         pub keeps_made : IsKept kept is_whole new then
-        keeps_made = kept_served spans recorded attaches kept is_whole old new now then inv _ _ (serves_made inv.tables (record { fits = inv.fits; recording = inv.recording })) refl made_shown.count made_shown.whole
+        keeps_made = kept_served spans views attaches kept is_whole old new now then inv _ _ (serves_made inv.tables (record { fits = inv.fits; recording = inv.recording; filtering = inv.filtering })) refl made_shown.count made_shown.whole
             (subst (λ (f : ℕ → ℕ → ℕ). LanesFit f (map laned lanes)) (sym made_shown.lanes) inv.lanes)
 
       -- one that isn't
-      module _ (fields : Fields) (values : ValueSet) (valued : all_values callsite fields ≡ Some values) (through : is_within callsite.level level ≡ false) (one : hs' ≡ hs ++ Some no_handle ∷ []) (same : new ≡ old) where
+      module _ (fields : Fields) (values : ValueSet) (valued : all_values callsite fields ≡ Some values) (through : (t : Tables) → StandsFor now t → admitted now.setup t place_id callsite ≡ false) (one : hs' ≡ hs ++ Some no_handle ∷ []) (same : new ≡ old) where
         pub serves_declined : (t : Tables) → StandsFor now t → Served (effect_of_call now.setup t at lane (call.New site under fields)) t now then (reply.Made false number)
         serves_declined t stands =
             let fits = stands.fits in
@@ -295,14 +308,14 @@ module _ {S : Type 0} (spans : S → Spans) (recorded : S → Recording) (attach
             let sp = spans_in spans old dispatch in
             let ids = now.setup.ids in
             let step : spans_in spans new dispatch ≡ sp = ap (λ (w : Worlds S). spans_in spans w dispatch) same in
-            let rec_is : seen recorded no_recording new dispatch ≡ r = ap (λ (w : Worlds S). seen recorded no_recording w dispatch) same in
-            let setup : then.setup ≡ now.setup = ap (λ (w : Worlds S). record now.setup { sites = w.sites; layer = (seen recorded no_recording w dispatch).settings }) same in
+            let rec_is : seen views.recorded no_recording new dispatch ≡ r = ap (λ (w : Worlds S). seen views.recorded no_recording w dispatch) same in
+            let setup : then.setup ≡ now.setup = ap (λ (w : Worlds S). record now.setup { sites = w.sites; layer = (seen views.recorded no_recording w dispatch).settings }) same in
             let e : Effect = declines t at place_id in
             serve now then t e _ (reply.Made false number) stands
             (ap (λ o. named what.Site o (λ callsite. named what.Handle (scope_at t place_id under) (λ up. named what.Field (all_values callsite fields) (λ v. Ok (makes now.setup t at lane site callsite v under up))))) sited
             ∙ ap (λ o. named what.Handle o (λ up. named what.Field (all_values callsite fields) (λ v. Ok (makes now.setup t at lane site callsite v under up)))) up.is
             ∙ ap (λ o. named what.Field o (λ v. Ok (makes now.setup t at lane site callsite v under up.up))) valued
-            ∙ ap Ok (cond-false {A = Effect} (is_within callsite.level level) _ _ through))
+            ∙ ap Ok (cond-false {A = Effect} (admitted now.setup t place_id callsite) _ _ (through t stands)))
             (ap (λ n. reply.Made false n) (next_number t fits))
             setup r.tokens rec_is
             (fits_step now t fits then e (record {
@@ -326,29 +339,35 @@ module _ {S : Type 0} (spans : S → Spans) (recorded : S → Recording) (attach
             }))
             (λ s some. known_still now then t e r.tokens rec_is stands.recording s refl (subst (λ (x : Spans). 0 < (span_at x.made s).holds) step some))
             (all_same now then t.contexts setup refl refl (ap (λ (x : Recording). x.tokens) rec_is) stands.recording.attached)
+            (record { quiet = refl; before = seen views.filtered None old dispatch; later = seen views.filtered None new dispatch; shown_before = refl; shown_later = refl; told = ap (λ (w : Worlds S). seen views.filtered None w dispatch) same ∙ heard_none (seen views.filtered None old dispatch); known = refl; cached = ap (λ (w : Worlds S). w.cached) same })
 
         pub keeps_declined : IsKept kept is_whole new then
-        keeps_declined = kept_served spans recorded attaches kept is_whole old new now then inv _ _ (serves_declined inv.tables (record { fits = inv.fits; recording = inv.recording })) refl (ap (λ (w : Worlds S). length w.subscribers) same) (λ has. subst (λ (w : Worlds S). Has is_whole w dispatch) (sym same) has)
+        keeps_declined = kept_served spans views attaches kept is_whole old new now then inv _ _ (serves_declined inv.tables (record { fits = inv.fits; recording = inv.recording; filtering = inv.filtering })) refl (ap (λ (w : Worlds S). length w.subscribers) same) (λ has. subst (λ (w : Worlds S). Has is_whole w dispatch) (sym same) has)
             (subst (λ (w : Worlds S). LanesFit (kept_in kept w dispatch) (map laned lanes)) (sym same) inv.lanes)
 
     -- let through or not
-    module _ (under : Place) (p : Parent) (found_site site : ℕ) (sited_is : found_site ≡ site) (lvl : Level) (leveled : option_map (λ (c : Callsite). c.level) (span_site old.sites site) ≡ Some lvl) (found : place_for (map held_by hs) under ≡ Some p)
+    module _ (under : Place) (p : Parent) (found_site site : ℕ) (sited_is : found_site ≡ site) (spanned : is_some (span_site old.sites site) ≡ true) (found : place_for (map held_by hs) under ≡ Some p)
         (fields : Fields) (values : ValueSet) (given : Callsite) (given_is : slice_get old.sites found_site ≡ Some given) (valued : all_values given fields ≡ Some values)
         (made : Handle) (before : Lane) (within : lane < length lanes) (seen_is : before ≡ get_or lanes lane before) (one : hs' ≡ hs ++ Some made ∷ []) where
-      its_site : (callsite : Callsite) × (span_site old.sites site ≡ Some callsite) × (callsite.level ≡ lvl)
-      its_site = leveled_site (span_site old.sites site) lvl leveled
+      its_site : (callsite : Callsite) × (span_site old.sites site ≡ Some callsite)
+      its_site = found_site_is (span_site old.sites site) spanned
 
       its_values : all_values its_site.0 fields ≡ Some values
       its_values = ap (λ (c : Callsite). all_values c fields) (sym (the_callsite given its_site.0 (sym given_is ∙ ap (λ (k : ℕ). slice_get old.sites k) sited_is ∙ site_is old.sites site its_site.0 its_site.1))) ∙ valued
 
-      pub serves_new : (enabled : Bool) → enabled ≡ is_within lvl level → MakesOnly spans does enabled old new before at p found_site values dispatch made
-          → (t : Tables) → StandsFor now t → Served (effect_of_call now.setup t at lane (call.New site under fields)) t now then (reply.Made enabled number)
-      serves_new true is did t stands = serves_made under p site its_site.0 its_site.1 found fields values its_values made before within seen_is (ap (λ (l : Level). is_within l level) its_site.2 ∙ sym is) one (subst (λ (k : ℕ). Makes spans does old new before at p k values dispatch made) sited_is did) t stands
-      serves_new false is did t stands = serves_declined under p site its_site.0 its_site.1 found fields values its_values (ap (λ (l : Level). is_within l level) its_site.2 ∙ sym is) (one ∙ ap (λ (h : Handle). hs ++ Some h ∷ []) did.0) did.1 t stands
+      -- the gate answered by the filter in force
+      its_answer : (enabled : Bool) → LetsThrough (seen views.filtered None old dispatch) old.sites before.id found_site enabled → (t : Tables) → StandsFor now t → admitted now.setup t place_id its_site.0 ≡ enabled
+      its_answer enabled gate t stands =
+          answered spans views old dispatch opening lanes hs gs cs m lane before within seen_is found_site its_site.0 (ap (λ (k : ℕ). slice_get old.sites k) sited_is ∙ site_is old.sites site its_site.0 its_site.1) enabled gate t stands
 
-      pub keeps_new : (enabled : Bool) → enabled ≡ is_within lvl level → MakesOnly spans does enabled old new before at p found_site values dispatch made → IsKept kept is_whole new then
-      keeps_new true is did = keeps_made under p site its_site.0 its_site.1 found fields values its_values made before within seen_is (ap (λ (l : Level). is_within l level) its_site.2 ∙ sym is) one (subst (λ (k : ℕ). Makes spans does old new before at p k values dispatch made) sited_is did)
-      keeps_new false is did = keeps_declined under p site its_site.0 its_site.1 found fields values its_values (ap (λ (l : Level). is_within l level) its_site.2 ∙ sym is) (one ∙ ap (λ (h : Handle). hs ++ Some h ∷ []) did.0) did.1
+      pub serves_new : (enabled : Bool) → LetsThrough (seen views.filtered None old dispatch) old.sites before.id found_site enabled → MakesOnly spans does enabled old new before at p found_site values dispatch made
+          → (t : Tables) → StandsFor now t → Served (effect_of_call now.setup t at lane (call.New site under fields)) t now then (reply.Made enabled number)
+      serves_new true gate did t stands = serves_made under p site its_site.0 its_site.1 found fields values its_values made before within seen_is (its_answer true gate) one (subst (λ (k : ℕ). Makes spans does old new before at p k values dispatch made) sited_is did) t stands
+      serves_new false gate did t stands = serves_declined under p site its_site.0 its_site.1 found fields values its_values (its_answer false gate) (one ∙ ap (λ (h : Handle). hs ++ Some h ∷ []) did.0) did.1 t stands
+
+      pub keeps_new : (enabled : Bool) → LetsThrough (seen views.filtered None old dispatch) old.sites before.id found_site enabled → MakesOnly spans does enabled old new before at p found_site values dispatch made → IsKept kept is_whole new then
+      keeps_new true gate did = keeps_made under p site its_site.0 its_site.1 found fields values its_values made before within seen_is (its_answer true gate) one (subst (λ (k : ℕ). Makes spans does old new before at p k values dispatch made) sited_is did)
+      keeps_new false gate did = keeps_declined under p site its_site.0 its_site.1 found fields values its_values (its_answer false gate) (one ∙ ap (λ (h : Handle). hs ++ Some h ∷ []) did.0) did.1
 
 -- what a making requires
 few_if : (o : Option ℕ) (made : List Span) → ((s : ℕ) → HasFewHolds made s) → IfSome o (HasFewHolds made)
@@ -359,7 +378,7 @@ of_held : (dispatch : ℕ) (line : Scope) (held : ℕ × ℕ) → Some held ≡ 
 of_held dispatch [] held is = absurd (cc is)
 of_held dispatch (s ∷ up) held is = (let e : held ≡ (dispatch, s) = cc is in ap (λ (h : ℕ × ℕ). h.0) e)
 
-module _ {S : Type 0} (spans : S → Spans) (recorded : S → Recording) (kept : S → ℕ → ℕ → ℕ) (is_whole : S → Type 0) (world : Worlds S) (dispatch : ℕ) (level : LevelFilter) (lanes : List Lane) (hs : List (Option Handle)) (gs : List (Option Guard)) (cs : Named) (m : ℕ) (inv : IsKept kept is_whole world (state_of spans recorded world dispatch level lanes hs gs cs m)) where
+module _ {S : Type 0} (spans : S → Spans) (views : Views S) (kept : S → ℕ → ℕ → ℕ) (is_whole : S → Type 0) (world : Worlds S) (dispatch : ℕ) (opening : List ℕ) (lanes : List Lane) (hs : List (Option Handle)) (gs : List (Option Guard)) (cs : Named) (m : ℕ) (inv : IsKept kept is_whole world (state_of spans views world dispatch opening lanes hs gs cs m)) where
   pub make_may : (under : Place) (p : Parent) → place_for (map held_by hs) under ≡ Some p → (lane : ℕ) → length hs < 2 ^ 62 → length gs < 2 ^ 62 → MayMake spans is_whole world lane p dispatch
   make_may under p found lane few_handles few_guards =
       let a = sym (length-map hs held_by) ∙ ap length inv.fits.handle_slots ∙ length-map inv.tables.handles (option_map (held_of dispatch)) in
@@ -367,14 +386,14 @@ module _ {S : Type 0} (spans : S → Spans) (recorded : S → Recording) (kept :
       record {
         there = inv.there;
         whole = inv.whole;
-        live = has_by spans no_spans world dispatch (λ (x : Spans). IsLivePlace x.made p) (find_up (state_of spans recorded world dispatch level lanes hs gs cs m) inv.tables inv.fits 0 under p found).live_place;
+        live = has_by spans no_spans world dispatch (λ (x : Spans). IsLivePlace x.made p) (find_up (state_of spans views world dispatch opening lanes hs gs cs m) inv.tables inv.fits 0 under p found).live_place;
         few = has_by spans no_spans world dispatch (λ (x : Spans). AreFew x) (let c = inv.fits.made.count in let f = inv.fits.few in omega (arith, a, c, f, few_handles));
         few_holds = has_by spans no_spans world dispatch (λ (x : Spans). HasFewHoldsAbove x lane p)
             (few_if (place_on (entries_on lane (spans_in spans world dispatch).lanes) p) (spans_in spans world dispatch).made (λ s. let f = inv.fits.few_holds s in omega (arith, f, a, b, few_handles, few_guards)));
       }
 
   pub tell_live : (under : Place) (p : Parent) → place_for (map held_by hs) under ≡ Some p → Has (λ s. IsLivePlace (spans s).made p) world dispatch
-  tell_live under p found = has_by spans no_spans world dispatch (λ (x : Spans). IsLivePlace x.made p) (find_up (state_of spans recorded world dispatch level lanes hs gs cs m) inv.tables inv.fits 0 under p found).live_place
+  tell_live under p found = has_by spans no_spans world dispatch (λ (x : Spans). IsLivePlace x.made p) (find_up (state_of spans views world dispatch opening lanes hs gs cs m) inv.tables inv.fits 0 under p found).live_place
 
   all_held : (n : ℕ) (held : ℕ × ℕ) → slot_at (map held_by hs) n ≡ Some (Some held) → held.0 ≡ dispatch
   all_held n held there = (let f = find (held_of dispatch) (map held_by hs) inv.tables.handles n (Some held) inv.fits.handle_slots there in of_held dispatch f.at held f.is)
@@ -383,11 +402,13 @@ module _ {S : Type 0} (spans : S → Spans) (recorded : S → Recording) (kept :
   all_of hs' same n held there = all_held n held (ap (λ (xs : List (Option Handle)). slot_at (map held_by xs) n) (sym same) ∙ there)
 
 -- after a refusal for want of memory
-pub made_alike : {S : Type 0} (spans : S → Spans) (recorded : S → Recording) (attaches : S → Bool) (kept : S → ℕ → ℕ → ℕ) (is_whole : S → Type 0) (same : S → S → Type 0) → ((old new : Worlds S) (dispatch : ℕ) → Replaced same old new dispatch → Alike spans attaches kept is_whole old new dispatch) → SameRecorded spans recorded attaches kept is_whole same
-    → (old new : Worlds S) (dispatch : ℕ) (level : LevelFilter) (lanes : List Lane) (hs hs' : List (Option Handle)) (gs : List (Option Guard)) (cs : Named) (m : ℕ) → hs' ≡ hs → Replaced same old new dispatch
-    → (state_of spans recorded new dispatch level lanes hs' gs cs m ≡ state_of spans recorded old dispatch level lanes hs gs cs m) × (IsKept kept is_whole old (state_of spans recorded old dispatch level lanes hs gs cs m) → IsKept kept is_whole new (state_of spans recorded new dispatch level lanes hs' gs cs m))
-made_alike {S} spans recorded attaches kept is_whole same law records old new dispatch level lanes hs hs' gs cs m handles did =
+pub made_alike : {S : Type 0} (spans : S → Spans) (views : Views S) (attaches : S → Bool) (kept : S → ℕ → ℕ → ℕ) (is_whole : S → Type 0) (same : S → S → Type 0) → ((old new : Worlds S) (dispatch : ℕ) → Replaced same old new dispatch → Alike spans attaches kept is_whole old new dispatch) → SameRecorded spans views attaches kept is_whole same
+    → (old new : Worlds S) (dispatch : ℕ) (opening : List ℕ) (lanes : List Lane) (hs hs' : List (Option Handle)) (gs : List (Option Guard)) (cs : Named) (m : ℕ) → hs' ≡ hs → Replaced same old new dispatch
+    → (state_of spans views new dispatch opening lanes hs' gs cs m ≡ state_of spans views old dispatch opening lanes hs gs cs m) × (IsKept kept is_whole old (state_of spans views old dispatch opening lanes hs gs cs m) → IsKept kept is_whole new (state_of spans views new dispatch opening lanes hs' gs cs m))
+made_alike {S} spans views attaches kept is_whole same law records old new dispatch opening lanes hs hs' gs cs m handles did =
     let alike = law old new dispatch did in
     let sites = ap (λ (w : Worlds S). w.sites) did.others in
-    let state : state_of spans recorded new dispatch level lanes hs' gs cs m ≡ state_of spans recorded old dispatch level lanes hs gs cs m = rw (alike.spans_same, sites, records old new dispatch did, handles) refl in
-    (state, λ inv. kept_alike spans recorded attaches kept is_whole old new _ _ inv state alike)
+    let told = records old new dispatch did in
+    let cached = ap (λ (w : Worlds S). w.cached) did.others in
+    let state : state_of spans views new dispatch opening lanes hs' gs cs m ≡ state_of spans views old dispatch opening lanes hs gs cs m = rw (alike.spans_same, sites, told.0, told.1, cached, handles) refl in
+    (state, λ inv. kept_alike spans views attaches kept is_whole old new _ _ inv state alike)

@@ -95,5 +95,8 @@ of_all hs n (Some h) there dispatch all = all n h there
 pub found_place : (hs' hs : List (Option Handle)) (under : Place) (o : Option Above) (x : Above) → hs' ≡ hs → option_map parent_of o ≡ place_for (map held_by hs') under → o ≡ Some x → place_for (map held_by hs) under ≡ Some (parent_of x)
 found_place hs' hs under o x same is found = ap (λ (xs : List (Option Handle)). place_for (map held_by xs) under) (sym same) ∙ sym is ∙ ap (option_map parent_of) found
 
+pub found_nowhere : (hs' hs : List (Option Handle)) (under : Place) (o : Option Above) → hs' ≡ hs → option_map parent_of o ≡ place_for (map held_by hs') under → o ≡ None → place_for (map held_by hs) under ≡ None
+found_nowhere hs' hs under o same is gone = ap (λ (xs : List (Option Handle)). place_for (map held_by xs) under) (sym same) ∙ sym is ∙ ap (option_map parent_of) gone
+
 pub found_parent : (hs : List (Option Handle)) (under : Place) (o : Option Above) (x : Above) → option_map parent_of o ≡ place_for (map held_by hs) under → o ≡ Some x → (p : Parent) → p ≡ parent_of x → place_for (map held_by hs) under ≡ Some p
 found_parent hs under o x is found p same = found_place hs hs under o x refl is found ∙ ap Some (sym same)

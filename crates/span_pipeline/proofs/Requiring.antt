@@ -3,7 +3,6 @@ use Rattle.std.proofs.Common.{◌≡◌, ℕ, ◌<◌, ◌^◌, List, ◌∷◌,
 use Rattle.std.proofs.lemmas.List.{length-map}
 use Rattle.std.proofs.Math.ListN.{get_or-map}
 use Rattle.trace_base.specs.declared.lane.Lane.{Lane}
-use Rattle.trace_base.specs.declared.level.LevelFilter.{LevelFilter}
 use Rattle.trace_base.specs.Gate.{Worlds}
 use Rattle.trace_base.specs.Spans.{Spans}
 use Rattle.trace_base.specs.Conditions.{HasOwnHold, HasFewHolds, MayExit}
@@ -13,10 +12,9 @@ use Rattle.span_handles.specs.Handles.{Handle, Held, HasOn, IsKnown}
 use Rattle.span_handles.specs.Entries.{IsThere}
 use Rattle.span_pipeline.specs.declared.slots.Guard.{Guard}
 use Rattle.span_pipeline.specs.Setups.{id_at}
-use Rattle.otel_layer.specs.Recording.{Recording}
 use Rattle.span_pipeline.specs.Tables.{Scope, slot_at, own}
 use Rattle.span_pipeline.specs.Balance.{named_by, opened_on, opened_by}
-use Rattle.span_pipeline.specs.Fits.{Named, state_of, held_by, IsKept, held_of, guard_of}
+use Rattle.span_pipeline.specs.Fits.{Views, Named, state_of, held_by, IsKept, held_of, guard_of}
 use Rattle.span_pipeline.proofs.Naming.{Found, find, held_slot}
 use Rattle.span_pipeline.proofs.Fitting.{fits_own, fits_may_exit}
 use Rattle.span_pipeline.proofs.Balancing.{named_slot, opened_slot}
@@ -26,10 +24,10 @@ use Rattle.span_pipeline.proofs.Keeping.{are_attached, id_seen}
 the_held : (a b : Held) → ◌≡◌ {A = Option Held} (Some a) (Some b) → a ≡ b
 the_held a b e = cc e
 
-module _ {S : Type 0} (spans : S → Spans) (recorded : S → Recording) (kept : S → ℕ → ℕ → ℕ) (is_whole : S → Type 0) (world : Worlds S) (dispatch : ℕ) (level : LevelFilter) (lanes : List Lane) (handles : List (Option Handle)) (guards : List (Option Guard)) (contexts : Named) (moment : ℕ)
-    (inv : IsKept kept is_whole world (state_of spans recorded world dispatch level lanes handles guards contexts moment)) where
+module _ {S : Type 0} (spans : S → Spans) (views : Views S) (kept : S → ℕ → ℕ → ℕ) (is_whole : S → Type 0) (world : Worlds S) (dispatch : ℕ) (opening : List ℕ) (lanes : List Lane) (handles : List (Option Handle)) (guards : List (Option Guard)) (contexts : Named) (moment : ℕ)
+    (inv : IsKept kept is_whole world (state_of spans views world dispatch opening lanes handles guards contexts moment)) where
   abbrev ids : List ℕ
-  ids = (state_of spans recorded world dispatch level lanes handles guards contexts moment).setup.ids
+  ids = (state_of spans views world dispatch opening lanes handles guards contexts moment).setup.ids
 
   abbrev sp : Spans
   sp = spans_in spans world dispatch

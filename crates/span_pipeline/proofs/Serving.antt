@@ -18,9 +18,10 @@ use Rattle.span_pipeline.specs.declared.contexts.Attach.{Attach}
 use Rattle.span_pipeline.specs.Setups.{Setup}
 use Rattle.span_pipeline.specs.Tables.{Scope, Attached, Effect, Tables, after, recorded_by}
 use Rattle.span_pipeline.specs.Effects.{Resolved, effect_of_call}
-use Rattle.span_pipeline.specs.Fits.{State, Laned, Fits, StandsFor, RecordingFits, AllContextsFit, LanesFit, IsKept, Served}
+use Rattle.span_pipeline.specs.Fits.{Views, State, Laned, Fits, StandsFor, RecordingFits, FilteringFits, AllContextsFit, LanesFit, IsKept, Served}
 use Rattle.span_pipeline.proofs.Known.{still_known}
 use Rattle.span_pipeline.proofs.Recordings.{recording_step}
+use Rattle.span_pipeline.proofs.Filtering.{Hears, filtering_step}
 use Rattle.span_pipeline.proofs.Reading.{ShownOn}
 
 -- what is said of the fields is said of the value that they make
@@ -37,11 +38,17 @@ abbrev pub AllFit : State → (ℕ → List Attached) → Type 0
 AllFit k contexts = AllContextsFit k.setup.layer.activation k.lanes k.recording.tokens k.contexts.attaches contexts
 
 -- a request is served where its effect makes what is kept
-pub serve : (k next : State) (t : Tables) (e : Effect) (resolved : Resolved) (answer : Reply) → StandsFor k t → resolved ≡ Ok e → answer ≡ e.reply → next.setup ≡ k.setup → (toks : List Token)
-    → next.recording ≡ record (recorded_by (length t.made) e k.recording) { tokens = toks } → Fits next (after t e) → ((s : ℕ) → 0 < (span_at next.spans.made s).holds → told_at s next.recording.spans ≢ None) → AllFit next (after t e).contexts → Served resolved t k next answer
-serve k next t e resolved answer stands is reply_is setup toks recorded fits known attached =
+pub serve_with : (k next : State) (t : Tables) (e : Effect) (resolved : Resolved) (answer : Reply) → StandsFor k t → resolved ≡ Ok e → answer ≡ e.reply → next.setup ≡ k.setup → (toks : List Token)
+    → next.recording ≡ record (recorded_by (length t.made) e k.recording) { tokens = toks } → Fits next (after t e) → ((s : ℕ) → 0 < (span_at next.spans.made s).holds → told_at s next.recording.spans ≢ None) → AllFit next (after t e).contexts → FilteringFits next (after t e) → Served resolved t k next answer
+serve_with k next t e resolved answer stands is reply_is setup toks recorded fits known attached filtering =
     let step = recording_step k.recording next.recording t e stands.recording.recorded toks recorded in
-    record { effect = e; is = is; reply_is = reply_is; setup = setup; records = step.finished; stands = record { fits = fits; recording = record { recorded = step.open_is; known = known; attached = attached } } }
+    record { effect = e; is = is; reply_is = reply_is; setup = setup; records = step.finished; stands = record { fits = fits; recording = record { recorded = step.open_is; known = known; attached = attached }; filtering = filtering } }
+
+-- where no other filter is put in force
+pub serve : (k next : State) (t : Tables) (e : Effect) (resolved : Resolved) (answer : Reply) → StandsFor k t → resolved ≡ Ok e → answer ≡ e.reply → next.setup ≡ k.setup → (toks : List Token)
+    → next.recording ≡ record (recorded_by (length t.made) e k.recording) { tokens = toks } → Fits next (after t e) → ((s : ℕ) → 0 < (span_at next.spans.made s).holds → told_at s next.recording.spans ≢ None) → AllFit next (after t e).contexts → Hears k t e next → Served resolved t k next answer
+serve k next t e resolved answer stands is reply_is setup toks recorded fits known attached heard =
+    serve_with k next t e resolved answer stands is reply_is setup toks recorded fits known attached (filtering_step k next t e stands.fits.made.count fits.made.count stands.filtering setup heard)
 
 -- where no span closes and none is made, those with holds are still known
 pub known_still : (k next : State) (t : Tables) (e : Effect) (toks : List Token) → next.recording ≡ record (recorded_by (length t.made) e k.recording) { tokens = toks } → RecordingFits k t → (s : ℕ) → list_any (λ x. x == s) e.closes ≡ false
@@ -56,34 +63,40 @@ all_same k next contexts setup attaches lanes tokens fit =
     (subst (λ (ls : List Laned). AllContextsFit k.setup.layer.activation ls next.recording.tokens k.contexts.attaches contexts) (sym lanes)
     (subst (λ (ts : List Token). AllContextsFit k.setup.layer.activation k.lanes ts k.contexts.attaches contexts) (sym tokens) fit)))
 
-module _ {S : Type 0} (spans : S → Spans) (recorded : S → Recording) (attaches : S → Bool) (kept : S → ℕ → ℕ → ℕ) (is_whole : S → Type 0) (old new : Worlds S) where
+module _ {S : Type 0} (spans : S → Spans) (views : Views S) (attaches : S → Bool) (kept : S → ℕ → ℕ → ℕ) (is_whole : S → Type 0) (old new : Worlds S) where
   -- what is kept besides what fits the tables
   pub kept_served : (k next : State) (inv : IsKept kept is_whole old k) (resolved : Resolved) (answer : Reply) → Served resolved inv.tables k next answer → next.dispatch ≡ k.dispatch → length new.subscribers ≡ length old.subscribers
       → (Has is_whole old k.dispatch → Has is_whole new k.dispatch) → LanesFit (kept_in kept new k.dispatch) next.lanes → IsKept kept is_whole new next
   kept_served k next inv resolved answer served dispatch count whole lanes = record {
     there = (let b = inv.there in omega (arith, b, dispatch, count));
+    alone = count ∙ inv.alone;
     whole = subst (λ (d : ℕ). Has is_whole new d) (sym dispatch) (whole inv.whole);
     lanes = subst (λ (d : ℕ). LanesFit (kept_in kept new d) next.lanes) (sym dispatch) lanes;
     tables = after inv.tables served.effect;
     fits = served.stands.fits;
     recording = served.stands.recording;
+    filtering = served.stands.filtering;
   }
 
   -- what one call on a scope keeps
-  pub call_count : (dispatch : ℕ) (line : Scope) (call : ℕ → SubscriberCall) → ShownOn spans recorded attaches kept is_whole old new dispatch line call → length new.subscribers ≡ length old.subscribers
+  pub call_count : (dispatch : ℕ) (line : Scope) (call : ℕ → SubscriberCall) → ShownOn spans views attaches kept is_whole old new dispatch line call → length new.subscribers ≡ length old.subscribers
   call_count dispatch [] call same = ap (λ (w : Worlds S). length w.subscribers) same
   call_count dispatch (s ∷ up) call shown = shown.0.count
 
-  pub call_sites : (dispatch : ℕ) (line : Scope) (call : ℕ → SubscriberCall) → ShownOn spans recorded attaches kept is_whole old new dispatch line call → new.sites ≡ old.sites
+  pub call_sites : (dispatch : ℕ) (line : Scope) (call : ℕ → SubscriberCall) → ShownOn spans views attaches kept is_whole old new dispatch line call → new.sites ≡ old.sites
   call_sites dispatch [] call same = ap (λ (w : Worlds S). w.sites) same
   call_sites dispatch (s ∷ up) call shown = shown.1
 
-  pub call_whole : (dispatch : ℕ) (line : Scope) (call : ℕ → SubscriberCall) → ShownOn spans recorded attaches kept is_whole old new dispatch line call → Has is_whole old dispatch → Has is_whole new dispatch
+  pub call_cached : (dispatch : ℕ) (line : Scope) (call : ℕ → SubscriberCall) → ShownOn spans views attaches kept is_whole old new dispatch line call → new.cached ≡ old.cached
+  call_cached dispatch [] call same = ap (λ (w : Worlds S). w.cached) same
+  call_cached dispatch (s ∷ up) call shown = shown.4
+
+  pub call_whole : (dispatch : ℕ) (line : Scope) (call : ℕ → SubscriberCall) → ShownOn spans views attaches kept is_whole old new dispatch line call → Has is_whole old dispatch → Has is_whole new dispatch
   call_whole dispatch [] call same has = subst (λ (w : Worlds S). Has is_whole w dispatch) (sym same) has
   call_whole dispatch (s ∷ up) call shown has = shown.0.whole has
 
   pub call_lanes : (dispatch : ℕ) (line : Scope) (call : ℕ → SubscriberCall) (before later : Lane) → ((s : ℕ) (b : Bool) (f g : ℕ → ℕ → ℕ) → Lanes b f (call s) g → (later.id ≡ before.id) × (later.name ≡ before.name) × KeepsAttached f before later g)
-      → (line ≡ [] → later ≡ before) → ShownOn spans recorded attaches kept is_whole old new dispatch line call
+      → (line ≡ [] → later ≡ before) → ShownOn spans views attaches kept is_whole old new dispatch line call
       → (later.id ≡ before.id) × (later.name ≡ before.name) × KeepsAttached (kept_in kept old dispatch) before later (kept_in kept new dispatch)
   call_lanes dispatch [] call before later step none same = (
     ap (λ (l : Lane). l.id) (none refl),

@@ -2,7 +2,6 @@
 use Rattle.std.proofs.Common.{◌≡◌, ℕ, ◌<◌, zero, suc, List, [], ◌∷◌, length, Option, Some, None, option_map, map, sym, ap, ◌∙◌, arith, slice_get, refl}
 use Rattle.std.proofs.Math.ListN.{get_or-map}
 use Rattle.trace_base.specs.Gate.{Worlds}
-use Rattle.trace_base.specs.Spans.{Spans, span_at}
 use Rattle.trace_base.specs.Calls.{SubscriberCall}
 use Rattle.span_handles.specs.Handles.{Handle, Copies}
 use Rattle.span_pipeline.specs.Tables.{Scope, Made, Tables, slot_at, own, site_of, made_of}

@@ -1,18 +1,68 @@
--- The filter in force.
-use Rattle.std.specs.Prelude.{ℕ, List, if◌then◌else◌, Option, Some, None, unwrap_or, codes, bytes_eq}
-use Rattle.trace_base.specs.declared.level.LevelFilter.{LevelFilter}
-use Rattle.trace_base.specs.declared.level.LevelFilter.TheVariants as filter
+-- What a filter's text is read as, and which filter is in force.
+use Rattle.std.specs.Prelude.{◌≡◌, ℕ, ◌+◌, List, [], ◌∷◌, if◌then◌else◌, Bool, false, Result, Ok, Err, is_ok}
+use Rattle.std.specs.Str.{trim}
+use Rattle.env_directives.specs.Reading.{Read, reading}
+use Rattle.env_directives.specs.Separators.{comma_pieces}
+use Rattle.env_directives.specs.Table.{empty_table}
+use Rattle.env_directives.specs.declared.env.directive.Directive.{Directive}
+use Rattle.env_directives.specs.declared.directive.ParseError.{ParseError}
+use Rattle.env_filter.specs.Filtering.{Filtered}
+use Rattle.env_filter.specs.Pieces.{is_memory}
+use Rattle.span_pipeline.specs.declared.pipeline.OpenError.{OpenError}
+use Rattle.span_pipeline.specs.declared.pipeline.OpenError.TheVariants as errors
+use Rattle.env_filter.specs.Tables.{statics_of, dynamics_of, with_tables}
 
--- the filter that one of the six level words in lower case stands for
-abbrev pub filter_word : List ℕ → Option LevelFilter
-filter_word word =
-    if bytes_eq word (codes "off") then Some filter.OFF else
-    (if bytes_eq word (codes "error") then Some filter.ERROR else
-    (if bytes_eq word (codes "warn") then Some filter.WARN else
-    (if bytes_eq word (codes "info") then Some filter.INFO else
-    (if bytes_eq word (codes "debug") then Some filter.DEBUG else
-    (if bytes_eq word (codes "trace") then Some filter.TRACE else None)))))
+-- the directives of a text, or the number of its first piece that is none
+abbrev pub TextRead : Type 0
+TextRead = Result (List Directive) ℕ
 
--- a text that is no such word lets nothing through
-abbrev pub in_force : List ℕ → LevelFilter
-in_force word = unwrap_or (filter_word word) filter.OFF
+-- what a piece of a number is read as, before what those behind it are
+abbrev pub with_read : ℕ → Read → TextRead → TextRead
+with_read number (Err fault) behind = Err number
+with_read number (Ok d) (Err later) = Err later
+with_read number (Ok d) (Ok ds) = Ok (d ∷ ds)
+
+-- an empty one is no directive, and no fault; values of texts are taken as they stand
+abbrev pub with_piece : ℕ → List ℕ → TextRead → TextRead
+with_piece number [] behind = behind
+with_piece number (b ∷ bs) behind = with_read number (reading false (trim (b ∷ bs))) behind
+
+-- pieces, which are numbered on from a number
+abbrev pub pieces_read : ℕ → List (List ℕ) → TextRead
+pieces_read number [] = Ok []
+pieces_read number (piece ∷ pieces) = with_piece number piece (pieces_read (number + 1) pieces)
+
+-- a text is cut at commas
+abbrev pub text_read : List ℕ → TextRead
+text_read text = pieces_read 1 (comma_pieces text)
+
+-- a filter of some directives, with no span and no level
+abbrev pub filter_of : List Directive → Filtered
+filter_of ds = with_tables false (statics_of ds) (dynamics_of ds)
+
+-- the filter of a text, none but where all its pieces are directives
+abbrev pub filter_if : TextRead → Filtered
+filter_if (Ok ds) = filter_of ds
+filter_if (Err number) = with_tables false empty_table empty_table
+
+abbrev pub text_filter : List ℕ → Filtered
+text_filter text = filter_if (text_read text)
+
+-- whether all pieces of a text are directives
+abbrev pub is_text_read : List ℕ → Bool
+is_text_read text = is_ok (text_read text)
+
+-- why a pipeline isn't opened
+abbrev pub IsUnread : List ℕ → OpenError → Type 0
+IsUnread text errors.Memory = Unit {0}
+IsUnread text (errors.Directive piece) = text_read text ≡ Err piece
+
+-- want of memory, or the number of a piece with a fault
+abbrev pub unread_by : ℕ → ParseError → OpenError
+unread_by piece fault = if is_memory fault then errors.Memory else errors.Directive piece
+
+-- a filter is that of a text, whose pieces are all directives
+pub record IsTextFilter (text : List ℕ) (f : Filtered) : Type 0 where
+  pub directives : List Directive
+  pub read : text_read text ≡ Ok directives
+  pub is : f ≡ filter_of directives

@@ -1,20 +1,26 @@
 -- What each request changes, or the first refusal that applies.
-use Rattle.std.specs.Prelude.{ℕ, List, [], ◌∷◌, length, filter, count_by, Bool, true, not, false, if◌then◌else◌, ◌==◌, ◌||◌, ◌&&◌, nat_lt, is_some, Option, Some, None, Result, Ok, Err, slice_get, slice_set, option_map, option_and_then}
+use Rattle.std.specs.Prelude.{ℕ, List, [], ◌∷◌, length, filter, fold, map, unwrap_or, count_by, Bool, true, not, false, if◌then◌else◌, ◌==◌, ◌||◌, ◌&&◌, nat_lt, is_some, Option, Some, None, Result, Ok, Err, slice_get, slice_set, option_map, option_and_then}
 use Rattle.std.specs.List.{list_any, range_with_len}
-use Rattle.trace_base.specs.Level.{is_within}
 use Rattle.trace_base.specs.Spans.{is_in, current_of}
 use Rattle.std.specs.Option.{option_to_list}
+use Rattle.trace_base.specs.Hooks.{Hook, OnNewSpan, OnRecord, OnEnter, OnExit, OnClose}
+use Rattle.env_filter.specs.Filtering.{Filtered, is_admitted, after as hears}
 use Rattle.otel_base.specs.declared.context.Context.{Context}
-use Rattle.otel_base.specs.Ids.{ids_of}
+use Rattle.otel_base.specs.declared.context.SpanContext.{SpanContext}
+use Rattle.otel_base.specs.declared.value.KeyValue.{KeyValue}
+use Rattle.otel_base.specs.Ids.{ids_of, is_valid}
 use Rattle.otel_base.specs.Stack.{empty_context}
 use Rattle.otel_state.specs.declared.op.Op.{Op}
 use Rattle.otel_state.specs.declared.op.Op.TheVariants as ops
+use Rattle.otel_state.specs.declared.op.SetParentError.{SetParentError}
+use Rattle.otel_state.specs.declared.op.SetParentError.TheVariants as unset
 use Rattle.otel_state.specs.declared.settings.LayerSettings.{LayerSettings}
 use Rattle.otel_state.specs.EventFields.{event_of}
 use Rattle.otel_state.specs.SpanFields.{span_update}
 use Rattle.otel_state.specs.States.{Told}
 use Rattle.otel_layer.specs.Steps.{above, context_from, made_told}
-use Rattle.otel_layer.specs.Table.{told_at, own_or}
+use Rattle.otel_layer.specs.Asking.{link_of, event_at}
+use Rattle.otel_layer.specs.Table.{told_at, own_or, waits}
 use Rattle.otel_layer.specs.Recording.{Recording, with_start, with_starts}
 use Rattle.trace_base.specs.declared.field.ValueSet.{ValueSet}
 use Rattle.trace_base.specs.declared.lane.Lane.{Lane}
@@ -33,6 +39,7 @@ use Rattle.span_pipeline.specs.declared.request.Call.{Call}
 use Rattle.span_pipeline.specs.declared.request.Call.TheVariants as call
 use Rattle.span_pipeline.specs.declared.request.Request.{Request}
 use Rattle.span_pipeline.specs.declared.request.TheConstants.{LAST_MOMENT}
+use Rattle.span_pipeline.specs.Admission.{TextRead, text_read, text_filter}
 use Rattle.span_pipeline.specs.Setups.{Setup, id_at, name_at, span_site, event_site}
 use Rattle.span_pipeline.specs.Tables.{Scope, Done, EntryOf, GuardOf, Attached, Guarded, Effect, quiet, Tables, slot_at, own, site_of, scope_of}
 use Rattle.span_pipeline.specs.Fields.{Fields, all_values, values_of, declared_by}
@@ -72,6 +79,29 @@ borrows handle (Some guarded) = guarded.handle == handle
 -- a handle is borrowed while a guard that names it is unspent
 abbrev pub is_borrowed : List (Option Guarded) → ℕ → Bool
 is_borrowed slots handle = list_any (borrows handle) slots
+
+-- ---- the filter
+
+-- the text in force: that of the last reload, that of the settings before the first
+abbrev pub in_force : Setup → Tables → List ℕ
+in_force setup t = unwrap_or t.filter setup.filter
+
+-- the filter in force: that of its text, after all that it heard
+abbrev pub filter_at : Setup → Tables → Filtered
+filter_at setup t = fold hears (text_filter (in_force setup t)) t.heard
+
+-- whether what a callsite makes on the lane of an id is let through
+abbrev pub admitted : Setup → Tables → ℕ → Callsite → Bool
+admitted setup t lane callsite = is_admitted (filter_at setup t) lane callsite
+
+-- a lane of an id, of which a filter hears no more
+abbrev pub bare_lane : ℕ → Lane
+bare_lane id = record { id = id; name = None; default = None; contexts = record { live = []; room = 0 } }
+
+-- what is heard of a scope's own span, if it has one
+abbrev pub heard_on : Scope → (ℕ → Hook) → List Hook
+heard_on [] hook = []
+heard_on (s ∷ up) hook = hook s ∷ []
 
 -- ---- makings
 
@@ -122,12 +152,13 @@ makes_span setup t at lane site callsite values under up =
       new_handle = Some scope;
       made = Some (record { site = site; scope = scope; told = made_at setup t at lane callsite values (parent_at under up) });
       starts = option_to_list (above setup.layer.activation (parent_at under up) (current_of (t.entries (id_at setup.ids lane))));
+      heard = OnNewSpan (length t.made) (bare_lane (id_at setup.ids lane)) at (parent_at under up) None callsite values ∷ [];
     }
 
--- a callsite within the level gives a span, any other a disabled handle
+-- a callsite that is let through gives a span, any other a disabled handle
 abbrev pub makes : Setup → Tables → ℕ → ℕ → ℕ → Callsite → ValueSet → Place → Scope → Effect
 makes setup t at lane site callsite values under up =
-    if is_within callsite.level setup.level then makes_span setup t at lane site callsite values under up else declines t at (id_at setup.ids lane)
+    if admitted setup t (id_at setup.ids lane) callsite then makes_span setup t at lane site callsite values under up else declines t at (id_at setup.ids lane)
 
 -- another handle of a scope: enabled if the scope has a span
 abbrev pub clones : Tables → ℕ → ℕ → Scope → Effect
@@ -138,6 +169,7 @@ abbrev pub drops : Tables → ℕ → ℕ → ℕ → Scope → Effect
 drops t at lane handle scope = record (quiet at lane reply.Done) {
   spent_handle = Some handle;
   closes = closed_of (slice_set t.handles handle None) scope;
+  heard = map (λ s. OnClose s at) (closed_of (slice_set t.handles handle None) scope);
 }
 
 abbrev pub drops_unless : Bool → Effect → Resolved
@@ -179,6 +211,7 @@ enters setup t at lane handle owns scope = record (quiet at (id_at setup.ids lan
   ops = on scope ops.Enter;
   attach = attached_by t.recording at (active setup.layer.activation scope);
   entry = own scope;
+  heard = heard_on scope (λ s. OnEnter s at (bare_lane (id_at setup.ids lane)) (bare_lane (id_at setup.ids lane)));
 }
 
 -- a lane is full that has as many contexts as may be
@@ -204,6 +237,7 @@ exits setup at lane guard scope = record (quiet at lane reply.Done) {
   ops = on scope ops.Exit;
   detach = option_map EntryOf (active setup.layer.activation scope);
   exit = own scope;
+  heard = heard_on scope (λ s. OnExit s at (bare_lane lane) (bare_lane lane));
 }
 
 -- a guard that owns its handle isn't spent while the handle has another open guard
@@ -228,9 +262,9 @@ abbrev pub tells : ℕ → ℕ → Reply → List Done → Effect
 tells at lane answer done = record (quiet at lane answer) { ops = done }
 
 -- an event goes to the own span of the scope that its place names
-abbrev pub events : Setup → ℕ → ℕ → Callsite → ValueSet → Scope → Effect
-events setup at lane callsite values reached =
-    let enabled = is_within callsite.level setup.level in
+abbrev pub events : Setup → Tables → ℕ → ℕ → Callsite → ValueSet → Scope → Effect
+events setup t at lane callsite values reached =
+    let enabled = admitted setup t lane callsite in
     tells at lane (reply.Enabled enabled) (if_told enabled (on reached (event_of callsite values setup.layer at)))
 
 -- ---- fields
@@ -244,6 +278,32 @@ abbrev pub updates : LayerSettings → Scope → Fields → Option Callsite → 
 updates settings scope fields None = []
 updates settings scope fields (Some callsite) =
     on scope (ops.Update (span_update callsite (values_of callsite fields) settings))
+
+-- what is heard of them
+abbrev pub heard_values : ℕ → Scope → Fields → Option Callsite → List Hook
+heard_values at scope fields None = []
+heard_values at scope fields (Some callsite) = heard_on scope (λ s. OnRecord s at callsite (values_of callsite fields))
+
+-- values are recorded on a scope's own span
+abbrev pub records : Setup → Tables → ℕ → ℕ → Scope → Fields → Effect
+records setup t at lane scope fields = record (tells at lane reply.Done (updates setup.layer scope fields (callsite_of setup t scope))) {
+  heard = heard_values at scope fields (callsite_of setup t scope);
+}
+
+-- ---- asking for the gate, and another filter
+
+-- an answer alone
+abbrev pub asks : Setup → Tables → ℕ → ℕ → Callsite → Effect
+asks setup t at lane callsite = quiet at lane (reply.Enabled (admitted setup t lane callsite))
+
+-- a filter of another text, which has heard nothing yet
+abbrev pub reloads : ℕ → ℕ → List ℕ → Effect
+reloads at lane text = record (quiet at lane reply.Done) { filter = Some text }
+
+-- a text is put in force if each of its pieces is a directive
+abbrev pub reloads_if : ℕ → ℕ → List ℕ → TextRead → Resolved
+reloads_if at lane text (Ok ds) = Ok (reloads at lane text)
+reloads_if at lane text (Err piece) = Err (refusal.Directive piece)
 
 -- ---- contexts
 
@@ -268,6 +328,35 @@ attaches setup t at lane context = record (quiet at (id_at setup.ids lane) (repl
 
 abbrev pub detaches : ℕ → ℕ → ℕ → Effect
 detaches at lane guard = record (quiet at lane reply.Done) { spent_attach = Some guard; detach = Some (GuardOf guard) }
+
+-- ---- what is asked of spans from outside
+
+-- where both are enabled the followed span starts, and the other one is linked to its own context
+abbrev pub follows : Tables → ℕ → ℕ → Scope → Scope → Effect
+follows t at lane [] from = quiet at lane reply.Done
+follows t at lane (s ∷ up) [] = quiet at lane reply.Done
+follows t at lane (s ∷ up) (f ∷ above) = record (quiet at lane reply.Done) {
+  starts = f ∷ [];
+  ops = on (s ∷ up) (link_of (ids_of (own_context t.recording at (f ∷ above))) []);
+}
+
+-- whether a parent is set: of a span that has started it isn't
+abbrev pub set_unless_started : Bool → Result (Unit {0}) SetParentError
+set_unless_started true = Ok tt
+set_unless_started false = Err unset.AlreadyStarted
+
+abbrev pub is_set : Recording → Scope → Result (Unit {0}) SetParentError
+is_set r [] = Err unset.SpanDisabled
+is_set r (s ∷ up) = set_unless_started (is_some (waits (told_at s r.spans)))
+
+-- a link to what a context shows, none where that is invalid
+abbrev pub links : Scope → SpanContext → List KeyValue → List Done
+links scope ids attributes = if is_valid ids then on scope (link_of ids attributes) else []
+
+-- an event of a request without a time happens at its moment
+abbrev pub happens_at : ℕ → Option ℕ → ℕ
+happens_at at None = at
+happens_at at (Some time) = time
 
 -- ---- all calls
 
@@ -298,7 +387,7 @@ effect_of_call setup t at lane (call.Entered handle) =
     (λ scope. if is_borrowed t.guards handle then Err refusal.InUse else opens setup t at lane handle true)
 effect_of_call setup t at lane (call.Record handle fields) =
     named what.Handle (slot_at t.handles handle)
-    (λ scope. Ok (tells at (id_at setup.ids lane) reply.Done (updates setup.layer scope fields (callsite_of setup t scope))))
+    (λ scope. Ok (records setup t at (id_at setup.ids lane) scope fields))
 effect_of_call setup t at lane (call.HasField handle name) =
     named what.Handle (slot_at t.handles handle)
     (λ scope. Ok (quiet at (id_at setup.ids lane) (reply.Has (declared_by (callsite_of setup t scope) name))))
@@ -306,7 +395,7 @@ effect_of_call setup t at lane (call.Event site under fields) =
     named what.Site (event_site setup.sites site)
     (λ callsite. named what.Handle (scope_at t (id_at setup.ids lane) under)
     (λ reached. named what.Field (all_values callsite fields)
-    (λ values. Ok (events setup at (id_at setup.ids lane) callsite values reached))))
+    (λ values. Ok (events setup t at (id_at setup.ids lane) callsite values reached))))
 effect_of_call setup t at lane (call.Remote ids) = Ok (gives t at (id_at setup.ids lane) None (record { span = Some ids }))
 effect_of_call setup t at lane (call.Context handle) =
     named what.Handle (slot_at t.handles handle)
@@ -317,6 +406,29 @@ effect_of_call setup t at lane (call.Attach context) =
 effect_of_call setup t at lane (call.Detach guard) =
     named what.Guard (slot_at t.attaches guard)
     (λ mine. exits_on mine lane (detaches at (id_at setup.ids lane) guard))
+effect_of_call setup t at lane (call.Follows handle from) =
+    named what.Handle (slot_at t.handles handle)
+    (λ scope. named what.Handle (slot_at t.handles from) (λ followed. Ok (follows t at (id_at setup.ids lane) scope followed)))
+effect_of_call setup t at lane (call.SetParent handle context) =
+    named what.Handle (slot_at t.handles handle)
+    (λ scope. named what.Context (slice_get t.named context)
+    (λ given. Ok (tells at (id_at setup.ids lane) (reply.Set (is_set t.recording scope)) (on scope (ops.SetParent given)))))
+effect_of_call setup t at lane (call.AddLink handle context attributes) =
+    named what.Handle (slot_at t.handles handle)
+    (λ scope. named what.Context (slice_get t.named context)
+    (λ given. Ok (tells at (id_at setup.ids lane) reply.Done (links scope (ids_of given) attributes))))
+effect_of_call setup t at lane (call.SetAttribute handle key value) =
+    named what.Handle (slot_at t.handles handle)
+    (λ scope. Ok (tells at (id_at setup.ids lane) reply.Done (on scope (ops.SetAttribute (record { key = key; value = value })))))
+effect_of_call setup t at lane (call.SetStatus handle status) =
+    named what.Handle (slot_at t.handles handle)
+    (λ scope. Ok (tells at (id_at setup.ids lane) reply.Done (on scope (ops.SetStatus status))))
+effect_of_call setup t at lane (call.AddEvent handle name attributes time) =
+    named what.Handle (slot_at t.handles handle)
+    (λ scope. Ok (tells at (id_at setup.ids lane) reply.Done (on scope (event_at name (happens_at at time) attributes))))
+effect_of_call setup t at lane (call.Enabled site) =
+    named what.Site (slice_get setup.sites site) (λ callsite. Ok (asks setup t at (id_at setup.ids lane) callsite))
+effect_of_call setup t at lane (call.Reload text) = reloads_if at (id_at setup.ids lane) text (text_read text)
 
 -- a moment below the one before, or above the last one
 abbrev pub is_bad_moment : ℕ → ℕ → Bool

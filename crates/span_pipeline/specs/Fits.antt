@@ -1,9 +1,9 @@
 -- What a pipeline keeps, and when it fits the tables of a history.
-use Rattle.std.specs.Prelude.{◌≡◌, ℕ, ◌+◌, ◌<◌, ◌≤◌, ◌==◌, ◌≢◌, Bool, true, false, List, [], ◌∷◌, ◌++◌, length, drop, map, filter, if◌then◌else◌, count_by, Option, Some, None, option_map, Ok, Err, slice_index_or}
+use Rattle.std.specs.Prelude.{◌≡◌, ℕ, zero, suc, ◌+◌, ◌<◌, ◌≤◌, ◌==◌, ◌≢◌, Bool, true, false, List, [], ◌∷◌, ◌++◌, length, drop, map, filter, if◌then◌else◌, count_by, Option, Some, None, option_map, Ok, Err, slice_index_or}
 use Rattle.otel_base.specs.declared.context.Context.{Context}
 use Rattle.trace_base.specs.declared.lane.Lane.{Lane}
 use Rattle.trace_base.specs.declared.callsite.Callsite.{Callsite}
-use Rattle.trace_base.specs.declared.level.LevelFilter.{LevelFilter}
+use Rattle.trace_base.specs.declared.subscriber.Interest.{Interest}
 use Rattle.trace_base.specs.Gate.{Worlds}
 use Rattle.trace_base.specs.Spans.{Spans, Span, span_at}
 use Rattle.trace_base.specs.Sound.{OneEach}
@@ -13,8 +13,15 @@ use Rattle.otel_layer.specs.declared.tokens.Token.{Token}
 use Rattle.otel_layer.specs.Core.{is_token}
 use Rattle.otel_layer.specs.Table.{told_at}
 use Rattle.otel_layer.specs.Recording.{Recording, no_recording}
+use Rattle.env_directives.specs.Table.{Table}
+use Rattle.env_directives.specs.declared.directive.StaticDirective.{StaticDirective}
+use Rattle.env_directives.specs.declared.env.directive.Directive.{Directive}
+use Rattle.env_filter.specs.Filtering.{Filtered, interest_in}
+use Rattle.env_filter.specs.Levels.{Opened}
+use Rattle.env_filter.specs.Watching.{Watched}
 use Rattle.span_handles.specs.Worlds.{Has, seen, spans_in, kept_in}
 use Rattle.span_handles.specs.Handles.{Handle, Held}
+use Rattle.span_stack.specs.Reading.{Stacks, recorded, in_place}
 use Rattle.span_pipeline.specs.declared.slots.Guard.{Guard}
 use Rattle.span_pipeline.specs.declared.contexts.Attach.{Attach}
 use Rattle.span_pipeline.specs.declared.contexts.Contexts.{Contexts}
@@ -24,7 +31,7 @@ use Rattle.span_pipeline.specs.declared.reply.Refusal.TheVariants as refusal
 use Rattle.span_pipeline.specs.Setups.{Setup}
 use Rattle.span_pipeline.specs.Balance.{Balanced, named_by, opened_by}
 use Rattle.span_pipeline.specs.Tables.{Scope, Made, Owner, EntryOf, GuardOf, Attached, is_by, Guarded, Effect, Tables, History, tables, after, open_part, records_of, slot_at, own, site_of, made_of}
-use Rattle.span_pipeline.specs.Effects.{Resolved}
+use Rattle.span_pipeline.specs.Effects.{Resolved, filter_at}
 
 -- a lane, without its room
 pub record Laned : Type 0 where
@@ -48,12 +55,37 @@ pub record Named : Type 0 where
 abbrev pub named_in : Contexts → Named
 named_in contexts = record { made = contexts.made.items; attaches = contexts.attaches.items }
 
--- what is kept, without spare room
+-- how what was recorded, and the filter that is in place, are read of a subscriber
+pub record Views (S : Type 0) : Type 0 where
+  pub recorded : S → Recording
+  pub filtered : S → Option Filtered
+
+-- those of the stack that pipelines run on
+abbrev pub stack_views : Views Stacks
+stack_views = record { recorded = recorded; filtered = in_place }
+
+-- What is seen of a filter at the spans of the first ids, from the last one on, and at the lanes of some ids.
+pub record ShownFilter : Type 0 where
+  pub statics : Table StaticDirective
+  pub dynamics : Table Directive
+  pub spans : List (Option Watched)
+  pub lanes : List (List Opened)
+
+abbrev pub first_of : {X : Type 0} → (ℕ → X) → ℕ → List X
+first_of f zero = []
+first_of f (suc n) = f n ∷ first_of f n
+
+abbrev pub shown_of : ℕ → List ℕ → Filtered → ShownFilter
+shown_of many ids f = record { statics = f.statics; dynamics = f.dynamics; spans = first_of f.spans many; lanes = map f.lanes ids }
+
+-- what is kept, without spare room; and the interests that are cached
 pub record State : Type 0 where
   pub setup : Setup
   pub spans : Spans
   pub lanes : List Laned
   pub recording : Recording
+  pub filter : Option ShownFilter
+  pub cached : List (List Interest)
   pub dispatch : ℕ
   pub handles : List (Option Held)
   pub handle_sites : List (Option (Option ℕ))
@@ -69,15 +101,17 @@ held_by slot = option_map (λ h. h.held) slot
 abbrev pub site_by : Option Handle → Option (Option ℕ)
 site_by slot = option_map (λ h. h.site) slot
 
-abbrev pub setup_of : List Callsite → List Lane → LevelFilter → LayerSettings → Setup
-setup_of sites lanes level layer = record { sites = sites; ids = map (λ l. l.id) lanes; names = map (λ l. l.name) lanes; level = level; layer = layer }
+abbrev pub setup_of : List Callsite → List Lane → List ℕ → LayerSettings → Setup
+setup_of sites lanes opening layer = record { sites = sites; ids = map (λ l. l.id) lanes; names = map (λ l. l.name) lanes; filter = opening; layer = layer }
 
-abbrev pub state_of : {S : Type 0} → (S → Spans) → (S → Recording) → Worlds S → ℕ → LevelFilter → List Lane → List (Option Handle) → List (Option Guard) → Named → ℕ → State
-state_of spans recorded world dispatch level lanes handles guards contexts moment = record {
-  setup = setup_of world.sites lanes level (seen recorded no_recording world dispatch).settings;
+abbrev pub state_of : {S : Type 0} → (S → Spans) → Views S → Worlds S → ℕ → List ℕ → List Lane → List (Option Handle) → List (Option Guard) → Named → ℕ → State
+state_of spans views world dispatch opening lanes handles guards contexts moment = record {
+  setup = setup_of world.sites lanes opening (seen views.recorded no_recording world dispatch).settings;
   spans = spans_in spans world dispatch;
   lanes = map laned lanes;
-  recording = seen recorded no_recording world dispatch;
+  recording = seen views.recorded no_recording world dispatch;
+  filter = option_map (shown_of (length (spans_in spans world dispatch).made) (map (λ l. l.id) lanes)) (seen views.filtered None world dispatch);
+  cached = world.cached;
   dispatch = dispatch;
   handles = map held_by handles;
   handle_sites = map site_by handles;
@@ -166,6 +200,11 @@ pub record RecordingFits (k : State) (t : Tables) : Type 0 where
   pub known : (s : ℕ) → 0 < (span_at k.spans.made s).holds → told_at s k.recording.spans ≢ None
   pub attached : AllContextsFit k.setup.layer.activation k.lanes k.recording.tokens k.contexts.attaches t.contexts
 
+-- The filter is the one in force, and for each callsite its interest is cached.
+pub record FilteringFits (k : State) (t : Tables) : Type 0 where
+  pub in_place : k.filter ≡ Some (shown_of (length t.made) k.setup.ids (filter_at k.setup t))
+  pub fresh : k.cached ≡ map (λ c. interest_in (filter_at k.setup t) c ∷ []) k.setup.sites
+
 -- What is kept fits the tables of a history.
 pub record Fits (k : State) (t : Tables) : Type 0 where
   pub handle_slots : k.handles ≡ map (option_map (held_of k.dispatch)) t.handles
@@ -187,10 +226,12 @@ pub record Fits (k : State) (t : Tables) : Type 0 where
   pub few : length t.made ≤ length t.handles
   pub few_holds : (s : ℕ) → (span_at k.spans.made s).holds ≤ length t.handles + length t.guards
 
--- What is kept stands for a history with these tables: it fits them, and so do what was recorded and the lanes' contexts.
+-- What is kept stands for a history with these tables: it fits them, and so do what was recorded, the lanes' contexts,
+-- and the filter.
 pub record StandsFor (k : State) (t : Tables) : Type 0 where
   pub fits : Fits k t
   pub recording : RecordingFits k t
+  pub filtering : FilteringFits k t
 
 -- the same but for the oldest record
 abbrev pub without_first : State → State
@@ -199,11 +240,13 @@ without_first k = record k { recording = record k.recording { finished = drop 1 
 -- What every pipeline keeps: it stands for some history.
 pub record IsKept {S : Type 0} (kept : S → ℕ → ℕ → ℕ) (is_whole : S → Type 0) (world : Worlds S) (k : State) : Type 0 where
   pub there : k.dispatch < length world.subscribers
+  pub alone : length world.subscribers ≡ 1
   pub whole : Has is_whole world k.dispatch
   pub lanes : LanesFit (kept_in kept world k.dispatch) k.lanes
   pub tables : Tables
   pub fits : Fits k tables
   pub recording : RecordingFits k tables
+  pub filtering : FilteringFits k tables
 
 -- A reply is served where the request has an effect: the reply is the effect's, the records
 -- are those of the spans that close, and what is kept stands for one effect more.
@@ -219,11 +262,11 @@ pub record Served (resolved : Resolved) (t : Tables) (old new : State) (reply : 
 abbrev pub is_room : Refusal → Bool
 is_room refusal.Memory = true
 is_room (refusal.Full lane) = false
-is_room refusal.Later = false
 is_room (refusal.BadMoment before given) = false
 is_room (refusal.UnknownName unknown) = false
 is_room refusal.InUse = false
 is_room (refusal.WrongLane lane) = false
+is_room (refusal.Directive piece) = false
 
 -- Any other is the one that was resolved.
 abbrev pub IsRefusal : Resolved → Refusal → Type 0

@@ -2,6 +2,8 @@
 use Rattle.std.specs.Prelude.{ℕ, Bool, true, false}
 use Rattle.otel_base.specs.declared.enter_error.EnterError.{EnterError}
 use Rattle.otel_base.specs.declared.enter_error.EnterError.TheVariants as errors
+use Rattle.span_pipeline.specs.declared.pipeline.OpenError.{OpenError}
+use Rattle.span_pipeline.specs.declared.pipeline.OpenError.TheVariants as opening
 use Rattle.span_pipeline.specs.declared.reply.Refusal.{Refusal}
 use Rattle.span_pipeline.specs.declared.reply.Refusal.TheVariants as refusals
 use Rattle.span_pipeline.specs.declared.request.Call.{Call}
@@ -10,6 +12,12 @@ use Rattle.span_pipeline.specs.declared.request.Call.TheVariants as call
 abbrev pub refused_entry : ℕ → EnterError → Refusal
 refused_entry lane errors.Full = refusals.Full lane
 refused_entry lane errors.Memory = refusals.Memory
+
+-- what was opened or made is given back without memory, and so are a parent and a status written
+-- what a reload is refused by
+abbrev pub refused_text : OpenError → Refusal
+refused_text (opening.Directive piece) = refusals.Directive piece
+refused_text opening.Memory = refusals.Memory
 
 -- what was opened or made is given back without memory
 abbrev pub takes_no_memory : Call → Bool
@@ -28,3 +36,11 @@ takes_no_memory (call.Remote ids) = false
 takes_no_memory (call.Context handle) = false
 takes_no_memory (call.Attach context) = false
 takes_no_memory (call.Detach guard) = true
+takes_no_memory (call.Follows handle from) = false
+takes_no_memory (call.SetParent handle context) = true
+takes_no_memory (call.AddLink handle context attributes) = false
+takes_no_memory (call.SetAttribute handle key value) = false
+takes_no_memory (call.SetStatus handle status) = true
+takes_no_memory (call.AddEvent handle name attributes time) = false
+takes_no_memory (call.Enabled site) = true
+takes_no_memory (call.Reload text) = false

@@ -3,17 +3,15 @@ use Rattle.std.specs.Prelude.{◌≡◌, ◌<◌, ℕ, List, length, map, Option
 use Rattle.trace_base.specs.declared.callsite.Callsite.{Callsite}
 use Rattle.trace_base.specs.declared.callsite.Kind.{Kind}
 use Rattle.trace_base.specs.declared.callsite.Kind.TheVariants as kind
-use Rattle.trace_base.specs.declared.level.LevelFilter.{LevelFilter}
 use Rattle.otel_state.specs.declared.settings.LayerSettings.{LayerSettings}
 use Rattle.span_pipeline.specs.declared.settings.Settings.{Settings}
-use Rattle.span_pipeline.specs.Admission.{in_force}
 
--- the callsites, the ids and the names of the lanes, the level that is let through, and what the layer tells
+-- the callsites, the ids and the names of the lanes, the text of the filter at first, and what the layer tells
 pub record Setup : Type 0 where
   pub sites : List Callsite
   pub ids : List ℕ
   pub names : List (Option (List ℕ))
-  pub level : LevelFilter
+  pub filter : List ℕ
   pub layer : LayerSettings
 
 -- the id of the lane at a place
@@ -41,7 +39,7 @@ event_site callsites site = option_and_then (λ callsite. if_event callsite call
 
 -- the same of the settings; and lanes have ids of their own
 abbrev pub setup_by : Settings → Setup
-setup_by settings = record { sites = settings.callsites; ids = map (λ l. l.0) settings.lanes; names = map (λ l. l.1) settings.lanes; level = in_force settings.filter; layer = settings.layer }
+setup_by settings = record { sites = settings.callsites; ids = map (λ l. l.0) settings.lanes; names = map (λ l. l.1) settings.lanes; filter = settings.filter; layer = settings.layer }
 
 abbrev pub HasOwnIds : List ℕ → Type 0
 HasOwnIds ids = (n m : ℕ) → n < length ids → m < length ids → id_at ids n ≡ id_at ids m → n ≡ m

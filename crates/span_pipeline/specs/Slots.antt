@@ -5,6 +5,7 @@ use Rattle.trace_base.specs.declared.field.ValueSet.{ValueSet}
 use Rattle.trace_base.specs.declared.lane.Lane.{Lane}
 use Rattle.trace_base.specs.Calls.{SubscriberCall, Event}
 use Rattle.trace_base.specs.declared.callsite.Callsite.{Callsite}
+use Rattle.env_filter.specs.Filtering.{Filtered, is_admitted}
 use Rattle.span_handles.specs.Worlds.{Replaced}
 use Rattle.trace_base.specs.Gate.{Worlds}
 use Rattle.trace_base.specs.Spans.{Spans}
@@ -59,3 +60,8 @@ pub record Tells {S : Type 0} (does : S → SubscriberCall → S → Type 0) (ol
 abbrev pub TellsOnly : {S : Type 0} → (S → SubscriberCall → S → Type 0) → Bool → Worlds S → Worlds S → Lane → ℕ → Parent → ℕ → ValueSet → ℕ → Type 0
 TellsOnly does true old new lane at place site values dispatch = Tells does old new lane at place site values dispatch
 TellsOnly does false old new lane at place site values dispatch = new ≡ old
+
+-- the gate's answer for a callsite on a lane, by the filter in place
+abbrev pub LetsThrough : Option Filtered → List Callsite → ℕ → ℕ → Bool → Type 0
+LetsThrough filter sites lane site answer =
+    (f : Filtered) (c : Callsite) → filter ≡ Some f → slice_get sites site ≡ Some c → answer ≡ is_admitted f lane c

@@ -8,6 +8,7 @@ use Rattle.otel_state.specs.States.{Told, begun}
 use Rattle.otel_layer.specs.Table.{with_span}
 use Rattle.otel_layer.specs.Recording.{Recording, no_recording, with_start, with_applied, with_close}
 use Rattle.trace_base.specs.Spans.{without_last}
+use Rattle.trace_base.specs.Hooks.{Hook}
 use Rattle.span_pipeline.specs.declared.reply.Reply.{Reply}
 
 -- The scope of a span: the span, its parent, and so on up. A disabled handle has the empty scope.
@@ -86,6 +87,9 @@ pub record Effect : Type 0 where
   -- the context that it attached to its lane, and whose last context it detached there
   pub attach : Option Attached
   pub detach : Option Owner
+  -- the text of the filter that it put in force, and what the filter in force heard of it
+  pub filter : Option (List ℕ)
+  pub heard : List Hook
   pub reply : Reply
 
 -- what changes nothing
@@ -108,6 +112,8 @@ quiet at lane answer = record {
   exit = None;
   attach = None;
   detach = None;
+  filter = None;
+  heard = [];
   reply = answer;
 }
 
@@ -118,7 +124,8 @@ History = List Effect
 -- the order of closing; the entries and the contexts of each lane, by its id; what was recorded of the open spans; and
 -- the moment of the last request, 0 before the first. The guards of entries and those of attaches, each by the place of
 -- its lane, are numbered together: at a number of the one kind there is none of the other. The contexts that a script
--- names are never spent.
+-- names are never spent. The text of the filter in force is that of the settings before the first reload; of what it heard
+-- nothing from before it was put in force.
 pub record Tables : Type 0 where
   pub handles : List (Option Scope)
   pub guards : List (Option Guarded)
@@ -129,6 +136,8 @@ pub record Tables : Type 0 where
   pub entries : ℕ → List ℕ
   pub contexts : ℕ → List Attached
   pub recording : Recording
+  pub filter : Option (List ℕ)
+  pub heard : List Hook
   pub moment : ℕ
 
 -- nothing recorded by a layer with these settings
@@ -146,6 +155,8 @@ no_tables settings = record {
   entries = λ lane. [];
   contexts = λ lane. [];
   recording = nothing_recorded settings;
+  filter = None;
+  heard = [];
   moment = 0;
 }
 
@@ -216,6 +227,15 @@ open_part r = record r { tokens = []; finished = [] }
 abbrev pub records_of : Tables → Effect → List Record
 records_of t e = (recorded_by (length t.made) e t.recording).finished
 
+-- the newer of two texts, and what was heard since
+abbrev pub newer : Option (List ℕ) → Option (List ℕ) → Option (List ℕ)
+newer old None = old
+newer old (Some text) = Some text
+
+abbrev pub heard_since : List Hook → Option (List ℕ) → List Hook
+heard_since past None = past
+heard_since past (Some text) = []
+
 -- the tables after one effect more
 abbrev pub after : Tables → Effect → Tables
 after t e = record {
@@ -228,6 +248,8 @@ after t e = record {
   entries = with_exit (with_entry t.entries e.lane e.entry) e.lane e.exit;
   contexts = with_detached (with_attached t.contexts e.lane e.attach) e.lane e.detach;
   recording = open_part (recorded_by (length t.made) e t.recording);
+  filter = newer t.filter e.filter;
+  heard = heard_since t.heard e.filter ++ e.heard;
   moment = e.at;
 }
 

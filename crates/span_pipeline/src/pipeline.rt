@@ -1,32 +1,34 @@
-//! A pipeline runs the requests of a script over a stack of a registry and the OpenTelemetry layer.
-ghost use Rattle.std.specs.Prelude.{◌≡◌, ◌<◌, ℕ, [], true, map, length, IfOk, IfErr, OnErr, Err};
+//! A pipeline runs the requests of a script over a stack of a registry, the OpenTelemetry layer and a filter.
+ghost use Rattle.std.specs.Prelude.{◌≡◌, ◌<◌, ℕ, [], true, map, length, IfOk, OnOk, IfErr, OnErr, Err};
+ghost use Rattle.span_pipeline.specs.Admission.{IsUnread, is_text_read};
 ghost use Rattle.span_pipeline.specs.Setups.{HasOwnIds, setup_by};
 ghost use Rattle.span_pipeline.specs.Effects.{is_bad_moment};
 
 use crate::contexts::Contexts;
+use crate::filters::read_filter;
 use crate::guards::Guards;
-use crate::level_words::filter_of;
 use crate::opening::{self, add_sites};
 use crate::reply::{Refusal, Reply, What};
 use crate::request::{Call, LAST_MOMENT, Request};
 use crate::settings::Settings;
-use crate::stack::{Stack, new_stack};
 use otel_base::record::Moment;
-use otel_layer::recording;
+use otel_base::text::Text;
 use span_handles::laws::same;
 use span_handles::span::Span;
+use span_stack::{Stack, laws, new_stack};
 use std::alloc::Global;
 use std::marker::Model;
 use trace_base::discard::Discard;
 use trace_base::dispatcher::Dispatch;
 use trace_base::lane::Lane;
-use trace_base::level::LevelFilter;
 use trace_base::subscriber::Subscriber;
 use trace_base::world::World;
 
 /// Why a pipeline can't be opened.
 #[derive(Clone, Copy, Debug, PartialEq, Eq)]
 pub enum OpenError {
+    /// A piece of the filter's text is no directive, which is told by its number, from 1; empty pieces count.
+    Directive { piece: u64 },
     /// Out of memory.
     Memory,
 }
@@ -37,7 +39,7 @@ pub enum OpenError {
 pub struct Pipeline {
     pub(crate) world: World<Stack>,
     pub(crate) dispatch: Dispatch,
-    pub(crate) level: LevelFilter,
+    pub(crate) opening: Text,
     pub(crate) lanes: Vec<Lane>,
     pub(crate) handles: Vec<Option<Span>>,
     pub(crate) guards: Guards,
@@ -46,18 +48,17 @@ pub struct Pipeline {
 }
 
 impl Model for Pipeline {
-    ghost use Rattle.otel_layer.specs.Recording.{recorded};
-    ghost use Rattle.span_pipeline.specs.Fits.{State, named_in, state_of, IsKept};
+    ghost use Rattle.span_pipeline.specs.Fits.{State, named_in, state_of, stack_views, IsKept};
 
     ghost Value = { State };
 
-    ghost view = { λ p. state_of ⟦<Stack as Subscriber>⟧.spans recorded
-        p.world p.dispatch p.level p.lanes.items p.handles.items p.guards.items (named_in p.contexts) p.moment };
+    ghost view = { λ p. state_of ⟦<Stack as Subscriber>⟧.spans stack_views
+        p.world p.dispatch p.opening p.lanes.items p.handles.items p.guards.items (named_in p.contexts) p.moment };
 
     ghost invariant = { λ p. IsKept ⟦<Stack as Subscriber>⟧.kept
         ⟦<Stack as Subscriber>⟧.is_whole p.world
-        (state_of ⟦<Stack as Subscriber>⟧.spans recorded
-        p.world p.dispatch p.level p.lanes.items p.handles.items p.guards.items (named_in p.contexts) p.moment) };
+        (state_of ⟦<Stack as Subscriber>⟧.spans stack_views
+        p.world p.dispatch p.opening p.lanes.items p.handles.items p.guards.items (named_in p.contexts) p.moment) };
 }
 
 /// What isn't spent is given up.
@@ -66,7 +67,7 @@ impl Discard for Pipeline {
         let Pipeline {
             world,
             dispatch: _,
-            level: _,
+            opening: _,
             lanes: _,
             handles,
             guards,
@@ -96,22 +97,25 @@ impl Pipeline {
     ghost use Rattle.span_pipeline.specs.Refusals.{takes_no_memory};
     ghost use Rattle.span_pipeline.specs.declared.reply.Refusal.TheVariants.{Memory as NoMemory};
 
-    /// A pipeline for the settings, before any request. It may answer `Memory`, and nothing else.
+    /// A pipeline for the settings, before any request. `Directive` where a piece of the filter's text is none; it may
+    /// answer `Memory`.
     pub fn open(alloc: Global, settings: Settings) -> Result<Pipeline, OpenError>
         requires { HasOwnIds (map (λ l. l.0) settings.lanes) }
         ensures setup { IfOk result (λ pipeline. pipeline.setup ≡ setup_by settings) }
         ensures stands { IfOk result (λ pipeline. StandsFor pipeline (tables settings.layer [])) }
         ensures records { IfOk result (λ pipeline. pipeline.recording.finished ≡ []) }
+        ensures read { OnOk result (is_text_read settings.filter ≡ true) }
+        ensures refused { IfErr result (IsUnread settings.filter) }
     {
         same::<Stack>();
-        recording::same();
+        laws::same();
         let Settings {
             filter,
             lanes,
             callsites,
             layer,
         } = settings;
-        let level = filter_of(filter.as_str()).unwrap_or(LevelFilter::OFF);
+        let gate = read_filter(alloc, filter.as_str())?;
         let Ok(lanes) = opening::lanes(alloc, lanes) else {
             return Err(OpenError::Memory);
         };
@@ -120,11 +124,11 @@ impl Pipeline {
             world.discard();
             return Err(OpenError::Memory);
         }
-        match world.add(new_stack(alloc, layer)) {
+        match world.add(new_stack(alloc, layer, gate)) {
             Ok(dispatch) => Ok(Pipeline {
                 world,
                 dispatch,
-                level,
+                opening: filter,
                 lanes,
                 handles: Vec::new(alloc),
                 guards: Guards::new(alloc),
@@ -143,8 +147,8 @@ impl Pipeline {
     /// 2^63 - 1, `UnknownName` where it names what isn't there, or a guard of the other kind, or gives a field that the
     /// callsite doesn't declare, `InUse` where it spends or owns a handle with an open guard, or exits the guard that owns
     /// a handle with another one, `WrongLane` where it spends a guard on another lane than the guard's, `Full` where it
-    /// attaches a context to a lane with 65,534 of them. It may answer `Memory`, but not to a drop, an exit, a detach or a
-    /// `has_field`.
+    /// attaches a context to a lane with 65,534 of them, `Directive` where it reloads a text of which a piece is none. It may
+    /// answer `Memory`, but not to a drop, an exit, a detach, a `has_field`, an `enabled`, a `set_parent` or a `set_status`.
     pub fn step(&mut self, request: Request) -> Result<Reply, Refusal>
         ensures ok { (h : History) → StandsFor self.old (tables self.old.setup.layer h)
             → IfOk result (Recorded (effect_of self.old.setup (tables self.old.setup.layer h) request) h self.old self.new) }
@@ -199,6 +203,25 @@ impl Pipeline {
             Call::Context { handle } => self.context(at, lane, handle),
             Call::Attach { context } => self.attach(at, lane, context),
             Call::Detach { guard } => self.detach(at, lane, guard),
+            Call::Follows { handle, from } => self.follows(at, lane, handle, from),
+            Call::SetParent { handle, context } => self.set_parent(at, lane, handle, context),
+            Call::AddLink {
+                handle,
+                context,
+                attributes,
+            } => self.add_link(at, lane, handle, context, attributes),
+            Call::SetAttribute { handle, key, value } => self.set_attribute(
+                at, lane, handle, key, value,
+            ),
+            Call::SetStatus { handle, status } => self.set_status(at, lane, handle, status),
+            Call::AddEvent {
+                handle,
+                name,
+                attributes,
+                time,
+            } => self.add_event(at, lane, handle, name, attributes, time),
+            Call::Enabled { site } => self.enabled(at, lane, site),
+            Call::Reload { text } => self.reload(at, lane, text),
         }
     }
 }

@@ -6,6 +6,7 @@ ghost use Rattle.trace_base.specs.Spans.{span_at};
 use crate::pipeline::Pipeline;
 use otel_base::record::Record;
 use span_registry::registry::Registry;
+use span_stack::{laws, stack};
 use trace_base::span::Id;
 
 // How many of the spans with the first ids have a hold.
@@ -34,18 +35,17 @@ impl Pipeline {
             (λ record'. self.old.recording.finished ≡ record' ∷ self.new.recording.finished) }
         ensures rest { self.new ≡ without_first self.old }
     {
-        self.world
-            .subscriber_mut(self.dispatch)
-            .layer_mut()
-            .tracer_mut()
-            .take()
+        laws::takes();
+        stack::take_record(&mut self.world, self.dispatch)
     }
 
     /// How many spans are open.
     pub fn open_spans(&self) -> u64
         ensures { (t : Tables) → StandsFor self.now t → result ≡ open_spans t }
     {
-        let registry = self.world.subscriber(self.dispatch).inner();
-        count_open(registry, self.handles.len() as u64)
+        count_open(
+            stack::registry(&self.world, self.dispatch),
+            self.handles.len() as u64,
+        )
     }
 }

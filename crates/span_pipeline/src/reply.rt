@@ -1,11 +1,13 @@
 //! What requests are answered, and why they are refused.
 ghost use Rattle.std.specs.Prelude.{◌≡◌};
-ghost use Rattle.span_pipeline.specs.Refusals.{refused_entry};
+ghost use Rattle.span_pipeline.specs.Refusals.{refused_entry, refused_text};
 ghost use Rattle.span_pipeline.specs.declared.reply.Refusal.TheVariants.{Memory as NoMemory};
 
+use crate::pipeline::OpenError;
 use otel_base::context::SpanContext;
 use otel_base::enter_error::EnterError;
 use otel_base::memory::Memory;
+use otel_state::op::SetParentError;
 use std::alloc::{AllocError, AllocFailed};
 
 /// The answer to a request: what the calls of tracing give back.
@@ -17,10 +19,12 @@ pub enum Reply {
     Guard { guard: u64 },
     /// A context was made, with these ids; `opentelemetry::Context`.
     Context { context: u64, ids: SpanContext },
-    /// An event, which the filter let through or not.
+    /// An event, which the filter let through or not, or whether it lets something through.
     Enabled { enabled: bool },
     /// Whether a handle's callsite declares a field of the name that was asked for; `tracing::Span::has_field`.
     Has { has: bool },
+    /// Whether the parent of a span was set; `OpenTelemetrySpanExt::set_parent`.
+    Set { set: Result<(), SetParentError> },
     /// Nothing was made.
     Done,
 }
@@ -45,8 +49,6 @@ pub enum What {
 /// Why a request is refused.
 #[derive(Clone, Copy, PartialEq, Eq)]
 pub enum Refusal {
-    /// No built form of request can do this yet.
-    Later,
     /// The moment is below that of the request before (0 before the first), or above 2^63 - 1; both in nanoseconds.
     BadMoment { before: u64, given: u64 },
     /// A lane, site, handle, guard or context isn't there, is spent, or is of another kind; or a field isn't declared.
@@ -57,6 +59,8 @@ pub enum Refusal {
     WrongLane { lane: u64 },
     /// The lane, which is told by its place, has as many contexts as may be.
     Full { lane: u64 },
+    /// A piece of a filter's text is no directive, which is told by its number, from 1; empty pieces count.
+    Directive { piece: u64 },
     /// Out of memory.
     Memory,
 }
@@ -69,6 +73,16 @@ impl Refusal {
         match error {
             EnterError::Full => Refusal::Full { lane },
             EnterError::Memory => Refusal::Memory,
+        }
+    }
+
+    /// What a reload is refused by.
+    pub(crate) fn of_text(error: OpenError) -> Refusal
+        ensures { result ≡ refused_text error }
+    {
+        match error {
+            OpenError::Directive { piece } => Refusal::Directive { piece },
+            OpenError::Memory => Refusal::Memory,
         }
     }
 }

@@ -2,7 +2,9 @@
 use otel_base::context::SpanContext;
 use otel_base::list::Items;
 use otel_base::record::Moment;
+use otel_base::status::Status;
 use otel_base::text::Text;
+use otel_base::value::{KeyValue, OtelValue};
 use trace_base::field::Value;
 
 /// The greatest moment that a request may have, in nanoseconds: 2^63 - 1.
@@ -88,6 +90,49 @@ pub enum Call {
     /// Spends a guard, which detaches its context; the drop of an `opentelemetry::ContextGuard`.
     Detach {
         guard: u64,
+    },
+    /// Starts the span of a handle, and links another handle's span to it; `tracing::Span::follows_from`.
+    Follows {
+        handle: u64,
+        from: u64,
+    },
+    /// Sets the context of the parent of a handle's span; `OpenTelemetrySpanExt::set_parent`.
+    SetParent {
+        handle: u64,
+        context: u64,
+    },
+    /// Links a handle's span to what a context shows; `OpenTelemetrySpanExt::add_link_with_attributes`.
+    AddLink {
+        handle: u64,
+        context: u64,
+        attributes: Items<KeyValue>,
+    },
+    /// Adds an attribute to a handle's span; `OpenTelemetrySpanExt::set_attribute`.
+    SetAttribute {
+        handle: u64,
+        key: Text,
+        value: OtelValue,
+    },
+    /// Writes a status on a handle's span; `OpenTelemetrySpanExt::set_status`.
+    SetStatus {
+        handle: u64,
+        status: Status,
+    },
+    /// Adds an event to a handle's span, which happens now or happened at a time in nanoseconds;
+    /// `OpenTelemetrySpanExt::add_event`, `add_event_with_timestamp`.
+    AddEvent {
+        handle: u64,
+        name: Text,
+        attributes: Items<KeyValue>,
+        time: Option<Moment>,
+    },
+    /// Asks whether what a callsite makes on the lane is let through; `tracing::enabled!`.
+    Enabled {
+        site: u64,
+    },
+    /// Puts a filter of another text in force; `tracing_subscriber::reload::Handle::reload`.
+    Reload {
+        text: Text,
     },
 }
 

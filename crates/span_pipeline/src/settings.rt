@@ -7,8 +7,7 @@ use trace_base::callsite::Callsite;
 /// The settings of a script. Lanes and callsites are named by their places, from 0.
 #[derive(Clone, Drop)]
 pub struct Settings {
-    /// The filter: a level word in lower case, or `off`; `tracing_subscriber::EnvFilter`. Any other text lets nothing
-    /// through.
+    /// The text of the filter at first, without patterns; `tracing_subscriber::EnvFilter`.
     pub filter: Text,
     /// The lanes, each with its id and its name, if it has one; threads, in the Rust crates.
     pub lanes: Items<(u64, Option<Text>)>,

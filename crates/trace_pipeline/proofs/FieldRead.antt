@@ -36,11 +36,11 @@ signed_read (negsuc n) small = ap (option_and_then below_zero) (decimal_read (su
 
 -- ---- values
 
-texts_read : (chain : List (List ℕ)) → each as_str (items string chain) ≡ Some chain
+pub texts_read : (chain : List (List ℕ)) → each as_str (items string chain) ≡ Some chain
 texts_read [] = refl
 texts_read (s ∷ chain) = ap (option_map (λ more. s ∷ more)) (texts_read chain)
 
-small_number : (n : ℕ) → n < 2 ^ 63 → nat_lt n (2 ^ 63) ≡ true
+pub small_number : (n : ℕ) → n < 2 ^ 63 → nat_lt n (2 ^ 63) ≡ true
 small_number n small = grind (arith, nat_tests, small)
 
 value_read : (v : Value) → IsValue v → value_of (written_value v) ≡ Some v

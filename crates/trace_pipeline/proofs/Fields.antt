@@ -7,8 +7,8 @@ use Rattle.serde_json.specs.Read.{of_json, of_items}
 use Rattle.serde_json.specs.Written.{compact_text, outline}
 use Rattle.trace_base.specs.declared.field.Value.{Value as FieldValue}
 use Rattle.trace_pipeline.specs.Compact.{nested, Begins}
-use Rattle.trace_pipeline.specs.FieldForm.{typed_form, value_of, pair_of, field_of, fields_of}
-use Rattle.trace_pipeline.specs.Forms.{all_of, each}
+use Rattle.trace_pipeline.specs.FieldForm.{typed_form, value_of, field_of, fields_of}
+use Rattle.trace_pipeline.specs.Forms.{all_of, each, pair_with}
 use Rattle.trace_pipeline.specs.Left.{value_data}
 use Rattle.trace_pipeline.specs.Object.{items}
 use Rattle.trace_pipeline.specs.declared.read.value.Value.{Value}
@@ -24,11 +24,11 @@ only_two vs one (x ∷ none) first second two a b = absurd (longer none (sym two
   longer : (none : List Value) → 2 ≡ length (((x ∷ none) ++ first ∷ []) ++ second ∷ []) → ⊥
   longer none same = omega (arith, same, length-append (none ++ first ∷ []) (second ∷ []), length-append none (first ∷ []))
 
-pub no_pair : (vs : List Value) → length vs ≢ 2 → pair_of (items value_data vs) ≡ None
-no_pair [] other = refl
-no_pair (x ∷ []) other = refl
-no_pair (x ∷ y ∷ []) other = absurd (other refl)
-no_pair (x ∷ y ∷ z ∷ vs) other = refl
+pub no_pair : {A : Type 0} (f : Data → Option A) (vs : List Value) → length vs ≢ 2 → pair_with f (items value_data vs) ≡ None
+no_pair f [] other = refl
+no_pair f (x ∷ []) other = refl
+no_pair f (x ∷ y ∷ []) other = absurd (other refl)
+no_pair f (x ∷ y ∷ z ∷ vs) other = refl
 
 -- ---- nested values
 

@@ -17,3 +17,5 @@ pub mod Escapes
 pub mod Decimals
 pub mod Fields
 pub mod FieldRead
+pub mod Attributes
+pub mod AttributeRead

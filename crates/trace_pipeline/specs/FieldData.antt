@@ -3,6 +3,9 @@ use Rattle.std.specs.Prelude.{◌<◌, ◌^◌, ℕ, ℤ, pos, negsuc, List, [],
 use Rattle.std.specs.Fmt.{signed_decimal}
 use Rattle.serde_json.specs.Data.{Data, boolean, number, string, array, object, unsigned, no_items, item, no_members, member}
 use Rattle.serde_json.specs.Find.{of_integer}
+use Rattle.otel_base.specs.declared.value.KeyValue.{KeyValue}
+use Rattle.otel_base.specs.declared.value.OtelValue.{OtelValue}
+use Rattle.otel_base.specs.declared.value.OtelValue.TheVariants as otel
 use Rattle.trace_base.specs.declared.field.Value.{Value}
 use Rattle.trace_base.specs.declared.field.Value.TheVariants.{Bool, I64, U64, I128, U128, Str, Debug, Error}
 use Rattle.trace_pipeline.specs.Object.{by_name, array_of}
@@ -46,3 +49,15 @@ IsValue (Error message chain) = Unit {0}
 abbrev pub AreValues : List (List ℕ × Value) → Type 0
 AreValues [] = Unit {0}
 AreValues (field ∷ fields) = IsValue field.1 × AreValues fields
+
+-- ---- attributes
+
+abbrev pub IsOtelValue : OtelValue → Type 0
+IsOtelValue (otel.Bool b) = Unit {0}
+IsOtelValue (otel.I64 z) = HasBits 63 z
+IsOtelValue (otel.Str s) = Unit {0}
+IsOtelValue (otel.List texts) = Unit {0}
+
+abbrev pub AreAttributes : List KeyValue → Type 0
+AreAttributes [] = Unit {0}
+AreAttributes (attribute ∷ attributes) = IsOtelValue attribute.value × AreAttributes attributes

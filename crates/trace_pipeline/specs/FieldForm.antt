@@ -5,7 +5,7 @@ use Rattle.serde_json.specs.Find.{as_str, as_array, as_i64, as_u64}
 use Rattle.trace_base.specs.declared.field.Value.{Value}
 use Rattle.trace_base.specs.declared.field.Value.TheVariants.{Bool, I64, U64, I128, U128, Str, Debug, Error}
 use Rattle.trace_pipeline.specs.Decimals.{u128_word, i128_word}
-use Rattle.trace_pipeline.specs.Forms.{Form, ◌>>=◌, give, when, text, array as array_member, optional, as_whole, each, all_of}
+use Rattle.trace_pipeline.specs.Forms.{Form, ◌>>=◌, give, when, text, array as array_member, optional, as_whole, each, pair_with, all_of}
 
 -- a signed number where there is one, else a number without a sign
 abbrev pub whole_value : Option ℤ → Option ℕ → Option Value
@@ -64,15 +64,8 @@ value_of (object ms) = all_of typed_form ms
 -- ---- fields
 
 -- a field has a name and a value
-abbrev pub pair_of : Items → Option (List ℕ × Value)
-pair_of no_items = None
-pair_of (item name no_items) = None
-pair_of (item name (item value no_items)) =
-    option_and_then (λ n. option_map (λ v. (n, v)) (value_of value)) (as_str name)
-pair_of (item name (item value (item d ds))) = None
-
 abbrev pub field_of : Data → Option (List ℕ × Value)
-field_of d = option_and_then pair_of (as_array d)
+field_of d = option_and_then (pair_with value_of) (as_array d)
 
 -- the fields that an array spells, in its order
 abbrev pub fields_of : Data → Option (List (List ℕ × Value))

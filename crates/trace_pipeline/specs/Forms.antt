@@ -72,6 +72,13 @@ abbrev pub each : {A : Type 0} → (Data → Option A) → Items → Option (Lis
 each f no_items = Some []
 each f (item d ds) = option_and_then (λ a. option_map (λ more. a ∷ more) (each f ds)) (f d)
 
+-- a name and a value of a kind
+abbrev pub pair_with : {A : Type 0} → (Data → Option A) → Items → Option (List ℕ × A)
+pair_with f no_items = None
+pair_with f (item name no_items) = None
+pair_with f (item name (item value no_items)) = option_and_then (λ n. option_map (λ v. (n, v)) (f value)) (as_str name)
+pair_with f (item name (item value (item d ds))) = None
+
 -- ---- members of a kind
 
 -- a whole number

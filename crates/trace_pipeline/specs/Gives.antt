@@ -3,24 +3,13 @@ use Rattle.std.specs.Prelude.{◌≡◌, Option, Some, None, Result, Ok, Err}
 use Rattle.trace_pipeline.specs.declared.read.LineError.{LineError}
 use Rattle.trace_pipeline.specs.declared.read.LineError.TheVariants.{BadLine, Later, Memory}
 
--- a part of an object is refused as Later, exactly where it is not of its form
+-- what is read is refused as BadLine, exactly where it is not of its form
 abbrev pub Fails : {Y : Type 0} → LineError → Option Y → Type 0
-Fails BadLine read = ⊥
-Fails Later read = read ≡ None
+Fails BadLine read = read ≡ None
+Fails Later read = ⊥
 Fails Memory read = Unit {0}
 
--- what a reader of a part gives, seen by a view
+-- what a reader gives, seen by a view
 abbrev pub Gives : {X Y : Type 0} → (X → Y) → Result X LineError → Option Y → Type 0
 Gives view (Ok x) read = read ≡ Some (view x)
 Gives view (Err e) read = Fails e read
-
--- a line is refused as BadLine, exactly where it is no object
-abbrev pub FailsToOpen : {Y : Type 0} → LineError → Option Y → Type 0
-FailsToOpen BadLine read = read ≡ None
-FailsToOpen Later read = ⊥
-FailsToOpen Memory read = Unit {0}
-
--- what the opening of a line gives, seen by a view
-abbrev pub Opens : {X Y : Type 0} → (X → Y) → Result X LineError → Option Y → Type 0
-Opens view (Ok x) read = read ≡ Some (view x)
-Opens view (Err e) read = FailsToOpen e read

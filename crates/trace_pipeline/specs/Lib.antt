@@ -7,6 +7,9 @@ pub mod Words
 pub mod Forms
 pub mod Decimals
 pub mod FieldForm
+pub mod AttributeForm
+pub mod ExtensionForm
+pub mod Awaited
 pub mod SettingsForm
 pub mod RequestForm
 pub mod FieldData

@@ -7,6 +7,7 @@ use Rattle.trace_pipeline.specs.declared.told.Told.{Told}
 use Rattle.trace_pipeline.specs.declared.told.Told.TheVariants as told
 use Rattle.span_pipeline.specs.declared.request.Request.{Request}
 use Rattle.span_pipeline.specs.declared.reply.Reply.{Reply}
+use Rattle.span_pipeline.specs.Admission.{TextRead, text_read}
 use Rattle.span_pipeline.specs.Setups.{Setup, setup_by}
 use Rattle.span_pipeline.specs.Tables.{History, Effect, Tables, tables, records_of}
 use Rattle.span_pipeline.specs.Effects.{Resolved, effect_of, open_spans}
@@ -64,8 +65,13 @@ report_on setup h n records (text ∷ lines) =
     (λ effect. behind (answer_text (n + 1) records effect.reply (records_of (tables setup.layer h) effect))
     (report_on setup (h ++ effect ∷ []) (n + 1) (records + length (records_of (tables setup.layer h) effect)) lines)) (n + 1)
 
+-- a run isn't opened where the filter's text has a piece that is no directive
+abbrev pub opened : TextRead → Report → ℕ → Report
+opened (Ok directives) report line = report
+opened (Err piece) report line = refused line (told.Directive piece)
+
 abbrev pub opening : Result Settings Told → (Settings → Report) → ℕ → Report
-opening (Ok settings) go line = go settings
+opening (Ok settings) go line = opened (text_read settings.filter) (go settings) line
 opening (Err why) go line = refused line why
 
 -- The first line that isn't blank is the settings line. If there is none, the input is refused at its end.

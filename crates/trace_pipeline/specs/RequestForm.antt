@@ -10,6 +10,7 @@ use Rattle.span_pipeline.specs.declared.request.Call.{Call}
 use Rattle.span_pipeline.specs.declared.request.Call.TheVariants as call
 use Rattle.span_pipeline.specs.declared.request.Place.{Place}
 use Rattle.span_pipeline.specs.declared.request.Place.TheVariants as place
+use Rattle.trace_pipeline.specs.ExtensionForm.{follows_form, set_parent_form, add_link_form, set_attribute_form, set_status_form, add_event_form}
 use Rattle.trace_pipeline.specs.FieldForm.{fields_of}
 use Rattle.trace_pipeline.specs.Forms.{Form, ◌>>=◌, give, when, whole, text, member, optional, if_absent, as_whole}
 use Rattle.trace_pipeline.specs.Hex.{id_word, long_id_word}
@@ -31,7 +32,15 @@ verb_word word =
     (if bytes_eq word (codes "remote") then Some verb.Remote else
     (if bytes_eq word (codes "context") then Some verb.Context else
     (if bytes_eq word (codes "attach") then Some verb.Attach else
-    (if bytes_eq word (codes "detach") then Some verb.Detach else None))))))))))))))
+    (if bytes_eq word (codes "detach") then Some verb.Detach else
+    (if bytes_eq word (codes "follows") then Some verb.Follows else
+    (if bytes_eq word (codes "set_parent") then Some verb.SetParent else
+    (if bytes_eq word (codes "add_link") then Some verb.AddLink else
+    (if bytes_eq word (codes "set_attribute") then Some verb.SetAttribute else
+    (if bytes_eq word (codes "set_status") then Some verb.SetStatus else
+    (if bytes_eq word (codes "add_event") then Some verb.AddEvent else
+    (if bytes_eq word (codes "enabled") then Some verb.Enabled else
+    (if bytes_eq word (codes "reload") then Some verb.Reload else None))))))))))))))))))))))
 
 -- the word of no span
 abbrev pub root_word : List ℕ → Option Place
@@ -151,6 +160,18 @@ remote_form = do
   span ← when (id_word span_word)
   give (call.Remote (record { trace = trace; span = span }))
 
+-- `enabled` asks whether what a callsite makes is let through
+unfoldable pub enabled_form : Form Call
+enabled_form = do
+  site ← whole (codes "site")
+  give (call.Enabled site)
+
+-- `reload` puts a filter of another text in force
+unfoldable pub reload_form : Form Call
+reload_form = do
+  directives ← text (codes "text")
+  give (call.Reload directives)
+
 -- what a word of `do` goes on with
 abbrev pub call_form : Verb → Form Call
 call_form verb.New = new_form
@@ -168,6 +189,14 @@ call_form verb.Remote = remote_form
 call_form verb.Context = context_form
 call_form verb.Attach = attach_form
 call_form verb.Detach = detach_form
+call_form verb.Follows = follows_form
+call_form verb.SetParent = set_parent_form
+call_form verb.AddLink = add_link_form
+call_form verb.SetAttribute = set_attribute_form
+call_form verb.SetStatus = set_status_form
+call_form verb.AddEvent = add_event_form
+call_form verb.Enabled = enabled_form
+call_form verb.Reload = reload_form
 
 -- a moment, a lane, and what a word of `do` goes on with
 unfoldable pub request_form : Form Request

@@ -6,7 +6,6 @@ use Rattle.otel_state.specs.Settings.{default_settings}
 use Rattle.otel_state.specs.declared.settings.LayerSettings.{LayerSettings}
 use Rattle.trace_base.specs.declared.callsite.Callsite.{Callsite}
 use Rattle.span_pipeline.specs.declared.settings.Settings.{Settings}
-use Rattle.span_pipeline.specs.Admission.{filter_word}
 use Rattle.trace_pipeline.specs.Forms.{Form, ◌>>=◌, give, when, provided, whole_to, text, flag_or, optional, if_absent, optional_text, optional_u32, array, each, object_of}
 use Rattle.trace_pipeline.specs.Words.{level_word, kind_word}
 
@@ -92,13 +91,12 @@ all_differ (n ∷ ns) = not (list_any (λ m. n == m) ns) && all_differ ns
 abbrev pub ids : List Lane → List ℕ
 ids lanes = map (λ lane. lane.0) lanes
 
--- The filter is a level word, and the ids of the lanes differ.
+-- The filter is any text, and the ids of the lanes differ.
 unfoldable pub settings_form : Form Settings
 settings_form = do
   callsite_items ← array (codes "callsites")
   callsites ← when (each (object_of callsite_form) callsite_items)
   filter ← text (codes "filter")
-  known ← when (filter_word filter)
   lane_items ← array (codes "lanes")
   lanes ← when (each (object_of lane_form) lane_items)
   differ ← when (provided (all_differ (ids lanes)))

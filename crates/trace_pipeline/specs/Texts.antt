@@ -1,7 +1,9 @@
 -- The texts of the lines that are written.
-use Rattle.std.specs.Prelude.{ℕ, List, [], ◌∷◌, codes, true}
+use Rattle.std.specs.Prelude.{ℕ, List, [], ◌∷◌, codes, true, Result, Ok, Err}
 use Rattle.serde_json.specs.Data.{Data, boolean, string, object}
 use Rattle.otel_base.specs.declared.record.Record.{Record}
+use Rattle.otel_state.specs.declared.op.SetParentError.{SetParentError}
+use Rattle.otel_state.specs.declared.op.SetParentError.TheVariants as unset
 use Rattle.span_pipeline.specs.declared.reply.Reply.{Reply}
 use Rattle.span_pipeline.specs.declared.reply.Reply.TheVariants as reply
 use Rattle.span_pipeline.specs.declared.reply.What.{What}
@@ -16,6 +18,13 @@ use Rattle.trace_pipeline.specs.RecordData.{record_data}
 
 -- ---- replies
 
+-- whether a parent was set, by its name or that of the fault
+abbrev pub set_name : Result (Unit {0}) SetParentError → List ℕ
+set_name (Ok u) = codes "Ok"
+set_name (Err unset.AlreadyStarted) = codes "AlreadyStarted"
+set_name (Err unset.SpanDisabled) = codes "SpanDisabled"
+set_name (Err unset.LayerNotFound) = codes "LayerNotFound"
+
 -- what a reply line tells of the reply
 abbrev pub reply_members : Reply → List (List ℕ × Data)
 reply_members (reply.Made enabled handle) =
@@ -27,6 +36,7 @@ reply_members (reply.Context context ids) =
 reply_members reply.Done = []
 reply_members (reply.Has has) = (codes "has", boolean has) ∷ []
 reply_members (reply.Enabled enabled) = (codes "enabled", boolean enabled) ∷ []
+reply_members (reply.Set set) = (codes "set", string (set_name set)) ∷ []
 
 -- a reply, with the number of its request's line
 abbrev pub reply_data : ℕ → Reply → Data
@@ -57,10 +67,14 @@ what_name what.Field = codes "field"
 abbrev pub refused_as : List ℕ → List ℕ × Data
 refused_as name = (codes "refused", string name)
 
+-- a text of directives that isn't read, and the number of its piece that is none
+abbrev pub directive_members : List ℕ → ℕ → List (List ℕ × Data)
+directive_members text piece =
+    refused_as (codes "Directive") ∷ (codes "piece", whole_number piece) ∷ (codes "text", string text) ∷ []
+
 -- What a refusal line tells of a step's refusal. Want of memory has no such line: its row stands for none
 -- that is written.
 abbrev pub step_members : Refusal → List (List ℕ × Data)
-step_members refusal.Later = refused_as (codes "Later") ∷ []
 step_members (refusal.UnknownName unknown) =
     refused_as (codes "UnknownName") ∷ (codes "what", string (what_name unknown)) ∷ []
 step_members (refusal.BadMoment before given) =
@@ -69,12 +83,14 @@ step_members (refusal.BadMoment before given) =
 step_members refusal.InUse = refused_as (codes "InUse") ∷ []
 step_members (refusal.WrongLane lane) = refused_as (codes "WrongLane") ∷ (codes "lane", whole_number lane) ∷ []
 step_members (refusal.Full lane) = refused_as (codes "Full") ∷ (codes "lane", whole_number lane) ∷ []
+step_members (refusal.Directive piece) = directive_members (codes "reload") piece
 step_members refusal.Memory = refused_as (codes "Memory") ∷ []
 
 -- what a refusal line tells of the refusal
 abbrev pub told_members : Told → List (List ℕ × Data)
 told_members told.BadLine = refused_as (codes "BadLine") ∷ []
 told_members told.Later = refused_as (codes "Later") ∷ []
+told_members (told.Directive piece) = directive_members (codes "filter") piece
 told_members (told.Step why) = step_members why
 
 -- a refusal of which the name alone is told, with the number of its line
@@ -85,6 +101,10 @@ named_refusal line name = object (by_name ((codes "line", whole_number line) ∷
 abbrev pub refusal_on : ℕ → ℕ → List ℕ → Data
 refusal_on line lane name = object (by_name (
     (codes "line", whole_number line) ∷ refused_as name ∷ (codes "lane", whole_number lane) ∷ []))
+
+-- a text of directives that isn't read, with the number of its line
+abbrev pub directive_refusal : ℕ → List ℕ → ℕ → Data
+directive_refusal line text piece = object (by_name ((codes "line", whole_number line) ∷ directive_members text piece))
 
 -- a refusal, with the number of its line
 abbrev pub refusal_data : ℕ → Told → Data

@@ -1,11 +1,18 @@
 //! Reading lines: what a settings line and a request line spell.
-ghost use Rattle.std.specs.Prelude.{◌≡◌, map, Ok, Err, IfOk, IsErrOf};
+ghost use Rattle.std.specs.Prelude.{◌≡◌, map, true, Ok, Err, IfOk, IsErrOf, option_and_then};
 ghost use Rattle.span_pipeline.specs.Setups.{HasOwnIds};
-ghost use Rattle.trace_pipeline.specs.Spelled.{settings_spelled, request_spelled};
+ghost use Rattle.trace_pipeline.specs.Forms.{all_of};
+ghost use Rattle.trace_pipeline.specs.Gives.{Gives};
+ghost use Rattle.trace_pipeline.specs.RequestForm.{request_form};
+ghost use Rattle.trace_pipeline.specs.SettingsForm.{settings_form, ids, all_differ};
+ghost use Rattle.trace_pipeline.specs.Spelled.{line_members, settings_spelled, request_spelled};
 ghost use Rattle.trace_pipeline.specs.declared.told.Told.{Told};
 ghost use Rattle.trace_pipeline.specs.declared.read.LineError.TheVariants.{Memory};
 
+mod attributes;
+mod awaited;
 mod decimal;
+mod extension;
 mod fields;
 mod flat;
 mod hex;
@@ -19,6 +26,7 @@ mod settings;
 mod tree;
 mod value;
 
+use awaited::{awaits_settings, refused};
 pub use fields::read_fields;
 use object::Object;
 use otel_base::memory;
@@ -29,9 +37,9 @@ use std::alloc::{AllocError, AllocFailed, Global};
 /// Why a line gives no value.
 #[derive(Clone, Copy, Debug, PartialEq, Eq)]
 pub enum LineError {
-    /// The line is no JSON, or no object.
+    /// The line is no JSON, or no object, or one of no form.
     BadLine,
-    /// The line is an object of no form that is built yet.
+    /// The line is an object that asks for what isn't built yet.
     Later,
     /// No memory was to be had.
     Memory,
@@ -61,14 +69,9 @@ impl From<memory::Memory> for LineError {
     }
 }
 
-/// Reads a settings line. `BadLine` where it is no JSON or no object, `Later` where it is an object of another form,
-/// `Memory` freely.
-#[tactic(auto, using(crate::proofs::OwnIds::own_ids), unfolding(crate::specs::Spelled::settings_spelled))]
-pub fn read_settings(alloc: Global, line: &[u8]) -> Result<Settings, LineError>
-    ensures ok { IfOk result (λ settings. settings_spelled line.now ≡ Ok settings) }
-    ensures lanes { IfOk result (λ settings. HasOwnIds (map (λ l. l.0) settings.lanes)) }
-    ensures bad_line { IsErrOf result LineError.BadLine → settings_spelled line.now ≡ Err Told.BadLine }
-    ensures later { IsErrOf result LineError.Later → settings_spelled line.now ≡ Err Told.Later }
+fn settings_of(alloc: Global, line: &[u8]) -> Result<Settings, LineError>
+    ensures form { Gives (λ s. s) result (option_and_then (all_of settings_form) (line_members line.now)) }
+    ensures differ { IfOk result (λ s. all_differ (ids s.lanes) ≡ true) }
 {
     let mut object = Object::open(alloc, line)?;
     let settings = settings::settings_members(alloc, &mut object)?;
@@ -76,16 +79,36 @@ pub fn read_settings(alloc: Global, line: &[u8]) -> Result<Settings, LineError>
     Ok(settings)
 }
 
-/// Reads a request line. `BadLine` where it is no JSON or no object, `Later` where it is an object of no form that is
-/// built yet, `Memory` freely.
+fn request_of(alloc: Global, line: &[u8]) -> Result<Request, LineError>
+    ensures { Gives (λ r. r) result (option_and_then (all_of request_form) (line_members line.now)) }
+{
+    let mut object = Object::open(alloc, line)?;
+    let request = request::request_members(alloc, &mut object)?;
+    object.end()?;
+    Ok(request)
+}
+
+/// Reads a settings line. `BadLine` where it is no JSON or no object or one of no form; in its place `Later` where it has a
+/// `counting`, which isn't built yet. `Memory` freely.
+#[tactic(auto, using(crate::proofs::OwnIds::own_ids), unfolding(crate::specs::Spelled::settings_spelled))]
+pub fn read_settings(alloc: Global, line: &[u8]) -> Result<Settings, LineError>
+    ensures ok { IfOk result (λ settings. settings_spelled line.now ≡ Ok settings) }
+    ensures lanes { IfOk result (λ settings. HasOwnIds (map (λ l. l.0) settings.lanes)) }
+    ensures bad_line { IsErrOf result LineError.BadLine → settings_spelled line.now ≡ Err Told.BadLine }
+    ensures later { IsErrOf result LineError.Later → settings_spelled line.now ≡ Err Told.Later }
+{
+    match settings_of(alloc, line) {
+        Err(LineError::BadLine) => Err(refused(awaits_settings(alloc, line)?)),
+        read => read,
+    }
+}
+
+/// Reads a request line. `BadLine` where it is no JSON or no object or one of no form, `Memory` freely.
 #[tactic(auto, unfolding(crate::specs::Spelled::request_spelled))]
 pub fn read_request(alloc: Global, line: &[u8]) -> Result<Request, LineError>
     ensures ok { IfOk result (λ request. request_spelled line.now ≡ Ok request) }
     ensures bad_line { IsErrOf result LineError.BadLine → request_spelled line.now ≡ Err Told.BadLine }
     ensures later { IsErrOf result LineError.Later → request_spelled line.now ≡ Err Told.Later }
 {
-    let mut object = Object::open(alloc, line)?;
-    let request = request::request_members(alloc, &mut object)?;
-    object.end()?;
-    Ok(request)
+    request_of(alloc, line)
 }

@@ -1,6 +1,7 @@
 -- One line more is answered, and the lines end.
 use Rattle.std.proofs.Common.{◌≡◌, ℕ, List, [], ◌∷◌, ◌++◌, length, refl, sym, ap, subst, ◌∙◌, append_assoc, ◌+◌, inl, inr}
-use Rattle.std.specs.Prelude.{Result, Ok, Err, IfOk, IsErrOf, true, false}
+use Rattle.std.specs.Prelude.{Result, Ok, Err, IfOk, IsErrOf, is_ok, true, false}
+use Rattle.std.proofs.lemmas.Bool.{true≢false}
 use Rattle.std.proofs.lemmas.List.{append-nil}
 use Rattle.std.proofs.lemmas.List.Folds.{list_all-append}
 use Rattle.otel_base.specs.declared.record.Record.{Record}
@@ -19,6 +20,8 @@ use Rattle.trace_pipeline.specs.Lines.{is_blank}
 use Rattle.trace_pipeline.specs.Spelled.{settings_spelled, request_spelled}
 use Rattle.trace_pipeline.specs.Texts.{reply_text, refusal_text, end_text}
 use Rattle.span_pipeline.specs.Fits.{State, StandsFor, RecordingFits, Recorded}
+use Rattle.span_pipeline.specs.Admission.{TextRead, text_read, is_text_read}
+use Rattle.trace_pipeline.specs.Report.{opened as opened_report}
 use Rattle.trace_pipeline.specs.Report.{Report, behind, effect_of_line, effect_of_request, answer_text, record_lines, report_on, report_from}
 use Rattle.trace_tool.specs.declared.answers.Stage.{Stage}
 use Rattle.trace_tool.specs.declared.answers.Stage.TheVariants as stage
@@ -97,16 +100,21 @@ blank_on (stage.Running pipeline) lines count next written line a counted is = r
 }
 blank_on stage.Refused lines count next written line a counted is = stops_on lines (line ∷ []) written.text.items a
 
+-- settings whose filter is read
+opened_by : (r : TextRead) → is_ok r ≡ true → (report : Report) → (line : ℕ) → opened_report r report line ≡ report
+opened_by (Ok ds) is report line = refl
+opened_by (Err piece) is report line = absurd (true≢false (sym is))
+
 -- the settings line
 pub opened : (lines : List (List ℕ)) (count next : ℕ) (written : Written) (line : List ℕ) (settings : Settings) (kept : State)
     → Opens lines count written → next ≡ count + 1 → is_blank line ≡ false → settings_spelled line ≡ Ok settings
-    → kept.setup ≡ setup_by settings → StandsFor kept (tables settings.layer []) → kept.recording.finished ≡ [] → Runs (lines ++ line ∷ []) next kept written
-opened lines count next written line settings kept o counted is is_spelled setup stands taken = record {
+    → is_text_read settings.filter ≡ true → kept.setup ≡ setup_by settings → StandsFor kept (tables settings.layer []) → kept.recording.finished ≡ [] → Runs (lines ++ line ∷ []) next kept written
+opened lines count next written line settings kept o counted is is_spelled read setup stands taken = record {
   history = [];
   some = one_not_blank lines line o.blank is;
   stands = subst (λ (s : Setup). StandsFor kept (tables s.layer [])) (sym setup) stands;
   taken = taken;
-  report_is = λ more. on_line lines more line _ (o.report_is (line ∷ more) ∙ rw (is, is_spelled, counted, o.empty, o.none, setup) refl);
+  report_is = λ more. on_line lines more line _ (o.report_is (line ∷ more) ∙ rw (is, is_spelled, counted, o.empty, o.none, setup) (opened_by (text_read settings.filter) read _ _));
 }
 
 -- a settings line that is refused
@@ -116,6 +124,15 @@ pub unopened : (lines : List (List ℕ)) (count next : ℕ) (written : Written) 
 unopened lines count next written line text why o counted is is_spelled tells = record {
   some = one_not_blank lines line o.blank is;
   report_is = λ more. on_line lines more line _ (o.report_is (line ∷ more) ∙ rw (is, is_spelled, tells, o.empty, counted) refl);
+}
+
+-- settings whose filter isn't read
+pub unfiltered : (lines : List (List ℕ)) (count next : ℕ) (written : Written) (line text : List ℕ) (settings : Settings) (piece : ℕ)
+    → Opens lines count written → next ≡ count + 1 → is_blank line ≡ false → settings_spelled line ≡ Ok settings → text_read settings.filter ≡ Err piece
+    → text ≡ written.text.items ++ refusal_text next (told.Directive piece) → Stops (lines ++ line ∷ []) text
+unfiltered lines count next written line text settings piece o counted is is_spelled why tells = record {
+  some = one_not_blank lines line o.blank is;
+  report_is = λ more. on_line lines more line _ (o.report_is (line ∷ more) ∙ rw (is, is_spelled, why, tells, o.empty, counted) refl);
 }
 
 -- a request line that is refused
@@ -165,6 +182,7 @@ beside k t s = record {
     few_holds = s.fits.few_holds;
   };
   recording = record { recorded = s.recording.recorded; known = s.recording.known; attached = s.recording.attached };
+  filtering = record { in_place = s.filtering.in_place; fresh = s.filtering.fresh };
 }
 
 back : (k : State) (t : Tables) → StandsFor (without_records k) t → StandsFor k t
@@ -188,6 +206,7 @@ back k t s = record {
     few_holds = s.fits.few_holds;
   };
   recording = record { recorded = s.recording.recorded; known = s.recording.known; attached = s.recording.attached };
+  filtering = record { in_place = s.filtering.in_place; fresh = s.filtering.fresh };
 }
 
 stands_beside : (old new : State) (t : Tables) → without_records new ≡ without_records old → StandsFor old t → StandsFor new t

@@ -8,7 +8,7 @@ ghost use Rattle.trace_tool.specs.Answers.{without_records, IsSpelled, Opens, Ru
 
 use crate::lines::{first_line, is_blank};
 use otel_base::memory::Memory;
-use span_pipeline::pipeline::Pipeline;
+use span_pipeline::pipeline::{OpenError, Pipeline};
 use std::alloc::Global;
 use std::mem;
 use trace_base::discard::Discard;
@@ -205,7 +205,12 @@ pub fn answer_lines(alloc: Global, bytes: &[u8]) -> Result<Answers, Memory>
 }
 
 // Opens the run at the first line that isn't blank, and tells where it stands then.
-fn open(alloc: Global, written: &mut Written, lines: u64, line: &[u8]) -> Result<Stage, Memory>
+pub(crate) fn open(
+    alloc: Global,
+    written: &mut Written,
+    lines: u64,
+    line: &[u8],
+) -> Result<Stage, Memory>
     ensures { (before : List (List ℕ)) (count : ℕ) → Opens before count written.old → lines ≡ count + 1
         → is_blank line.now ≡ false
         → IfOk result (λ stage. AnswersAt stage (before ++ line.now ∷ []) lines written.new) }
@@ -217,14 +222,18 @@ fn open(alloc: Global, written: &mut Written, lines: u64, line: &[u8]) -> Result
             return Ok(Stage::Refused);
         }
     };
-    let Ok(pipeline) = Pipeline::open(alloc, settings) else {
-        return Err(Memory);
-    };
-    Ok(Stage::Running { pipeline })
+    match Pipeline::open(alloc, settings) {
+        Ok(pipeline) => Ok(Stage::Running { pipeline }),
+        Err(OpenError::Directive { piece }) => {
+            refuse(alloc, written, lines, &Told::Directive { piece })?;
+            Ok(Stage::Refused)
+        }
+        Err(OpenError::Memory) => Err(Memory),
+    }
 }
 
 // Answers the request on a line, and tells whether it was served.
-fn answer(
+pub(crate) fn answer(
     alloc: Global,
     pipeline: &mut Pipeline,
     written: &mut Written,
@@ -264,12 +273,12 @@ fn told_of(refusal: Refusal) -> Result<Told, Memory>
 {
     match refusal {
         Refusal::Memory => Err(Memory),
-        Refusal::Later
-        | Refusal::BadMoment { .. }
+        Refusal::BadMoment { .. }
         | Refusal::UnknownName { .. }
         | Refusal::InUse
         | Refusal::WrongLane { .. }
-        | Refusal::Full { .. } => Ok(Told::Step { refusal }),
+        | Refusal::Full { .. }
+        | Refusal::Directive { .. } => Ok(Told::Step { refusal }),
     }
 }
 

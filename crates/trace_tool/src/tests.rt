@@ -1,20 +1,28 @@
 //! Runs of the program over sources and sinks in memory.
 
+mod extension_runs;
 mod field_runs;
+mod filter_runs;
 mod lines;
+mod refused_runs;
 mod runs;
+mod steps;
 
 use crate::sink::{MemSink, Sink, StdSink, SureSink};
 use crate::source::{MemSource, Source, StdSource, SureSource};
 use crate::status::Status;
 use crate::top::top;
 use crate::turns::Turn;
+use extension_runs::EXTENSION_RUNS;
 use field_runs::FIELD_RUNS;
+use filter_runs::FILTER_RUNS;
+use refused_runs::REFUSED_RUNS;
 use runs::RUNS;
 use std::process::Abort;
 use std::sync::Wait;
 use std::test::Fail;
 use std::thread::Threads;
+use steps::{STEPS, stepped};
 use trace_pipeline::limits::MAX_INPUT;
 
 const SETTINGS: &str =
@@ -86,16 +94,27 @@ fn ran<H: Threads + Wait + Sync + AllocGlobal>(
 fn differing<H: Threads + Wait + Sync + AllocGlobal>(rt: &H) -> Result<Option<String>, Fail> {
     let mut input = String::new(rt.alloc());
     let mut wanted = String::new(rt.alloc());
-    for line in RUNS.lines().chain(FIELD_RUNS.lines()) {
+    let fields = FIELD_RUNS.lines().chain(EXTENSION_RUNS.lines());
+    let refused = FILTER_RUNS.lines().chain(REFUSED_RUNS.lines());
+    for line in RUNS
+        .lines()
+        .chain(fields)
+        .chain(refused)
+        .chain(STEPS.lines())
+    {
         if let Some(text) = line.strip_prefix("< ") {
             add_line(&mut input, text)?;
         } else if let Some(text) = line.strip_prefix("> ") {
             add_line(&mut wanted, text)?;
         } else if line == "P" {
             add_line(&mut input, SETTINGS)?;
-        } else if line.starts_with('=') {
-            add_line(&mut wanted, line)?;
-            let got = ran(rt, input.as_bytes(), &[], &[])?;
+        } else if line == "~" || line.starts_with('=') {
+            let got = if line == "~" {
+                stepped(rt, input.as_str())?
+            } else {
+                add_line(&mut wanted, line)?;
+                ran(rt, input.as_bytes(), &[], &[])?
+            };
             if got.as_str() != wanted.as_str() {
                 return Ok(Some(got));
             }

@@ -11,14 +11,14 @@ use crate::contexts::{Attach, add, context_at};
 use crate::pipeline::{MOST, Pipeline};
 use crate::reply::{Refusal, Reply, What};
 use crate::slots::{keep, slot_at, take};
-use crate::stack::Stack;
 use otel_base::context::{Context, SpanContext};
 use otel_base::enter_error::EnterError;
 use otel_base::record::Moment;
 use otel_base::stack::Attached;
 use otel_layer::part::OtelSubscriber;
-use otel_layer::recording;
+use otel_layer::recording::leaves;
 use otel_layer::span_ext::OpenTelemetrySpanExt;
+use span_stack::{Stack, laws};
 use trace_base::lane::Lane;
 
 // Whatever spans a whole subscriber has can be started.
@@ -79,8 +79,8 @@ impl Pipeline {
         ensures err { OnErr result (self.new ≡ self.old) }
     {
         starts::<Stack>();
-        recording::leaves::<Stack>();
-        recording::asks();
+        leaves::<Stack>();
+        laws::asks();
         let number = self.contexts.made.len() as u64;
         self.contexts.made.reserve(1)?;
         let Some(span) = slot_at(&self.handles, handle) else {

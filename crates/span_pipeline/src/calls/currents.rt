@@ -5,11 +5,10 @@ ghost use Rattle.span_pipeline.specs.declared.request.Call.TheVariants as reques
 use crate::pipeline::{MOST, Pipeline};
 use crate::reply::{Refusal, Reply, What};
 use crate::slots::{keep, slot_at, take};
-use crate::stack::Stack;
 use otel_base::record::Moment;
-use otel_layer::recording;
 use span_handles::laws::calls;
 use span_handles::span::Span;
+use span_stack::{Stack, laws};
 
 impl Pipeline {
     ghost use Rattle.span_pipeline.specs.Tables.{Tables};
@@ -25,7 +24,7 @@ impl Pipeline {
         ensures err { OnErr result (self.new ≡ self.old) }
     {
         calls::<Stack>();
-        recording::calls();
+        laws::calls();
         if self.handles.len() >= MOST || self.guards.len() >= MOST {
             return Err(Refusal::Memory);
         }
@@ -58,7 +57,7 @@ impl Pipeline {
         ensures err { OnErr result (self.new ≡ self.old) }
     {
         calls::<Stack>();
-        recording::calls();
+        laws::calls();
         if self.handles.len() >= MOST || self.guards.len() >= MOST {
             return Err(Refusal::Memory);
         }

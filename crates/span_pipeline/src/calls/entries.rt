@@ -6,10 +6,9 @@ ghost use Rattle.span_pipeline.specs.declared.request.Call.{Call};
 use crate::pipeline::{MOST, Pipeline};
 use crate::reply::{Refusal, Reply, What};
 use crate::slots::{Guard, skip, slot_at};
-use crate::stack::Stack;
 use otel_base::record::Moment;
-use otel_layer::recording;
 use span_handles::laws::{calls, same};
+use span_stack::{Stack, laws};
 
 impl Pipeline {
     ghost use Rattle.span_pipeline.specs.Tables.{Tables};
@@ -32,9 +31,9 @@ impl Pipeline {
         ensures err { OnErr result (self.new ≡ self.old) }
     {
         calls::<Stack>();
-        recording::calls();
+        laws::calls();
         same::<Stack>();
-        recording::same();
+        laws::same();
         if self.handles.len() >= MOST || self.guards.len() >= MOST {
             return Err(Refusal::Memory);
         }
@@ -86,7 +85,7 @@ impl Pipeline {
         ensures room { ¬ (result ≡ Err NoMemory) }
     {
         calls::<Stack>();
-        recording::calls();
+        laws::calls();
         let Some(named) = self.guards.at(guard) else {
             return Err(Refusal::UnknownName { what: What::Guard });
         };

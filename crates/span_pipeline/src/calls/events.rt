@@ -1,5 +1,5 @@
 //! Recording events.
-ghost use Rattle.std.specs.Prelude.{◌≡◌, ◌<◌, length, option_map, None, Some, IfSome, IfOk, OnOk, IfErr, OnErr};
+ghost use Rattle.std.specs.Prelude.{◌≡◌, ◌<◌, length, true, is_some, None, IfSome, IfOk, OnOk, IfErr, OnErr};
 ghost use Rattle.trace_base.specs.Conditions.{IsLivePlace};
 ghost use Rattle.span_handles.specs.Worlds.{Has, Replaced};
 ghost use Rattle.span_pipeline.specs.declared.request.Call.{Call};
@@ -11,32 +11,29 @@ use crate::pipeline::Pipeline;
 use crate::reply::{Refusal, Reply, What};
 use crate::request::Place;
 use crate::slots::place_above;
-use crate::stack::Stack;
 use otel_base::list::Items;
 use otel_base::memory::Memory;
 use otel_base::record::Moment;
 use otel_base::text::Text;
-use otel_layer::recording;
 use span_handles::laws::{calls, same};
+use span_stack::{Stack, admits, laws};
 use trace_base::callsite::{Kind, SiteId};
 use trace_base::dispatcher::Dispatch;
 use trace_base::field::{Value, ValueSet};
 use trace_base::lane::Lane;
-use trace_base::level::Level;
 use trace_base::span::Parent;
 use trace_base::subscriber::Subscriber;
 use trace_base::world::World;
 
-// The callsite at a place, if it makes events, and its level.
-fn event_site<S: Subscriber>(world: &World<S>, place: u64) -> Option<(SiteId, Level)>
+// The callsite at a place, if it makes events.
+fn event_site<S: Subscriber>(world: &World<S>, place: u64) -> Option<SiteId>
     ensures none { result ≡ None → event_site world.now.sites place ≡ None }
-    ensures some { IfSome result (λ found. (found.0 ≡ place) × (place < length world.now.sites)
-        × (option_map (λ c. c.level) (event_site world.now.sites place) ≡ Some found.1)) }
+    ensures some { IfSome result (λ found. (found ≡ place) × (place < length world.now.sites)
+        × (is_some (event_site world.now.sites place) ≡ true)) }
 {
     let site = world.site_at(place)?;
-    let callsite = world.site(site);
-    match callsite.kind {
-        Kind::Event => Some((site, callsite.level)),
+    match world.site(site).kind {
+        Kind::Event => Some(site),
         Kind::Span => None,
     }
 }
@@ -88,9 +85,9 @@ impl Pipeline {
         ensures err { OnErr result (self.new ≡ self.old) }
     {
         calls::<Stack>();
-        recording::calls();
+        laws::calls();
         same::<Stack>();
-        recording::same();
+        laws::same();
         let Some(found) = event_site(&self.world, place) else {
             return Err(Refusal::UnknownName { what: What::Site });
         };
@@ -98,19 +95,20 @@ impl Pipeline {
             return Err(Refusal::UnknownName { what: What::Handle });
         };
         let parent = above.parent();
-        let callsite = self.world.site(found.0);
+        let callsite = self.world.site(found);
         let Some(values) = all_values(self.world.allocator(), callsite, fields)? else {
             return Err(Refusal::UnknownName { what: What::Field });
         };
-        let enabled = self.level.lets_through(found.1);
+        let on = &self.lanes[lane as usize];
+        let enabled = admits(&self.world, self.dispatch, on, found);
         tell_if(
             enabled,
             &mut self.world,
             self.dispatch,
-            &self.lanes[lane as usize],
+            on,
             at,
             parent,
-            found.0,
+            found,
             &values,
         )?;
         self.moment = at;

@@ -7,12 +7,11 @@ use crate::fields::values_by;
 use crate::pipeline::Pipeline;
 use crate::reply::{Refusal, Reply, What};
 use crate::slots::slot_at;
-use crate::stack::Stack;
 use otel_base::list::Items;
 use otel_base::record::Moment;
 use otel_base::text::Text;
-use otel_layer::recording;
 use span_handles::laws::{calls, same};
+use span_stack::{Stack, laws};
 use trace_base::field::Value;
 
 impl Pipeline {
@@ -34,9 +33,9 @@ impl Pipeline {
         ensures err { OnErr result (self.new ≡ self.old) }
     {
         calls::<Stack>();
-        recording::calls();
+        laws::calls();
         same::<Stack>();
-        recording::same();
+        laws::same();
         let Some(span) = slot_at(&self.handles, handle) else {
             return Err(Refusal::UnknownName { what: What::Handle });
         };

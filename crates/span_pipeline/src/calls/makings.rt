@@ -1,5 +1,5 @@
 //! Making spans.
-ghost use Rattle.std.specs.Prelude.{◌≡◌, ◌<◌, length, option_map, None, Some, IfSome, IfOk, IfErr, OnErr};
+ghost use Rattle.std.specs.Prelude.{◌≡◌, ◌<◌, length, true, is_some, None, IfSome, IfOk, IfErr, OnErr};
 ghost use Rattle.span_handles.specs.Worlds.{Replaced};
 ghost use Rattle.span_handles.specs.Handles.{MayMake};
 ghost use Rattle.span_pipeline.specs.declared.request.Call.{Call};
@@ -11,32 +11,29 @@ use crate::pipeline::{MOST, Pipeline};
 use crate::reply::{Refusal, Reply, What};
 use crate::request::Place;
 use crate::slots::{Above, keep, place_above};
-use crate::stack::Stack;
 use otel_base::list::Items;
 use otel_base::memory::Memory;
 use otel_base::record::Moment;
 use otel_base::text::Text;
-use otel_layer::recording;
 use span_handles::laws::{calls, same};
 use span_handles::span::Span;
+use span_stack::{Stack, admits, laws};
 use trace_base::callsite::{Kind, SiteId};
 use trace_base::dispatcher::Dispatch;
 use trace_base::field::{Value, ValueSet};
 use trace_base::lane::Lane;
-use trace_base::level::Level;
 use trace_base::subscriber::Subscriber;
 use trace_base::world::World;
 
-// The callsite at a place, if it makes spans, and its level.
-fn span_site<S: Subscriber>(world: &World<S>, place: u64) -> Option<(SiteId, Level)>
+// The callsite at a place, if it makes spans.
+fn span_site<S: Subscriber>(world: &World<S>, place: u64) -> Option<SiteId>
     ensures none { result ≡ None → span_site world.now.sites place ≡ None }
-    ensures some { IfSome result (λ found. (found.0 ≡ place) × (place < length world.now.sites)
-        × (option_map (λ c. c.level) (span_site world.now.sites place) ≡ Some found.1)) }
+    ensures some { IfSome result (λ found. (found ≡ place) × (place < length world.now.sites)
+        × (is_some (span_site world.now.sites place) ≡ true)) }
 {
     let site = world.site_at(place)?;
-    let callsite = world.site(site);
-    match callsite.kind {
-        Kind::Span => Some((site, callsite.level)),
+    match world.site(site).kind {
+        Kind::Span => Some(site),
         Kind::Event => None,
     }
 }
@@ -93,9 +90,9 @@ impl Pipeline {
         ensures err { OnErr result (self.new ≡ self.old) }
     {
         calls::<Stack>();
-        recording::calls();
+        laws::calls();
         same::<Stack>();
-        recording::same();
+        laws::same();
         if self.handles.len() >= MOST || self.guards.len() >= MOST {
             return Err(Refusal::Memory);
         }
@@ -107,19 +104,20 @@ impl Pipeline {
         let Some(above) = place_above(&self.handles, under) else {
             return Err(Refusal::UnknownName { what: What::Handle });
         };
-        let callsite = self.world.site(found.0);
+        let callsite = self.world.site(found);
         let Some(values) = all_values(self.world.allocator(), callsite, fields)? else {
             return Err(Refusal::UnknownName { what: What::Field });
         };
-        let enabled = self.level.lets_through(found.1);
+        let on = &self.lanes[lane as usize];
+        let enabled = admits(&self.world, self.dispatch, on, found);
         let span = make_if(
             enabled,
             above,
             &mut self.world,
             self.dispatch,
-            &self.lanes[lane as usize],
+            on,
             at,
-            found.0,
+            found,
             &values,
         )?;
         keep(&mut self.handles, span);

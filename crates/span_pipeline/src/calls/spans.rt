@@ -6,10 +6,9 @@ ghost use Rattle.span_pipeline.specs.declared.request.Call.{Call};
 use crate::pipeline::{MOST, Pipeline};
 use crate::reply::{Refusal, Reply, What};
 use crate::slots::{keep, slot_at, take};
-use crate::stack::Stack;
 use otel_base::record::Moment;
-use otel_layer::recording;
 use span_handles::laws::{calls, chains};
+use span_stack::{Stack, laws};
 
 impl Pipeline {
     ghost use Rattle.span_pipeline.specs.Tables.{Tables};
@@ -29,7 +28,7 @@ impl Pipeline {
         ensures err { OnErr result (self.new ≡ self.old) }
     {
         calls::<Stack>();
-        recording::calls();
+        laws::calls();
         if self.handles.len() >= MOST || self.guards.len() >= MOST {
             return Err(Refusal::Memory);
         }
@@ -62,7 +61,7 @@ impl Pipeline {
         ensures room { ¬ (result ≡ Err NoMemory) }
     {
         chains::<Stack>();
-        recording::chains();
+        laws::chains();
         let Some(_named) = slot_at(&self.handles, handle) else {
             return Err(Refusal::UnknownName { what: What::Handle });
         };

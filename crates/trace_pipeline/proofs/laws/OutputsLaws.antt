@@ -6,8 +6,9 @@ use Rattle.trace_pipeline.specs.declared.told.Told.{Told}
 use Rattle.span_pipeline.specs.Setups.{Setup, setup_by}
 use Rattle.span_pipeline.specs.Tables.{History, Effect, tables, records_of}
 use Rattle.trace_pipeline.specs.Lines.{is_blank}
+use Rattle.span_pipeline.specs.Admission.{TextRead, text_read}
 use Rattle.trace_pipeline.specs.Spelled.{settings_spelled}
-use Rattle.trace_pipeline.specs.Report.{Report, behind, answer_text, effect_of_line, following, opening, report_on, report_from}
+use Rattle.trace_pipeline.specs.Report.{Report, behind, answer_text, effect_of_line, following, opened, opening, report_on, report_from}
 use Rattle.trace_pipeline.specs.Laws.{GoesOn}
 
 -- if the first report accepts, its text is gone on with by that of the second
@@ -34,9 +35,14 @@ followed : (effect : Result Effect Told) (go go2 : Effect → Report) (n : ℕ) 
 followed (Ok e) go go2 n on accepted = on e accepted
 followed (Err why) go go2 n on accepted = absurd (cc accepted)
 
-opened : (settings : Result Settings Told) (go go2 : Settings → Report) (n : ℕ) → ((s : Settings) → Extends (go s) (go2 s)) → Extends (opening settings go n) (opening settings go2 n)
-opened (Ok s) go go2 n on accepted = on s accepted
-opened (Err why) go go2 n on accepted = absurd (cc accepted)
+-- the settings' filter is read
+read_over : (read : TextRead) (x y : Report) (n : ℕ) → Extends x y → Extends (opened read x n) (opened read y n)
+read_over (Ok directives) x y n on accepted = on accepted
+read_over (Err piece) x y n on accepted = absurd (cc accepted)
+
+settled : (settings : Result Settings Told) (go go2 : Settings → Report) (n : ℕ) → ((s : Settings) → Extends (go s) (go2 s)) → Extends (opening settings go n) (opening settings go2 n)
+settled (Ok s) go go2 n on accepted = read_over (text_read s.filter) (go s) (go2 s) n (on s) accepted
+settled (Err why) go go2 n on accepted = absurd (cc accepted)
 
 requests_on : (setup : Setup) (h : History) (n records : ℕ) (lines : List (List ℕ)) (line : List ℕ)
     → Extends (report_on setup h n records lines) (report_on setup h n records (lines ++ line ∷ []))
@@ -53,7 +59,7 @@ lines_on : (n : ℕ) (lines : List (List ℕ)) (line : List ℕ) → Extends (re
 lines_on n [] line accepted = absurd (cc accepted)
 lines_on n (text ∷ lines) line accepted =
     either (is_blank text) _ _ _ _ (lines_on (n + 1) lines line)
-    (opened (settings_spelled text) _ _ (n + 1) (λ settings. requests_on (setup_by settings) [] (n + 1) 0 lines line)) accepted
+    (settled (settings_spelled text) _ _ (n + 1) (λ settings. requests_on (setup_by settings) [] (n + 1) 0 lines line)) accepted
 
 pub goes_on : (lines : List (List ℕ)) (line : List ℕ) → (report_from 0 lines).accepted ≡ true → GoesOn (report_from 0 lines).written (report_from 0 (lines ++ line ∷ [])).written
 goes_on lines line = lines_on 0 lines line

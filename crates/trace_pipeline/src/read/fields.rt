@@ -5,8 +5,8 @@ ghost use Rattle.serde_json.specs.Data as json;
 ghost use Rattle.serde_json.specs.Find.{as_str, as_i64};
 ghost use Rattle.serde_json.specs.View.{view, number_view};
 ghost use Rattle.trace_pipeline.specs.Compact.{plain_data};
-ghost use Rattle.trace_pipeline.specs.Forms.{each, all_of};
-ghost use Rattle.trace_pipeline.specs.FieldForm.{whole_value, u64_of, i128_of, u128_of, debug_of, error_form, typed_form, value_of, pair_of, field_of, fields_of};
+ghost use Rattle.trace_pipeline.specs.Forms.{each, pair_with, all_of};
+ghost use Rattle.trace_pipeline.specs.FieldForm.{whole_value, u64_of, i128_of, u128_of, debug_of, error_form, typed_form, value_of, field_of, fields_of};
 ghost use Rattle.trace_pipeline.specs.Gives.{Gives};
 ghost use Rattle.trace_pipeline.specs.Left.{value_data, left};
 ghost use Rattle.trace_pipeline.specs.Object.{items};
@@ -53,14 +53,14 @@ fn u64_value(value: &Value<'_>) -> Result<FieldValue, LineError>
 fn i128_value(value: &Value<'_>) -> Result<FieldValue, LineError>
     ensures { Gives (λ v. v) result (i128_of (value_data value.now)) }
 {
-    let number = i128_of(value.word()?).ok_or(LineError::Later)?;
+    let number = i128_of(value.word()?).ok_or(LineError::BadLine)?;
     Ok(FieldValue::I128(number))
 }
 
 fn u128_value(value: &Value<'_>) -> Result<FieldValue, LineError>
     ensures { Gives (λ v. v) result (u128_of (value_data value.now)) }
 {
-    let number = u128_of(value.word()?).ok_or(LineError::Later)?;
+    let number = u128_of(value.word()?).ok_or(LineError::BadLine)?;
     Ok(FieldValue::U128(number))
 }
 
@@ -132,7 +132,7 @@ fn number_value(number: &Number) -> Result<FieldValue, LineError>
         Some(signed) => Ok(FieldValue::I64(signed)),
         None => match number.as_u64() {
             Some(whole) => Ok(FieldValue::U64(whole)),
-            None => Err(LineError::Later),
+            None => Err(LineError::BadLine),
         },
     }
 }
@@ -146,8 +146,8 @@ fn tree_value(alloc: Global, tree: Json) -> Result<FieldValue, LineError>
         Json::Number(number) => number_value(&number),
         Json::String(text) => Ok(FieldValue::Str(Text::from(text))),
         Json::Object(members) => typed_value(alloc, Object::Tree(members)),
-        Json::Null => Err(LineError::Later),
-        Json::Array(_) => Err(LineError::Later),
+        Json::Null => Err(LineError::BadLine),
+        Json::Array(_) => Err(LineError::BadLine),
     }
 }
 
@@ -161,9 +161,9 @@ fn field_value(alloc: Global, value: Value<'_>) -> Result<FieldValue, LineError>
     }
 }
 
-// The values of an array that has two.
+/// The values of an array that has two.
 #[tactic(auto, using(crate::proofs::Fields::only_two))]
-fn two_of<'a>(values: Vec<Value<'a>>) -> Option<(Value<'a>, Value<'a>)>
+pub(crate) fn two_of<'a>(values: Vec<Value<'a>>) -> Option<(Value<'a>, Value<'a>)>
     ensures some { IfSome result (λ two. values.entry.items ≡ two.0 ∷ two.1 ∷ []) }
     ensures none { result ≡ None → length values.entry.items ≢ 2 }
 {
@@ -179,7 +179,7 @@ fn two_of<'a>(values: Vec<Value<'a>>) -> Option<(Value<'a>, Value<'a>)>
 // The field that a pair of a name and a value spells.
 #[tactic(auto, using(crate::proofs::Fields::no_pair))]
 fn pair(alloc: Global, values: Vec<Value<'_>>) -> Result<(Text, FieldValue), LineError>
-    ensures { Gives (λ f. f) result (pair_of (items value_data values.entry.items)) }
+    ensures { Gives (λ f. f) result (pair_with value_of (items value_data values.entry.items)) }
 {
     match two_of(values) {
         Some((name, value)) => {
@@ -187,7 +187,7 @@ fn pair(alloc: Global, values: Vec<Value<'_>>) -> Result<(Text, FieldValue), Lin
             let value = field_value(alloc, value)?;
             Ok((name, value))
         }
-        None => Err(LineError::Later),
+        None => Err(LineError::BadLine),
     }
 }
 
@@ -233,7 +233,7 @@ pub(crate) fn fields_of(
     }
 }
 
-/// The fields that a JSON value spells, for readers of other lines. `Later` where it spells none, `Memory` freely.
+/// The fields that a JSON value spells, for readers of other lines. `BadLine` where it spells none, `Memory` freely.
 pub fn read_fields(alloc: Global, value: &Json) -> Result<Items<(Text, FieldValue)>, LineError>
     ensures { Gives (λ f. f) result (fields_of (view value.now)) }
 {

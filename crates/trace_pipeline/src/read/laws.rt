@@ -18,7 +18,7 @@ pub fn enter_line()
     ensures read { request_spelled (codes "{\"at\":5,\"lane\":0,\"do\":\"enter\",\"handle\":3}")
         ≡ Ok (first_lane 5 (Call.Enter 3)) }
     ensures refused { request_spelled (codes "{\"at\":5,\"lane\":0,\"do\":\"enter\",\"handle\":3,\"name\":\"a\"}")
-        ≡ Err Told.Later }
+        ≡ Err Told.BadLine }
 {}
 
 /// A settings line, with one callsite and two lanes.

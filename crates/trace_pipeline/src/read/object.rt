@@ -1,7 +1,7 @@
 //! Objects that members are taken from, one after another.
 ghost use Rattle.std.specs.Prelude.{◌≡◌, ◌-◌, ◌^◌, option_map};
 ghost use Rattle.serde_json.specs.Find.{get_member, as_object};
-ghost use Rattle.trace_pipeline.specs.Gives.{Gives, Opens};
+ghost use Rattle.trace_pipeline.specs.Gives.{Gives};
 ghost use Rattle.trace_pipeline.specs.Spelled.{line_members};
 ghost use Rattle.trace_pipeline.specs.Left.{value_data, left};
 ghost use Rattle.trace_pipeline.specs.Forms.{at_most};
@@ -26,14 +26,14 @@ pub(crate) enum Object<'a> {
     Tree(Map<String, Json>),
 }
 
-// A whole number up to the greatest.
-fn within(greatest: u64, number: u64) -> Result<u64, LineError>
+/// A whole number up to the greatest.
+pub(crate) fn within(greatest: u64, number: u64) -> Result<u64, LineError>
     ensures { Gives (λ n. n) result (at_most greatest number) }
 {
     if number <= greatest {
         Ok(number)
     } else {
-        Err(LineError::Later)
+        Err(LineError::BadLine)
     }
 }
 
@@ -41,27 +41,16 @@ fn within(greatest: u64, number: u64) -> Result<u64, LineError>
 fn short(number: u64) -> Result<u32, LineError>
     ensures { Gives (λ n. n) result (at_most (2 ^ 32 - 1) number) }
 {
-    u32::try_from(number).map_err(|_| LineError::Later)
+    u32::try_from(number).map_err(|_| LineError::BadLine)
 }
 
 /// The object that a line is, as a tree.
 pub(crate) fn tree_of(alloc: Global, line: &[u8]) -> Result<Object<'_>, LineError>
-    ensures { Opens left result (line_members line.now) }
+    ensures { Gives left result (line_members line.now) }
 {
     match value_of(alloc, line)? {
         Json::Object(members) => Ok(Object::Tree(members)),
         _ => Err(LineError::BadLine),
-    }
-}
-
-// The object that a nested text is.
-fn object_of_text(alloc: Global, text: &str) -> Result<Object<'_>, LineError>
-    ensures { Gives left result (line_members text.now) }
-{
-    match Object::open(alloc, text.as_bytes()) {
-        Ok(object) => Ok(object),
-        Err(LineError::Memory) => Err(LineError::Memory),
-        Err(_) => Err(LineError::Later),
     }
 }
 
@@ -71,7 +60,7 @@ impl<'a> Object<'a> {
 
     /// The object that a line is.
     pub(crate) fn open(alloc: Global, line: &'a [u8]) -> Result<Object<'a>, LineError>
-        ensures { Opens left result (line_members line.now) }
+        ensures { Gives left result (line_members line.now) }
     {
         match flat::members(alloc, line) {
             Some(members) => Ok(Object::Flat(FlatMembers::new(members))),
@@ -85,9 +74,9 @@ impl<'a> Object<'a> {
         ensures { Gives left result (as_object (value_data value.entry)) }
     {
         match value {
-            Value::Plain(Plain::Nested(text)) => object_of_text(alloc, text),
+            Value::Plain(Plain::Nested(text)) => Object::open(alloc, text.as_bytes()),
             Value::Tree(Json::Object(members)) => Ok(Object::Tree(members)),
-            _ => Err(LineError::Later),
+            _ => Err(LineError::BadLine),
         }
     }
 
@@ -117,7 +106,7 @@ impl<'a> Object<'a> {
     {
         match self.optional(name) {
             Some(value) => Ok(value),
-            None => Err(LineError::Later),
+            None => Err(LineError::BadLine),
         }
     }
 
@@ -194,6 +183,10 @@ impl<'a> Object<'a> {
             Object::Flat(members) => members.is_empty(),
             Object::Tree(members) => members.is_empty(),
         };
-        if done { Ok(()) } else { Err(LineError::Later) }
+        if done {
+            Ok(())
+        } else {
+            Err(LineError::BadLine)
+        }
     }
 }

@@ -2,9 +2,13 @@
 ghost use Rattle.std.specs.Prelude.{◌≡◌};
 ghost use Rattle.trace_pipeline.specs.Gives.{Gives};
 ghost use Rattle.trace_pipeline.specs.Left.{value_data, left};
-ghost use Rattle.trace_pipeline.specs.RequestForm.{verb_word, root_word, place_of, place_form, fields_form, new_form, clone_form, or_current_form, drop_form, enter_form, entered_form, exit_form, record_form, has_field_form, event_form, remote_form, context_form, attach_form, detach_form, call_form, request_form};
+ghost use Rattle.trace_pipeline.specs.RequestForm.{verb_word, root_word, place_of, place_form, fields_form, new_form, clone_form, or_current_form, drop_form, enter_form, entered_form, exit_form, record_form, has_field_form, event_form, remote_form, context_form, attach_form, detach_form, call_form, request_form, enabled_form, reload_form};
 
 use crate::read::LineError;
+use crate::read::extension::{
+    add_event_call, add_link_call, follows_call, set_attribute_call, set_parent_call,
+    set_status_call,
+};
 use crate::read::fields::fields_of;
 use crate::read::hex::{id_of, long_id_of};
 use crate::read::object::Object;
@@ -34,6 +38,14 @@ pub(crate) enum Verb {
     Context,
     Attach,
     Detach,
+    Follows,
+    SetParent,
+    AddLink,
+    SetAttribute,
+    SetStatus,
+    AddEvent,
+    Enabled,
+    Reload,
 }
 
 fn verb_of(word: &str) -> Option<Verb>
@@ -55,6 +67,14 @@ fn verb_of(word: &str) -> Option<Verb>
         "context" => Some(Verb::Context),
         "attach" => Some(Verb::Attach),
         "detach" => Some(Verb::Detach),
+        "follows" => Some(Verb::Follows),
+        "set_parent" => Some(Verb::SetParent),
+        "add_link" => Some(Verb::AddLink),
+        "set_attribute" => Some(Verb::SetAttribute),
+        "set_status" => Some(Verb::SetStatus),
+        "add_event" => Some(Verb::AddEvent),
+        "enabled" => Some(Verb::Enabled),
+        "reload" => Some(Verb::Reload),
         _ => None,
     }
 }
@@ -74,7 +94,7 @@ fn place_of(value: &Value<'_>) -> Result<Place, LineError>
 {
     match value.whole() {
         Ok(handle) => Ok(Place::Under { handle }),
-        Err(LineError::Later) => root_of(value.word()?).ok_or(LineError::Later),
+        Err(LineError::BadLine) => root_of(value.word()?).ok_or(LineError::BadLine),
         Err(error) => Err(error),
     }
 }
@@ -221,10 +241,26 @@ fn event_call(alloc: Global, object: &mut Object) -> Result<Call, LineError>
 fn remote_call(object: &mut Object) -> Result<Call, LineError>
     ensures { Gives (λ c. (c, left object.new)) result (remote_form (left object.old)) }
 {
-    let trace = long_id_of(object.member("trace")?.word()?).ok_or(LineError::Later)?;
-    let span = id_of(object.member("span")?.word()?).ok_or(LineError::Later)?;
+    let trace = long_id_of(object.member("trace")?.word()?).ok_or(LineError::BadLine)?;
+    let span = id_of(object.member("span")?.word()?).ok_or(LineError::BadLine)?;
     let ids = SpanContext { trace, span };
     Ok(Call::Remote { ids })
+}
+
+#[tactic(auto, unfolding(crate::specs::RequestForm::enabled_form))]
+fn enabled_call(object: &mut Object) -> Result<Call, LineError>
+    ensures { Gives (λ c. (c, left object.new)) result (enabled_form (left object.old)) }
+{
+    let site = object.whole("site")?;
+    Ok(Call::Enabled { site })
+}
+
+#[tactic(auto, unfolding(crate::specs::RequestForm::reload_form))]
+fn reload_call(alloc: Global, object: &mut Object) -> Result<Call, LineError>
+    ensures { Gives (λ c. (c, left object.new)) result (reload_form (left object.old)) }
+{
+    let text = object.text(alloc, "text")?;
+    Ok(Call::Reload { text })
 }
 
 fn call(alloc: Global, verb: Verb, object: &mut Object) -> Result<Call, LineError>
@@ -246,6 +282,14 @@ fn call(alloc: Global, verb: Verb, object: &mut Object) -> Result<Call, LineErro
         Verb::Context => context_call(object),
         Verb::Attach => attach_call(object),
         Verb::Detach => detach_call(object),
+        Verb::Follows => follows_call(object),
+        Verb::SetParent => set_parent_call(object),
+        Verb::AddLink => add_link_call(alloc, object),
+        Verb::SetAttribute => set_attribute_call(alloc, object),
+        Verb::SetStatus => set_status_call(alloc, object),
+        Verb::AddEvent => add_event_call(alloc, object),
+        Verb::Enabled => enabled_call(object),
+        Verb::Reload => reload_call(alloc, object),
     }
 }
 
@@ -257,7 +301,7 @@ pub(crate) fn request_members(alloc: Global, object: &mut Object) -> Result<Requ
     let at = object.whole("at")?;
     let lane = object.whole("lane")?;
     let word = object.member("do")?;
-    let verb = verb_of(word.word()?).ok_or(LineError::Later)?;
+    let verb = verb_of(word.word()?).ok_or(LineError::BadLine)?;
     let call = call(alloc, verb, object)?;
     Ok(Request { at, lane, call })
 }

@@ -7,7 +7,7 @@ ghost use Rattle.trace_pipeline.specs.Forms.{each, object_of, if_absent, provide
 ghost use Rattle.trace_pipeline.specs.Object.{items};
 ghost use Rattle.trace_pipeline.specs.SettingsForm.{Lane, lane_form, callsite_form, error_flags, span_flags, layer_form, settings_form, ids, all_differ};
 
-use crate::level_words::{filter_of, kind_of, level_of};
+use crate::level_words::{kind_of, level_of};
 use crate::read::LineError;
 use crate::read::fields::texts;
 use crate::read::object::Object;
@@ -57,8 +57,8 @@ fn callsite_members(alloc: Global, object: &mut Object) -> Result<Callsite, Line
 {
     let name = object.text(alloc, "name")?;
     let target = object.text(alloc, "target")?;
-    let level = level_of(object.member("level")?.word()?).ok_or(LineError::Later)?;
-    let kind = kind_of(object.member("kind")?.word()?).ok_or(LineError::Later)?;
+    let level = level_of(object.member("level")?.word()?).ok_or(LineError::BadLine)?;
+    let kind = kind_of(object.member("kind")?.word()?).ok_or(LineError::BadLine)?;
     let fields = texts(alloc, object.array(alloc, "fields")?)?;
     let file = object.optional_text(alloc, "file")?;
     let module_path = object.optional_text(alloc, "module")?;
@@ -184,7 +184,7 @@ fn distinct(alloc: Global, lanes: &[(u64, Option<Text>)]) -> Result<(), LineErro
     let mut seen = BTreeSet::new(alloc);
     for lane in lanes {
         if !seen.insert(lane.0)? {
-            return Err(LineError::Later);
+            return Err(LineError::BadLine);
         }
     }
     Ok(())
@@ -198,7 +198,6 @@ pub(crate) fn settings_members(alloc: Global, object: &mut Object) -> Result<Set
 {
     let callsites = callsites(alloc, object.array(alloc, "callsites")?)?;
     let filter = object.text(alloc, "filter")?;
-    filter_of(filter.as_str()).ok_or(LineError::Later)?;
     let lanes = lanes(alloc, object.array(alloc, "lanes")?)?;
     distinct(alloc, lanes.as_slice())?;
     let layer = layer(alloc, object.optional("layer"))?;

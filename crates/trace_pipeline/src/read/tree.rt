@@ -1,6 +1,6 @@
 //! Lines as trees: what decides of each line that doesn't stand plainly.
 ghost use Rattle.serde_json.specs.View.{view};
-ghost use Rattle.trace_pipeline.specs.Gives.{Opens};
+ghost use Rattle.trace_pipeline.specs.Gives.{Gives};
 ghost use Rattle.trace_pipeline.specs.Spelled.{line_value};
 
 use crate::read::LineError;
@@ -10,7 +10,7 @@ use std::alloc::Global;
 /// The value that a line is. `BadLine` where it is no JSON, `Memory` freely.
 #[tactic(auto, using(crate::proofs::LineValue::read_value, crate::proofs::LineValue::no_value))]
 pub(crate) fn value_of(alloc: Global, line: &[u8]) -> Result<Json, LineError>
-    ensures { Opens view result (line_value line.now) }
+    ensures { Gives view result (line_value line.now) }
 {
     match Json::from_slice(alloc, line) {
         Ok(value) => Ok(value),

@@ -30,8 +30,8 @@ impl<'a> Value<'a> {
         ensures { Gives (λ n. n) result (as_whole (value_data self.now)) }
     {
         match self {
-            Value::Plain(plain) => plain.whole().ok_or(LineError::Later),
-            Value::Tree(tree) => tree.as_u64().ok_or(LineError::Later),
+            Value::Plain(plain) => plain.whole().ok_or(LineError::BadLine),
+            Value::Tree(tree) => tree.as_u64().ok_or(LineError::BadLine),
         }
     }
 
@@ -40,8 +40,8 @@ impl<'a> Value<'a> {
         ensures { Gives (λ b. b) result (as_bool (value_data self.now)) }
     {
         match self {
-            Value::Plain(plain) => plain.flag().ok_or(LineError::Later),
-            Value::Tree(tree) => tree.as_bool().ok_or(LineError::Later),
+            Value::Plain(plain) => plain.flag().ok_or(LineError::BadLine),
+            Value::Tree(tree) => tree.as_bool().ok_or(LineError::BadLine),
         }
     }
 
@@ -50,8 +50,8 @@ impl<'a> Value<'a> {
         ensures { Gives (λ word. word.now) result (as_str (value_data self.now)) }
     {
         match self {
-            Value::Plain(plain) => plain.word().ok_or(LineError::Later),
-            Value::Tree(tree) => tree.as_str().ok_or(LineError::Later),
+            Value::Plain(plain) => plain.word().ok_or(LineError::BadLine),
+            Value::Tree(tree) => tree.as_str().ok_or(LineError::BadLine),
         }
     }
 
@@ -62,10 +62,10 @@ impl<'a> Value<'a> {
         match self {
             Value::Plain(plain) => match plain.word() {
                 Some(words) => Ok(Text::from(String::from_str(alloc, words)?)),
-                None => Err(LineError::Later),
+                None => Err(LineError::BadLine),
             },
             Value::Tree(Json::String(text)) => Ok(Text::from(text)),
-            Value::Tree(_) => Err(LineError::Later),
+            Value::Tree(_) => Err(LineError::BadLine),
         }
     }
 
@@ -76,9 +76,9 @@ impl<'a> Value<'a> {
     {
         match self {
             Value::Plain(Plain::Nested(text)) => array_of_text(alloc, text),
-            Value::Plain(_) => Err(LineError::Later),
+            Value::Plain(_) => Err(LineError::BadLine),
             Value::Tree(Json::Array(trees)) => trees_of(alloc, trees),
-            Value::Tree(_) => Err(LineError::Later),
+            Value::Tree(_) => Err(LineError::BadLine),
         }
     }
 }
@@ -99,11 +99,9 @@ fn trees_of<'a>(alloc: Global, trees: Vec<Json>) -> Result<Vec<Value<'a>>, LineE
 fn array_of_tree<'a>(alloc: Global, text: &str) -> Result<Vec<Value<'a>>, LineError>
     ensures { Gives (λ v. items value_data v.items) result (option_and_then as_array (line_value text.now)) }
 {
-    match value_of(alloc, text.as_bytes()) {
-        Ok(Json::Array(trees)) => trees_of(alloc, trees),
-        Ok(_) => Err(LineError::Later),
-        Err(LineError::Memory) => Err(LineError::Memory),
-        Err(_) => Err(LineError::Later),
+    match value_of(alloc, text.as_bytes())? {
+        Json::Array(trees) => trees_of(alloc, trees),
+        _ => Err(LineError::BadLine),
     }
 }
 

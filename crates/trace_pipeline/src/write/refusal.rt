@@ -1,7 +1,7 @@
 //! Refusals as JSON.
 ghost use Rattle.std.specs.Prelude.{◌≡◌};
 ghost use Rattle.serde_json.specs.Written.{compact_text};
-ghost use Rattle.trace_pipeline.specs.Texts.{refusal_data, named_refusal, refusal_on, what_name};
+ghost use Rattle.trace_pipeline.specs.Texts.{refusal_data, named_refusal, refusal_on, directive_refusal, what_name};
 ghost use Rattle.trace_pipeline.specs.Writes.{Writes};
 
 use super::pieces::{add, add_number, add_text};
@@ -16,6 +16,7 @@ pub fn add_refusal(out: &mut Vec<u8>, line: u64, told: &Told) -> Result<(), Allo
     match told {
         Told::BadLine => add_named(out, line, "BadLine"),
         Told::Later => add_named(out, line, "Later"),
+        Told::Directive { piece } => add_directive(out, line, *piece, "filter"),
         Told::Step { refusal } => add_step(out, line, *refusal),
     }
 }
@@ -25,14 +26,25 @@ fn add_step(out: &mut Vec<u8>, line: u64, refusal: Refusal) -> Result<(), AllocE
     ensures { Writes result out.old out.new (compact_text (refusal_data line (Told.Step refusal))) }
 {
     match refusal {
-        Refusal::Later => add_named(out, line, "Later"),
         Refusal::BadMoment { before, given } => add_moment(out, line, before, given),
         Refusal::UnknownName { what } => add_unknown(out, line, what),
         Refusal::InUse => add_named(out, line, "InUse"),
         Refusal::WrongLane { lane } => add_on_lane(out, line, lane, "WrongLane"),
         Refusal::Full { lane } => add_on_lane(out, line, lane, "Full"),
+        Refusal::Directive { piece } => add_directive(out, line, piece, "reload"),
         Refusal::Memory => add_named(out, line, "Memory"),
     }
+}
+
+// Adds which piece of a text of directives is none.
+fn add_directive(out: &mut Vec<u8>, line: u64, piece: u64, text: &str) -> Result<(), AllocError>
+    ensures { Writes result out.old out.new (compact_text (directive_refusal line text.now piece)) }
+{
+    add_number(out, "{\"line\":", line)?;
+    add_number(out, ",\"piece\":", piece)?;
+    add_text(out, ",\"refused\":\"Directive\",\"text\":", text)?;
+    add(out, "}")?;
+    Ok(())
 }
 
 fn add_moment(out: &mut Vec<u8>, line: u64, before: u64, given: u64) -> Result<(), AllocError>

@@ -1,11 +1,13 @@
 //! Replies as JSON.
+ghost use Rattle.std.specs.Prelude.{◌≡◌};
 ghost use Rattle.serde_json.specs.Written.{compact_text};
-ghost use Rattle.trace_pipeline.specs.Texts.{reply_data};
+ghost use Rattle.trace_pipeline.specs.Texts.{reply_data, set_name};
 ghost use Rattle.trace_pipeline.specs.Writes.{Writes};
 
 use super::hex::{add_id, add_long_id};
-use super::pieces::{add, add_flag, add_number};
+use super::pieces::{add, add_flag, add_number, add_text};
 use otel_base::context::SpanContext;
+use otel_state::op::SetParentError;
 use span_pipeline::reply::Reply;
 use std::alloc::AllocError;
 
@@ -62,6 +64,26 @@ fn add_has(out: &mut Vec<u8>, line: u64, has: bool) -> Result<(), AllocError>
     Ok(())
 }
 
+fn name_of(set: Result<(), SetParentError>) -> &'static str
+    ensures { result.now ≡ set_name set }
+{
+    match set {
+        Ok(()) => "Ok",
+        Err(SetParentError::AlreadyStarted) => "AlreadyStarted",
+        Err(SetParentError::SpanDisabled) => "SpanDisabled",
+        Err(SetParentError::LayerNotFound) => "LayerNotFound",
+    }
+}
+
+fn add_set(out: &mut Vec<u8>, line: u64, set: Result<(), SetParentError>) -> Result<(), AllocError>
+    ensures { Writes result out.old out.new (compact_text (reply_data line (Reply.Set set))) }
+{
+    add_number(out, "{\"reply\":", line)?;
+    add_text(out, ",\"set\":", name_of(set))?;
+    add(out, "}")?;
+    Ok(())
+}
+
 fn add_done(out: &mut Vec<u8>, line: u64) -> Result<(), AllocError>
     ensures { Writes result out.old out.new (compact_text (reply_data line Reply.Done)) }
 {
@@ -81,5 +103,6 @@ pub fn add_reply(out: &mut Vec<u8>, line: u64, reply: &Reply) -> Result<(), Allo
         Reply::Done => add_done(out, line),
         Reply::Enabled { enabled } => add_enabled(out, line, *enabled),
         Reply::Has { has } => add_has(out, line, *has),
+        Reply::Set { set } => add_set(out, line, *set),
     }
 }

@@ -1,6 +1,6 @@
 //! Scripts with fields, and what they write, worked out by hand.
 
-/// Runs, written as the others are. Those that are refused as Later have a value, a field or a request of no form.
+/// Runs, written as the others are. Those that are refused as BadLine have a value, a field or a request of no form.
 pub const FIELD_RUNS: &str = r#"
 # a span with a value of each kind
 P
@@ -100,96 +100,96 @@ P
 # a record without fields
 P
 < {"at":0,"do":"record","handle":0,"lane":0}
-> {"line":2,"refused":"Later"}
+> {"line":2,"refused":"BadLine"}
 = 2
 # a question without a name
 P
 < {"at":0,"do":"has_field","handle":0,"lane":0}
-> {"line":2,"refused":"Later"}
+> {"line":2,"refused":"BadLine"}
 = 2
 # a number with a fraction
 P
 < {"at":0,"do":"new","fields":[["a",1.0]],"lane":0,"site":0}
-> {"line":2,"refused":"Later"}
+> {"line":2,"refused":"BadLine"}
 = 2
 # a number above 2^64 - 1
 P
 < {"at":0,"do":"new","fields":[["a",18446744073709551616]],"lane":0,"site":0}
-> {"line":2,"refused":"Later"}
+> {"line":2,"refused":"BadLine"}
 = 2
 # a value that is null
 P
 < {"at":0,"do":"new","fields":[["a",null]],"lane":0,"site":0}
-> {"line":2,"refused":"Later"}
+> {"line":2,"refused":"BadLine"}
 = 2
 # a value that is an array
 P
 < {"at":0,"do":"new","fields":[["a",["x"]]],"lane":0,"site":0}
-> {"line":2,"refused":"Later"}
+> {"line":2,"refused":"BadLine"}
 = 2
 # a number below zero of an unsigned type
 P
 < {"at":0,"do":"new","fields":[["a",{"u64":-1}]],"lane":0,"site":0}
-> {"line":2,"refused":"Later"}
+> {"line":2,"refused":"BadLine"}
 = 2
 # a number with a zero in front
 P
 < {"at":0,"do":"new","fields":[["a",{"i128":"-01"}]],"lane":0,"site":0}
-> {"line":2,"refused":"Later"}
+> {"line":2,"refused":"BadLine"}
 = 2
 # a zero with a minus
 P
 < {"at":0,"do":"new","fields":[["a",{"i128":"-0"}]],"lane":0,"site":0}
-> {"line":2,"refused":"Later"}
+> {"line":2,"refused":"BadLine"}
 = 2
 # a number with a plus
 P
 < {"at":0,"do":"new","fields":[["a",{"u128":"+1"}]],"lane":0,"site":0}
-> {"line":2,"refused":"Later"}
+> {"line":2,"refused":"BadLine"}
 = 2
 # a number of more than 128 bits
 P
 < {"at":0,"do":"new","fields":[["a",{"u128":"340282366920938463463374607431768211456"}]],"lane":0,"site":0}
-> {"line":2,"refused":"Later"}
+> {"line":2,"refused":"BadLine"}
 = 2
 # a signed number of more than 128 bits
 P
 < {"at":0,"do":"new","fields":[["a",{"i128":"170141183460469231731687303715884105728"}]],"lane":0,"site":0}
-> {"line":2,"refused":"Later"}
+> {"line":2,"refused":"BadLine"}
 = 2
 # an error without its chain
 P
 < {"at":0,"do":"new","fields":[["a",{"error":"E"}]],"lane":0,"site":0}
-> {"line":2,"refused":"Later"}
+> {"line":2,"refused":"BadLine"}
 = 2
 # a chain of a number
 P
 < {"at":0,"do":"new","fields":[["a",{"chain":[1],"error":"E"}]],"lane":0,"site":0}
-> {"line":2,"refused":"Later"}
+> {"line":2,"refused":"BadLine"}
 = 2
 # a value with two types
 P
 < {"at":0,"do":"new","fields":[["a",{"debug":"x","u64":1}]],"lane":0,"site":0}
-> {"line":2,"refused":"Later"}
+> {"line":2,"refused":"BadLine"}
 = 2
 # a field of three items
 P
 < {"at":0,"do":"new","fields":[["a",1,2]],"lane":0,"site":0}
-> {"line":2,"refused":"Later"}
+> {"line":2,"refused":"BadLine"}
 = 2
 # a field without a value
 P
 < {"at":0,"do":"new","fields":[["a"]],"lane":0,"site":0}
-> {"line":2,"refused":"Later"}
+> {"line":2,"refused":"BadLine"}
 = 2
 # a field whose name is a number
 P
 < {"at":0,"do":"new","fields":[[1,1]],"lane":0,"site":0}
-> {"line":2,"refused":"Later"}
+> {"line":2,"refused":"BadLine"}
 = 2
 # fields that are an object
 P
 < {"at":0,"do":"new","fields":{"a":1},"lane":0,"site":0}
-> {"line":2,"refused":"Later"}
+> {"line":2,"refused":"BadLine"}
 = 2
 "#;

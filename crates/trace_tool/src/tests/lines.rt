@@ -27,6 +27,8 @@ const REQUESTS: &str = r#"
 {"at":3,"do":"context","handle":2,"lane":0} => 3/0 context 2
 {"at":3,"do":"attach","context":2,"lane":0} => 3/0 attach 2
 {"at":3,"do":"detach","guard":2,"lane":0} => 3/0 detach 2
+{"at":3,"do":"enabled","lane":0,"site":2} => 3/0 enabled 2
+{"at":3,"do":"reload","lane":0,"text":"app=info"} => 3/0 reload 8
 {"at":3,"do":"remote","lane":0,"span":"00000000000000fe","trace":"80000000000000000000000000000001"} => 3/0 remote 254
 {"at":3,"do":"clone","handle":2,"lane":0} => 3/0 clone 2
 {"lane":1,"do":"drop","handle":1,"at":3} => 3/1 drop 1
@@ -37,9 +39,16 @@ const REQUESTS: &str = r#"
 {"at":16,"do":"event","lane":0,"parent":7,"site":1} => 16/0 event_under 7
 {"at":17,"do":"record","fields":[["a",-1],["f",{"u64":1}]],"handle":2,"lane":0} => 17/0 record 2
 {"at":18,"do":"has_field","handle":2,"lane":0,"name":"a"} => 18/0 has_field 2
+{"at":19,"do":"follows","from":3,"handle":2,"lane":0} => 19/0 follows 3
+{"at":19,"context":3,"do":"set_parent","handle":2,"lane":0} => 19/0 set_parent 3
+{"at":19,"attributes":[["k",["x"]]],"context":3,"do":"add_link","handle":2,"lane":0} => 19/0 add_link 3
+{"at":19,"do":"set_attribute","handle":2,"key":"k","lane":0,"value":-1} => 19/0 set_attribute 2
+{"at":19,"do":"set_status","handle":2,"lane":0,"status":{"error":""}} => 19/0 set_status 2
+{"at":19,"do":"add_event","handle":2,"lane":0,"name":"n"} => 19/0 add_event 2
+{"at":19,"attributes":[],"do":"add_event","handle":2,"lane":0,"name":"n","time":7} => 19/0 add_event_at 7
 "#;
 
-// Lines that are refused, for a fault or for a form that isn't built.
+// Lines that are refused.
 const REFUSED: &str = r#"
 {"at":2,"lane":0,"do":"drop","handle":1,"name":"a"}
 {"at":2,"lane":0,"do":"drop"}
@@ -54,6 +63,7 @@ const REFUSED: &str = r#"
 {"at":1,"do":"remote","lane":0,"span":"00000000000000fg","trace":"80000000000000000000000000000001"}
 {"at":1,"do":"dr\u006f","handle":1,"lane":0}
 {"at":1,"do":"new","fields":[["a",-1],["zz",{"u64":7}]],"lane":0,"site":0}
+{"at":1,"attributes":[["k",-1],["l",["x"]]],"context":0,"do":"add_link","handle":0,"lane":0}
 [{"at":1,"do":"drop","handle":1,"lane":0}]
 {}
 "#;
@@ -73,12 +83,23 @@ fn parts(call: &Call) -> (&'static str, u64) {
         Call::Context { handle } => ("context", *handle),
         Call::Attach { context } => ("attach", *context),
         Call::Detach { guard } => ("detach", *guard),
+        Call::Enabled { site } => ("enabled", *site),
+        Call::Reload { text } => ("reload", text.as_str().len() as u64),
         Call::Clone { handle } => ("clone", *handle),
         Call::Drop { handle } => ("drop", *handle),
         Call::Enter { handle } => ("enter", *handle),
         Call::Exit { guard } => ("exit", *guard),
         Call::Record { handle, .. } => ("record", *handle),
         Call::HasField { handle, .. } => ("has_field", *handle),
+        Call::Follows { from, .. } => ("follows", *from),
+        Call::SetParent { context, .. } => ("set_parent", *context),
+        Call::AddLink { context, .. } => ("add_link", *context),
+        Call::SetAttribute { handle, .. } => ("set_attribute", *handle),
+        Call::SetStatus { handle, .. } => ("set_status", *handle),
+        Call::AddEvent { handle, time, .. } => match time {
+            Some(time) => ("add_event_at", *time),
+            None => ("add_event", *handle),
+        },
         Call::Event { site, place, .. } => match place {
             Place::Contextual => ("event", *site),
             Place::Root => ("event_root", *site),

@@ -2,32 +2,41 @@
 use Rattle.std.proofs.Common.{rules, refl, ◌∙◌}
 use Rattle.span_pipeline.specs.declared.request.Call.TheVariants as call
 use Rattle.span_pipeline.specs.Fits.{named_in}
+use Rattle.span_stack.specs.Reading.{stack_interest}
+use Rattle.span_pipeline.proofs.Filtering.{stack_shows}
+use Rattle.span_pipeline.proofs.Gating.{is_current}
 use Rattle.span_pipeline.proofs.Keeping.{within_view, on_err}
-use Rattle.span_pipeline.proofs.Naming.{found_place}
+use Rattle.span_pipeline.proofs.Naming.{found_place, found_nowhere}
 use Rattle.span_pipeline.proofs.Serving.{by_view, by_view_refused}
-use Rattle.span_pipeline.proofs.Declaring.{refuses_new}
+use Rattle.span_pipeline.proofs.Declaring.{refuses_new, refuses_place}
 use Rattle.span_pipeline.proofs.Making.{make_may, all_of, made_alike, serves_new, keeps_new}
 use Rattle.span_pipeline.proofs.pipeline.Pipeline.make.Goals as goal
 
 pub make_if-requires-clause-may : goal.make_if-requires-clause-may
-make_if-requires-clause-may c = make_may _ _ _ _ c.self.inside.world c.self.inside.dispatch c.self.inside.level c.self.inside.lanes.items c.self.inside.handles.items c.self.inside.guards.items (named_in c.self.inside.contexts) c.self.inside.moment c.self.invariant c.args.under _ (found_place c.reserve.new.self.items c.self.inside.handles.items c.args.under _ c.in-Some-place_above.above (search rules) c.place_above.ensures.place c.in-Some-place_above.is) _ (search rules) (search rules)
+make_if-requires-clause-may c = make_may _ _ _ _ c.self.inside.world c.self.inside.dispatch c.self.inside.opening c.self.inside.lanes.items c.self.inside.handles.items c.self.inside.guards.items (named_in c.self.inside.contexts) c.self.inside.moment c.self.invariant c.args.under _ (found_place c.reserve.new.self.items c.self.inside.handles.items c.args.under _ c.in-Some-place_above.above (search rules) c.place_above.ensures.place c.in-Some-place_above.is) _ (search rules) (search rules)
 
 pub make_if-requires-clause-of_dispatch : goal.make_if-requires-clause-of_dispatch
-make_if-requires-clause-of_dispatch c = c.in-Some-place_above.ensures.of c.self.inside.dispatch (all_of _ _ _ _ c.self.inside.world c.self.inside.dispatch c.self.inside.level c.self.inside.lanes.items c.self.inside.handles.items c.self.inside.guards.items (named_in c.self.inside.contexts) c.self.inside.moment c.self.invariant c.reserve.new.self.items (search rules))
+make_if-requires-clause-of_dispatch c = c.in-Some-place_above.ensures.of c.self.inside.dispatch (all_of _ _ _ _ c.self.inside.world c.self.inside.dispatch c.self.inside.opening c.self.inside.lanes.items c.self.inside.handles.items c.self.inside.guards.items (named_in c.self.inside.contexts) c.self.inside.moment c.self.invariant c.reserve.new.self.items (search rules))
 
 pub invariant_of-self-in_err-span : goal.invariant_of-self-in_err-span
-invariant_of-self-in_err-span c = (made_alike _ _ _ _ _ _ c.same.ensures c.same-2.ensures c.self.inside.world c.make_if.new.world c.self.inside.dispatch c.self.inside.level c.self.inside.lanes.items c.self.inside.handles.items c.reserve.new.self.items c.self.inside.guards.items (named_in c.self.inside.contexts) c.self.inside.moment (search rules) c.in_err-span.ensures.memory_leaves).1 c.self.invariant
+invariant_of-self-in_err-span c = (made_alike _ _ _ _ _ _ c.same.ensures (λ o n d r. (c.same-2.ensures.recording o n d r, c.same-2.ensures.filter o n d r)) c.self.inside.world c.make_if.new.world c.self.inside.dispatch c.self.inside.opening c.self.inside.lanes.items c.self.inside.handles.items c.reserve.new.self.items c.self.inside.guards.items (named_in c.self.inside.contexts) c.self.inside.moment (search rules) c.in_err-span.ensures.memory_leaves).1 c.self.invariant
 
 pub returns-in_err-span-clause-err : goal.returns-in_err-span-clause-err
-returns-in_err-span-clause-err c = on_err _ _ ((made_alike _ _ _ _ _ _ c.same.ensures c.same-2.ensures c.self.inside.world c.make_if.new.world c.self.inside.dispatch c.self.inside.level c.self.inside.lanes.items c.self.inside.handles.items c.reserve.new.self.items c.self.inside.guards.items (named_in c.self.inside.contexts) c.self.inside.moment (search rules) c.in_err-span.ensures.memory_leaves).0 ∙ c.self.view_is)
+returns-in_err-span-clause-err c = on_err _ _ ((made_alike _ _ _ _ _ _ c.same.ensures (λ o n d r. (c.same-2.ensures.recording o n d r, c.same-2.ensures.filter o n d r)) c.self.inside.world c.make_if.new.world c.self.inside.dispatch c.self.inside.opening c.self.inside.lanes.items c.self.inside.handles.items c.reserve.new.self.items c.self.inside.guards.items (named_in c.self.inside.contexts) c.self.inside.moment (search rules) c.in_err-span.ensures.memory_leaves).0 ∙ c.self.view_is)
 
 pub invariant_of-self-2 : goal.invariant_of-self-2
-invariant_of-self-2 c = keeps_new _ _ _ _ _ _ c.make_if.new.world _ c.calls.ensures c.calls-2.ensures c.self.inside.dispatch c.self.inside.level c.self.inside.lanes.items c.self.inside.handles.items c.keep.new.slots.items c.self.inside.guards.items (named_in c.self.inside.contexts) c.self.inside.moment c.args.at c.args.lane c.len-number.result (search rules) c.self.invariant
-    c.args.under _ c.in-Some.found.0 c.args.place (search rules) c.in-Some.found.1 (search rules) (found_place c.reserve.new.self.items c.self.inside.handles.items c.args.under _ c.in-Some-place_above.above (search rules) c.place_above.ensures.place c.in-Some-place_above.is) c.args.fields c.in-Some-2.values c.site-callsite.result.now (search rules) (search rules) c.in_ok-span.span c.index.result.now (within_view _ _ c.self.inside.lanes.items c.args.lane c.self.view_is refl c.requires) (search rules) (search rules) c.lets_through-enabled.result (search rules) c.in_ok-span.ensures.ok
+invariant_of-self-2 c = keeps_new _ _ _ _ _ _ c.make_if.new.world _ c.calls.ensures (λ o n d k r. (c.calls-2.ensures.recording o n d k r, c.calls-2.ensures.filter o n d k r)) c.self.inside.dispatch c.self.inside.opening c.self.inside.lanes.items c.self.inside.handles.items c.keep.new.slots.items c.self.inside.guards.items (named_in c.self.inside.contexts) c.self.inside.moment c.args.at c.args.lane c.len-number.result (search rules) c.self.invariant
+    c.args.under _ c.in-Some.found c.args.place (search rules) (search rules) (found_place c.reserve.new.self.items c.self.inside.handles.items c.args.under _ c.in-Some-place_above.above (search rules) c.place_above.ensures.place c.in-Some-place_above.is) c.args.fields c.in-Some-2.values c.site-callsite.result.now (search rules) (search rules) c.in_ok-span.span c.index-on.result.now (within_view _ _ c.self.inside.lanes.items c.args.lane c.self.view_is refl c.requires) (search rules) (search rules) c.admits-enabled.result c.admits-enabled.ensures c.in_ok-span.ensures.ok
 
 pub returns-clause-ok : goal.returns-clause-ok
-returns-clause-ok c = by_view c.args.at c.args.lane (call.New c.args.place c.args.under c.args.fields) _ _ _ _ c.self.view_is (λ t stands. serves_new _ _ _ _ _ _ c.make_if.new.world _ c.calls.ensures c.calls-2.ensures c.self.inside.dispatch c.self.inside.level c.self.inside.lanes.items c.self.inside.handles.items c.keep.new.slots.items c.self.inside.guards.items (named_in c.self.inside.contexts) c.self.inside.moment c.args.at c.args.lane c.len-number.result (search rules) c.self.invariant
-    c.args.under _ c.in-Some.found.0 c.args.place (search rules) c.in-Some.found.1 (search rules) (found_place c.reserve.new.self.items c.self.inside.handles.items c.args.under _ c.in-Some-place_above.above (search rules) c.place_above.ensures.place c.in-Some-place_above.is) c.args.fields c.in-Some-2.values c.site-callsite.result.now (search rules) (search rules) c.in_ok-span.span c.index.result.now (within_view _ _ c.self.inside.lanes.items c.args.lane c.self.view_is refl c.requires) (search rules) (search rules) c.lets_through-enabled.result (search rules) c.in_ok-span.ensures.ok t stands)
+returns-clause-ok c = by_view c.args.at c.args.lane (call.New c.args.place c.args.under c.args.fields) _ _ _ _ c.self.view_is (λ t stands. serves_new _ _ _ _ _ _ c.make_if.new.world _ c.calls.ensures (λ o n d k r. (c.calls-2.ensures.recording o n d k r, c.calls-2.ensures.filter o n d k r)) c.self.inside.dispatch c.self.inside.opening c.self.inside.lanes.items c.self.inside.handles.items c.keep.new.slots.items c.self.inside.guards.items (named_in c.self.inside.contexts) c.self.inside.moment c.args.at c.args.lane c.len-number.result (search rules) c.self.invariant
+    c.args.under _ c.in-Some.found c.args.place (search rules) (search rules) (found_place c.reserve.new.self.items c.self.inside.handles.items c.args.under _ c.in-Some-place_above.above (search rules) c.place_above.ensures.place c.in-Some-place_above.is) c.args.fields c.in-Some-2.values c.site-callsite.result.now (search rules) (search rules) c.in_ok-span.span c.index-on.result.now (within_view _ _ c.self.inside.lanes.items c.args.lane c.self.view_is refl c.requires) (search rules) (search rules) c.admits-enabled.result c.admits-enabled.ensures c.in_ok-span.ensures.ok t stands)
 
 pub returns-in_default-2-clause-refused : goal.returns-in_default-2-clause-refused
-returns-in_default-2-clause-refused c = λ t stands no. by_view_refused c.args.at c.args.lane (call.New c.args.place c.args.under c.args.fields) _ _ _ c.self.view_is (λ t stands. refuses_new _ t stands.fits c.args.at c.args.lane c.args.place c.in-Some.found.0 (search rules) c.args.under _ (found_place c.reserve.new.self.items c.self.inside.handles.items c.args.under _ c.in-Some-place_above.above (search rules) c.place_above.ensures.place c.in-Some-place_above.is) c.args.fields c.site-callsite.result.now (search rules) (search rules) c.in-Some.found.1 (search rules)) t stands
+returns-in_default-2-clause-refused c = λ t stands no. by_view_refused c.args.at c.args.lane (call.New c.args.place c.args.under c.args.fields) _ _ _ c.self.view_is (λ t stands. refuses_new _ t stands.fits c.args.at c.args.lane c.args.place c.in-Some.found (search rules) c.args.under _ (found_place c.reserve.new.self.items c.self.inside.handles.items c.args.under _ c.in-Some-place_above.above (search rules) c.place_above.ensures.place c.in-Some-place_above.is) c.args.fields c.site-callsite.result.now (search rules) (search rules) (search rules)) t stands
+
+pub admits-enabled-requires-clause-current : goal.admits-enabled-requires-clause-current
+admits-enabled-requires-clause-current c = is_current _ _ c.self.inside.world c.self.inside.dispatch c.self.inside.opening c.self.inside.lanes.items c.self.inside.handles.items c.self.inside.guards.items (named_in c.self.inside.contexts) c.self.inside.moment _ _ stack_interest stack_shows c.self.invariant
+
+pub returns-in_default-place_above-clause-refused : goal.returns-in_default-place_above-clause-refused
+returns-in_default-place_above-clause-refused c = λ t stands no. by_view_refused c.args.at c.args.lane (call.New c.args.place c.args.under c.args.fields) _ _ _ c.self.view_is (λ t stands. refuses_place _ t stands.fits c.args.at c.args.lane c.args.place c.args.under c.args.fields (search rules) (found_nowhere c.reserve.new.self.items c.self.inside.handles.items c.args.under c.place_above.result (search rules) c.place_above.ensures.place (search rules))) t stands

@@ -1,16 +1,18 @@
-use Rattle.std.proofs.Common.{◌≡◌, ℕ, Some, refl}
+use Rattle.std.proofs.Common.{◌≡◌, ℕ, Some, None, refl}
 use Rattle.span_pipeline.specs.declared.request.Call.{Call}
 use Rattle.span_pipeline.specs.declared.request.Call.TheVariants as call
 use Rattle.span_pipeline.specs.declared.request.Place.TheVariants as place
+use Rattle.trace_pipeline.specs.ExtensionForm.{follows_form, set_parent_form, add_link_form, set_attribute_form, set_status_form, add_event_form}
 use Rattle.trace_pipeline.specs.Forms.{object_of}
 use Rattle.trace_pipeline.specs.RequestData.{IsInRange, first_lane, request_data}
-use Rattle.trace_pipeline.specs.RequestForm.{request_form, new_form, clone_form, or_current_form, drop_form, enter_form, entered_form, exit_form, record_form, has_field_form, event_form, remote_form, context_form, attach_form, detach_form}
+use Rattle.trace_pipeline.specs.RequestForm.{request_form, new_form, clone_form, or_current_form, drop_form, enter_form, entered_form, exit_form, record_form, has_field_form, event_form, remote_form, context_form, attach_form, detach_form, enabled_form, reload_form}
+use Rattle.trace_pipeline.proofs.AttributeRead.{otel_read, attributes_read, status_read, time_read}
 use Rattle.trace_pipeline.proofs.FieldRead.{fields_read}
 use Rattle.trace_pipeline.proofs.HexRead.{id_read, long_id_read}
 use Rattle.trace_pipeline.proofs.read.laws.every_request.Goals as goal
 
 is_read : (at : ℕ) (call : Call) → IsInRange call → object_of request_form (request_data (first_lane at call)) ≡ Some (first_lane at call)
-unfolding request_form new_form clone_form or_current_form drop_form enter_form entered_form exit_form record_form has_field_form event_form remote_form context_form attach_form detach_form
+unfolding request_form new_form clone_form or_current_form drop_form enter_form entered_form exit_form record_form has_field_form event_form remote_form context_form attach_form detach_form follows_form set_parent_form add_link_form set_attribute_form set_status_form add_event_form enabled_form reload_form
 is_read at (call.New site place.Contextual fields) range = rw (fields_read fields range) refl
 is_read at (call.New site place.Root fields) range = rw (fields_read fields range) refl
 is_read at (call.New site (place.Under handle) fields) range = rw (fields_read fields range) refl
@@ -30,6 +32,15 @@ is_read at (call.Remote ids) range = rw (long_id_read ids.trace range.0, id_read
 is_read at (call.Context handle) range = refl
 is_read at (call.Attach context) range = refl
 is_read at (call.Detach guard) range = refl
+is_read at (call.Follows handle from) range = refl
+is_read at (call.SetParent handle context) range = refl
+is_read at (call.AddLink handle context attributes) range = rw (attributes_read attributes range) refl
+is_read at (call.SetAttribute handle key value) range = rw (otel_read value range) refl
+is_read at (call.SetStatus handle status) range = rw (status_read status) refl
+is_read at (call.AddEvent handle name attributes None) range = rw (attributes_read attributes range.0) refl
+is_read at (call.AddEvent handle name attributes (Some time)) range = rw (attributes_read attributes range.0, time_read time range.1) refl
+is_read at (call.Enabled site) range = refl
+is_read at (call.Reload text) range = refl
 
 pub returns : goal.returns
 returns c = is_read

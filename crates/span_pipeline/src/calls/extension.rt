@@ -1,0 +1,137 @@
+//! What is asked of the span extension: parents, attributes, statuses and events.
+ghost use Rattle.std.specs.Prelude.{◌≡◌, IfOk, IfErr, OnErr, Err};
+ghost use Rattle.span_pipeline.specs.declared.reply.Refusal.TheVariants.{Memory as NoMemory};
+ghost use Rattle.span_pipeline.specs.declared.request.Call.{Call};
+ghost use Rattle.span_pipeline.specs.Effects.{happens_at};
+
+use crate::contexts::context_at;
+use crate::pipeline::Pipeline;
+use crate::reply::{Refusal, Reply, What};
+use crate::slots::slot_at;
+use otel_base::list::Items;
+use otel_base::record::Moment;
+use otel_base::status::Status;
+use otel_base::text::Text;
+use otel_base::value::{KeyValue, OtelValue};
+use otel_layer::recording;
+use otel_layer::span_ext::OpenTelemetrySpanExt;
+use span_stack::{Stack, laws};
+
+// When an event happens: at its time, else at the request's moment.
+fn happens_at(at: Moment, time: Option<Moment>) -> Moment
+    ensures { result ≡ happens_at at time }
+{
+    match time {
+        Some(time) => time,
+        None => at,
+    }
+}
+
+impl Pipeline {
+    ghost use Rattle.span_pipeline.specs.Tables.{Tables};
+    ghost use Rattle.span_pipeline.specs.Effects.{effect_of_call};
+    ghost use Rattle.span_pipeline.specs.Fits.{StandsFor, Served, IsRefusal};
+
+    pub(crate) fn set_parent(
+        &mut self,
+        at: Moment,
+        lane: u64,
+        handle: u64,
+        context: u64,
+    ) -> Result<Reply, Refusal>
+        ensures ok { (t : Tables) → StandsFor self.old t
+            → IfOk result (Served (effect_of_call self.old.setup t at lane (Call.SetParent handle context)) t self.old self.new) }
+        ensures refused { (t : Tables) → StandsFor self.old t
+            → IfErr result (IsRefusal (effect_of_call self.old.setup t at lane (Call.SetParent handle context))) }
+        ensures err { OnErr result (self.new ≡ self.old) }
+        ensures room { ¬ (result ≡ Err NoMemory) }
+    {
+        recording::leaves::<Stack>();
+        laws::asks();
+        let Some(span) = slot_at(&self.handles, handle) else {
+            return Err(Refusal::UnknownName { what: What::Handle });
+        };
+        let Some(given) = context_at(&self.contexts.made, context) else {
+            return Err(Refusal::UnknownName {
+                what: What::Context,
+            });
+        };
+        let set = span.set_parent(&mut self.world, at, given);
+        self.moment = at;
+        Ok(Reply::Set { set })
+    }
+
+    pub(crate) fn set_attribute(
+        &mut self,
+        at: Moment,
+        lane: u64,
+        handle: u64,
+        key: Text,
+        value: OtelValue,
+    ) -> Result<Reply, Refusal>
+        ensures ok { (t : Tables) → StandsFor self.old t
+            → IfOk result (Served (effect_of_call self.old.setup t at lane (Call.SetAttribute handle key value)) t self.old self.new) }
+        ensures refused { (t : Tables) → StandsFor self.old t
+            → IfErr result (IsRefusal (effect_of_call self.old.setup t at lane (Call.SetAttribute handle key value))) }
+        ensures err { OnErr result (self.new ≡ self.old) }
+    {
+        recording::leaves::<Stack>();
+        laws::asks();
+        let Some(span) = slot_at(&self.handles, handle) else {
+            return Err(Refusal::UnknownName { what: What::Handle });
+        };
+        span.set_attribute(&mut self.world, at, key, value)?;
+        self.moment = at;
+        Ok(Reply::Done)
+    }
+
+    pub(crate) fn set_status(
+        &mut self,
+        at: Moment,
+        lane: u64,
+        handle: u64,
+        status: Status,
+    ) -> Result<Reply, Refusal>
+        ensures ok { (t : Tables) → StandsFor self.old t
+            → IfOk result (Served (effect_of_call self.old.setup t at lane (Call.SetStatus handle status)) t self.old self.new) }
+        ensures refused { (t : Tables) → StandsFor self.old t
+            → IfErr result (IsRefusal (effect_of_call self.old.setup t at lane (Call.SetStatus handle status))) }
+        ensures err { OnErr result (self.new ≡ self.old) }
+        ensures room { ¬ (result ≡ Err NoMemory) }
+    {
+        recording::leaves::<Stack>();
+        laws::asks();
+        let Some(span) = slot_at(&self.handles, handle) else {
+            return Err(Refusal::UnknownName { what: What::Handle });
+        };
+        span.set_status(&mut self.world, at, status);
+        self.moment = at;
+        Ok(Reply::Done)
+    }
+
+    pub(crate) fn add_event(
+        &mut self,
+        at: Moment,
+        lane: u64,
+        handle: u64,
+        name: Text,
+        attributes: Items<KeyValue>,
+        time: Option<Moment>,
+    ) -> Result<Reply, Refusal>
+        ensures ok { (t : Tables) → StandsFor self.old t
+            → IfOk result (Served (effect_of_call self.old.setup t at lane (Call.AddEvent handle name attributes time)) t self.old self.new) }
+        ensures refused { (t : Tables) → StandsFor self.old t
+            → IfErr result (IsRefusal (effect_of_call self.old.setup t at lane (Call.AddEvent handle name attributes time))) }
+        ensures err { OnErr result (self.new ≡ self.old) }
+    {
+        recording::leaves::<Stack>();
+        laws::asks();
+        let Some(span) = slot_at(&self.handles, handle) else {
+            return Err(Refusal::UnknownName { what: What::Handle });
+        };
+        let time = happens_at(at, time);
+        span.add_event_with_timestamp(&mut self.world, at, name, time, attributes)?;
+        self.moment = at;
+        Ok(Reply::Done)
+    }
+}

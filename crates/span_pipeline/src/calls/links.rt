@@ -1,0 +1,78 @@
+//! Links: to a span that is followed, and to what a context shows.
+ghost use Rattle.std.specs.Prelude.{◌≡◌, IfOk, IfErr, OnErr};
+ghost use Rattle.span_pipeline.specs.declared.request.Call.{Call};
+
+use crate::contexts::context_at;
+use crate::pipeline::Pipeline;
+use crate::reply::{Refusal, Reply, What};
+use crate::slots::slot_at;
+use otel_base::list::Items;
+use otel_base::record::Moment;
+use otel_base::value::KeyValue;
+use otel_layer::recording;
+use otel_layer::span_ext::OpenTelemetrySpanExt;
+use span_handles::laws::{calls, same};
+use span_stack::{Stack, laws};
+
+impl Pipeline {
+    ghost use Rattle.span_pipeline.specs.Tables.{Tables};
+    ghost use Rattle.span_pipeline.specs.Effects.{effect_of_call};
+    ghost use Rattle.span_pipeline.specs.Fits.{StandsFor, Served, IsRefusal};
+
+    pub(crate) fn follows(
+        &mut self,
+        at: Moment,
+        lane: u64,
+        handle: u64,
+        from: u64,
+    ) -> Result<Reply, Refusal>
+        ensures ok { (t : Tables) → StandsFor self.old t
+            → IfOk result (Served (effect_of_call self.old.setup t at lane (Call.Follows handle from)) t self.old self.new) }
+        ensures refused { (t : Tables) → StandsFor self.old t
+            → IfErr result (IsRefusal (effect_of_call self.old.setup t at lane (Call.Follows handle from))) }
+        ensures err { OnErr result (self.new ≡ self.old) }
+    {
+        calls::<Stack>();
+        laws::calls();
+        same::<Stack>();
+        laws::same();
+        let Some(span) = slot_at(&self.handles, handle) else {
+            return Err(Refusal::UnknownName { what: What::Handle });
+        };
+        let Some(followed) = slot_at(&self.handles, from) else {
+            return Err(Refusal::UnknownName { what: What::Handle });
+        };
+        span.follows_from(&mut self.world, at, followed)?;
+        self.moment = at;
+        Ok(Reply::Done)
+    }
+
+    pub(crate) fn add_link(
+        &mut self,
+        at: Moment,
+        lane: u64,
+        handle: u64,
+        context: u64,
+        attributes: Items<KeyValue>,
+    ) -> Result<Reply, Refusal>
+        ensures ok { (t : Tables) → StandsFor self.old t
+            → IfOk result (Served (effect_of_call self.old.setup t at lane (Call.AddLink handle context attributes)) t self.old self.new) }
+        ensures refused { (t : Tables) → StandsFor self.old t
+            → IfErr result (IsRefusal (effect_of_call self.old.setup t at lane (Call.AddLink handle context attributes))) }
+        ensures err { OnErr result (self.new ≡ self.old) }
+    {
+        recording::leaves::<Stack>();
+        laws::asks();
+        let Some(span) = slot_at(&self.handles, handle) else {
+            return Err(Refusal::UnknownName { what: What::Handle });
+        };
+        let Some(given) = context_at(&self.contexts.made, context) else {
+            return Err(Refusal::UnknownName {
+                what: What::Context,
+            });
+        };
+        span.add_link_with_attributes(&mut self.world, at, given.span_context(), attributes)?;
+        self.moment = at;
+        Ok(Reply::Done)
+    }
+}

@@ -1,0 +1,11 @@
+use Rattle.std.proofs.Common.{◌≡◌}
+use Rattle.std.specs.Vec.Iter.{into_iter_items}
+use Rattle.trace_pipeline.specs.Object.{items}
+use Rattle.trace_pipeline.specs.Left.{value_data}
+use Rattle.trace_pipeline.specs.Forms.{each}
+use Rattle.trace_pipeline.specs.AttributeForm.{attribute_of}
+use Rattle.trace_pipeline.proofs.Items.{with_front}
+use Rattle.trace_pipeline.proofs.read.attributes.attributes.Given as goal
+
+abbrev pub invariant-loop-value : goal.invariant-loop-value
+invariant-loop-value l = with_front l.attributes (each attribute_of (items value_data (into_iter_items l.value-iterator))) ≡ each attribute_of (items value_data l.fn.values.items)

@@ -1,0 +1,88 @@
+//! Reading the requests that follow spans, and that ask something of the span extension.
+ghost use Rattle.trace_pipeline.specs.ExtensionForm.{follows_form, set_parent_form, add_link_form, set_attribute_form, set_status_form, time_form, add_event_form};
+ghost use Rattle.trace_pipeline.specs.Gives.{Gives};
+ghost use Rattle.trace_pipeline.specs.Left.{left};
+
+use crate::read::LineError;
+use crate::read::attributes::{given_attributes, otel_value_of, status_of};
+use crate::read::object::{Object, within};
+use otel_base::record::Moment;
+use span_pipeline::request::{Call, LAST_MOMENT};
+use std::alloc::Global;
+
+#[tactic(auto, unfolding(crate::specs::ExtensionForm::follows_form))]
+pub(crate) fn follows_call(object: &mut Object) -> Result<Call, LineError>
+    ensures { Gives (λ c. (c, left object.new)) result (follows_form (left object.old)) }
+{
+    let handle = object.whole("handle")?;
+    let from = object.whole("from")?;
+    Ok(Call::Follows { handle, from })
+}
+
+#[tactic(auto, unfolding(crate::specs::ExtensionForm::set_parent_form))]
+pub(crate) fn set_parent_call(object: &mut Object) -> Result<Call, LineError>
+    ensures { Gives (λ c. (c, left object.new)) result (set_parent_form (left object.old)) }
+{
+    let handle = object.whole("handle")?;
+    let context = object.whole("context")?;
+    Ok(Call::SetParent { handle, context })
+}
+
+#[tactic(auto, unfolding(crate::specs::ExtensionForm::add_link_form))]
+pub(crate) fn add_link_call(alloc: Global, object: &mut Object) -> Result<Call, LineError>
+    ensures { Gives (λ c. (c, left object.new)) result (add_link_form (left object.old)) }
+{
+    let handle = object.whole("handle")?;
+    let context = object.whole("context")?;
+    let attributes = given_attributes(alloc, object)?;
+    Ok(Call::AddLink {
+        handle,
+        context,
+        attributes,
+    })
+}
+
+#[tactic(auto, unfolding(crate::specs::ExtensionForm::set_attribute_form))]
+pub(crate) fn set_attribute_call(alloc: Global, object: &mut Object) -> Result<Call, LineError>
+    ensures { Gives (λ c. (c, left object.new)) result (set_attribute_form (left object.old)) }
+{
+    let handle = object.whole("handle")?;
+    let key = object.text(alloc, "key")?;
+    let value = otel_value_of(alloc, object.member("value")?)?;
+    Ok(Call::SetAttribute { handle, key, value })
+}
+
+#[tactic(auto, unfolding(crate::specs::ExtensionForm::set_status_form))]
+pub(crate) fn set_status_call(alloc: Global, object: &mut Object) -> Result<Call, LineError>
+    ensures { Gives (λ c. (c, left object.new)) result (set_status_form (left object.old)) }
+{
+    let handle = object.whole("handle")?;
+    let status = status_of(alloc, object.member("status")?)?;
+    Ok(Call::SetStatus { handle, status })
+}
+
+// Takes the time of an event, if it is said.
+fn time(object: &mut Object) -> Result<Option<Moment>, LineError>
+    ensures { Gives (λ t. (t, left object.new)) result (time_form (left object.old)) }
+{
+    match object.optional("time") {
+        Some(value) => Ok(Some(within(LAST_MOMENT, value.whole()?)?)),
+        None => Ok(None),
+    }
+}
+
+#[tactic(auto, unfolding(crate::specs::ExtensionForm::add_event_form))]
+pub(crate) fn add_event_call(alloc: Global, object: &mut Object) -> Result<Call, LineError>
+    ensures { Gives (λ c. (c, left object.new)) result (add_event_form (left object.old)) }
+{
+    let handle = object.whole("handle")?;
+    let name = object.text(alloc, "name")?;
+    let attributes = given_attributes(alloc, object)?;
+    let time = time(object)?;
+    Ok(Call::AddEvent {
+        handle,
+        name,
+        attributes,
+        time,
+    })
+}
