@@ -1,7 +1,10 @@
 mod Admitting
+mod Counted
+mod Deciding
 mod Exchanging
 mod Forgetting
 mod Freshness
 mod Nesting
 mod Putting
+mod Taken
 mod Viewing

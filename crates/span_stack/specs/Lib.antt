@@ -1,3 +1,5 @@
+pub mod Counters
+pub mod Counting
 pub mod Filtered
 pub mod Reading
 pub mod Through

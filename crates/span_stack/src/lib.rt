@@ -7,6 +7,8 @@ pub mod gate;
 pub mod interests;
 pub mod laws;
 pub mod stack;
+pub mod telemetry;
+mod telemetry_hooks;
 pub mod through;
 
 pub use gate::{admits, put_in_force};

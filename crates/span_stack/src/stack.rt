@@ -1,38 +1,40 @@
 //! The stack, its making, and what is asked of its parts.
-ghost use Rattle.std.specs.Prelude.{◌≡◌, ◌<◌, Some, MatchOption, ◌∷◌, [], length, drop};
+ghost use Rattle.std.specs.Prelude.{◌≡◌, ◌<◌, Some, MatchOption, ◌∷◌, [], length, drop, is_some};
 ghost use Rattle.trace_base.specs.declared.callsite.Callsite.{Callsite};
 ghost use Rattle.span_registry.specs.Registering.{no_spans};
 ghost use Rattle.otel_layer.specs.Core.{new_core};
 ghost use Rattle.env_filter.specs.Filtering.{plain, IsNew};
 ghost use Rattle.span_handles.specs.Worlds.{Replaced, spans_in};
+ghost use Rattle.span_stack.specs.Counters.{core_of, counter_of};
 ghost use Rattle.span_stack.specs.Reading.{recording_in, without_first};
 
+use crate::telemetry::Telemetry;
 use env_filter::filter::EnvFilter;
 use env_filter::reload;
 use otel_base::record::Record;
 use otel_base::recorder::Recorder;
 use otel_layer::layer::OpenTelemetryLayer;
-use otel_layer::recording::RecordedStack;
 use otel_state::settings::LayerSettings;
 use span_registry::layered::Layered;
 use span_registry::registry::Registry;
 use std::alloc::Global;
 use trace_base::dispatcher::Dispatch;
+use trace_base::layer::Layer;
 use trace_base::subscriber::Subscriber;
 use trace_base::world::World;
 
-/// A registry under the OpenTelemetry layer, whose spans a recorder gets, and a filter outside that can be exchanged.
+/// A registry under the OpenTelemetry layer, which may count events, and whose spans a recorder gets.
+pub type RecordedStack = Layered<Telemetry<Recorder, EnvFilter>, Registry>;
+
+/// The same, and a filter outside that can be exchanged.
 pub type Stack = Layered<reload::Layer<EnvFilter>, RecordedStack>;
 
-/// The stack under a filter that was just made, with a layer of these settings.
-pub fn new_stack(alloc: Global, settings: LayerSettings, filter: EnvFilter) -> Stack
-    requires new { IsNew (plain filter) }
-    ensures registry { result.inner.inner.spans ≡ no_spans }
-    ensures core { result.inner.layer.core ≡ new_core (record { started = 0; spare = 0; finished = [] }) settings }
-    ensures filter { result.layer.inner ≡ Some filter }
-    ensures whole { ⟦<Stack as Subscriber>⟧.is_whole result }
+// A layer of these settings, whose spans a recorder gets.
+fn new_layer(alloc: Global, settings: LayerSettings) -> OpenTelemetryLayer<Recorder>
+    ensures core { result.core ≡ new_core (record { started = 0; spare = 0; finished = [] }) settings }
+    ensures whole { ⟦<OpenTelemetryLayer<Recorder> as Layer>⟧.is_whole result }
 {
-    let layer = OpenTelemetryLayer::new(alloc, Recorder::new(alloc))
+    OpenTelemetryLayer::new(alloc, Recorder::new(alloc))
         .with_context_activation(settings.activation)
         .with_error_events_to_exceptions(settings.error_events_to_exceptions)
         .with_error_events_to_status(settings.error_events_to_status)
@@ -42,7 +44,29 @@ pub fn new_stack(alloc: Global, settings: LayerSettings, filter: EnvFilter) -> S
         .with_level(settings.level)
         .with_location(settings.location)
         .with_target(settings.target)
-        .with_threads(settings.threads);
+        .with_threads(settings.threads)
+}
+
+/// The stack under a filter that was just made, with a layer of these settings; it counts events where a filter for
+/// that is given.
+pub fn new_stack(
+    alloc: Global,
+    settings: LayerSettings,
+    filter: EnvFilter,
+    counting: Option<EnvFilter>,
+) -> Stack
+    requires new { IsNew (plain filter) }
+    ensures registry { result.inner.inner.spans ≡ no_spans }
+    ensures core { core_of result.inner.layer ≡ record (new_core (record { started = 0; spare = 0; finished = [] }) settings) { counting = is_some counting } }
+    ensures counter { counter_of result.inner.layer ≡ counting }
+    ensures filter { result.layer.inner ≡ Some filter }
+    ensures whole { ⟦<Stack as Subscriber>⟧.is_whole result }
+{
+    let plain = new_layer(alloc, settings);
+    let layer = match counting {
+        Some(counter) => Telemetry::Counting(plain.with_counting_event_filter(counter)),
+        None => Telemetry::Plain(plain),
+    };
     Registry::new(alloc)
         .with(layer)
         .with(reload::Layer::new(filter))
@@ -69,6 +93,5 @@ pub fn take_record(world: &mut World<Stack>, dispatch: Dispatch) -> Option<Recor
         .subscriber_mut(dispatch)
         .inner_mut()
         .layer_mut()
-        .tracer_mut()
-        .take()
+        .take_record()
 }
