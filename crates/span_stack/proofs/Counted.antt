@@ -173,6 +173,9 @@ base_counts s (Exit id at before later) t d = d.second.1
 base_counts s (CloneSpan id) t d = d.1.1
 base_counts s (TryClose id at) t d = elim (cases_eq (span_at s.inner.spans.made id).holds 1) [ inl one ↦ (d.closed one).1 | inr more ↦ (d.open_still more).1 ]
 
+pub counter_kept : (s : Base) (call : SubscriberCall) (t : Base) → BaseDoes s call t → base_counter t ≡ base_counter s
+counter_kept s call t d = ap (λ (o : Option Filtering). plain_counter o) (base_counts s call t d)
+
 -- ---- chains
 
 abbrev Quietly : Base → SubscriberCall → Base → Type 0

@@ -1,9 +1,11 @@
 mod Admitting
+mod Beginning
 mod Counted
 mod Deciding
 mod Exchanging
 mod Forgetting
 mod Freshness
+mod Gauging
 mod Nesting
 mod Putting
 mod Taken

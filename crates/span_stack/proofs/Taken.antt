@@ -9,7 +9,7 @@ use Rattle.env_filter.specs.Filtering.{Filtering, plain}
 use Rattle.span_stack.specs.declared.telemetry.Telemetry.{Telemetry}
 use Rattle.span_stack.specs.declared.telemetry.Telemetry.TheVariants.{Plain, Counting}
 use Rattle.span_stack.specs.Counters.{core_of, counter_of, taken_from}
-use Rattle.span_stack.specs.Reading.{Stacks, recorded, counting, without_first}
+use Rattle.span_stack.specs.Reading.{Stacks, recorded, counts_by, without_first}
 
 abbrev pub one_less : Recording → Recording → Type 0
 one_less before later = later ≡ record before { finished = drop 1 before.finished }
@@ -26,10 +26,10 @@ counter_left (Plain layer) = refl
 counter_left (Counting layer) = refl
 
 pub taken_recorded : (s t : Stacks) → t ≡ without_first s → one_less (recorded s) (recorded t)
-taken_recorded s t e = ap recorded e ∙ recorded_less s.inner.layer
+taken_recorded s t e = ap recorded e ∙ recorded_less s.inner.inner.layer
 
-pub taken_counting : (s t : Stacks) → t ≡ without_first s → counting t ≡ counting s
-taken_counting s t e = ap counting e ∙ ap (λ (o : Option Filtering). option_map plain o) (counter_left s.inner.layer)
+pub taken_counts_by : (s t : Stacks) → t ≡ without_first s → counts_by t ≡ counts_by s
+taken_counts_by s t e = ap counts_by e ∙ ap (λ (o : Option Filtering). option_map plain o) (counter_left s.inner.inner.layer)
 
 pub active_left : (l : Layers) → (core_of (taken_from l)).settings.activation ≡ (core_of l).settings.activation
 active_left (Plain layer) = refl

@@ -83,3 +83,7 @@ pub read_two : {S C : Type 0} {R : S → S → Type 0} (P : C → C → Type 0) 
     → (old new : Worlds S) (dispatch : ℕ) → Replaced R old new dispatch → P (seen k no_k old dispatch) (seen k no_k new dispatch)
 read_two {S} {C} {R} P k no_k step old new dispatch r =
     along_two P (sym (seen_before R old new dispatch r k no_k)) (sym (seen_later R old new dispatch r k no_k)) (step r.before r.later r.did)
+
+-- the same below two layers
+pub seen_two : {K L S A : Type 0} (read : S → A) (none : A) (world : Worlds (Layered K (Layered L S))) (dispatch : ℕ) → seen read none (below (below world)) dispatch ≡ seen (λ (s : Layered K (Layered L S)). read s.inner.inner) none world dispatch
+seen_two {K} {L} {S} read none world dispatch = seen_below read none (below world) dispatch ∙ seen_below (λ (s : Layered L S). read s.inner) none world dispatch

@@ -1,5 +1,5 @@
 //! What a caller over a world with the stack reads off each call. Each law is a function that does nothing.
-ghost use Rattle.std.specs.Prelude.{◌≡◌, ℕ, drop, length, None, Some, slice_get};
+ghost use Rattle.std.specs.Prelude.{◌≡◌, ◌++◌, ℕ, drop, length, None, Some, slice_get};
 ghost use Rattle.std.specs.Option.{option_map};
 ghost use Rattle.trace_base.specs.declared.callsite.Callsite.{Callsite};
 ghost use Rattle.trace_base.specs.declared.callsite.Kind.TheVariants as kind;
@@ -12,11 +12,13 @@ ghost use Rattle.env_directives.specs.Choice.{admits};
 ghost use Rattle.env_filter.specs.Filtering.{Filtered, IsNew, enables_in};
 ghost use Rattle.span_stack.specs.Counting.{RecordsCallBy};
 ghost use Rattle.span_stack.specs.Filtered.{filter_after, FiltersChain};
-ghost use Rattle.span_stack.specs.Reading.{StackWorlds, recording_in, filter_in, counter_in, IsCurrent, without_first};
+ghost use Rattle.span_stack.specs.Measured.{measured_by};
+ghost use Rattle.span_stack.specs.Reading.{StackWorlds, recording_in, filter_in, counter_in, measures_in, IsCurrent, without_first, WithoutMeasure};
 
 use crate::interests::stay_fresh;
-use crate::stack::{RecordedStack, Stack};
-use crate::{filters, through};
+use crate::measuring::Measuring;
+use crate::stack::{MeasuredStack, RecordedStack, Stack};
+use crate::{filters, measured, through};
 use env_filter::filter::EnvFilter;
 use env_filter::reload;
 use otel_layer::part::OtelPart;
@@ -36,12 +38,17 @@ pub fn calls()
     ensures counter { (old new : StackWorlds) (dispatch : ℕ) (call : SubscriberCall)
         → Replaced (λ s t. ⟦<Stack as Subscriber>⟧.does s call t) old new dispatch
         → counter_in new dispatch ≡ counter_in old dispatch }
+    ensures measures { (old new : StackWorlds) (dispatch : ℕ) (call : SubscriberCall)
+        → Replaced (λ s t. ⟦<Stack as Subscriber>⟧.does s call t) old new dispatch
+        → measures_in new dispatch ≡ measures_in old dispatch ++ measured_by call }
     ensures current { (old new : StackWorlds) (dispatch : ℕ) (call : SubscriberCall)
         → Replaced (λ s t. ⟦<Stack as Subscriber>⟧.does s call t) old new dispatch
         → IsCurrent old → IsCurrent new }
 {
-    through::calls::<reload::Layer<EnvFilter>, RecordedStack>();
-    filters::calls::<RecordedStack>();
+    through::calls::<reload::Layer<EnvFilter>, MeasuredStack>();
+    through::calls::<Measuring, RecordedStack>();
+    filters::calls::<MeasuredStack>();
+    measured::calls::<RecordedStack>();
     stay_fresh::<Stack>();
 }
 
@@ -56,11 +63,16 @@ pub fn same()
     ensures counter { (old new : StackWorlds) (dispatch : ℕ)
         → Replaced ⟦<Stack as Subscriber>⟧.same old new dispatch
         → counter_in new dispatch ≡ counter_in old dispatch }
+    ensures measures { (old new : StackWorlds) (dispatch : ℕ)
+        → Replaced ⟦<Stack as Subscriber>⟧.same old new dispatch
+        → measures_in new dispatch ≡ measures_in old dispatch }
     ensures current { (old new : StackWorlds) (dispatch : ℕ)
         → Replaced ⟦<Stack as Subscriber>⟧.same old new dispatch → IsCurrent old → IsCurrent new }
 {
-    through::calls::<reload::Layer<EnvFilter>, RecordedStack>();
-    filters::calls::<RecordedStack>();
+    through::calls::<reload::Layer<EnvFilter>, MeasuredStack>();
+    through::calls::<Measuring, RecordedStack>();
+    filters::calls::<MeasuredStack>();
+    measured::calls::<RecordedStack>();
     stay_fresh::<Stack>();
 }
 
@@ -81,13 +93,19 @@ pub fn chains()
         → Replaced (λ s t. Chain ⟦<Stack as Subscriber>⟧.spans ⟦<Stack as Subscriber>⟧.does at (Some id) s t)
         old new dispatch
         → counter_in new dispatch ≡ counter_in old dispatch }
+    ensures measures { (old new : StackWorlds) (dispatch at id : ℕ)
+        → Replaced (λ s t. Chain ⟦<Stack as Subscriber>⟧.spans ⟦<Stack as Subscriber>⟧.does at (Some id) s t)
+        old new dispatch
+        → measures_in new dispatch ≡ measures_in old dispatch }
     ensures current { (old new : StackWorlds) (dispatch at id : ℕ)
         → Replaced (λ s t. Chain ⟦<Stack as Subscriber>⟧.spans ⟦<Stack as Subscriber>⟧.does at (Some id) s t)
         old new dispatch
         → IsCurrent old → IsCurrent new }
 {
-    through::calls::<reload::Layer<EnvFilter>, RecordedStack>();
-    filters::calls::<RecordedStack>();
+    through::calls::<reload::Layer<EnvFilter>, MeasuredStack>();
+    through::calls::<Measuring, RecordedStack>();
+    filters::calls::<MeasuredStack>();
+    measured::calls::<RecordedStack>();
     stay_fresh::<Stack>();
 }
 
@@ -102,11 +120,15 @@ pub fn asks()
     ensures counter { (old new : StackWorlds) (dispatch : ℕ) (call : PartCall)
         → Replaced (λ s t. ⟦<Stack as OtelPart>⟧.touches s call t) old new dispatch
         → counter_in new dispatch ≡ counter_in old dispatch }
+    ensures measures { (old new : StackWorlds) (dispatch : ℕ) (call : PartCall)
+        → Replaced (λ s t. ⟦<Stack as OtelPart>⟧.touches s call t) old new dispatch
+        → measures_in new dispatch ≡ measures_in old dispatch }
     ensures current { (old new : StackWorlds) (dispatch : ℕ) (call : PartCall)
         → Replaced (λ s t. ⟦<Stack as OtelPart>⟧.touches s call t) old new dispatch
         → IsCurrent old → IsCurrent new }
 {
-    through::asks::<reload::Layer<EnvFilter>, RecordedStack>();
+    through::asks::<reload::Layer<EnvFilter>, MeasuredStack>();
+    through::asks::<Measuring, RecordedStack>();
 }
 
 /// No span is known yet under the id of the next one.
@@ -126,9 +148,28 @@ pub fn takes()
         → filter_in new dispatch ≡ filter_in old dispatch }
     ensures counter { (old new : StackWorlds) (dispatch : ℕ) → Replaced (λ s t. t ≡ without_first s) old new dispatch
         → counter_in new dispatch ≡ counter_in old dispatch }
+    ensures measures { (old new : StackWorlds) (dispatch : ℕ) → Replaced (λ s t. t ≡ without_first s) old new dispatch
+        → measures_in new dispatch ≡ measures_in old dispatch }
     ensures current { (old new : StackWorlds) (dispatch : ℕ) → Replaced (λ s t. t ≡ without_first s) old new dispatch
         → IsCurrent old → IsCurrent new }
     ensures others { (old new : StackWorlds) (dispatch : ℕ) → Replaced (λ s t. t ≡ without_first s) old new dispatch
+        → Alike ⟦<Stack as Subscriber>⟧.spans ⟦<Stack as Subscriber>⟧.attaches ⟦<Stack as Subscriber>⟧.kept
+        ⟦<Stack as Subscriber>⟧.is_whole old new dispatch }
+{}
+
+/// What the taking of a measure leaves.
+pub fn takes_measure()
+    ensures measures { (old new : StackWorlds) (dispatch : ℕ) → Replaced WithoutMeasure old new dispatch
+        → measures_in new dispatch ≡ drop 1 (measures_in old dispatch) }
+    ensures recording { (old new : StackWorlds) (dispatch : ℕ) → Replaced WithoutMeasure old new dispatch
+        → recording_in new dispatch ≡ recording_in old dispatch }
+    ensures filter { (old new : StackWorlds) (dispatch : ℕ) → Replaced WithoutMeasure old new dispatch
+        → filter_in new dispatch ≡ filter_in old dispatch }
+    ensures counter { (old new : StackWorlds) (dispatch : ℕ) → Replaced WithoutMeasure old new dispatch
+        → counter_in new dispatch ≡ counter_in old dispatch }
+    ensures current { (old new : StackWorlds) (dispatch : ℕ) → Replaced WithoutMeasure old new dispatch
+        → IsCurrent old → IsCurrent new }
+    ensures others { (old new : StackWorlds) (dispatch : ℕ) → Replaced WithoutMeasure old new dispatch
         → Alike ⟦<Stack as Subscriber>⟧.spans ⟦<Stack as Subscriber>⟧.attaches ⟦<Stack as Subscriber>⟧.kept
         ⟦<Stack as Subscriber>⟧.is_whole old new dispatch }
 {}

@@ -6,6 +6,8 @@ pub mod filters;
 pub mod gate;
 pub mod interests;
 pub mod laws;
+pub mod measured;
+pub mod measuring;
 pub mod stack;
 pub mod telemetry;
 mod telemetry_hooks;

@@ -1,19 +1,20 @@
 //! The stack, its making, and what is asked of its parts.
-ghost use Rattle.std.specs.Prelude.{◌≡◌, ◌<◌, Some, MatchOption, ◌∷◌, [], length, drop, is_some};
-ghost use Rattle.trace_base.specs.declared.callsite.Callsite.{Callsite};
+ghost use Rattle.std.specs.Prelude.{◌≡◌, ◌<◌, ℕ, Some, MatchOption, ◌∷◌, [], length, drop, is_some};
+ghost use Rattle.std.specs.Option.{option_map};
 ghost use Rattle.span_registry.specs.Registering.{no_spans};
 ghost use Rattle.otel_layer.specs.Core.{new_core};
 ghost use Rattle.env_filter.specs.Filtering.{plain, IsNew};
 ghost use Rattle.span_handles.specs.Worlds.{Replaced, spans_in};
-ghost use Rattle.span_stack.specs.Counters.{core_of, counter_of};
-ghost use Rattle.span_stack.specs.Reading.{recording_in, without_first};
+ghost use Rattle.span_stack.specs.Reading.{recorded, counts_by, measured, in_place, recording_in, measures_in, new_recording, without_first, WithoutMeasure};
 
+use crate::measuring::Measuring;
 use crate::telemetry::Telemetry;
 use env_filter::filter::EnvFilter;
 use env_filter::reload;
 use otel_base::record::Record;
 use otel_base::recorder::Recorder;
 use otel_layer::layer::OpenTelemetryLayer;
+use otel_metrics::measure::Measure;
 use otel_state::settings::LayerSettings;
 use span_registry::layered::Layered;
 use span_registry::registry::Registry;
@@ -26,8 +27,11 @@ use trace_base::world::World;
 /// A registry under the OpenTelemetry layer, which may count events, and whose spans a recorder gets.
 pub type RecordedStack = Layered<Telemetry<Recorder, EnvFilter>, Registry>;
 
+/// The same under a layer of metrics.
+pub type MeasuredStack = Layered<Measuring, RecordedStack>;
+
 /// The same, and a filter outside that can be exchanged.
-pub type Stack = Layered<reload::Layer<EnvFilter>, RecordedStack>;
+pub type Stack = Layered<reload::Layer<EnvFilter>, MeasuredStack>;
 
 // A layer of these settings, whose spans a recorder gets.
 fn new_layer(alloc: Global, settings: LayerSettings) -> OpenTelemetryLayer<Recorder>
@@ -56,10 +60,12 @@ pub fn new_stack(
     counting: Option<EnvFilter>,
 ) -> Stack
     requires new { IsNew (plain filter) }
-    ensures registry { result.inner.inner.spans ≡ no_spans }
-    ensures core { core_of result.inner.layer ≡ record (new_core (record { started = 0; spare = 0; finished = [] }) settings) { counting = is_some counting } }
-    ensures counter { counter_of result.inner.layer ≡ counting }
-    ensures filter { result.layer.inner ≡ Some filter }
+    ensures spans { ⟦<Stack as Subscriber>⟧.spans result ≡ no_spans }
+    ensures kept { (lane number : ℕ) → ⟦<Stack as Subscriber>⟧.kept result lane number ≡ 0 }
+    ensures recording { recorded result ≡ new_recording settings (is_some counting) }
+    ensures counter { counts_by result ≡ option_map plain counting }
+    ensures measures { measured result ≡ [] }
+    ensures filter { in_place result ≡ Some (plain filter) }
     ensures whole { ⟦<Stack as Subscriber>⟧.is_whole result }
 {
     let plain = new_layer(alloc, settings);
@@ -69,6 +75,7 @@ pub fn new_stack(
     };
     Registry::new(alloc)
         .with(layer)
+        .with(Measuring::new(alloc))
         .with(reload::Layer::new(filter))
 }
 
@@ -77,7 +84,7 @@ pub fn registry(world: &World<Stack>, dispatch: Dispatch) -> &Registry
     requires { dispatch < length world.now.subscribers }
     ensures { result.now.spans ≡ spans_in ⟦<Stack as Subscriber>⟧.spans world.now dispatch }
 {
-    world.subscriber(dispatch).inner().inner()
+    world.subscriber(dispatch).inner().inner().inner()
 }
 
 /// The oldest record that hasn't been taken from a stack, if there is one: what an
@@ -92,6 +99,21 @@ pub fn take_record(world: &mut World<Stack>, dispatch: Dispatch) -> Option<Recor
     world
         .subscriber_mut(dispatch)
         .inner_mut()
+        .inner_mut()
         .layer_mut()
         .take_record()
+}
+
+/// The oldest measure that hasn't been taken from a stack, if there is one.
+pub fn take_measure(world: &mut World<Stack>, dispatch: Dispatch) -> Option<Measure>
+    requires { dispatch < length world.old.subscribers }
+    ensures oldest { MatchOption result (measures_in world.old dispatch ≡ [])
+        (λ measure. measures_in world.old dispatch ≡ measure ∷ drop 1 (measures_in world.old dispatch)) }
+    ensures rest { Replaced WithoutMeasure world.old world.new dispatch }
+{
+    world
+        .subscriber_mut(dispatch)
+        .inner_mut()
+        .layer_mut()
+        .take()
 }

@@ -12,4 +12,4 @@ use Rattle.span_stack.proofs.laws.next.Goals as goal
 pub returns : goal.returns
 returns c = λ world dispatch s there whole.
     along_two (λ (spans : Spans) (recording : Recording). told_at (length spans.made) recording.spans ≡ None)
-    (sym (see (λ (p : Stacks). p.inner.inner.spans) no_spans world dispatch s there)) (sym (see recorded no_recording world dispatch s there)) (base_next s.inner whole.inner.in_step)
+    (sym (see (λ (p : Stacks). p.inner.inner.inner.spans) no_spans world dispatch s there)) (sym (see recorded no_recording world dispatch s there)) (base_next s.inner.inner whole.inner.inner.in_step)
