@@ -11,7 +11,6 @@ use Rattle.env_filter.specs.Filtering.{Filtered, Filtering, plain, interest_in}
 use Rattle.env_filter.specs.Reloading.{sometimes, both_alike}
 use Rattle.span_stack.specs.Reading.{Stacks, StackWorlds, stack_interest, IsCurrent}
 use Rattle.span_registry.specs.declared.layered.Layered.{Layered}
-use Rattle.otel_metrics.specs.declared.measure.Measure.{Measure}
 use Rattle.otel_layer.specs.Recording.{Recording}
 use Rattle.span_stack.specs.declared.measuring.Measuring.{Measuring}
 use Rattle.span_stack.specs.Measured.{waiting}

@@ -1,5 +1,5 @@
 -- The parts but for the layer of metrics stay.
-use Rattle.std.proofs.Common.{ap, None, Option}
+use Rattle.std.proofs.Common.{ap, None}
 use Rattle.std.specs.Option.{option_map}
 use Rattle.otel_layer.specs.Recording.{no_recording}
 use Rattle.env_filter.specs.declared.reload.Layer.{Layer}
