@@ -14,6 +14,7 @@ mod Dropping
 mod Entering
 mod Fitting
 mod Giving
+mod Guarding
 mod Keeping
 mod Known
 mod Laned

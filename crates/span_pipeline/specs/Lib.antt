@@ -3,6 +3,7 @@ pub mod Balance
 pub mod Effects
 pub mod Fields
 pub mod Fits
+pub mod Guards
 pub mod Refusals
 pub mod Setups
 pub mod Slots

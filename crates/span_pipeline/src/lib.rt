@@ -8,6 +8,7 @@
 mod calls;
 pub mod contexts;
 mod fields;
+mod guards;
 pub mod laws;
 mod level_words;
 mod opening;

@@ -4,12 +4,12 @@ ghost use Rattle.span_pipeline.specs.Setups.{HasOwnIds, setup_by};
 ghost use Rattle.span_pipeline.specs.Effects.{is_bad_moment};
 
 use crate::contexts::Contexts;
+use crate::guards::Guards;
 use crate::level_words::filter_of;
 use crate::opening::{self, add_sites};
 use crate::reply::{Refusal, Reply, What};
 use crate::request::{Call, LAST_MOMENT, Request};
 use crate::settings::Settings;
-use crate::slots::Guard;
 use crate::stack::{Stack, new_stack};
 use otel_base::record::Moment;
 use otel_layer::recording;
@@ -40,7 +40,7 @@ pub struct Pipeline {
     pub(crate) level: LevelFilter,
     pub(crate) lanes: Vec<Lane>,
     pub(crate) handles: Vec<Option<Span>>,
-    pub(crate) guards: Vec<Option<Guard>>,
+    pub(crate) guards: Guards,
     pub(crate) contexts: Contexts,
     pub(crate) moment: Moment,
 }
@@ -127,7 +127,7 @@ impl Pipeline {
                 level,
                 lanes,
                 handles: Vec::new(alloc),
-                guards: Vec::new(alloc),
+                guards: Guards::new(alloc),
                 contexts: Contexts::new(alloc),
                 moment: 0,
             }),

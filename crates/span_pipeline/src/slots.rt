@@ -1,7 +1,7 @@
 //! Names that are spent once: handles and guards by their numbers.
 ghost use Rattle.std.specs.Prelude.{◌≡◌, ◌<◌, ℕ, map, IfSome, ◌++◌, ◌∷◌, [], Some, None, option_map, slice_index_or, slice_set, vec_len, vec_capacity};
 ghost use Rattle.span_pipeline.specs.Fits.{held_by};
-ghost use Rattle.span_pipeline.specs.Slots.{parent_of, IsAbove, place_for, names_handle, is_named, is_shared_by};
+ghost use Rattle.span_pipeline.specs.Slots.{parent_of, IsAbove, place_for};
 
 use crate::request::Place;
 use span_handles::entry::Entry;
@@ -118,33 +118,5 @@ pub fn take<T>(slots: &mut Vec<Option<T>>, number: u64) -> Option<T>
     match slots.get_mut(number as usize) {
         Some(slot) => slot.take(),
         None => None,
-    }
-}
-
-/// Whether a guard owns its handle, which another open guard names too.
-pub fn is_shared(guards: &Vec<Option<Guard>>, guard: &Guard) -> bool
-    ensures { result ≡ is_shared_by guards.now.items guard.now }
-{
-    guard.owns
-        && guards
-            .iter()
-            .filter(|slot| names(*slot, guard.handle))
-            .count()
-            > 1
-}
-
-/// Whether an open guard names the handle.
-pub fn is_borrowed(guards: &Vec<Option<Guard>>, handle: u64) -> bool
-    ensures { result ≡ is_named guards.now.items handle }
-{
-    guards.iter().any(|slot| names(slot, handle))
-}
-
-fn names(slot: &Option<Guard>, handle: u64) -> bool
-    ensures { result ≡ names_handle handle slot.now }
-{
-    match slot {
-        Some(guard) => guard.handle == handle,
-        None => false,
     }
 }

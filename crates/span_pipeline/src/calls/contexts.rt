@@ -10,7 +10,7 @@ ghost use Rattle.span_pipeline.specs.declared.request.Call.{Call};
 use crate::contexts::{Attach, add, context_at};
 use crate::pipeline::{MOST, Pipeline};
 use crate::reply::{Refusal, Reply, What};
-use crate::slots::{keep, skip, slot_at, take};
+use crate::slots::{keep, slot_at, take};
 use crate::stack::Stack;
 use otel_base::context::{Context, SpanContext};
 use otel_base::enter_error::EnterError;
@@ -112,13 +112,13 @@ impl Pipeline {
                 what: What::Context,
             });
         };
-        self.guards.reserve(1)?;
+        self.guards.reserve()?;
         self.contexts.attaches.reserve(1)?;
         let attached = match attach_to(&mut self.lanes[lane as usize], given) {
             Ok(attached) => attached,
             Err(error) => return Err(Refusal::of_entry(lane, error)),
         };
-        skip(&mut self.guards);
+        self.guards.skip();
         keep(&mut self.contexts.attaches, Attach { lane, attached });
         self.moment = at;
         Ok(Reply::Guard { guard })

@@ -5,7 +5,7 @@ ghost use Rattle.span_pipeline.specs.declared.request.Call.{Call};
 
 use crate::pipeline::{MOST, Pipeline};
 use crate::reply::{Refusal, Reply, What};
-use crate::slots::{Guard, is_borrowed, is_shared, keep, skip, slot_at, take};
+use crate::slots::{Guard, skip, slot_at};
 use crate::stack::Stack;
 use otel_base::record::Moment;
 use otel_layer::recording;
@@ -42,21 +42,18 @@ impl Pipeline {
         let Some(span) = slot_at(&self.handles, handle) else {
             return Err(Refusal::UnknownName { what: What::Handle });
         };
-        self.guards.reserve(1)?;
+        self.guards.reserve_for(handle)?;
         self.contexts.attaches.reserve(1)?;
         let entry = match span.open_entry(&mut self.world, &mut self.lanes[lane as usize], at) {
             Ok(entry) => entry,
             Err(error) => return Err(Refusal::of_entry(lane, error)),
         };
-        keep(
-            &mut self.guards,
-            Guard {
-                handle,
-                lane,
-                owns,
-                entry,
-            },
-        );
+        self.guards.keep(Guard {
+            handle,
+            lane,
+            owns,
+            entry,
+        });
         skip(&mut self.contexts.attaches);
         self.moment = at;
         Ok(Reply::Guard { guard })
@@ -73,7 +70,7 @@ impl Pipeline {
         let Some(_named) = slot_at(&self.handles, handle) else {
             return Err(Refusal::UnknownName { what: What::Handle });
         };
-        if is_borrowed(&self.guards, handle) {
+        if self.guards.is_borrowed(handle) {
             return Err(Refusal::InUse);
         }
         self.enter(at, lane, handle, true)
@@ -90,16 +87,16 @@ impl Pipeline {
     {
         calls::<Stack>();
         recording::calls();
-        let Some(named) = slot_at(&self.guards, guard) else {
+        let Some(named) = self.guards.at(guard) else {
             return Err(Refusal::UnknownName { what: What::Guard });
         };
-        if is_shared(&self.guards, named) {
+        if self.guards.is_shared(named) {
             return Err(Refusal::InUse);
         }
         if named.lane != lane {
             return Err(Refusal::WrongLane { lane: named.lane });
         }
-        let Some(open) = take(&mut self.guards, guard) else {
+        let Some(open) = self.guards.take(guard) else {
             unreachable!()
         };
         let Guard {

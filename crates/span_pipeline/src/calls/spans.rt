@@ -5,7 +5,7 @@ ghost use Rattle.span_pipeline.specs.declared.request.Call.{Call};
 
 use crate::pipeline::{MOST, Pipeline};
 use crate::reply::{Refusal, Reply, What};
-use crate::slots::{is_borrowed, keep, slot_at, take};
+use crate::slots::{keep, slot_at, take};
 use crate::stack::Stack;
 use otel_base::record::Moment;
 use otel_layer::recording;
@@ -66,7 +66,7 @@ impl Pipeline {
         let Some(_named) = slot_at(&self.handles, handle) else {
             return Err(Refusal::UnknownName { what: What::Handle });
         };
-        if is_borrowed(&self.guards, handle) {
+        if self.guards.is_borrowed(handle) {
             return Err(Refusal::InUse);
         }
         let Some(span) = take(&mut self.handles, handle) else {

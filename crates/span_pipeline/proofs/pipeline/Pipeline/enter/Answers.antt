@@ -22,20 +22,20 @@ pub open_entry-requires-clause-few_holds : goal.open_entry-requires-clause-few_h
 open_entry-requires-clause-few_holds c = needs_few _ _ _ _ c.self.inside.world c.self.inside.dispatch c.self.inside.level c.self.inside.lanes.items c.self.inside.handles.items c.self.inside.guards.items (named_in c.self.inside.contexts) c.self.inside.moment c.self.invariant c.args.handle c.in-Some.span.now (search rules) (search rules) (search rules)
 
 pub invariant_of-self-in-Err : goal.invariant_of-self-in-Err
-invariant_of-self-in-Err c = refused_kept _ _ _ _ _ _ c.same.ensures c.same-2.ensures c.self.inside.world c.open_entry.new.world c.self.inside.dispatch c.self.inside.level c.self.inside.lanes.items c.self.inside.handles.items c.self.inside.guards.items c.reserve.new.self.items c.self.inside.contexts.made.items c.self.inside.contexts.attaches.items c.reserve-2.new.self.items c.self.inside.moment c.self.invariant c.args.handle c.in-Some.span.now (search rules) c.in-Err.ensures.leaves
+invariant_of-self-in-Err c = refused_kept _ _ _ _ _ _ c.same.ensures c.same-2.ensures c.self.inside.world c.open_entry.new.world c.self.inside.dispatch c.self.inside.level c.self.inside.lanes.items c.self.inside.handles.items c.self.inside.guards.items c.reserve_for.new.self.items c.self.inside.contexts.made.items c.self.inside.contexts.attaches.items c.reserve.new.self.items c.self.inside.moment c.self.invariant c.args.handle c.in-Some.span.now (search rules) c.in-Err.ensures.leaves
     c.args.lane c.index_mut.result.now c.open_entry.new.lane (within_view _ _ c.self.inside.lanes.items c.args.lane c.self.view_is refl c.requires) c.index_mut.ensures.value c.in-Err.ensures.lane_leaves (search rules) (search rules)
 
 pub returns-in-Err-clause-refused : goal.returns-in-Err-clause-refused
 returns-in-Err-clause-refused c = λ t stands no. by_view_opens_refused c.args.at c.args.lane c.args.handle c.args.owns _ _ _ c.self.view_is (λ t stands. refuses_entry _ _ _ _ _ (λ s id known. layer_activates s.layer.core.settings.activation id s.layer.core.spans known) c.self.inside.world c.self.inside.dispatch c.self.inside.level c.self.inside.lanes.items c.self.inside.handles.items c.self.inside.guards.items (named_in c.self.inside.contexts) c.self.inside.moment c.args.at c.args.lane c.index_mut.result.now (within_view _ _ c.self.inside.lanes.items c.args.lane c.self.view_is refl c.requires) c.index_mut.ensures.value c.args.handle c.in-Some.span.now (search rules) c.self.invariant c.args.owns c.in-Err.error c.of_entry.result c.of_entry.ensures (λ e. c.in-Err.ensures.full (ap (λ x. Err x) e)) no t stands) t stands
 
 pub returns-in-Err-clause-err : goal.returns-in-Err-clause-err
-returns-in-Err-clause-err c = refused_state _ _ _ _ _ _ c.same.ensures c.same-2.ensures c.self.inside.world c.open_entry.new.world c.self.inside.dispatch c.self.inside.level c.self.inside.lanes.items c.self.inside.handles.items c.self.inside.guards.items c.reserve.new.self.items c.self.inside.contexts.made.items c.self.inside.contexts.attaches.items c.reserve-2.new.self.items c.self.inside.moment c.self.invariant c.args.handle c.in-Some.span.now (search rules) c.in-Err.ensures.leaves
+returns-in-Err-clause-err c = refused_state _ _ _ _ _ _ c.same.ensures c.same-2.ensures c.self.inside.world c.open_entry.new.world c.self.inside.dispatch c.self.inside.level c.self.inside.lanes.items c.self.inside.handles.items c.self.inside.guards.items c.reserve_for.new.self.items c.self.inside.contexts.made.items c.self.inside.contexts.attaches.items c.reserve.new.self.items c.self.inside.moment c.self.invariant c.args.handle c.in-Some.span.now (search rules) c.in-Err.ensures.leaves
     c.args.lane c.index_mut.result.now c.open_entry.new.lane (within_view _ _ c.self.inside.lanes.items c.args.lane c.self.view_is refl c.requires) c.index_mut.ensures.value c.in-Err.ensures.lane_leaves (search rules) (search rules) ∙ c.self.view_is
 
 pub invariant_of-self-2 : goal.invariant_of-self-2
 invariant_of-self-2 c = keeps_entered _ _ _ _ _ _ c.open_entry.new.world _ c.calls.ensures c.calls-2.ensures c.self.inside.dispatch c.self.inside.level c.self.inside.lanes.items c.self.inside.handles.items c.self.inside.guards.items (named_in c.self.inside.contexts) c.self.inside.moment c.args.at c.args.lane c.index_mut.result.now c.open_entry.new.lane (within_view _ _ c.self.inside.lanes.items c.args.lane c.self.view_is refl c.requires) c.index_mut.ensures.value
-    c.args.handle c.len-guard.result c.args.owns c.in-Some.span.now c.in-Ok.entry c.keep.new.slots.items (search rules) c.in-Ok.ensures.value (search rules) (search rules) (record { made = c.self.inside.contexts.made.items; attaches = c.skip.new.slots.items }) refl (search rules) c.in-Ok.ensures.did c.in-Ok.ensures.none c.self.invariant (λ t stands line there is. meets_not _ _ _ _ _ (λ s id known. layer_activates s.layer.core.settings.activation id s.layer.core.spans known) c.self.inside.world c.self.inside.dispatch c.self.inside.level c.self.inside.lanes.items c.self.inside.handles.items c.self.inside.guards.items (named_in c.self.inside.contexts) c.self.inside.moment c.args.at c.args.lane c.index_mut.result.now (within_view _ _ c.self.inside.lanes.items c.args.lane c.self.view_is refl c.requires) c.index_mut.ensures.value c.args.handle c.in-Some.span.now (search rules) c.self.invariant t stands line there is (λ meets. true≢false (sym (c.in-Ok.ensures.full_refused meets))))
+    c.args.handle c.len-guard.result c.args.owns c.in-Some.span.now c.in-Ok.entry c.keep.new.self.items (search rules) c.in-Ok.ensures.value (search rules) (search rules) (record { made = c.self.inside.contexts.made.items; attaches = c.skip.new.slots.items }) refl (search rules) c.in-Ok.ensures.did c.in-Ok.ensures.none c.self.invariant (λ t stands line there is. meets_not _ _ _ _ _ (λ s id known. layer_activates s.layer.core.settings.activation id s.layer.core.spans known) c.self.inside.world c.self.inside.dispatch c.self.inside.level c.self.inside.lanes.items c.self.inside.handles.items c.self.inside.guards.items (named_in c.self.inside.contexts) c.self.inside.moment c.args.at c.args.lane c.index_mut.result.now (within_view _ _ c.self.inside.lanes.items c.args.lane c.self.view_is refl c.requires) c.index_mut.ensures.value c.args.handle c.in-Some.span.now (search rules) c.self.invariant t stands line there is (λ meets. true≢false (sym (c.in-Ok.ensures.full_refused meets))))
 
 pub returns-clause-ok : goal.returns-clause-ok
 returns-clause-ok c = by_view_opens c.args.at c.args.lane c.args.handle c.args.owns _ _ _ _ c.self.view_is (λ t stands. serves_entered _ _ _ _ _ _ c.open_entry.new.world _ c.calls.ensures c.calls-2.ensures c.self.inside.dispatch c.self.inside.level c.self.inside.lanes.items c.self.inside.handles.items c.self.inside.guards.items (named_in c.self.inside.contexts) c.self.inside.moment c.args.at c.args.lane c.index_mut.result.now c.open_entry.new.lane (within_view _ _ c.self.inside.lanes.items c.args.lane c.self.view_is refl c.requires) c.index_mut.ensures.value
-    c.args.handle c.len-guard.result c.args.owns c.in-Some.span.now c.in-Ok.entry c.keep.new.slots.items (search rules) c.in-Ok.ensures.value (search rules) (search rules) (record { made = c.self.inside.contexts.made.items; attaches = c.skip.new.slots.items }) refl (search rules) c.in-Ok.ensures.did c.in-Ok.ensures.none c.self.invariant (λ t stands line there is. meets_not _ _ _ _ _ (λ s id known. layer_activates s.layer.core.settings.activation id s.layer.core.spans known) c.self.inside.world c.self.inside.dispatch c.self.inside.level c.self.inside.lanes.items c.self.inside.handles.items c.self.inside.guards.items (named_in c.self.inside.contexts) c.self.inside.moment c.args.at c.args.lane c.index_mut.result.now (within_view _ _ c.self.inside.lanes.items c.args.lane c.self.view_is refl c.requires) c.index_mut.ensures.value c.args.handle c.in-Some.span.now (search rules) c.self.invariant t stands line there is (λ meets. true≢false (sym (c.in-Ok.ensures.full_refused meets)))) t stands)
+    c.args.handle c.len-guard.result c.args.owns c.in-Some.span.now c.in-Ok.entry c.keep.new.self.items (search rules) c.in-Ok.ensures.value (search rules) (search rules) (record { made = c.self.inside.contexts.made.items; attaches = c.skip.new.slots.items }) refl (search rules) c.in-Ok.ensures.did c.in-Ok.ensures.none c.self.invariant (λ t stands line there is. meets_not _ _ _ _ _ (λ s id known. layer_activates s.layer.core.settings.activation id s.layer.core.spans known) c.self.inside.world c.self.inside.dispatch c.self.inside.level c.self.inside.lanes.items c.self.inside.handles.items c.self.inside.guards.items (named_in c.self.inside.contexts) c.self.inside.moment c.args.at c.args.lane c.index_mut.result.now (within_view _ _ c.self.inside.lanes.items c.args.lane c.self.view_is refl c.requires) c.index_mut.ensures.value c.args.handle c.in-Some.span.now (search rules) c.self.invariant t stands line there is (λ meets. true≢false (sym (c.in-Ok.ensures.full_refused meets)))) t stands)

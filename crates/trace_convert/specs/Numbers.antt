@@ -1,0 +1,35 @@
+-- The numbers and words by which the two formats and the process go.
+use Rattle.std.specs.Prelude.{ℕ, List, Bool, ◌==◌, Option, Some, None, if◌then◌else◌, codes, bytes_eq}
+use Rattle.std.specs.List.{list_all}
+use Rattle.trace_convert.specs.declared.record.Kind.{Kind}
+use Rattle.trace_convert.specs.declared.record.Kind.TheVariants as kind
+use Rattle.trace_convert.specs.declared.words.Format.{Format}
+use Rattle.trace_convert.specs.declared.words.Format.TheVariants as format
+use Rattle.trace_convert.specs.declared.fault.Fault.{Fault}
+use Rattle.trace_convert.specs.declared.fault.Fault.TheVariants as fault
+
+-- the kinds of the OpenTelemetry protocol
+abbrev pub kind_number : Kind → ℕ
+kind_number kind.Internal = 1
+kind_number kind.Server = 2
+kind_number kind.Client = 3
+kind_number kind.Producer = 4
+kind_number kind.Consumer = 5
+
+-- the format of a word
+abbrev pub format_of : List ℕ → Option Format
+format_of word =
+    if bytes_eq word (codes "otlp") then Some format.Otlp else
+    (if bytes_eq word (codes "chrome") then Some format.Chrome else None)
+
+-- what the process ends with at a fault
+abbrev pub status_of : Fault → ℕ
+status_of fault.Usage = 1
+status_of (fault.NoJson line) = 2
+status_of (fault.NoRecord line) = 2
+status_of fault.Io = 3
+status_of fault.Memory = 5
+
+-- an id whose digits are all 0 names no span
+abbrev pub names_none : List ℕ → Bool
+names_none id = list_all (λ digit. digit == 48) id

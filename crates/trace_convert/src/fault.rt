@@ -1,0 +1,65 @@
+//! Why a conversion ends early.
+ghost use Rattle.std.specs.Prelude.{◌≡◌};
+ghost use Rattle.trace_convert.specs.Numbers.{status_of};
+
+use std::alloc::{AllocError, AllocFailed};
+use std::io;
+use thiserror::Error;
+
+/// Why a conversion ended early. What was written before it stands.
+#[derive(Debug, Drop, Error)]
+pub enum Fault {
+    /// The words aren't one name of a format.
+    #[error("the only words are otlp and chrome, one of them")]
+    Usage,
+    /// A line is no JSON.
+    #[error("line {line} is no JSON")]
+    NoJson {
+        /// The line's number, from 1.
+        line: u64,
+    },
+    /// A line has a member `record`, and isn't what `trace_tool` writes of a record.
+    #[error("line {line} is no record")]
+    NoRecord {
+        /// The line's number, from 1.
+        line: u64,
+    },
+    /// Reading or writing failed.
+    #[error("reading or writing failed")]
+    Io,
+    /// No memory was to be had.
+    #[error("no memory was to be had")]
+    Memory,
+}
+
+impl Fault {
+    /// What the process ends with.
+    pub fn status(&self) -> u8
+        ensures { result ≡ status_of self.now }
+    {
+        match self {
+            Fault::Usage => 1,
+            Fault::NoJson { line: _ } | Fault::NoRecord { line: _ } => 2,
+            Fault::Io => 3,
+            Fault::Memory => 5,
+        }
+    }
+}
+
+impl From<AllocError> for Fault {
+    fn from(_: AllocError) -> Fault {
+        Fault::Memory
+    }
+}
+
+impl<T: Drop> From<AllocFailed<T>> for Fault {
+    fn from(_: AllocFailed<T>) -> Fault {
+        Fault::Memory
+    }
+}
+
+impl From<io::Error> for Fault {
+    fn from(_: io::Error) -> Fault {
+        Fault::Io
+    }
+}

@@ -1,0 +1,227 @@
+//! OTLP JSON, one export request a line.
+ghost use Rattle.std.specs.Prelude.{◌≡◌};
+ghost use Rattle.trace_convert.specs.Numbers.{kind_number, names_none};
+
+use crate::fault::Fault;
+use crate::record::{self, Kind, Plain, Record};
+use serde::Serialize;
+use std::alloc::Global;
+
+#[derive(Drop, Serialize)]
+#[serde(rename_all = "camelCase")]
+struct Export {
+    resource_spans: Vec<ResourceSpans>,
+}
+
+#[derive(Drop, Serialize)]
+#[serde(rename_all = "camelCase")]
+struct ResourceSpans {
+    resource: Nothing,
+    scope_spans: Vec<ScopeSpans>,
+}
+
+#[derive(Drop, Serialize)]
+struct ScopeSpans {
+    scope: Nothing,
+    spans: Vec<Span>,
+}
+
+// Neither a resource nor a scope stands in a record.
+#[derive(Drop, Serialize)]
+struct Nothing {}
+
+#[derive(Drop, Serialize)]
+#[serde(rename_all = "camelCase")]
+struct Span {
+    trace_id: String,
+    span_id: String,
+    #[serde(skip_serializing_if = "Option::is_none")]
+    parent_span_id: Option<String>,
+    name: String,
+    kind: u8,
+    start_time_unix_nano: String,
+    end_time_unix_nano: String,
+    attributes: Vec<KeyValue>,
+    events: Vec<Event>,
+    links: Vec<Link>,
+    status: Status,
+}
+
+#[derive(Drop, Serialize)]
+struct KeyValue {
+    key: String,
+    value: AnyValue,
+}
+
+#[derive(Drop, Serialize)]
+#[serde(rename_all = "camelCase")]
+enum AnyValue {
+    BoolValue(bool),
+    // A number of 64 bits is a text in JSON.
+    IntValue(String),
+    StringValue(String),
+    ArrayValue(ArrayValue),
+}
+
+#[derive(Drop, Serialize)]
+struct ArrayValue {
+    values: Vec<Item>,
+}
+
+#[derive(Drop, Serialize)]
+#[serde(rename_all = "camelCase")]
+struct Item {
+    string_value: String,
+}
+
+#[derive(Drop, Serialize)]
+#[serde(rename_all = "camelCase")]
+struct Event {
+    time_unix_nano: String,
+    name: String,
+    attributes: Vec<KeyValue>,
+}
+
+#[derive(Drop, Serialize)]
+#[serde(rename_all = "camelCase")]
+struct Link {
+    trace_id: String,
+    span_id: String,
+    attributes: Vec<KeyValue>,
+}
+
+#[derive(Drop, Serialize)]
+struct Status {
+    #[serde(skip_serializing_if = "Option::is_none")]
+    message: Option<String>,
+    code: u8,
+}
+
+/// The line of a record's export request.
+pub fn line(alloc: Global, record: Record) -> Result<String, Fault> {
+    let spans = vec![in alloc; span_of(alloc, record)?]?;
+    let scope_spans = vec![in alloc;
+        ScopeSpans {
+            scope: Nothing {},
+            spans
+        },
+    ]?;
+    let resource_spans = vec![in alloc;
+        ResourceSpans {
+            resource: Nothing {},
+            scope_spans
+        },
+    ]?;
+    serde_json::to_string(alloc, &Export { resource_spans }).map_err(|_| Fault::Memory)
+}
+
+fn span_of(alloc: Global, record: Record) -> Result<Span, Fault> {
+    let parent = record.parent;
+    Ok(Span {
+        trace_id: record.trace,
+        span_id: record.span,
+        parent_span_id: if is_zero(parent.as_str()) {
+            None
+        } else {
+            Some(parent)
+        },
+        name: record.name,
+        kind: kind_number(record.kind),
+        start_time_unix_nano: format!(in alloc; "{}", record.start)?,
+        end_time_unix_nano: format!(in alloc; "{}", record.end)?,
+        attributes: attributes_of(alloc, record.attributes)?,
+        events: events_of(alloc, record.events)?,
+        links: links_of(alloc, record.links)?,
+        status: status_of(record.status),
+    })
+}
+
+// The id that stands for no parent.
+fn is_zero(id: &str) -> bool
+    ensures { result ≡ names_none id.now }
+{
+    id.bytes().all(|digit| digit == b'0')
+}
+
+fn kind_number(kind: Kind) -> u8
+    ensures { result ≡ kind_number kind }
+{
+    match kind {
+        Kind::Internal => 1,
+        Kind::Server => 2,
+        Kind::Client => 3,
+        Kind::Producer => 4,
+        Kind::Consumer => 5,
+    }
+}
+
+fn status_of(status: record::Status) -> Status {
+    match status {
+        record::Status::Unset => Status {
+            message: None,
+            code: 0,
+        },
+        record::Status::Ok => Status {
+            message: None,
+            code: 1,
+        },
+        record::Status::Error(description) => Status {
+            message: Some(description),
+            code: 2,
+        },
+    }
+}
+
+fn attributes_of(alloc: Global, pairs: Vec<(String, Plain)>) -> Result<Vec<KeyValue>, Fault> {
+    let mut attributes = Vec::new(alloc);
+    for (key, value) in pairs {
+        attributes.push(KeyValue {
+            key,
+            value: value_of(alloc, value)?,
+        })?;
+    }
+    Ok(attributes)
+}
+
+fn value_of(alloc: Global, value: Plain) -> Result<AnyValue, Fault> {
+    match value {
+        Plain::Bool(given) => Ok(AnyValue::BoolValue(given)),
+        Plain::Number(number) => Ok(AnyValue::IntValue(format!(in alloc; "{number}")?)),
+        Plain::Text(text) => Ok(AnyValue::StringValue(text)),
+        Plain::List(texts) => Ok(AnyValue::ArrayValue(ArrayValue {
+            values: items_of(alloc, texts)?,
+        })),
+    }
+}
+
+fn items_of(alloc: Global, texts: Vec<String>) -> Result<Vec<Item>, Fault> {
+    let mut items = Vec::new(alloc);
+    for string_value in texts {
+        items.push(Item { string_value })?;
+    }
+    Ok(items)
+}
+
+fn events_of(alloc: Global, told: Vec<record::Event>) -> Result<Vec<Event>, Fault> {
+    let mut events = Vec::new(alloc);
+    for event in told {
+        events.push(Event {
+            time_unix_nano: format!(in alloc; "{}", event.time)?,
+            name: event.name,
+            attributes: attributes_of(alloc, event.attributes)?,
+        })?;
+    }
+    Ok(events)
+}
+
+fn links_of(alloc: Global, told: Vec<record::Link>) -> Result<Vec<Link>, Fault> {
+    let mut links = Vec::new(alloc);
+    for link in told {
+        links.push(Link {
+            trace_id: link.trace,
+            span_id: link.span,
+            attributes: attributes_of(alloc, link.attributes)?,
+        })?;
+    }
+    Ok(links)
+}

@@ -1,0 +1,95 @@
+//! Record lines, as `trace_tool` writes them.
+use crate::fault::Fault;
+use serde::{Deserialize, Serialize};
+use serde_json::{Error, Value};
+use std::alloc::Global;
+
+/// A finished span. Its times are in nanoseconds, its ids lower case hexadecimal.
+#[derive(Drop, Deserialize)]
+pub struct Record {
+    pub name: String,
+    pub kind: Kind,
+    pub trace: String,
+    pub span: String,
+    pub parent: String,
+    pub start: u64,
+    pub end: u64,
+    pub attributes: Vec<(String, Plain)>,
+    pub events: Vec<Event>,
+    pub links: Vec<Link>,
+    pub status: Status,
+}
+
+/// The part that a span plays.
+#[derive(Clone, Copy, Deserialize)]
+#[serde(rename_all = "lowercase")]
+pub enum Kind {
+    Internal,
+    Server,
+    Client,
+    Producer,
+    Consumer,
+}
+
+/// The value of an attribute.
+#[derive(Drop, Deserialize, Serialize)]
+#[serde(untagged)]
+pub enum Plain {
+    Bool(bool),
+    Number(i64),
+    Text(String),
+    List(Vec<String>),
+}
+
+/// What happened at a moment of a span.
+#[derive(Drop, Deserialize)]
+pub struct Event {
+    pub name: String,
+    pub time: u64,
+    pub attributes: Vec<(String, Plain)>,
+}
+
+/// Another span that a span refers to.
+#[derive(Drop, Deserialize)]
+pub struct Link {
+    pub trace: String,
+    pub span: String,
+    pub attributes: Vec<(String, Plain)>,
+}
+
+/// How a span ended.
+#[derive(Drop, Deserialize)]
+#[serde(rename_all = "lowercase")]
+pub enum Status {
+    Unset,
+    Ok,
+    Error(String),
+}
+
+/// The record of a line, none where the line is blank, a reply, a refusal or the end.
+pub fn record_of(alloc: Global, text: &str, line: u64) -> Result<Option<Record>, Fault> {
+    if text.trim().is_empty() {
+        return Ok(None);
+    }
+    let value = Value::from_str(alloc, text).map_err(|error| read_fault(
+        &error,
+        Fault::NoJson { line },
+    ))?;
+    if value.get("record").is_none() {
+        return Ok(None);
+    }
+    let record = serde_json::from_str(alloc, text).map_err(|error| read_fault(
+        &error,
+        Fault::NoRecord { line },
+    ))?;
+    Ok(Some(record))
+}
+
+// Want of memory is told as such, and any other error as the fault.
+fn read_fault(error: &Error, fault: Fault) -> Fault {
+    if error.is_memory() {
+        Fault::Memory
+    } else {
+        fault
+    }
+}
