@@ -2,6 +2,7 @@
 ghost use Rattle.std.specs.Prelude.{◌≡◌, ◌↔◌, ◌+◌, ◌<◌, ◌≤◌, ◌++◌, [], ◌∷◌, ℕ, length, Err, IfOk, IsOk, OnOk, OnErr, IfSome, IsNone, false, true, ◌^◌, slice_index_or};
 ghost use Rattle.otel_base.specs.Stack.{has, without, next_number, last_context, empty_context, Attaches, IsReady};
 ghost use Rattle.otel_base.specs.declared.enter_error.EnterError.TheVariants.{Full, Memory};
+ghost use Rattle.otel_base.specs.declared.stack.TheConstants.{MOST};
 
 use crate::context::Context;
 use crate::enter_error::EnterError;
@@ -9,7 +10,7 @@ use std::alloc::Global;
 use std::marker::Model;
 
 /// How many contexts may be live at once.
-const MOST: usize = 65_534;
+pub const MOST: usize = 65_534;
 
 /// What an attach gives, and what its detach takes: `opentelemetry::ContextGuard`, which isn't spent by itself.
 /// It has to be spent, by `ContextStack::detach` or by `discard`.
@@ -65,7 +66,7 @@ impl ContextStack {
         ensures ok { IfOk result (λ number. self.new.live ≡ self.old.live ++ (number, context) ∷ []) }
         ensures number { IfOk result (λ number. has number self.old.live ≡ false) }
         ensures holds { IfOk result (λ number. has number self.new.live ≡ true) }
-        ensures full { (result ≡ Err Full) ↔ (length self.old.live ≡ 65534) }
+        ensures full { (result ≡ Err Full) ↔ (length self.old.live ≡ MOST) }
         ensures err_leaves { OnErr result (self.new.live ≡ self.old.live) }
         ensures ready { IsReady self.old → IsOk result }
         ensures with_room { 0 < self.old.room → ¬ (result ≡ Err Memory) }
@@ -86,7 +87,7 @@ impl ContextStack {
     pub fn reserve(&mut self) -> Result<(), EnterError>
         ensures ok { OnOk result (IsReady self.new) }
         ensures leaves { self.new.live ≡ self.old.live }
-        ensures full { (result ≡ Err Full) ↔ (length self.old.live ≡ 65534) }
+        ensures full { (result ≡ Err Full) ↔ (length self.old.live ≡ MOST) }
         ensures room { self.old.room ≤ self.new.room }
     {
         if self.items.len() >= MOST {
