@@ -1,6 +1,7 @@
 pub mod Applying
 pub mod Attaching
 pub mod Finding
+pub mod Gaps
 pub mod Hooking
 pub mod Placing
 pub mod Recalling

@@ -1,5 +1,5 @@
 -- What is asked of a stack's layer from outside its hooks, and what that makes of it.
-use Rattle.std.specs.Prelude.{◌≡◌, ℕ, Bool, true, false, List, [], Option, Some, None, Result, Ok, Err, IsTrue}
+use Rattle.std.specs.Prelude.{◌≡◌, ℕ, Bool, true, false, List, Option, Some, None, Result, Ok, Err, IsTrue}
 use Rattle.otel_base.specs.declared.context.Context.{Context}
 use Rattle.otel_base.specs.declared.context.SpanContext.{SpanContext}
 use Rattle.otel_base.specs.declared.memory.Memory.{Memory}

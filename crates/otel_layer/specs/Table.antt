@@ -1,5 +1,5 @@
 -- The spans that a layer knows, by id, with what each has come to.
-use Rattle.std.specs.Prelude.{◌≡◌, ◌≤◌, ℕ, suc, ◌+◌, ◌==◌, if◌then◌else◌, Bool, true, List, [], ◌∷◌, ◌++◌, Option, Some, None, map}
+use Rattle.std.specs.Prelude.{◌≡◌, ◌≤◌, ℕ, suc, ◌+◌, ◌==◌, if◌then◌else◌, Bool, true, List, [], ◌∷◌, ◌++◌, ◌&&◌, Option, Some, None, is_some, length, map}
 use Rattle.std.specs.List.{list_any}
 use Rattle.std.specs.Map.{lookup, keys_of}
 use Rattle.otel_base.specs.declared.context.Context.{Context}
@@ -8,7 +8,7 @@ use Rattle.otel_base.specs.Ids.{ids_of}
 use Rattle.otel_base.specs.declared.record.Link.{Link}
 use Rattle.otel_state.specs.declared.op.Op.{Op}
 use Rattle.otel_state.specs.declared.op.Op.TheVariants as ops
-use Rattle.otel_state.specs.States.{Told, Room, changed, HasRoom}
+use Rattle.otel_state.specs.States.{Told, Room, Kept, changed, HasRoom}
 use Rattle.otel_layer.specs.declared.table.Entry.{Entry}
 
 -- a table: the spans, the spare room of each, and how many more spans there is room for
@@ -17,17 +17,30 @@ pub record Tabled : Type 0 where
   pub rooms : List (ℕ × Room)
   pub room : ℕ
 
-abbrev pub told_entry : Entry → ℕ × Told
-told_entry e = (e.id, e.state.told)
+-- what is read off the states, by id; an entry without one is a gap, and left out
+abbrev pub with_read : {A : Type 0} → ℕ → (Kept → A) → Option Kept → List (ℕ × A) → List (ℕ × A)
+with_read id f None others = others
+with_read id f (Some state) others = (id, f state) ∷ others
 
-abbrev pub room_entry : Entry → ℕ × Room
-room_entry e = (e.id, e.state.room)
+abbrev pub read_off : {A : Type 0} → (Kept → A) → List Entry → List (ℕ × A)
+read_off f [] = []
+read_off f (e ∷ es) = with_read e.id f e.state (read_off f es)
+
+abbrev pub tolds : List Entry → List (ℕ × Told)
+tolds entries = read_off (λ state. state.told) entries
+
+abbrev pub rooms : List Entry → List (ℕ × Room)
+rooms entries = read_off (λ state. state.room) entries
+
+-- the ids, those of gaps too
+abbrev pub ids : List Entry → List ℕ
+ids entries = map (λ e. e.id) entries
 
 abbrev pub tabled : List Entry → ℕ → Tabled
-tabled entries room = record { spans = map told_entry entries; rooms = map room_entry entries; room = room }
+tabled entries room = record { spans = tolds entries; rooms = rooms entries; room = room }
 
 abbrev pub is_of : ℕ → Entry → Bool
-is_of id = λ e. e.id == id
+is_of id = λ e. (e.id == id) && is_some e.state
 
 abbrev pub is_id : ℕ → ℕ → Bool
 is_id id = λ k. k == id
@@ -94,8 +107,13 @@ Rises least (id ∷ ids) = (least ≤ id) × Rises (suc id) ids
 
 -- those of the entries do, if that is said
 abbrev pub MayRise : Bool → List Entry → Type 0
-MayRise rising entries = rising ≡ true → Rises 0 (keys_of (map told_entry entries))
+MayRise rising entries = rising ≡ true → Rises 0 (ids entries)
 
 -- they do with one more
 abbrev pub RisesTo : ℕ → List Entry → Type 0
-RisesTo id entries = Rises 0 (keys_of (map told_entry entries) ++ id ∷ [])
+RisesTo id entries = Rises 0 (ids entries ++ id ∷ [])
+
+-- what a table says of its entries: whether the ids rise, and how many aren't gaps
+pub record IsKept (rising : Bool) (known : ℕ) (entries : List Entry) : Type 0 where
+  pub rises : MayRise rising entries
+  pub counts : known ≡ length (tolds entries)

@@ -1,10 +1,10 @@
 //! The states of the spans that a layer knows.
-ghost use Rattle.std.specs.Prelude.{◌≡◌, ◌==◌, ℕ, ◌<◌, ◌≤◌, ◌^◌, [], true, false, length, map, OnOk};
-ghost use Rattle.std.specs.List.{position, list_any};
-ghost use Rattle.std.specs.Map.{lookup, remove_entry};
+ghost use Rattle.std.specs.Prelude.{◌≡◌, ◌==◌, ℕ, ◌<◌, ◌≤◌, ◌^◌, [], true, false, length, OnOk, option_map};
+ghost use Rattle.std.specs.List.{position};
+ghost use Rattle.std.specs.Map.{remove_entry};
 ghost use Rattle.otel_state.specs.States.{is_growing};
 ghost use Rattle.otel_layer.specs.Parts.{AppliesIn, context_at};
-ghost use Rattle.otel_layer.specs.Table.{MayRise, RisesTo, is_of, told_entry, room_entry, is_id, told_at, knows_span, with_op, with_span, waits, own_or, ids_at, RoomFor, RoomForLink};
+ghost use Rattle.otel_layer.specs.Table.{MayRise, RisesTo, is_of, tolds, rooms, ids, is_id, told_at, knows_span, with_op, with_span, waits, own_or, ids_at, RoomFor, RoomForLink};
 
 use otel_base::context::{Context, SpanContext};
 use otel_base::memory::Memory;
@@ -14,31 +14,33 @@ use std::alloc::Global;
 use std::marker::Model;
 use trace_base::span::Id;
 
-// The state of a span.
+// The state of a span; none once it was taken out, which leaves a gap.
 #[derive(Drop)]
 pub(crate) struct Entry {
     id: Id,
-    state: SpanState,
+    state: Option<SpanState>,
 }
 
 // The states of spans, in the order in which the layer came to know them.
 #[derive(Drop)]
 pub(crate) struct Table {
     entries: Vec<Entry>,
-    // Whether the ids rise, as those of a registry do.
+    // How many of them aren't gaps.
+    known: usize,
+    // Whether the ids rise, gaps included, as those of a registry do.
     rising: bool,
 }
 
 impl Model for Table {
     ghost use Rattle.std.specs.Prelude.{◌-◌, length, vec_capacity};
     ghost use Rattle.otel_layer.specs.Parts.{AppliesIn, context_at};
-    ghost use Rattle.otel_layer.specs.Table.{Tabled, tabled, MayRise};
+    ghost use Rattle.otel_layer.specs.Table.{Tabled, tabled, IsKept};
 
     ghost Value = { Tabled };
 
     ghost view = { λ t. tabled t.entries.items (vec_capacity t.entries - length t.entries.items) };
 
-    ghost invariant = { λ t. MayRise t.rising t.entries.items };
+    ghost invariant = { λ t. IsKept t.rising t.known t.entries.items };
 }
 
 impl Table {
@@ -48,6 +50,7 @@ impl Table {
     {
         Table {
             entries: Vec::new(alloc),
+            known: 0,
             rising: true,
         }
     }
@@ -57,7 +60,7 @@ impl Table {
         ensures value { result ≡ length self.now.spans }
         ensures most { result < 2 ^ 63 }
     {
-        self.entries.len() as u64
+        self.known as u64
     }
 
     // Whether a span is there.
@@ -146,8 +149,12 @@ impl Table {
         ensures { self.new.spans ≡ with_span id state.told self.old.spans }
     {
         self.rising = self.rising && is_youngest(self.entries.as_slice(), id);
-        match self.entries.push(Entry { id, state }) {
-            Ok(()) => {}
+        let entry = Entry {
+            id,
+            state: Some(state),
+        };
+        match self.entries.push(entry) {
+            Ok(()) => self.known += 1,
             Err(_) => unreachable!(),
         }
     }
@@ -158,7 +165,10 @@ impl Table {
         ensures told { told_at id self.old.spans ≡ Some result.told }
         ensures spans { self.new.spans ≡ remove_entry (is_id id) self.old.spans }
     {
-        remove(&mut self.entries, self.rising, id)
+        let state = take(self.entries.as_mut_slice(), self.rising, id);
+        self.known -= 1;
+        close_gaps(&mut self.entries, self.known);
+        state
     }
 }
 
@@ -181,7 +191,7 @@ fn find(entries: &[Entry], rising: bool, id: Id) -> Option<usize>
     if rising {
         search(entries, id)
     } else {
-        entries.iter().position(|e| e.id == id)
+        entries.iter().position(|e| e.id == id && e.state.is_some())
     }
 }
 
@@ -197,7 +207,7 @@ fn search(entries: &[Entry], id: Id) -> Option<usize>
         let middle = low + (high - low) / 2;
         let there = entries[middle].id.place();
         if there == wanted {
-            return Some(middle);
+            return entries[middle].state.is_some().then_some(middle);
         }
         if there < wanted {
             low = middle + 1;
@@ -210,34 +220,43 @@ fn search(entries: &[Entry], id: Id) -> Option<usize>
 
 fn is_known(entries: &[Entry], rising: bool, id: Id) -> bool
     requires { MayRise rising entries.now }
-    ensures { result ≡ list_any (is_of id) entries.now }
+    ensures { result ≡ knows_span id (tolds entries.now) }
 {
     find(entries, rising, id).is_some()
 }
 
-fn waiting_context(entries: &[Entry], rising: bool, id: Id) -> Option<Context>
-    requires rises { MayRise rising entries.now }
-    ensures { result ≡ waits (told_at id (map told_entry entries.now)) }
+// The state of a span, if it is there.
+fn state_of(entries: &[Entry], rising: bool, id: Id) -> Option<&SpanState>
+    requires { MayRise rising entries.now }
+    ensures { option_map (λ state. state.now.told) result ≡ told_at id (tolds entries.now) }
 {
     match find(entries, rising, id) {
-        Some(place) => {
-            let state = &entries[place].state;
-            match state.started() {
-                Some(_) => None,
-                None => Some(state.parent()),
-            }
-        }
+        Some(place) => match &entries[place].state {
+            Some(state) => Some(state),
+            None => None,
+        },
         None => None,
+    }
+}
+
+fn waiting_context(entries: &[Entry], rising: bool, id: Id) -> Option<Context>
+    requires rises { MayRise rising entries.now }
+    ensures { result ≡ waits (told_at id (tolds entries.now)) }
+{
+    let state = state_of(entries, rising, id)?;
+    match state.started() {
+        Some(_) => None,
+        None => Some(state.parent()),
     }
 }
 
 fn own_context(entries: &[Entry], rising: bool, id: Id, other: Context) -> Context
     requires rises { MayRise rising entries.now }
-    ensures { result ≡ own_or other (told_at id (map told_entry entries.now)) }
+    ensures { result ≡ own_or other (told_at id (tolds entries.now)) }
 {
-    match find(entries, rising, id) {
-        Some(place) => Context {
-            span: entries[place].state.started(),
+    match state_of(entries, rising, id) {
+        Some(state) => Context {
+            span: state.started(),
         },
         None => other,
     }
@@ -245,64 +264,72 @@ fn own_context(entries: &[Entry], rising: bool, id: Id, other: Context) -> Conte
 
 fn own_ids(entries: &[Entry], rising: bool, id: Id) -> Option<SpanContext>
     requires rises { MayRise rising entries.now }
-    ensures { result ≡ ids_at (told_at id (map told_entry entries.now)) }
+    ensures { result ≡ ids_at (told_at id (tolds entries.now)) }
 {
-    match find(entries, rising, id) {
-        Some(place) => Some(Context {
-            span: entries[place].state.started(),
+    match state_of(entries, rising, id) {
+        Some(state) => Some(Context {
+            span: state.started(),
         }
         .span_context()),
         None => None,
     }
 }
 
+fn shown_context(entries: &[Entry], rising: bool, id: Id) -> Option<Context>
+    requires rises { MayRise rising entries.now }
+    ensures { result ≡ context_at (told_at id (tolds entries.now)) }
+{
+    match state_of(entries, rising, id) {
+        Some(state) => Some(Context {
+            span: state.started(),
+        }),
+        None => None,
+    }
+}
+
 fn put(entries: &mut [Entry], rising: bool, id: Id, at: u64, op: Op)
     requires rises { MayRise rising entries.old }
-    requires room { RoomFor id op (map room_entry entries.old) }
-    ensures told { map told_entry entries.new ≡ with_op id at op (map told_entry entries.old) }
-    ensures rooms { is_growing op ≡ false → map room_entry entries.new ≡ map room_entry entries.old }
+    requires room { RoomFor id op (rooms entries.old) }
+    ensures told { tolds entries.new ≡ with_op id at op (tolds entries.old) }
+    ensures rooms { is_growing op ≡ false → rooms entries.new ≡ rooms entries.old }
+    ensures ids { ids entries.new ≡ ids entries.old }
 {
     match find(entries, rising, id) {
-        Some(place) => entries[place].state.put(at, op),
+        Some(place) => match &mut entries[place].state {
+            Some(state) => state.put(at, op),
+            None => {}
+        },
         None => {}
     }
 }
 
 fn reserve_op(entries: &mut [Entry], rising: bool, id: Id, op: &Op) -> Result<(), Memory>
     requires rises { MayRise rising entries.old }
-    ensures told { map told_entry entries.new ≡ map told_entry entries.old }
-    ensures room { OnOk result (RoomFor id op.now (map room_entry entries.new)) }
+    ensures told { tolds entries.new ≡ tolds entries.old }
+    ensures room { OnOk result (RoomFor id op.now (rooms entries.new)) }
+    ensures ids { ids entries.new ≡ ids entries.old }
 {
     match find(entries, rising, id) {
-        Some(place) => entries[place].state.reserve(op),
+        Some(place) => match &mut entries[place].state {
+            Some(state) => state.reserve(op),
+            None => Ok(()),
+        },
         None => Ok(()),
     }
 }
 
 fn reserve_link(entries: &mut [Entry], rising: bool, id: Id) -> Result<(), Memory>
     requires rises { MayRise rising entries.old }
-    ensures told { map told_entry entries.new ≡ map told_entry entries.old }
-    ensures room { OnOk result (RoomForLink id (map room_entry entries.new)) }
+    ensures told { tolds entries.new ≡ tolds entries.old }
+    ensures room { OnOk result (RoomForLink id (rooms entries.new)) }
+    ensures ids { ids entries.new ≡ ids entries.old }
 {
     match find(entries, rising, id) {
-        Some(place) => entries[place].state.reserve_room(0, 0, 1),
+        Some(place) => match &mut entries[place].state {
+            Some(state) => state.reserve_room(0, 0, 1),
+            None => Ok(()),
+        },
         None => Ok(()),
-    }
-}
-
-fn remove(entries: &mut Vec<Entry>, rising: bool, id: Id) -> SpanState
-    requires rises { MayRise rising entries.old.items }
-    requires known { list_any (is_of id) entries.old.items ≡ true }
-    ensures told { told_at id (map told_entry entries.old.items) ≡ Some result.told }
-    ensures rest { map told_entry entries.new.items
-        ≡ remove_entry (is_id id) (map told_entry entries.old.items) }
-{
-    match find(entries.as_slice(), rising, id) {
-        Some(place) => {
-            let Entry { id: _, state } = entries.remove(place);
-            state
-        }
-        None => unreachable!(),
     }
 }
 
@@ -314,22 +341,41 @@ fn apply(
     op: Op,
 ) -> Option<Result<OpReply, Memory>>
     requires rises { MayRise rising entries.old }
-    ensures { AppliesIn (map told_entry entries.old) id at op result (map told_entry entries.new) }
+    ensures did { AppliesIn (tolds entries.old) id at op result (tolds entries.new) }
+    ensures ids { ids entries.new ≡ ids entries.old }
 {
     match find(entries, rising, id) {
-        Some(place) => Some(entries[place].state.apply(at, op)),
+        Some(place) => match &mut entries[place].state {
+            Some(state) => Some(state.apply(at, op)),
+            None => None,
+        },
         None => None,
     }
 }
 
-fn shown_context(entries: &[Entry], rising: bool, id: Id) -> Option<Context>
-    requires rises { MayRise rising entries.now }
-    ensures { result ≡ context_at (told_at id (map told_entry entries.now)) }
+// Takes out the state of a span, and leaves a gap.
+fn take(entries: &mut [Entry], rising: bool, id: Id) -> SpanState
+    requires rises { MayRise rising entries.old }
+    requires known { knows_span id (tolds entries.old) ≡ true }
+    ensures told { told_at id (tolds entries.old) ≡ Some result.told }
+    ensures rest { tolds entries.new ≡ remove_entry (is_id id) (tolds entries.old) }
+    ensures ids { ids entries.new ≡ ids entries.old }
 {
     match find(entries, rising, id) {
-        Some(place) => Some(Context {
-            span: entries[place].state.started(),
-        }),
-        None => None,
+        Some(place) => match entries[place].state.take() {
+            Some(state) => state,
+            None => unreachable!(),
+        },
+        None => unreachable!(),
+    }
+}
+
+// Moves the states together where gaps outnumber them: each gap then costs little, whichever spans are taken out.
+fn close_gaps(entries: &mut Vec<Entry>, known: usize)
+    ensures told { tolds entries.new.items ≡ tolds entries.old.items }
+    ensures rises { MayRise true entries.old.items → MayRise true entries.new.items }
+{
+    if known < entries.len() / 2 {
+        entries.retain(|entry| entry.state.is_some());
     }
 }

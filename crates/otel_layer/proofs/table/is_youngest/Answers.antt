@@ -1,5 +1,5 @@
 -- The last entry is the youngest where the ids rise.
-use Rattle.std.proofs.Common.{◌-◌, ◌≡◌, ◌<◌, ℕ, suc, length, get_or, ap, arith}
+use Rattle.std.proofs.Common.{◌-◌, ◌≡◌, suc, length, ap, arith}
 use Rattle.std.proofs.lemmas.Bool.{ltb-true}
 use Rattle.otel_layer.specs.declared.table.Entry.{Entry}
 use Rattle.otel_layer.proofs.Rising.{rise_last}
