@@ -1,5 +1,7 @@
 pub mod Fixing
 pub mod Leveling
+pub mod Printing
+pub mod PrintedTables
 pub mod Readings
 pub mod Refusals
 pub mod Rising

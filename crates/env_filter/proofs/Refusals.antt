@@ -38,7 +38,7 @@ none_here patterns n (b ∷ bs) [] (i ∷ j ∷ is) r = absurd r
 none_here patterns n (b ∷ bs) (d ∷ []) (i ∷ is) r = absurd r
 none_here patterns n (b ∷ bs) (d ∷ e ∷ ds) is r = absurd r
 
-both_each : {X : Type 0} (P : X → Type 0) (xs ys : List X) → Each P xs → Each P ys → Each P (xs ++ ys)
+pub both_each : {X : Type 0} (P : X → Type 0) (xs ys : List X) → Each P xs → Each P ys → Each P (xs ++ ys)
 both_each P [] ys front back = back
 both_each P (x ∷ xs) ys front back = (front.0, both_each P xs ys front.1 back)
 

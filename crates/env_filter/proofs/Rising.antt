@@ -1,13 +1,14 @@
--- A span's level never falls.
-use Rattle.std.proofs.Common.{◌≡◌, ℕ, ◌≤◌, List, [], ◌∷◌, ◌++◌, Bool, true, false, Option, Some, None, refl, sym, ap, subst, ◌∙◌, arith, inl, inr}
+-- A span's level never falls, and stays until the span closes.
+use Rattle.std.proofs.Common.{◌≡◌, ℕ, List, [], ◌∷◌, ◌++◌, Bool, true, false, Option, Some, None, refl, sym, ap, subst, ◌∙◌, arith, inl, inr}
 use Rattle.std.specs.Prelude.{◌||◌, if◌then◌else◌, is_some}
 use Rattle.std.specs.List.{list_all, filter}
 use Rattle.std.proofs.lemmas.Bool.{cases_Bool, and_parts, and_from}
+use Rattle.std.proofs.lemmas.Grind.{flat_map-append}
+use Rattle.std.proofs.lemmas.List.Folds.{list_any-append}
 use Rattle.trace_base.specs.declared.callsite.Callsite.{Callsite}
 use Rattle.trace_base.specs.declared.field.Value.{Value}
 use Rattle.trace_base.specs.declared.level.LevelFilter.{LevelFilter}
 use Rattle.trace_base.specs.declared.level.LevelFilter.TheVariants.{OFF}
-use Rattle.trace_base.specs.Level.{greatest_verbosity}
 use Rattle.trace_base.specs.Hooks.{Hook}
 use Rattle.env_directives.specs.declared.env.directive.Directive.{Directive}
 use Rattle.env_directives.specs.Table.{more_verbose}
@@ -17,8 +18,8 @@ use Rattle.env_filter.specs.Watching.{is_given, cares_of}
 use Rattle.env_filter.specs.Filtering.{IsBelow}
 use Rattle.env_filter.specs.Hooking.{more_below}
 use Rattle.env_filter.specs.Gating.{first_below, second_below}
-use Rattle.env_filter.specs.Histories.{gives, makes_of, made_by, given, is_ended, ends, most_from, is_met, level_by, level_if, level_told}
-use Rattle.env_filter.proofs.Told.{filter_step, made_append, given_more, ended_more, given_append}
+use Rattle.env_filter.specs.Histories.{gives, makes_of, made_by, given, is_ended, ends, most_from, is_met, level_by, level_if, level_told, NeverFalls}
+use Rattle.env_filter.proofs.Told.{filter_step, given_append}
 
 stays_given : (xs ys : List (ℕ × Value)) (ask : Ask) → is_given xs ask ≡ true → is_given (xs ++ ys) ask ≡ true
 stays_given xs ys ask is = given_append xs ys ask ∙ ap (λ (b : Bool). b || is_given ys ask) is
@@ -50,16 +51,48 @@ by_rises xs ys (care ∷ cares) l m is later =
     let b : most_from OFF (filter (is_met (xs ++ ys)) (care ∷ cares)) ≡ m = cc later in
     subst (λ (k : LevelFilter). IsBelow k l) b (subst (λ (k : LevelFilter). IsBelow (most_from OFF (filter (is_met (xs ++ ys)) (care ∷ cares))) k) a rises)
 
-if_rises : (ds : List Directive) (ended ending : Bool) (made making : Option Callsite) (xs ys : List (ℕ × Value)) (l m : LevelFilter) → (if ended then None else level_if ds made xs) ≡ Some l
-    → (if (ended || (ending || false)) then None else level_if ds (if is_some made then made else making) (xs ++ ys)) ≡ Some m → IsBelow m l
-if_rises ds true ending made making xs ys l m is later = absurd (cc is)
-if_rises ds false true made making xs ys l m is later = absurd (cc later)
-if_rises ds false false None making xs ys l m is later = absurd (cc is)
-if_rises ds false false (Some c) making xs ys l m is later = by_rises xs ys (cares_of c ds) l m is later
+-- the making stays
+made_stays : (q : ℕ) (past calls : List Hook) (c : Callsite) → made_by q past ≡ Some c → made_by q (past ++ calls) ≡ Some c
+made_stays q [] calls c is = absurd (cc is)
+made_stays q (first ∷ past) calls c is = by_first (makes_of q first) (made_stays q past calls c) is
+  where
+    by_first : (o : Option Callsite) → (made_by q past ≡ Some c → made_by q (past ++ calls) ≡ Some c) → (if is_some o then o else made_by q past) ≡ Some c → (if is_some o then o else made_by q (past ++ calls)) ≡ Some c
+    by_first None later is = later is
+    by_first (Some d) later is = is
 
-pub level_rises : (ds : List Directive) (q : ℕ) (past : List Hook) (call : Hook) (l m : LevelFilter) → level_told ds q past ≡ Some l → level_told ds q (past ++ call ∷ []) ≡ Some m → greatest_verbosity l ≤ greatest_verbosity m
-level_rises ds q past call l m is later =
-    if_rises ds (is_ended q past) (ends q call) (made_by q past) (makes_of q call) (given q past) (gives q call) l m is
-    (ap (λ (b : Bool). if b then None else level_if ds (if is_some (made_by q past) then made_by q past else makes_of q call) (given q past ++ gives q call)) (sym (ended_more q past call))
-    ∙ ap (λ (o : Option Callsite). if is_ended q (past ++ call ∷ []) then None else level_if ds o (given q past ++ gives q call)) (sym (made_append q past call))
-    ∙ ap (λ (vs : List (ℕ × Value)). if is_ended q (past ++ call ∷ []) then None else level_if ds (made_by q (past ++ call ∷ [])) vs) (sym (given_more q past call)) ∙ later)
+-- a level after some calls, and after more of them
+module _ (ds : List Directive) where
+  abbrev if_open : Bool → Option Callsite → List (ℕ × Value) → Option LevelFilter
+  if_open ended made values = if ended then None else level_if ds made values
+
+  if_rises : (ended ending : Bool) (made later : Option Callsite) (xs ys : List (ℕ × Value)) (l m : LevelFilter) → ((c : Callsite) → made ≡ Some c → later ≡ Some c) → if_open ended made xs ≡ Some l
+      → if_open (ended || ending) later (xs ++ ys) ≡ Some m → IsBelow m l
+  if_rises true ending made later xs ys l m stays is now = absurd (cc is)
+  if_rises false true made later xs ys l m stays is now = absurd (cc now)
+  if_rises false false None later xs ys l m stays is now = absurd (cc is)
+  if_rises false false (Some c) later xs ys l m stays is now = by_rises xs ys (cares_of c ds) l m is (ap (λ (o : Option Callsite). level_if ds o (xs ++ ys)) (sym (stays c refl)) ∙ now)
+
+  some_level : (xs ys : List (ℕ × Value)) (cares : List Care) → is_some (level_by xs cares) ≡ true → is_some (level_by ys cares) ≡ true
+  some_level xs ys [] is = is
+  some_level xs ys (care ∷ cares) is = refl
+
+  if_stays : (ended ending : Bool) (made later : Option Callsite) (xs ys : List (ℕ × Value)) → ((c : Callsite) → made ≡ Some c → later ≡ Some c) → is_some (if_open ended made xs) ≡ true → ending ≡ false
+      → is_some (if_open (ended || ending) later (xs ++ ys)) ≡ true
+  if_stays true ending made later xs ys stays is going = absurd (cc is)
+  if_stays false true made later xs ys stays is going = absurd (cc going)
+  if_stays false false None later xs ys stays is going = absurd (cc is)
+  if_stays false false (Some c) later xs ys stays is going = ap (λ (o : Option Callsite). is_some (level_if ds o (xs ++ ys))) (stays c refl) ∙ some_level xs (xs ++ ys) (cares_of c ds) is
+
+  told_more : (q : ℕ) (past calls : List Hook) → level_told ds q (past ++ calls) ≡ if_open (is_ended q past || is_ended q calls) (made_by q (past ++ calls)) (given q past ++ given q calls)
+  told_more q past calls =
+      ap (λ (b : Bool). if_open b (made_by q (past ++ calls)) (given q (past ++ calls))) (list_any-append (ends q) past calls)
+      ∙ ap (λ (vs : List (ℕ × Value)). if_open (is_ended q past || is_ended q calls) (made_by q (past ++ calls)) vs) (flat_map-append (gives q) past calls)
+
+  pub level_rises : (q : ℕ) (past calls : List Hook) → NeverFalls (level_told ds q past) (level_told ds q (past ++ calls))
+  level_rises q past calls l m is later =
+      if_rises (is_ended q past) (is_ended q calls) (made_by q past) (made_by q (past ++ calls)) (given q past) (given q calls) l m (made_stays q past calls) is (sym (told_more q past calls) ∙ later)
+
+  pub level_stays : (q : ℕ) (past calls : List Hook) → is_some (level_told ds q past) ≡ true → is_ended q calls ≡ false → is_some (level_told ds q (past ++ calls)) ≡ true
+  level_stays q past calls is going =
+      ap (λ (o : Option LevelFilter). is_some o) (told_more q past calls)
+      ∙ if_stays (is_ended q past) (is_ended q calls) (made_by q past) (made_by q (past ++ calls)) (given q past) (given q calls) (made_stays q past calls) is going

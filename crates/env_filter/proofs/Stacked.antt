@@ -25,7 +25,7 @@ use Rattle.env_filter.specs.Stacked.{Appends, AreHooksOf, HearsCalls}
 use Rattle.env_filter.proofs.Told.{level_is_told, levels_are_told}
 
 -- the span that a hook makes, records on or closes was made before
-abbrev IsBefore : ℕ → Hook → Type 0
+abbrev pub IsBefore : ℕ → Hook → Type 0
 IsBefore n (OnNewSpan id lane at parent current callsite values) = id < n
 IsBefore n (OnRecord id at callsite values) = id < n
 IsBefore n (OnFollows id from at) = Unit {0}
@@ -43,11 +43,11 @@ before_more n m up (OnEnter id at before later) is = tt
 before_more n m up (OnExit id at before later) is = tt
 before_more n m up (OnClose id at) is = omega (arith, up, is)
 
-all_more : (n m : ℕ) → n ≤ m → (hs : List Hook) → Each (IsBefore n) hs → Each (IsBefore m) hs
+pub all_more : (n m : ℕ) → n ≤ m → (hs : List Hook) → Each (IsBefore n) hs → Each (IsBefore m) hs
 all_more n m up [] all = tt
 all_more n m up (h ∷ hs) all = (before_more n m up h all.0, all_more n m up hs all.1)
 
-all_push : (n : ℕ) (hs : List Hook) (h : Hook) → Each (IsBefore n) hs → IsBefore n h → Each (IsBefore n) (hs ++ h ∷ [])
+pub all_push : (n : ℕ) (hs : List Hook) (h : Hook) → Each (IsBefore n) hs → IsBefore n h → Each (IsBefore n) (hs ++ h ∷ [])
 all_push n [] h all one = (one, tt)
 all_push n (g ∷ hs) h all one = (all.0, all_push n hs h all.1 one)
 
@@ -64,7 +64,7 @@ not_of q (OnEnter id at before later) is = (refl, refl, refl)
 not_of q (OnExit id at before later) is = (refl, refl, refl)
 not_of q (OnClose id at) is = (refl, refl, ne_eqb id q (λ e. absurd (omega (arith, e, is))))
 
-new_if : (q : ℕ) (past : List Hook) → Each (IsBefore q) past → IsNew q past
+pub new_if : (q : ℕ) (past : List Hook) → Each (IsBefore q) past → IsNew q past
 new_if q [] all = record { unmade = refl; nothing = refl; not_ended = refl }
 new_if q (h ∷ past) all =
     let no = not_of q h all.0 in
@@ -151,7 +151,7 @@ module _ {A : Type 0} (step : A → Hook → A) where
     | inr more ↦ without_hook spans (TryClose id at) a b past (record { closed = λ one. absurd (more one); open_still = λ _. refl }) (hears.open_still more) below
   ]
 
-in_order : (past first later : List Hook) → AreInOrder past first → AreInOrder (past ++ first) later → AreInOrder past (first ++ later)
+pub in_order : (past first later : List Hook) → AreInOrder past first → AreInOrder (past ++ first) later → AreInOrder past (first ++ later)
 in_order past [] later f l = subst (λ (hs : List Hook). AreInOrder hs later) (append-nil past) l
 in_order past (h ∷ first) later f l = (f.0, in_order (past ++ h ∷ []) first later f.1 (subst (λ (hs : List Hook). AreInOrder hs later) (sym (append_assoc past (h ∷ []) first)) l))
 

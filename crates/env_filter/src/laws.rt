@@ -1,13 +1,18 @@
 //! What holds of every filter.
-ghost use Rattle.std.specs.Prelude.{◌≡◌, ◌<◌, length, ◌++◌, ◌∷◌, [], ℕ, List, Some, option_map};
+ghost use Rattle.std.specs.Prelude.{◌≡◌, ◌<◌, length, ◌++◌, [], ℕ, List, None, Some, is_some, true, false, option_map};
 ghost use Rattle.trace_base.specs.Calls.{SubscriberCall};
 ghost use Rattle.trace_base.specs.Gate.{IsFresh, IsOwn, dispatch_on};
 ghost use Rattle.trace_base.specs.Hooks.{Hook};
 ghost use Rattle.span_registry.specs.History.{Runs};
+ghost use Rattle.env_directives.specs.declared.directive.StaticDirective.{StaticDirective};
 ghost use Rattle.env_directives.specs.declared.env.directive.Directive.{Directive};
-ghost use Rattle.env_filter.specs.Filtering.{Filtered, plain, AreWhole, IsNew, is_admitted};
-ghost use Rattle.env_filter.specs.Histories.{level_told, NeverFalls};
+ghost use Rattle.env_filter.specs.Building.{IsFilterOf, default_builder};
+ghost use Rattle.env_filter.specs.Filtering.{Each, Filtered, plain, AreWhole, IsNew, is_admitted};
+ghost use Rattle.env_filter.specs.Histories.{level_told, is_ended, NeverFalls};
+ghost use Rattle.env_filter.specs.Pieces.{ReadsText};
+ghost use Rattle.env_filter.specs.Printing.{HaveOwnGreatest, IsReadBack, filter_text, printed, printed_of};
 ghost use Rattle.env_filter.specs.Stacked.{HearsCalls, HearsInPlace};
+ghost use Rattle.env_filter.specs.Tables.{dynamics_of, filter_of, statics_of};
 ghost use Rattle.env_filter.specs.Worlds.{ComesTo, TakesAll, filter_rule, in_place_rule, IsWholeInPlace, EachSubscriber, AdmitsBy};
 
 use crate::filter::EnvFilter;
@@ -25,10 +30,26 @@ pub fn gates()
         (λ f. AreWhole (plain f)) filter_rule }
 {}
 
-/// While a filter is in force no call lowers the level of a span.
+/// While a filter is in force no calls lower the level of a span, and a span that has a level keeps one until it closes.
 pub fn rises()
-    ensures { (ds : List Directive) (id : ℕ) (past : List Hook) (call : Hook)
-        → NeverFalls (level_told ds id past) (level_told ds id (past ++ call ∷ [])) }
+    ensures level { (ds : List Directive) (id : ℕ) (past calls : List Hook)
+        → NeverFalls (level_told ds id past) (level_told ds id (past ++ calls)) }
+    ensures stays { (ds : List Directive) (id : ℕ) (past calls : List Hook)
+        → is_some (level_told ds id past) ≡ true → is_ended id calls ≡ false
+        → is_some (level_told ds id (past ++ calls)) ≡ true }
+{}
+
+/// What a filter prints is read, without patterns, as the directives that it prints in their order, the static ones first,
+/// where none of them prints a comma and each is read back alone. Those of the filter of some directives make its tables
+/// again, and the text that very filter, where no level was greater than those that are still there.
+pub fn printing()
+    ensures read { (statics : List StaticDirective) (dynamics : List Directive) → Each IsReadBack (printed statics dynamics)
+        → ReadsText false (filter_text statics dynamics) (printed statics dynamics) [] }
+    ensures statics { (ds : List Directive) → (statics_of (printed_of ds)).directives ≡ (statics_of ds).directives }
+    ensures dynamics { (ds : List Directive) → (dynamics_of (printed_of ds)).directives ≡ (dynamics_of ds).directives }
+    ensures again { (ds : List Directive) → Each IsReadBack ds → HaveOwnGreatest ds
+        → IsFilterOf (record default_builder { patterns = false })
+        (filter_text (statics_of ds).directives (dynamics_of ds).directives) [] (filter_of false None ds) }
 {}
 
 /// A filter that had no span hears the hooks of all calls of the subscriber below it, each span's making once and
