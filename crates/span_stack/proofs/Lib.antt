@@ -1,7 +1,12 @@
 mod Admitting
+mod Beginning
+mod Counted
+mod Deciding
 mod Exchanging
 mod Forgetting
 mod Freshness
+mod Gauging
 mod Nesting
 mod Putting
+mod Taken
 mod Viewing

@@ -1,4 +1,4 @@
--- The stack's own parts, where a filter is exchanged.
+-- The cached interests of a stack whose parts took room.
 use Rattle.std.proofs.Common.{◌≡◌, List, Option, None, refl, sym, ap, ◌∙◌}
 use Rattle.trace_base.specs.declared.callsite.Callsite.{Callsite}
 use Rattle.trace_base.specs.declared.level.LevelFilter.{LevelFilter}
@@ -6,40 +6,47 @@ use Rattle.trace_base.specs.declared.subscriber.Interest.{Interest}
 use Rattle.trace_base.specs.declared.subscriber.Interest.TheVariants as interests
 use Rattle.trace_base.specs.Gate.{AreSame, registered}
 use Rattle.trace_base.proofs.Caching.{registered_same}
-use Rattle.span_registry.specs.declared.layered.Layered.{Layered}
-use Rattle.span_registry.specs.Registering.{Registered}
 use Rattle.span_registry.specs.Both.{picked}
-use Rattle.otel_base.specs.Recorder.{Recorded}
-use Rattle.otel_base.specs.Recorder.{Records as RecordsBy}
-use Rattle.otel_layer.specs.Core.{Roomed}
-use Rattle.otel_layer.specs.Steps.{SameCore}
-use Rattle.otel_layer.specs.Recording.{Recording, recording_of}
-use Rattle.otel_layer.proofs.Recalling.{room_recording}
-use Rattle.env_filter.specs.Filtering.{Filtering, plain, interest_in}
+use Rattle.env_filter.specs.Filtering.{Filtered, Filtering, plain, interest_in}
 use Rattle.env_filter.specs.Reloading.{sometimes, both_alike}
 use Rattle.span_stack.specs.Reading.{Stacks, StackWorlds, stack_interest, IsCurrent}
+use Rattle.span_registry.specs.declared.layered.Layered.{Layered}
+use Rattle.otel_layer.specs.Recording.{Recording}
+use Rattle.span_stack.specs.declared.measuring.Measuring.{Measuring}
+use Rattle.span_stack.specs.Measured.{waiting}
+use Rattle.span_stack.proofs.Counted.{Base, base_room, base_recorded, base_counter, base_same, counter_same}
+use Rattle.span_stack.proofs.Gauging.{unchanged}
 use Rattle.span_stack.proofs.Exchanging.{room_over}
 
-abbrev pub Below : Type 0
-Below = Layered (Roomed Recorded) Registered
+-- what lies below the filter
+abbrev pub Middle : Type 0
+Middle = Layered Measuring Base
 
--- room for what lies below the filter
-abbrev pub room_below : Below → Below → Type 0
-room_below b d = (d.inner ≡ b.inner) × SameCore RecordsBy b.layer.core d.layer.core
+abbrev pub middle_room : Middle → Middle → Type 0
+middle_room s t = base_room s.inner t.inner × unchanged s.layer t.layer
 
-abbrev pub recorded_below : Below → Recording
-recorded_below b = recording_of b.layer.core
+abbrev pub middle_recorded : Middle → Recording
+middle_recorded s = base_recorded s.inner
 
-pub recorded_same : (b d : Below) → room_below b d → recorded_below d ≡ recorded_below b
-recorded_same b d h = room_recording b.layer.core d.layer.core h.1
+abbrev pub middle_counter : Middle → Option Filtered
+middle_counter s = base_counter s.inner
 
-interest_same : (s t : Stacks) → room_over room_below s t → stack_interest t ≡ stack_interest s
+pub middle_same : (s t : Middle) → middle_room s t → middle_recorded t ≡ middle_recorded s
+middle_same s t h = base_same s.inner t.inner h.0
+
+pub middle_counts : (s t : Middle) → middle_room s t → middle_counter t ≡ middle_counter s
+middle_counts s t h = counter_same s.inner t.inner h.0
+
+pub middle_measures : (s t : Middle) → middle_room s t → waiting t ≡ waiting s
+middle_measures s t h = h.1
+
+interest_same : (s t : Stacks) → room_over middle_room s t → stack_interest t ≡ stack_interest s
 interest_same s t h =
     let pick : (Callsite → Interest) → Callsite → Interest = λ f c. picked (f c) interests.Always in
     ap pick (both_alike (λ (a b : Filtering). plain b ≡ plain a) (Unit {0}) sometimes (λ f. interest_in (plain f)) (λ l m e. ap interest_in e) s.layer.inner t.layer.inner h.1)
 
-pub current_left : (old new : StackWorlds) → AreSame (room_over room_below) old.subscribers new.subscribers → new.cached ≡ old.cached → new.sites ≡ old.sites → IsCurrent old → IsCurrent new
+pub current_left : (old new : StackWorlds) → AreSame (room_over middle_room) old.subscribers new.subscribers → new.cached ≡ old.cached → new.sites ≡ old.sites → IsCurrent old → IsCurrent new
 current_left old new all cached sites is =
     let none : Stacks → Option LevelFilter = λ s. None in
-    cached ∙ is ∙ sym (registered_same (room_over room_below) stack_interest none (λ s t h. (interest_same s t h, refl)) old.subscribers new.subscribers old.sites all)
+    cached ∙ is ∙ sym (registered_same (room_over middle_room) stack_interest none (λ s t h. (interest_same s t h, refl)) old.subscribers new.subscribers old.sites all)
     ∙ ap (λ (cs : List Callsite). registered stack_interest new.subscribers cs) (sym sites)

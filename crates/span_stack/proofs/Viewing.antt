@@ -72,3 +72,18 @@ pub leave_alike : {S : Type 0} (spans : S → Spans) (attaches : S → Bool) (ke
 leave_alike {S} spans attaches kept is_whole change same_spans same_attaches same_kept same_whole old new dispatch r =
     alike spans attaches kept is_whole (λ s t. t ≡ change s) (λ s t e. ap spans e ∙ same_spans s) (λ s t e. ap attaches e ∙ same_attaches s) (λ s t e. ap kept e ∙ same_kept s)
     (λ s t e w. subst is_whole (sym e) (same_whole s w)) old new dispatch r
+
+-- what a step of a subscriber is to what is read of it
+pub read_step : {S A B C : Type 0} {R : S → S → Type 0} (P : A → B → C → C → Type 0) (f : S → A) (no_f : A) (g : S → B) (no_g : B) (k : S → C) (no_k : C) → ((s t : S) → R s t → P (f s) (g s) (k s) (k t))
+    → (old new : Worlds S) (dispatch : ℕ) → Replaced R old new dispatch → P (seen f no_f old dispatch) (seen g no_g old dispatch) (seen k no_k old dispatch) (seen k no_k new dispatch)
+read_step {S} {A} {B} {C} {R} P f no_f g no_g k no_k step old new dispatch r =
+    along_four P (sym (seen_before R old new dispatch r f no_f)) (sym (seen_before R old new dispatch r g no_g)) (sym (seen_before R old new dispatch r k no_k)) (sym (seen_later R old new dispatch r k no_k)) (step r.before r.later r.did)
+
+pub read_two : {S C : Type 0} {R : S → S → Type 0} (P : C → C → Type 0) (k : S → C) (no_k : C) → ((s t : S) → R s t → P (k s) (k t))
+    → (old new : Worlds S) (dispatch : ℕ) → Replaced R old new dispatch → P (seen k no_k old dispatch) (seen k no_k new dispatch)
+read_two {S} {C} {R} P k no_k step old new dispatch r =
+    along_two P (sym (seen_before R old new dispatch r k no_k)) (sym (seen_later R old new dispatch r k no_k)) (step r.before r.later r.did)
+
+-- the same below two layers
+pub seen_two : {K L S A : Type 0} (read : S → A) (none : A) (world : Worlds (Layered K (Layered L S))) (dispatch : ℕ) → seen read none (below (below world)) dispatch ≡ seen (λ (s : Layered K (Layered L S)). read s.inner.inner) none world dispatch
+seen_two {K} {L} {S} read none world dispatch = seen_below read none (below world) dispatch ∙ seen_below (λ (s : Layered L S). read s.inner) none world dispatch

@@ -1,3 +1,6 @@
+pub mod Counters
+pub mod Counting
 pub mod Filtered
+pub mod Measured
 pub mod Reading
 pub mod Through

@@ -1,5 +1,5 @@
 -- What is read of a stack, and of worlds whose subscribers are stacks.
-use Rattle.std.specs.Prelude.{ℕ, drop, Option, None}
+use Rattle.std.specs.Prelude.{◌≡◌, ℕ, Bool, List, [], drop, Option, None}
 use Rattle.std.specs.Option.{option_map}
 use Rattle.trace_base.specs.declared.callsite.Callsite.{Callsite}
 use Rattle.trace_base.specs.declared.subscriber.Interest.{Interest}
@@ -10,22 +10,27 @@ use Rattle.span_registry.specs.Registering.{Registered}
 use Rattle.span_registry.specs.Both.{picked}
 use Rattle.span_handles.specs.Worlds.{seen}
 use Rattle.otel_base.specs.Recorder.{Recorded}
-use Rattle.otel_layer.specs.Core.{Roomed}
 use Rattle.otel_layer.specs.Recording.{Recording, no_recording, recording_of}
 use Rattle.env_filter.specs.declared.reload.Layer.{Layer}
 use Rattle.env_filter.specs.Filtering.{Filtered, Filtering, plain, interest_in}
 use Rattle.env_filter.specs.Reloading.{if_there, sometimes}
+use Rattle.otel_metrics.specs.declared.measure.Measure.{Measure}
+use Rattle.otel_state.specs.declared.settings.LayerSettings.{LayerSettings}
+use Rattle.span_stack.specs.declared.measuring.Measuring.{Measuring}
+use Rattle.span_stack.specs.declared.telemetry.Telemetry.{Telemetry}
+use Rattle.span_stack.specs.Measured.{waiting}
+use Rattle.span_stack.specs.Counters.{core_of, counter_of, taken_from}
 
--- a stack: the filter that is in place, the OpenTelemetry layer, and the registry
+-- a stack: the filter that is in place, the layer of metrics, the OpenTelemetry layer that may count events, and the registry
 abbrev pub Stacks : Type 0
-Stacks = Layered (Layer Filtering) (Layered (Roomed Recorded) Registered)
+Stacks = Layered (Layer Filtering) (Layered Measuring (Layered (Telemetry Recorded Filtering) Registered))
 
 abbrev pub StackWorlds : Type 0
 StackWorlds = Worlds Stacks
 
 -- what the OpenTelemetry layer keeps
 abbrev pub recorded : Stacks → Recording
-recorded s = recording_of s.inner.layer.core
+recorded s = recording_of (core_of s.inner.inner.layer)
 
 abbrev pub recording_in : StackWorlds → ℕ → Recording
 recording_in world dispatch = seen recorded no_recording world dispatch
@@ -47,6 +52,30 @@ stack_interest s = interest_over s.layer
 abbrev pub IsCurrent : StackWorlds → Type 0
 IsCurrent world = IsFresh stack_interest world
 
+-- the filter that counts events, if they are counted
+abbrev pub counts_by : Stacks → Option Filtered
+counts_by s = option_map plain (counter_of s.inner.inner.layer)
+
+abbrev pub counter_in : StackWorlds → ℕ → Option Filtered
+counter_in world dispatch = seen counts_by None world dispatch
+
+-- the measures that weren't taken
+abbrev pub measured : Stacks → List Measure
+measured s = waiting s.inner
+
+abbrev pub measures_in : StackWorlds → ℕ → List Measure
+measures_in world dispatch = seen measured [] world dispatch
+
+-- what is recorded by a stack that was just made
+abbrev pub new_recording : LayerSettings → Bool → Recording
+new_recording settings counting = record { spans = []; tokens = []; started = 0; finished = []; settings = settings; counting = counting }
+
 -- the same stack without the oldest record
 abbrev pub without_first : Stacks → Stacks
-without_first s = record s { inner = record s.inner { layer = record s.inner.layer { core = record s.inner.layer.core { tracer = record s.inner.layer.core.tracer { finished = drop 1 s.inner.layer.core.tracer.finished } } } } }
+without_first s = record s { inner = record s.inner { inner = record s.inner.inner { layer = taken_from s.inner.inner.layer } } }
+
+-- the same but for the oldest measure
+pub record WithoutMeasure (s t : Stacks) : Type 0 where
+  pub filter : t.layer ≡ s.layer
+  pub others : t.inner.inner ≡ s.inner.inner
+  pub measures : measured t ≡ drop 1 (measured s)

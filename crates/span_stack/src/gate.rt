@@ -6,7 +6,7 @@ ghost use Rattle.span_handles.specs.Worlds.{Has, Replaced, Alike};
 ghost use Rattle.otel_layer.specs.Parts.{StaysStack};
 ghost use Rattle.env_filter.specs.Filtering.{Filtered, plain, is_admitted, IsNew};
 ghost use Rattle.env_filter.specs.Reloading.{Swaps};
-ghost use Rattle.span_stack.specs.Reading.{recording_in, filter_in, IsCurrent};
+ghost use Rattle.span_stack.specs.Reading.{recording_in, filter_in, counter_in, measures_in, IsCurrent};
 
 use crate::stack::Stack;
 use env_filter::filter::EnvFilter;
@@ -63,6 +63,8 @@ pub fn put_in_force(
     requires in_place { is_some (filter_in world.old dispatch) ≡ true }
     ensures filter { OnOk result (filter_in world.new dispatch ≡ Some (plain filter)) }
     ensures recording { recording_in world.new dispatch ≡ recording_in world.old dispatch }
+    ensures measures { measures_in world.new dispatch ≡ measures_in world.old dispatch }
+    ensures counter { counter_in world.new dispatch ≡ counter_in world.old dispatch }
     ensures others { Alike ⟦<Stack as Subscriber>⟧.spans ⟦<Stack as Subscriber>⟧.attaches
         ⟦<Stack as Subscriber>⟧.kept ⟦<Stack as Subscriber>⟧.is_whole world.old world.new dispatch }
     ensures current { OnOk result (IsCurrent world.new) }

@@ -1,40 +1,54 @@
 //! What a caller over a world with the stack reads off each call. Each law is a function that does nothing.
-ghost use Rattle.std.specs.Prelude.{◌≡◌, ℕ, drop, length, None, Some, slice_get};
+ghost use Rattle.std.specs.Prelude.{◌≡◌, ◌++◌, ℕ, drop, length, None, Some, slice_get};
 ghost use Rattle.std.specs.Option.{option_map};
+ghost use Rattle.trace_base.specs.declared.callsite.Callsite.{Callsite};
+ghost use Rattle.trace_base.specs.declared.callsite.Kind.TheVariants as kind;
 ghost use Rattle.trace_base.specs.Calls.{SubscriberCall};
 ghost use Rattle.span_handles.specs.Worlds.{Replaced, Alike, Chain, spans_in};
 ghost use Rattle.otel_layer.specs.Parts.{PartCall};
 ghost use Rattle.otel_layer.specs.Table.{told_at};
-ghost use Rattle.otel_layer.specs.Recording.{RecordsCall, RecordsChain, RecordsPart};
+ghost use Rattle.otel_layer.specs.Recording.{RecordsChain, RecordsPart};
+ghost use Rattle.env_directives.specs.Choice.{admits};
+ghost use Rattle.env_filter.specs.Filtering.{Filtered, IsNew, enables_in};
+ghost use Rattle.span_stack.specs.Counting.{RecordsCallBy};
 ghost use Rattle.span_stack.specs.Filtered.{filter_after, FiltersChain};
-ghost use Rattle.span_stack.specs.Reading.{StackWorlds, recording_in, filter_in, IsCurrent, without_first};
+ghost use Rattle.span_stack.specs.Measured.{measured_by};
+ghost use Rattle.span_stack.specs.Reading.{StackWorlds, recording_in, filter_in, counter_in, measures_in, IsCurrent, without_first, WithoutMeasure};
 
 use crate::interests::stay_fresh;
-use crate::stack::Stack;
-use crate::{filters, through};
+use crate::measuring::Measuring;
+use crate::stack::{MeasuredStack, RecordedStack, Stack};
+use crate::{filters, measured, through};
 use env_filter::filter::EnvFilter;
 use env_filter::reload;
 use otel_layer::part::OtelPart;
-use otel_layer::recording::{self, RecordedStack};
 use trace_base::subscriber::Subscriber;
 
-/// One call is one step of what is recorded and one of the filter in place, and the cached interests stay.
+/// One call is one step of what is recorded and one of the filter in place; the filter that counts and the cached
+/// interests stay.
 pub fn calls()
     ensures recording { (old new : StackWorlds) (dispatch : ℕ) (call : SubscriberCall)
         → Replaced (λ s t. ⟦<Stack as Subscriber>⟧.does s call t) old new dispatch
-        → RecordsCall (spans_in ⟦<Stack as Subscriber>⟧.spans old dispatch) (recording_in old dispatch)
-        call (recording_in new dispatch) }
+        → RecordsCallBy (counter_in old dispatch) (spans_in ⟦<Stack as Subscriber>⟧.spans old dispatch)
+        (recording_in old dispatch) call (recording_in new dispatch) }
     ensures filter { (old new : StackWorlds) (dispatch : ℕ) (call : SubscriberCall)
         → Replaced (λ s t. ⟦<Stack as Subscriber>⟧.does s call t) old new dispatch
         → filter_in new dispatch ≡ option_map
         (filter_after (spans_in ⟦<Stack as Subscriber>⟧.spans old dispatch) call) (filter_in old dispatch) }
+    ensures counter { (old new : StackWorlds) (dispatch : ℕ) (call : SubscriberCall)
+        → Replaced (λ s t. ⟦<Stack as Subscriber>⟧.does s call t) old new dispatch
+        → counter_in new dispatch ≡ counter_in old dispatch }
+    ensures measures { (old new : StackWorlds) (dispatch : ℕ) (call : SubscriberCall)
+        → Replaced (λ s t. ⟦<Stack as Subscriber>⟧.does s call t) old new dispatch
+        → measures_in new dispatch ≡ measures_in old dispatch ++ measured_by call }
     ensures current { (old new : StackWorlds) (dispatch : ℕ) (call : SubscriberCall)
         → Replaced (λ s t. ⟦<Stack as Subscriber>⟧.does s call t) old new dispatch
         → IsCurrent old → IsCurrent new }
 {
-    through::calls::<reload::Layer<EnvFilter>, RecordedStack>();
-    recording::calls();
-    filters::calls::<RecordedStack>();
+    through::calls::<reload::Layer<EnvFilter>, MeasuredStack>();
+    through::calls::<Measuring, RecordedStack>();
+    filters::calls::<MeasuredStack>();
+    measured::calls::<RecordedStack>();
     stay_fresh::<Stack>();
 }
 
@@ -46,12 +60,19 @@ pub fn same()
     ensures filter { (old new : StackWorlds) (dispatch : ℕ)
         → Replaced ⟦<Stack as Subscriber>⟧.same old new dispatch
         → filter_in new dispatch ≡ filter_in old dispatch }
+    ensures counter { (old new : StackWorlds) (dispatch : ℕ)
+        → Replaced ⟦<Stack as Subscriber>⟧.same old new dispatch
+        → counter_in new dispatch ≡ counter_in old dispatch }
+    ensures measures { (old new : StackWorlds) (dispatch : ℕ)
+        → Replaced ⟦<Stack as Subscriber>⟧.same old new dispatch
+        → measures_in new dispatch ≡ measures_in old dispatch }
     ensures current { (old new : StackWorlds) (dispatch : ℕ)
         → Replaced ⟦<Stack as Subscriber>⟧.same old new dispatch → IsCurrent old → IsCurrent new }
 {
-    through::calls::<reload::Layer<EnvFilter>, RecordedStack>();
-    recording::same();
-    filters::calls::<RecordedStack>();
+    through::calls::<reload::Layer<EnvFilter>, MeasuredStack>();
+    through::calls::<Measuring, RecordedStack>();
+    filters::calls::<MeasuredStack>();
+    measured::calls::<RecordedStack>();
     stay_fresh::<Stack>();
 }
 
@@ -68,14 +89,23 @@ pub fn chains()
         old new dispatch
         → FiltersChain (Some id) (spans_in ⟦<Stack as Subscriber>⟧.spans old dispatch)
         (spans_in ⟦<Stack as Subscriber>⟧.spans new dispatch) (filter_in old dispatch) (filter_in new dispatch) }
+    ensures counter { (old new : StackWorlds) (dispatch at id : ℕ)
+        → Replaced (λ s t. Chain ⟦<Stack as Subscriber>⟧.spans ⟦<Stack as Subscriber>⟧.does at (Some id) s t)
+        old new dispatch
+        → counter_in new dispatch ≡ counter_in old dispatch }
+    ensures measures { (old new : StackWorlds) (dispatch at id : ℕ)
+        → Replaced (λ s t. Chain ⟦<Stack as Subscriber>⟧.spans ⟦<Stack as Subscriber>⟧.does at (Some id) s t)
+        old new dispatch
+        → measures_in new dispatch ≡ measures_in old dispatch }
     ensures current { (old new : StackWorlds) (dispatch at id : ℕ)
         → Replaced (λ s t. Chain ⟦<Stack as Subscriber>⟧.spans ⟦<Stack as Subscriber>⟧.does at (Some id) s t)
         old new dispatch
         → IsCurrent old → IsCurrent new }
 {
-    through::calls::<reload::Layer<EnvFilter>, RecordedStack>();
-    recording::chains();
-    filters::calls::<RecordedStack>();
+    through::calls::<reload::Layer<EnvFilter>, MeasuredStack>();
+    through::calls::<Measuring, RecordedStack>();
+    filters::calls::<MeasuredStack>();
+    measured::calls::<RecordedStack>();
     stay_fresh::<Stack>();
 }
 
@@ -87,12 +117,18 @@ pub fn asks()
     ensures filter { (old new : StackWorlds) (dispatch : ℕ) (call : PartCall)
         → Replaced (λ s t. ⟦<Stack as OtelPart>⟧.touches s call t) old new dispatch
         → filter_in new dispatch ≡ filter_in old dispatch }
+    ensures counter { (old new : StackWorlds) (dispatch : ℕ) (call : PartCall)
+        → Replaced (λ s t. ⟦<Stack as OtelPart>⟧.touches s call t) old new dispatch
+        → counter_in new dispatch ≡ counter_in old dispatch }
+    ensures measures { (old new : StackWorlds) (dispatch : ℕ) (call : PartCall)
+        → Replaced (λ s t. ⟦<Stack as OtelPart>⟧.touches s call t) old new dispatch
+        → measures_in new dispatch ≡ measures_in old dispatch }
     ensures current { (old new : StackWorlds) (dispatch : ℕ) (call : PartCall)
         → Replaced (λ s t. ⟦<Stack as OtelPart>⟧.touches s call t) old new dispatch
         → IsCurrent old → IsCurrent new }
 {
-    through::asks::<reload::Layer<EnvFilter>, RecordedStack>();
-    recording::asks();
+    through::asks::<reload::Layer<EnvFilter>, MeasuredStack>();
+    through::asks::<Measuring, RecordedStack>();
 }
 
 /// No span is known yet under the id of the next one.
@@ -101,9 +137,7 @@ pub fn next()
         → slice_get world.subscribers dispatch ≡ Some s → ⟦<Stack as Subscriber>⟧.is_whole s
         → told_at (length (spans_in ⟦<Stack as Subscriber>⟧.spans world dispatch).made)
         (recording_in world dispatch).spans ≡ None }
-{
-    recording::next();
-}
+{}
 
 /// What the taking of a record leaves.
 pub fn takes()
@@ -112,9 +146,36 @@ pub fn takes()
         { finished = drop 1 (recording_in old dispatch).finished } }
     ensures filter { (old new : StackWorlds) (dispatch : ℕ) → Replaced (λ s t. t ≡ without_first s) old new dispatch
         → filter_in new dispatch ≡ filter_in old dispatch }
+    ensures counter { (old new : StackWorlds) (dispatch : ℕ) → Replaced (λ s t. t ≡ without_first s) old new dispatch
+        → counter_in new dispatch ≡ counter_in old dispatch }
+    ensures measures { (old new : StackWorlds) (dispatch : ℕ) → Replaced (λ s t. t ≡ without_first s) old new dispatch
+        → measures_in new dispatch ≡ measures_in old dispatch }
     ensures current { (old new : StackWorlds) (dispatch : ℕ) → Replaced (λ s t. t ≡ without_first s) old new dispatch
         → IsCurrent old → IsCurrent new }
     ensures others { (old new : StackWorlds) (dispatch : ℕ) → Replaced (λ s t. t ≡ without_first s) old new dispatch
         → Alike ⟦<Stack as Subscriber>⟧.spans ⟦<Stack as Subscriber>⟧.attaches ⟦<Stack as Subscriber>⟧.kept
         ⟦<Stack as Subscriber>⟧.is_whole old new dispatch }
+{}
+
+/// What the taking of a measure leaves.
+pub fn takes_measure()
+    ensures measures { (old new : StackWorlds) (dispatch : ℕ) → Replaced WithoutMeasure old new dispatch
+        → measures_in new dispatch ≡ drop 1 (measures_in old dispatch) }
+    ensures recording { (old new : StackWorlds) (dispatch : ℕ) → Replaced WithoutMeasure old new dispatch
+        → recording_in new dispatch ≡ recording_in old dispatch }
+    ensures filter { (old new : StackWorlds) (dispatch : ℕ) → Replaced WithoutMeasure old new dispatch
+        → filter_in new dispatch ≡ filter_in old dispatch }
+    ensures counter { (old new : StackWorlds) (dispatch : ℕ) → Replaced WithoutMeasure old new dispatch
+        → counter_in new dispatch ≡ counter_in old dispatch }
+    ensures current { (old new : StackWorlds) (dispatch : ℕ) → Replaced WithoutMeasure old new dispatch
+        → IsCurrent old → IsCurrent new }
+    ensures others { (old new : StackWorlds) (dispatch : ℕ) → Replaced WithoutMeasure old new dispatch
+        → Alike ⟦<Stack as Subscriber>⟧.spans ⟦<Stack as Subscriber>⟧.attaches ⟦<Stack as Subscriber>⟧.kept
+        ⟦<Stack as Subscriber>⟧.is_whole old new dispatch }
+{}
+
+/// A filter that was just made, and is told of nothing, takes the events that its static directives let through.
+pub fn statics()
+    ensures { (f : Filtered) (lane : ℕ) (c : Callsite) → IsNew f → c.kind ≡ kind.Event
+        → enables_in f lane c ≡ admits f.statics.directives c }
 {}

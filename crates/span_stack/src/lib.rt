@@ -6,7 +6,11 @@ pub mod filters;
 pub mod gate;
 pub mod interests;
 pub mod laws;
+pub mod measured;
+pub mod measuring;
 pub mod stack;
+pub mod telemetry;
+mod telemetry_hooks;
 pub mod through;
 
 pub use gate::{admits, put_in_force};

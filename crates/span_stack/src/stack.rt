@@ -1,38 +1,44 @@
 //! The stack, its making, and what is asked of its parts.
-ghost use Rattle.std.specs.Prelude.{◌≡◌, ◌<◌, Some, MatchOption, ◌∷◌, [], length, drop};
-ghost use Rattle.trace_base.specs.declared.callsite.Callsite.{Callsite};
+ghost use Rattle.std.specs.Prelude.{◌≡◌, ◌<◌, ℕ, Some, MatchOption, ◌∷◌, [], length, drop, is_some};
+ghost use Rattle.std.specs.Option.{option_map};
 ghost use Rattle.span_registry.specs.Registering.{no_spans};
 ghost use Rattle.otel_layer.specs.Core.{new_core};
 ghost use Rattle.env_filter.specs.Filtering.{plain, IsNew};
 ghost use Rattle.span_handles.specs.Worlds.{Replaced, spans_in};
-ghost use Rattle.span_stack.specs.Reading.{recording_in, without_first};
+ghost use Rattle.span_stack.specs.Reading.{recorded, counts_by, measured, in_place, recording_in, measures_in, new_recording, without_first, WithoutMeasure};
 
+use crate::measuring::Measuring;
+use crate::telemetry::Telemetry;
 use env_filter::filter::EnvFilter;
 use env_filter::reload;
 use otel_base::record::Record;
 use otel_base::recorder::Recorder;
 use otel_layer::layer::OpenTelemetryLayer;
-use otel_layer::recording::RecordedStack;
+use otel_metrics::measure::Measure;
 use otel_state::settings::LayerSettings;
 use span_registry::layered::Layered;
 use span_registry::registry::Registry;
 use std::alloc::Global;
 use trace_base::dispatcher::Dispatch;
+use trace_base::layer::Layer;
 use trace_base::subscriber::Subscriber;
 use trace_base::world::World;
 
-/// A registry under the OpenTelemetry layer, whose spans a recorder gets, and a filter outside that can be exchanged.
-pub type Stack = Layered<reload::Layer<EnvFilter>, RecordedStack>;
+/// A registry under the OpenTelemetry layer, which may count events, and whose spans a recorder gets.
+pub type RecordedStack = Layered<Telemetry<Recorder, EnvFilter>, Registry>;
 
-/// The stack under a filter that was just made, with a layer of these settings.
-pub fn new_stack(alloc: Global, settings: LayerSettings, filter: EnvFilter) -> Stack
-    requires new { IsNew (plain filter) }
-    ensures registry { result.inner.inner.spans ≡ no_spans }
-    ensures core { result.inner.layer.core ≡ new_core (record { started = 0; spare = 0; finished = [] }) settings }
-    ensures filter { result.layer.inner ≡ Some filter }
-    ensures whole { ⟦<Stack as Subscriber>⟧.is_whole result }
+/// The same under a layer of metrics.
+pub type MeasuredStack = Layered<Measuring, RecordedStack>;
+
+/// The same, and a filter outside that can be exchanged.
+pub type Stack = Layered<reload::Layer<EnvFilter>, MeasuredStack>;
+
+// A layer of these settings, whose spans a recorder gets.
+fn new_layer(alloc: Global, settings: LayerSettings) -> OpenTelemetryLayer<Recorder>
+    ensures core { result.core ≡ new_core (record { started = 0; spare = 0; finished = [] }) settings }
+    ensures whole { ⟦<OpenTelemetryLayer<Recorder> as Layer>⟧.is_whole result }
 {
-    let layer = OpenTelemetryLayer::new(alloc, Recorder::new(alloc))
+    OpenTelemetryLayer::new(alloc, Recorder::new(alloc))
         .with_context_activation(settings.activation)
         .with_error_events_to_exceptions(settings.error_events_to_exceptions)
         .with_error_events_to_status(settings.error_events_to_status)
@@ -42,9 +48,34 @@ pub fn new_stack(alloc: Global, settings: LayerSettings, filter: EnvFilter) -> S
         .with_level(settings.level)
         .with_location(settings.location)
         .with_target(settings.target)
-        .with_threads(settings.threads);
+        .with_threads(settings.threads)
+}
+
+/// The stack under a filter that was just made, with a layer of these settings; it counts events where a filter for
+/// that is given.
+pub fn new_stack(
+    alloc: Global,
+    settings: LayerSettings,
+    filter: EnvFilter,
+    counting: Option<EnvFilter>,
+) -> Stack
+    requires new { IsNew (plain filter) }
+    ensures spans { ⟦<Stack as Subscriber>⟧.spans result ≡ no_spans }
+    ensures kept { (lane number : ℕ) → ⟦<Stack as Subscriber>⟧.kept result lane number ≡ 0 }
+    ensures recording { recorded result ≡ new_recording settings (is_some counting) }
+    ensures counter { counts_by result ≡ option_map plain counting }
+    ensures measures { measured result ≡ [] }
+    ensures filter { in_place result ≡ Some (plain filter) }
+    ensures whole { ⟦<Stack as Subscriber>⟧.is_whole result }
+{
+    let plain = new_layer(alloc, settings);
+    let layer = match counting {
+        Some(counter) => Telemetry::Counting(plain.with_counting_event_filter(counter)),
+        None => Telemetry::Plain(plain),
+    };
     Registry::new(alloc)
         .with(layer)
+        .with(Measuring::new(alloc))
         .with(reload::Layer::new(filter))
 }
 
@@ -53,7 +84,7 @@ pub fn registry(world: &World<Stack>, dispatch: Dispatch) -> &Registry
     requires { dispatch < length world.now.subscribers }
     ensures { result.now.spans ≡ spans_in ⟦<Stack as Subscriber>⟧.spans world.now dispatch }
 {
-    world.subscriber(dispatch).inner().inner()
+    world.subscriber(dispatch).inner().inner().inner()
 }
 
 /// The oldest record that hasn't been taken from a stack, if there is one: what an
@@ -68,7 +99,21 @@ pub fn take_record(world: &mut World<Stack>, dispatch: Dispatch) -> Option<Recor
     world
         .subscriber_mut(dispatch)
         .inner_mut()
+        .inner_mut()
         .layer_mut()
-        .tracer_mut()
+        .take_record()
+}
+
+/// The oldest measure that hasn't been taken from a stack, if there is one.
+pub fn take_measure(world: &mut World<Stack>, dispatch: Dispatch) -> Option<Measure>
+    requires { dispatch < length world.old.subscribers }
+    ensures oldest { MatchOption result (measures_in world.old dispatch ≡ [])
+        (λ measure. measures_in world.old dispatch ≡ measure ∷ drop 1 (measures_in world.old dispatch)) }
+    ensures rest { Replaced WithoutMeasure world.old world.new dispatch }
+{
+    world
+        .subscriber_mut(dispatch)
+        .inner_mut()
+        .layer_mut()
         .take()
 }

@@ -1,40 +1,53 @@
 -- The filter is put in, and put back where the interests find no memory.
-use Rattle.std.proofs.Common.{rules, None}
+use Rattle.std.proofs.Common.{rules, None, []}
 use Rattle.trace_base.specs.Gate.{AreSame}
 use Rattle.otel_layer.specs.Recording.{no_recording}
 use Rattle.env_filter.proofs.Stacked.{same_in_place}
-use Rattle.span_stack.specs.Reading.{recorded, in_place}
+use Rattle.span_stack.specs.Measured.{waiting}
+use Rattle.span_stack.specs.Reading.{recorded, counts_by, measured, in_place}
 use Rattle.span_stack.proofs.Exchanging.{room_over, put_back, filter_put, read_put, rest_put, alike_put, read_left, alike_left}
-use Rattle.span_stack.proofs.Putting.{room_below, recorded_below, recorded_same, current_left}
+use Rattle.span_stack.proofs.Putting.{middle_room, middle_recorded, middle_counter, middle_same, middle_counts, middle_measures, current_left}
 use Rattle.span_stack.proofs.gate.put_in_force.Goals as goal
 
 pub returns-in-Ok-clause-filter : goal.returns-in-Ok-clause-filter
-returns-in-Ok-clause-filter c = filter_put room_below c.args.world.now c.exchange.new.world c.rebuild_interest.new.self c.args.dispatch c.args.filter c.exchange.new.filter c.exchange.ensures c.rebuild_interest.ensures.same c.requires.in_place
+returns-in-Ok-clause-filter c = filter_put middle_room c.args.world.now c.exchange.new.world c.rebuild_interest.new.self c.args.dispatch c.args.filter c.exchange.new.filter c.exchange.ensures c.rebuild_interest.ensures.same c.requires.in_place
 
 pub returns-in-Ok-clause-recording : goal.returns-in-Ok-clause-recording
-returns-in-Ok-clause-recording c = read_put room_below c.args.world.now c.exchange.new.world c.rebuild_interest.new.self c.args.dispatch c.args.filter c.exchange.new.filter c.exchange.ensures c.rebuild_interest.ensures.same recorded_below no_recording recorded_same
+returns-in-Ok-clause-recording c = read_put middle_room c.args.world.now c.exchange.new.world c.rebuild_interest.new.self c.args.dispatch c.args.filter c.exchange.new.filter c.exchange.ensures c.rebuild_interest.ensures.same middle_recorded no_recording middle_same
+
+pub returns-in-Ok-clause-counter : goal.returns-in-Ok-clause-counter
+returns-in-Ok-clause-counter c = read_put middle_room c.args.world.now c.exchange.new.world c.rebuild_interest.new.self c.args.dispatch c.args.filter c.exchange.new.filter c.exchange.ensures c.rebuild_interest.ensures.same middle_counter None middle_counts
+
+pub returns-in-Ok-clause-measures : goal.returns-in-Ok-clause-measures
+returns-in-Ok-clause-measures c = read_put middle_room c.args.world.now c.exchange.new.world c.rebuild_interest.new.self c.args.dispatch c.args.filter c.exchange.new.filter c.exchange.ensures c.rebuild_interest.ensures.same waiting [] middle_measures
 
 pub returns-in-Ok-clause-others : goal.returns-in-Ok-clause-others
-returns-in-Ok-clause-others c = alike_put room_below c.args.world.now c.exchange.new.world c.rebuild_interest.new.self c.args.dispatch c.args.filter c.exchange.new.filter c.exchange.ensures c.rebuild_interest.ensures.same _ _ _ _ c.room.ensures c.requires.new c.requires.in_place
+returns-in-Ok-clause-others c = alike_put middle_room c.args.world.now c.exchange.new.world c.rebuild_interest.new.self c.args.dispatch c.args.filter c.exchange.new.filter c.exchange.ensures c.rebuild_interest.ensures.same _ _ _ _ c.room.ensures c.requires.new c.requires.in_place
 
 pub returns-in-Ok-clause-rest : goal.returns-in-Ok-clause-rest
-returns-in-Ok-clause-rest c = rest_put room_below c.args.world.now c.exchange.new.world c.rebuild_interest.new.self c.args.dispatch c.args.filter c.exchange.new.filter c.exchange.ensures c.rebuild_interest.ensures.same
+returns-in-Ok-clause-rest c = rest_put middle_room c.args.world.now c.exchange.new.world c.rebuild_interest.new.self c.args.dispatch c.args.filter c.exchange.new.filter c.exchange.ensures c.rebuild_interest.ensures.same
 
 -- all subscribers are as they were, but for room
-abbrev all_left : (c : goal.After-drop-other-inside-3) → AreSame (room_over room_below) c.args.world.now.subscribers c.exchange-in-Err.new.world.subscribers
-all_left c = put_back room_below c.args.world.now c.exchange.new.world c.rebuild_interest.new.self c.exchange-in-Err.new.world c.args.dispatch c.args.filter c.exchange.new.filter c.exchange-in-Err.new.filter c.exchange.ensures c.rebuild_interest.ensures.same c.exchange-in-Err.ensures
+abbrev all_left : (c : goal.After-drop-other-inside-3) → AreSame (room_over middle_room) c.args.world.now.subscribers c.exchange-in-Err.new.world.subscribers
+all_left c = put_back middle_room c.args.world.now c.exchange.new.world c.rebuild_interest.new.self c.exchange-in-Err.new.world c.args.dispatch c.args.filter c.exchange.new.filter c.exchange-in-Err.new.filter c.exchange.ensures c.rebuild_interest.ensures.same c.exchange-in-Err.ensures
 
 pub returns-clause-recording : goal.returns-clause-recording
-returns-clause-recording c = read_left (room_over room_below) c.args.world.now c.exchange-in-Err.new.world c.args.dispatch c.exchange.ensures.before c.exchange.ensures.there (all_left c) recorded no_recording (λ s t h. recorded_same s.inner t.inner h.0)
+returns-clause-recording c = read_left (room_over middle_room) c.args.world.now c.exchange-in-Err.new.world c.args.dispatch c.exchange.ensures.before c.exchange.ensures.there (all_left c) recorded no_recording (λ s t h. middle_same s.inner t.inner h.0)
+
+pub returns-clause-counter : goal.returns-clause-counter
+returns-clause-counter c = read_left (room_over middle_room) c.args.world.now c.exchange-in-Err.new.world c.args.dispatch c.exchange.ensures.before c.exchange.ensures.there (all_left c) counts_by None (λ s t h. middle_counts s.inner t.inner h.0)
+
+pub returns-clause-measures : goal.returns-clause-measures
+returns-clause-measures c = read_left (room_over middle_room) c.args.world.now c.exchange-in-Err.new.world c.args.dispatch c.exchange.ensures.before c.exchange.ensures.there (all_left c) measured [] (λ s t h. middle_measures s.inner t.inner h.0)
 
 pub returns-clause-others : goal.returns-clause-others
-returns-clause-others c = alike_left (room_over room_below) c.args.world.now c.exchange-in-Err.new.world c.args.dispatch c.exchange.ensures.before c.exchange.ensures.there (all_left c) _ _ _ _ c.room.ensures
+returns-clause-others c = alike_left (room_over middle_room) c.args.world.now c.exchange-in-Err.new.world c.args.dispatch c.exchange.ensures.before c.exchange.ensures.there (all_left c) _ _ _ _ c.room.ensures
 
 pub returns-clause-memory_same : goal.returns-clause-memory_same
 returns-clause-memory_same c = all_left c
 
 pub returns-clause-memory_leaves : goal.returns-clause-memory_leaves
-returns-clause-memory_leaves c = read_left (room_over room_below) c.args.world.now c.exchange-in-Err.new.world c.args.dispatch c.exchange.ensures.before c.exchange.ensures.there (all_left c) in_place None (λ s t h. same_in_place (Unit {0}) s.layer.inner t.layer.inner h.1)
+returns-clause-memory_leaves c = read_left (room_over middle_room) c.args.world.now c.exchange-in-Err.new.world c.args.dispatch c.exchange.ensures.before c.exchange.ensures.there (all_left c) in_place None (λ s t h. same_in_place (Unit {0}) s.layer.inner t.layer.inner h.1)
 
 pub returns-clause-memory_current : goal.returns-clause-memory_current
 returns-clause-memory_current c = current_left c.args.world.now c.exchange-in-Err.new.world (all_left c) (search rules) (search rules)

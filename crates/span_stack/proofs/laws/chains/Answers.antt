@@ -1,14 +1,26 @@
--- By the laws of what lies below the filter, of the filter, and of the interests.
-use Rattle.std.proofs.Common.{Some}
-use Rattle.otel_layer.specs.Recording.{RecordsChain}
+-- By the laws of what lies below the outer layers, of these, and of the interests.
+use Rattle.std.proofs.Common.{None, Some, [], sym, ◌∙◌}
+use Rattle.otel_layer.specs.Recording.{no_recording, RecordsChain}
+use Rattle.span_handles.specs.Worlds.{no_spans}
+use Rattle.span_stack.specs.Measured.{waiting}
 use Rattle.span_stack.specs.Through.{below}
-use Rattle.span_stack.proofs.Viewing.{seen_below, along_four}
+use Rattle.span_stack.proofs.Counted.{BaseDoes, base_spans, base_recorded, base_counter, base_chain, counter_kept}
+use Rattle.span_stack.proofs.Freshness.{chain_keeps}
+use Rattle.span_stack.proofs.Viewing.{seen_below, seen_two, along_four, kept_place}
 use Rattle.span_stack.proofs.laws.chains.Goals as goal
 
 pub returns : goal.returns
 returns c = record {
-  recording = λ old new dispatch at id r. along_four (λ x y before later. RecordsChain at (Some id) x y before later) (seen_below _ _ old dispatch) (seen_below _ _ new dispatch) (seen_below _ _ old dispatch) (seen_below _ _ new dispatch)
-      (c.chains.ensures (below old) (below new) dispatch at id (c.calls.ensures.chain old new dispatch at id r));
-  filter = c.calls-2.ensures.chain;
+  recording = λ old new dispatch at id r. (
+      let under = c.calls.ensures.chain old new dispatch at id r in
+      along_four (λ x y before later. RecordsChain at (Some id) x y before later) (seen_two base_spans no_spans old dispatch) (seen_two base_spans no_spans new dispatch) (seen_two base_recorded no_recording old dispatch) (seen_two base_recorded no_recording new dispatch)
+      (base_chain at (below (below old)) (below (below new)) dispatch id (c.calls-2.ensures.chain (below old) (below new) dispatch at id under)));
+  filter = c.calls-3.ensures.chain;
+  counter = λ old new dispatch at id r. (
+      let under = c.calls.ensures.chain old new dispatch at id r in
+      sym (seen_two base_counter None new dispatch)
+      ∙ kept_place base_counter None (λ s t d. chain_keeps base_spans BaseDoes base_counter counter_kept at (Some id) s t d) (below (below old)) (below (below new)) dispatch (c.calls-2.ensures.chain (below old) (below new) dispatch at id under)
+      ∙ seen_two base_counter None old dispatch);
+  measures = λ old new dispatch at id r. sym (seen_below waiting [] new dispatch) ∙ c.calls-4.ensures.chain (below old) (below new) dispatch at id (c.calls.ensures.chain old new dispatch at id r) ∙ seen_below waiting [] old dispatch;
   current = c.stay_fresh.ensures.chain;
 }

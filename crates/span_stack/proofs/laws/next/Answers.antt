@@ -1,13 +1,15 @@
--- By the law of what lies below the filter.
-use Rattle.std.proofs.Common.{◌≡◌, None, length}
+-- The layer knows spans that were made.
+use Rattle.std.proofs.Common.{◌≡◌, None, length, sym}
 use Rattle.trace_base.specs.Spans.{Spans}
-use Rattle.otel_layer.specs.Recording.{Recording}
+use Rattle.span_handles.specs.Worlds.{no_spans}
+use Rattle.otel_layer.specs.Recording.{Recording, no_recording}
 use Rattle.otel_layer.specs.Table.{told_at}
-use Rattle.span_stack.specs.Through.{below}
-use Rattle.span_stack.proofs.Viewing.{seen_below, along_two, below_at}
+use Rattle.span_stack.specs.Reading.{Stacks, recorded}
+use Rattle.span_stack.proofs.Counted.{base_next}
+use Rattle.span_stack.proofs.Viewing.{see, along_two}
 use Rattle.span_stack.proofs.laws.next.Goals as goal
 
 pub returns : goal.returns
 returns c = λ world dispatch s there whole.
-    along_two (λ (spans : Spans) (recording : Recording). told_at (length spans.made) recording.spans ≡ None) (seen_below _ _ world dispatch) (seen_below _ _ world dispatch)
-    (c.next.ensures (below world) dispatch s.inner (below_at world dispatch s there) whole.inner)
+    along_two (λ (spans : Spans) (recording : Recording). told_at (length spans.made) recording.spans ≡ None)
+    (sym (see (λ (p : Stacks). p.inner.inner.inner.spans) no_spans world dispatch s there)) (sym (see recorded no_recording world dispatch s there)) (base_next s.inner.inner whole.inner.inner.in_step)

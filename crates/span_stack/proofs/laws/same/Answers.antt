@@ -1,12 +1,21 @@
--- By the laws of what lies below the filter, of the filter, and of the interests.
-use Rattle.std.proofs.Common.{sym, ◌∙◌}
+-- By the laws of what lies below the outer layers, of these, and of the interests.
+use Rattle.std.proofs.Common.{None, [], sym, ◌∙◌}
+use Rattle.otel_layer.specs.Recording.{no_recording}
+use Rattle.span_stack.specs.Measured.{waiting}
 use Rattle.span_stack.specs.Through.{below}
-use Rattle.span_stack.proofs.Viewing.{seen_below}
+use Rattle.span_stack.proofs.Counted.{base_recorded, base_counter, base_same, counter_same}
+use Rattle.span_stack.proofs.Viewing.{seen_below, seen_two, kept_place}
 use Rattle.span_stack.proofs.laws.same.Goals as goal
 
 pub returns : goal.returns
 returns c = record {
-  recording = λ old new dispatch r. sym (seen_below _ _ new dispatch) ∙ c.same.ensures (below old) (below new) dispatch (c.calls.ensures.same old new dispatch r) ∙ seen_below _ _ old dispatch;
-  filter = c.calls-2.ensures.same;
+  recording = λ old new dispatch r. sym (seen_two base_recorded no_recording new dispatch)
+      ∙ kept_place base_recorded no_recording base_same (below (below old)) (below (below new)) dispatch (c.calls-2.ensures.same (below old) (below new) dispatch (c.calls.ensures.same old new dispatch r))
+      ∙ seen_two base_recorded no_recording old dispatch;
+  filter = c.calls-3.ensures.same;
+  counter = λ old new dispatch r. sym (seen_two base_counter None new dispatch)
+      ∙ kept_place base_counter None counter_same (below (below old)) (below (below new)) dispatch (c.calls-2.ensures.same (below old) (below new) dispatch (c.calls.ensures.same old new dispatch r))
+      ∙ seen_two base_counter None old dispatch;
+  measures = λ old new dispatch r. sym (seen_below waiting [] new dispatch) ∙ c.calls-4.ensures.same (below old) (below new) dispatch (c.calls.ensures.same old new dispatch r) ∙ seen_below waiting [] old dispatch;
   current = c.stay_fresh.ensures.same;
 }

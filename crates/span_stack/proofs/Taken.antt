@@ -1,0 +1,48 @@
+-- What the taking of a record leaves of a layer.
+use Rattle.std.proofs.Common.{◌≡◌, Option, refl, ap, ◌∙◌}
+use Rattle.std.specs.Prelude.{drop}
+use Rattle.std.specs.Option.{option_map}
+use Rattle.otel_base.specs.Recorder.{Recorded}
+use Rattle.otel_layer.specs.Core.{IsWholeCore, seen_in, kept_in}
+use Rattle.otel_layer.specs.Recording.{Recording, recording_of}
+use Rattle.env_filter.specs.Filtering.{Filtering, plain}
+use Rattle.span_stack.specs.declared.telemetry.Telemetry.{Telemetry}
+use Rattle.span_stack.specs.declared.telemetry.Telemetry.TheVariants.{Plain, Counting}
+use Rattle.span_stack.specs.Counters.{core_of, counter_of, taken_from}
+use Rattle.span_stack.specs.Reading.{Stacks, recorded, counts_by, without_first}
+
+abbrev pub one_less : Recording → Recording → Type 0
+one_less before later = later ≡ record before { finished = drop 1 before.finished }
+
+abbrev pub Layers : Type 0
+Layers = Telemetry Recorded Filtering
+
+recorded_less : (l : Layers) → one_less (recording_of (core_of l)) (recording_of (core_of (taken_from l)))
+recorded_less (Plain layer) = refl
+recorded_less (Counting layer) = refl
+
+counter_left : (l : Layers) → counter_of (taken_from l) ≡ counter_of l
+counter_left (Plain layer) = refl
+counter_left (Counting layer) = refl
+
+pub taken_recorded : (s t : Stacks) → t ≡ without_first s → one_less (recorded s) (recorded t)
+taken_recorded s t e = ap recorded e ∙ recorded_less s.inner.inner.layer
+
+pub taken_counts_by : (s t : Stacks) → t ≡ without_first s → counts_by t ≡ counts_by s
+taken_counts_by s t e = ap counts_by e ∙ ap (λ (o : Option Filtering). option_map plain o) (counter_left s.inner.inner.layer)
+
+pub active_left : (l : Layers) → (core_of (taken_from l)).settings.activation ≡ (core_of l).settings.activation
+active_left (Plain layer) = refl
+active_left (Counting layer) = refl
+
+pub kept_left : (l : Layers) → kept_in (core_of (taken_from l)) ≡ kept_in (core_of l)
+kept_left (Plain layer) = refl
+kept_left (Counting layer) = refl
+
+pub seen_left : (l : Layers) → seen_in (core_of (taken_from l)) ≡ seen_in (core_of l)
+seen_left (Plain layer) = refl
+seen_left (Counting layer) = refl
+
+pub whole_left : (l : Layers) → IsWholeCore (λ r. r.spare) (λ r. r.started) (core_of l) → IsWholeCore (λ r. r.spare) (λ r. r.started) (core_of (taken_from l))
+whole_left (Plain layer) w = record { spares = w.spares; rooms = w.rooms; budget = w.budget; few = w.few }
+whole_left (Counting layer) w = record { spares = w.spares; rooms = w.rooms; budget = w.budget; few = w.few }

@@ -1,0 +1,23 @@
+-- The parts but for the layer of metrics stay.
+use Rattle.std.proofs.Common.{ap, None}
+use Rattle.std.specs.Option.{option_map}
+use Rattle.otel_layer.specs.Recording.{no_recording}
+use Rattle.env_filter.specs.declared.reload.Layer.{Layer}
+use Rattle.env_filter.specs.Filtering.{Filtering, plain}
+use Rattle.span_stack.specs.Reading.{recorded, counts_by, in_place, stack_interest, interest_over}
+use Rattle.span_stack.proofs.Counted.{Base, base_recorded, base_counter}
+use Rattle.span_stack.proofs.Freshness.{fresh_later}
+use Rattle.span_stack.proofs.Viewing.{kept_place}
+use Rattle.span_stack.proofs.laws.takes_measure.Goals as goal
+
+pub returns-clause-recording : goal.returns-clause-recording
+returns-clause-recording c = λ old new dispatch r. kept_place recorded no_recording (λ s t h. ap (λ (b : Base). base_recorded b) h.others) old new dispatch r
+
+pub returns-clause-filter : goal.returns-clause-filter
+returns-clause-filter c = λ old new dispatch r. kept_place in_place None (λ s t h. ap (λ (l : Layer Filtering). option_map plain l.inner) h.filter) old new dispatch r
+
+pub returns-clause-counter : goal.returns-clause-counter
+returns-clause-counter c = λ old new dispatch r. kept_place counts_by None (λ s t h. ap (λ (b : Base). base_counter b) h.others) old new dispatch r
+
+pub returns-clause-current : goal.returns-clause-current
+returns-clause-current c = λ old new dispatch r. fresh_later stack_interest _ (λ s t h. ap (λ (l : Layer Filtering). interest_over l) h.filter) old new dispatch r
