@@ -58,5 +58,5 @@ module _ (hs : List (Option Scope)) (n : ℕ) (cs : List ℕ) (ended : (s : ℕ)
       let sum = either n (omega arith) in
       omega (arith, all, sum)
 
-pub closed_and_open : (setup : Setup) (h : History) → IsHistory setup h → length (tables setup.layer h).closed + open_spans (tables setup.layer h) ≡ length (tables setup.layer h).made
-closed_and_open setup h legal = let t = tables setup.layer h in balanced t.handles (length t.made) t.closed (whole setup h legal).stands.sound.ended
+pub closed_and_open : (setup : Setup) (h : History) → IsHistory setup h → length (tables setup h).closed + open_spans (tables setup h) ≡ length (tables setup h).made
+closed_and_open setup h legal = let t = tables setup h in balanced t.handles (length t.made) t.closed (whole setup h legal).stands.sound.ended

@@ -1,17 +1,15 @@
 -- What closes is one chain.
-use Rattle.std.proofs.Common.{◌≡◌, ℕ, ◌<◌, ◌≤◌, ◌==◌, ◌||◌, List, [], ◌∷◌, ◌++◌, length, Bool, true, false, cond, filter, not, slice_set, Option, Some, None, option_map, Ok, refl, sym, ap, subst, ◌∙◌, arith, inl, inr}
-use Rattle.std.specs.Prelude.{if◌then◌else◌}
-use Rattle.std.proofs.lemmas.List.{append-nil}
+use Rattle.std.proofs.Common.{◌≡◌, ℕ, ◌==◌, ◌||◌, List, [], ◌∷◌, ◌++◌, Bool, true, false, filter, not, slice_set, Option, Some, None, option_map, Ok, refl, sym, ap, subst, ◌∙◌, arith, inl, inr}
 use Rattle.std.proofs.lemmas.Bool.{cases_Bool, eq-eqb, eqb-true, or_right, cond-true, cond-false, true≢false}
 use Rattle.std.proofs.lemmas.Bool.Decides.{nat_tests}
 use Rattle.trace_base.specs.Spans.{is_in}
 use Rattle.span_pipeline.specs.declared.request.Request.{Request}
 use Rattle.span_pipeline.specs.Effects.{holds, is_open, closed_of, effect_of}
 use Rattle.span_pipeline.specs.Setups.{Setup}
-use Rattle.span_pipeline.specs.Tables.{Scope, Made, Guarded, Effect, History, with_new, spend, slot_at, made_of, after, tables}
+use Rattle.span_pipeline.specs.Tables.{Scope, Made, Guarded, Effect, History, with_new, spend, slot_at, made_of, tables}
 use Rattle.span_laws.specs.Closes.{BeginsWith, is_drop}
 use Rattle.span_laws.specs.Laws.{IsHistory}
-use Rattle.span_laws.proofs.Closing.{AreMine, IsLine, IsSound, named, step_stands}
+use Rattle.span_laws.proofs.Closing.{AreMine, IsSound, named, step_stands}
 use Rattle.span_laws.proofs.Histories.{fits, whole}
 use Rattle.span_laws.proofs.Occurrences.{any_counted, pick, slot_open, slot_push}
 use Rattle.span_laws.proofs.Steps.{Spends, no_spending, one_spent, step_of}
@@ -82,13 +80,13 @@ kept_slot : (hs : List (Option Scope)) (o : Option Scope) (k : ℕ) (scope : Sco
 kept_slot hs None k scope there = there
 kept_slot hs (Some new) k scope there = slot_push hs (Some new) k scope there
 
-pub only_drops : (setup : Setup) (h : History) (request : Request) (e : Effect) → IsHistory setup h → effect_of setup (tables setup.layer h) request ≡ Ok e → is_drop request.call ≡ false → e.closes ≡ []
-only_drops setup h request e legal is other = (step_of setup (tables setup.layer h) (fits setup h (whole setup h legal)) request e is).1.closing other
+pub only_drops : (setup : Setup) (h : History) (request : Request) (e : Effect) → IsHistory setup h → effect_of setup (tables setup h) request ≡ Ok e → is_drop request.call ≡ false → e.closes ≡ []
+only_drops setup h request e legal is other = (step_of setup (tables setup h) (fits setup h (whole setup h legal)) request e is).1.closing other
 
-pub one_chain : (setup : Setup) (h : History) (request : Request) (e : Effect) (handle : ℕ) (scope : Scope) → IsHistory setup h → effect_of setup (tables setup.layer h) request ≡ Ok e → slot_at (tables setup.layer h).handles handle ≡ Some scope
+pub one_chain : (setup : Setup) (h : History) (request : Request) (e : Effect) (handle : ℕ) (scope : Scope) → IsHistory setup h → effect_of setup (tables setup h) request ≡ Ok e → slot_at (tables setup h).handles handle ≡ Some scope
     → e.spent_handle ≡ Some handle → BeginsWith e.closes scope
 one_chain setup h request e handle scope legal is there spent =
-    let t = tables setup.layer h in
+    let t = tables setup h in
     let now = whole setup h legal in
     let step = (step_of setup t (fits setup h now) request e is).1 in
     chain_of _ _ _ t.closed e.spent_handle e.closes step.spends (named setup t request.at (is_drop request.call) e now.stands step) (step_stands setup t request.at (is_drop request.call) e now.stands step).sound handle scope spent

@@ -1,20 +1,20 @@
 -- A child closes before its parent.
-use Rattle.std.proofs.Common.{◌≡◌, ℕ, zero, suc, ◌<◌, ◌≤◌, ◌==◌, ◌&&◌, ◌||◌, List, [], ◌∷◌, ◌++◌, length, Bool, true, false, cond, not, nat_lt, slice_set, Option, Some, None, option_map, Ok, refl, sym, ap, subst, ◌∙◌, arith, ◌⊎◌, inl, inr, append_assoc}
-use Rattle.std.proofs.lemmas.List.{append-nil, length_push, get_or_push}
+use Rattle.std.proofs.Common.{◌≡◌, ℕ, zero, suc, ◌<◌, ◌≤◌, ◌==◌, ◌||◌, List, [], ◌∷◌, ◌++◌, length, Bool, true, false, slice_set, Option, None, refl, sym, ap, subst, ◌∙◌, arith, ◌⊎◌, inl, inr, append_assoc}
+use Rattle.std.proofs.lemmas.List.{append-nil, get_or_push}
 use Rattle.std.proofs.lemmas.List.Sums.{fold_push}
-use Rattle.std.proofs.lemmas.Bool.{cases_Bool, cases_eq, cases_lt, eq-eqb, eqb-true, or_right, true≢false}
+use Rattle.std.proofs.lemmas.Bool.{cases_eq, eq-eqb, eqb-true, or_right}
 use Rattle.std.proofs.lemmas.Bool.Decides.{nat_tests}
 use Rattle.trace_base.specs.Spans.{is_in}
 use Rattle.span_pipeline.specs.Effects.{is_open}
 use Rattle.span_pipeline.specs.Setups.{Setup}
-use Rattle.span_pipeline.specs.Tables.{Scope, Made, Guarded, Effect, History, Tables, with_new, spend, slot_at, no_making, made_of, no_tables, after, tables}
+use Rattle.span_pipeline.specs.Tables.{Scope, Made, Guarded, History, Tables, with_new, spend, no_making, made_of, no_tables, after, tables}
 use Rattle.span_laws.specs.Closes.{BeginsWith, is_drop}
 use Rattle.span_laws.specs.Laws.{IsHistory, none, more, occurrences}
 use Rattle.span_laws.proofs.Chaining.{chain_front, in_line, open_above}
-use Rattle.span_laws.proofs.Closing.{AreMine, IsLine, IsSound, known_open, named, step_stands}
-use Rattle.span_laws.proofs.Histories.{fits, open_made, whole}
+use Rattle.span_laws.proofs.Closing.{AreMine, IsSound, known_open, named, step_stands}
+use Rattle.span_laws.proofs.Histories.{fits, whole}
 use Rattle.span_laws.proofs.Occurrences.{get_push_other, is_in_counted, occurs_append, occurs_cons}
-use Rattle.span_laws.proofs.Steps.{IsKnown, Names, no_name, another, new_span, Spends, no_spending, one_spent, step_of}
+use Rattle.span_laws.proofs.Steps.{Names, no_name, another, new_span, Spends, no_spending, one_spent, step_of}
 
 -- where a list of two parts holds a span, it stands in one of them
 module _ (p : ℕ) (rest : List ℕ) where
@@ -140,19 +140,19 @@ module _ (hs : List (Option Scope)) (gs : List (Option Guarded)) (ms : List Made
           let split : scope ≡ f ++ p ∷ (rest ++ chain.rest) = chain.is ∙ ap (λ (l : List ℕ). l ++ chain.rest) there ∙ append_assoc f (p ∷ rest) chain.rest in
           in_right s cs f (before ms scope s p up f (rest ++ chain.rest) (sound.lines k scope at).mine (λ q. (let one = (sound.lines k scope at).once q in grind (arith, nat_tests, one))) inside is split)
 
-first_on : (setup : Setup) (h : History) → IsHistory setup h → AreFirst (tables setup.layer h).made (tables setup.layer h).closed
+first_on : (setup : Setup) (h : History) → IsHistory setup h → AreFirst (tables setup h).made (tables setup h).closed
 first_on setup _ none = λ s p up fore rest is parts. absurd (cc is)
 first_on setup _ (more h request e legal is_effect) =
-    let t = tables setup.layer h in
+    let t = tables setup h in
     let now = whole setup h legal in
     let step = (step_of setup t (fits setup h now) request e is_effect).1 in
     let stands = now.stands in
     let named_now = named setup t request.at (is_drop request.call) e stands step in
     let later = step_stands setup t request.at (is_drop request.call) e stands step in
-    subst (λ (x : Tables). AreFirst x.made x.closed) (sym (fold_push after (no_tables setup.layer) h e))
+    subst (λ (x : Tables). AreFirst x.made x.closed) (sym (fold_push after (no_tables setup) h e))
     (new_first _ _ (with_new t.made e.made) t.closed named_now
     (old_first t.handles t.made t.closed stands.sound (first_on setup h legal) e.new_handle e.made step.names)
     e.spent_handle e.closes step.spends later.sound)
 
-pub children_first : (setup : Setup) (h : History) (s p : ℕ) (up fore rest : List ℕ) → IsHistory setup h → (made_of (tables setup.layer h).made s).scope ≡ s ∷ p ∷ up → (tables setup.layer h).closed ≡ fore ++ p ∷ rest → is_in s fore ≡ true
+pub children_first : (setup : Setup) (h : History) (s p : ℕ) (up fore rest : List ℕ) → IsHistory setup h → (made_of (tables setup h).made s).scope ≡ s ∷ p ∷ up → (tables setup h).closed ≡ fore ++ p ∷ rest → is_in s fore ≡ true
 children_first setup h s p up fore rest legal is parts = first_on setup h legal s p up fore rest is parts

@@ -1,14 +1,13 @@
 -- Each span closes once, when no handle holds it any more.
-use Rattle.std.proofs.Common.{◌≡◌, ℕ, ◌<◌, ◌≤◌, ◌&&◌, ◌||◌, ◌==◌, Bool, List, [], ◌∷◌, ◌++◌, length, true, false, cond, not, nat_lt, Option, Some, None, option_map, slice_set, refl, sym, ap, subst, ◌∙◌, arith, inl, inr}
+use Rattle.std.specs.Prelude.{is_some}
+use Rattle.std.proofs.Common.{◌≡◌, ℕ, ◌<◌, ◌≤◌, ◌&&◌, ◌||◌, ◌==◌, Bool, List, [], ◌∷◌, ◌++◌, length, true, cond, not, nat_lt, Option, Some, None, option_map, slice_set, refl, sym, ap, subst, ◌∙◌, arith, inl, inr}
 use Rattle.std.proofs.lemmas.List.{append-nil, length_push, get_or_push}
-use Rattle.std.proofs.lemmas.List.Sums.{fold_push}
 use Rattle.std.proofs.lemmas.Bool.{cases_eq, cases_lt, eq-eqb, lt-ltb}
 use Rattle.std.proofs.lemmas.Bool.Decides.{nat_tests}
 use Rattle.trace_base.specs.Spans.{is_in, current_of}
 use Rattle.trace_base.proofs.Entering.{counted_if_any}
 use Rattle.trace_base.proofs.Holding.{current_in}
 use Rattle.span_pipeline.specs.Setups.{Setup}
-use Rattle.otel_state.specs.declared.settings.LayerSettings.{LayerSettings}
 use Rattle.span_pipeline.specs.Tables.{Scope, Made, Guarded, Effect, Tables, with_new, spend, slot_at, no_making, made_of, scope_of, no_tables, after}
 use Rattle.span_pipeline.specs.Effects.{holds, is_open, closed_of, current_scope}
 use Rattle.span_laws.specs.Laws.{occurrences}
@@ -155,13 +154,13 @@ current_open ids t now lane s is = elim (current_in [] None (t.entries lane) s i
 ]
 
 -- what a request finds
-pub fit_of : (settings : LayerSettings) (ids : List ℕ) (t : Tables) → Stands ids t → t.recording.settings ≡ settings → t.recording.counting ≡ false → IsFit settings t
-fit_of settings ids t now settings_are uncounted = record {
+pub fit_of : (setup : Setup) (ids : List ℕ) (t : Tables) → Stands ids t → t.recording.settings ≡ setup.layer → t.recording.counting ≡ is_some setup.counting → IsFit setup t
+fit_of setup ids t now settings_are counting_is = record {
   currents = current_known ids t now;
   entered = current_open ids t now;
   still = now.guarded.still;
   settings_are = settings_are;
-  uncounted = uncounted;
+  counting_is = counting_is;
 }
 
 names_stand : (hs : List (Option Scope)) (ms : List Made) (cs : List ℕ) → IsSound hs ms cs → (o : Option Scope) (m : Option Made) → Names hs ms o m → IsSound (with_new hs (option_map Some o)) (with_new ms m) cs
@@ -188,8 +187,8 @@ step_stands setup t at is_drop e now step = record {
       e.spent_handle e.closes step.spends;
 }
 
-pub none_stands : (ids : List ℕ) (settings : LayerSettings) → Stands ids (no_tables settings)
-none_stands ids settings = record {
+pub none_stands : (ids : List ℕ) (setup : Setup) → Stands ids (no_tables setup)
+none_stands ids setup = record {
   sound = record { lines = λ k scope there. absurd (cc there); ended = λ s. grind (arith, nat_tests) };
   guarded = record { still = λ n g there. absurd (cc there); counted = λ l s. refl };
 }

@@ -1,29 +1,27 @@
 -- What stands of each legal history: its tables, the stories of its open spans, and the records of its closed ones.
-use Rattle.std.proofs.Common.{◌≡◌, ℕ, suc, ◌+◌, ◌<◌, ◌≤◌, ◌==◌, ◌&&◌, ◌||◌, List, [], ◌∷◌, ◌++◌, length, Bool, true, false, cond, filter, flat_map, map, fold, not, nat_lt, Option, Some, None, option_map, refl, sym, ap, subst, ◌∙◌, arith, inl, inr, append_assoc}
+use Rattle.std.proofs.Common.{◌≡◌, ℕ, ◌<◌, ◌≤◌, ◌==◌, ◌&&◌, ◌||◌, List, [], ◌∷◌, ◌++◌, length, Bool, true, false, cond, filter, flat_map, map, fold, not, nat_lt, Option, Some, None, option_map, refl, sym, ap, subst, ◌∙◌, arith, append_assoc}
 use Rattle.std.specs.Prelude.{if◌then◌else◌}
 use Rattle.std.specs.List.{AllByRecursion}
 use Rattle.std.proofs.lemmas.List.{append-nil, length_push}
 use Rattle.std.proofs.lemmas.List.Sums.{fold_push, fold-append}
 use Rattle.std.proofs.lemmas.Grind.{flat_map-append}
-use Rattle.std.proofs.lemmas.Bool.{cases_Bool, cases_eq, cases_lt, eq-eqb, eqb-true, ne_eqb, cond-true, cond-false, true≢false}
+use Rattle.std.proofs.lemmas.Bool.{ne_eqb, cond-true, cond-false, true≢false}
 use Rattle.std.proofs.lemmas.Bool.Decides.{nat_tests}
 use Rattle.otel_base.specs.declared.context.SpanContext.{SpanContext}
 use Rattle.otel_base.specs.declared.record.Record.{Record}
-use Rattle.otel_state.specs.declared.settings.LayerSettings.{LayerSettings}
-use Rattle.otel_state.specs.declared.times.TheConstants.{GREATEST}
 use Rattle.otel_state.specs.Deeds.{Stamped, deed}
 use Rattle.otel_state.specs.States.{Told}
-use Rattle.otel_layer.specs.Recording.{Recording, with_start, with_applied, with_close}
+use Rattle.otel_layer.specs.Recording.{Recording, with_start}
 use Rattle.otel_layer.specs.Table.{told_at}
 use Rattle.trace_base.specs.Spans.{is_in}
 use Rattle.span_pipeline.specs.Setups.{Setup}
-use Rattle.span_pipeline.specs.Tables.{Scope, Made, Done, Effect, History, Tables, with_new, spend, slots_after, no_tables, nothing_recorded, after, tables, made_of, no_making, with_made, recorded_by, open_part, records_of, slot_at}
-use Rattle.span_pipeline.specs.Effects.{holds, is_open, effect_of}
+use Rattle.span_pipeline.specs.Tables.{Scope, Made, Done, Effect, History, Tables, with_new, no_tables, after, tables, no_making, with_made, recorded_by, open_part, records_of, slot_at}
+use Rattle.span_pipeline.specs.Effects.{holds, is_open}
 use Rattle.span_laws.specs.Closes.{is_drop}
 use Rattle.span_laws.specs.Laws.{IsHistory, none, more, occurrences}
 use Rattle.span_laws.specs.Records.{IsRecord, Each, records_from, records, start_in, ops_in, ops_from, ops_of, closed_at}
 use Rattle.span_laws.specs.Starts.{with_started, starts_of, started, place_in}
-use Rattle.span_laws.proofs.Closing.{IsSound, IsLine, Stands, named, step_stands, none_stands, fit_of}
+use Rattle.span_laws.proofs.Closing.{IsSound, Stands, named, step_stands, none_stands, fit_of}
 use Rattle.span_laws.proofs.Making.{first_of, starts_spare, made_stories}
 use Rattle.span_laws.proofs.Occurrences.{occurs_cons, occurs_append, is_in_counted, any_counted, pick, get_push_other}
 use Rattle.span_laws.proofs.Pairs.{each_append, each_map}
@@ -99,27 +97,24 @@ open_made hs ms cs sound s is =
 -- ---- records
 
 -- the record of a closed span
-abbrev pub IsClosed : LayerSettings → List Made → History → ℕ → Record → Type 0
-IsClosed settings ms h s r = IsRecord settings (first_of ms s) (λ own. ops_of own h s) (place_in (started h) s) (closed_at h s) r
+abbrev pub IsClosed : Setup → List Made → History → ℕ → Record → Type 0
+IsClosed setup ms h s r = IsRecord setup (first_of ms s) (λ own. ops_of own h s) (place_in (started h) s) (closed_at h s) r
 
 abbrev pub done_in : History → ℕ → SpanContext → List Stamped
 done_in h s own = ops_of own h s
 
 pub record IsWhole (setup : Setup) (h : History) (t : Tables) : Type 0 where
   pub stands : Stands setup.ids t
-  pub stories : AreStories setup.layer (first_of t.made) (started h) (done_in h) (guards_of t.guards) t.moment (is_open t.handles) (length t.made) t.recording
+  pub stories : AreStories setup (first_of t.made) (started h) (done_in h) (guards_of t.guards) t.moment (is_open t.handles) (length t.made) t.recording
   pub unborn : (s : ℕ) → length t.made ≤ s → (place_in (started h) s ≡ 0) × ((own : SpanContext) → ops_of own h s ≡ [])
   pub clear : t.recording.finished ≡ []
-  pub each : Each (IsClosed setup.layer t.made h) t.closed (records setup.layer h)
+  pub each : Each (IsClosed setup t.made h) t.closed (records setup h)
 
 -- ---- one effect more
 
-module _ (setup : Setup) (h : History) (now : IsWhole setup h (tables setup.layer h)) (at : ℕ) (is_drop : Bool) (e : Effect) (timed : IsTimed (tables setup.layer h).moment e.at) (step : IsStep setup (tables setup.layer h) at is_drop e) where
+module _ (setup : Setup) (h : History) (now : IsWhole setup h (tables setup h)) (at : ℕ) (is_drop : Bool) (e : Effect) (timed : IsTimed (tables setup h).moment e.at) (step : IsStep setup (tables setup h) at is_drop e) where
   abbrev t : Tables
-  t = tables setup.layer h
-
-  abbrev settings : LayerSettings
-  settings = setup.layer
+  t = tables setup h
 
   abbrev hs : List (Option Scope)
   hs = with_new t.handles (option_map Some e.new_handle)
@@ -183,20 +178,20 @@ module _ (setup : Setup) (h : History) (now : IsWhole setup h (tables setup.laye
   all_open_made [] held = tt
   all_open_made (id ∷ ids) held = (open_made t.handles t.made t.closed now.stands.sound id held.0, all_open_made ids held.1)
 
-  moved : AreStories settings (first_of t.made) (started h) (done_in h) (guards_of t.guards) e.at (is_open t.handles) (length t.made) t.recording
+  moved : AreStories setup (first_of t.made) (started h) (done_in h) (guards_of t.guards) e.at (is_open t.handles) (length t.made) t.recording
   moved = record {
-    each = λ s is. later_story settings (first_of t.made s) (told_at s t.recording.spans) (place_in (started h) s) (done_in h s) (guards_of t.guards s) t.moment (now.stories.each s is) (done_in h s) (guards_of t.guards s) e.at (λ own. refl) (omega arith) timed.later;
+    each = λ s is. later_story setup (first_of t.made s) (told_at s t.recording.spans) (place_in (started h) s) (done_in h s) (guards_of t.guards s) t.moment (now.stories.each s is) (done_in h s) (guards_of t.guards s) e.at (λ own. refl) (omega arith) timed.later;
     fresh = now.stories.fresh;
     count = now.stories.count;
     settings_are = now.stories.settings_are;
-    uncounted = now.stories.uncounted;
+    counting_is = now.stories.counting_is;
   }
 
   abbrev begun_done : ℕ → SpanContext → List Stamped
   begun_done = begun_by e.at (started h) e.starts (done_in h)
 
-  begun : AreStories settings (first_of t.made) order begun_done (guards_of t.guards) e.at (is_open t.handles) (length t.made) (fold (λ r s. with_start s e.at r) t.recording e.starts)
-  begun = starts_stories settings (first_of t.made) e.at timed.most (guards_of t.guards) (is_open t.handles) (length t.made) (started h) (done_in h) t.recording e.starts moved step.starts
+  begun : AreStories setup (first_of t.made) order begun_done (guards_of t.guards) e.at (is_open t.handles) (length t.made) (fold (λ r s. with_start s e.at r) t.recording e.starts)
+  begun = starts_stories setup (first_of t.made) e.at timed.most (guards_of t.guards) (is_open t.handles) (length t.made) (started h) (done_in h) t.recording e.starts moved step.starts
 
   unplaced : place_in order (length t.made) ≡ 0
   unplaced = starts_spare (started h) e.starts (length t.made) (all_open_made e.starts step.starts) ∙ (now.unborn (length t.made) (omega arith)).0
@@ -216,8 +211,8 @@ module _ (setup : Setup) (h : History) (now : IsWhole setup h (tables setup.laye
   begun_same : (s : ℕ) (own : SpanContext) → is_open t.handles s ≡ false → begun_done s own ≡ ops_of own h s
   begun_same s own off = ap (λ (os : List Stamped). ops_of own h s ++ os) (starts_absent own e.at s (started h) e.starts (not_started e.starts step.starts s off)) ∙ append-nil (ops_of own h s)
 
-  made : AreStories settings (first_of ms) order begun_done (guards_of t.guards) e.at (is_open hs) (length ms) (with_made (length t.made) e.made (fold (λ r s. with_start s e.at r) t.recording e.starts))
-  made = made_stories settings order begun_done (guards_of t.guards) e.at timed.most t.made (fold (λ r s. with_start s e.at r) t.recording e.starts) (is_open t.handles) begun unplaced
+  made : AreStories setup (first_of ms) order begun_done (guards_of t.guards) e.at (is_open hs) (length ms) (with_made (length t.made) e.made (fold (λ r s. with_start s e.at r) t.recording e.starts))
+  made = made_stories setup order begun_done (guards_of t.guards) e.at timed.most t.made (fold (λ r s. with_start s e.at r) t.recording e.starts) (is_open t.handles) begun unplaced
       (λ own. begun_same (length t.made) own (not_open (length t.made) (omega arith)) ∙ (now.unborn (length t.made) (omega arith)).1 own) e.made step.begins (is_open hs)
       (open_made hs ms t.closed named_now) was_open
 
@@ -230,8 +225,8 @@ module _ (setup : Setup) (h : History) (now : IsWhole setup h (tables setup.laye
   abbrev between : Recording
   between = before_closes (length t.made) e t.recording
 
-  did : AreStories settings (first_of ms) order done opened e.at (is_open hs) (length ms) between
-  did = ops_stories settings (first_of ms) e.at timed.most order (is_open hs) (length ms) begun_done (guards_of t.guards) (with_made (length t.made) e.made (fold (λ r s. with_start s e.at r) t.recording e.starts)) e.ops made (unstarted_all t.handles e.ops step.reached)
+  did : AreStories setup (first_of ms) order done opened e.at (is_open hs) (length ms) between
+  did = ops_stories setup (first_of ms) e.at timed.most order (is_open hs) (length ms) begun_done (guards_of t.guards) (with_made (length t.made) e.made (fold (λ r s. with_start s e.at r) t.recording e.starts)) e.ops made (unstarted_all t.handles e.ops step.reached)
 
   within : (s : ℕ) → opened s ≤ guards_of (after t e).guards s
   within s = turns_within setup.ids t.handles t.guards e.lane e.new_guard e.new_attach e.spent_guard e.entry e.exit step.enters e.ops step.turns s
@@ -242,8 +237,8 @@ module _ (setup : Setup) (h : History) (now : IsWhole setup h (tables setup.laye
       let most = within s in
       omega (arith, none, most)
 
-  closes : Closes settings (first_of ms) e.at timed.most order done opened (is_open hs) (length ms) between e.closes (recorded_by (length t.made) e t.recording)
-  closes = closes_stories settings (first_of ms) e.at timed.most opened (length ms) order done (is_open hs) between e.closes did closing_once shut
+  closes : Closes setup (first_of ms) e.at timed.most order done opened (is_open hs) (length ms) between e.closes (recorded_by (length t.made) e t.recording)
+  closes = closes_stories setup (first_of ms) e.at timed.most opened (length ms) order done (is_open hs) between e.closes did closing_once shut
 
   abbrev h' : History
   h' = h ++ e ∷ []
@@ -259,16 +254,16 @@ module _ (setup : Setup) (h : History) (now : IsWhole setup h (tables setup.laye
       regroup : (a b c d : List Stamped) → ((a ++ b) ++ c) ++ d ≡ a ++ ((b ++ c) ++ d)
       regroup a b c d = simp append_assoc
 
-  stories_now : AreStories settings (first_of ms) (started h') (done_in h') (guards_of (after t e).guards) e.at (is_open (after t e).handles) (length ms) (open_part (recorded_by (length t.made) e t.recording))
+  stories_now : AreStories setup (first_of ms) (started h') (done_in h') (guards_of (after t e).guards) e.at (is_open (after t e).handles) (length ms) (open_part (recorded_by (length t.made) e t.recording))
   stories_now = record {
     each = λ s is.
         let f = closes.after.each s (still_open s is) in
-        subst (λ (o : List ℕ). IsStory settings (told_at s (recorded_by (length t.made) e t.recording).spans) (first_of ms s) (place_in o s) (done_in h' s) (guards_of (after t e).guards s) e.at) (sym (started_push h e))
-        (later_story settings (first_of ms s) (told_at s (recorded_by (length t.made) e t.recording).spans) (place_in order_in_end s) (begun_by e.at order e.closes done s) (opened s) e.at f (done_in h' s) (guards_of (after t e).guards s) e.at (done_is s) (within s) (omega arith));
+        subst (λ (o : List ℕ). IsStory setup (told_at s (recorded_by (length t.made) e t.recording).spans) (first_of ms s) (place_in o s) (done_in h' s) (guards_of (after t e).guards s) e.at) (sym (started_push h e))
+        (later_story setup (first_of ms s) (told_at s (recorded_by (length t.made) e t.recording).spans) (place_in order_in_end s) (begun_by e.at order e.closes done s) (opened s) e.at f (done_in h' s) (guards_of (after t e).guards s) e.at (done_is s) (within s) (omega arith));
     fresh = closes.after.fresh;
     count = closes.after.count ∙ ap (λ (o : List ℕ). length o) (sym (started_push h e));
     settings_are = closes.after.settings_are;
-    uncounted = closes.after.uncounted;
+    counting_is = closes.after.counting_is;
   }
 
   -- ---- spans that aren't made yet
@@ -344,72 +339,72 @@ module _ (setup : Setup) (h : History) (now : IsWhole setup h (tables setup.laye
       let starts = places_stay (started h) e.starts s some in
       ap (λ (o : List ℕ). place_in o s) (started_push h e) ∙ places_stay order e.closes s (subst (λ (p : ℕ). 0 < p) (sym starts) some) ∙ starts
 
-  stays_closed : (s : ℕ) (r : Record) → 0 < occurrences s t.closed → IsClosed settings t.made h s r → IsClosed settings ms h' s r
+  stays_closed : (s : ℕ) (r : Record) → 0 < occurrences s t.closed → IsClosed setup t.made h s r → IsClosed setup ms h' s r
   stays_closed s r some c =
       let old = closed_before s some in
       let at_same = closed_push h e s ∙ cond-false {A = ℕ} (is_in s e.closes) e.at (closed_at h s) old.2 in
-      let kept = same_record settings (first_of t.made s) (done_in h s) (done_in h' s) (place_in (started h) s) (place_in (started h') s) (closed_at h s) r (λ own. sym (same_ops s own old.1 old.2)) (sym (place_kept s c.started)) c in
-      subst (λ (f : Told). IsRecord settings f (done_in h' s) (place_in (started h') s) (closed_at h' s) r) (sym (first_stays e.made s old.0))
-      (subst (λ (n : ℕ). IsRecord settings (first_of t.made s) (done_in h' s) (place_in (started h') s) n r) (sym at_same) kept)
+      let kept = same_record setup (first_of t.made s) (done_in h s) (done_in h' s) (place_in (started h) s) (place_in (started h') s) (closed_at h s) r (λ own. sym (same_ops s own old.1 old.2)) (sym (place_kept s c.started)) c in
+      subst (λ (f : Told). IsRecord setup f (done_in h' s) (place_in (started h') s) (closed_at h' s) r) (sym (first_stays e.made s old.0))
+      (subst (λ (n : ℕ). IsRecord setup (first_of t.made s) (done_in h' s) (place_in (started h') s) n r) (sym at_same) kept)
 
   -- those of the effect
-  closes_now : (s : ℕ) (r : Record) → 0 < occurrences s e.closes → Closed settings (first_of ms) e.at timed.most order_in_end (begun_by e.at order e.closes done) s r → IsClosed settings ms h' s r
+  closes_now : (s : ℕ) (r : Record) → 0 < occurrences s e.closes → Closed setup (first_of ms) e.at timed.most order_in_end (begun_by e.at order e.closes done) s r → IsClosed setup ms h' s r
   closes_now s r some c =
       let counted = is_in_counted s e.closes in
       let inside : is_in s e.closes ≡ true = grind (arith, nat_tests, counted, some) in
       let at_now = closed_push h e s ∙ cond-true {A = ℕ} (is_in s e.closes) e.at (closed_at h s) inside in
-      subst (λ (n : ℕ). IsRecord settings (first_of ms s) (done_in h' s) (place_in (started h') s) n r) (sym at_now)
-      (same_record settings (first_of ms s) (begun_by e.at order e.closes done s) (done_in h' s) (place_in order_in_end s) (place_in (started h') s) e.at r (done_is s) (ap (λ (o : List ℕ). place_in o s) (sym (started_push h e))) c)
+      subst (λ (n : ℕ). IsRecord setup (first_of ms s) (done_in h' s) (place_in (started h') s) n r) (sym at_now)
+      (same_record setup (first_of ms s) (begun_by e.at order e.closes done s) (done_in h' s) (place_in order_in_end s) (place_in (started h') s) e.at r (done_is s) (ap (λ (o : List ℕ). place_in o s) (sym (started_push h e))) c)
 
-  records_now : records settings h' ≡ records settings h ++ closes.records
-  records_now = records_on (no_tables settings) h e ∙ ap (λ (rs : List Record). records settings h ++ rs) (closes.finished ∙ ap (λ (rs : List Record). rs ++ closes.records) (before_finished (length t.made) e t.recording ∙ now.clear))
+  records_now : records setup h' ≡ records setup h ++ closes.records
+  records_now = records_on (no_tables setup) h e ∙ ap (λ (rs : List Record). records setup h ++ rs) (closes.finished ∙ ap (λ (rs : List Record). rs ++ closes.records) (before_finished (length t.made) e t.recording ∙ now.clear))
 
-  each_now : Each (IsClosed settings ms h') (t.closed ++ e.closes) (records settings h')
-  each_now = subst (Each (IsClosed settings ms h') (t.closed ++ e.closes)) (sym records_now)
-      (each_append (IsClosed settings ms h') t.closed e.closes (records settings h) closes.records
-      (each_map (IsClosed settings t.made h) (IsClosed settings ms h') t.closed (records settings h) stays_closed now.each)
-      (each_map (Closed settings (first_of ms) e.at timed.most order_in_end (begun_by e.at order e.closes done)) (IsClosed settings ms h') e.closes closes.records closes_now closes.each))
+  each_now : Each (IsClosed setup ms h') (t.closed ++ e.closes) (records setup h')
+  each_now = subst (Each (IsClosed setup ms h') (t.closed ++ e.closes)) (sym records_now)
+      (each_append (IsClosed setup ms h') t.closed e.closes (records setup h) closes.records
+      (each_map (IsClosed setup t.made h) (IsClosed setup ms h') t.closed (records setup h) stays_closed now.each)
+      (each_map (Closed setup (first_of ms) e.at timed.most order_in_end (begun_by e.at order e.closes done)) (IsClosed setup ms h') e.closes closes.records closes_now closes.each))
 
   -- the effect's records
-  pub effect_each : Each (Closed settings (first_of ms) e.at timed.most order_in_end (begun_by e.at order e.closes done)) e.closes (records_of t e)
-  effect_each = subst (Each (Closed settings (first_of ms) e.at timed.most order_in_end (begun_by e.at order e.closes done)) e.closes)
+  pub effect_each : Each (Closed setup (first_of ms) e.at timed.most order_in_end (begun_by e.at order e.closes done)) e.closes (records_of t e)
+  effect_each = subst (Each (Closed setup (first_of ms) e.at timed.most order_in_end (begun_by e.at order e.closes done)) e.closes)
       (sym (closes.finished ∙ ap (λ (rs : List Record). rs ++ closes.records) (before_finished (length t.made) e t.recording ∙ now.clear))) closes.each
 
   pub one_more : IsWhole setup h' (after t e)
   one_more = record { stands = later; stories = stories_now; unborn = unborn_now; clear = refl; each = each_now }
 
-none_whole : (setup : Setup) → IsWhole setup [] (no_tables setup.layer)
+none_whole : (setup : Setup) → IsWhole setup [] (no_tables setup)
 none_whole setup = record {
-  stands = none_stands setup.ids setup.layer;
-  stories = record { each = λ s is. absurd (cc is); fresh = λ s above. refl; count = refl; settings_are = refl; uncounted = refl };
+  stands = none_stands setup.ids setup;
+  stories = record { each = λ s is. absurd (cc is); fresh = λ s above. refl; count = refl; settings_are = refl; counting_is = refl };
   unborn = λ s above. (refl, λ own. refl);
   clear = refl;
   each = tt;
 }
 
-pub fits : (setup : Setup) (h : History) → IsWhole setup h (tables setup.layer h) → IsFit setup.layer (tables setup.layer h)
-fits setup h now = fit_of setup.layer setup.ids (tables setup.layer h) now.stands now.stories.settings_are now.stories.uncounted
+pub fits : (setup : Setup) (h : History) → IsWhole setup h (tables setup h) → IsFit setup (tables setup h)
+fits setup h now = fit_of setup setup.ids (tables setup h) now.stands now.stories.settings_are now.stories.counting_is
 
-pub whole : (setup : Setup) (h : History) → IsHistory setup h → IsWhole setup h (tables setup.layer h)
+pub whole : (setup : Setup) (h : History) → IsHistory setup h → IsWhole setup h (tables setup h)
 whole setup _ none = none_whole setup
 whole setup _ (more h request e before is) =
     let now = whole setup h before in
-    let step = step_of setup (tables setup.layer h) (fits setup h now) request e is in
-    subst (IsWhole setup (h ++ e ∷ [])) (sym (fold_push after (no_tables setup.layer) h e)) (one_more setup h now request.at (is_drop request.call) e step.0 step.1)
+    let step = step_of setup (tables setup h) (fits setup h now) request e is in
+    subst (IsWhole setup (h ++ e ∷ [])) (sym (fold_push after (no_tables setup) h e)) (one_more setup h now request.at (is_drop request.call) e step.0 step.1)
 
 -- ---- what closes, and when
 
-pub closed_once : (setup : Setup) (h : History) (s : ℕ) → IsHistory setup h → occurrences s (tables setup.layer h).closed ≤ 1
+pub closed_once : (setup : Setup) (h : History) (s : ℕ) → IsHistory setup h → occurrences s (tables setup h).closed ≤ 1
 closed_once setup h s legal = let ended = (whole setup h legal).stands.sound.ended s in grind (arith, nat_tests, ended)
 
-pub closed_when_ended : (setup : Setup) (h : History) (s : ℕ) → IsHistory setup h → s < length (tables setup.layer h).made → is_in s (tables setup.layer h).closed ≡ not (is_open (tables setup.layer h).handles s)
+pub closed_when_ended : (setup : Setup) (h : History) (s : ℕ) → IsHistory setup h → s < length (tables setup h).made → is_in s (tables setup h).closed ≡ not (is_open (tables setup h).handles s)
 closed_when_ended setup h s legal below =
     let ended = (whole setup h legal).stands.sound.ended s in
-    let counted = is_in_counted s (tables setup.layer h).closed in
+    let counted = is_in_counted s (tables setup h).closed in
     grind (arith, nat_tests, ended, counted, below)
 
-pub only_made_closed : (setup : Setup) (h : History) (s : ℕ) → IsHistory setup h → length (tables setup.layer h).made ≤ s → is_in s (tables setup.layer h).closed ≡ false
+pub only_made_closed : (setup : Setup) (h : History) (s : ℕ) → IsHistory setup h → length (tables setup h).made ≤ s → is_in s (tables setup h).closed ≡ false
 only_made_closed setup h s legal above =
     let ended = (whole setup h legal).stands.sound.ended s in
-    let counted = is_in_counted s (tables setup.layer h).closed in
+    let counted = is_in_counted s (tables setup h).closed in
     grind (arith, nat_tests, ended, counted, above)

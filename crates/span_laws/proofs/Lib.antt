@@ -2,6 +2,7 @@ mod Balance
 mod Chaining
 mod Children
 mod Closing
+mod Counts
 mod Exporting
 mod Guarding
 mod Histories

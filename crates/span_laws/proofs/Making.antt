@@ -1,12 +1,10 @@
 -- A span that is made begins its story.
-use Rattle.std.proofs.Common.{◌≡◌, ℕ, suc, ◌+◌, ◌<◌, ◌≤◌, ◌==◌, List, [], ◌∷◌, ◌++◌, length, Bool, true, false, cond, fold, Option, Some, None, option_map, refl, sym, ap, subst, ◌∙◌, arith, inl, inr}
-use Rattle.std.specs.Prelude.{if◌then◌else◌}
+use Rattle.std.proofs.Common.{◌≡◌, ℕ, ◌<◌, ◌≤◌, ◌==◌, List, [], ◌∷◌, ◌++◌, length, Bool, true, fold, Option, Some, None, refl, sym, ap, subst, ◌∙◌, arith, inl, inr}
 use Rattle.std.specs.List.{AllByRecursion}
 use Rattle.std.proofs.lemmas.List.{length_push, get_or_push}
 use Rattle.std.proofs.lemmas.Bool.{cases_eq, eq-eqb, ne_eqb, cond-true, cond-false}
 use Rattle.otel_base.specs.declared.context.SpanContext.{SpanContext}
 use Rattle.otel_state.specs.declared.op.Op.TheVariants as ops
-use Rattle.otel_state.specs.declared.settings.LayerSettings.{LayerSettings}
 use Rattle.otel_state.specs.declared.times.TheConstants.{GREATEST}
 use Rattle.otel_state.specs.Content.{Making}
 use Rattle.otel_state.specs.Deeds.{Stamped}
@@ -14,6 +12,7 @@ use Rattle.otel_state.specs.States.{Told, begun, changed}
 use Rattle.otel_layer.specs.Table.{told_at, with_span}
 use Rattle.otel_layer.specs.Recording.{Recording}
 use Rattle.otel_layer.proofs.Finding.{told_at_made}
+use Rattle.span_pipeline.specs.Setups.{Setup}
 use Rattle.span_pipeline.specs.Tables.{Made, with_new, made_of, no_making, with_made}
 use Rattle.span_laws.specs.Records.{Began}
 use Rattle.span_laws.specs.Starts.{with_started, place_in}
@@ -28,12 +27,12 @@ abbrev pub first_of : List Made → ℕ → Told
 first_of ms s = (made_of ms s).told
 
 -- the story of a span that was just made
-begins : (settings : LayerSettings) (told : Told) (done : SpanContext → List Stamped) (opened at : ℕ) (making : Making) → Began settings at told making → ((own : SpanContext) → done own ≡ []) → at ≤ GREATEST → IsStory settings (Some told) told 0 done opened at
-begins settings told done opened at making b undone most = record {
+begins : (setup : Setup) (told : Told) (done : SpanContext → List Stamped) (opened at : ℕ) (making : Making) → Began setup at told making → ((own : SpanContext) → done own ≡ []) → at ≤ GREATEST → IsStory setup (Some told) told 0 done opened at
+begins setup told done opened at making b undone most = record {
   told = told;
   is = refl;
   making = making;
-  began = record { update = b.update; is = at_making; made = refl; tracked = b.tracked; uncounted = b.uncounted };
+  began = record { update = b.update; is = at_making; made = refl; tracked = b.tracked; counting_is = b.counting_is };
   later = [];
   stands = at_making;
   in_order = (omega arith, let same = b.made in omega (arith, same, most));
@@ -53,20 +52,20 @@ starts_spare order (id ∷ ids) n below =
     let less : id < n = below.0 in
     starts_spare (with_started order id) ids n below.1 ∙ place_none order id n (λ e. absurd (omega (arith, e, less)))
 
-module _ (settings : LayerSettings) (order : List ℕ) (done : ℕ → SpanContext → List Stamped) (opened : ℕ → ℕ) (at : ℕ) (most : at ≤ GREATEST) (ms : List Made) (r : Recording) (k : ℕ → Bool) (stories : AreStories settings (first_of ms) order done opened at k (length ms) r)
+module _ (setup : Setup) (order : List ℕ) (done : ℕ → SpanContext → List Stamped) (opened : ℕ → ℕ) (at : ℕ) (most : at ≤ GREATEST) (ms : List Made) (r : Recording) (k : ℕ → Bool) (stories : AreStories setup (first_of ms) order done opened at k (length ms) r)
     (unplaced : place_in order (length ms) ≡ 0) (undone : (own : SpanContext) → done (length ms) own ≡ []) where
-  pub made_stories : (o : Option Made) → Begins settings at o → (later : ℕ → Bool) → ((s : ℕ) → later s ≡ true → s < length (with_new ms o)) → ((s : ℕ) → later s ≡ true → s < length ms → k s ≡ true)
-      → AreStories settings (first_of (with_new ms o)) order done opened at later (length (with_new ms o)) (with_made (length ms) o r)
+  pub made_stories : (o : Option Made) → Begins setup at o → (later : ℕ → Bool) → ((s : ℕ) → later s ≡ true → s < length (with_new ms o)) → ((s : ℕ) → later s ≡ true → s < length ms → k s ≡ true)
+      → AreStories setup (first_of (with_new ms o)) order done opened at later (length (with_new ms o)) (with_made (length ms) o r)
   made_stories None begun later below known = record {
     each = λ s is. stories.each s (known s is (below s is));
     fresh = stories.fresh;
     count = stories.count;
     settings_are = stories.settings_are;
-    uncounted = stories.uncounted;
+    counting_is = stories.counting_is;
   }
   made_stories (Some m) begun later below known = record {
     each = λ s is. elim (cases_eq s (length ms)) [
-      | inl same ↦ subst (λ (q : ℕ). IsStory settings (told_at q (with_span (length ms) m.told r.spans)) (first_of (ms ++ m ∷ []) q) (place_in order q) (done q) (opened q) at) (sym same) mine
+      | inl same ↦ subst (λ (q : ℕ). IsStory setup (told_at q (with_span (length ms) m.told r.spans)) (first_of (ms ++ m ∷ []) q) (place_in order q) (done q) (opened q) at) (sym same) mine
       | inr other ↦ (
           let count = length_push ms m in
           let within = below s is in
@@ -82,14 +81,14 @@ module _ (settings : LayerSettings) (order : List ℕ) (done : ℕ → SpanConte
         ∙ stories.fresh s (omega (arith, count, above));
     count = stories.count;
     settings_are = stories.settings_are;
-    uncounted = stories.uncounted;
+    counting_is = stories.counting_is;
   }
     where
       fresh : told_at (length ms) r.spans ≡ None
       fresh = stories.fresh (length ms) (omega arith)
 
-      mine : IsStory settings (told_at (length ms) (with_span (length ms) m.told r.spans)) (first_of (ms ++ m ∷ []) (length ms)) (place_in order (length ms)) (done (length ms)) (opened (length ms)) at
+      mine : IsStory setup (told_at (length ms) (with_span (length ms) m.told r.spans)) (first_of (ms ++ m ∷ []) (length ms)) (place_in order (length ms)) (done (length ms)) (opened (length ms)) at
       mine =
           let read = told_at_made (length ms) (length ms) m.told r.spans fresh ∙ cond-true {A = Option Told} (length ms == length ms) (Some m.told) (told_at (length ms) r.spans) (eq-eqb (length ms) (length ms) refl) in
           let first = ap (λ (made : Made). made.told) (get_or_push ms m no_making (length ms) refl) in
-          rw (read, first, unplaced) (begins settings m.told (done (length ms)) (opened (length ms)) at begun.0 begun.1 undone most)
+          rw (read, first, unplaced) (begins setup m.told (done (length ms)) (opened (length ms)) at begun.0 begun.1 undone most)

@@ -1,8 +1,8 @@
 -- The ids of spans and of records.
-use Rattle.std.proofs.Common.{◌≡◌, ℕ, suc, ◌+◌, ◌<◌, ◌≤◌, ◌==◌, ◌||◌, List, [], ◌∷◌, ◌++◌, length, Bool, true, false, cond, map, fold, Option, Some, None, refl, sym, ap, subst, ◌∙◌, arith, inl, inr}
-use Rattle.std.specs.Prelude.{if◌then◌else◌, flat_map}
+use Rattle.std.proofs.Common.{◌≡◌, ℕ, ◌+◌, ◌<◌, ◌≤◌, ◌==◌, List, [], ◌∷◌, ◌++◌, length, true, map, fold, Option, Some, None, refl, sym, ap, subst, ◌∙◌, arith, inl, inr}
+use Rattle.std.specs.Prelude.{flat_map}
 use Rattle.std.specs.List.{range_with_len}
-use Rattle.std.proofs.lemmas.Bool.{cases_Bool, cases_eq, cases_lt, eq-eqb, eqb-true, ne_eqb, cond-true, cond-false}
+use Rattle.std.proofs.lemmas.Bool.{cases_Bool, cases_eq, cases_lt, eq-eqb, ne_eqb, cond-true, cond-false}
 use Rattle.std.proofs.lemmas.Bool.Decides.{nat_tests}
 use Rattle.otel_base.specs.declared.context.Context.{Context}
 use Rattle.otel_base.specs.declared.context.SpanContext.{SpanContext}
@@ -70,13 +70,13 @@ told_by : (own : Option SpanContext) (place : ℕ) (parent : Context) → HasId 
 told_by None place parent is = sym is
 told_by (Some own) place parent is = ap (λ (c : SpanContext). c.span) is.0
 
-pub of_open : (setup : Setup) (h : History) (s : ℕ) → IsHistory setup h → is_open (tables setup.layer h).handles s ≡ true → id_told (told_at s (tables setup.layer h).recording.spans) ≡ place_in (started h) s
+pub of_open : (setup : Setup) (h : History) (s : ℕ) → IsHistory setup h → is_open (tables setup h).handles s ≡ true → id_told (told_at s (tables setup h).recording.spans) ≡ place_in (started h) s
 of_open setup h s legal held =
     let story = (whole setup h legal).stories.each s held in
     ap id_told story.is ∙ told_by story.told.own (place_in (started h) s) story.told.parent story.has_id
 
-pub of_records : (setup : Setup) (h : History) → IsHistory setup h → map id_of (records setup.layer h) ≡ map (place_in (started h)) (tables setup.layer h).closed
-of_records setup h legal = let t = tables setup.layer h in each_equal (IsClosed setup.layer t.made h) id_of (place_in (started h)) (λ s r c. ap (λ (own : SpanContext). own.span) c.own) t.closed (records setup.layer h) (whole setup h legal).each
+pub of_records : (setup : Setup) (h : History) → IsHistory setup h → map id_of (records setup h) ≡ map (place_in (started h)) (tables setup h).closed
+of_records setup h legal = let t = tables setup h in each_equal (IsClosed setup t.made h) id_of (place_in (started h)) (λ s r c. ap (λ (own : SpanContext). own.span) c.own) t.closed (records setup h) (whole setup h legal).each
 
 each_placed : (P : ℕ → Record → Type 0) (g : ℕ → ℕ) → ((s : ℕ) (r : Record) → P s r → 0 < g s) → (xs : List ℕ) (rs : List Record) → Each P xs rs → (s : ℕ) → 0 < occurrences s xs → 0 < g s
 each_placed P g some [] [] each s there = absurd (omega (arith, there))
@@ -123,21 +123,21 @@ mapped_once f (x ∷ xs) id once apart =
       ]
     ]
 
-pub no_two_alike : (setup : Setup) (h : History) (id : ℕ) → IsHistory setup h → occurrences id (map id_of (records setup.layer h)) ≤ 1
+pub no_two_alike : (setup : Setup) (h : History) (id : ℕ) → IsHistory setup h → occurrences id (map id_of (records setup h)) ≤ 1
 no_two_alike setup h id legal =
-    let t = tables setup.layer h in
+    let t = tables setup h in
     subst (λ (ids : List ℕ). occurrences id ids ≤ 1) (sym (of_records setup h legal))
     (mapped_once (place_in (started h)) t.closed id (λ s. closed_once setup h s legal) (λ s q there same. one_place 1 (started h) s q (omega arith) same
-    (each_placed (IsClosed setup.layer t.made h) (place_in (started h)) (λ s r c. c.started) t.closed (records setup.layer h) (whole setup h legal).each s there)))
+    (each_placed (IsClosed setup t.made h) (place_in (started h)) (λ s r c. c.started) t.closed (records setup h) (whole setup h legal).each s there)))
 
-pub none_zero : (setup : Setup) (h : History) → IsHistory setup h → occurrences 0 (map id_of (records setup.layer h)) ≡ 0
+pub none_zero : (setup : Setup) (h : History) → IsHistory setup h → occurrences 0 (map id_of (records setup h)) ≡ 0
 none_zero setup h legal =
-    let t = tables setup.layer h in
+    let t = tables setup h in
     subst (λ (ids : List ℕ). occurrences 0 ids ≡ 0) (sym (of_records setup h legal)) (elim (cases_lt 0 (occurrences 0 (map (place_in (started h)) t.closed))) [
       | inr none ↦ omega (arith, none)
       | inl some ↦ absurd (
           let it = given (place_in (started h)) t.closed 0 some in
-          let placed = each_placed (IsClosed setup.layer t.made h) (place_in (started h)) (λ s r c. c.started) t.closed (records setup.layer h) (whole setup h legal).each it.0 it.1 in
+          let placed = each_placed (IsClosed setup t.made h) (place_in (started h)) (λ s r c. c.started) t.closed (records setup h) (whole setup h legal).each it.0 it.1 in
           let is = it.2 in
           omega (arith, placed, is))
     ])

@@ -2,10 +2,12 @@
 use Rattle.std.proofs.Common.{◌≡◌, ℕ, ◌≤◌, ◌==◌, ◌||◌, List, [], ◌∷◌, ◌++◌, length, not, Bool, true, false, cond, Option, Some, None, option_map, slice_set, slice_get, Ok, Err, refl, sym, ap, subst, ◌∙◌, arith}
 use Rattle.std.specs.List.{AllByRecursion}
 use Rattle.std.specs.Option.{option_to_list}
+use Rattle.std.specs.Prelude.{is_some}
 use Rattle.std.proofs.lemmas.Bool.{eq-eqb, eqb-true}
 use Rattle.std.proofs.lemmas.Bool.Decides.{nat_tests}
 use Rattle.otel_base.specs.declared.context.Context.{Context}
 use Rattle.otel_base.specs.Ids.{ids_of, is_valid}
+use Rattle.otel_metrics.specs.declared.measure.Measure.{Measure}
 use Rattle.otel_state.specs.declared.op.Op.{Op}
 use Rattle.otel_state.specs.declared.op.Op.TheVariants as ops
 use Rattle.otel_state.specs.declared.settings.LayerSettings.{LayerSettings}
@@ -38,11 +40,12 @@ use Rattle.span_pipeline.specs.declared.reply.What.TheVariants as what
 use Rattle.span_pipeline.specs.Setups.{Setup, id_at, span_site, event_site}
 use Rattle.span_pipeline.specs.Tables.{Scope, Made, Done, Guarded, Effect, Tables, with_new, either_after, slot_at, own}
 use Rattle.span_pipeline.specs.Fields.{Fields, all_values, values_of}
-use Rattle.span_pipeline.specs.Effects.{Resolved, named, is_open, holds, closed_of, is_borrowed, scope_at, parent_at, lane_in, made_at, makes_span, declines, clones, drops, current_scope, scope_or_current, exchanges, on, active, enters, meets_full, opens, exits, exits_on, is_shared, if_told, callsite_of, updates, tells, is_full, gives, own_context, attaches, detaches, follows, happens_at, is_bad_moment, effect_of, effect_of_call, admitted, reloads, reloads_if, heard_values}
+use Rattle.span_pipeline.specs.Effects.{Resolved, named, is_open, holds, closed_of, is_borrowed, scope_at, parent_at, lane_in, made_at, makes_span, declines, clones, drops, current_scope, scope_or_current, exchanges, on, active, enters, meets_full, opens, exits, exits_on, is_shared, callsite_of, updates, tells, is_full, gives, own_context, attaches, detaches, follows, happens_at, is_bad_moment, effect_of, effect_of_call, admitted, reloads_if, heard_values}
 use Rattle.span_pipeline.specs.Admission.{TextRead, text_read}
 use Rattle.span_laws.specs.Closes.{is_drop}
 use Rattle.span_laws.specs.Laws.{occurrences}
 use Rattle.span_laws.specs.Records.{Began}
+use Rattle.span_laws.proofs.Counts.{each_counted, each_on, each_told}
 use Rattle.span_laws.proofs.Guarding.{Enters, no_entry, skips, enters_by, exits_by}
 use Rattle.span_laws.proofs.Occurrences.{held_push, held_set, any_counted, is_in_counted, occurs_cons, occurs_filter, slot_open, slot_push}
 
@@ -64,18 +67,24 @@ pub data Spends (slots : List (Option Scope)) (gs : List (Option Guarded)) : Opt
       → closes ≡ closed_of (slice_set slots k None) scope → Spends slots gs (Some k) closes
 
 -- what a span is made with
-abbrev pub Begins : LayerSettings → ℕ → Option Made → Type 0
-Begins settings at None = Unit {0}
-Begins settings at (Some m) = (making : Making) × Began settings at m.told making
+abbrev pub Begins : Setup → ℕ → Option Made → Type 0
+Begins setup at None = Unit {0}
+Begins setup at (Some m) = (making : Making) × Began setup at m.told making
 
 -- an op of an open span that is no start
 pub record IsReached (hs : List (Option Scope)) (d : Done) : Type 0 where
   pub there : is_open hs d.span ≡ true
   pub unstarted : (deed d.op).own ≡ None
 
+abbrev IsUnstarted : Op → Type 0
+IsUnstarted op = (deed op).own ≡ None
+
 -- an op that turns no entry
+abbrev IsCalmOp : Op → Type 0
+IsCalmOp op = ((deed op).enters ≡ false) × ((deed op).exits ≡ false)
+
 abbrev pub IsCalm : Done → Type 0
-IsCalm d = ((deed d.op).enters ≡ false) × ((deed d.op).exits ≡ false)
+IsCalm d = IsCalmOp d.op
 
 -- an effect's ops turn the entry that it adds or takes off, and no other
 abbrev pub Turns : Option ℕ → Option ℕ → List Done → Type 0
@@ -94,7 +103,7 @@ pub record IsStep (setup : Setup) (t : Tables) (at : ℕ) (is_drop : Bool) (e : 
   pub names : Names t.handles t.made e.new_handle e.made
   pub enters : Enters setup.ids t.handles t.guards e.lane e.new_guard e.new_attach e.spent_guard e.entry e.exit
   pub spends : Spends (with_new t.handles (option_map Some e.new_handle)) (either_after t.guards e.new_guard e.new_attach e.spent_guard) e.spent_handle e.closes
-  pub begins : Begins setup.layer e.at e.made
+  pub begins : Begins setup e.at e.made
   pub starts : AllByRecursion (λ s. is_open t.handles s ≡ true) e.starts
   pub reached : AllByRecursion (IsReached t.handles) e.ops
   pub turns : Turns e.entry e.exit e.ops
@@ -120,12 +129,12 @@ none_in [] none = refl
 none_in (x ∷ xs) none = absurd (let here = occurs_cons x x xs in let is = none x in grind (arith, nat_tests, here, is))
 
 -- what the tables of a history have
-pub record IsFit (settings : LayerSettings) (t : Tables) : Type 0 where
+pub record IsFit (setup : Setup) (t : Tables) : Type 0 where
   pub currents : (lane : ℕ) → IsKnown t.handles (current_scope t lane)
   pub entered : (lane s : ℕ) → current_of (t.entries lane) ≡ Some s → is_open t.handles s ≡ true
   pub still : (n : ℕ) (g : Guarded) → slot_at t.guards n ≡ Some g → slot_at t.handles g.handle ≡ Some g.scope
-  pub settings_are : t.recording.settings ≡ settings
-  pub uncounted : t.recording.counting ≡ false
+  pub settings_are : t.recording.settings ≡ setup.layer
+  pub counting_is : t.recording.counting ≡ is_some setup.counting
 
 -- settings stay with starts
 starts_keep : (o : Option ℕ) (at : ℕ) (r : Recording) → ((with_starts o at r).settings ≡ r.settings) × ((with_starts o at r).counting ≡ r.counting)
@@ -136,14 +145,14 @@ starts_keep (Some id) at r = by_context (waits (told_at id r.spans))
     by_context None = (refl, refl)
     by_context (Some context) = (refl, refl)
 
-told_begins : (settings given : LayerSettings) (callsite : Callsite) (lane : Lane) (values : ValueSet) (context : Context) (at : ℕ) (counting : Bool) → given ≡ settings → counting ≡ false
-    → (making : Making) × Began settings at (made_told callsite lane values context at given counting) making
-told_begins settings given callsite lane values context at counting same uncounted = (
+told_begins : (setup : Setup) (given : LayerSettings) (callsite : Callsite) (lane : Lane) (values : ValueSet) (context : Context) (at : ℕ) (counting : Bool) → given ≡ setup.layer → counting ≡ is_some setup.counting
+    → (making : Making) × Began setup at (made_told callsite lane values context at given counting) making
+told_begins setup given callsite lane values context at counting same counting_is = (
   record { name = callsite.name; parent = context; made = at; first = first_attributes callsite lane given; counting = counting; inactivity = given.inactivity },
-  record { update = span_update callsite values given; is = refl; made = refl; tracked = ap (λ (s : LayerSettings). s.inactivity) same; uncounted = uncounted },
+  record { update = span_update callsite values given; is = refl; made = refl; tracked = ap (λ (s : LayerSettings). s.inactivity) same; counting_is = counting_is },
 )
 
-module _ (setup : Setup) (t : Tables) (fit : IsFit setup.layer t) where
+module _ (setup : Setup) (t : Tables) (fit : IsFit setup t) where
   abbrev Step : ℕ → Bool → Effect → Type 0
   Step at is_drop e = IsStep setup t at is_drop e
 
@@ -177,6 +186,9 @@ module _ (setup : Setup) (t : Tables) (fit : IsFit setup.layer t) where
   on_reached [] op known unstarted = tt
   on_reached (s ∷ up) op known unstarted = (record { there = own_open (s ∷ up) known s up refl; unstarted = unstarted }, tt)
 
+  reaches : (scope : Scope) → IsKnown t.handles scope → (s : ℕ) (up : Scope) (op : Op) → scope ≡ s ∷ up → IsUnstarted op → IsReached t.handles (record { span = s; op = op })
+  reaches scope known s up op is unstarted = record { there = own_open scope known s up is; unstarted = unstarted }
+
   enters_on : (scope : Scope) → Turns (own scope) None (on scope ops.Enter)
   enters_on [] = tt
   enters_on (s ∷ up) = refl
@@ -197,7 +209,7 @@ module _ (setup : Setup) (t : Tables) (fit : IsFit setup.layer t) where
         names = new_span (record { site = site; scope = length t.made ∷ up; told = made_at setup t at lane callsite values (parent_at under up) }) up known refl;
         enters = no_entry;
         spends = no_spending;
-        begins = told_begins setup.layer (with_starts source at t.recording).settings callsite (lane_in setup lane) values _ at (with_starts source at t.recording).counting (keep.0 ∙ fit.settings_are) (keep.1 ∙ fit.uncounted);
+        begins = told_begins setup (with_starts source at t.recording).settings callsite (lane_in setup lane) values _ at (with_starts source at t.recording).counting (keep.0 ∙ fit.settings_are) (keep.1 ∙ fit.counting_is);
         starts = source_open setup.layer.activation under up (id_at setup.ids lane) known;
         reached = tt;
         turns = tt;
@@ -275,15 +287,6 @@ module _ (setup : Setup) (t : Tables) (fit : IsFit setup.layer t) where
   on_calm [] op unentered unleft = tt
   on_calm (s ∷ up) op unentered unleft = ((unentered, unleft), tt)
 
-  -- an event, if it is let through
-  event_reached : (enabled : Bool) (scope : Scope) (op : Op) → IsKnown t.handles scope → (deed op).own ≡ None → AllByRecursion (IsReached t.handles) (if_told enabled (on scope op))
-  event_reached false scope op known unstarted = tt
-  event_reached true scope op known unstarted = on_reached scope op known unstarted
-
-  event_calm : (enabled : Bool) (scope : Scope) (op : Op) → (deed op).enters ≡ false → (deed op).exits ≡ false → AllByRecursion IsCalm (if_told enabled (on scope op))
-  event_calm false scope op unentered unleft = tt
-  event_calm true scope op unentered unleft = on_calm scope op unentered unleft
-
   -- fields of a callsite, if it is there
   updates_reached : (scope : Scope) (fields : Fields) (callsite : Option Callsite) → IsKnown t.handles scope → AllByRecursion (IsReached t.handles) (updates setup.layer scope fields callsite)
   updates_reached scope fields None known = tt
@@ -316,9 +319,9 @@ module _ (setup : Setup) (t : Tables) (fit : IsFit setup.layer t) where
     closing = λ no. refl;
   })
 
-  -- what a filter hears, or which is put in force, is no part of a step
-  heard : (at : ℕ) (e : Effect) (text : Option (List ℕ)) (hooks : List Hook) → Step at false e → Step at false (record e { filter = text; heard = hooks })
-  heard at e text hooks s = record { moment = s.moment; names = s.names; enters = s.enters; spends = s.spends; begins = s.begins; starts = s.starts; reached = s.reached; turns = s.turns; closing = s.closing }
+  -- what a filter hears, or which is put in force, and what is measured is no part of a step
+  beside : (at : ℕ) (e : Effect) (text : Option (List ℕ)) (hooks : List Hook) (added : List Measure) → Step at false e → Step at false (record e { filter = text; heard = hooks; measures = added })
+  beside at e text hooks added s = record { moment = s.moment; names = s.names; enters = s.enters; spends = s.spends; begins = s.begins; starts = s.starts; reached = s.reached; turns = s.turns; closing = s.closing }
 
   given : (at lane : ℕ) (starting : Option ℕ) (context : Context) → Open (option_to_list starting) → Step at false (gives t at lane starting context)
   given at lane starting context held = record { moment = refl; names = no_name; enters = no_entry; spends = no_spending; begins = tt; starts = held; reached = tt; turns = tt; closing = λ no. refl }
@@ -408,12 +411,15 @@ module _ (setup : Setup) (t : Tables) (fit : IsFit setup.layer t) where
       let enabled = admitted setup t (id_at setup.ids lane) there.0 in
       let known = known_place (id_at setup.ids lane) under reached.0 reached.1 in
       subst (Step at false) (the_effect _ e values.2)
-      (told at (id_at setup.ids lane) (reply.Enabled enabled) _ (event_reached enabled reached.0 op known refl) (event_calm enabled reached.0 op refl refl))
+      (beside at (tells at (id_at setup.ids lane) (reply.Enabled enabled) _) None [] _
+      (told at (id_at setup.ids lane) (reply.Enabled enabled) _
+      (each_told _ enabled _ (each_on IsUnstarted _ reached.0 _ (reaches reached.0 known) (each_counted IsUnstarted refl setup.counting there.0 op refl)))
+      (each_told _ enabled _ (each_on IsCalmOp _ reached.0 _ (λ s up o is calm. calm) (each_counted IsCalmOp (refl, refl) setup.counting there.0 op (refl, refl))))))
   by_call at lane (call.Record handle fields) e is =
       let there = found what.Handle (slot_at t.handles handle) _ e is in
       let callsite = callsite_of setup t there.0 in
       subst (Step at false) (the_effect _ e there.2)
-      (heard at (tells at (id_at setup.ids lane) reply.Done (updates setup.layer there.0 fields callsite)) None (heard_values at there.0 fields callsite)
+      (beside at (tells at (id_at setup.ids lane) reply.Done (updates setup.layer there.0 fields callsite)) None (heard_values at there.0 fields callsite) []
       (told at (id_at setup.ids lane) reply.Done _ (updates_reached there.0 fields callsite (of_handle handle there.0 there.1)) (updates_calm there.0 fields callsite)))
   by_call at lane (call.HasField handle name) e is =
       let there = found what.Handle (slot_at t.handles handle) _ e is in
@@ -444,7 +450,7 @@ module _ (setup : Setup) (t : Tables) (fit : IsFit setup.layer t) where
       let op = link_of (ids_of given.0) attributes in
       let valid = is_valid (ids_of given.0) in
       let known = of_handle handle there.0 there.1 in
-      subst (Step at false) (the_effect _ e given.2) (told at (id_at setup.ids lane) reply.Done _ (event_reached valid there.0 op known refl) (event_calm valid there.0 op refl refl))
+      subst (Step at false) (the_effect _ e given.2) (told at (id_at setup.ids lane) reply.Done _ (each_told _ valid _ (on_reached there.0 op known refl)) (each_told _ valid _ (on_calm there.0 op refl refl)))
   by_call at lane (call.SetAttribute handle key value) e is =
       let there = found what.Handle (slot_at t.handles handle) _ e is in
       subst (Step at false) (the_effect _ e there.2) (one_told at (id_at setup.ids lane) _ there.0 (ops.SetAttribute (record { key = key; value = value })) (of_handle handle there.0 there.1) refl refl refl)
@@ -460,7 +466,7 @@ module _ (setup : Setup) (t : Tables) (fit : IsFit setup.layer t) where
   by_call at lane (call.Reload text) e is = by_read (text_read text) is
     where
       by_read : (r : TextRead) → reloads_if at (id_at setup.ids lane) text r ≡ Ok e → Step at false e
-      by_read (Ok ds) read = subst (Step at false) (the_effect _ e read) (heard at (tells at (id_at setup.ids lane) reply.Done []) (Some text) [] (told at (id_at setup.ids lane) reply.Done [] tt tt))
+      by_read (Ok ds) read = subst (Step at false) (the_effect _ e read) (beside at (tells at (id_at setup.ids lane) reply.Done []) (Some text) [] [] (told at (id_at setup.ids lane) reply.Done [] tt tt))
       by_read (Err piece) read = absurd (cc read)
 
   pub step_of : (request : Request) (e : Effect) → effect_of setup t request ≡ Ok e → IsTimed t.moment e.at × IsStep setup t request.at (is_drop request.call) e

@@ -4,20 +4,19 @@ use Rattle.std.specs.Prelude.{if◌then◌else◌, min}
 use Rattle.std.proofs.lemmas.List.Sums.{fold_push}
 use Rattle.otel_base.specs.declared.context.Context.{Context}
 use Rattle.otel_base.specs.declared.context.SpanContext.{SpanContext}
-use Rattle.otel_base.specs.declared.record.Record.{Record}
 use Rattle.otel_base.specs.Ids.{ids_of, ids_or_zeros}
 use Rattle.otel_base.specs.RecorderIds.{recorder_ids}
 use Rattle.otel_state.specs.declared.op.Op.{Op}
 use Rattle.otel_state.specs.declared.op.Op.TheVariants as ops
-use Rattle.otel_state.specs.declared.settings.LayerSettings.{LayerSettings}
 use Rattle.otel_state.specs.declared.times.TheConstants.{GREATEST}
 use Rattle.otel_state.specs.Content.{Making, content}
 use Rattle.otel_state.specs.Deeds.{Deed, Stamped, deed}
 use Rattle.otel_state.specs.Opening.{parent_of}
 use Rattle.otel_state.specs.States.{Told, changed, first_start, unless_started, Stands, record_of}
-use Rattle.otel_state.specs.Times.{InOrder, open_by, open_after}
+use Rattle.otel_state.specs.Times.{InOrder, open_by}
 use Rattle.otel_state.proofs.Summing.{appended, entries_is, parent_is, content_is}
 use Rattle.otel_layer.specs.Recording.{told_after}
+use Rattle.span_pipeline.specs.Setups.{Setup}
 use Rattle.span_laws.specs.Records.{Began, IsRecord, all_ops}
 
 -- the moment of the last op, else of the making
@@ -41,11 +40,11 @@ IsOwn (Some given) own = given ≡ own
 abbrev pub turned : Deed → ℕ → ℕ
 turned d n = if d.exits then n - 1 else if d.enters then n + 1 else n
 
-pub record IsStory (settings : LayerSettings) (o : Option Told) (first : Told) (place : ℕ) (done : SpanContext → List Stamped) (opened now : ℕ) : Type 0 where
+pub record IsStory (setup : Setup) (o : Option Told) (first : Told) (place : ℕ) (done : SpanContext → List Stamped) (opened now : ℕ) : Type 0 where
   pub told : Told
   pub is : o ≡ Some told
   pub making : Making
-  pub began : Began settings making.made first making
+  pub began : Began setup making.made first making
   pub later : List Stamped
   pub stands : Stands making (all_ops making began.update later) told
   pub in_order : InOrder making.made (all_ops making began.update later)
@@ -69,8 +68,8 @@ settled : (own : SpanContext) (parent : Context) (written : Option Context) → 
 settled own parent None = refl
 settled own parent (Some context) = refl
 
-module _ (settings : LayerSettings) (first : Told) where
-  module _ (o : Option Told) (place : ℕ) (done : SpanContext → List Stamped) (opened now : ℕ) (story : IsStory settings o first place done opened now) where
+module _ (setup : Setup) (first : Told) where
+  module _ (o : Option Told) (place : ℕ) (done : SpanContext → List Stamped) (opened now : ℕ) (story : IsStory setup o first place done opened now) where
     abbrev all : List Stamped
     all = all_ops story.making story.began.update story.later
 
@@ -86,7 +85,7 @@ module _ (settings : LayerSettings) (first : Told) where
         let parent : (changed story.told now op).parent ≡ story.told.parent = ap (λ (own : Option SpanContext). unless_started own story.told.parent (deed op).parent) (same ∙ is) ∙ settled own story.told.parent (deed op).parent in
         subst (λ (own : Option SpanContext). HasId own place (changed story.told now op).parent) (sym (same ∙ is)) (subst (λ (context : Context). HasId (Some own) place context) (sym parent) has)
 
-    pub op_story : now ≤ GREATEST → (op : Op) → (deed op).own ≡ None → IsStory settings (told_after true now op o) first place (λ own. done own ++ stamp now op ∷ []) (turned (deed op) opened) now
+    pub op_story : now ≤ GREATEST → (op : Op) → (deed op).own ≡ None → IsStory setup (told_after true now op o) first place (λ own. done own ++ stamp now op ∷ []) (turned (deed op) opened) now
     op_story most op unstarted =
         let same : (changed story.told now op).own ≡ story.told.own = ap (first_start story.told.own) unstarted ∙ own_same story.told.own in
         record {
@@ -105,7 +104,7 @@ module _ (settings : LayerSettings) (first : Told) where
 
     -- the start
     pub start_story : now ≤ GREATEST → (first_place : ℕ) → story.told.own ≡ None → 0 < first_place
-        → IsStory settings (told_after true now (ops.Start (recorder_ids first_place (ids_of story.told.parent))) o) first first_place (λ own. done own ++ stamp now (ops.Start own) ∷ []) opened now
+        → IsStory setup (told_after true now (ops.Start (recorder_ids first_place (ids_of story.told.parent))) o) first first_place (λ own. done own ++ stamp now (ops.Start own) ∷ []) opened now
     start_story most first_place unstarted some =
         let given : SpanContext = recorder_ids first_place (ids_of story.told.parent) in
         let op : Op = ops.Start given in
@@ -127,7 +126,7 @@ module _ (settings : LayerSettings) (first : Told) where
         }
 
     -- the close of a span that has started and has no open entry
-    record_by : opened ≡ 0 → (own : Option SpanContext) → story.told.own ≡ own → HasId own place story.told.parent → 0 < place → IsRecord settings first done place now (record_of story.told now)
+    record_by : opened ≡ 0 → (own : Option SpanContext) → story.told.own ≡ own → HasId own place story.told.parent → 0 < place → IsRecord setup first done place now (record_of story.told now)
     record_by none None is unplaced some = absurd (omega (arith, unplaced, some))
     record_by none (Some own) is has some =
         let context : (record_of story.told now).context ≡ own = ap ids_or_zeros is in
@@ -143,11 +142,11 @@ module _ (settings : LayerSettings) (first : Told) where
           own = context ∙ has.0 ∙ ap (λ (c : Context). recorder_ids place (ids_of c)) (parent_is story.told story.making all story.stands ∙ ap (parent_of story.making.parent) all_is);
         }
 
-    pub record_is : opened ≡ 0 → 0 < place → IsRecord settings first done place now (record_of story.told now)
+    pub record_is : opened ≡ 0 → 0 < place → IsRecord setup first done place now (record_of story.told now)
     record_is none some = record_by none story.told.own refl story.has_id some
 
     -- time goes on, more entries may be open, and the ops are those told otherwise
-    pub later_story : (same : SpanContext → List Stamped) (more at : ℕ) → ((own : SpanContext) → done own ≡ same own) → opened ≤ more → now ≤ at → IsStory settings o first place same more at
+    pub later_story : (same : SpanContext → List Stamped) (more at : ℕ) → ((own : SpanContext) → done own ≡ same own) → opened ≤ more → now ≤ at → IsStory setup o first place same more at
     later_story same more at alike wider later = record {
       told = story.told;
       is = story.is;

@@ -9,7 +9,7 @@ use Rattle.span_pipeline.specs.Effects.{effect_of}
 pub data IsHistory (setup : Setup) : History → Type 0 where
   none : IsHistory setup []
   more : (h : History) (request : Request) (e : Effect)
-      → IsHistory setup h → effect_of setup (tables setup.layer h) request ≡ Ok e → IsHistory setup (h ++ e ∷ [])
+      → IsHistory setup h → effect_of setup (tables setup h) request ≡ Ok e → IsHistory setup (h ++ e ∷ [])
 
 -- how often a span stands in a list
 abbrev pub occurrences : ℕ → List ℕ → ℕ

@@ -1,11 +1,10 @@
 -- The records of a history, and what a span's record tells.
-use Rattle.std.specs.Prelude.{◌≡◌, ℕ, ◌<◌, ◌==◌, ◌&&◌, Bool, false, not, List, [], ◌∷◌, ◌++◌, fold, filter, map, if◌then◌else◌}
+use Rattle.std.specs.Prelude.{◌≡◌, ℕ, ◌<◌, ◌==◌, ◌&&◌, not, is_some, List, [], ◌∷◌, ◌++◌, fold, filter, map, if◌then◌else◌}
 use Rattle.otel_base.specs.declared.context.SpanContext.{SpanContext}
 use Rattle.otel_base.specs.declared.record.Record.{Record}
 use Rattle.otel_base.specs.Ids.{ids_of}
 use Rattle.otel_base.specs.RecorderIds.{recorder_ids}
 use Rattle.otel_state.specs.declared.op.Op.TheVariants as ops
-use Rattle.otel_state.specs.declared.settings.LayerSettings.{LayerSettings}
 use Rattle.otel_state.specs.declared.update.Update.{Update}
 use Rattle.otel_state.specs.Content.{Making, content}
 use Rattle.otel_state.specs.Deeds.{Stamped}
@@ -13,6 +12,7 @@ use Rattle.otel_state.specs.Opening.{parent_of}
 use Rattle.otel_state.specs.States.{Told, begun, changed}
 use Rattle.otel_state.specs.Times.{InOrder, open_by}
 use Rattle.trace_base.specs.Spans.{is_in}
+use Rattle.span_pipeline.specs.Setups.{Setup}
 use Rattle.span_pipeline.specs.Tables.{Effect, History, Tables, no_tables, after, records_of}
 use Rattle.span_laws.specs.Starts.{with_started, starts_of}
 
@@ -21,8 +21,8 @@ abbrev pub records_from : Tables → History → List Record
 records_from t [] = []
 records_from t (e ∷ h) = records_of t e ++ records_from (after t e) h
 
-abbrev pub records : LayerSettings → History → List Record
-records settings h = records_from (no_tables settings) h
+abbrev pub records : Setup → History → List Record
+records setup h = records_from (no_tables setup) h
 
 -- each record is that of the span at its place
 abbrev pub Each : (ℕ → Record → Type 0) → List ℕ → List Record → Type 0
@@ -57,12 +57,12 @@ abbrev pub closed_at : History → ℕ → ℕ
 closed_at h s = fold (λ at e. if is_in s e.closes then e.at else at) 0 h
 
 -- what a span was made with: an update at the moment of its making, under the settings of the layer
-pub record Began (settings : LayerSettings) (at : ℕ) (first : Told) (making : Making) : Type 0 where
+pub record Began (setup : Setup) (at : ℕ) (first : Told) (making : Making) : Type 0 where
   pub update : Update
   pub is : first ≡ changed (begun making) at (ops.Update update)
   pub made : making.made ≡ at
-  pub tracked : making.inactivity ≡ settings.inactivity
-  pub uncounted : making.counting ≡ false
+  pub tracked : making.inactivity ≡ setup.layer.inactivity
+  pub counting_is : making.counting ≡ is_some setup.counting
 
 -- the making's update, and then the ops of a span
 abbrev pub all_ops : Making → Update → List Stamped → List Stamped
@@ -70,9 +70,9 @@ all_ops making update done = record { at = making.made; op = ops.Update update }
 
 -- A span's record is the content of its making and its ops at a moment, none of its entries being open. Its own ids are
 -- those of a recorder for its place among the starts, under its parent.
-pub record IsRecord (settings : LayerSettings) (first : Told) (done : SpanContext → List Stamped) (place at : ℕ) (r : Record) : Type 0 where
+pub record IsRecord (setup : Setup) (first : Told) (done : SpanContext → List Stamped) (place at : ℕ) (r : Record) : Type 0 where
   pub making : Making
-  pub began : Began settings making.made first making
+  pub began : Began setup making.made first making
   pub in_order : InOrder making.made (all_ops making began.update (done r.context))
   pub shut : open_by 0 (all_ops making began.update (done r.context)) ≡ 0
   pub is : r ≡ content making (all_ops making began.update (done r.context)) at

@@ -1,12 +1,12 @@
 -- What a span's record tells of the span: its id, its times and its attributes.
-use Rattle.std.specs.Prelude.{◌≡◌, ℕ, List, ◌++◌, Bool, Option, Some, None}
+use Rattle.std.specs.Prelude.{◌≡◌, ℕ, List, ◌++◌, is_some, Option, Some, None}
 use Rattle.otel_base.specs.declared.record.Record.{Record}
 use Rattle.otel_base.specs.declared.value.KeyValue.{KeyValue}
 use Rattle.otel_base.specs.Ids.{ids_or_zeros}
-use Rattle.otel_state.specs.Content.{closing_times}
-use Rattle.otel_state.specs.Deeds.{Stamped}
+use Rattle.otel_state.specs.Content.{closing_count, closing_times}
 use Rattle.otel_state.specs.States.{Told}
-use Rattle.otel_state.specs.Times.{end_of, last_exit}
+use Rattle.otel_state.specs.Times.{end_of}
+use Rattle.span_pipeline.specs.Setups.{Setup}
 
 -- the id of a record's span, and of an open span, 0 before its start
 abbrev pub id_of : Record → ℕ
@@ -21,8 +21,9 @@ pub record TellsSpan (made : ℕ) (left : Option ℕ) (closed : ℕ) (r : Record
   pub start : r.start ≡ made
   pub end : r.end ≡ end_of left closed
 
--- The first attributes, those that ops added, in order, and then those of the close.
-pub record TellsAttributes (inactivity : Bool) (first more : List KeyValue) (r : Record) : Type 0 where
+-- The first attributes, those that ops added, in order, and then those of the close: how many events were counted, where
+-- events are counted, and the times.
+pub record TellsAttributes (setup : Setup) (first more : List KeyValue) (counted : ℕ) (r : Record) : Type 0 where
   pub busy : ℕ
   pub idle : ℕ
-  pub told : r.attributes ≡ first ++ more ++ closing_times inactivity busy idle
+  pub told : r.attributes ≡ first ++ more ++ closing_count (is_some setup.counting) counted ++ closing_times setup.layer.inactivity busy idle

@@ -12,12 +12,12 @@ ghost use Rattle.span_laws.specs.Laws.{IsHistory};
 /// so on up, none left out. A child closes before its parent.
 pub fn chains()
     ensures only_drops { (setup : Setup) (h : History) (request : Request) (e : Effect) → IsHistory setup h
-        → effect_of setup (tables setup.layer h) request ≡ Ok e → is_drop request.call ≡ false → e.closes ≡ [] }
+        → effect_of setup (tables setup h) request ≡ Ok e → is_drop request.call ≡ false → e.closes ≡ [] }
     ensures one_chain { (setup : Setup) (h : History) (request : Request) (e : Effect) (handle : ℕ) (scope : Scope)
-        → IsHistory setup h → effect_of setup (tables setup.layer h) request ≡ Ok e
-        → slot_at (tables setup.layer h).handles handle ≡ Some scope → e.spent_handle ≡ Some handle
+        → IsHistory setup h → effect_of setup (tables setup h) request ≡ Ok e
+        → slot_at (tables setup h).handles handle ≡ Some scope → e.spent_handle ≡ Some handle
         → BeginsWith e.closes scope }
     ensures children_first { (setup : Setup) (h : History) (s p : ℕ) (up fore rest : List ℕ) → IsHistory setup h
-        → (made_of (tables setup.layer h).made s).scope ≡ s ∷ p ∷ up
-        → (tables setup.layer h).closed ≡ fore ++ p ∷ rest → is_in s fore ≡ true }
+        → (made_of (tables setup h).made s).scope ≡ s ∷ p ∷ up
+        → (tables setup h).closed ≡ fore ++ p ∷ rest → is_in s fore ≡ true }
 {}

@@ -13,11 +13,11 @@ ghost use Rattle.span_laws.specs.Starts.{place_in, started};
 /// those of a recorder for its place among the starts.
 pub fn contents()
     ensures as_many_as_closed { (setup : Setup) (h : History) → IsHistory setup h
-        → length (records setup.layer h) ≡ length (tables setup.layer h).closed }
+        → length (records setup h) ≡ length (tables setup h).closed }
     ensures as_many_as_close { (setup : Setup) (h : History) (request : Request) (e : Effect) → IsHistory setup h
-        → effect_of setup (tables setup.layer h) request ≡ Ok e
-        → length (records_of (tables setup.layer h) e) ≡ length e.closes }
+        → effect_of setup (tables setup h) request ≡ Ok e
+        → length (records_of (tables setup h) e) ≡ length e.closes }
     ensures contents { (setup : Setup) (h : History) → IsHistory setup h
-        → Each (λ s r. IsRecord setup.layer (made_of (tables setup.layer h).made s).told (λ own. ops_of own h s)
-        (place_in (started h) s) (closed_at h s) r) (tables setup.layer h).closed (records setup.layer h) }
+        → Each (λ s r. IsRecord setup (made_of (tables setup h).made s).told (λ own. ops_of own h s)
+        (place_in (started h) s) (closed_at h s) r) (tables setup h).closed (records setup h) }
 {}

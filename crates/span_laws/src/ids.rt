@@ -16,12 +16,12 @@ pub fn ids()
     ensures started_once { (h : History) (s : ℕ) → occurrences s (started h) ≤ 1 }
     ensures from_one { (h : History) → map (place_in (started h)) (started h) ≡ range_with_len 1 (length (started h)) }
     ensures of_open { (setup : Setup) (h : History) (s : ℕ) → IsHistory setup h
-        → is_open (tables setup.layer h).handles s ≡ true
-        → id_told (told_at s (tables setup.layer h).recording.spans) ≡ place_in (started h) s }
+        → is_open (tables setup h).handles s ≡ true
+        → id_told (told_at s (tables setup h).recording.spans) ≡ place_in (started h) s }
     ensures of_records { (setup : Setup) (h : History) → IsHistory setup h
-        → map id_of (records setup.layer h) ≡ map (place_in (started h)) (tables setup.layer h).closed }
+        → map id_of (records setup h) ≡ map (place_in (started h)) (tables setup h).closed }
     ensures no_two_alike { (setup : Setup) (h : History) (id : ℕ) → IsHistory setup h
-        → occurrences id (map id_of (records setup.layer h)) ≤ 1 }
+        → occurrences id (map id_of (records setup h)) ≤ 1 }
     ensures none_zero { (setup : Setup) (h : History) → IsHistory setup h
-        → occurrences 0 (map id_of (records setup.layer h)) ≡ 0 }
+        → occurrences 0 (map id_of (records setup h)) ≡ 0 }
 {}

@@ -9,13 +9,13 @@ ghost use Rattle.span_laws.specs.Laws.{IsHistory, occurrences};
 /// A span is recorded at most once, and that when no unspent handle holds it any more.
 pub fn records()
     ensures recorded_once { (setup : Setup) (h : History) (s : ℕ) → IsHistory setup h
-        → occurrences s (tables setup.layer h).closed ≤ 1 }
+        → occurrences s (tables setup h).closed ≤ 1 }
     ensures recorded_when_ended { (setup : Setup) (h : History) (s : ℕ) → IsHistory setup h
-        → s < length (tables setup.layer h).made
-        → is_in s (tables setup.layer h).closed ≡ not (is_open (tables setup.layer h).handles s) }
+        → s < length (tables setup h).made
+        → is_in s (tables setup h).closed ≡ not (is_open (tables setup h).handles s) }
     ensures only_made_recorded { (setup : Setup) (h : History) (s : ℕ) → IsHistory setup h
-        → length (tables setup.layer h).made ≤ s → is_in s (tables setup.layer h).closed ≡ false }
+        → length (tables setup h).made ≤ s → is_in s (tables setup h).closed ≡ false }
     ensures records_and_open { (setup : Setup) (h : History) → IsHistory setup h
-        → length (tables setup.layer h).closed + open_spans (tables setup.layer h)
-        ≡ length (tables setup.layer h).made }
+        → length (tables setup h).closed + open_spans (tables setup h)
+        ≡ length (tables setup h).made }
 {}

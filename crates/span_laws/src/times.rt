@@ -14,12 +14,12 @@ ghost use Rattle.span_laws.specs.Telling.{TellsSpan};
 /// left, as each was that was entered; else both are 0.
 pub fn times()
     ensures none_open { (setup : Setup) (h : History) (n s : ℕ) (g : Guarded) → IsHistory setup h
-        → slot_at (tables setup.layer h).guards n ≡ Some g → is_in s g.scope ≡ true
-        → is_in s (tables setup.layer h).closed ≡ false }
+        → slot_at (tables setup h).guards n ≡ Some g → is_in s g.scope ≡ true
+        → is_in s (tables setup h).closed ≡ false }
     ensures spans { (setup : Setup) (h : History) → IsHistory setup h
-        → Each (λ s r. TellsSpan (made_of (tables setup.layer h).made s).told.made (last_exit (ops_of r.context h s)) (closed_at h s) r)
-        (tables setup.layer h).closed (records setup.layer h) }
+        → Each (λ s r. TellsSpan (made_of (tables setup h).made s).told.made (last_exit (ops_of r.context h s)) (closed_at h s) r)
+        (tables setup h).closed (records setup h) }
     ensures add_up { (setup : Setup) (h : History) → IsHistory setup h → IsTrue setup.layer.inactivity
         → Each (λ s r. TellsTimes (was_entered (ops_of r.context h s)) (last_exit (ops_of r.context h s)) r)
-        (tables setup.layer h).closed (records setup.layer h) }
+        (tables setup h).closed (records setup h) }
 {}

@@ -1,6 +1,6 @@
 -- What is asked of the span extension, served.
 use Rattle.std.specs.Prelude.{IsTrue, ◌≢◌, Bool, true, false, is_some, slice_get, if◌then◌else◌}
-use Rattle.std.proofs.Common.{◌≡◌, ℕ, ◌<◌, List, [], ◌∷◌, length, Option, Some, None, Result, Ok, Err, option_map, map, refl, sym, ap, subst, ◌∙◌, arith}
+use Rattle.std.proofs.Common.{◌≡◌, ℕ, List, [], ◌∷◌, Option, Some, None, Result, Ok, Err, map, refl, sym, ap, subst, ◌∙◌}
 use Rattle.otel_base.specs.declared.context.Context.{Context}
 use Rattle.otel_base.specs.declared.context.SpanContext.{SpanContext}
 use Rattle.otel_base.specs.declared.memory.Memory.{Memory}
@@ -23,15 +23,16 @@ use Rattle.span_handles.specs.Worlds.{Alike, Replaced, seen}
 use Rattle.span_handles.specs.Handles.{Handle, Held}
 use Rattle.span_pipeline.specs.declared.slots.Guard.{Guard}
 use Rattle.span_pipeline.specs.declared.reply.Refusal.TheVariants as refusal
-use Rattle.span_pipeline.specs.declared.reply.Reply.{Reply}
 use Rattle.span_pipeline.specs.declared.reply.Reply.TheVariants as reply
 use Rattle.span_pipeline.specs.declared.reply.What.TheVariants as what
 use Rattle.span_pipeline.specs.declared.request.Call.TheVariants as call
+use Rattle.span_pipeline.specs.declared.settings.Texts.{Texts}
 use Rattle.span_pipeline.specs.Setups.{id_at}
 use Rattle.span_pipeline.specs.Tables.{Scope, Done, Tables, slot_at, own}
-use Rattle.span_pipeline.specs.Effects.{Resolved, named, effect_of_call, on, tells, links, happens_at, set_unless_started, is_set}
+use Rattle.span_pipeline.specs.Effects.{Resolved, named, effect_of_call, on, tells, links, happens_at, set_while, is_set}
 use Rattle.span_pipeline.specs.Balance.{named_by, opened_by}
 use Rattle.span_pipeline.specs.Fits.{Views, Named, State, state_of, held_by, held_of, Fits, StandsFor, IsKept, Served}
+use Rattle.span_pipeline.proofs.Beside.{Adds, aside_in, adds_nothing}
 use Rattle.span_pipeline.proofs.Balancing.{named_slot}
 use Rattle.span_pipeline.proofs.Filtering.{heard_none}
 use Rattle.span_pipeline.proofs.Fitting.{fits_live}
@@ -63,12 +64,12 @@ unwanted (Some told) spans now id at op (Some (Ok r)) still did = refl
 unwanted (Some told) spans now id at op (Some (Err m)) still did = absurd (let e : false ≡ true = subst (λ (b : Bool). IsTrue b) still did.0 in cc e)
 
 -- a parent is set exactly while the span waits to be started
-own_answer : (own : Option SpanContext) (context parent : Context) → parent_reply (reply_after own (ops.SetParent context)) ≡ set_unless_started (is_some (waits_by own parent))
+own_answer : (own : Option SpanContext) (context parent : Context) → parent_reply (reply_after own (ops.SetParent context)) ≡ set_while (is_some (waits_by own parent))
 own_answer None context parent = refl
 own_answer (Some given) context parent = refl
 
 set_by : (o : Option Told) → o ≢ None → (held : ℕ × ℕ) (spans now : List (ℕ × Told)) (id at : ℕ) (context : Context) (answer : Option (Result OpReply Memory)) → AppliesTo o spans id at (ops.SetParent context) answer now
-    → parent_answer (Some held) answer ≡ set_unless_started (is_some (waits o))
+    → parent_answer (Some held) answer ≡ set_while (is_some (waits o))
 set_by None known held spans now id at context answer did = absurd (known refl)
 set_by (Some told) known held spans now id at context None did = absurd did
 set_by (Some told) known held spans now id at context (Some (Ok x)) did = ap parent_reply did.0 ∙ own_answer told.own context told.parent
@@ -78,8 +79,8 @@ set_by (Some told) known held spans now id at context (Some (Err m)) did = absur
 
 module _ {S : Type 0} (spans : S → Spans) (views : Views S) (attaches : S → Bool) (kept : S → ℕ → ℕ → ℕ) (is_whole : S → Type 0) (old new : Worlds S)
     (touches : S → PartCall → S → Type 0) (leaves : (old new : Worlds S) (dispatch : ℕ) (call : PartCall) → Replaced (λ s t. touches s call t) old new dispatch → Alike spans attaches kept is_whole old new dispatch)
-    (asks : (old new : Worlds S) (dispatch : ℕ) (call : PartCall) → Replaced (λ s t. touches s call t) old new dispatch → RecordsPart (seen views.recorded no_recording old dispatch) call (seen views.recorded no_recording new dispatch) × (seen views.filtered None new dispatch ≡ seen views.filtered None old dispatch))
-    (dispatch : ℕ) (opening : List ℕ) (lanes : List Lane) (hs : List (Option Handle)) (gs : List (Option Guard)) (cs : Named) (m at lane : ℕ) (handle : ℕ) (h : Handle) (found : slot_at hs handle ≡ Some h) where
+    (asks : (old new : Worlds S) (dispatch : ℕ) (call : PartCall) → Replaced (λ s t. touches s call t) old new dispatch → RecordsPart (seen views.recorded no_recording old dispatch) call (seen views.recorded no_recording new dispatch) × (seen views.filtered None new dispatch ≡ seen views.filtered None old dispatch) × Adds (aside_in views old dispatch) (aside_in views new dispatch) [])
+    (dispatch : ℕ) (opening : Texts) (lanes : List Lane) (hs : List (Option Handle)) (gs : List (Option Guard)) (cs : Named) (m at lane : ℕ) (handle : ℕ) (h : Handle) (found : slot_at hs handle ≡ Some h) where
   abbrev now : State
   now = state_of spans views old dispatch opening lanes hs gs cs m
 
@@ -118,6 +119,7 @@ module _ {S : Type 0} (spans : S → Spans) (views : Views S) (attaches : S → 
         sites_same = ap (λ (w : Worlds S). w.sites) did.others;
         recorded_is = records.1 ∙ ap (λ (xs : List (ℕ × Told)). record r { spans = xs }) (applied_by (told_at s r.spans) (is_known s up refl) r.spans _ s at op answer records.0 done);
         filter_is = told.1 ∙ heard_none (seen views.filtered None old dispatch);
+        aside_is = told.2;
         cached_same = ap (λ (w : Worlds S). w.cached) did.others;
         count = alike.count;
         whole = alike.whole;
@@ -135,7 +137,7 @@ module _ {S : Type 0} (spans : S → Spans) (views : Views S) (attaches : S → 
 
   -- nothing of what is kept changed
   abbrev Rest : Type 0
-  Rest = Alike spans attaches kept is_whole old new dispatch × (new.sites ≡ old.sites) × (seen views.recorded no_recording new dispatch ≡ r) × (seen views.filtered None new dispatch ≡ seen views.filtered None old dispatch) × (new.cached ≡ old.cached)
+  Rest = Alike spans attaches kept is_whole old new dispatch × (new.sites ≡ old.sites) × (seen views.recorded no_recording new dispatch ≡ r) × (seen views.filtered None new dispatch ≡ seen views.filtered None old dispatch) × (new.cached ≡ old.cached) × Adds (aside_in views old dispatch) (aside_in views new dispatch) []
 
   -- where memory was wanted nothing changed
   left : (line : Scope) (op : Op) (answer : Option (Result OpReply Memory)) (memory : Memory) → AppliesOn touches old new at op (held_of dispatch line) answer → done_answer answer ≡ Err memory
@@ -149,6 +151,7 @@ module _ {S : Type 0} (spans : S → Spans) (views : Views S) (attaches : S → 
         records.1 ∙ ap (λ (xs : List (ℕ × Told)). record r { spans = xs }) (left_by (told_at s r.spans) r.spans _ s at op answer memory records.0 wanted),
         told.1,
         ap (λ (w : Worlds S). w.cached) did.others,
+        told.2,
       )
 
   -- ---- the requests
@@ -182,7 +185,7 @@ module _ {S : Type 0} (spans : S → Spans) (views : Views S) (attaches : S → 
       its_rest = left (its_scope inv.tables inv.fits).at op did.answer memory (line_did inv.tables inv.fits) (sym did.is ∙ wanted)
 
       pub left_state : state_of spans views new dispatch opening lanes hs gs cs m ≡ now
-      left_state = rw (its_rest.0.spans_same, its_rest.1, its_rest.2, its_rest.3, its_rest.4) refl
+      left_state = (let still = adds_nothing (aside_in views old dispatch) (aside_in views new dispatch) its_rest.5 in rw (its_rest.0.spans_same, its_rest.1, its_rest.2, its_rest.3, its_rest.4, still.0, still.1) refl)
 
       pub left_kept : IsKept kept is_whole new (state_of spans views new dispatch opening lanes hs gs cs m)
       left_kept = kept_alike spans views attaches kept is_whole old new now _ inv left_state its_rest.0

@@ -3,6 +3,7 @@ use Rattle.std.specs.Prelude.{◌==◌, Result}
 use Rattle.std.proofs.Common.{◌≡◌, ℕ, ◌<◌, List, [], ◌∷◌, ◌++◌, length, get_or, set, false, count_by, Option, Some, None, Ok, Err, option_map, map, refl, sym, ap, subst, ◌∙◌, arith, slice_get}
 use Rattle.std.proofs.lemmas.Bool.{ne_eqb, eq-eqb, cond-true, cond-false, true≢false}
 use Rattle.std.proofs.lemmas.List.{length-map, length_push, map_push}
+use Rattle.otel_base.specs.declared.stack.TheConstants.{MOST}
 use Rattle.otel_base.specs.declared.context.Context.{Context}
 use Rattle.otel_base.specs.declared.enter_error.EnterError.{EnterError}
 use Rattle.otel_base.specs.declared.enter_error.EnterError.TheVariants as errors
@@ -21,11 +22,13 @@ use Rattle.span_pipeline.specs.declared.reply.Reply.TheVariants as reply
 use Rattle.span_pipeline.specs.declared.reply.What.TheVariants as what
 use Rattle.span_pipeline.specs.declared.request.Call.TheVariants as call
 use Rattle.span_pipeline.specs.Refusals.{refused_entry}
+use Rattle.span_pipeline.specs.declared.settings.Texts.{Texts}
 use Rattle.span_pipeline.specs.Setups.{id_at}
 use Rattle.span_pipeline.specs.Tables.{GuardOf, Attached, Guarded, Effect, Tables, slot_at, with_attached}
 use Rattle.span_pipeline.specs.Effects.{Resolved, named, effect_of_call, is_full, enters_unless, attaches}
 use Rattle.span_pipeline.specs.Balance.{Balanced, Opened, named_by, opened_by}
 use Rattle.span_pipeline.specs.Fits.{Views, Named, State, state_of, Laned, laned, lane_at, lane_of, StandsFor, AllContextsFit, IsKept, Served, is_room}
+use Rattle.span_pipeline.proofs.Beside.{aside_in, adds_same}
 use Rattle.span_pipeline.proofs.Balancing.{quiet_guard}
 use Rattle.span_pipeline.proofs.Keeping.{lane_seen, lanes_same, same_lane, id_seen, ids_same, names_same, are_attached, lanes_after}
 use Rattle.span_pipeline.proofs.Laned.{all_attached}
@@ -47,7 +50,7 @@ lives_there k t stands lanes are n before within here =
     ∙ length-map (t.contexts (lane_at k.lanes n).id) (λ (a : Attached). a.context) ∙ ap (λ (l : Laned). length (t.contexts l.id)) seen_at
 
 module _ {S : Type 0} (spans : S → Spans) (views : Views S) (kept : S → ℕ → ℕ → ℕ) (is_whole : S → Type 0) (world : Worlds S)
-    (dispatch : ℕ) (opening : List ℕ) (lanes : List Lane) (hs : List (Option Handle)) (gs : List (Option Guard)) (cs : Named) (m at lane : ℕ) (before : Lane) (within : lane < length lanes) (here : before ≡ get_or lanes lane before)
+    (dispatch : ℕ) (opening : Texts) (lanes : List Lane) (hs : List (Option Handle)) (gs : List (Option Guard)) (cs : Named) (m at lane : ℕ) (before : Lane) (within : lane < length lanes) (here : before ≡ get_or lanes lane before)
     (inv : IsKept kept is_whole world (state_of spans views world dispatch opening lanes hs gs cs m)) (context : ℕ) (given : Context) (found : slice_get cs.made context ≡ Some given) where
   abbrev now : State
   now = state_of spans views world dispatch opening lanes hs gs cs m
@@ -76,15 +79,15 @@ module _ {S : Type 0} (spans : S → Spans) (views : Views S) (kept : S → ℕ 
     left_kept = subst (IsKept kept is_whole world) (sym left_state) inv
 
   -- a lane with as many contexts as may be
-  pub refuses_attach : (error : EnterError) (refused : Refusal) → refused ≡ refused_entry lane error → (error ≡ errors.Full → length before.contexts.live ≡ 65534) → is_room refused ≡ false → (t : Tables) → StandsFor now t
+  pub refuses_attach : (error : EnterError) (refused : Refusal) → refused ≡ refused_entry lane error → (error ≡ errors.Full → length before.contexts.live ≡ MOST) → is_room refused ≡ false → (t : Tables) → StandsFor now t
       → effect_of_call now.setup t at lane (call.Attach context) ≡ Err refused
   refuses_attach errors.Memory refused is full other t stands = absurd (true≢false (sym (ap is_room is) ∙ other))
   refuses_attach errors.Full refused is full other t stands =
       ap (λ o. named what.Context o (λ c. enters_unless (is_full (t.contexts place_id)) lane (attaches now.setup t at lane c))) (named_is t stands)
-      ∙ cond-true {A = Resolved} (is_full (t.contexts place_id)) _ _ (eq-eqb (length (t.contexts place_id)) 65534 (sym (lives t stands) ∙ full refl)) ∙ ap (λ (x : Refusal). Err x) (sym is)
+      ∙ cond-true {A = Resolved} (is_full (t.contexts place_id)) _ _ (eq-eqb (length (t.contexts place_id)) MOST (sym (lives t stands) ∙ full refl)) ∙ ap (λ (x : Refusal). Err x) (sym is)
 
   module _ (later : Lane) (same_id : later.id ≡ before.id) (same_name : later.name ≡ before.name) (number guard : ℕ) (many : guard ≡ length gs) (fresh : has number before.contexts.live ≡ false) (live : later.contexts.live ≡ before.contexts.live ++ (number, given) ∷ [])
-      (room : length before.contexts.live ≡ 65534 → ⊥) (gs' : List (Option Guard)) (skip : gs' ≡ gs ++ None ∷ []) (cs' : Named) (made_same : cs'.made ≡ cs.made) (one : cs'.attaches ≡ cs.attaches ++ Some (record { lane = lane; attached = number }) ∷ []) where
+      (room : length before.contexts.live ≡ MOST → ⊥) (gs' : List (Option Guard)) (skip : gs' ≡ gs ++ None ∷ []) (cs' : Named) (made_same : cs'.made ≡ cs.made) (one : cs'.attaches ≡ cs.attaches ++ Some (record { lane = lane; attached = number }) ∷ []) where
     abbrev then : State
     then = state_of spans views world dispatch opening (set lanes lane later) hs gs' cs' at
 
@@ -104,7 +107,7 @@ module _ {S : Type 0} (spans : S → Spans) (views : Views S) (kept : S → ℕ 
         let fits = stands.fits in
         let ids = now.setup.ids in
         let e : Effect = attaches now.setup t at lane given in
-        let free : is_full (t.contexts place_id) ≡ false = ne_eqb (length (t.contexts place_id)) 65534 (λ e. room (lives t stands ∙ e)) in
+        let free : is_full (t.contexts place_id) ≡ false = ne_eqb (length (t.contexts place_id)) MOST (λ e. room (lives t stands ∙ e)) in
         serve now then t e _ (reply.Guard guard) stands
         (ap (λ o. named what.Context o (λ c. enters_unless (is_full (t.contexts place_id)) lane (attaches now.setup t at lane c))) (named_is t stands) ∙ cond-false {A = Resolved} (is_full (t.contexts place_id)) _ _ free)
         (ap reply.Guard (many ∙ ap length fits.guard_slots ∙ length-map t.guards (option_map _))) setup_same r.tokens refl
@@ -129,7 +132,7 @@ module _ {S : Type 0} (spans : S → Spans) (views : Views S) (kept : S → ℕ 
         }))
         (λ s some. known_still now then t e r.tokens refl stands.recording s refl some)
         (all_fit t stands)
-        (record { quiet = refl; before = seen views.filtered None world dispatch; later = seen views.filtered None world dispatch; shown_before = refl; shown_later = refl; told = heard_none (seen views.filtered None world dispatch); known = refl; cached = refl })
+        (record { quiet = refl; before = seen views.filtered None world dispatch; later = seen views.filtered None world dispatch; shown_before = refl; shown_later = refl; told = heard_none (seen views.filtered None world dispatch); known = refl; cached = refl; aside = record { before = aside_in views world dispatch; later = aside_in views world dispatch; shown_before = refl; shown_later = refl; waits_before = refl; waits_later = refl; adds = adds_same views world world dispatch refl } })
 
     pub keeps_attached : IsKept kept is_whole world then
     keeps_attached =

@@ -1,31 +1,33 @@
 -- A pipeline without requests.
-use Rattle.std.proofs.Common.{◌≡◌, ℕ, ◌+◌, ◌<◌, List, [], ◌∷◌, ◌++◌, length, Bool, true, false, Option, Some, None, option_map, map, refl, sym, ap, subst, ◌∙◌, arith, zero, suc, slice_get}
+use Rattle.std.proofs.Common.{◌≡◌, ℕ, ◌<◌, List, [], ◌∷◌, ◌++◌, length, Bool, true, false, Option, Some, None, option_map, map, refl, sym, ap, subst, ◌∙◌, arith, zero, suc, slice_get}
 use Rattle.std.proofs.lemmas.List.{length-map}
 use Rattle.trace_base.specs.declared.lane.Lane.{Lane}
 use Rattle.trace_base.specs.declared.callsite.Callsite.{Callsite}
 use Rattle.trace_base.specs.Gate.{Worlds, AreSame, IsFresh}
 use Rattle.trace_base.specs.declared.subscriber.Interest.{Interest}
-use Rattle.env_filter.specs.Filtering.{Filtered, interest_in}
-use Rattle.span_pipeline.specs.Admission.{filter_if, text_filter, IsTextFilter}
+use Rattle.std.specs.Prelude.{IfSome, is_some}
+use Rattle.env_filter.specs.Filtering.{Filtered, Filtering, plain, IsNew, interest_in}
+use Rattle.otel_metrics.specs.declared.measure.Measure.{Measure}
+use Rattle.span_pipeline.specs.Admission.{filter_if, text_filter, IsTextFilter, IsCounter}
+use Rattle.span_pipeline.proofs.Beside.{Adds, aside_in, adds_nothing}
 use Rattle.span_pipeline.proofs.Filtering.{cached_rows}
 use Rattle.trace_base.specs.Spans.{Spans, span_at}
 use Rattle.span_handles.specs.Worlds.{Has, Alike, Replaced, seen, spans_in, kept_in, no_spans}
-use Rattle.otel_state.specs.declared.settings.LayerSettings.{LayerSettings}
-use Rattle.otel_layer.specs.Core.{Core, new_core, kept_by}
+use Rattle.span_stack.specs.Reading.{new_recording}
 use Rattle.span_handles.specs.Handles.{Handle}
 use Rattle.span_pipeline.specs.declared.slots.Guard.{Guard}
+use Rattle.span_pipeline.specs.declared.settings.Texts.{Texts}
 use Rattle.span_pipeline.specs.Setups.{Setup, HasOwnIds, id_at}
-use Rattle.otel_layer.specs.Recording.{Recording, no_recording, recording_of}
+use Rattle.otel_layer.specs.Recording.{Recording, no_recording}
 use Rattle.span_pipeline.specs.Tables.{Owner, EntryOf, GuardOf, no_tables, nothing_recorded, open_part}
 use Rattle.otel_base.specs.declared.context.Context.{Context}
-use Rattle.otel_base.specs.Recorder.{Recorded}
 use Rattle.span_pipeline.proofs.Keeping.{SameRecorded}
 use Rattle.span_pipeline.specs.Fits.{Views, ShownFilter, shown_of, Named, State, state_of, Fits, StandsFor, RecordingFits, FilteringFits, numbers_by, ContextsFit, Laned, laned, lane_at, LanesFit, IsKept}
 
 -- nothing fits no tables
-pub new_fits : (setup : Setup) (lanes : List Laned) (recording : Recording) (filter : Option ShownFilter) (cached : List (List Interest)) (layer : LayerSettings) (dispatch : ℕ) (spans : Spans) → spans ≡ no_spans
-    → Fits (record { setup = setup; spans = spans; lanes = lanes; recording = recording; filter = filter; cached = cached; dispatch = dispatch; handles = []; handle_sites = []; guards = []; contexts = record { made = []; attaches = [] }; moment = 0 }) (no_tables layer)
-new_fits setup lanes recording filter cached layer dispatch spans is = subst (λ (x : Spans). Fits (record { setup = setup; spans = x; lanes = lanes; recording = recording; filter = filter; cached = cached; dispatch = dispatch; handles = []; handle_sites = []; guards = []; contexts = record { made = []; attaches = [] }; moment = 0 }) (no_tables layer)) (sym is) (record {
+pub new_fits : (setup : Setup) (lanes : List Laned) (recording : Recording) (filter : Option ShownFilter) (cached : List (List Interest)) (counter : Option ShownFilter) (measures : List Measure) (base : Setup) (dispatch : ℕ) (spans : Spans) → spans ≡ no_spans
+    → Fits (record { setup = setup; spans = spans; lanes = lanes; recording = recording; filter = filter; cached = cached; counter = counter; measures = measures; dispatch = dispatch; handles = []; handle_sites = []; guards = []; contexts = record { made = []; attaches = [] }; moment = 0 }) (no_tables base)
+new_fits setup lanes recording filter cached counter measures base dispatch spans is = subst (λ (x : Spans). Fits (record { setup = setup; spans = x; lanes = lanes; recording = recording; filter = filter; cached = cached; counter = counter; measures = measures; dispatch = dispatch; handles = []; handle_sites = []; guards = []; contexts = record { made = []; attaches = [] }; moment = 0 }) (no_tables base)) (sym is) (record {
   handle_slots = refl;
   site_slots = refl;
   guard_slots = refl;
@@ -76,6 +78,7 @@ module _ {S : Type 0} (same : S → S → Type 0) (spans : S → Spans) (views :
     pub kept_is : kept_in kept world dispatch ≡ kept first
     pub recorded_is : seen views.recorded no_recording world dispatch ≡ views.recorded first
     pub filter_is : seen views.filtered None world dispatch ≡ views.filtered first
+    pub aside_is : Adds (views.counter first, views.measured first) (aside_in views world dispatch) []
     pub alone : length world.subscribers ≡ 1
     pub whole : is_whole first → Has is_whole world dispatch
 
@@ -90,6 +93,7 @@ module _ {S : Type 0} (same : S → S → Type 0) (spans : S → Spans) (views :
         kept_is = alike.kept_same;
         recorded_is = (records old world 0 r).0;
         filter_is = (records old world 0 r).1;
+        aside_is = (records old world 0 r).2;
         alone = ap (λ (ys : List S). length ys) is;
         whole = λ was. alike.whole (λ s there. (let e : first ≡ s = the_one first s there in subst is_whole e was));
       }
@@ -117,10 +121,10 @@ no_live (l ∷ ls) are (suc n) = no_live ls (cc are) n
 -- what a pipeline begins with
 module _ {S : Type 0} (same : S → S → Type 0) (spans : S → Spans) (views : Views S) (attaches : S → Bool) (kept : S → ℕ → ℕ → ℕ) (is_whole : S → Type 0)
     (law : (old new : Worlds S) (dispatch : ℕ) → Replaced same old new dispatch → Alike spans attaches kept is_whole old new dispatch) (records : SameRecorded spans views attaches kept is_whole same) (first : S)
-    (world before : Worlds S) (dispatch : ℕ) (opening : List ℕ) (lanes : List Lane) (ids : List ℕ) (is : dispatch ≡ length before.subscribers) (empty : length before.subscribers ≡ 0) (are : AreSame same (before.subscribers ++ first ∷ []) world.subscribers)
-    (none : spans first ≡ no_spans) (layer : LayerSettings) (nothing : views.recorded first ≡ nothing_recorded layer) (quiet : map (λ (l : Lane). l.contexts.live) lanes ≡ map (λ (l : Lane). []) lanes)
+    (world before : Worlds S) (dispatch : ℕ) (opening : Texts) (lanes : List Lane) (ids : List ℕ) (is : dispatch ≡ length before.subscribers) (empty : length before.subscribers ≡ 0) (are : AreSame same (before.subscribers ++ first ∷ []) world.subscribers)
+    (none : spans first ≡ no_spans) (base : Setup) (nothing : views.recorded first ≡ nothing_recorded base) (quiet : map (λ (l : Lane). l.contexts.live) lanes ≡ map (λ (l : Lane). []) lanes)
     (interest : S → Callsite → Interest) (shown : (s : S) (f : Filtered) (c : Callsite) → views.filtered s ≡ Some f → interest s c ≡ interest_in f c) (fresh : IsFresh interest world)
-    (f : Filtered) (opened : IsTextFilter opening f) (gate : views.filtered first ≡ Some f)
+    (f : Filtered) (opened : IsTextFilter opening.filter f) (gate : views.filtered first ≡ Some f) (counts : IsCounter opening.counting (views.counter first)) (no_measures : views.measured first ≡ [])
     (hs : List (Option Handle)) (no_handles : hs ≡ []) (gs : List (Option Guard)) (no_guards : gs ≡ []) (cs : Named) (no_contexts : cs ≡ record { made = []; attaches = [] }) where
   its_only : Only same spans views attaches kept is_whole law records first world dispatch
   its_only = only_one same spans views attaches kept is_whole law records first world dispatch (is ∙ empty) (subst (λ (xs : List S). AreSame same (xs ++ first ∷ []) world.subscribers) (no_items before.subscribers empty) are)
@@ -128,15 +132,15 @@ module _ {S : Type 0} (same : S → S → Type 0) (spans : S → Spans) (views :
   abbrev begun_state : State
   begun_state = state_of spans views world dispatch opening lanes hs gs cs 0
 
-  pub recorded_nothing : begun_state.recording ≡ nothing_recorded layer
+  pub recorded_nothing : begun_state.recording ≡ nothing_recorded base
   recorded_nothing = its_only.recorded_is ∙ nothing
 
-  fits_begun : Fits begun_state (no_tables layer)
-  fits_begun = subst (λ (x : List (Option Handle)). Fits (state_of spans views world dispatch opening lanes x gs cs 0) (no_tables layer)) (sym no_handles)
-      (subst (λ (x : List (Option Guard)). Fits (state_of spans views world dispatch opening lanes [] x cs 0) (no_tables layer)) (sym no_guards)
-      (subst (λ (x : Named). Fits (state_of spans views world dispatch opening lanes [] [] x 0) (no_tables layer)) (sym no_contexts) (new_fits _ _ _ _ _ layer _ _ (its_only.spans_are ∙ none))))
+  fits_begun : Fits begun_state (no_tables base)
+  fits_begun = subst (λ (x : List (Option Handle)). Fits (state_of spans views world dispatch opening lanes x gs cs 0) (no_tables base)) (sym no_handles)
+      (subst (λ (x : List (Option Guard)). Fits (state_of spans views world dispatch opening lanes [] x cs 0) (no_tables base)) (sym no_guards)
+      (subst (λ (x : Named). Fits (state_of spans views world dispatch opening lanes [] [] x 0) (no_tables base)) (sym no_contexts) (new_fits _ _ _ _ _ _ _ base _ _ (its_only.spans_are ∙ none))))
 
-  records_begun : RecordingFits begun_state (no_tables layer)
+  records_begun : RecordingFits begun_state (no_tables base)
   records_begun = record {
     recorded = ap open_part recorded_nothing;
     known = λ s live. absurd (let e = ap (λ (x : Spans). (span_at x.made s).holds) (its_only.spans_are ∙ none) in omega (arith, e, live));
@@ -146,21 +150,26 @@ module _ {S : Type 0} (same : S → S → Type 0) (spans : S → Spans) (views :
         (record { contexts = refl; distinct = tt; numbers_are = λ o. sym (no_numbers begun_state.setup.layer.activation n (lane_at (map laned lanes) n).id o) })));
   }
 
-  filter_begun : FilteringFits begun_state (no_tables layer)
+  filter_begun : FilteringFits begun_state (no_tables base)
   filter_begun =
-      let now : text_filter opening ≡ f = ap filter_if opened.read ∙ sym opened.is in
+      let now : text_filter opening.filter ≡ f = ap filter_if opened.read ∙ sym opened.is in
       record {
         in_place = ap (option_map (shown_of (length (spans_in spans world dispatch).made) begun_state.setup.ids)) (its_only.filter_is ∙ gate)
             ∙ ap (λ (x : Spans). Some (shown_of (length x.made) begun_state.setup.ids f)) (its_only.spans_are ∙ none) ∙ ap (λ (x : Filtered). Some (shown_of 0 begun_state.setup.ids x)) (sym now);
         fresh = cached_rows views interest shown world dispatch f its_only.alone its_only.there (its_only.filter_is ∙ gate) fresh
             ∙ ap (λ (x : Filtered). map (λ (c : Callsite). interest_in x c ∷ []) world.sites) (sym now);
+        counter = ap (option_map (shown_of 0 begun_state.setup.ids)) (its_only.aside_is.counter ∙ counts.is);
+        new = subst (λ (o : Option Filtered). IfSome o IsNew) counts.is counts.new;
       }
 
-  pub begins : StandsFor begun_state (no_tables layer)
+  pub measured_nothing : begun_state.measures ≡ []
+  measured_nothing = (adds_nothing (views.counter first, views.measured first) (aside_in views world dispatch) its_only.aside_is).1 ∙ no_measures
+
+  pub begins : StandsFor begun_state (no_tables base)
   begins = record { fits = fits_begun; recording = records_begun; filtering = filter_begun }
 
-  pub begun_setup : (sites : List Callsite) (names : List (Option (List ℕ))) (force : List ℕ) → world.sites ≡ sites → map (λ (l : Lane). l.id) lanes ≡ ids → map (λ (l : Lane). l.name) lanes ≡ names → opening ≡ force
-      → begun_state.setup ≡ record { sites = sites; ids = ids; names = names; filter = force; layer = layer }
+  pub begun_setup : (sites : List Callsite) (names : List (Option (List ℕ))) (force : Texts) → world.sites ≡ sites → map (λ (l : Lane). l.id) lanes ≡ ids → map (λ (l : Lane). l.name) lanes ≡ names → opening ≡ force
+      → begun_state.setup ≡ record { sites = sites; ids = ids; names = names; filter = force.filter; counting = force.counting; layer = base.layer }
   begun_setup sites names force sites_are ids_are names_are is_force = rw (sites_are, ids_are, names_are, is_force, ap (λ (r : Recording). r.settings) recorded_nothing) refl
 
   pub keeps_begun : is_whole first → map (λ (l : Lane). l.id) lanes ≡ ids → HasOwnIds ids → ((lane number : ℕ) → kept first lane number ≡ 0) → IsKept kept is_whole world begun_state
@@ -169,20 +178,16 @@ module _ {S : Type 0} (same : S → S → Type 0) (spans : S → Spans) (views :
     alone = its_only.alone;
     whole = its_only.whole whole;
     lanes = new_lanes lanes ids ids_are own _ (λ lane number. ap (λ (f : ℕ → ℕ → ℕ). f lane number) its_only.kept_is ∙ free lane number);
-    tables = no_tables layer;
+    tables = no_tables base;
     fits = fits_begun;
     recording = records_begun;
     filtering = filter_begun;
   }
 
--- a layer that knows no span has recorded nothing
-pub records_none : (core : Core Recorded) (settings : LayerSettings) → core ≡ new_core (record { started = 0; spare = 0; finished = [] }) settings → recording_of core ≡ nothing_recorded settings
-records_none core settings is = ap recording_of is
-
--- a layer that knows no span keeps nothing attached
-pub nothing_kept : {T : Type 0} (core : Core T) (tracer : T) → {settings : LayerSettings} → core ≡ new_core tracer settings → (lane number : ℕ) → kept_by core.settings.activation core.tokens lane number + 0 ≡ 0
-nothing_kept core tracer {settings} is lane number = ap (λ (x : Core _). kept_by x.settings.activation x.tokens lane number + 0) is ∙ by_flag settings.activation
+-- a stack that was just made has recorded nothing, and counts where events are counted
+pub records_none : (r : Recording) (base : Setup) (counter : Option Filtering) → r ≡ new_recording base.layer (is_some counter) → IsCounter base.counting (option_map plain counter) → r ≡ nothing_recorded base
+records_none r base counter is counts = is ∙ ap (λ (b : Bool). new_recording base.layer b) (sym (some_mapped plain counter) ∙ ap is_some counts.is ∙ some_mapped text_filter base.counting)
   where
-    by_flag : (b : Bool) → kept_by b [] lane number + 0 ≡ 0
-    by_flag true = refl
-    by_flag false = refl
+    some_mapped : {A B : Type 0} (f : A → B) (o : Option A) → is_some (option_map f o) ≡ is_some o
+    some_mapped f None = refl
+    some_mapped f (Some x) = refl

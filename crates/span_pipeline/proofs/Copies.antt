@@ -14,12 +14,14 @@ use Rattle.span_pipeline.specs.declared.slots.Guard.{Guard}
 use Rattle.span_pipeline.specs.declared.reply.Reply.TheVariants as reply
 use Rattle.span_pipeline.specs.declared.request.Call.TheVariants as call
 use Rattle.span_pipeline.specs.declared.reply.What.TheVariants as what
+use Rattle.span_pipeline.specs.declared.settings.Texts.{Texts}
 use Rattle.span_pipeline.specs.Setups.{id_at}
 use Rattle.otel_layer.specs.Recording.{Recording, no_recording}
 use Rattle.span_pipeline.specs.Tables.{Scope, Made, Guarded, Effect, Tables, slot_at, own}
 use Rattle.span_pipeline.specs.Effects.{named, effect_of_call, clones}
 use Rattle.span_pipeline.specs.Balance.{Balanced, named_by, opened_by}
 use Rattle.span_pipeline.specs.Fits.{Views, Named, State, state_of, laned, Fits, StandsFor, MadeFit, LanesFit, IsKept, Served, IsScope, held_of, held_by, site_by}
+use Rattle.span_pipeline.proofs.Beside.{aside_in}
 use Rattle.span_pipeline.proofs.Naming.{find, held_slot, named_within}
 use Rattle.span_pipeline.proofs.Sited.{site_found}
 use Rattle.span_pipeline.proofs.Standing.{fits_step}
@@ -28,7 +30,7 @@ use Rattle.trace_base.proofs.Holding.{holds_other}
 use Rattle.span_pipeline.proofs.Balancing.{held_most, named_slot}
 use Rattle.span_pipeline.proofs.Fitting.{fits_live}
 use Rattle.span_pipeline.proofs.Makings.{made_held}
-use Rattle.span_pipeline.proofs.Serving.{serve, known_still, all_same, kept_served, call_count, call_sites, call_cached, call_whole}
+use Rattle.span_pipeline.proofs.Serving.{serve, known_still, all_same, kept_served, call_count, call_sites, call_cached, call_aside, call_whole}
 use Rattle.span_pipeline.proofs.Filtering.{heard_none}
 use Rattle.span_pipeline.proofs.Cloning.{spans_held, balanced_clone}
 
@@ -82,7 +84,7 @@ module _ {S : Type 0} (spans : S → Spans) (views : Views S) (attaches : S → 
   clone_filter dispatch (s ∷ up) shown = shown.3 ∙ sym (heard_none (seen views.filtered None old dispatch))
 
   module _ (does : S → SubscriberCall → S → Type 0) (law : Law spans views attaches kept is_whole does) (recalls : Recalls spans views attaches kept is_whole does)
-      (dispatch : ℕ) (opening : List ℕ) (lanes : List Lane) (hs hs' : List (Option Handle)) (gs : List (Option Guard)) (cs : Named) (m at lane number : ℕ) (many : number ≡ length hs) (inv : IsKept kept is_whole old (state_of spans views old dispatch opening lanes hs gs cs m)) where
+      (dispatch : ℕ) (opening : Texts) (lanes : List Lane) (hs hs' : List (Option Handle)) (gs : List (Option Guard)) (cs : Named) (m at lane number : ℕ) (many : number ≡ length hs) (inv : IsKept kept is_whole old (state_of spans views old dispatch opening lanes hs gs cs m)) where
     abbrev now : State
     now = state_of spans views old dispatch opening lanes hs gs cs m
 
@@ -134,7 +136,7 @@ module _ {S : Type 0} (spans : S → Spans) (views : Views S) (attaches : S → 
           }))
           (λ s some. known_still now then t e (seen views.recorded no_recording old dispatch).tokens same stands.recording s refl (clone_live sp line.at s live (subst (λ (x : Spans). 0 < (span_at x.made s).holds) step some)))
           (all_same now then t.contexts setup refl refl (ap (λ (r : Recording). r.tokens) same) stands.recording.attached)
-          (record { quiet = refl; before = seen views.filtered None old dispatch; later = seen views.filtered None new dispatch; shown_before = refl; shown_later = refl; told = clone_filter dispatch line.at shown ∙ heard_none (seen views.filtered None old dispatch); known = refl; cached = call_cached spans views attaches kept is_whole old new dispatch line.at (λ id. CloneSpan id) shown })
+          (record { quiet = refl; before = seen views.filtered None old dispatch; later = seen views.filtered None new dispatch; shown_before = refl; shown_later = refl; told = clone_filter dispatch line.at shown ∙ heard_none (seen views.filtered None old dispatch); known = refl; cached = call_cached spans views attaches kept is_whole old new dispatch line.at (λ id. CloneSpan id) shown; aside = record { before = aside_in views old dispatch; later = aside_in views new dispatch; shown_before = refl; shown_later = refl; waits_before = refl; waits_later = refl; adds = call_aside spans views attaches kept is_whole old new dispatch line.at (λ id. CloneSpan id) (λ s. refl) shown } })
 
       pub keeps_cloned : IsKept kept is_whole new then
       keeps_cloned =

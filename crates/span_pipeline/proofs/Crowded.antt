@@ -3,6 +3,7 @@ use Rattle.std.specs.Prelude.{◌&&◌, ◌||◌, ◌≢◌}
 use Rattle.std.proofs.Common.{◌≡◌, ℕ, ◌<◌, List, [], ◌∷◌, length, get_or, Bool, true, false, Option, Some, None, Err, map, refl, sym, ap, subst, ◌∙◌, arith, inl, inr, slice_get}
 use Rattle.std.proofs.lemmas.Bool.{cases_Bool, eq-eqb, eqb-true, cond-true, true≢false}
 use Rattle.std.proofs.lemmas.List.{length-map}
+use Rattle.otel_base.specs.declared.stack.TheConstants.{MOST}
 use Rattle.otel_base.specs.declared.context.Context.{Context}
 use Rattle.otel_base.specs.declared.enter_error.EnterError.{EnterError}
 use Rattle.otel_base.specs.declared.enter_error.EnterError.TheVariants as errors
@@ -17,6 +18,7 @@ use Rattle.span_handles.specs.Entries.{MeetsFullLane}
 use Rattle.span_pipeline.specs.declared.slots.Guard.{Guard}
 use Rattle.span_pipeline.specs.declared.reply.Refusal.{Refusal}
 use Rattle.span_pipeline.specs.declared.reply.What.TheVariants as what
+use Rattle.span_pipeline.specs.declared.settings.Texts.{Texts}
 use Rattle.span_pipeline.specs.Setups.{id_at}
 use Rattle.span_pipeline.specs.Balance.{named_by, opened_by}
 use Rattle.span_pipeline.specs.Tables.{Scope, Attached, Tables, slot_at}
@@ -45,16 +47,16 @@ meets_none : (b : Bool) (items : List Attached) → meets_full b [] items ≡ fa
 meets_none true items = refl
 meets_none false items = refl
 
-meets_parts : (b : Bool) (s : ℕ) (up : Scope) (items : List Attached) → meets_full b (s ∷ up) items ≡ true → (b ≡ true) × (length items ≡ 65534)
-meets_parts true s up items e = (refl, eqb-true (length items) 65534 e)
+meets_parts : (b : Bool) (s : ℕ) (up : Scope) (items : List Attached) → meets_full b (s ∷ up) items ≡ true → (b ≡ true) × (length items ≡ MOST)
+meets_parts true s up items e = (refl, eqb-true (length items) MOST e)
 meets_parts false s up items e = absurd (true≢false (sym e))
 
-meets_made : (b : Bool) (s : ℕ) (up : Scope) (items : List Attached) → b ≡ true → length items ≡ 65534 → meets_full b (s ∷ up) items ≡ true
-meets_made true s up items on many = eq-eqb (length items) 65534 many
+meets_made : (b : Bool) (s : ℕ) (up : Scope) (items : List Attached) → b ≡ true → length items ≡ MOST → meets_full b (s ∷ up) items ≡ true
+meets_made true s up items on many = eq-eqb (length items) MOST many
 meets_made false s up items on many = absurd (true≢false (sym on))
 
 module _ {S : Type 0} (spans : S → Spans) (views : Views S) (activates : S → ℕ → Bool) (kept : S → ℕ → ℕ → ℕ) (is_whole : S → Type 0) (acts : Activates views activates) (old : Worlds S)
-    (dispatch : ℕ) (opening : List ℕ) (lanes : List Lane) (hs : List (Option Handle)) (gs : List (Option Guard)) (cs : Named) (m at lane : ℕ) (before : Lane) (within : lane < length lanes) (here : before ≡ get_or lanes lane before)
+    (dispatch : ℕ) (opening : Texts) (lanes : List Lane) (hs : List (Option Handle)) (gs : List (Option Guard)) (cs : Named) (m at lane : ℕ) (before : Lane) (within : lane < length lanes) (here : before ≡ get_or lanes lane before)
     (handle : ℕ) (h : Handle) (found : slot_at hs handle ≡ Some h) (inv : IsKept kept is_whole old (state_of spans views old dispatch opening lanes hs gs cs m)) where
   abbrev now : State
   now = state_of spans views old dispatch opening lanes hs gs cs m

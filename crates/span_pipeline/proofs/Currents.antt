@@ -22,6 +22,7 @@ use Rattle.span_pipeline.specs.declared.reply.Refusal.TheVariants as refusal
 use Rattle.span_pipeline.specs.declared.reply.What.TheVariants as what
 use Rattle.span_pipeline.specs.declared.request.Call.TheVariants as call
 use Rattle.span_pipeline.specs.declared.request.Place.TheVariants as place
+use Rattle.span_pipeline.specs.declared.settings.Texts.{Texts}
 use Rattle.span_pipeline.specs.Setups.{id_at}
 use Rattle.otel_layer.specs.Recording.{Recording, no_recording}
 use Rattle.span_pipeline.specs.Tables.{Scope, Made, Guarded, Effect, Tables, slot_at, slots_after, own, site_of}
@@ -29,6 +30,7 @@ use Rattle.span_pipeline.specs.Effects.{Resolved, named, effect_of_call, clones,
 use Rattle.span_pipeline.specs.Slots.{is_named}
 use Rattle.span_pipeline.specs.Balance.{Balanced, names, named_by, opened_by}
 use Rattle.span_pipeline.specs.Fits.{Views, Named, State, state_of, Laned, laned, Fits, StandsFor, MadeFit, LanesFit, IsKept, Served, IsScope, held_of, held_by, site_by}
+use Rattle.span_pipeline.proofs.Beside.{Adds, aside_in, adds_same}
 use Rattle.span_pipeline.proofs.Naming.{Found, find, held_slot, named_within}
 use Rattle.span_pipeline.proofs.Sited.{site_slot, site_found, copied_site}
 use Rattle.span_pipeline.proofs.Standing.{fits_step}
@@ -36,7 +38,7 @@ use Rattle.span_pipeline.proofs.Balancing.{named_slot, set_none}
 use Rattle.span_pipeline.proofs.Reading.{Law, Recalls, shown_on}
 use Rattle.span_pipeline.proofs.Keeping.{id_seen, ids_same, names_same, lanes_same}
 use Rattle.span_pipeline.proofs.Refusing.{within_get}
-use Rattle.span_pipeline.proofs.Serving.{serve, known_still, all_same, kept_served, call_count, call_sites, call_cached, call_whole}
+use Rattle.span_pipeline.proofs.Serving.{serve, known_still, all_same, kept_served, call_count, call_sites, call_cached, call_aside, call_whole}
 use Rattle.span_pipeline.proofs.Filtering.{heard_none}
 use Rattle.span_pipeline.proofs.Cloning.{find_up, spans_held, balanced_decline, another_handle}
 use Rattle.span_pipeline.proofs.Copies.{held_scope_most, clone_live, one_clone, made_clone, the_scope, enabled_is, still_named_more, held_spans, clone_kept, clone_recorded, clone_filter}
@@ -206,7 +208,7 @@ handed_on k t fits handle s up there free = record {
 
 module _ {S : Type 0} (spans : S → Spans) (views : Views S) (attaches : S → Bool) (kept : S → ℕ → ℕ → ℕ) (is_whole : S → Type 0) (old new : Worlds S) where
   module _ (does : S → SubscriberCall → S → Type 0) (law : Law spans views attaches kept is_whole does) (recalls : Recalls spans views attaches kept is_whole does)
-      (dispatch : ℕ) (opening : List ℕ) (lanes : List Lane) (hs hs' : List (Option Handle)) (gs : List (Option Guard)) (cs : Named) (m at lane number : ℕ) (many : number ≡ length hs) (before : Lane) (within : lane < length lanes) (here : before ≡ get_or lanes lane before)
+      (dispatch : ℕ) (opening : Texts) (lanes : List Lane) (hs hs' : List (Option Handle)) (gs : List (Option Guard)) (cs : Named) (m at lane number : ℕ) (many : number ≡ length hs) (before : Lane) (within : lane < length lanes) (here : before ≡ get_or lanes lane before)
       (inv : IsKept kept is_whole old (state_of spans views old dispatch opening lanes hs gs cs m)) where
     abbrev now : State
     now = state_of spans views old dispatch opening lanes hs gs cs m
@@ -227,9 +229,9 @@ module _ {S : Type 0} (spans : S → Spans) (views : Views S) (attaches : S → 
     on_id t fits = ap (λ (l : ℕ). current_of (entries_on l now.spans.lanes)) (id_seen lanes lane before within here) ∙ (is_on now t fits place_id).on
 
     serves_handed : (t : Tables) → StandsFor now t → (resolved : Resolved) (line : Scope) (spent : Option ℕ) (enabled : Bool) → resolved ≡ Ok (hands t at place_id line spent) → enabled ≡ is_some (own line) → new.sites ≡ old.sites
-        → seen views.recorded no_recording new dispatch ≡ seen views.recorded no_recording old dispatch → seen views.filtered None new dispatch ≡ seen views.filtered None old dispatch → new.cached ≡ old.cached → then.handles ≡ slots_after now.handles (Some (held_of dispatch line)) spent → then.handle_sites ≡ slots_after now.handle_sites (Some (site_of t.made line)) spent → Handed now t then.spans line spent
+        → seen views.recorded no_recording new dispatch ≡ seen views.recorded no_recording old dispatch → seen views.filtered None new dispatch ≡ seen views.filtered None old dispatch → new.cached ≡ old.cached → Adds (aside_in views old dispatch) (aside_in views new dispatch) [] → then.handles ≡ slots_after now.handles (Some (held_of dispatch line)) spent → then.handle_sites ≡ slots_after now.handle_sites (Some (site_of t.made line)) spent → Handed now t then.spans line spent
         → Served resolved t now then (reply.Made enabled number)
-    serves_handed t stands resolved line spent enabled is shows sites same filters cached handles handle_sites handed =
+    serves_handed t stands resolved line spent enabled is shows sites same filters cached aside handles handle_sites handed =
         let fits = stands.fits in
         let setup : then.setup ≡ now.setup = rw (sites, ids_same lanes lane before (using before dispatch) within here refl, names_same lanes lane before (using before dispatch) within here refl, same) refl in
         let e : Effect = hands t at place_id line spent in
@@ -258,7 +260,7 @@ module _ {S : Type 0} (spans : S → Spans) (views : Views S) (attaches : S → 
         }))
         (λ s some. known_still now then t e (seen views.recorded no_recording old dispatch).tokens same stands.recording s refl (handed.live s some))
         (all_same now then t.contexts setup refl lanes_are (ap (λ (r : Recording). r.tokens) same) stands.recording.attached)
-        (record { quiet = refl; before = seen views.filtered None old dispatch; later = seen views.filtered None new dispatch; shown_before = refl; shown_later = refl; told = filters ∙ heard_none (seen views.filtered None old dispatch); known = refl; cached = cached })
+        (record { quiet = refl; before = seen views.filtered None old dispatch; later = seen views.filtered None new dispatch; shown_before = refl; shown_later = refl; told = filters ∙ heard_none (seen views.filtered None old dispatch); known = refl; cached = cached; aside = record { before = aside_in views old dispatch; later = aside_in views new dispatch; shown_before = refl; shown_later = refl; waits_before = refl; waits_later = refl; adds = aside } })
 
     keeps_handed : (resolved : Resolved) (enabled : Bool) → Served resolved inv.tables now then (reply.Made enabled number) → length new.subscribers ≡ length old.subscribers → (Has is_whole old dispatch → Has is_whole new dispatch) → kept_in kept new dispatch ≡ kept_in kept old dispatch → IsKept kept is_whole new then
     keeps_handed resolved enabled served count whole same = kept_served spans views attaches kept is_whole old new now then inv resolved _ served refl count whole
@@ -274,7 +276,7 @@ module _ {S : Type 0} (spans : S → Spans) (views : Views S) (attaches : S → 
           let copy = current_copied spans does old new dispatch before.id line h inv.there (on_id t fits) did in
           let shown = shown_on spans views attaches kept is_whole does law recalls old new dispatch line h.held copy.0 (λ id. CloneSpan id) copy.1 in
           serves_handed t stands _ line None enabled refl (shows ∙ enabled_is dispatch line h.held copy.0) (call_sites spans views attaches kept is_whole old new dispatch line (λ id. CloneSpan id) shown)
-          (clone_recorded spans views attaches kept is_whole old new dispatch line shown) (clone_filter spans views attaches kept is_whole old new dispatch line shown) (call_cached spans views attaches kept is_whole old new dispatch line (λ id. CloneSpan id) shown)
+          (clone_recorded spans views attaches kept is_whole old new dispatch line shown) (clone_filter spans views attaches kept is_whole old new dispatch line shown) (call_cached spans views attaches kept is_whole old new dispatch line (λ id. CloneSpan id) shown) (call_aside spans views attaches kept is_whole old new dispatch line (λ id. CloneSpan id) (λ s. refl) shown)
           (ap (map held_by) one ∙ map_push held_by hs (Some h) ∙ ap (λ (x : Held). map held_by hs ++ Some x ∷ []) copy.0)
           (ap (map site_by) one ∙ map_push site_by hs (Some h) ∙ ap (λ (o : Option ℕ). map site_by hs ++ Some o ∷ []) (current_site spans does old new dispatch before.id line h inv.there (on_id t fits) did t.made fits.made on.live))
           (subst (λ (x : Spans). Handed now t x line None) (sym (held_spans spans views attaches kept is_whole old new dispatch line shown)) (handed_more now t fits line on.scope on.live))
@@ -329,7 +331,7 @@ module _ {S : Type 0} (spans : S → Spans) (views : Views S) (attaches : S → 
           let shown = shown_on spans views attaches kept is_whole does law recalls old new dispatch line next.held copy.0 (λ id. CloneSpan id) copy.1 in
           record {
             served = serves_handed t stands _ line (Some handle) enabled (its_effect t fits [] there) (shows ∙ enabled_is dispatch line next.held copy.0) (call_sites spans views attaches kept is_whole old new dispatch line (λ id. CloneSpan id) shown)
-                (clone_recorded spans views attaches kept is_whole old new dispatch line shown) (clone_filter spans views attaches kept is_whole old new dispatch line shown) (call_cached spans views attaches kept is_whole old new dispatch line (λ id. CloneSpan id) shown) (slots_are line copy.0) (sites_are t.made line (current_site spans does old new dispatch before.id line next inv.there (on_id t fits) (takes is) t.made fits.made on.live))
+                (clone_recorded spans views attaches kept is_whole old new dispatch line shown) (clone_filter spans views attaches kept is_whole old new dispatch line shown) (call_cached spans views attaches kept is_whole old new dispatch line (λ id. CloneSpan id) shown) (call_aside spans views attaches kept is_whole old new dispatch line (λ id. CloneSpan id) (λ s. refl) shown) (slots_are line copy.0) (sites_are t.made line (current_site spans does old new dispatch before.id line next inv.there (on_id t fits) (takes is) t.made fits.made on.live))
                 (subst (λ (x : Spans). Handed now t x line (Some handle)) (sym (held_spans spans views attaches kept is_whole old new dispatch line shown)) (handed_instead now t fits line on.scope on.live handle there (not_used t fits)));
             count = call_count spans views attaches kept is_whole old new dispatch line (λ id. CloneSpan id) shown;
             whole = call_whole spans views attaches kept is_whole old new dispatch line (λ id. CloneSpan id) shown;
@@ -341,7 +343,7 @@ module _ {S : Type 0} (spans : S → Spans) (views : Views S) (attaches : S → 
           let held_is : next.held ≡ held_of dispatch (s ∷ up) = ap (λ (x : Handle). x.held) mine.0 ∙ is in
           record {
             served = serves_handed t stands _ (s ∷ up) (Some handle) enabled (its_effect t fits (s ∷ up) there) (shows ∙ enabled_is dispatch (s ∷ up) next.held held_is) (ap (λ (w : Worlds S). w.sites) mine.1)
-                (ap (λ (w : Worlds S). seen views.recorded no_recording w dispatch) mine.1) (ap (λ (w : Worlds S). seen views.filtered None w dispatch) mine.1) (ap (λ (w : Worlds S). w.cached) mine.1) (slots_are (s ∷ up) held_is) (sites_are t.made (s ∷ up) (ap (λ (x : Handle). x.site) mine.0 ∙ site_found now t fits hs refl handle h found (s ∷ up) there))
+                (ap (λ (w : Worlds S). seen views.recorded no_recording w dispatch) mine.1) (ap (λ (w : Worlds S). seen views.filtered None w dispatch) mine.1) (ap (λ (w : Worlds S). w.cached) mine.1) (adds_same views old new dispatch mine.1) (slots_are (s ∷ up) held_is) (sites_are t.made (s ∷ up) (ap (λ (x : Handle). x.site) mine.0 ∙ site_found now t fits hs refl handle h found (s ∷ up) there))
                 (subst (λ (x : Spans). Handed now t x (s ∷ up) (Some handle)) (sym (ap (λ (w : Worlds S). spans_in spans w dispatch) mine.1)) (handed_on now t fits handle s up there (not_used t fits)));
             count = ap (λ (w : Worlds S). length w.subscribers) mine.1;
             whole = λ has. subst (λ (w : Worlds S). Has is_whole w dispatch) (sym mine.1) has;

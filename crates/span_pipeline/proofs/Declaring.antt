@@ -21,6 +21,7 @@ use Rattle.span_pipeline.specs.declared.reply.Refusal.TheVariants as refusal
 use Rattle.span_pipeline.specs.declared.reply.What.TheVariants as what
 use Rattle.span_pipeline.specs.declared.request.Call.TheVariants as call
 use Rattle.span_pipeline.specs.declared.request.Place.{Place}
+use Rattle.span_pipeline.specs.declared.settings.Texts.{Texts}
 use Rattle.span_pipeline.specs.Setups.{id_at, span_site, event_site}
 use Rattle.span_pipeline.specs.Tables.{Scope, Tables, slot_at, site_of}
 use Rattle.span_pipeline.specs.Fields.{Fields, placed, declares, declared_by, all_values, values_of, values_by}
@@ -150,7 +151,7 @@ has_in world name None = refl
 has_in world name (Some site) = has_at name site (slice_get world.sites site)
 
 module _ {S : Type 0} (spans : S → Spans) (views : Views S) (attaches : S → Bool) (kept : S → ℕ → ℕ → ℕ) (is_whole : S → Type 0) (old : Worlds S)
-    (dispatch : ℕ) (opening : List ℕ) (lanes : List Lane) (hs : List (Option Handle)) (gs : List (Option Guard)) (cs : Named) (m : ℕ) where
+    (dispatch : ℕ) (opening : Texts) (lanes : List Lane) (hs : List (Option Handle)) (gs : List (Option Guard)) (cs : Named) (m : ℕ) where
   abbrev now : State
   now = state_of spans views old dispatch opening lanes hs gs cs m
 
@@ -206,6 +207,7 @@ module _ {S : Type 0} (spans : S → Spans) (views : Views S) (attaches : S → 
               sites_same = ap (λ (w : Worlds S). w.sites) step.others;
               recorded_is = (recalls old new dispatch _ step).0;
               filter_is = (recalls old new dispatch _ step).1;
+              aside_is = (recalls old new dispatch _ step).2;
               cached_same = ap (λ (w : Worlds S). w.cached) step.others;
               count = shown.count;
               whole = shown.whole;

@@ -19,10 +19,12 @@ use Rattle.span_pipeline.specs.declared.slots.Guard.{Guard}
 use Rattle.span_pipeline.specs.declared.reply.Reply.TheVariants as reply
 use Rattle.span_pipeline.specs.declared.reply.What.TheVariants as what
 use Rattle.span_pipeline.specs.declared.request.Call.TheVariants as call
+use Rattle.span_pipeline.specs.declared.settings.Texts.{Texts}
 use Rattle.span_pipeline.specs.Setups.{id_at}
 use Rattle.span_pipeline.specs.Tables.{GuardOf, Effect, Tables, slot_at, with_detached}
 use Rattle.span_pipeline.specs.Effects.{Resolved, named, effect_of_call, exits_on, detaches}
 use Rattle.span_pipeline.specs.Fits.{Views, Named, State, state_of, lane_of, numbers_by, StandsFor, Fits, ContextsFit, AllContextsFit, IsKept, Served}
+use Rattle.span_pipeline.proofs.Beside.{aside_in, adds_same}
 use Rattle.span_pipeline.proofs.Attaching.{owned_has}
 use Rattle.span_pipeline.proofs.Keeping.{id_seen, ids_same, names_same, are_attached, lanes_after}
 use Rattle.span_pipeline.proofs.Laned.{own_fit, all_detached}
@@ -64,7 +66,7 @@ abbrev pub KeepsTokens : {S : Type 0} → Views S → (S → ℕ → ℕ → ℕ
 KeepsTokens {S} views kept = (s : S) (lane number : ℕ) → kept s lane number ≡ kept_by (views.recorded s).settings.activation (views.recorded s).tokens lane number
 
 module _ {S : Type 0} (spans : S → Spans) (views : Views S) (kept : S → ℕ → ℕ → ℕ) (is_whole : S → Type 0) (world : Worlds S)
-    (dispatch : ℕ) (opening : List ℕ) (lanes : List Lane) (hs : List (Option Handle)) (gs : List (Option Guard)) (cs : Named) (m at lane : ℕ) (before : Lane) (within : lane < length lanes) (here : before ≡ get_or lanes lane before)
+    (dispatch : ℕ) (opening : Texts) (lanes : List Lane) (hs : List (Option Handle)) (gs : List (Option Guard)) (cs : Named) (m at lane : ℕ) (before : Lane) (within : lane < length lanes) (here : before ≡ get_or lanes lane before)
     (inv : IsKept kept is_whole world (state_of spans views world dispatch opening lanes hs gs cs m)) (guard : ℕ) (a : Attach) (found : slot_at cs.attaches guard ≡ Some a) (on : a.lane ≡ lane) where
   abbrev now : State
   now = state_of spans views world dispatch opening lanes hs gs cs m
@@ -127,7 +129,7 @@ module _ {S : Type 0} (spans : S → Spans) (views : Views S) (kept : S → ℕ 
         }))
         (λ s some. known_still now then t e r.tokens refl stands.recording s refl some)
         (all_fit t stands)
-        (record { quiet = refl; before = seen views.filtered None world dispatch; later = seen views.filtered None world dispatch; shown_before = refl; shown_later = refl; told = heard_none (seen views.filtered None world dispatch); known = refl; cached = refl })
+        (record { quiet = refl; before = seen views.filtered None world dispatch; later = seen views.filtered None world dispatch; shown_before = refl; shown_later = refl; told = heard_none (seen views.filtered None world dispatch); known = refl; cached = refl; aside = record { before = aside_in views world dispatch; later = aside_in views world dispatch; shown_before = refl; shown_later = refl; waits_before = refl; waits_later = refl; adds = adds_same views world world dispatch refl } })
 
     pub keeps_detached : ((lane number : ℕ) → kept_in kept world dispatch lane number ≡ kept_by r.settings.activation r.tokens lane number) → IsKept kept is_whole world then
     keeps_detached keeps =
@@ -156,8 +158,8 @@ keeps_tokens {S} views kept world dispatch there law lane number =
     let two = seen_there views.recorded no_recording world dispatch x.0 x.1 in
     ap (λ (f : ℕ → ℕ → ℕ). f lane number) one ∙ law x.0 lane number ∙ ap (λ (r : Recording). kept_by r.settings.activation r.tokens lane number) (sym two)
 
--- a registry keeps nothing attached, and so does a filter
-pub none_more : (n : ℕ) → n + 0 ≡ n
+-- a registry keeps nothing attached, and so do a layer of metrics and a filter
+pub none_more : (n : ℕ) → 0 + (n + 0) ≡ n
 none_more n = omega arith
 
 pub filtered_keeps : (o : Option Filtering) (lane number inner n : ℕ) → inner ≡ n → if_there none_kept (λ (f : Filtering) (l k : ℕ). 0) o lane number + inner ≡ n

@@ -11,9 +11,11 @@ use Rattle.trace_base.specs.Hooks.{OnClose}
 use Rattle.env_filter.specs.Filtering.{Filtered}
 use Rattle.env_filter.specs.Filtering.{after as hears}
 use Rattle.span_stack.specs.Filtered.{without_span, FiltersChain}
+use Rattle.span_pipeline.proofs.Beside.{Adds, aside_in, adds_same}
 use Rattle.span_pipeline.proofs.Filtering.{AreKnown, heard_none}
 use Rattle.span_handles.specs.Worlds.{Replaced, seen, spans_in, kept_in, Has, Chain, Released, closed_in, ChainShown}
 use Rattle.span_handles.specs.Handles.{Handle, Held, ReplacedOn}
+use Rattle.span_pipeline.specs.declared.settings.Texts.{Texts}
 use Rattle.span_pipeline.specs.Setups.{id_at}
 use Rattle.span_pipeline.specs.declared.slots.Guard.{Guard}
 use Rattle.span_pipeline.specs.declared.reply.Refusal.TheVariants as refusal
@@ -60,7 +62,7 @@ module _ {S : Type 0} (spans : S → Spans) (views : Views S) (attaches : S → 
   abbrev ChainOn : ℕ → Scope → Type 0
   ChainOn at [] = new ≡ old
   ChainOn at (s ∷ up) = ChainShown spans attaches kept is_whole old new dispatch s × (new.sites ≡ old.sites) × RecordsChain at (Some s) (spans_in spans old dispatch) (spans_in spans new dispatch) (rec_in old) (rec_in new)
-      × FiltersChain (Some s) (spans_in spans old dispatch) (spans_in spans new dispatch) (seen views.filtered None old dispatch) (seen views.filtered None new dispatch) × (new.cached ≡ old.cached)
+      × FiltersChain (Some s) (spans_in spans old dispatch) (spans_in spans new dispatch) (seen views.filtered None old dispatch) (seen views.filtered None new dispatch) × (new.cached ≡ old.cached) × Adds (aside_in views old dispatch) (aside_in views new dispatch) []
 
   abbrev ChainLaw : Type 0
   ChainLaw = (old new : Worlds S) (dispatch at id : ℕ) → Replaced (λ s t. Chain spans does at (Some id) s t) old new dispatch → ChainShown spans attaches kept is_whole old new dispatch id
@@ -69,13 +71,14 @@ module _ {S : Type 0} (spans : S → Spans) (views : Views S) (attaches : S → 
   ChainRecalls = (old new : Worlds S) (dispatch at id : ℕ) → Replaced (λ s t. Chain spans does at (Some id) s t) old new dispatch
       → RecordsChain at (Some id) (spans_in spans old dispatch) (spans_in spans new dispatch) (seen views.recorded no_recording old dispatch) (seen views.recorded no_recording new dispatch)
       × FiltersChain (Some id) (spans_in spans old dispatch) (spans_in spans new dispatch) (seen views.filtered None old dispatch) (seen views.filtered None new dispatch)
+      × Adds (aside_in views old dispatch) (aside_in views new dispatch) []
 
   chain_on : (at : ℕ) → ChainLaw → ChainRecalls → (line : Scope) (held : Held) → held ≡ held_of dispatch line → ReplacedOn (λ id s t. Chain spans does at (Some id) s t) old new held → ChainOn at line
   chain_on at law recalls [] held is did = subst (λ (h : Held). ReplacedOn (λ id s t. Chain spans does at (Some id) s t) old new h) is did
   chain_on at law recalls (s ∷ up) held is did =
       let r = subst (λ (h : Held). ReplacedOn (λ id s t. Chain spans does at (Some id) s t) old new h) is did in
       let told = recalls old new dispatch at s r in
-      (law old new dispatch at s r, ap (λ (w : Worlds S). w.sites) r.others, told.0, told.1, ap (λ (w : Worlds S). w.cached) r.others)
+      (law old new dispatch at s r, ap (λ (w : Worlds S). w.sites) r.others, told.0, told.1, ap (λ (w : Worlds S). w.cached) r.others, told.2)
 
   chain_spans : (at : ℕ) (line : Scope) → ChainOn at line → ReleasedOn (spans_in spans old dispatch) (spans_in spans new dispatch) line
   chain_spans at [] same = ap (λ (w : Worlds S). spans_in spans w dispatch) same
@@ -87,10 +90,11 @@ module _ {S : Type 0} (spans : S → Spans) (views : Views S) (attaches : S → 
     whole : Has is_whole old dispatch → Has is_whole new dispatch
     sites : new.sites ≡ old.sites
     cached : new.cached ≡ old.cached
+    aside : Adds (aside_in views old dispatch) (aside_in views new dispatch) []
 
   chain_kept : (at : ℕ) (line : Scope) → ChainOn at line → ChainKept
-  chain_kept at [] same = record { kept_same = ap (λ (w : Worlds S). kept_in kept w dispatch) same; count = ap (λ (w : Worlds S). length w.subscribers) same; whole = λ has. subst (λ (w : Worlds S). Has is_whole w dispatch) (sym same) has; sites = ap (λ (w : Worlds S). w.sites) same; cached = ap (λ (w : Worlds S). w.cached) same }
-  chain_kept at (s ∷ up) shown = record { kept_same = shown.0.kept_same; count = shown.0.count; whole = shown.0.whole; sites = shown.1; cached = shown.4 }
+  chain_kept at [] same = record { kept_same = ap (λ (w : Worlds S). kept_in kept w dispatch) same; count = ap (λ (w : Worlds S). length w.subscribers) same; whole = λ has. subst (λ (w : Worlds S). Has is_whole w dispatch) (sym same) has; sites = ap (λ (w : Worlds S). w.sites) same; cached = ap (λ (w : Worlds S). w.cached) same; aside = adds_same views old new dispatch same }
+  chain_kept at (s ∷ up) shown = record { kept_same = shown.0.kept_same; count = shown.0.count; whole = shown.0.whole; sites = shown.1; cached = shown.4; aside = shown.5 }
 
   -- the records are those of the spans that the effect closes, in its order
   chain_recorded : (at : ℕ) (line : Scope) → ChainOn at line → (hs : List (Option Scope)) → ((s : ℕ) (up : Scope) → line ≡ s ∷ up → (r : Released (Some s) (spans_in spans old dispatch) (spans_in spans new dispatch)) → closed_in (Some s) (spans_in spans old dispatch) (spans_in spans new dispatch) r ≡ closed_of hs line)
@@ -118,7 +122,7 @@ module _ {S : Type 0} (spans : S → Spans) (views : Views S) (attaches : S → 
       ∙ filter_heard at (closed_of hs (s ∷ up)) (seen views.filtered None old dispatch)
 
   module _ (law : ChainLaw) (recalls : ChainRecalls)
-      (opening : List ℕ) (lanes : List Lane) (hs hs' : List (Option Handle)) (gs : List (Option Guard)) (cs : Named) (m at lane handle : ℕ) (h : Handle) (found : slot_at hs handle ≡ Some h) (inv : IsKept kept is_whole old (state_of spans views old dispatch opening lanes hs gs cs m)) where
+      (opening : Texts) (lanes : List Lane) (hs hs' : List (Option Handle)) (gs : List (Option Guard)) (cs : Named) (m at lane handle : ℕ) (h : Handle) (found : slot_at hs handle ≡ Some h) (inv : IsKept kept is_whole old (state_of spans views old dispatch opening lanes hs gs cs m)) where
     abbrev now : State
     now = state_of spans views old dispatch opening lanes hs gs cs m
 
@@ -160,7 +164,7 @@ module _ {S : Type 0} (spans : S → Spans) (views : Views S) (attaches : S → 
           refl setup (recorded_by (length t.made) e (rec_in old)).tokens rec_is (later_of then refl setup refl refl refl refl refl refl)
           (λ s some. let left = drop_known now bare t at place_id handle line.at fits line.there bare_fits s some in known_still now then t e (recorded_by (length t.made) e (rec_in old)).tokens rec_is stands.recording s left.0 left.1)
           (all_same now then t.contexts setup refl refl tokens stands.recording.attached)
-          (record { quiet = refl; before = seen views.filtered None old dispatch; later = seen views.filtered None new dispatch; shown_before = refl; shown_later = refl; known = closes_known at (closed_of (slice_set t.handles handle None) line.at) (length t.made); told = chain_heard at line.at chain (slice_set t.handles handle None) order; cached = (chain_kept at line.at chain).cached })
+          (record { quiet = refl; before = seen views.filtered None old dispatch; later = seen views.filtered None new dispatch; shown_before = refl; shown_later = refl; known = closes_known at (closed_of (slice_set t.handles handle None) line.at) (length t.made); told = chain_heard at line.at chain (slice_set t.handles handle None) order; cached = (chain_kept at line.at chain).cached; aside = record { before = aside_in views old dispatch; later = aside_in views new dispatch; shown_before = refl; shown_later = refl; waits_before = refl; waits_later = refl; adds = (chain_kept at line.at chain).aside } })
 
       pub keeps_dropped : IsKept kept is_whole new then
       keeps_dropped =

@@ -18,6 +18,7 @@ use Rattle.span_pipeline.specs.declared.reply.Reply.TheVariants as reply
 use Rattle.span_pipeline.specs.declared.request.Call.TheVariants as call
 use Rattle.span_pipeline.specs.declared.reply.Refusal.TheVariants as refusal
 use Rattle.span_pipeline.specs.declared.reply.What.TheVariants as what
+use Rattle.span_pipeline.specs.declared.settings.Texts.{Texts}
 use Rattle.span_pipeline.specs.Setups.{id_at}
 use Rattle.otel_layer.specs.declared.tokens.Token.{Token}
 use Rattle.std.specs.Option.{option_to_list}
@@ -31,6 +32,7 @@ use Rattle.otel_layer.specs.Recording.{Recording, no_recording, with_start, with
 use Rattle.span_pipeline.specs.Tables.{Scope, Made, Guarded, Effect, Tables, after, recorded_by, slot_at, own, with_entry, with_exit, with_attached, with_detached, open_part, quiet, EntryOf, Attached}
 use Rattle.span_pipeline.specs.Effects.{bare_lane, heard_on, Resolved, named, effect_of_call, borrows, is_borrowed, active, attached_by, meets_full, opens, enters, enters_unless, is_shared, unless_shared, exits, exits_on}
 use Rattle.span_pipeline.specs.Slots.{names_handle, is_named, is_shared_by}
+use Rattle.span_pipeline.proofs.Beside.{aside_in}
 use Rattle.span_pipeline.proofs.Dropping.{borrowed_is}
 use Rattle.span_pipeline.specs.declared.reply.Reply.{Reply}
 use Rattle.span_pipeline.specs.declared.reply.Refusal.{Refusal}
@@ -47,7 +49,7 @@ use Rattle.span_pipeline.proofs.Known.{knows_it}
 use Rattle.trace_base.proofs.Holding.{holds_other}
 use Rattle.span_pipeline.proofs.Recordings.{recorded_settings, start_open, starts_fold, entry_tokens}
 use Rattle.span_pipeline.proofs.Laned.{all_skipped, all_entered, all_exited}
-use Rattle.span_pipeline.proofs.Serving.{AllFit, serve, known_still, kept_served, call_count, call_sites, call_cached, call_whole, call_lanes}
+use Rattle.span_pipeline.proofs.Serving.{AllFit, serve, known_still, kept_served, call_count, call_sites, call_cached, call_aside, call_whole, call_lanes}
 use Rattle.span_pipeline.proofs.Filtering.{IsKnownHook, count_hook, AreKnown, heard_none}
 use Rattle.trace_base.specs.Hooks.{Hook, OnEnter, OnExit}
 use Rattle.env_filter.specs.Filtering.{Filtered}
@@ -198,7 +200,7 @@ module _ {S : Type 0} (spans : S → Spans) (views : Views S) (attaches : S → 
 
   -- over what the code has
   module _ (does : S → SubscriberCall → S → Type 0) (law : Law spans views attaches kept is_whole does) (recalls : Recalls spans views attaches kept is_whole does)
-      (dispatch : ℕ) (opening : List ℕ) (lanes : List Lane) (hs : List (Option Handle)) (gs : List (Option Guard)) (cs : Named) (m at lane : ℕ) (before later : Lane) (within : lane < length lanes) (here : before ≡ get_or lanes lane before) where
+      (dispatch : ℕ) (opening : Texts) (lanes : List Lane) (hs : List (Option Handle)) (gs : List (Option Guard)) (cs : Named) (m at lane : ℕ) (before later : Lane) (within : lane < length lanes) (here : before ≡ get_or lanes lane before) where
     abbrev now : State
     now = state_of spans views old dispatch opening lanes hs gs cs m
 
@@ -325,7 +327,7 @@ module _ {S : Type 0} (spans : S → Spans) (views : Views S) (attaches : S → 
           refl setup rec_is.0 rec_is.1 (fits_exited now exited_then t at guard x fits open_one.there step setup refl refl refl one refl refl place_id lane_is)
           (λ s some. known_still now exited_then t e rec_is.0 rec_is.1 stands.recording s refl (let a = exited_less now.spans x.scope (id_at now.setup.ids x.lane) s in let b = ap (λ (y : Spans). (span_at y.made s).holds) step in omega (arith, a, b, some)))
           rec_is.2
-          (record { quiet = refl; before = seen views.filtered None old dispatch; later = seen views.filtered None new dispatch; shown_before = refl; shown_later = refl; told = exit_heard x.scope shown; known = on_known x.scope (λ s. OnExit s at (bare_lane place_id) (bare_lane place_id)) (length t.made) (λ s up e. ((subst (IsScope t.made) e (fits.scopes x.handle x.scope (fits.still guard x open_one.there))).0, refl)); cached = call_cached spans views attaches kept is_whole old new dispatch x.scope (λ id. Exit id at before later) shown })
+          (record { quiet = refl; before = seen views.filtered None old dispatch; later = seen views.filtered None new dispatch; shown_before = refl; shown_later = refl; told = exit_heard x.scope shown; known = on_known x.scope (λ s. OnExit s at (bare_lane place_id) (bare_lane place_id)) (length t.made) (λ s up e. ((subst (IsScope t.made) e (fits.scopes x.handle x.scope (fits.still guard x open_one.there))).0, refl)); cached = call_cached spans views attaches kept is_whole old new dispatch x.scope (λ id. Exit id at before later) shown; aside = record { before = aside_in views old dispatch; later = aside_in views new dispatch; shown_before = refl; shown_later = refl; waits_before = refl; waits_later = refl; adds = call_aside spans views attaches kept is_whole old new dispatch x.scope (λ id. Exit id at before later) (λ s. refl) shown } })
 
       pub keeps_exited : IsKept kept is_whole new exited_then
       keeps_exited =
@@ -366,7 +368,7 @@ module _ {S : Type 0} (spans : S → Spans) (views : Views S) (attaches : S → 
           setup rec_is.0 rec_is.1 (fits_entered now entered_then t at lane handle owns line.at fits line.there step setup refl refl refl guards_are named_same skip refl)
           (λ s some. known_still now entered_then t e rec_is.0 rec_is.1 stands.recording s refl (entered_live now.spans line.at place_id s live (subst (λ (y : Spans). 0 < (span_at y.made s).holds) step some)))
           rec_is.2
-          (record { quiet = refl; before = seen views.filtered None old dispatch; later = seen views.filtered None new dispatch; shown_before = refl; shown_later = refl; told = entry_heard line.at shown; known = on_known line.at (λ s. OnEnter s at (bare_lane place_id) (bare_lane place_id)) (length t.made) (λ s up e. ((subst (IsScope t.made) e (fits.scopes handle line.at line.there)).0, refl)); cached = call_cached spans views attaches kept is_whole old new dispatch line.at (λ id. Enter id at before later) shown })
+          (record { quiet = refl; before = seen views.filtered None old dispatch; later = seen views.filtered None new dispatch; shown_before = refl; shown_later = refl; told = entry_heard line.at shown; known = on_known line.at (λ s. OnEnter s at (bare_lane place_id) (bare_lane place_id)) (length t.made) (λ s up e. ((subst (IsScope t.made) e (fits.scopes handle line.at line.there)).0, refl)); cached = call_cached spans views attaches kept is_whole old new dispatch line.at (λ id. Enter id at before later) shown; aside = record { before = aside_in views old dispatch; later = aside_in views new dispatch; shown_before = refl; shown_later = refl; waits_before = refl; waits_later = refl; adds = call_aside spans views attaches kept is_whole old new dispatch line.at (λ id. Enter id at before later) (λ s. refl) shown } })
 
       pub keeps_entered : IsKept kept is_whole new entered_then
       keeps_entered =

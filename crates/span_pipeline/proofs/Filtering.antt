@@ -1,6 +1,6 @@
 -- The filter in force, and the cache, after one effect more.
 use Rattle.std.proofs.Common.{◌≡◌, ℕ, zero, suc, ◌+◌, ◌<◌, List, [], ◌∷◌, ◌++◌, length, fold, Option, Some, None, option_map, map, slice_get, refl, sym, ap, subst, ◌∙◌, arith, inl, inr}
-use Rattle.std.specs.Prelude.{is_some, nat_eq}
+use Rattle.std.specs.Prelude.{is_some, nat_eq, IfSome}
 use Rattle.std.proofs.lemmas.Bool.{cases_eq, eq-eqb, ne_eqb, cond-true, cond-false}
 use Rattle.std.specs.Option.{option_map_or}
 use Rattle.trace_base.specs.declared.callsite.Callsite.{Callsite}
@@ -18,13 +18,14 @@ use Rattle.env_filter.specs.Keyed.{put}
 use Rattle.env_filter.specs.Kept.{opened, closed}
 use Rattle.env_filter.specs.Levels.{Opened}
 use Rattle.env_filter.specs.Watching.{Watched, watched, recorded, level_of}
-use Rattle.env_filter.specs.Filtering.{Filtered, Filtering, plain, interest_in, is_admitted}
+use Rattle.env_filter.specs.Filtering.{Filtered, Filtering, IsNew, plain, interest_in, is_admitted, enables_in}
 use Rattle.env_filter.specs.Filtering.{after as hears}
 use Rattle.span_pipeline.specs.Setups.{Setup, id_at}
 use Rattle.span_pipeline.specs.Tables.{Effect, Tables, after, with_new, newer, heard_since}
 use Rattle.span_pipeline.specs.Effects.{in_force, filter_at}
 use Rattle.span_pipeline.specs.Admission.{text_filter}
-use Rattle.span_pipeline.specs.Fits.{Views, ShownFilter, first_of, shown_of, State, FilteringFits}
+use Rattle.span_pipeline.proofs.Beside.{AddsTo}
+use Rattle.span_pipeline.specs.Fits.{Views, ShownFilter, first_of, shown_of, counter_by, State, FilteringFits}
 
 -- hooks one after another
 heard_both : (f : Filtered) (xs ys : List Hook) → fold hears f (xs ++ ys) ≡ fold hears (fold hears f xs) ys
@@ -167,14 +168,19 @@ agree_hooks : (n m : ℕ) (ids : List ℕ) (f g : Filtered) (hooks : List Hook) 
 agree_hooks n m ids f g [] known a = subst (λ (k : ℕ). Agree k ids f g) known a
 agree_hooks n m ids f g (hook ∷ hooks) known a = agree_hooks (count_hook n hook) m ids (hears f hook) (hears g hook) hooks known.1 (agree_hook n ids f g hook known.0 a)
 
--- filters that are seen alike admit the same on their lanes
+-- on the lanes that are seen
+lane_agrees : (f g : ℕ → List Opened) (ids : List ℕ) (lane : ℕ) → map f ids ≡ map g ids → lane < length ids → f (id_at ids lane) ≡ g (id_at ids lane)
+lane_agrees f g [] lane same within = absurd (omega (arith, within))
+lane_agrees f g (i ∷ ids) zero same within = cc same
+lane_agrees f g (i ∷ ids) (suc lane) same within = lane_agrees f g ids lane (let tail : map f ids ≡ map g ids = cc same in tail) (omega (arith, within))
+
+-- filters that are seen alike admit the same there
 pub admits_alike : (n : ℕ) (ids : List ℕ) (f g : Filtered) (lane : ℕ) (c : Callsite) → Agree n ids f g → lane < length ids → is_admitted f (id_at ids lane) c ≡ is_admitted g (id_at ids lane) c
 admits_alike n ids f g lane c a within = rw (a.statics, a.dynamics, lane_agrees f.lanes g.lanes ids lane a.lanes within) refl
-  where
-    lane_agrees : (f g : ℕ → List Opened) (ids : List ℕ) (lane : ℕ) → map f ids ≡ map g ids → lane < length ids → f (id_at ids lane) ≡ g (id_at ids lane)
-    lane_agrees f g [] lane same within = absurd (omega (arith, within))
-    lane_agrees f g (i ∷ ids) zero same within = cc same
-    lane_agrees f g (i ∷ ids) (suc lane) same within = lane_agrees f g ids lane (let tail : map f ids ≡ map g ids = cc same in tail) (omega (arith, within))
+
+-- and take the same
+pub enables_alike : (n : ℕ) (ids : List ℕ) (f g : Filtered) (lane : ℕ) (c : Callsite) → Agree n ids f g → lane < length ids → enables_in f (id_at ids lane) c ≡ enables_in g (id_at ids lane) c
+enables_alike n ids f g lane c a within = rw (a.statics, a.dynamics, lane_agrees f.lanes g.lanes ids lane a.lanes within) refl
 
 -- ---- one effect more
 
@@ -188,6 +194,7 @@ pub record Hears (k : State) (t : Tables) (e : Effect) (next : State) : Type 0 w
   pub told : later ≡ option_map (λ f. fold hears f e.heard) before
   pub known : AreKnown (length t.made) e.heard (length (with_new t.made e.made))
   pub cached : next.cached ≡ k.cached
+  pub aside : AddsTo k next e.measures
 
 heard_at : (setup : Setup) (t : Tables) (e : Effect) → e.filter ≡ None → filter_at setup (after t e) ≡ fold hears (filter_at setup t) e.heard
 heard_at setup t e quiet =
@@ -221,6 +228,9 @@ filtering_step k next t e count count_later fits setup h =
           ∙ ap (λ (f : Filtered). Some (shown_of m ids f)) (sym now) ∙ ap (λ (xs : List ℕ). Some (shown_of m xs (filter_at next.setup (after t e)))) (sym ids_are);
       fresh = h.cached ∙ fits.fresh ∙ sym (rows_heard (filter_at k.setup t) e.heard k.setup.sites)
           ∙ ap (λ (f : Filtered). rows_of f k.setup.sites) (sym now) ∙ ap (λ (x : Setup). rows_of (filter_at next.setup (after t e)) x.sites) (sym setup);
+      counter = h.aside.shown_later ∙ ap (λ (xs : List ℕ). option_map (shown_of 0 xs) h.aside.later.0) ids_are ∙ ap (option_map (shown_of 0 ids)) h.aside.adds.counter ∙ sym h.aside.shown_before
+          ∙ fits.counter ∙ ap (λ (x : Setup). counter_by x) (sym setup);
+      new = subst (λ (x : Setup). IfSome (option_map text_filter x.counting) IsNew) (sym setup) fits.new;
     }
 
 -- the same where nothing is heard

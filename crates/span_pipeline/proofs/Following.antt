@@ -7,11 +7,11 @@ use Rattle.otel_state.specs.States.{Told}
 use Rattle.trace_base.specs.declared.lane.Lane.{Lane}
 use Rattle.trace_base.specs.Gate.{Worlds}
 use Rattle.trace_base.specs.Spans.{Spans}
-use Rattle.trace_base.specs.Calls.{SubscriberCall, Follows}
+use Rattle.trace_base.specs.Calls.{SubscriberCall}
 use Rattle.otel_layer.specs.Asking.{link_of}
 use Rattle.otel_layer.specs.Steps.{with_link}
 use Rattle.otel_layer.specs.Table.{told_at, with_op, own_or, ids_at}
-use Rattle.otel_layer.specs.Recording.{Recording, no_recording, with_start, with_applied, linked}
+use Rattle.otel_layer.specs.Recording.{Recording, no_recording, with_start}
 use Rattle.span_handles.specs.Worlds.{seen}
 use Rattle.span_handles.specs.Handles.{Handle, Held, FollowsOn, AreOfOne}
 use Rattle.span_pipeline.specs.declared.slots.Guard.{Guard}
@@ -19,9 +19,10 @@ use Rattle.span_pipeline.specs.declared.reply.Refusal.TheVariants as refusal
 use Rattle.span_pipeline.specs.declared.reply.Reply.TheVariants as reply
 use Rattle.span_pipeline.specs.declared.reply.What.TheVariants as what
 use Rattle.span_pipeline.specs.declared.request.Call.TheVariants as call
+use Rattle.span_pipeline.specs.declared.settings.Texts.{Texts}
 use Rattle.span_pipeline.specs.Setups.{id_at}
 use Rattle.span_pipeline.specs.Tables.{Scope, Done, Effect, Tables, slot_at}
-use Rattle.span_pipeline.specs.Effects.{Resolved, named, effect_of_call, on, own_context, follows}
+use Rattle.span_pipeline.specs.Effects.{named, effect_of_call, on, own_context, follows}
 use Rattle.span_pipeline.specs.Balance.{named_by, opened_by}
 use Rattle.span_pipeline.specs.Fits.{Views, Named, State, state_of, held_by, held_of, Fits, StandsFor, IsKept, Served}
 use Rattle.span_pipeline.proofs.Balancing.{named_slot}
@@ -48,7 +49,7 @@ of_one dispatch line from held other is from_is = subst (λ (x : Held). AreOfOne
     both (s ∷ up) (f ∷ above) = refl
 
 module _ {S : Type 0} (spans : S → Spans) (views : Views S) (attaches : S → Bool) (kept : S → ℕ → ℕ → ℕ) (is_whole : S → Type 0) (old : Worlds S)
-    (dispatch : ℕ) (opening : List ℕ) (lanes : List Lane) (hs : List (Option Handle)) (gs : List (Option Guard)) (cs : Named) (m : ℕ)
+    (dispatch : ℕ) (opening : Texts) (lanes : List Lane) (hs : List (Option Handle)) (gs : List (Option Guard)) (cs : Named) (m : ℕ)
     (handle : ℕ) (h : Handle) (found : slot_at hs handle ≡ Some h) where
   abbrev now : State
   now = state_of spans views old dispatch opening lanes hs gs cs m
@@ -82,7 +83,7 @@ module _ {S : Type 0} (spans : S → Spans) (views : Views S) (attaches : S → 
       record Followed (t : Tables) (line other : Scope) : Type 0 where
         starting : List ℕ
         ops : List Done
-        done : Starts spans views attaches kept is_whole old new dispatch at starting ops []
+        done : Starts spans views attaches kept is_whole old new dispatch at starting ops [] []
         is : follows t at place_id line other ≡ starts_then spans views attaches kept is_whole old new dispatch opening lanes hs gs cs m at lane starting ops [] reply.Done
 
       followed_by : (t : Tables) → StandsFor now t → (line other : Scope) → slot_at t.handles from ≡ Some other → FollowsOn does old new at (held_of dispatch line) (held_of dispatch other) → Followed t line other
@@ -103,6 +104,7 @@ module _ {S : Type 0} (spans : S → Spans) (views : Views S) (attaches : S → 
               sites_same = ap (λ (w : Worlds S). w.sites) step.others;
               recorded_is = (recalls old new dispatch _ step).0 ∙ ap (λ (xs : List (ℕ × Told)). record r1 { spans = xs }) (linked_is (told_at q r1.spans) known s at r1.spans);
               filter_is = (recalls old new dispatch _ step).1;
+              aside_is = (recalls old new dispatch _ step).2;
               cached_same = ap (λ (w : Worlds S). w.cached) step.others;
               count = shown.count;
               whole = shown.whole;

@@ -11,6 +11,7 @@ use Rattle.trace_base.specs.declared.subscriber.Interest.{Interest}
 use Rattle.span_handles.specs.Worlds.{seen}
 use Rattle.span_handles.specs.Handles.{Handle}
 use Rattle.span_pipeline.specs.declared.slots.Guard.{Guard}
+use Rattle.span_pipeline.specs.declared.settings.Texts.{Texts}
 use Rattle.span_pipeline.specs.Setups.{id_at}
 use Rattle.span_pipeline.specs.Tables.{Tables}
 use Rattle.span_pipeline.specs.Effects.{filter_at, admitted}
@@ -19,7 +20,7 @@ use Rattle.span_pipeline.specs.Fits.{Views, shown_of, Named, State, state_of, St
 use Rattle.span_pipeline.proofs.Filtering.{InPlace, Agree, in_place_by, admits_alike, rows_of, rows_fresh}
 use Rattle.span_pipeline.proofs.Keeping.{id_seen}
 
-module _ {S : Type 0} (spans : S → Spans) (views : Views S) (world : Worlds S) (dispatch : ℕ) (opening : List ℕ) (lanes : List Lane) (hs : List (Option Handle)) (gs : List (Option Guard)) (cs : Named) (m : ℕ) where
+module _ {S : Type 0} (spans : S → Spans) (views : Views S) (world : Worlds S) (dispatch : ℕ) (opening : Texts) (lanes : List Lane) (hs : List (Option Handle)) (gs : List (Option Guard)) (cs : Named) (m : ℕ) where
   abbrev now : State
   now = state_of spans views world dispatch opening lanes hs gs cs m
 

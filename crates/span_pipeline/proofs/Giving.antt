@@ -20,11 +20,13 @@ use Rattle.span_pipeline.specs.declared.slots.Guard.{Guard}
 use Rattle.span_pipeline.specs.declared.reply.Reply.TheVariants as reply
 use Rattle.span_pipeline.specs.declared.reply.What.TheVariants as what
 use Rattle.span_pipeline.specs.declared.request.Call.TheVariants as call
+use Rattle.span_pipeline.specs.declared.settings.Texts.{Texts}
 use Rattle.span_pipeline.specs.Setups.{id_at}
 use Rattle.span_pipeline.specs.Tables.{Scope, Effect, Tables, recorded_by, slot_at, own, open_part}
 use Rattle.span_pipeline.specs.Effects.{Resolved, named, effect_of_call, gives, own_context}
 use Rattle.span_pipeline.specs.Balance.{Balanced, named_by, opened_by}
 use Rattle.span_pipeline.specs.Fits.{Views, Named, State, state_of, laned, lane_of, held_by, held_of, StandsFor, MadeFit, LanesFit, IsKept, Served}
+use Rattle.span_pipeline.proofs.Beside.{Adds, aside_in, adds_same}
 use Rattle.span_pipeline.proofs.Naming.{find, held_slot}
 use Rattle.span_pipeline.proofs.Standing.{fits_step}
 use Rattle.span_pipeline.proofs.Recordings.{recorded_settings, recorded_tokens, starts_fold, start_open}
@@ -41,7 +43,7 @@ shown_is None = refl
 shown_is (Some told) = refl
 
 module _ {S : Type 0} (spans : S → Spans) (views : Views S) (attaches : S → Bool) (kept : S → ℕ → ℕ → ℕ) (is_whole : S → Type 0) (old new : Worlds S)
-    (dispatch : ℕ) (opening : List ℕ) (lanes : List Lane) (hs : List (Option Handle)) (gs : List (Option Guard)) (cs : Named) (m at lane number : ℕ) (many : number ≡ length cs.made)
+    (dispatch : ℕ) (opening : Texts) (lanes : List Lane) (hs : List (Option Handle)) (gs : List (Option Guard)) (cs : Named) (m at lane number : ℕ) (many : number ≡ length cs.made)
     (inv : IsKept kept is_whole old (state_of spans views old dispatch opening lanes hs gs cs m)) where
   abbrev now : State
   now = state_of spans views old dispatch opening lanes hs gs cs m
@@ -68,6 +70,7 @@ module _ {S : Type 0} (spans : S → Spans) (views : Views S) (attaches : S → 
     whole : Has is_whole old dispatch → Has is_whole new dispatch
     filter_same : seen views.filtered None new dispatch ≡ seen views.filtered None old dispatch
     cached_same : new.cached ≡ old.cached
+    aside : Adds (aside_in views old dispatch) (aside_in views new dispatch) []
 
   unchanged : new ≡ old → Starts None
   unchanged same = record {
@@ -79,6 +82,7 @@ module _ {S : Type 0} (spans : S → Spans) (views : Views S) (attaches : S → 
     whole = λ has. subst (λ (w : Worlds S). Has is_whole w dispatch) (sym same) has;
     filter_same = ap (λ (w : Worlds S). seen views.filtered None w dispatch) same;
     cached_same = ap (λ (w : Worlds S). w.cached) same;
+    aside = adds_same views old new dispatch same;
   }
 
   given_served : (t : Tables) → StandsFor now t → (o : Option ℕ) → Starts o → (context : Context) (cs' : Named) → cs'.made ≡ cs.made ++ context ∷ [] → cs'.attaches ≡ cs.attaches → (resolved : Resolved) → resolved ≡ Ok (gives t at place_id o context)
@@ -114,7 +118,7 @@ module _ {S : Type 0} (spans : S → Spans) (views : Views S) (attaches : S → 
       }))
       (λ s some. known_still now then t e r.tokens rec_is stands.recording s refl (subst (λ (x : Spans). 0 < (span_at x.made s).holds) did.spans_same some))
       (all_same now then t.contexts setup attaches_are refl (ap (λ (x : Recording). x.tokens) rec_is) stands.recording.attached)
-      (record { quiet = refl; before = seen views.filtered None old dispatch; later = seen views.filtered None new dispatch; shown_before = refl; shown_later = refl; told = did.filter_same ∙ heard_none (seen views.filtered None old dispatch); known = refl; cached = did.cached_same })
+      (record { quiet = refl; before = seen views.filtered None old dispatch; later = seen views.filtered None new dispatch; shown_before = refl; shown_later = refl; told = did.filter_same ∙ heard_none (seen views.filtered None old dispatch); known = refl; cached = did.cached_same; aside = record { before = aside_in views old dispatch; later = aside_in views new dispatch; shown_before = refl; shown_later = refl; waits_before = refl; waits_later = refl; adds = did.aside } })
 
   given_kept : (cs' : Named) (o : Option ℕ) → Starts o → (resolved : Resolved) (answer : _) → Served resolved inv.tables now (then_with cs') answer → IsKept kept is_whole new (then_with cs')
   given_kept cs' o did resolved answer served =
@@ -130,7 +134,7 @@ module _ {S : Type 0} (spans : S → Spans) (views : Views S) (attaches : S → 
 
   -- the context of a handle's span
   module _ (touches : S → PartCall → S → Type 0) (leaves : (old new : Worlds S) (dispatch : ℕ) (call : PartCall) → Replaced (λ s t. touches s call t) old new dispatch → Alike spans attaches kept is_whole old new dispatch)
-      (asks : (old new : Worlds S) (dispatch : ℕ) (call : PartCall) → Replaced (λ s t. touches s call t) old new dispatch → RecordsPart (seen views.recorded no_recording old dispatch) call (seen views.recorded no_recording new dispatch) × (seen views.filtered None new dispatch ≡ seen views.filtered None old dispatch))
+      (asks : (old new : Worlds S) (dispatch : ℕ) (call : PartCall) → Replaced (λ s t. touches s call t) old new dispatch → RecordsPart (seen views.recorded no_recording old dispatch) call (seen views.recorded no_recording new dispatch) × (seen views.filtered None new dispatch ≡ seen views.filtered None old dispatch) × Adds (aside_in views old dispatch) (aside_in views new dispatch) [])
       (handle : ℕ) (h : Handle) (found : slot_at hs handle ≡ Some h) (given : Context) (did : AsksContext touches old new at h.held given) (cs' : Named) (made_is : cs'.made ≡ cs.made ++ given ∷ []) (attaches_are : cs'.attaches ≡ cs.attaches) where
     asked : (line : Scope) (held : Held) → held ≡ held_of dispatch line → AsksContext touches old new at held given → Starts (own line) × (given ≡ own_context r at line)
     asked [] held is asks_it =
@@ -141,7 +145,7 @@ module _ {S : Type 0} (spans : S → Spans) (views : Views S) (attaches : S → 
         let alike = leaves old new dispatch (Shows s at asks_it.answer) replaced in
         let told = asks old new dispatch (Shows s at asks_it.answer) replaced in
         let records = told.0 in (
-          record { spans_same = alike.spans_same; sites = ap (λ (w : Worlds S). w.sites) replaced.others; records = records.0; kept_same = alike.kept_same; count = alike.count; whole = alike.whole; filter_same = told.1; cached_same = ap (λ (w : Worlds S). w.cached) replaced.others },
+          record { spans_same = alike.spans_same; sites = ap (λ (w : Worlds S). w.sites) replaced.others; records = records.0; kept_same = alike.kept_same; count = alike.count; whole = alike.whole; filter_same = told.1; cached_same = ap (λ (w : Worlds S). w.cached) replaced.others; aside = told.2 },
           asks_it.is ∙ ap context_or_empty records.1 ∙ shown_is (told_at s r'.spans) ∙ ap (λ (x : Recording). own_or empty_context (told_at s x.spans)) records.0,
         )
 

@@ -15,7 +15,9 @@ use Rattle.span_pipeline.specs.declared.slots.Guard.{Guard}
 use Rattle.span_pipeline.specs.declared.contexts.Attach.{Attach}
 use Rattle.otel_layer.specs.Recording.{no_recording}
 use Rattle.span_pipeline.specs.Tables.{Scope, slot_at}
+use Rattle.span_pipeline.proofs.Beside.{Adds, aside_in, adds_nothing, adds_same}
 use Rattle.span_pipeline.proofs.Naming.{find, held_slot}
+use Rattle.span_pipeline.specs.declared.settings.Texts.{Texts}
 use Rattle.span_pipeline.specs.Setups.{id_at, name_at}
 use Rattle.span_pipeline.specs.Fits.{Views, Named, State, state_of, Laned, laned, no_lane, lane_at, held_by, LanesFit, IsKept, held_of}
 
@@ -126,11 +128,12 @@ lanes_step kept now lanes n before later within is fits same keeps = lanes_after
 module _ {S : Type 0} (spans : S → Spans) (views : Views S) (attaches : S → Bool) (kept : S → ℕ → ℕ → ℕ) (is_whole : S → Type 0) where
   abbrev pub AlikeOn : Worlds S → Worlds S → ℕ → Scope → Type 0
   AlikeOn old new dispatch [] = new ≡ old
-  AlikeOn old new dispatch (s ∷ up) = Alike spans attaches kept is_whole old new dispatch × (new.sites ≡ old.sites) × (seen views.recorded no_recording new dispatch ≡ seen views.recorded no_recording old dispatch) × (seen views.filtered None new dispatch ≡ seen views.filtered None old dispatch) × (new.cached ≡ old.cached)
+  AlikeOn old new dispatch (s ∷ up) = Alike spans attaches kept is_whole old new dispatch × (new.sites ≡ old.sites) × (seen views.recorded no_recording new dispatch ≡ seen views.recorded no_recording old dispatch) × (seen views.filtered None new dispatch ≡ seen views.filtered None old dispatch) × (new.cached ≡ old.cached) × Adds (aside_in views old dispatch) (aside_in views new dispatch) []
 
   abbrev pub SameRecorded : (S → S → Type 0) → Type 0
   SameRecorded same = (old new : Worlds S) (dispatch : ℕ) → Replaced same old new dispatch
       → (seen views.recorded no_recording new dispatch ≡ seen views.recorded no_recording old dispatch) × (seen views.filtered None new dispatch ≡ seen views.filtered None old dispatch)
+      × Adds (aside_in views old dispatch) (aside_in views new dispatch) []
 
   pub alike_on : (same : S → S → Type 0) → ((old new : Worlds S) (dispatch : ℕ) → Replaced same old new dispatch → Alike spans attaches kept is_whole old new dispatch) → SameRecorded same
       → (old new : Worlds S) (dispatch : ℕ) (line : Scope) (held : Held) → held ≡ held_of dispatch line → ReplacedOn (λ id s t. same s t) old new held → AlikeOn old new dispatch line
@@ -138,9 +141,9 @@ module _ {S : Type 0} (spans : S → Spans) (views : Views S) (attaches : S → 
   alike_on same law records old new dispatch (s ∷ up) held is did =
       let r = subst (λ (h : Held). ReplacedOn (λ id s t. same s t) old new h) is did in
       let told = records old new dispatch r in
-      (law old new dispatch r, ap (λ (w : Worlds S). w.sites) r.others, told.0, told.1, ap (λ (w : Worlds S). w.cached) r.others)
+      (law old new dispatch r, ap (λ (w : Worlds S). w.sites) r.others, told.0, told.1, ap (λ (w : Worlds S). w.cached) r.others, told.2)
 
-  pub alike_line : (old new : Worlds S) (dispatch : ℕ) (line : Scope) → AlikeOn old new dispatch line → Alike spans attaches kept is_whole old new dispatch × (new.sites ≡ old.sites) × (seen views.recorded no_recording new dispatch ≡ seen views.recorded no_recording old dispatch) × (seen views.filtered None new dispatch ≡ seen views.filtered None old dispatch) × (new.cached ≡ old.cached)
+  pub alike_line : (old new : Worlds S) (dispatch : ℕ) (line : Scope) → AlikeOn old new dispatch line → Alike spans attaches kept is_whole old new dispatch × (new.sites ≡ old.sites) × (seen views.recorded no_recording new dispatch ≡ seen views.recorded no_recording old dispatch) × (seen views.filtered None new dispatch ≡ seen views.filtered None old dispatch) × (new.cached ≡ old.cached) × Adds (aside_in views old dispatch) (aside_in views new dispatch) []
   alike_line old new dispatch [] same = (
     record {
       spans_same = ap (λ (w : Worlds S). spans_in spans w dispatch) same;
@@ -153,15 +156,17 @@ module _ {S : Type 0} (spans : S → Spans) (views : Views S) (attaches : S → 
     ap (λ (w : Worlds S). seen views.recorded no_recording w dispatch) same,
     ap (λ (w : Worlds S). seen views.filtered None w dispatch) same,
     ap (λ (w : Worlds S). w.cached) same,
+    adds_same views old new dispatch same,
   )
   alike_line old new dispatch (s ∷ up) same = same
 
   -- after a refusal for want of memory
-  pub state_alike : (old new : Worlds S) (dispatch : ℕ) (opening : List ℕ) (lanes : List Lane) (hs : List (Option Handle)) (gs gs' : List (Option Guard)) (made : List Context) (ks ks' : List (Option Attach)) (moment : ℕ) → Alike spans attaches kept is_whole old new dispatch → new.sites ≡ old.sites → seen views.recorded no_recording new dispatch ≡ seen views.recorded no_recording old dispatch → seen views.filtered None new dispatch ≡ seen views.filtered None old dispatch → new.cached ≡ old.cached
+  pub state_alike : (old new : Worlds S) (dispatch : ℕ) (opening : Texts) (lanes : List Lane) (hs : List (Option Handle)) (gs gs' : List (Option Guard)) (made : List Context) (ks ks' : List (Option Attach)) (moment : ℕ) → Alike spans attaches kept is_whole old new dispatch → new.sites ≡ old.sites → seen views.recorded no_recording new dispatch ≡ seen views.recorded no_recording old dispatch → seen views.filtered None new dispatch ≡ seen views.filtered None old dispatch → new.cached ≡ old.cached → Adds (aside_in views old dispatch) (aside_in views new dispatch) []
       → (n : ℕ) (before later : Lane) → n < length lanes → before ≡ get_or lanes n before → later.id ≡ before.id → later.name ≡ before.name → later.contexts.live ≡ before.contexts.live → gs' ≡ gs → ks' ≡ ks
       → state_of spans views new dispatch opening (set lanes n later) hs gs' (record { made = made; attaches = ks' }) moment ≡ state_of spans views old dispatch opening lanes hs gs (record { made = made; attaches = ks }) moment
-  state_alike old new dispatch opening lanes hs gs gs' made ks ks' moment same sites records filters cached n before later within is id name live guards_same attaches_same =
-      rw (same.spans_same, sites, records, filters, cached, lanes_same lanes n before later within is (same_lane before later id live), ids_same lanes n before later within is id, names_same lanes n before later within is name, guards_same, attaches_same) refl
+  state_alike old new dispatch opening lanes hs gs gs' made ks ks' moment same sites records filters cached aside n before later within is id name live guards_same attaches_same =
+      let still = adds_nothing (aside_in views old dispatch) (aside_in views new dispatch) aside in
+      rw (same.spans_same, sites, records, filters, cached, still.0, still.1, lanes_same lanes n before later within is (same_lane before later id live), ids_same lanes n before later within is id, names_same lanes n before later within is name, guards_same, attaches_same) refl
 
   pub kept_alike : (old new : Worlds S) (k next : State) → IsKept kept is_whole old k → next ≡ k → Alike spans attaches kept is_whole old new k.dispatch → IsKept kept is_whole new next
   kept_alike old new k next inv same alike = subst (λ (x : State). IsKept kept is_whole new x) (sym same) (record {
@@ -177,27 +182,29 @@ module _ {S : Type 0} (spans : S → Spans) (views : Views S) (attaches : S → 
 
   -- after a refusal for want of room what is kept is as it was
   module _ (same : S → S → Type 0) (law : (old new : Worlds S) (dispatch : ℕ) → Replaced same old new dispatch → Alike spans attaches kept is_whole old new dispatch) (records : SameRecorded same)
-      (old new : Worlds S) (dispatch : ℕ) (opening : List ℕ) (lanes : List Lane) (hs : List (Option Handle)) (gs gs' : List (Option Guard)) (made : List Context) (ks ks' : List (Option Attach)) (m : ℕ) (inv : IsKept kept is_whole old (state_of spans views old dispatch opening lanes hs gs (record { made = made; attaches = ks }) m))
+      (old new : Worlds S) (dispatch : ℕ) (opening : Texts) (lanes : List Lane) (hs : List (Option Handle)) (gs gs' : List (Option Guard)) (made : List Context) (ks ks' : List (Option Attach)) (m : ℕ) (inv : IsKept kept is_whole old (state_of spans views old dispatch opening lanes hs gs (record { made = made; attaches = ks }) m))
       (handle : ℕ) (named : Handle) (found : slot_at hs handle ≡ Some named) (did : ReplacedOn (λ id s t. same s t) old new named.held)
       (n : ℕ) (before later : Lane) (within : n < length lanes) (seen_is : before ≡ get_or lanes n before) (lane : LeavesLane before later) (guards_same : gs' ≡ gs) (attaches_same : ks' ≡ ks) where
-    its_alike : Alike spans attaches kept is_whole old new dispatch × (new.sites ≡ old.sites) × (seen views.recorded no_recording new dispatch ≡ seen views.recorded no_recording old dispatch) × (seen views.filtered None new dispatch ≡ seen views.filtered None old dispatch) × (new.cached ≡ old.cached)
+    its_alike : Alike spans attaches kept is_whole old new dispatch × (new.sites ≡ old.sites) × (seen views.recorded no_recording new dispatch ≡ seen views.recorded no_recording old dispatch) × (seen views.filtered None new dispatch ≡ seen views.filtered None old dispatch) × (new.cached ≡ old.cached) × Adds (aside_in views old dispatch) (aside_in views new dispatch) []
     its_alike = let line = find (held_of dispatch) (map held_by hs) inv.tables.handles handle named.held inv.fits.handle_slots (held_slot hs handle named found) in alike_line old new dispatch line.at (alike_on same law records old new dispatch line.at named.held line.is did)
 
     pub refused_state : state_of spans views new dispatch opening (set lanes n later) hs gs' (record { made = made; attaches = ks' }) m ≡ state_of spans views old dispatch opening lanes hs gs (record { made = made; attaches = ks }) m
-    refused_state = state_alike old new dispatch opening lanes hs gs gs' made ks ks' m its_alike.0 its_alike.1 its_alike.2 its_alike.3 its_alike.4 n before later within seen_is lane.id lane.name lane.live guards_same attaches_same
+    refused_state = state_alike old new dispatch opening lanes hs gs gs' made ks ks' m its_alike.0 its_alike.1 its_alike.2 its_alike.3 its_alike.4 its_alike.5 n before later within seen_is lane.id lane.name lane.live guards_same attaches_same
 
     pub refused_kept : IsKept kept is_whole new (state_of spans views new dispatch opening (set lanes n later) hs gs' (record { made = made; attaches = ks' }) m)
     refused_kept = kept_alike old new (state_of spans views old dispatch opening lanes hs gs (record { made = made; attaches = ks }) m) _ inv refused_state its_alike.0
 
   -- the same where neither lanes nor guards were touched
   module _ (same : S → S → Type 0) (law : (old new : Worlds S) (dispatch : ℕ) → Replaced same old new dispatch → Alike spans attaches kept is_whole old new dispatch) (records : SameRecorded same)
-      (old new : Worlds S) (dispatch : ℕ) (opening : List ℕ) (lanes : List Lane) (hs : List (Option Handle)) (gs : List (Option Guard)) (cs : Named) (m : ℕ) (inv : IsKept kept is_whole old (state_of spans views old dispatch opening lanes hs gs cs m))
+      (old new : Worlds S) (dispatch : ℕ) (opening : Texts) (lanes : List Lane) (hs : List (Option Handle)) (gs : List (Option Guard)) (cs : Named) (m : ℕ) (inv : IsKept kept is_whole old (state_of spans views old dispatch opening lanes hs gs cs m))
       (handle : ℕ) (named : Handle) (found : slot_at hs handle ≡ Some named) (did : ReplacedOn (λ id s t. same s t) old new named.held) where
-    still_alike : Alike spans attaches kept is_whole old new dispatch × (new.sites ≡ old.sites) × (seen views.recorded no_recording new dispatch ≡ seen views.recorded no_recording old dispatch) × (seen views.filtered None new dispatch ≡ seen views.filtered None old dispatch) × (new.cached ≡ old.cached)
+    still_alike : Alike spans attaches kept is_whole old new dispatch × (new.sites ≡ old.sites) × (seen views.recorded no_recording new dispatch ≡ seen views.recorded no_recording old dispatch) × (seen views.filtered None new dispatch ≡ seen views.filtered None old dispatch) × (new.cached ≡ old.cached) × Adds (aside_in views old dispatch) (aside_in views new dispatch) []
     still_alike = let line = find (held_of dispatch) (map held_by hs) inv.tables.handles handle named.held inv.fits.handle_slots (held_slot hs handle named found) in alike_line old new dispatch line.at (alike_on same law records old new dispatch line.at named.held line.is did)
 
     pub same_state : state_of spans views new dispatch opening lanes hs gs cs m ≡ state_of spans views old dispatch opening lanes hs gs cs m
-    same_state = rw (still_alike.0.spans_same, still_alike.1, still_alike.2, still_alike.3, still_alike.4) refl
+    same_state =
+        let still = adds_nothing (aside_in views old dispatch) (aside_in views new dispatch) still_alike.5 in
+        rw (still_alike.0.spans_same, still_alike.1, still_alike.2, still_alike.3, still_alike.4, still.0, still.1) refl
 
     pub same_kept : IsKept kept is_whole new (state_of spans views new dispatch opening lanes hs gs cs m)
     same_kept = kept_alike old new (state_of spans views old dispatch opening lanes hs gs cs m) _ inv same_state still_alike.0

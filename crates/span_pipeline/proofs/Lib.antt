@@ -3,6 +3,7 @@ mod Attaches
 mod Attaching
 mod Balancing
 mod Beginning
+mod Beside
 mod Cloning
 mod Copies
 mod Counting

@@ -23,6 +23,7 @@ use Rattle.span_pipeline.specs.declared.reply.Reply.TheVariants as reply
 use Rattle.span_pipeline.specs.declared.request.Place.{Place}
 use Rattle.span_pipeline.specs.declared.request.Call.TheVariants as call
 use Rattle.span_pipeline.specs.declared.reply.What.TheVariants as what
+use Rattle.span_pipeline.specs.declared.settings.Texts.{Texts}
 use Rattle.span_pipeline.specs.Setups.{Setup, id_at, name_at, if_span, span_site}
 use Rattle.std.specs.Prelude.{◌≢◌, option_and_then}
 use Rattle.std.specs.Option.{option_to_list}
@@ -47,6 +48,7 @@ use Rattle.trace_base.proofs.Entering.{length_held}
 use Rattle.trace_base.proofs.Holding.{holds_other}
 use Rattle.span_pipeline.specs.Tables.{Scope, Made, Attached, no_making, Effect, Tables, recorded_by, open_part, slot_at, own, made_of}
 use Rattle.span_pipeline.specs.Effects.{named, effect_of_call, admitted, bare_lane, lane_in, made_at, context_around, parent_at, makes, makes_span, declines, scope_at}
+use Rattle.span_pipeline.proofs.Beside.{aside_in, adds_nothing, adds_same}
 use Rattle.span_pipeline.proofs.Known.{recorded_known, new_known}
 use Rattle.span_pipeline.proofs.Attaching.{last_is}
 use Rattle.span_pipeline.proofs.Laned.{own_fit}
@@ -189,7 +191,7 @@ found_site_is (Some c) is = (c, refl)
 
 module _ {S : Type 0} (spans : S → Spans) (views : Views S) (attaches : S → Bool) (kept : S → ℕ → ℕ → ℕ) (is_whole : S → Type 0) (old new : Worlds S) where
   module _ (does : S → SubscriberCall → S → Type 0) (law : Law spans views attaches kept is_whole does) (recalls : Recalls spans views attaches kept is_whole does)
-      (dispatch : ℕ) (opening : List ℕ) (lanes : List Lane) (hs hs' : List (Option Handle)) (gs : List (Option Guard)) (cs : Named) (m at lane number : ℕ) (many : number ≡ length hs) (inv : IsKept kept is_whole old (state_of spans views old dispatch opening lanes hs gs cs m)) where
+      (dispatch : ℕ) (opening : Texts) (lanes : List Lane) (hs hs' : List (Option Handle)) (gs : List (Option Guard)) (cs : Named) (m at lane number : ℕ) (many : number ≡ length hs) (inv : IsKept kept is_whole old (state_of spans views old dispatch opening lanes hs gs cs m)) where
     abbrev now : State
     now = state_of spans views old dispatch opening lanes hs gs cs m
 
@@ -293,6 +295,7 @@ module _ {S : Type 0} (spans : S → Spans) (views : Views S) (attaches : S → 
               told = recalled.1 ∙ ap (λ (n : ℕ). option_map (λ (f : Filtered). hears f (OnNewSpan n (bare_lane place_id) at q None did.callsite values)) (seen views.filtered None old dispatch)) fits.made.count
                   ∙ ap (λ (c : Callsite). option_map (λ (f : Filtered). hears f (OnNewSpan (length t.made) (bare_lane place_id) at q None c values)) (seen views.filtered None old dispatch)) callsite_is;
               cached = ap (λ (w : Worlds S). w.cached) did.made.others;
+              aside = record { before = aside_in views old dispatch; later = aside_in views new dispatch; shown_before = refl; shown_later = refl; waits_before = refl; waits_later = refl; adds = recalled.2 };
             })
 
         pub keeps_made : IsKept kept is_whole new then
@@ -339,7 +342,7 @@ module _ {S : Type 0} (spans : S → Spans) (views : Views S) (attaches : S → 
             }))
             (λ s some. known_still now then t e r.tokens rec_is stands.recording s refl (subst (λ (x : Spans). 0 < (span_at x.made s).holds) step some))
             (all_same now then t.contexts setup refl refl (ap (λ (x : Recording). x.tokens) rec_is) stands.recording.attached)
-            (record { quiet = refl; before = seen views.filtered None old dispatch; later = seen views.filtered None new dispatch; shown_before = refl; shown_later = refl; told = ap (λ (w : Worlds S). seen views.filtered None w dispatch) same ∙ heard_none (seen views.filtered None old dispatch); known = refl; cached = ap (λ (w : Worlds S). w.cached) same })
+            (record { quiet = refl; before = seen views.filtered None old dispatch; later = seen views.filtered None new dispatch; shown_before = refl; shown_later = refl; told = ap (λ (w : Worlds S). seen views.filtered None w dispatch) same ∙ heard_none (seen views.filtered None old dispatch); known = refl; cached = ap (λ (w : Worlds S). w.cached) same; aside = record { before = aside_in views old dispatch; later = aside_in views new dispatch; shown_before = refl; shown_later = refl; waits_before = refl; waits_later = refl; adds = adds_same views old new dispatch same } })
 
         pub keeps_declined : IsKept kept is_whole new then
         keeps_declined = kept_served spans views attaches kept is_whole old new now then inv _ _ (serves_declined inv.tables (record { fits = inv.fits; recording = inv.recording; filtering = inv.filtering })) refl (ap (λ (w : Worlds S). length w.subscribers) same) (λ has. subst (λ (w : Worlds S). Has is_whole w dispatch) (sym same) has)
@@ -378,7 +381,7 @@ of_held : (dispatch : ℕ) (line : Scope) (held : ℕ × ℕ) → Some held ≡ 
 of_held dispatch [] held is = absurd (cc is)
 of_held dispatch (s ∷ up) held is = (let e : held ≡ (dispatch, s) = cc is in ap (λ (h : ℕ × ℕ). h.0) e)
 
-module _ {S : Type 0} (spans : S → Spans) (views : Views S) (kept : S → ℕ → ℕ → ℕ) (is_whole : S → Type 0) (world : Worlds S) (dispatch : ℕ) (opening : List ℕ) (lanes : List Lane) (hs : List (Option Handle)) (gs : List (Option Guard)) (cs : Named) (m : ℕ) (inv : IsKept kept is_whole world (state_of spans views world dispatch opening lanes hs gs cs m)) where
+module _ {S : Type 0} (spans : S → Spans) (views : Views S) (kept : S → ℕ → ℕ → ℕ) (is_whole : S → Type 0) (world : Worlds S) (dispatch : ℕ) (opening : Texts) (lanes : List Lane) (hs : List (Option Handle)) (gs : List (Option Guard)) (cs : Named) (m : ℕ) (inv : IsKept kept is_whole world (state_of spans views world dispatch opening lanes hs gs cs m)) where
   pub make_may : (under : Place) (p : Parent) → place_for (map held_by hs) under ≡ Some p → (lane : ℕ) → length hs < 2 ^ 62 → length gs < 2 ^ 62 → MayMake spans is_whole world lane p dispatch
   make_may under p found lane few_handles few_guards =
       let a = sym (length-map hs held_by) ∙ ap length inv.fits.handle_slots ∙ length-map inv.tables.handles (option_map (held_of dispatch)) in
@@ -403,12 +406,12 @@ module _ {S : Type 0} (spans : S → Spans) (views : Views S) (kept : S → ℕ 
 
 -- after a refusal for want of memory
 pub made_alike : {S : Type 0} (spans : S → Spans) (views : Views S) (attaches : S → Bool) (kept : S → ℕ → ℕ → ℕ) (is_whole : S → Type 0) (same : S → S → Type 0) → ((old new : Worlds S) (dispatch : ℕ) → Replaced same old new dispatch → Alike spans attaches kept is_whole old new dispatch) → SameRecorded spans views attaches kept is_whole same
-    → (old new : Worlds S) (dispatch : ℕ) (opening : List ℕ) (lanes : List Lane) (hs hs' : List (Option Handle)) (gs : List (Option Guard)) (cs : Named) (m : ℕ) → hs' ≡ hs → Replaced same old new dispatch
+    → (old new : Worlds S) (dispatch : ℕ) (opening : Texts) (lanes : List Lane) (hs hs' : List (Option Handle)) (gs : List (Option Guard)) (cs : Named) (m : ℕ) → hs' ≡ hs → Replaced same old new dispatch
     → (state_of spans views new dispatch opening lanes hs' gs cs m ≡ state_of spans views old dispatch opening lanes hs gs cs m) × (IsKept kept is_whole old (state_of spans views old dispatch opening lanes hs gs cs m) → IsKept kept is_whole new (state_of spans views new dispatch opening lanes hs' gs cs m))
 made_alike {S} spans views attaches kept is_whole same law records old new dispatch opening lanes hs hs' gs cs m handles did =
     let alike = law old new dispatch did in
     let sites = ap (λ (w : Worlds S). w.sites) did.others in
     let told = records old new dispatch did in
     let cached = ap (λ (w : Worlds S). w.cached) did.others in
-    let state : state_of spans views new dispatch opening lanes hs' gs cs m ≡ state_of spans views old dispatch opening lanes hs gs cs m = rw (alike.spans_same, sites, told.0, told.1, cached, handles) refl in
+    let state : state_of spans views new dispatch opening lanes hs' gs cs m ≡ state_of spans views old dispatch opening lanes hs gs cs m = (let still = adds_nothing (aside_in views old dispatch) (aside_in views new dispatch) told.2 in rw (alike.spans_same, sites, told.0, told.1, cached, still.0, still.1, handles) refl) in
     (state, λ inv. kept_alike spans views attaches kept is_whole old new _ _ inv state alike)

@@ -43,14 +43,15 @@ effect_is view k is lanes ids before moment t fits request good within =
     cond-false {A = Resolved} (is_bad_moment t.moment request.at) _ _ (ap (λ (n : ℕ). is_bad_moment n request.at) (sym latest) ∙ good)
     ∙ ap (λ o. named what.Lane o (λ (id : ℕ). effect_of_call k.setup t request.at request.lane request.call)) at.1
 
-pub steps_ok : (result : Result Reply Refusal) (whole call : Resolved) (h : History) (old new : State) → whole ≡ call → IfOk result (Served call (tables old.setup.layer h) old new) → IfOk result (Recorded whole h old new)
+pub steps_ok : (result : Result Reply Refusal) (whole call : Resolved) (h : History) (old new : State) → whole ≡ call → IfOk result (Served call (tables old.setup h) old new) → IfOk result (Recorded whole h old new)
 steps_ok (Ok reply) whole call h old new same served = record {
   effect = served.effect;
   is = same ∙ served.is;
   reply_is = served.reply_is;
   setup = served.setup;
   records = served.records;
-  stands = subst (StandsFor new) (sym (fold_push after (no_tables old.setup.layer) h served.effect)) served.stands;
+  measures = served.measures;
+  stands = subst (StandsFor new) (sym (fold_push after (no_tables old.setup) h served.effect)) served.stands;
 }
 steps_ok (Err error) whole call h old new same served = tt
 

@@ -16,12 +16,14 @@ use Rattle.span_pipeline.specs.declared.reply.What.TheVariants as what
 use Rattle.span_pipeline.specs.declared.request.Call.TheVariants as call
 use Rattle.span_pipeline.specs.declared.slots.Guard.{Guard}
 use Rattle.span_pipeline.specs.Admission.{text_filter, filter_if, IsTextFilter}
+use Rattle.span_pipeline.specs.declared.settings.Texts.{Texts}
 use Rattle.span_pipeline.specs.Setups.{id_at}
 use Rattle.span_pipeline.specs.Tables.{Effect, Tables, after, quiet}
 use Rattle.span_pipeline.specs.Effects.{named, effect_of_call, asks, reloads, reloads_if}
 use Rattle.span_pipeline.specs.Balance.{Balanced, named_by, opened_by}
 use Rattle.span_pipeline.specs.Slots.{LetsThrough}
 use Rattle.span_pipeline.specs.Fits.{Views, shown_of, Named, State, state_of, laned, StandsFor, FilteringFits, MadeFit, LanesFit, IsKept, Served}
+use Rattle.span_pipeline.proofs.Beside.{Adds, aside_in, adds_nothing}
 use Rattle.span_pipeline.proofs.Filtering.{cached_rows, rows_of}
 use Rattle.span_pipeline.proofs.Gating.{answered}
 use Rattle.span_pipeline.proofs.Keeping.{kept_alike}
@@ -31,7 +33,7 @@ use Rattle.span_pipeline.proofs.Standing.{fits_step}
 use Rattle.span_pipeline.proofs.Telling.{does_none, serves_ops, keeps_ops}
 
 module _ {S : Type 0} (spans : S → Spans) (views : Views S) (attaches : S → Bool) (kept : S → ℕ → ℕ → ℕ) (is_whole : S → Type 0) (old : Worlds S)
-    (dispatch : ℕ) (opening : List ℕ) (lanes : List Lane) (hs : List (Option Handle)) (gs : List (Option Guard)) (cs : Named) (m at lane : ℕ) where
+    (dispatch : ℕ) (opening : Texts) (lanes : List Lane) (hs : List (Option Handle)) (gs : List (Option Guard)) (cs : Named) (m at lane : ℕ) where
   abbrev now : State
   now = state_of spans views old dispatch opening lanes hs gs cs m
 
@@ -54,7 +56,8 @@ module _ {S : Type 0} (spans : S → Spans) (views : Views S) (attaches : S → 
         (its_answer inv.tables (record { fits = inv.fits; recording = inv.recording; filtering = inv.filtering }))
 
   -- a filter of another text
-  module _ (new : Worlds S) (alike : Alike spans attaches kept is_whole old new dispatch) (sites : new.sites ≡ old.sites) (records : seen views.recorded no_recording new dispatch ≡ seen views.recorded no_recording old dispatch) where
+  module _ (new : Worlds S) (alike : Alike spans attaches kept is_whole old new dispatch) (sites : new.sites ≡ old.sites) (records : seen views.recorded no_recording new dispatch ≡ seen views.recorded no_recording old dispatch)
+      (aside : Adds (aside_in views old dispatch) (aside_in views new dispatch) []) where
     abbrev then : State
     then = state_of spans views new dispatch opening lanes hs gs cs at
 
@@ -64,7 +67,7 @@ module _ {S : Type 0} (spans : S → Spans) (views : Views S) (attaches : S → 
     -- after want of memory
     module _ (filters : seen views.filtered None new dispatch ≡ seen views.filtered None old dispatch) (cached : new.cached ≡ old.cached) where
       pub state_left : state_of spans views new dispatch opening lanes hs gs cs m ≡ now
-      state_left = rw (alike.spans_same, sites, records, filters, cached) refl
+      state_left = (let still = adds_nothing (aside_in views old dispatch) (aside_in views new dispatch) aside in rw (alike.spans_same, sites, records, filters, cached, still.0, still.1) refl)
 
       pub kept_left : IsKept kept is_whole old now → IsKept kept is_whole new (state_of spans views new dispatch opening lanes hs gs cs m)
       kept_left inv = kept_alike spans views attaches kept is_whole old new now _ inv state_left alike
@@ -82,6 +85,8 @@ module _ {S : Type 0} (spans : S → Spans) (views : Views S) (attaches : S → 
 
       filter_is : (t : Tables) → length (spans_in spans new dispatch).made ≡ length t.made → FilteringFits then (after t (reloads at (id_at now.setup.ids lane) text))
       filter_is t count = record {
+        counter = ap (option_map (shown_of 0 then.setup.ids)) aside.counter ∙ inv.filtering.counter;
+        new = inv.filtering.new;
         in_place = ap (option_map (shown_of (length (spans_in spans new dispatch).made) then.setup.ids)) filters ∙ ap (λ (n : ℕ). Some (shown_of n then.setup.ids f)) count ∙ ap (λ (x : Filtered). Some (shown_of (length t.made) then.setup.ids x)) (sym force_is);
         fresh = cached_rows views interest shown new dispatch f (alike.count ∙ inv.alone) (let c = alike.count in let b = inv.there in omega (arith, c, b)) filters fresh ∙ ap (λ (x : Filtered). rows_of x new.sites) (sym force_is);
       }
@@ -114,7 +119,7 @@ module _ {S : Type 0} (spans : S → Spans) (views : Views S) (attaches : S → 
           }))
           (λ s some. known_still now then t e r.tokens records stands.recording s refl (subst (λ (x : Spans). 0 < (span_at x.made s).holds) step some))
           (all_same now then t.contexts setup refl refl (ap (λ (x : Recording). x.tokens) records) stands.recording.attached)
-          (filter_is t (ap (λ (x : Spans). length x.made) step ∙ fits.made.count))
+          (filter_is t (ap (λ (x : Spans). length x.made) step ∙ fits.made.count)) aside.measures
 
       pub keeps_reloaded : IsKept kept is_whole new then
       keeps_reloaded = kept_served spans views attaches kept is_whole old new now then inv _ _ (serves_reloaded inv.tables (record { fits = inv.fits; recording = inv.recording; filtering = inv.filtering })) refl alike.count alike.whole

@@ -11,6 +11,7 @@ use Rattle.span_handles.specs.Worlds.{Has, spans_in, kept_in, no_spans}
 use Rattle.span_handles.specs.Handles.{Handle, Held, HasOn, IsKnown}
 use Rattle.span_handles.specs.Entries.{IsThere}
 use Rattle.span_pipeline.specs.declared.slots.Guard.{Guard}
+use Rattle.span_pipeline.specs.declared.settings.Texts.{Texts}
 use Rattle.span_pipeline.specs.Setups.{id_at}
 use Rattle.span_pipeline.specs.Tables.{Scope, slot_at, own}
 use Rattle.span_pipeline.specs.Balance.{named_by, opened_on, opened_by}
@@ -24,7 +25,7 @@ use Rattle.span_pipeline.proofs.Keeping.{are_attached, id_seen}
 the_held : (a b : Held) → ◌≡◌ {A = Option Held} (Some a) (Some b) → a ≡ b
 the_held a b e = cc e
 
-module _ {S : Type 0} (spans : S → Spans) (views : Views S) (kept : S → ℕ → ℕ → ℕ) (is_whole : S → Type 0) (world : Worlds S) (dispatch : ℕ) (opening : List ℕ) (lanes : List Lane) (handles : List (Option Handle)) (guards : List (Option Guard)) (contexts : Named) (moment : ℕ)
+module _ {S : Type 0} (spans : S → Spans) (views : Views S) (kept : S → ℕ → ℕ → ℕ) (is_whole : S → Type 0) (world : Worlds S) (dispatch : ℕ) (opening : Texts) (lanes : List Lane) (handles : List (Option Handle)) (guards : List (Option Guard)) (contexts : Named) (moment : ℕ)
     (inv : IsKept kept is_whole world (state_of spans views world dispatch opening lanes handles guards contexts moment)) where
   abbrev ids : List ℕ
   ids = (state_of spans views world dispatch opening lanes handles guards contexts moment).setup.ids

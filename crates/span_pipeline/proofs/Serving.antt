@@ -1,5 +1,5 @@
 -- What calls on the span of a scope keep, whatever their kind.
-use Rattle.std.proofs.Common.{◌≡◌, ℕ, ◌<◌, List, [], ◌∷◌, length, Bool, Option, None, false, Ok, Err, refl, sym, ap, subst, ◌∙◌, arith}
+use Rattle.std.proofs.Common.{◌≡◌, ℕ, ◌<◌, List, [], ◌∷◌, ◌++◌, length, Bool, Option, None, false, Ok, Err, refl, sym, ap, subst, ◌∙◌, arith}
 use Rattle.trace_base.specs.declared.lane.Lane.{Lane}
 use Rattle.trace_base.specs.Gate.{Worlds}
 use Rattle.trace_base.specs.Spans.{Spans, span_at}
@@ -19,6 +19,9 @@ use Rattle.span_pipeline.specs.Setups.{Setup}
 use Rattle.span_pipeline.specs.Tables.{Scope, Attached, Effect, Tables, after, recorded_by}
 use Rattle.span_pipeline.specs.Effects.{Resolved, effect_of_call}
 use Rattle.span_pipeline.specs.Fits.{Views, State, Laned, Fits, StandsFor, RecordingFits, FilteringFits, AllContextsFit, LanesFit, IsKept, Served}
+use Rattle.otel_metrics.specs.declared.measure.Measure.{Measure}
+use Rattle.span_stack.specs.Measured.{measured_by}
+use Rattle.span_pipeline.proofs.Beside.{Adds, aside_in, adds_same, measured}
 use Rattle.span_pipeline.proofs.Known.{still_known}
 use Rattle.span_pipeline.proofs.Recordings.{recording_step}
 use Rattle.span_pipeline.proofs.Filtering.{Hears, filtering_step}
@@ -39,16 +42,16 @@ AllFit k contexts = AllContextsFit k.setup.layer.activation k.lanes k.recording.
 
 -- a request is served where its effect makes what is kept
 pub serve_with : (k next : State) (t : Tables) (e : Effect) (resolved : Resolved) (answer : Reply) → StandsFor k t → resolved ≡ Ok e → answer ≡ e.reply → next.setup ≡ k.setup → (toks : List Token)
-    → next.recording ≡ record (recorded_by (length t.made) e k.recording) { tokens = toks } → Fits next (after t e) → ((s : ℕ) → 0 < (span_at next.spans.made s).holds → told_at s next.recording.spans ≢ None) → AllFit next (after t e).contexts → FilteringFits next (after t e) → Served resolved t k next answer
-serve_with k next t e resolved answer stands is reply_is setup toks recorded fits known attached filtering =
+    → next.recording ≡ record (recorded_by (length t.made) e k.recording) { tokens = toks } → Fits next (after t e) → ((s : ℕ) → 0 < (span_at next.spans.made s).holds → told_at s next.recording.spans ≢ None) → AllFit next (after t e).contexts → FilteringFits next (after t e) → next.measures ≡ k.measures ++ e.measures → Served resolved t k next answer
+serve_with k next t e resolved answer stands is reply_is setup toks recorded fits known attached filtering measured =
     let step = recording_step k.recording next.recording t e stands.recording.recorded toks recorded in
-    record { effect = e; is = is; reply_is = reply_is; setup = setup; records = step.finished; stands = record { fits = fits; recording = record { recorded = step.open_is; known = known; attached = attached }; filtering = filtering } }
+    record { effect = e; is = is; reply_is = reply_is; setup = setup; records = step.finished; measures = measured; stands = record { fits = fits; recording = record { recorded = step.open_is; known = known; attached = attached }; filtering = filtering } }
 
 -- where no other filter is put in force
 pub serve : (k next : State) (t : Tables) (e : Effect) (resolved : Resolved) (answer : Reply) → StandsFor k t → resolved ≡ Ok e → answer ≡ e.reply → next.setup ≡ k.setup → (toks : List Token)
     → next.recording ≡ record (recorded_by (length t.made) e k.recording) { tokens = toks } → Fits next (after t e) → ((s : ℕ) → 0 < (span_at next.spans.made s).holds → told_at s next.recording.spans ≢ None) → AllFit next (after t e).contexts → Hears k t e next → Served resolved t k next answer
 serve k next t e resolved answer stands is reply_is setup toks recorded fits known attached heard =
-    serve_with k next t e resolved answer stands is reply_is setup toks recorded fits known attached (filtering_step k next t e stands.fits.made.count fits.made.count stands.filtering setup heard)
+    serve_with k next t e resolved answer stands is reply_is setup toks recorded fits known attached (filtering_step k next t e stands.fits.made.count fits.made.count stands.filtering setup heard) (measured k next e.measures heard.aside)
 
 -- where no span closes and none is made, those with holds are still known
 pub known_still : (k next : State) (t : Tables) (e : Effect) (toks : List Token) → next.recording ≡ record (recorded_by (length t.made) e k.recording) { tokens = toks } → RecordingFits k t → (s : ℕ) → list_any (λ x. x == s) e.closes ≡ false
@@ -90,6 +93,10 @@ module _ {S : Type 0} (spans : S → Spans) (views : Views S) (attaches : S → 
   pub call_cached : (dispatch : ℕ) (line : Scope) (call : ℕ → SubscriberCall) → ShownOn spans views attaches kept is_whole old new dispatch line call → new.cached ≡ old.cached
   call_cached dispatch [] call same = ap (λ (w : Worlds S). w.cached) same
   call_cached dispatch (s ∷ up) call shown = shown.4
+
+  pub call_aside : (dispatch : ℕ) (line : Scope) (call : ℕ → SubscriberCall) → ((s : ℕ) → measured_by (call s) ≡ []) → ShownOn spans views attaches kept is_whole old new dispatch line call → Adds (aside_in views old dispatch) (aside_in views new dispatch) []
+  call_aside dispatch [] call none same = adds_same views old new dispatch same
+  call_aside dispatch (s ∷ up) call none shown = subst (λ (ms : List Measure). Adds (aside_in views old dispatch) (aside_in views new dispatch) ms) (none s) shown.5
 
   pub call_whole : (dispatch : ℕ) (line : Scope) (call : ℕ → SubscriberCall) → ShownOn spans views attaches kept is_whole old new dispatch line call → Has is_whole old dispatch → Has is_whole new dispatch
   call_whole dispatch [] call same has = subst (λ (w : Worlds S). Has is_whole w dispatch) (sym same) has

@@ -1,5 +1,5 @@
--- What a filter's text is read as, by its grammar.
-use Rattle.std.proofs.Common.{◌≡◌, ℕ, ◌+◌, List, [], ◌∷◌, ◌++◌, false, Ok, Err, refl, sym, ap, subst, ◌∙◌}
+-- What the texts of filters are read as, by their grammar.
+use Rattle.std.proofs.Common.{◌≡◌, ℕ, ◌+◌, List, [], ◌∷◌, ◌++◌, Bool, true, false, Option, Some, Ok, Err, refl, sym, ap, subst, ◌∙◌}
 use Rattle.std.specs.Str.{trim}
 use Rattle.std.proofs.lemmas.Bool.{true≢false}
 use Rattle.env_directives.specs.Faults.{HasFault, HasNoLevel, HasEmptyField}
@@ -14,10 +14,11 @@ use Rattle.env_directives.proofs.Grammar.{directive_reads, level_told, field_tol
 use Rattle.env_directives.proofs.Readings.{reading_explained}
 use Rattle.env_filter.specs.declared.pieces.Ignored.{Ignored}
 use Rattle.env_filter.specs.Building.{Building, default_builder, filter_by, IsFilterOf, IsRefusedAt}
-use Rattle.env_filter.specs.Filtering.{Filtered}
+use Rattle.env_filter.specs.Filtering.{Filtered, IsNew}
 use Rattle.env_filter.specs.Pieces.{is_memory, Reads, ReadsAll, ReadsText, IsFirstFault}
-use Rattle.span_pipeline.specs.Admission.{TextRead, with_read, with_piece, pieces_read, text_read, IsTextFilter, IsUnread, unread_by}
+use Rattle.span_pipeline.specs.Admission.{TextRead, with_read, with_piece, pieces_read, text_read, filter_if, OpeningRead, judged, first_fault, counting_read, opening_read, IsTextFilter, IsCounter, IsUnread, unread_by}
 use Rattle.span_pipeline.specs.declared.pipeline.OpenError.{OpenError}
+use Rattle.span_pipeline.specs.declared.pipeline.OpenError.TheVariants as errors
 
 -- a piece that is a directive, before those behind it
 one_read : (n : ℕ) (piece : List ℕ) (ds : List Directive) → Reads false n piece ds [] → (later : List Directive) (rest : TextRead) → rest ≡ Ok later → with_piece n piece rest ≡ Ok (ds ++ later)
@@ -93,15 +94,43 @@ read_filter_is d b text f begun set is =
 at_first : (text : List ℕ) (number : ℕ) (cause : ParseError) → IsFirstFault false text number cause → text_read text ≡ Err number
 at_first text number cause first = all_refused 1 (comma_pieces text) first.directives first.first first.others first.reads ∙ ap Err (sym first.numbered)
 
-unread_with : (text : List ℕ) (number : ℕ) (cause : ParseError) → IsRefusedAt false text number cause → IsUnread text (unread_by number cause)
-unread_with text number fault.Shape r = at_first text number fault.Shape r
-unread_with text number fault.Level r = at_first text number fault.Level r
-unread_with text number fault.Field r = at_first text number fault.Field r
-unread_with text number fault.Pattern r = at_first text number fault.Pattern r
-unread_with text number fault.Equals r = at_first text number fault.Equals r
-unread_with text number (fault.Fields many) r = at_first text number (fault.Fields many) r
-unread_with text number fault.Memory r = tt
+at_piece : (counting : Bool) (text : List ℕ) (number : ℕ) (cause : ParseError) → IsFirstFault false text number cause → judged counting (text_read text) ≡ Err (counting, number)
+at_piece counting text number cause first = ap (judged counting) (at_first text number cause first)
 
-pub unread_is : (d b : Building) (text : List ℕ) (number : ℕ) (cause : ParseError) (error : OpenError) → b ≡ record d { patterns = false } → error ≡ unread_by number cause → IsRefusedAt b.patterns text number cause → IsUnread text error
-unread_is d b text number cause error set is refused =
-    subst (IsUnread text) (sym is) (unread_with text number cause (subst (λ (x : Building). IsRefusedAt x.patterns text number cause) set refused))
+unread_with : (counting : Bool) (text : List ℕ) (number : ℕ) (cause : ParseError) → IsRefusedAt false text number cause → IsUnread (judged counting (text_read text)) (unread_by counting number cause)
+unread_with counting text number fault.Shape r = at_piece counting text number fault.Shape r
+unread_with counting text number fault.Level r = at_piece counting text number fault.Level r
+unread_with counting text number fault.Field r = at_piece counting text number fault.Field r
+unread_with counting text number fault.Pattern r = at_piece counting text number fault.Pattern r
+unread_with counting text number fault.Equals r = at_piece counting text number fault.Equals r
+unread_with counting text number (fault.Fields many) r = at_piece counting text number (fault.Fields many) r
+unread_with counting text number fault.Memory r = tt
+
+pub unread_is : (counting : Bool) (d b : Building) (text : List ℕ) (number : ℕ) (cause : ParseError) (error : OpenError) → b ≡ record d { patterns = false } → error ≡ unread_by counting number cause → IsRefusedAt b.patterns text number cause → IsUnread (judged counting (text_read text)) error
+unread_is counting d b text number cause error set is refused =
+    subst (IsUnread (judged counting (text_read text))) (sym is) (unread_with counting text number cause (subst (λ (x : Building). IsRefusedAt x.patterns text number cause) set refused))
+
+-- ---- both texts of an opening
+
+pub first_unread : (filter : List ℕ) (counting : Option (List ℕ)) (error : OpenError) → IsUnread (judged false (text_read filter)) error → IsUnread (opening_read filter counting) error
+first_unread filter counting errors.Memory unread = tt
+first_unread filter counting (errors.Directive which piece) unread = ap (λ (r : OpeningRead). first_fault r (counting_read counting)) unread
+
+after_first : (filter : List ℕ) (counting : Option (List ℕ)) (f : Filtered) → IsTextFilter filter f → opening_read filter counting ≡ counting_read counting
+after_first filter counting f is = ap (λ (r : TextRead). first_fault (judged false r) (counting_read counting)) is.read
+
+pub later_unread : (filter : List ℕ) (counting : Option (List ℕ)) (f : Filtered) (error : OpenError) → IsTextFilter filter f → IsUnread (counting_read counting) error → IsUnread (opening_read filter counting) error
+later_unread filter counting f error is unread = subst (λ (r : OpeningRead). IsUnread r error) (sym (after_first filter counting f is)) unread
+
+pub both_read : (filter : List ℕ) (counting : Option (List ℕ)) (f : Filtered) (counter : Option Filtered) → IsTextFilter filter f → IsCounter counting counter → opening_read filter counting ≡ Ok tt
+both_read filter counting f counter is counts = after_first filter counting f is ∙ counts.read
+
+-- ---- the text for counting
+
+pub counter_is : (text : List ℕ) (f : Filtered) → IsTextFilter text f → IsNew f → IsCounter (Some text) (Some f)
+counter_is text f is new = record { read = ap (judged true) is.read; is = ap Some (is.is ∙ sym (ap filter_if is.read)); new = new }
+
+-- a text of one filter alone
+pub read_alone : (read : TextRead) (counting : Bool) (piece : ℕ) → judged false read ≡ Err (counting, piece) → read ≡ Err piece
+read_alone (Ok ds) counting piece e = absurd (cc e)
+read_alone (Err number) counting piece e = ap Err (let pairs : (false, number) ≡ (counting, piece) = cc e in ap (λ (p : Bool × ℕ). p.1) pairs)

@@ -1,12 +1,12 @@
--- What a filter's text is read as, and which filter is in force.
-use Rattle.std.specs.Prelude.{◌≡◌, ℕ, ◌+◌, List, [], ◌∷◌, if◌then◌else◌, Bool, false, Result, Ok, Err, is_ok}
+-- What the texts of filters are read as.
+use Rattle.std.specs.Prelude.{◌≡◌, ℕ, ◌+◌, List, [], ◌∷◌, if◌then◌else◌, Bool, true, false, Option, None, Some, Result, Ok, Err, IfSome, option_map}
 use Rattle.std.specs.Str.{trim}
 use Rattle.env_directives.specs.Reading.{Read, reading}
 use Rattle.env_directives.specs.Separators.{comma_pieces}
 use Rattle.env_directives.specs.Table.{empty_table}
 use Rattle.env_directives.specs.declared.env.directive.Directive.{Directive}
 use Rattle.env_directives.specs.declared.directive.ParseError.{ParseError}
-use Rattle.env_filter.specs.Filtering.{Filtered}
+use Rattle.env_filter.specs.Filtering.{Filtered, IsNew}
 use Rattle.env_filter.specs.Pieces.{is_memory}
 use Rattle.span_pipeline.specs.declared.pipeline.OpenError.{OpenError}
 use Rattle.span_pipeline.specs.declared.pipeline.OpenError.TheVariants as errors
@@ -48,21 +48,45 @@ filter_if (Err number) = with_tables false empty_table empty_table
 abbrev pub text_filter : List ℕ → Filtered
 text_filter text = filter_if (text_read text)
 
--- whether all pieces of a text are directives
-abbrev pub is_text_read : List ℕ → Bool
-is_text_read text = is_ok (text_read text)
+-- nothing where the pieces of an opening's texts are directives, else whether it is the text for counting that has a piece
+-- which is none, and the number of that piece
+abbrev pub OpeningRead : Type 0
+OpeningRead = Result (Unit {0}) (Bool × ℕ)
+
+abbrev pub judged : Bool → TextRead → OpeningRead
+judged counting (Ok ds) = Ok tt
+judged counting (Err piece) = Err (counting, piece)
+
+-- the text for counting, where there is one
+abbrev pub counting_read : Option (List ℕ) → OpeningRead
+counting_read None = Ok tt
+counting_read (Some text) = judged true (text_read text)
+
+-- the filter's text is read before the text for counting
+abbrev pub first_fault : OpeningRead → OpeningRead → OpeningRead
+first_fault (Ok none) later = later
+first_fault (Err fault) later = Err fault
+
+abbrev pub opening_read : List ℕ → Option (List ℕ) → OpeningRead
+opening_read filter counting = first_fault (judged false (text_read filter)) (counting_read counting)
 
 -- why a pipeline isn't opened
-abbrev pub IsUnread : List ℕ → OpenError → Type 0
-IsUnread text errors.Memory = Unit {0}
-IsUnread text (errors.Directive piece) = text_read text ≡ Err piece
+abbrev pub IsUnread : OpeningRead → OpenError → Type 0
+IsUnread read errors.Memory = Unit {0}
+IsUnread read (errors.Directive counting piece) = read ≡ Err (counting, piece)
 
 -- want of memory, or the number of a piece with a fault
-abbrev pub unread_by : ℕ → ParseError → OpenError
-unread_by piece fault = if is_memory fault then errors.Memory else errors.Directive piece
+abbrev pub unread_by : Bool → ℕ → ParseError → OpenError
+unread_by counting piece fault = if is_memory fault then errors.Memory else errors.Directive counting piece
 
 -- a filter is that of a text, whose pieces are all directives
 pub record IsTextFilter (text : List ℕ) (f : Filtered) : Type 0 where
   pub directives : List Directive
   pub read : text_read text ≡ Ok directives
   pub is : f ≡ filter_of directives
+
+-- what events are counted by is a new filter of the text for that, whose pieces are all directives
+pub record IsCounter (text : Option (List ℕ)) (f : Option Filtered) : Type 0 where
+  pub read : counting_read text ≡ Ok tt
+  pub is : f ≡ option_map text_filter text
+  pub new : IfSome f IsNew

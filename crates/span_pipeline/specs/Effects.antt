@@ -1,6 +1,9 @@
 -- What each request changes, or the first refusal that applies.
 use Rattle.std.specs.Prelude.{ℕ, List, [], ◌∷◌, length, filter, fold, map, unwrap_or, count_by, Bool, true, not, false, if◌then◌else◌, ◌==◌, ◌||◌, ◌&&◌, nat_lt, is_some, Option, Some, None, Result, Ok, Err, slice_get, slice_set, option_map, option_and_then}
 use Rattle.std.specs.List.{list_any, range_with_len}
+use Rattle.env_directives.specs.Choice.{admits}
+use Rattle.otel_base.specs.declared.stack.TheConstants.{MOST}
+use Rattle.otel_metrics.specs.Measures.{measures}
 use Rattle.trace_base.specs.Spans.{is_in, current_of}
 use Rattle.std.specs.Option.{option_to_list}
 use Rattle.trace_base.specs.Hooks.{Hook, OnNewSpan, OnRecord, OnEnter, OnExit, OnClose}
@@ -94,7 +97,7 @@ filter_at setup t = fold hears (text_filter (in_force setup t)) t.heard
 abbrev pub admitted : Setup → Tables → ℕ → Callsite → Bool
 admitted setup t lane callsite = is_admitted (filter_at setup t) lane callsite
 
--- a lane of an id, of which a filter hears no more
+-- the lane of an id: a filter hears nothing else of a lane
 abbrev pub bare_lane : ℕ → Lane
 bare_lane id = record { id = id; name = None; default = None; contexts = record { live = []; room = 0 } }
 
@@ -145,6 +148,7 @@ made_at setup t at lane callsite values p =
     made_told callsite (lane_in setup lane) values
     (context_from r.spans (context_around (t.contexts (id_at setup.ids lane)) p) source) at r.settings r.counting
 
+-- a span of a callsite under a scope; a filter hears of no current span
 abbrev pub makes_span : Setup → Tables → ℕ → ℕ → ℕ → Callsite → ValueSet → Place → Scope → Effect
 makes_span setup t at lane site callsite values under up =
     let scope : Scope = length t.made ∷ up in
@@ -195,6 +199,11 @@ abbrev pub on : Scope → Op → List Done
 on [] op = []
 on (s ∷ up) op = record { span = s; op = op } ∷ []
 
+-- the same of some ops
+abbrev pub all_on : Scope → List Op → List Done
+all_on [] given = []
+all_on (s ∷ up) given = map (λ op. record { span = s; op = op }) given
+
 -- with activation an entry starts its span and attaches the span's own context
 abbrev pub active : Bool → Scope → Option ℕ
 active activation scope = if activation then own scope else None
@@ -216,7 +225,7 @@ enters setup t at lane handle owns scope = record (quiet at (id_at setup.ids lan
 
 -- a lane is full that has as many contexts as may be
 abbrev pub is_full : List Attached → Bool
-is_full items = length items == 65534
+is_full items = length items == MOST
 
 -- an entry that attaches a context meets a full lane
 abbrev pub meets_full : Bool → Scope → List Attached → Bool
@@ -253,19 +262,27 @@ exits_on mine lane effect = if mine == lane then Ok effect else Err (refusal.Wro
 
 -- ---- events
 
--- an event that isn't let through leaves nothing
-abbrev pub if_told : Bool → List Done → List Done
-if_told enabled done = if enabled then done else []
+-- what isn't let through leaves nothing
+abbrev pub if_told : {A : Type 0} → Bool → List A → List A
+if_told enabled told = if enabled then told else []
+
+-- the ops of an event on its span: where events are counted it is counted, and told after that if the static directives of
+-- the text for counting let it through
+abbrev pub counted : Option (List ℕ) → Callsite → Op → List Op
+counted None callsite event = event ∷ []
+counted (Some text) callsite event = ops.Counted ∷ if_told (admits (text_filter text).statics.directives callsite) (event ∷ [])
 
 -- ops on spans and nothing else
 abbrev pub tells : ℕ → ℕ → Reply → List Done → Effect
 tells at lane answer done = record (quiet at lane answer) { ops = done }
 
--- an event goes to the own span of the scope that its place names
+-- an event goes to the own span of the scope that its place names, and is measured, with a span or without
 abbrev pub events : Setup → Tables → ℕ → ℕ → Callsite → ValueSet → Scope → Effect
 events setup t at lane callsite values reached =
     let enabled = admitted setup t lane callsite in
-    tells at lane (reply.Enabled enabled) (if_told enabled (on reached (event_of callsite values setup.layer at)))
+    record (tells at lane (reply.Enabled enabled) (if_told enabled (all_on reached (counted setup.counting callsite (event_of callsite values setup.layer at))))) {
+      measures = if_told enabled (measures callsite values);
+    }
 
 -- ---- fields
 
@@ -340,14 +357,15 @@ follows t at lane (s ∷ up) (f ∷ above) = record (quiet at lane reply.Done) {
   ops = on (s ∷ up) (link_of (ids_of (own_context t.recording at (f ∷ above))) []);
 }
 
--- whether a parent is set: of a span that has started it isn't
-abbrev pub set_unless_started : Bool → Result (Unit {0}) SetParentError
-set_unless_started true = Ok tt
-set_unless_started false = Err unset.AlreadyStarted
+-- what setting a parent is answered, by whether it can still be set
+abbrev pub set_while : Bool → Result (Unit {0}) SetParentError
+set_while true = Ok tt
+set_while false = Err unset.AlreadyStarted
 
+-- it can be until the span starts
 abbrev pub is_set : Recording → Scope → Result (Unit {0}) SetParentError
 is_set r [] = Err unset.SpanDisabled
-is_set r (s ∷ up) = set_unless_started (is_some (waits (told_at s r.spans)))
+is_set r (s ∷ up) = set_while (is_some (waits (told_at s r.spans)))
 
 -- a link to what a context shows, none where that is invalid
 abbrev pub links : Scope → SpanContext → List KeyValue → List Done

@@ -1,5 +1,5 @@
 -- What a pipeline keeps, and when it fits the tables of a history.
-use Rattle.std.specs.Prelude.{◌≡◌, ℕ, zero, suc, ◌+◌, ◌<◌, ◌≤◌, ◌==◌, ◌≢◌, Bool, true, false, List, [], ◌∷◌, ◌++◌, length, drop, map, filter, if◌then◌else◌, count_by, Option, Some, None, option_map, Ok, Err, slice_index_or}
+use Rattle.std.specs.Prelude.{◌≡◌, ℕ, zero, suc, ◌+◌, ◌<◌, ◌≤◌, ◌==◌, ◌≢◌, Bool, true, false, List, [], ◌∷◌, ◌++◌, length, drop, map, filter, if◌then◌else◌, count_by, Option, Some, None, option_map, IfSome, Ok, Err, slice_index_or}
 use Rattle.otel_base.specs.declared.context.Context.{Context}
 use Rattle.trace_base.specs.declared.lane.Lane.{Lane}
 use Rattle.trace_base.specs.declared.callsite.Callsite.{Callsite}
@@ -16,18 +16,21 @@ use Rattle.otel_layer.specs.Recording.{Recording, no_recording}
 use Rattle.env_directives.specs.Table.{Table}
 use Rattle.env_directives.specs.declared.directive.StaticDirective.{StaticDirective}
 use Rattle.env_directives.specs.declared.env.directive.Directive.{Directive}
-use Rattle.env_filter.specs.Filtering.{Filtered, interest_in}
+use Rattle.env_filter.specs.Filtering.{Filtered, IsNew, interest_in}
 use Rattle.env_filter.specs.Levels.{Opened}
 use Rattle.env_filter.specs.Watching.{Watched}
 use Rattle.span_handles.specs.Worlds.{Has, seen, spans_in, kept_in}
 use Rattle.span_handles.specs.Handles.{Handle, Held}
-use Rattle.span_stack.specs.Reading.{Stacks, recorded, in_place}
+use Rattle.otel_metrics.specs.declared.measure.Measure.{Measure}
+use Rattle.span_stack.specs.Reading.{Stacks, recorded, in_place, counts_by, measured}
 use Rattle.span_pipeline.specs.declared.slots.Guard.{Guard}
 use Rattle.span_pipeline.specs.declared.contexts.Attach.{Attach}
 use Rattle.span_pipeline.specs.declared.contexts.Contexts.{Contexts}
 use Rattle.span_pipeline.specs.declared.reply.Reply.{Reply}
 use Rattle.span_pipeline.specs.declared.reply.Refusal.{Refusal}
 use Rattle.span_pipeline.specs.declared.reply.Refusal.TheVariants as refusal
+use Rattle.span_pipeline.specs.declared.settings.Texts.{Texts}
+use Rattle.span_pipeline.specs.Admission.{text_filter}
 use Rattle.span_pipeline.specs.Setups.{Setup}
 use Rattle.span_pipeline.specs.Balance.{Balanced, named_by, opened_by}
 use Rattle.span_pipeline.specs.Tables.{Scope, Made, Owner, EntryOf, GuardOf, Attached, is_by, Guarded, Effect, Tables, History, tables, after, open_part, records_of, slot_at, own, site_of, made_of}
@@ -55,14 +58,16 @@ pub record Named : Type 0 where
 abbrev pub named_in : Contexts → Named
 named_in contexts = record { made = contexts.made.items; attaches = contexts.attaches.items }
 
--- how what was recorded, and the filter that is in place, are read of a subscriber
+-- how what was recorded, the filter that is in place, the filter that counts and the measures that wait are read of a subscriber
 pub record Views (S : Type 0) : Type 0 where
   pub recorded : S → Recording
   pub filtered : S → Option Filtered
+  pub counter : S → Option Filtered
+  pub measured : S → List Measure
 
 -- those of the stack that pipelines run on
 abbrev pub stack_views : Views Stacks
-stack_views = record { recorded = recorded; filtered = in_place }
+stack_views = record { recorded = recorded; filtered = in_place; counter = counts_by; measured = measured }
 
 -- What is seen of a filter at the spans of the first ids, from the last one on, and at the lanes of some ids.
 pub record ShownFilter : Type 0 where
@@ -78,7 +83,7 @@ first_of f (suc n) = f n ∷ first_of f n
 abbrev pub shown_of : ℕ → List ℕ → Filtered → ShownFilter
 shown_of many ids f = record { statics = f.statics; dynamics = f.dynamics; spans = first_of f.spans many; lanes = map f.lanes ids }
 
--- what is kept, without spare room; and the interests that are cached
+-- what is kept, without spare room; the interests that are cached; and the measures that weren't taken
 pub record State : Type 0 where
   pub setup : Setup
   pub spans : Spans
@@ -86,6 +91,8 @@ pub record State : Type 0 where
   pub recording : Recording
   pub filter : Option ShownFilter
   pub cached : List (List Interest)
+  pub counter : Option ShownFilter
+  pub measures : List Measure
   pub dispatch : ℕ
   pub handles : List (Option Held)
   pub handle_sites : List (Option (Option ℕ))
@@ -101,10 +108,10 @@ held_by slot = option_map (λ h. h.held) slot
 abbrev pub site_by : Option Handle → Option (Option ℕ)
 site_by slot = option_map (λ h. h.site) slot
 
-abbrev pub setup_of : List Callsite → List Lane → List ℕ → LayerSettings → Setup
-setup_of sites lanes opening layer = record { sites = sites; ids = map (λ l. l.id) lanes; names = map (λ l. l.name) lanes; filter = opening; layer = layer }
+abbrev pub setup_of : List Callsite → List Lane → Texts → LayerSettings → Setup
+setup_of sites lanes opening layer = record { sites = sites; ids = map (λ l. l.id) lanes; names = map (λ l. l.name) lanes; filter = opening.filter; counting = opening.counting; layer = layer }
 
-abbrev pub state_of : {S : Type 0} → (S → Spans) → Views S → Worlds S → ℕ → List ℕ → List Lane → List (Option Handle) → List (Option Guard) → Named → ℕ → State
+abbrev pub state_of : {S : Type 0} → (S → Spans) → Views S → Worlds S → ℕ → Texts → List Lane → List (Option Handle) → List (Option Guard) → Named → ℕ → State
 state_of spans views world dispatch opening lanes handles guards contexts moment = record {
   setup = setup_of world.sites lanes opening (seen views.recorded no_recording world dispatch).settings;
   spans = spans_in spans world dispatch;
@@ -112,6 +119,8 @@ state_of spans views world dispatch opening lanes handles guards contexts moment
   recording = seen views.recorded no_recording world dispatch;
   filter = option_map (shown_of (length (spans_in spans world dispatch).made) (map (λ l. l.id) lanes)) (seen views.filtered None world dispatch);
   cached = world.cached;
+  counter = option_map (shown_of 0 (map (λ l. l.id) lanes)) (seen views.counter None world dispatch);
+  measures = seen views.measured [] world dispatch;
   dispatch = dispatch;
   handles = map held_by handles;
   handle_sites = map site_by handles;
@@ -200,10 +209,17 @@ pub record RecordingFits (k : State) (t : Tables) : Type 0 where
   pub known : (s : ℕ) → 0 < (span_at k.spans.made s).holds → told_at s k.recording.spans ≢ None
   pub attached : AllContextsFit k.setup.layer.activation k.lanes k.recording.tokens k.contexts.attaches t.contexts
 
--- The filter is the one in force, and for each callsite its interest is cached.
+-- what is seen of the filter that counts: that of the text for counting, where there is one
+abbrev pub counter_by : Setup → Option ShownFilter
+counter_by setup = option_map (shown_of 0 setup.ids) (option_map text_filter setup.counting)
+
+-- The filter is the one in force, for each callsite its interest is cached, and events are counted by the filter of the text
+-- for that, which hears nothing.
 pub record FilteringFits (k : State) (t : Tables) : Type 0 where
   pub in_place : k.filter ≡ Some (shown_of (length t.made) k.setup.ids (filter_at k.setup t))
   pub fresh : k.cached ≡ map (λ c. interest_in (filter_at k.setup t) c ∷ []) k.setup.sites
+  pub counter : k.counter ≡ counter_by k.setup
+  pub new : IfSome (option_map text_filter k.setup.counting) IsNew
 
 -- What is kept fits the tables of a history.
 pub record Fits (k : State) (t : Tables) : Type 0 where
@@ -237,6 +253,10 @@ pub record StandsFor (k : State) (t : Tables) : Type 0 where
 abbrev pub without_first : State → State
 without_first k = record k { recording = record k.recording { finished = drop 1 k.recording.finished } }
 
+-- and but for the oldest measure
+abbrev pub without_first_measure : State → State
+without_first_measure k = record k { measures = drop 1 k.measures }
+
 -- What every pipeline keeps: it stands for some history.
 pub record IsKept {S : Type 0} (kept : S → ℕ → ℕ → ℕ) (is_whole : S → Type 0) (world : Worlds S) (k : State) : Type 0 where
   pub there : k.dispatch < length world.subscribers
@@ -249,13 +269,14 @@ pub record IsKept {S : Type 0} (kept : S → ℕ → ℕ → ℕ) (is_whole : S 
   pub filtering : FilteringFits k tables
 
 -- A reply is served where the request has an effect: the reply is the effect's, the records
--- are those of the spans that close, and what is kept stands for one effect more.
+-- are those of the spans that close, the measures are the effect's, and what is kept stands for one effect more.
 pub record Served (resolved : Resolved) (t : Tables) (old new : State) (reply : Reply) : Type 0 where
   pub effect : Effect
   pub is : resolved ≡ Ok effect
   pub reply_is : reply ≡ effect.reply
   pub setup : new.setup ≡ old.setup
   pub records : new.recording.finished ≡ old.recording.finished ++ records_of t effect
+  pub measures : new.measures ≡ old.measures ++ effect.measures
   pub stands : StandsFor new (after t effect)
 
 -- a refusal for want of memory
@@ -278,5 +299,6 @@ pub record Recorded (resolved : Resolved) (h : History) (old new : State) (reply
   pub is : resolved ≡ Ok effect
   pub reply_is : reply ≡ effect.reply
   pub setup : new.setup ≡ old.setup
-  pub records : new.recording.finished ≡ old.recording.finished ++ records_of (tables old.setup.layer h) effect
-  pub stands : StandsFor new (tables old.setup.layer (h ++ effect ∷ []))
+  pub records : new.recording.finished ≡ old.recording.finished ++ records_of (tables old.setup h) effect
+  pub measures : new.measures ≡ old.measures ++ effect.measures
+  pub stands : StandsFor new (tables old.setup (h ++ effect ∷ []))

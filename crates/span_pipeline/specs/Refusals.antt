@@ -1,4 +1,4 @@
--- What an entry on a lane is refused by, and which calls want no memory.
+-- What an entry on a lane and a reload are refused by, and which calls want no memory.
 use Rattle.std.specs.Prelude.{ℕ, Bool, true, false}
 use Rattle.otel_base.specs.declared.enter_error.EnterError.{EnterError}
 use Rattle.otel_base.specs.declared.enter_error.EnterError.TheVariants as errors
@@ -9,17 +9,18 @@ use Rattle.span_pipeline.specs.declared.reply.Refusal.TheVariants as refusals
 use Rattle.span_pipeline.specs.declared.request.Call.{Call}
 use Rattle.span_pipeline.specs.declared.request.Call.TheVariants as call
 
+-- what an entry is refused by, on the lane at a place
 abbrev pub refused_entry : ℕ → EnterError → Refusal
 refused_entry lane errors.Full = refusals.Full lane
 refused_entry lane errors.Memory = refusals.Memory
 
--- what was opened or made is given back without memory, and so are a parent and a status written
 -- what a reload is refused by
 abbrev pub refused_text : OpenError → Refusal
-refused_text (opening.Directive piece) = refusals.Directive piece
+refused_text (opening.Directive counting piece) = refusals.Directive piece
 refused_text opening.Memory = refusals.Memory
 
--- what was opened or made is given back without memory
+-- What was opened or made is given back without memory; a parent and a status are set, and the gate and a callsite's fields
+-- are asked, without memory too.
 abbrev pub takes_no_memory : Call → Bool
 takes_no_memory (call.New site under fields) = false
 takes_no_memory (call.Clone handle) = false

@@ -6,12 +6,14 @@ use Rattle.trace_base.specs.declared.callsite.Kind.TheVariants as kind
 use Rattle.otel_state.specs.declared.settings.LayerSettings.{LayerSettings}
 use Rattle.span_pipeline.specs.declared.settings.Settings.{Settings}
 
--- the callsites, the ids and the names of the lanes, the text of the filter at first, and what the layer tells
+-- the callsites, the ids and the names of the lanes, the text of the filter at first, the text of the filter that decides
+-- which events are told beside being counted, none where events aren't counted, and what the layer tells
 pub record Setup : Type 0 where
   pub sites : List Callsite
   pub ids : List ℕ
   pub names : List (Option (List ℕ))
   pub filter : List ℕ
+  pub counting : Option (List ℕ)
   pub layer : LayerSettings
 
 -- the id of the lane at a place
@@ -37,9 +39,10 @@ if_event callsite kind.Span = None
 abbrev pub event_site : List Callsite → ℕ → Option Callsite
 event_site callsites site = option_and_then (λ callsite. if_event callsite callsite.kind) (slice_get callsites site)
 
--- the same of the settings; and lanes have ids of their own
+-- what settings fix
 abbrev pub setup_by : Settings → Setup
-setup_by settings = record { sites = settings.callsites; ids = map (λ l. l.0) settings.lanes; names = map (λ l. l.1) settings.lanes; filter = settings.filter; layer = settings.layer }
+setup_by settings = record { sites = settings.callsites; ids = map (λ l. l.0) settings.lanes; names = map (λ l. l.1) settings.lanes; filter = settings.filter; counting = settings.counting; layer = settings.layer }
 
+-- lanes have ids of their own
 abbrev pub HasOwnIds : List ℕ → Type 0
 HasOwnIds ids = (n m : ℕ) → n < length ids → m < length ids → id_at ids n ≡ id_at ids m → n ≡ m

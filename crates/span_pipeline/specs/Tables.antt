@@ -1,15 +1,16 @@
 -- A history: for each request what it changed; and its tables. Spans are named by their numbers in the order of making.
-use Rattle.std.specs.Prelude.{ℕ, List, [], ◌∷◌, ◌++◌, fold, length, Bool, false, if◌then◌else◌, ◌==◌, Option, Some, None, option_map, slice_index_or, slice_set}
+use Rattle.std.specs.Prelude.{ℕ, List, [], ◌∷◌, ◌++◌, fold, length, Bool, false, if◌then◌else◌, ◌==◌, Option, Some, None, option_map, is_some, slice_index_or, slice_set}
 use Rattle.otel_base.specs.declared.context.Context.{Context}
 use Rattle.otel_base.specs.declared.record.Record.{Record}
 use Rattle.otel_state.specs.declared.op.Op.{Op}
-use Rattle.otel_state.specs.declared.settings.LayerSettings.{LayerSettings}
+use Rattle.otel_metrics.specs.declared.measure.Measure.{Measure}
 use Rattle.otel_state.specs.States.{Told, begun}
 use Rattle.otel_layer.specs.Table.{with_span}
 use Rattle.otel_layer.specs.Recording.{Recording, no_recording, with_start, with_applied, with_close}
 use Rattle.trace_base.specs.Spans.{without_last}
 use Rattle.trace_base.specs.Hooks.{Hook}
 use Rattle.span_pipeline.specs.declared.reply.Reply.{Reply}
+use Rattle.span_pipeline.specs.Setups.{Setup}
 
 -- The scope of a span: the span, its parent, and so on up. A disabled handle has the empty scope.
 abbrev pub Scope : Type 0
@@ -79,6 +80,8 @@ pub record Effect : Type 0 where
   -- the spans that it starts unless they have started, and what else it does to spans, in order
   pub starts : List ℕ
   pub ops : List Done
+  -- what it measured
+  pub measures : List Measure
   -- the spans that it closed, each before its parent
   pub closes : List ℕ
   -- the entry that it added to its lane, and the span whose last entry it took off
@@ -107,6 +110,7 @@ quiet at lane answer = record {
   made = None;
   starts = [];
   ops = [];
+  measures = [];
   closes = [];
   entry = None;
   exit = None;
@@ -140,12 +144,12 @@ pub record Tables : Type 0 where
   pub heard : List Hook
   pub moment : ℕ
 
--- nothing recorded by a layer with these settings
-abbrev pub nothing_recorded : LayerSettings → Recording
-nothing_recorded settings = record no_recording { settings = settings }
+-- nothing recorded by the layer of a setup
+abbrev pub nothing_recorded : Setup → Recording
+nothing_recorded setup = record no_recording { settings = setup.layer; counting = is_some setup.counting }
 
-abbrev pub no_tables : LayerSettings → Tables
-no_tables settings = record {
+abbrev pub no_tables : Setup → Tables
+no_tables setup = record {
   handles = [];
   guards = [];
   attaches = [];
@@ -154,7 +158,7 @@ no_tables settings = record {
   closed = [];
   entries = λ lane. [];
   contexts = λ lane. [];
-  recording = nothing_recorded settings;
+  recording = nothing_recorded setup;
   filter = None;
   heard = [];
   moment = 0;
@@ -253,8 +257,8 @@ after t e = record {
   moment = e.at;
 }
 
-abbrev pub tables : LayerSettings → History → Tables
-tables settings h = fold after (no_tables settings) h
+abbrev pub tables : Setup → History → Tables
+tables setup h = fold after (no_tables setup) h
 
 -- a scope's own span, if it has one
 abbrev pub own : Scope → Option ℕ

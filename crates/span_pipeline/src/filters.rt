@@ -1,33 +1,45 @@
 //! Filters of texts.
-ghost use Rattle.std.specs.Prelude.{◌≡◌, IfOk, IfErr};
+ghost use Rattle.std.specs.Prelude.{◌≡◌, IfOk, IfErr, option_map};
 ghost use Rattle.env_filter.specs.Filtering.{plain, IsNew};
-ghost use Rattle.span_pipeline.specs.Admission.{IsTextFilter, IsUnread, unread_by};
+ghost use Rattle.span_pipeline.specs.Admission.{text_read, judged, counting_read, IsTextFilter, IsCounter, IsUnread, unread_by};
 
 use crate::pipeline::OpenError;
 use env_directives::directive::ParseError;
 use env_filter::builder::Builder;
 use env_filter::filter::EnvFilter;
+use otel_base::text::Text;
 use std::alloc::Global;
 
-/// The filter of a text without patterns: `Directive` for the first piece that is none.
-pub fn read_filter(alloc: Global, text: &str) -> Result<EnvFilter, OpenError>
+/// The filter of a text without patterns, which is one for counting or not: `Directive` for the first piece that is none.
+pub fn read_filter(alloc: Global, counting: bool, text: &str) -> Result<EnvFilter, OpenError>
     ensures filter { IfOk result (λ f. IsTextFilter text.now (plain f)) }
     ensures new { IfOk result (λ f. IsNew (plain f)) }
-    ensures refused { IfErr result (IsUnread text.now) }
+    ensures refused { IfErr result (IsUnread (judged counting (text_read text.now))) }
 {
     let builder = Builder::default(alloc).with_regex(false);
     match builder.parse_pieces(text) {
         Ok(filter) => Ok(filter),
-        Err((piece, fault)) => Err(unread(piece, fault)),
+        Err((piece, fault)) => Err(unread(counting, piece, fault)),
+    }
+}
+
+/// The filter by which events are counted, if there is a text for that.
+pub fn read_counting(alloc: Global, text: &Option<Text>) -> Result<Option<EnvFilter>, OpenError>
+    ensures filter { IfOk result (λ f. IsCounter text.now (option_map plain f)) }
+    ensures refused { IfErr result (IsUnread (counting_read text.now)) }
+{
+    match text {
+        Some(text) => Ok(Some(read_filter(alloc, true, text.as_str())?)),
+        None => Ok(None),
     }
 }
 
 // Why a text isn't read, at a piece that has a fault.
-fn unread(piece: u64, fault: ParseError) -> OpenError
-    ensures { result ≡ unread_by piece fault }
+fn unread(counting: bool, piece: u64, fault: ParseError) -> OpenError
+    ensures { result ≡ unread_by counting piece fault }
 {
     match fault {
         ParseError::Memory => OpenError::Memory,
-        _ => OpenError::Directive { piece },
+        _ => OpenError::Directive { counting, piece },
     }
 }

@@ -1,4 +1,4 @@
-//! Scripts of span calls on the stack of a registry, the OpenTelemetry layer and a filter.
+//! Scripts of span calls on the stack of a registry, the OpenTelemetry layer, the layer of metrics and a filter.
 //!
 //! All turns on `Pipeline::step`, which appends a request to the history that the pipeline stands for. It serves `new`
 //! and `event` in every place and with fields, `record`, `has_field`, `current`, `or_current`, `clone`, `drop`, `enter`,

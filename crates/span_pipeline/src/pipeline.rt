@@ -1,18 +1,18 @@
-//! A pipeline runs the requests of a script over a stack of a registry, the OpenTelemetry layer and a filter.
-ghost use Rattle.std.specs.Prelude.{◌≡◌, ◌<◌, ℕ, [], true, map, length, IfOk, OnOk, IfErr, OnErr, Err};
-ghost use Rattle.span_pipeline.specs.Admission.{IsUnread, is_text_read};
+//! A pipeline runs the requests of a script over a stack of a registry, the OpenTelemetry layer, the layer of metrics and a
+//! filter.
+ghost use Rattle.std.specs.Prelude.{◌≡◌, ◌<◌, ℕ, [], true, map, length, IfOk, OnOk, IfErr, OnErr, Ok, Err};
+ghost use Rattle.span_pipeline.specs.Admission.{opening_read, IsUnread};
 ghost use Rattle.span_pipeline.specs.Setups.{HasOwnIds, setup_by};
 ghost use Rattle.span_pipeline.specs.Effects.{is_bad_moment};
 
 use crate::contexts::Contexts;
-use crate::filters::read_filter;
+use crate::filters::{read_counting, read_filter};
 use crate::guards::Guards;
 use crate::opening::{self, add_sites};
 use crate::reply::{Refusal, Reply, What};
 use crate::request::{Call, LAST_MOMENT, Request};
-use crate::settings::Settings;
+use crate::settings::{Settings, Texts};
 use otel_base::record::Moment;
-use otel_base::text::Text;
 use span_handles::laws::same;
 use span_handles::span::Span;
 use span_stack::{Stack, laws, new_stack};
@@ -27,19 +27,20 @@ use trace_base::world::World;
 /// Why a pipeline can't be opened.
 #[derive(Clone, Copy, Debug, PartialEq, Eq)]
 pub enum OpenError {
-    /// A piece of the filter's text is no directive, which is told by its number, from 1; empty pieces count.
-    Directive { piece: u64 },
+    /// A piece of the filter's text, or of the text for counting, is no directive, which is told by its number, from 1;
+    /// empty pieces count.
+    Directive { counting: bool, piece: u64 },
     /// Out of memory.
     Memory,
 }
 
-/// Runs the requests of a script, one after another: a `tracing_subscriber::Registry` with a filter and a
-/// `tracing_opentelemetry::OpenTelemetryLayer` over an exporter that keeps what it gets. It has to be spent, by
-/// `discard`.
+/// Runs the requests of a script, one after another: a `tracing_subscriber::Registry` with a filter, a
+/// `tracing_opentelemetry::MetricsLayer` whose measures are kept, and a `tracing_opentelemetry::OpenTelemetryLayer` over an
+/// exporter that keeps what it gets. It has to be spent, by `discard`.
 pub struct Pipeline {
     pub(crate) world: World<Stack>,
     pub(crate) dispatch: Dispatch,
-    pub(crate) opening: Text,
+    pub(crate) opening: Texts,
     pub(crate) lanes: Vec<Lane>,
     pub(crate) handles: Vec<Option<Span>>,
     pub(crate) guards: Guards,
@@ -97,25 +98,28 @@ impl Pipeline {
     ghost use Rattle.span_pipeline.specs.Refusals.{takes_no_memory};
     ghost use Rattle.span_pipeline.specs.declared.reply.Refusal.TheVariants.{Memory as NoMemory};
 
-    /// A pipeline for the settings, before any request. `Directive` where a piece of the filter's text is none; it may
-    /// answer `Memory`.
+    /// A pipeline for the settings, before any request. `Directive` where a piece of the filter's text is none, or else one
+    /// of the text for counting; it may answer `Memory`.
     pub fn open(alloc: Global, settings: Settings) -> Result<Pipeline, OpenError>
         requires { HasOwnIds (map (λ l. l.0) settings.lanes) }
         ensures setup { IfOk result (λ pipeline. pipeline.setup ≡ setup_by settings) }
-        ensures stands { IfOk result (λ pipeline. StandsFor pipeline (tables settings.layer [])) }
+        ensures stands { IfOk result (λ pipeline. StandsFor pipeline (tables (setup_by settings) [])) }
         ensures records { IfOk result (λ pipeline. pipeline.recording.finished ≡ []) }
-        ensures read { OnOk result (is_text_read settings.filter ≡ true) }
-        ensures refused { IfErr result (IsUnread settings.filter) }
+        ensures measures { IfOk result (λ pipeline. pipeline.measures ≡ []) }
+        ensures read { OnOk result (opening_read settings.filter settings.counting ≡ Ok tt) }
+        ensures refused { IfErr result (IsUnread (opening_read settings.filter settings.counting)) }
     {
         same::<Stack>();
         laws::same();
         let Settings {
             filter,
+            counting,
             lanes,
             callsites,
             layer,
         } = settings;
-        let gate = read_filter(alloc, filter.as_str())?;
+        let gate = read_filter(alloc, false, filter.as_str())?;
+        let counter = read_counting(alloc, &counting)?;
         let Ok(lanes) = opening::lanes(alloc, lanes) else {
             return Err(OpenError::Memory);
         };
@@ -124,11 +128,11 @@ impl Pipeline {
             world.discard();
             return Err(OpenError::Memory);
         }
-        match world.add(new_stack(alloc, layer, gate)) {
+        match world.add(new_stack(alloc, layer, gate, counter)) {
             Ok(dispatch) => Ok(Pipeline {
                 world,
                 dispatch,
-                opening: filter,
+                opening: Texts { filter, counting },
                 lanes,
                 handles: Vec::new(alloc),
                 guards: Guards::new(alloc),
@@ -150,10 +154,10 @@ impl Pipeline {
     /// attaches a context to a lane with 65,534 of them, `Directive` where it reloads a text of which a piece is none. It may
     /// answer `Memory`, but not to a drop, an exit, a detach, a `has_field`, an `enabled`, a `set_parent` or a `set_status`.
     pub fn step(&mut self, request: Request) -> Result<Reply, Refusal>
-        ensures ok { (h : History) → StandsFor self.old (tables self.old.setup.layer h)
-            → IfOk result (Recorded (effect_of self.old.setup (tables self.old.setup.layer h) request) h self.old self.new) }
-        ensures refused { (h : History) → StandsFor self.old (tables self.old.setup.layer h)
-            → IfErr result (IsRefusal (effect_of self.old.setup (tables self.old.setup.layer h) request)) }
+        ensures ok { (h : History) → StandsFor self.old (tables self.old.setup h)
+            → IfOk result (Recorded (effect_of self.old.setup (tables self.old.setup h) request) h self.old self.new) }
+        ensures refused { (h : History) → StandsFor self.old (tables self.old.setup h)
+            → IfErr result (IsRefusal (effect_of self.old.setup (tables self.old.setup h) request)) }
         ensures err { OnErr result (self.new ≡ self.old) }
         ensures room { takes_no_memory request.call ≡ true → ¬ (result ≡ Err NoMemory) }
     {

@@ -1,10 +1,11 @@
-//! What a pipeline gives besides its answers: records, and how many spans are open.
+//! What a pipeline gives besides its answers: records, measures, and how many spans are open.
 ghost use Rattle.std.specs.Prelude.{◌≡◌, ◌≤◌, [], ◌∷◌, drop, count_by, nat_lt, MatchOption};
 ghost use Rattle.std.specs.List.{range_with_len};
 ghost use Rattle.trace_base.specs.Spans.{span_at};
 
 use crate::pipeline::Pipeline;
 use otel_base::record::Record;
+use otel_metrics::measure::Measure;
 use span_registry::registry::Registry;
 use span_stack::{laws, stack};
 use trace_base::span::Id;
@@ -26,7 +27,7 @@ fn count_open(registry: &Registry, ids: u64) -> u64
 impl Pipeline {
     ghost use Rattle.span_pipeline.specs.Tables.{Tables};
     ghost use Rattle.span_pipeline.specs.Effects.{open_spans};
-    ghost use Rattle.span_pipeline.specs.Fits.{StandsFor, without_first};
+    ghost use Rattle.span_pipeline.specs.Fits.{StandsFor, without_first, without_first_measure};
 
     /// The oldest record that hasn't been taken, if there is one: what an `opentelemetry_sdk::trace::SpanExporter`
     /// would get next.
@@ -37,6 +38,17 @@ impl Pipeline {
     {
         laws::takes();
         stack::take_record(&mut self.world, self.dispatch)
+    }
+
+    /// The oldest measure that hasn't been taken, if there is one: what the instruments of a
+    /// `tracing_opentelemetry::MetricsLayer` would be told next.
+    pub fn take_measure(&mut self) -> Option<Measure>
+        ensures oldest { MatchOption result (self.old.measures ≡ [])
+            (λ measure. self.old.measures ≡ measure ∷ self.new.measures) }
+        ensures rest { self.new ≡ without_first_measure self.old }
+    {
+        laws::takes_measure();
+        stack::take_measure(&mut self.world, self.dispatch)
     }
 
     /// How many spans are open.

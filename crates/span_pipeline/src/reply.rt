@@ -81,7 +81,7 @@ impl Refusal {
         ensures { result ≡ refused_text error }
     {
         match error {
-            OpenError::Directive { piece } => Refusal::Directive { piece },
+            OpenError::Directive { counting: _, piece } => Refusal::Directive { piece },
             OpenError::Memory => Refusal::Memory,
         }
     }

@@ -1,6 +1,7 @@
 //! Contexts: making them, attaching them to a lane, and detaching them again.
 ghost use Rattle.std.specs.Prelude.{◌≡◌, ◌↔◌, ◌<◌, ◌++◌, ℕ, [], ◌∷◌, true, false, length, IfOk, IfErr, OnErr, Err};
 ghost use Rattle.otel_base.specs.Stack.{has, without};
+ghost use Rattle.otel_base.specs.declared.stack.TheConstants.{MOST as MOST_CONTEXTS};
 ghost use Rattle.otel_base.specs.declared.enter_error.EnterError.TheVariants.{Full};
 ghost use Rattle.trace_base.specs.Gate.{Worlds};
 ghost use Rattle.span_handles.specs.Worlds.{Has};
@@ -32,7 +33,7 @@ fn attach_to(lane: &mut Lane, context: Context) -> Result<Attached, EnterError>
     ensures name { lane.new.name ≡ lane.old.name }
     ensures live { IfOk result (λ number. lane.new.contexts.live ≡ lane.old.contexts.live ++ (number, context) ∷ []) }
     ensures number { IfOk result (λ number. has number lane.old.contexts.live ≡ false) }
-    ensures full { (result ≡ Err Full) ↔ (length lane.old.contexts.live ≡ 65534) }
+    ensures full { (result ≡ Err Full) ↔ (length lane.old.contexts.live ≡ MOST_CONTEXTS) }
     ensures leaves { OnErr result (lane.new.contexts.live ≡ lane.old.contexts.live) }
 {
     lane.contexts.attach(context)

@@ -88,6 +88,7 @@ impl Pipeline {
         laws::calls();
         same::<Stack>();
         laws::same();
+        laws::statics();
         let Some(found) = event_site(&self.world, place) else {
             return Err(Refusal::UnknownName { what: What::Site });
         };

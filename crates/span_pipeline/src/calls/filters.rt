@@ -39,7 +39,7 @@ impl Pipeline {
             → IfErr result (IsRefusal (effect_of_call self.old.setup t at lane (Call.Reload text))) }
         ensures err { OnErr result (self.new ≡ self.old) }
     {
-        let filter = match read_filter(self.world.allocator(), text.as_str()) {
+        let filter = match read_filter(self.world.allocator(), false, text.as_str()) {
             Ok(filter) => filter,
             Err(error) => return Err(Refusal::of_text(error)),
         };

@@ -1,8 +1,7 @@
 use Rattle.std.proofs.Common.{◌≡◌, ℕ, List, [], ◌∷◌, fold, Ok, Err, refl, sym, ap, ◌∙◌}
 use Rattle.trace_base.specs.Hooks.{Hook, OnNewSpan, OnRecord, OnFollows, OnEvent, OnEnter, OnExit, OnClose}
-use Rattle.env_directives.specs.Table.{Table}
 use Rattle.env_directives.specs.declared.env.directive.Directive.{Directive}
-use Rattle.env_filter.specs.Filtering.{Filtered, fresh, span_level}
+use Rattle.env_filter.specs.Filtering.{Filtered, fresh}
 use Rattle.env_filter.specs.Filtering.{after as hears}
 use Rattle.env_filter.specs.Histories.{level_told, levels_told}
 use Rattle.env_filter.proofs.Told.{level_is_told, levels_are_told}

@@ -1,9 +1,10 @@
-use Rattle.std.proofs.Common.{refl, ap}
+use Rattle.std.proofs.Common.{ap}
 use Rattle.std.specs.Prelude.{Bool}
+use Rattle.otel_metrics.specs.Measures.{measures}
 use Rattle.otel_state.specs.EventFields.{event_of}
-use Rattle.span_pipeline.specs.Effects.{if_told, on, tells}
+use Rattle.span_pipeline.specs.Effects.{if_told, all_on, counted, tells}
 use Rattle.span_pipeline.specs.declared.reply.Reply.TheVariants as reply
 use Rattle.span_laws.proofs.filters.refused_events.Goals as goal
 
 pub returns : goal.returns
-returns c = λ setup t at lane site values reached no. ap (λ (b : Bool). tells at lane (reply.Enabled b) (if_told b (on reached (event_of site values setup.layer at)))) no
+returns c = λ setup t at lane site values reached no. ap (λ (b : Bool). record (tells at lane (reply.Enabled b) (if_told b (all_on reached (counted setup.counting site (event_of site values setup.layer at))))) { measures = if_told b (measures site values) }) no

@@ -3,6 +3,7 @@ use Rattle.std.proofs.Common.{rules, refl, ◌∙◌}
 use Rattle.otel_layer.specs.Asking.{event_at}
 use Rattle.span_pipeline.specs.declared.request.Call.TheVariants as call
 use Rattle.span_pipeline.specs.Fits.{named_in}
+use Rattle.span_pipeline.proofs.Beside.{stack_same}
 use Rattle.span_pipeline.proofs.Asking.{serves_event, keeps_op, left_state, left_kept}
 use Rattle.span_pipeline.proofs.Keeping.{on_err}
 use Rattle.span_pipeline.proofs.Refusing.{refuses_unknown}
@@ -17,13 +18,13 @@ pub add_event_with_timestamp-requires : goal.add_event_with_timestamp-requires
 add_event_with_timestamp-requires c = needs_there _ _ _ _ c.self.inside.world c.self.inside.dispatch c.self.inside.opening c.self.inside.lanes.items c.self.inside.handles.items c.self.inside.guards.items (named_in c.self.inside.contexts) c.self.inside.moment c.self.invariant c.args.handle c.in-Some.span.now (search rules)
 
 pub invariant_of-self : goal.invariant_of-self
-invariant_of-self c = left_kept _ _ _ _ _ c.self.inside.world c.add_event_with_timestamp.new.world _ c.leaves.ensures (λ o n d k r. (c.asks.ensures.recording o n d k r, c.asks.ensures.filter o n d k r)) c.self.inside.dispatch c.self.inside.opening c.self.inside.lanes.items c.self.inside.handles.items c.self.inside.guards.items (named_in c.self.inside.contexts) c.self.inside.moment c.args.at c.args.lane c.args.handle c.in-Some.span.now (search rules) (event_at c.args.name c.happens_at-time.result c.args.attributes) c.add_event_with_timestamp.result c.add_event_with_timestamp.ensures _ (search rules) c.self.invariant
+invariant_of-self c = left_kept _ _ _ _ _ c.self.inside.world c.add_event_with_timestamp.new.world _ c.leaves.ensures (λ o n d k r. (c.asks.ensures.recording o n d k r, c.asks.ensures.filter o n d k r, stack_same o n d (c.asks.ensures.counter o n d k r) (c.asks.ensures.measures o n d k r))) c.self.inside.dispatch c.self.inside.opening c.self.inside.lanes.items c.self.inside.handles.items c.self.inside.guards.items (named_in c.self.inside.contexts) c.self.inside.moment c.args.at c.args.lane c.args.handle c.in-Some.span.now (search rules) (event_at c.args.name c.happens_at-time.result c.args.attributes) c.add_event_with_timestamp.result c.add_event_with_timestamp.ensures _ (search rules) c.self.invariant
 
 pub returns-in_err-add_event_with_timestamp-clause-err : goal.returns-in_err-add_event_with_timestamp-clause-err
-returns-in_err-add_event_with_timestamp-clause-err c = on_err _ _ (left_state _ _ _ _ _ c.self.inside.world c.add_event_with_timestamp.new.world _ c.leaves.ensures (λ o n d k r. (c.asks.ensures.recording o n d k r, c.asks.ensures.filter o n d k r)) c.self.inside.dispatch c.self.inside.opening c.self.inside.lanes.items c.self.inside.handles.items c.self.inside.guards.items (named_in c.self.inside.contexts) c.self.inside.moment c.args.at c.args.lane c.args.handle c.in-Some.span.now (search rules) (event_at c.args.name c.happens_at-time.result c.args.attributes) c.add_event_with_timestamp.result c.add_event_with_timestamp.ensures _ (search rules) c.self.invariant ∙ c.self.view_is)
+returns-in_err-add_event_with_timestamp-clause-err c = on_err _ _ (left_state _ _ _ _ _ c.self.inside.world c.add_event_with_timestamp.new.world _ c.leaves.ensures (λ o n d k r. (c.asks.ensures.recording o n d k r, c.asks.ensures.filter o n d k r, stack_same o n d (c.asks.ensures.counter o n d k r) (c.asks.ensures.measures o n d k r))) c.self.inside.dispatch c.self.inside.opening c.self.inside.lanes.items c.self.inside.handles.items c.self.inside.guards.items (named_in c.self.inside.contexts) c.self.inside.moment c.args.at c.args.lane c.args.handle c.in-Some.span.now (search rules) (event_at c.args.name c.happens_at-time.result c.args.attributes) c.add_event_with_timestamp.result c.add_event_with_timestamp.ensures _ (search rules) c.self.invariant ∙ c.self.view_is)
 
 pub invariant_of-self-2 : goal.invariant_of-self-2
-invariant_of-self-2 c = keeps_op _ _ _ _ _ c.self.inside.world c.add_event_with_timestamp.new.world _ c.leaves.ensures (λ o n d k r. (c.asks.ensures.recording o n d k r, c.asks.ensures.filter o n d k r)) c.self.inside.dispatch c.self.inside.opening c.self.inside.lanes.items c.self.inside.handles.items c.self.inside.guards.items (named_in c.self.inside.contexts) c.self.inside.moment c.args.at c.args.lane c.args.handle c.in-Some.span.now (search rules) (event_at c.args.name c.happens_at-time.result c.args.attributes) c.add_event_with_timestamp.result c.add_event_with_timestamp.ensures (search rules) c.self.invariant
+invariant_of-self-2 c = keeps_op _ _ _ _ _ c.self.inside.world c.add_event_with_timestamp.new.world _ c.leaves.ensures (λ o n d k r. (c.asks.ensures.recording o n d k r, c.asks.ensures.filter o n d k r, stack_same o n d (c.asks.ensures.counter o n d k r) (c.asks.ensures.measures o n d k r))) c.self.inside.dispatch c.self.inside.opening c.self.inside.lanes.items c.self.inside.handles.items c.self.inside.guards.items (named_in c.self.inside.contexts) c.self.inside.moment c.args.at c.args.lane c.args.handle c.in-Some.span.now (search rules) (event_at c.args.name c.happens_at-time.result c.args.attributes) c.add_event_with_timestamp.result c.add_event_with_timestamp.ensures (search rules) c.self.invariant
 
 pub returns-clause-ok : goal.returns-clause-ok
-returns-clause-ok c = by_view c.args.at c.args.lane (call.AddEvent c.args.handle c.args.name c.args.attributes c.args.time) _ _ _ _ c.self.view_is (λ t stands. serves_event _ _ _ _ _ c.self.inside.world c.add_event_with_timestamp.new.world _ c.leaves.ensures (λ o n d k r. (c.asks.ensures.recording o n d k r, c.asks.ensures.filter o n d k r)) c.self.inside.dispatch c.self.inside.opening c.self.inside.lanes.items c.self.inside.handles.items c.self.inside.guards.items (named_in c.self.inside.contexts) c.self.inside.moment c.args.at c.args.lane c.args.handle c.in-Some.span.now (search rules) c.args.name c.args.attributes c.args.time c.happens_at-time.result c.happens_at-time.ensures c.add_event_with_timestamp.result c.add_event_with_timestamp.ensures (search rules) t stands)
+returns-clause-ok c = by_view c.args.at c.args.lane (call.AddEvent c.args.handle c.args.name c.args.attributes c.args.time) _ _ _ _ c.self.view_is (λ t stands. serves_event _ _ _ _ _ c.self.inside.world c.add_event_with_timestamp.new.world _ c.leaves.ensures (λ o n d k r. (c.asks.ensures.recording o n d k r, c.asks.ensures.filter o n d k r, stack_same o n d (c.asks.ensures.counter o n d k r) (c.asks.ensures.measures o n d k r))) c.self.inside.dispatch c.self.inside.opening c.self.inside.lanes.items c.self.inside.handles.items c.self.inside.guards.items (named_in c.self.inside.contexts) c.self.inside.moment c.args.at c.args.lane c.args.handle c.in-Some.span.now (search rules) c.args.name c.args.attributes c.args.time c.happens_at-time.result c.happens_at-time.ensures c.add_event_with_timestamp.result c.add_event_with_timestamp.ensures (search rules) t stands)

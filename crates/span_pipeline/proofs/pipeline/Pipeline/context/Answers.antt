@@ -2,6 +2,7 @@
 use Rattle.std.proofs.Common.{rules, refl}
 use Rattle.span_pipeline.specs.declared.request.Call.TheVariants as call
 use Rattle.span_pipeline.specs.Fits.{named_in}
+use Rattle.span_pipeline.proofs.Beside.{stack_same}
 use Rattle.span_pipeline.proofs.Giving.{serves_context, keeps_context}
 use Rattle.span_pipeline.proofs.Refusing.{refuses_unknown}
 use Rattle.span_pipeline.proofs.Requiring.{needs_there, needs_has}
@@ -18,7 +19,7 @@ pub context-context-requires-clause-can_start : goal.context-context-requires-cl
 context-context-requires-clause-can_start c = needs_has _ _ _ _ c.self.inside.world c.self.inside.dispatch c.self.inside.opening c.self.inside.lanes.items c.self.inside.handles.items c.self.inside.guards.items (named_in c.self.inside.contexts) c.self.inside.moment c.self.invariant c.args.handle c.in-Some.span.now (search rules) _ (c.starts.ensures c.self.inside.world c.self.inside.dispatch c.self.invariant.whole)
 
 pub invariant_of-self-2 : goal.invariant_of-self-2
-invariant_of-self-2 c = keeps_context _ _ _ _ _ c.self.inside.world c.context-context.new.world c.self.inside.dispatch c.self.inside.opening c.self.inside.lanes.items c.self.inside.handles.items c.self.inside.guards.items (named_in c.self.inside.contexts) c.self.inside.moment c.args.at c.args.lane c.len-number.result (search rules) c.self.invariant _ c.leaves.ensures (λ o n d k r. (c.asks.ensures.recording o n d k r, c.asks.ensures.filter o n d k r)) c.args.handle c.in-Some.span.now (search rules) c.context-context.result c.context-context.ensures (record { made = c.add.new.contexts.items; attaches = c.self.inside.contexts.attaches.items }) (search rules) refl
+invariant_of-self-2 c = keeps_context _ _ _ _ _ c.self.inside.world c.context-context.new.world c.self.inside.dispatch c.self.inside.opening c.self.inside.lanes.items c.self.inside.handles.items c.self.inside.guards.items (named_in c.self.inside.contexts) c.self.inside.moment c.args.at c.args.lane c.len-number.result (search rules) c.self.invariant _ c.leaves.ensures (λ o n d k r. (c.asks.ensures.recording o n d k r, c.asks.ensures.filter o n d k r, stack_same o n d (c.asks.ensures.counter o n d k r) (c.asks.ensures.measures o n d k r))) c.args.handle c.in-Some.span.now (search rules) c.context-context.result c.context-context.ensures (record { made = c.add.new.contexts.items; attaches = c.self.inside.contexts.attaches.items }) (search rules) refl
 
 pub returns-clause-ok : goal.returns-clause-ok
-returns-clause-ok c = by_view c.args.at c.args.lane (call.Context c.args.handle) _ _ _ _ c.self.view_is (λ t stands. serves_context _ _ _ _ _ c.self.inside.world c.context-context.new.world c.self.inside.dispatch c.self.inside.opening c.self.inside.lanes.items c.self.inside.handles.items c.self.inside.guards.items (named_in c.self.inside.contexts) c.self.inside.moment c.args.at c.args.lane c.len-number.result (search rules) c.self.invariant _ c.leaves.ensures (λ o n d k r. (c.asks.ensures.recording o n d k r, c.asks.ensures.filter o n d k r)) c.args.handle c.in-Some.span.now (search rules) c.context-context.result c.context-context.ensures (record { made = c.add.new.contexts.items; attaches = c.self.inside.contexts.attaches.items }) (search rules) refl c.span_context.result c.span_context.ensures t stands)
+returns-clause-ok c = by_view c.args.at c.args.lane (call.Context c.args.handle) _ _ _ _ c.self.view_is (λ t stands. serves_context _ _ _ _ _ c.self.inside.world c.context-context.new.world c.self.inside.dispatch c.self.inside.opening c.self.inside.lanes.items c.self.inside.handles.items c.self.inside.guards.items (named_in c.self.inside.contexts) c.self.inside.moment c.args.at c.args.lane c.len-number.result (search rules) c.self.invariant _ c.leaves.ensures (λ o n d k r. (c.asks.ensures.recording o n d k r, c.asks.ensures.filter o n d k r, stack_same o n d (c.asks.ensures.counter o n d k r) (c.asks.ensures.measures o n d k r))) c.args.handle c.in-Some.span.now (search rules) c.context-context.result c.context-context.ensures (record { made = c.add.new.contexts.items; attaches = c.self.inside.contexts.attaches.items }) (search rules) refl c.span_context.result c.span_context.ensures t stands)

@@ -3,6 +3,7 @@ use Rattle.std.proofs.Common.{rules, refl, ◌∙◌}
 use Rattle.span_pipeline.specs.declared.request.Call.TheVariants as call
 use Rattle.span_pipeline.specs.Fits.{named_in}
 use Rattle.span_stack.specs.Reading.{stack_interest}
+use Rattle.span_pipeline.proofs.Beside.{stack_same}
 use Rattle.span_pipeline.proofs.Filtering.{stack_shows}
 use Rattle.span_pipeline.proofs.Gating.{is_current}
 use Rattle.span_pipeline.proofs.Keeping.{within_view, on_err}
@@ -20,21 +21,21 @@ pub tell_if-requires-clause-whole : goal.tell_if-requires-clause-whole
 tell_if-requires-clause-whole c = c.self.invariant.whole
 
 pub invariant_of-self : goal.invariant_of-self
-invariant_of-self c = (made_alike _ _ _ _ _ _ c.same.ensures (λ o n d r. (c.same-2.ensures.recording o n d r, c.same-2.ensures.filter o n d r)) c.self.inside.world c.tell_if.new.world c.self.inside.dispatch c.self.inside.opening c.self.inside.lanes.items c.self.inside.handles.items c.self.inside.handles.items c.self.inside.guards.items (named_in c.self.inside.contexts) c.self.inside.moment refl c.in_err-tell_if.ensures.memory_leaves).1 c.self.invariant
+invariant_of-self c = (made_alike _ _ _ _ _ _ c.same.ensures (λ o n d r. (c.same-2.ensures.recording o n d r, c.same-2.ensures.filter o n d r, stack_same o n d (c.same-2.ensures.counter o n d r) (c.same-2.ensures.measures o n d r))) c.self.inside.world c.tell_if.new.world c.self.inside.dispatch c.self.inside.opening c.self.inside.lanes.items c.self.inside.handles.items c.self.inside.handles.items c.self.inside.guards.items (named_in c.self.inside.contexts) c.self.inside.moment refl c.in_err-tell_if.ensures.memory_leaves).1 c.self.invariant
 
 pub returns-in_err-tell_if-clause-err : goal.returns-in_err-tell_if-clause-err
-returns-in_err-tell_if-clause-err c = on_err _ _ ((made_alike _ _ _ _ _ _ c.same.ensures (λ o n d r. (c.same-2.ensures.recording o n d r, c.same-2.ensures.filter o n d r)) c.self.inside.world c.tell_if.new.world c.self.inside.dispatch c.self.inside.opening c.self.inside.lanes.items c.self.inside.handles.items c.self.inside.handles.items c.self.inside.guards.items (named_in c.self.inside.contexts) c.self.inside.moment refl c.in_err-tell_if.ensures.memory_leaves).0 ∙ c.self.view_is)
+returns-in_err-tell_if-clause-err c = on_err _ _ ((made_alike _ _ _ _ _ _ c.same.ensures (λ o n d r. (c.same-2.ensures.recording o n d r, c.same-2.ensures.filter o n d r, stack_same o n d (c.same-2.ensures.counter o n d r) (c.same-2.ensures.measures o n d r))) c.self.inside.world c.tell_if.new.world c.self.inside.dispatch c.self.inside.opening c.self.inside.lanes.items c.self.inside.handles.items c.self.inside.handles.items c.self.inside.guards.items (named_in c.self.inside.contexts) c.self.inside.moment refl c.in_err-tell_if.ensures.memory_leaves).0 ∙ c.self.view_is)
 
 pub tell_if-requires-clause-live : goal.tell_if-requires-clause-live
 tell_if-requires-clause-live c = tell_live _ _ _ _ c.self.inside.world c.self.inside.dispatch c.self.inside.opening c.self.inside.lanes.items c.self.inside.handles.items c.self.inside.guards.items (named_in c.self.inside.contexts) c.self.inside.moment c.self.invariant c.args.under c.parent-parent.result (found_parent c.self.inside.handles.items c.args.under _ c.in-Some-place_above.above c.place_above.ensures.place c.in-Some-place_above.is c.parent-parent.result c.parent-parent.ensures)
 
 pub invariant_of-self-2 : goal.invariant_of-self-2
-invariant_of-self-2 c = keeps_told _ _ _ _ _ _ c.tell_if.new.world _ c.calls.ensures (λ o n d k r. (c.calls-2.ensures.recording o n d k r, c.calls-2.ensures.filter o n d k r)) c.self.inside.dispatch c.self.inside.opening c.self.inside.lanes.items c.self.inside.handles.items c.self.inside.guards.items (named_in c.self.inside.contexts) c.self.inside.moment c.args.at c.args.lane
-    c.args.under c.parent-parent.result (found_parent c.self.inside.handles.items c.args.under _ c.in-Some-place_above.above c.place_above.ensures.place c.in-Some-place_above.is c.parent-parent.result c.parent-parent.ensures) c.in-Some.found c.args.place (search rules) (search rules) c.args.fields c.in-Some-2.values c.site-callsite.result.now (search rules) (search rules) c.index-on.result.now (within_view _ _ c.self.inside.lanes.items c.args.lane c.self.view_is refl c.requires) (search rules) c.admits-enabled.result c.admits-enabled.ensures c.in_ok-tell_if.ensures.ok c.self.invariant
+invariant_of-self-2 c = keeps_told _ _ _ _ _ _ c.tell_if.new.world _ c.calls.ensures (λ o n d k r. (c.calls-2.ensures.recording o n d k r, c.calls-2.ensures.filter o n d k r, record { counter = c.calls-2.ensures.counter o n d k r; measures = c.calls-2.ensures.measures o n d k r })) c.self.inside.dispatch c.self.inside.opening c.self.inside.lanes.items c.self.inside.handles.items c.self.inside.guards.items (named_in c.self.inside.contexts) c.self.inside.moment c.args.at c.args.lane
+    c.args.under c.parent-parent.result (found_parent c.self.inside.handles.items c.args.under _ c.in-Some-place_above.above c.place_above.ensures.place c.in-Some-place_above.is c.parent-parent.result c.parent-parent.ensures) c.in-Some.found c.args.place (search rules) (search rules) c.args.fields c.in-Some-2.values c.site-callsite.result.now (search rules) (search rules) c.index-on.result.now (within_view _ _ c.self.inside.lanes.items c.args.lane c.self.view_is refl c.requires) (search rules) c.admits-enabled.result c.admits-enabled.ensures c.in_ok-tell_if.ensures.ok c.statics.ensures c.self.invariant
 
 pub returns-clause-ok : goal.returns-clause-ok
-returns-clause-ok c = by_view c.args.at c.args.lane (call.Event c.args.place c.args.under c.args.fields) _ _ _ _ c.self.view_is (λ t stands. serves_told _ _ _ _ _ _ c.tell_if.new.world _ c.calls.ensures (λ o n d k r. (c.calls-2.ensures.recording o n d k r, c.calls-2.ensures.filter o n d k r)) c.self.inside.dispatch c.self.inside.opening c.self.inside.lanes.items c.self.inside.handles.items c.self.inside.guards.items (named_in c.self.inside.contexts) c.self.inside.moment c.args.at c.args.lane
-    c.args.under c.parent-parent.result (found_parent c.self.inside.handles.items c.args.under _ c.in-Some-place_above.above c.place_above.ensures.place c.in-Some-place_above.is c.parent-parent.result c.parent-parent.ensures) c.in-Some.found c.args.place (search rules) (search rules) c.args.fields c.in-Some-2.values c.site-callsite.result.now (search rules) (search rules) c.index-on.result.now (within_view _ _ c.self.inside.lanes.items c.args.lane c.self.view_is refl c.requires) (search rules) c.admits-enabled.result c.admits-enabled.ensures c.in_ok-tell_if.ensures.ok t stands)
+returns-clause-ok c = by_view c.args.at c.args.lane (call.Event c.args.place c.args.under c.args.fields) _ _ _ _ c.self.view_is (λ t stands. serves_told _ _ _ _ _ _ c.tell_if.new.world _ c.calls.ensures (λ o n d k r. (c.calls-2.ensures.recording o n d k r, c.calls-2.ensures.filter o n d k r, record { counter = c.calls-2.ensures.counter o n d k r; measures = c.calls-2.ensures.measures o n d k r })) c.self.inside.dispatch c.self.inside.opening c.self.inside.lanes.items c.self.inside.handles.items c.self.inside.guards.items (named_in c.self.inside.contexts) c.self.inside.moment c.args.at c.args.lane
+    c.args.under c.parent-parent.result (found_parent c.self.inside.handles.items c.args.under _ c.in-Some-place_above.above c.place_above.ensures.place c.in-Some-place_above.is c.parent-parent.result c.parent-parent.ensures) c.in-Some.found c.args.place (search rules) (search rules) c.args.fields c.in-Some-2.values c.site-callsite.result.now (search rules) (search rules) c.index-on.result.now (within_view _ _ c.self.inside.lanes.items c.args.lane c.self.view_is refl c.requires) (search rules) c.admits-enabled.result c.admits-enabled.ensures c.in_ok-tell_if.ensures.ok c.statics.ensures t stands)
 
 pub returns-in_default-2-clause-refused : goal.returns-in_default-2-clause-refused
 returns-in_default-2-clause-refused c = λ t stands no. by_view_refused c.args.at c.args.lane (call.Event c.args.place c.args.under c.args.fields) _ _ _ c.self.view_is (λ t stands. refuses_event _ t stands.fits c.args.at c.args.lane c.args.place c.in-Some.found (search rules) c.args.under c.parent-parent.result (found_parent c.self.inside.handles.items c.args.under _ c.in-Some-place_above.above c.place_above.ensures.place c.in-Some-place_above.is c.parent-parent.result c.parent-parent.ensures) c.args.fields c.site-callsite.result.now (search rules) (search rules) (search rules)) t stands

@@ -33,9 +33,9 @@ pub close_entry-requires-clause-still : goal.close_entry-requires-clause-still
 close_entry-requires-clause-still c = exit_still _ _ _ _ c.self.inside.world c.self.inside.dispatch c.self.inside.opening c.self.inside.lanes.items c.self.inside.handles.items c.self.inside.guards.items (named_in c.self.inside.contexts) c.self.inside.moment c.self.invariant c.args.guard c.in-Some-take.open (search rules) c.in-Some-slot_at.span.now (search rules) c.args.lane c.index_mut.result.now (within_view _ _ c.self.inside.lanes.items c.args.lane c.self.view_is refl c.requires) c.index_mut.ensures.value
 
 pub invariant_of-self : goal.invariant_of-self
-invariant_of-self c = keeps_exited _ _ _ _ _ _ c.close_entry.new.world _ c.calls.ensures (λ o n d k r. (c.calls-2.ensures.recording o n d k r, c.calls-2.ensures.filter o n d k r)) c.self.inside.dispatch c.self.inside.opening c.self.inside.lanes.items c.self.inside.handles.items c.self.inside.guards.items (named_in c.self.inside.contexts) c.self.inside.moment c.args.at c.args.lane c.index_mut.result.now c.close_entry.new.lane (within_view _ _ c.self.inside.lanes.items c.args.lane c.self.view_is refl c.requires) c.index_mut.ensures.value
+invariant_of-self c = keeps_exited _ _ _ _ _ _ c.close_entry.new.world _ c.calls.ensures (λ o n d k r. (c.calls-2.ensures.recording o n d k r, c.calls-2.ensures.filter o n d k r, record { counter = c.calls-2.ensures.counter o n d k r; measures = c.calls-2.ensures.measures o n d k r })) c.self.inside.dispatch c.self.inside.opening c.self.inside.lanes.items c.self.inside.handles.items c.self.inside.guards.items (named_in c.self.inside.contexts) c.self.inside.moment c.args.at c.args.lane c.index_mut.result.now c.close_entry.new.lane (within_view _ _ c.self.inside.lanes.items c.args.lane c.self.view_is refl c.requires) c.index_mut.ensures.value
     c.args.guard c.in-Some-take.open (search rules) (search rules) c.take.new.self.items c.take.ensures.spent c.in-Some-slot_at.span.now (guard_entry _ _ _ _ c.self.inside.world c.self.inside.dispatch c.self.inside.opening c.self.inside.lanes.items c.self.inside.handles.items c.self.inside.guards.items (named_in c.self.inside.contexts) c.self.inside.moment c.self.invariant c.args.guard c.in-Some-take.open (search rules) c.in-Some-slot_at.span.now (search rules)) c.close_entry.ensures.did c.close_entry.ensures.none (alone_at c.self.inside.guards.items c.args.guard c.in-Some.named.now c.in-Some-take.open (search rules) (search rules) (search rules)) c.self.invariant
 
 pub returns-clause-ok : goal.returns-clause-ok
-returns-clause-ok c = by_view c.args.at c.args.lane (call.Exit c.args.guard) _ _ _ _ c.self.view_is (λ t stands. serves_exited _ _ _ _ _ _ c.close_entry.new.world _ c.calls.ensures (λ o n d k r. (c.calls-2.ensures.recording o n d k r, c.calls-2.ensures.filter o n d k r)) c.self.inside.dispatch c.self.inside.opening c.self.inside.lanes.items c.self.inside.handles.items c.self.inside.guards.items (named_in c.self.inside.contexts) c.self.inside.moment c.args.at c.args.lane c.index_mut.result.now c.close_entry.new.lane (within_view _ _ c.self.inside.lanes.items c.args.lane c.self.view_is refl c.requires) c.index_mut.ensures.value
+returns-clause-ok c = by_view c.args.at c.args.lane (call.Exit c.args.guard) _ _ _ _ c.self.view_is (λ t stands. serves_exited _ _ _ _ _ _ c.close_entry.new.world _ c.calls.ensures (λ o n d k r. (c.calls-2.ensures.recording o n d k r, c.calls-2.ensures.filter o n d k r, record { counter = c.calls-2.ensures.counter o n d k r; measures = c.calls-2.ensures.measures o n d k r })) c.self.inside.dispatch c.self.inside.opening c.self.inside.lanes.items c.self.inside.handles.items c.self.inside.guards.items (named_in c.self.inside.contexts) c.self.inside.moment c.args.at c.args.lane c.index_mut.result.now c.close_entry.new.lane (within_view _ _ c.self.inside.lanes.items c.args.lane c.self.view_is refl c.requires) c.index_mut.ensures.value
     c.args.guard c.in-Some-take.open (search rules) (search rules) c.take.new.self.items c.take.ensures.spent c.in-Some-slot_at.span.now (guard_entry _ _ _ _ c.self.inside.world c.self.inside.dispatch c.self.inside.opening c.self.inside.lanes.items c.self.inside.handles.items c.self.inside.guards.items (named_in c.self.inside.contexts) c.self.inside.moment c.self.invariant c.args.guard c.in-Some-take.open (search rules) c.in-Some-slot_at.span.now (search rules)) c.close_entry.ensures.did c.close_entry.ensures.none (alone_at c.self.inside.guards.items c.args.guard c.in-Some.named.now c.in-Some-take.open (search rules) (search rules) (search rules)) c.self.invariant t stands)

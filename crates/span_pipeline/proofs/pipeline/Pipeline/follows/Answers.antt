@@ -2,6 +2,7 @@
 use Rattle.std.proofs.Common.{rules, refl, ◌∙◌, false}
 use Rattle.span_pipeline.specs.declared.request.Call.TheVariants as call
 use Rattle.span_pipeline.specs.Fits.{named_in}
+use Rattle.span_pipeline.proofs.Beside.{stack_same}
 use Rattle.span_pipeline.proofs.Following.{needs_one, refuses_from, serves_follow, keeps_follow}
 use Rattle.span_pipeline.proofs.Keeping.{on_err, same_state, same_kept}
 use Rattle.span_pipeline.proofs.Refusing.{refuses_unknown}
@@ -28,13 +29,13 @@ pub follows_from-requires-clause-whole : goal.follows_from-requires-clause-whole
 follows_from-requires-clause-whole c = needs_whole _ _ _ _ c.self.inside.world c.self.inside.dispatch c.self.inside.opening c.self.inside.lanes.items c.self.inside.handles.items c.self.inside.guards.items (named_in c.self.inside.contexts) c.self.inside.moment c.self.invariant c.args.handle c.in-Some.span.now (search rules)
 
 pub invariant_of-self : goal.invariant_of-self
-invariant_of-self c = same_kept _ _ _ _ _ _ c.same.ensures (λ o n d r. (c.same-2.ensures.recording o n d r, c.same-2.ensures.filter o n d r)) c.self.inside.world c.follows_from.new.world c.self.inside.dispatch c.self.inside.opening c.self.inside.lanes.items c.self.inside.handles.items c.self.inside.guards.items (named_in c.self.inside.contexts) c.self.inside.moment c.self.invariant c.args.handle c.in-Some.span.now (search rules) c.in_err-follows_from.ensures.memory_leaves
+invariant_of-self c = same_kept _ _ _ _ _ _ c.same.ensures (λ o n d r. (c.same-2.ensures.recording o n d r, c.same-2.ensures.filter o n d r, stack_same o n d (c.same-2.ensures.counter o n d r) (c.same-2.ensures.measures o n d r))) c.self.inside.world c.follows_from.new.world c.self.inside.dispatch c.self.inside.opening c.self.inside.lanes.items c.self.inside.handles.items c.self.inside.guards.items (named_in c.self.inside.contexts) c.self.inside.moment c.self.invariant c.args.handle c.in-Some.span.now (search rules) c.in_err-follows_from.ensures.memory_leaves
 
 pub returns-in_err-follows_from-clause-err : goal.returns-in_err-follows_from-clause-err
-returns-in_err-follows_from-clause-err c = on_err _ _ (same_state _ _ _ _ _ _ c.same.ensures (λ o n d r. (c.same-2.ensures.recording o n d r, c.same-2.ensures.filter o n d r)) c.self.inside.world c.follows_from.new.world c.self.inside.dispatch c.self.inside.opening c.self.inside.lanes.items c.self.inside.handles.items c.self.inside.guards.items (named_in c.self.inside.contexts) c.self.inside.moment c.self.invariant c.args.handle c.in-Some.span.now (search rules) c.in_err-follows_from.ensures.memory_leaves ∙ c.self.view_is)
+returns-in_err-follows_from-clause-err c = on_err _ _ (same_state _ _ _ _ _ _ c.same.ensures (λ o n d r. (c.same-2.ensures.recording o n d r, c.same-2.ensures.filter o n d r, stack_same o n d (c.same-2.ensures.counter o n d r) (c.same-2.ensures.measures o n d r))) c.self.inside.world c.follows_from.new.world c.self.inside.dispatch c.self.inside.opening c.self.inside.lanes.items c.self.inside.handles.items c.self.inside.guards.items (named_in c.self.inside.contexts) c.self.inside.moment c.self.invariant c.args.handle c.in-Some.span.now (search rules) c.in_err-follows_from.ensures.memory_leaves ∙ c.self.view_is)
 
 pub invariant_of-self-2 : goal.invariant_of-self-2
-invariant_of-self-2 c = keeps_follow _ _ _ _ _ c.self.inside.world c.self.inside.dispatch c.self.inside.opening c.self.inside.lanes.items c.self.inside.handles.items c.self.inside.guards.items (named_in c.self.inside.contexts) c.self.inside.moment c.args.handle c.in-Some.span.now (search rules) c.args.from c.in-Some-slot_at.followed.now (search rules) c.follows_from.new.world c.args.at c.args.lane _ c.calls.ensures (λ o n d k r. (c.calls-2.ensures.recording o n d k r, c.calls-2.ensures.filter o n d k r)) c.in_ok-follows_from.ensures.did c.self.invariant
+invariant_of-self-2 c = keeps_follow _ _ _ _ _ c.self.inside.world c.self.inside.dispatch c.self.inside.opening c.self.inside.lanes.items c.self.inside.handles.items c.self.inside.guards.items (named_in c.self.inside.contexts) c.self.inside.moment c.args.handle c.in-Some.span.now (search rules) c.args.from c.in-Some-slot_at.followed.now (search rules) c.follows_from.new.world c.args.at c.args.lane _ c.calls.ensures (λ o n d k r. (c.calls-2.ensures.recording o n d k r, c.calls-2.ensures.filter o n d k r, record { counter = c.calls-2.ensures.counter o n d k r; measures = c.calls-2.ensures.measures o n d k r })) c.in_ok-follows_from.ensures.did c.self.invariant
 
 pub returns-clause-ok : goal.returns-clause-ok
-returns-clause-ok c = by_view c.args.at c.args.lane (call.Follows c.args.handle c.args.from) _ _ _ _ c.self.view_is (λ t stands. serves_follow _ _ _ _ _ c.self.inside.world c.self.inside.dispatch c.self.inside.opening c.self.inside.lanes.items c.self.inside.handles.items c.self.inside.guards.items (named_in c.self.inside.contexts) c.self.inside.moment c.args.handle c.in-Some.span.now (search rules) c.args.from c.in-Some-slot_at.followed.now (search rules) c.follows_from.new.world c.args.at c.args.lane _ c.calls.ensures (λ o n d k r. (c.calls-2.ensures.recording o n d k r, c.calls-2.ensures.filter o n d k r)) c.in_ok-follows_from.ensures.did t stands)
+returns-clause-ok c = by_view c.args.at c.args.lane (call.Follows c.args.handle c.args.from) _ _ _ _ c.self.view_is (λ t stands. serves_follow _ _ _ _ _ c.self.inside.world c.self.inside.dispatch c.self.inside.opening c.self.inside.lanes.items c.self.inside.handles.items c.self.inside.guards.items (named_in c.self.inside.contexts) c.self.inside.moment c.args.handle c.in-Some.span.now (search rules) c.args.from c.in-Some-slot_at.followed.now (search rules) c.follows_from.new.world c.args.at c.args.lane _ c.calls.ensures (λ o n d k r. (c.calls-2.ensures.recording o n d k r, c.calls-2.ensures.filter o n d k r, record { counter = c.calls-2.ensures.counter o n d k r; measures = c.calls-2.ensures.measures o n d k r })) c.in_ok-follows_from.ensures.did t stands)

@@ -3,6 +3,7 @@ use Rattle.std.proofs.Common.{rules, refl, ◌∙◌}
 use Rattle.span_pipeline.specs.declared.request.Call.TheVariants as call
 use Rattle.span_pipeline.specs.Fits.{named_in}
 use Rattle.span_stack.specs.Reading.{stack_interest}
+use Rattle.span_pipeline.proofs.Beside.{stack_same}
 use Rattle.span_pipeline.proofs.Filtering.{stack_shows}
 use Rattle.span_pipeline.proofs.Gating.{is_current}
 use Rattle.span_pipeline.proofs.Keeping.{within_view, on_err}
@@ -19,17 +20,17 @@ pub make_if-requires-clause-of_dispatch : goal.make_if-requires-clause-of_dispat
 make_if-requires-clause-of_dispatch c = c.in-Some-place_above.ensures.of c.self.inside.dispatch (all_of _ _ _ _ c.self.inside.world c.self.inside.dispatch c.self.inside.opening c.self.inside.lanes.items c.self.inside.handles.items c.self.inside.guards.items (named_in c.self.inside.contexts) c.self.inside.moment c.self.invariant c.reserve.new.self.items (search rules))
 
 pub invariant_of-self-in_err-span : goal.invariant_of-self-in_err-span
-invariant_of-self-in_err-span c = (made_alike _ _ _ _ _ _ c.same.ensures (λ o n d r. (c.same-2.ensures.recording o n d r, c.same-2.ensures.filter o n d r)) c.self.inside.world c.make_if.new.world c.self.inside.dispatch c.self.inside.opening c.self.inside.lanes.items c.self.inside.handles.items c.reserve.new.self.items c.self.inside.guards.items (named_in c.self.inside.contexts) c.self.inside.moment (search rules) c.in_err-span.ensures.memory_leaves).1 c.self.invariant
+invariant_of-self-in_err-span c = (made_alike _ _ _ _ _ _ c.same.ensures (λ o n d r. (c.same-2.ensures.recording o n d r, c.same-2.ensures.filter o n d r, stack_same o n d (c.same-2.ensures.counter o n d r) (c.same-2.ensures.measures o n d r))) c.self.inside.world c.make_if.new.world c.self.inside.dispatch c.self.inside.opening c.self.inside.lanes.items c.self.inside.handles.items c.reserve.new.self.items c.self.inside.guards.items (named_in c.self.inside.contexts) c.self.inside.moment (search rules) c.in_err-span.ensures.memory_leaves).1 c.self.invariant
 
 pub returns-in_err-span-clause-err : goal.returns-in_err-span-clause-err
-returns-in_err-span-clause-err c = on_err _ _ ((made_alike _ _ _ _ _ _ c.same.ensures (λ o n d r. (c.same-2.ensures.recording o n d r, c.same-2.ensures.filter o n d r)) c.self.inside.world c.make_if.new.world c.self.inside.dispatch c.self.inside.opening c.self.inside.lanes.items c.self.inside.handles.items c.reserve.new.self.items c.self.inside.guards.items (named_in c.self.inside.contexts) c.self.inside.moment (search rules) c.in_err-span.ensures.memory_leaves).0 ∙ c.self.view_is)
+returns-in_err-span-clause-err c = on_err _ _ ((made_alike _ _ _ _ _ _ c.same.ensures (λ o n d r. (c.same-2.ensures.recording o n d r, c.same-2.ensures.filter o n d r, stack_same o n d (c.same-2.ensures.counter o n d r) (c.same-2.ensures.measures o n d r))) c.self.inside.world c.make_if.new.world c.self.inside.dispatch c.self.inside.opening c.self.inside.lanes.items c.self.inside.handles.items c.reserve.new.self.items c.self.inside.guards.items (named_in c.self.inside.contexts) c.self.inside.moment (search rules) c.in_err-span.ensures.memory_leaves).0 ∙ c.self.view_is)
 
 pub invariant_of-self-2 : goal.invariant_of-self-2
-invariant_of-self-2 c = keeps_new _ _ _ _ _ _ c.make_if.new.world _ c.calls.ensures (λ o n d k r. (c.calls-2.ensures.recording o n d k r, c.calls-2.ensures.filter o n d k r)) c.self.inside.dispatch c.self.inside.opening c.self.inside.lanes.items c.self.inside.handles.items c.keep.new.slots.items c.self.inside.guards.items (named_in c.self.inside.contexts) c.self.inside.moment c.args.at c.args.lane c.len-number.result (search rules) c.self.invariant
+invariant_of-self-2 c = keeps_new _ _ _ _ _ _ c.make_if.new.world _ c.calls.ensures (λ o n d k r. (c.calls-2.ensures.recording o n d k r, c.calls-2.ensures.filter o n d k r, record { counter = c.calls-2.ensures.counter o n d k r; measures = c.calls-2.ensures.measures o n d k r })) c.self.inside.dispatch c.self.inside.opening c.self.inside.lanes.items c.self.inside.handles.items c.keep.new.slots.items c.self.inside.guards.items (named_in c.self.inside.contexts) c.self.inside.moment c.args.at c.args.lane c.len-number.result (search rules) c.self.invariant
     c.args.under _ c.in-Some.found c.args.place (search rules) (search rules) (found_place c.reserve.new.self.items c.self.inside.handles.items c.args.under _ c.in-Some-place_above.above (search rules) c.place_above.ensures.place c.in-Some-place_above.is) c.args.fields c.in-Some-2.values c.site-callsite.result.now (search rules) (search rules) c.in_ok-span.span c.index-on.result.now (within_view _ _ c.self.inside.lanes.items c.args.lane c.self.view_is refl c.requires) (search rules) (search rules) c.admits-enabled.result c.admits-enabled.ensures c.in_ok-span.ensures.ok
 
 pub returns-clause-ok : goal.returns-clause-ok
-returns-clause-ok c = by_view c.args.at c.args.lane (call.New c.args.place c.args.under c.args.fields) _ _ _ _ c.self.view_is (λ t stands. serves_new _ _ _ _ _ _ c.make_if.new.world _ c.calls.ensures (λ o n d k r. (c.calls-2.ensures.recording o n d k r, c.calls-2.ensures.filter o n d k r)) c.self.inside.dispatch c.self.inside.opening c.self.inside.lanes.items c.self.inside.handles.items c.keep.new.slots.items c.self.inside.guards.items (named_in c.self.inside.contexts) c.self.inside.moment c.args.at c.args.lane c.len-number.result (search rules) c.self.invariant
+returns-clause-ok c = by_view c.args.at c.args.lane (call.New c.args.place c.args.under c.args.fields) _ _ _ _ c.self.view_is (λ t stands. serves_new _ _ _ _ _ _ c.make_if.new.world _ c.calls.ensures (λ o n d k r. (c.calls-2.ensures.recording o n d k r, c.calls-2.ensures.filter o n d k r, record { counter = c.calls-2.ensures.counter o n d k r; measures = c.calls-2.ensures.measures o n d k r })) c.self.inside.dispatch c.self.inside.opening c.self.inside.lanes.items c.self.inside.handles.items c.keep.new.slots.items c.self.inside.guards.items (named_in c.self.inside.contexts) c.self.inside.moment c.args.at c.args.lane c.len-number.result (search rules) c.self.invariant
     c.args.under _ c.in-Some.found c.args.place (search rules) (search rules) (found_place c.reserve.new.self.items c.self.inside.handles.items c.args.under _ c.in-Some-place_above.above (search rules) c.place_above.ensures.place c.in-Some-place_above.is) c.args.fields c.in-Some-2.values c.site-callsite.result.now (search rules) (search rules) c.in_ok-span.span c.index-on.result.now (within_view _ _ c.self.inside.lanes.items c.args.lane c.self.view_is refl c.requires) (search rules) (search rules) c.admits-enabled.result c.admits-enabled.ensures c.in_ok-span.ensures.ok t stands)
 
 pub returns-in_default-2-clause-refused : goal.returns-in_default-2-clause-refused

@@ -2,6 +2,7 @@
 use Rattle.std.proofs.Common.{rules, refl, ◌∙◌, false}
 use Rattle.span_pipeline.specs.declared.request.Call.TheVariants as call
 use Rattle.span_pipeline.specs.Fits.{named_in}
+use Rattle.span_pipeline.proofs.Beside.{stack_same}
 use Rattle.span_pipeline.proofs.Requiring.{needs_known, needs_whole}
 use Rattle.span_pipeline.proofs.Refusing.{refuses_unknown}
 use Rattle.span_pipeline.proofs.Serving.{by_view}
@@ -25,13 +26,13 @@ pub record_all-requires-clause-whole : goal.record_all-requires-clause-whole
 record_all-requires-clause-whole c = needs_whole _ _ _ _ c.self.inside.world c.self.inside.dispatch c.self.inside.opening c.self.inside.lanes.items c.self.inside.handles.items c.self.inside.guards.items (named_in c.self.inside.contexts) c.self.inside.moment c.self.invariant c.args.handle c.in-Some.span.now (search rules)
 
 pub invariant_of-self : goal.invariant_of-self
-invariant_of-self c = same_kept _ _ _ _ _ _ c.same.ensures (λ o n d r. (c.same-2.ensures.recording o n d r, c.same-2.ensures.filter o n d r)) c.self.inside.world c.record_all.new.world c.self.inside.dispatch c.self.inside.opening c.self.inside.lanes.items c.self.inside.handles.items c.self.inside.guards.items (named_in c.self.inside.contexts) c.self.inside.moment c.self.invariant c.args.handle c.in-Some.span.now (search rules) c.in_err-record_all.ensures.memory_leaves
+invariant_of-self c = same_kept _ _ _ _ _ _ c.same.ensures (λ o n d r. (c.same-2.ensures.recording o n d r, c.same-2.ensures.filter o n d r, stack_same o n d (c.same-2.ensures.counter o n d r) (c.same-2.ensures.measures o n d r))) c.self.inside.world c.record_all.new.world c.self.inside.dispatch c.self.inside.opening c.self.inside.lanes.items c.self.inside.handles.items c.self.inside.guards.items (named_in c.self.inside.contexts) c.self.inside.moment c.self.invariant c.args.handle c.in-Some.span.now (search rules) c.in_err-record_all.ensures.memory_leaves
 
 pub returns-in_err-record_all-clause-err : goal.returns-in_err-record_all-clause-err
-returns-in_err-record_all-clause-err c = on_err _ _ (same_state _ _ _ _ _ _ c.same.ensures (λ o n d r. (c.same-2.ensures.recording o n d r, c.same-2.ensures.filter o n d r)) c.self.inside.world c.record_all.new.world c.self.inside.dispatch c.self.inside.opening c.self.inside.lanes.items c.self.inside.handles.items c.self.inside.guards.items (named_in c.self.inside.contexts) c.self.inside.moment c.self.invariant c.args.handle c.in-Some.span.now (search rules) c.in_err-record_all.ensures.memory_leaves ∙ c.self.view_is)
+returns-in_err-record_all-clause-err c = on_err _ _ (same_state _ _ _ _ _ _ c.same.ensures (λ o n d r. (c.same-2.ensures.recording o n d r, c.same-2.ensures.filter o n d r, stack_same o n d (c.same-2.ensures.counter o n d r) (c.same-2.ensures.measures o n d r))) c.self.inside.world c.record_all.new.world c.self.inside.dispatch c.self.inside.opening c.self.inside.lanes.items c.self.inside.handles.items c.self.inside.guards.items (named_in c.self.inside.contexts) c.self.inside.moment c.self.invariant c.args.handle c.in-Some.span.now (search rules) c.in_err-record_all.ensures.memory_leaves ∙ c.self.view_is)
 
 pub invariant_of-self-2 : goal.invariant_of-self-2
-invariant_of-self-2 c = keeps_recorded _ _ _ _ _ c.self.inside.world c.self.inside.dispatch c.self.inside.opening c.self.inside.lanes.items c.self.inside.handles.items c.self.inside.guards.items (named_in c.self.inside.contexts) c.self.inside.moment c.args.handle c.in-Some.span.now (search rules) c.record_all.new.world c.args.at c.args.lane _ c.calls.ensures (λ o n d k r. (c.calls-2.ensures.recording o n d k r, c.calls-2.ensures.filter o n d k r)) c.args.fields c.in_ok-values.values (search rules) c.in_ok-record_all.ensures.did c.self.invariant
+invariant_of-self-2 c = keeps_recorded _ _ _ _ _ c.self.inside.world c.self.inside.dispatch c.self.inside.opening c.self.inside.lanes.items c.self.inside.handles.items c.self.inside.guards.items (named_in c.self.inside.contexts) c.self.inside.moment c.args.handle c.in-Some.span.now (search rules) c.record_all.new.world c.args.at c.args.lane _ c.calls.ensures (λ o n d k r. (c.calls-2.ensures.recording o n d k r, c.calls-2.ensures.filter o n d k r, record { counter = c.calls-2.ensures.counter o n d k r; measures = c.calls-2.ensures.measures o n d k r })) c.args.fields c.in_ok-values.values (search rules) c.in_ok-record_all.ensures.did c.self.invariant
 
 pub returns-clause-ok : goal.returns-clause-ok
-returns-clause-ok c = by_view c.args.at c.args.lane (call.Record c.args.handle c.args.fields) _ _ _ _ c.self.view_is (λ t stands. serves_recorded _ _ _ _ _ c.self.inside.world c.self.inside.dispatch c.self.inside.opening c.self.inside.lanes.items c.self.inside.handles.items c.self.inside.guards.items (named_in c.self.inside.contexts) c.self.inside.moment c.args.handle c.in-Some.span.now (search rules) c.record_all.new.world c.args.at c.args.lane _ c.calls.ensures (λ o n d k r. (c.calls-2.ensures.recording o n d k r, c.calls-2.ensures.filter o n d k r)) c.args.fields c.in_ok-values.values (search rules) c.in_ok-record_all.ensures.did t stands)
+returns-clause-ok c = by_view c.args.at c.args.lane (call.Record c.args.handle c.args.fields) _ _ _ _ c.self.view_is (λ t stands. serves_recorded _ _ _ _ _ c.self.inside.world c.self.inside.dispatch c.self.inside.opening c.self.inside.lanes.items c.self.inside.handles.items c.self.inside.guards.items (named_in c.self.inside.contexts) c.self.inside.moment c.args.handle c.in-Some.span.now (search rules) c.record_all.new.world c.args.at c.args.lane _ c.calls.ensures (λ o n d k r. (c.calls-2.ensures.recording o n d k r, c.calls-2.ensures.filter o n d k r, record { counter = c.calls-2.ensures.counter o n d k r; measures = c.calls-2.ensures.measures o n d k r })) c.args.fields c.in_ok-values.values (search rules) c.in_ok-record_all.ensures.did t stands)
