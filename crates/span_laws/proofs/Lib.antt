@@ -5,7 +5,9 @@ mod Closing
 mod Counts
 mod Exporting
 mod Guarding
+mod Hearing
 mod Histories
+mod Levels
 mod Making
 mod Numbering
 mod Occurrences

@@ -40,13 +40,14 @@ use Rattle.span_pipeline.specs.declared.reply.What.TheVariants as what
 use Rattle.span_pipeline.specs.Setups.{Setup, id_at, span_site, event_site}
 use Rattle.span_pipeline.specs.Tables.{Scope, Made, Done, Guarded, Effect, Tables, with_new, either_after, slot_at, own}
 use Rattle.span_pipeline.specs.Fields.{Fields, all_values, values_of}
-use Rattle.span_pipeline.specs.Effects.{Resolved, named, is_open, holds, closed_of, is_borrowed, scope_at, parent_at, lane_in, made_at, makes_span, declines, clones, drops, current_scope, scope_or_current, exchanges, on, active, enters, meets_full, opens, exits, exits_on, is_shared, callsite_of, updates, tells, is_full, gives, own_context, attaches, detaches, follows, happens_at, is_bad_moment, effect_of, effect_of_call, admitted, reloads_if, heard_values}
+use Rattle.span_pipeline.specs.Effects.{Resolved, named, is_open, holds, closed_of, is_borrowed, scope_at, parent_at, lane_in, made_at, makes_span, declines, clones, drops, current_scope, scope_or_current, exchanges, on, active, enters, meets_full, opens, exits, exits_on, is_shared, if_told, callsite_of, updates, tells, is_full, gives, own_context, attaches, detaches, follows, happens_at, is_bad_moment, effect_of, effect_of_call, admitted, reloads, reloads_if, bare_lane, heard_values}
 use Rattle.span_pipeline.specs.Admission.{TextRead, text_read}
 use Rattle.span_laws.specs.Closes.{is_drop}
 use Rattle.span_laws.specs.Laws.{occurrences}
 use Rattle.span_laws.specs.Records.{Began}
 use Rattle.span_laws.proofs.Counts.{each_counted, each_on, each_told}
 use Rattle.span_laws.proofs.Guarding.{Enters, no_entry, skips, enters_by, exits_by}
+use Rattle.span_laws.proofs.Hearing.{Hears, of_making, of_open, heard_entry, heard_exit, heard_record, heard_close}
 use Rattle.span_laws.proofs.Occurrences.{held_push, held_set, any_counted, is_in_counted, occurs_cons, occurs_filter, slot_open, slot_push}
 
 -- a scope that an unspent handle has, or none
@@ -108,6 +109,7 @@ pub record IsStep (setup : Setup) (t : Tables) (at : ℕ) (is_drop : Bool) (e : 
   pub reached : AllByRecursion (IsReached t.handles) e.ops
   pub turns : Turns e.entry e.exit e.ops
   pub closing : is_drop ≡ false → e.closes ≡ []
+  pub heard : Hears t.handles (length t.made) e.closes e.made e.heard
 
 -- ---- each kind of request
 
@@ -198,7 +200,7 @@ module _ (setup : Setup) (t : Tables) (fit : IsFit setup t) where
   exits_on_own (s ∷ up) = refl
 
   declined : (at lane : ℕ) → Step at false (declines t at lane)
-  declined at lane = record { moment = refl; names = another [] no_scope; enters = no_entry; spends = no_spending; begins = tt; starts = tt; reached = tt; turns = tt; closing = λ no. refl }
+  declined at lane = record { moment = refl; names = another [] no_scope; enters = no_entry; spends = no_spending; begins = tt; starts = tt; reached = tt; turns = tt; closing = λ no. refl; heard = of_open None [] tt }
 
   made_span : (at lane site : ℕ) (callsite : Callsite) (values : ValueSet) (under : Place) (up : Scope) → IsKnown t.handles up → Step at false (makes_span setup t at lane site callsite values under up)
   made_span at lane site callsite values under up known =
@@ -214,10 +216,11 @@ module _ (setup : Setup) (t : Tables) (fit : IsFit setup t) where
         reached = tt;
         turns = tt;
         closing = λ no. refl;
+        heard = of_making _ (bare_lane (id_at setup.ids lane)) at (parent_at under up) None callsite values;
       }
 
   cloned : (at lane : ℕ) (scope : Scope) → IsKnown t.handles scope → Step at false (clones t at lane scope)
-  cloned at lane scope known = record { moment = refl; names = another scope known; enters = no_entry; spends = no_spending; begins = tt; starts = tt; reached = tt; turns = tt; closing = λ no. refl }
+  cloned at lane scope known = record { moment = refl; names = another scope known; enters = no_entry; spends = no_spending; begins = tt; starts = tt; reached = tt; turns = tt; closing = λ no. refl; heard = of_open None [] tt }
 
   dropped : (at lane handle : ℕ) (scope : Scope) → slot_at t.handles handle ≡ Some scope → is_borrowed t.guards handle ≡ false → Step at true (drops t at lane handle scope)
   dropped at lane handle scope there free = record {
@@ -230,6 +233,7 @@ module _ (setup : Setup) (t : Tables) (fit : IsFit setup t) where
     reached = tt;
     turns = tt;
     closing = λ no. absurd (cc no);
+    heard = of_open None _ (heard_close t.handles handle scope at there);
   }
 
   exchanged : (at lane handle : ℕ) (scope : Scope) → slot_at t.handles handle ≡ Some scope → is_borrowed t.guards handle ≡ false → Step at false (exchanges t at lane handle (scope_or_current t lane scope))
@@ -243,6 +247,7 @@ module _ (setup : Setup) (t : Tables) (fit : IsFit setup t) where
     reached = tt;
     turns = tt;
     closing = λ no. refl;
+    heard = of_open None [] tt;
   }
   exchanged at lane handle (x ∷ up) there free = record {
     moment = refl;
@@ -255,6 +260,7 @@ module _ (setup : Setup) (t : Tables) (fit : IsFit setup t) where
     reached = tt;
     turns = tt;
     closing = λ no. refl;
+    heard = of_open None [] tt;
   }
 
   entered : (at lane handle : ℕ) (owns : Bool) (scope : Scope) → slot_at t.handles handle ≡ Some scope → Step at false (enters setup t at lane handle owns scope)
@@ -268,6 +274,7 @@ module _ (setup : Setup) (t : Tables) (fit : IsFit setup t) where
     reached = on_reached scope ops.Enter (of_handle handle scope there) refl;
     turns = enters_on scope;
     closing = λ no. refl;
+    heard = of_open None _ (heard_entry t.handles [] scope at (bare_lane (id_at setup.ids lane)));
   }
 
   exited : (at lane guard : ℕ) (g : Guarded) → slot_at t.guards guard ≡ Some g → lane ≡ id_at setup.ids g.lane → Step at false (exits setup at lane guard g.scope)
@@ -281,6 +288,7 @@ module _ (setup : Setup) (t : Tables) (fit : IsFit setup t) where
     reached = on_reached g.scope ops.Exit (of_handle g.handle g.scope (fit.still guard g there)) refl;
     turns = exits_on_own g.scope;
     closing = λ no. refl;
+    heard = of_open None _ (heard_exit t.handles [] g.scope at (bare_lane lane));
   }
 
   on_calm : (scope : Scope) (op : Op) → (deed op).enters ≡ false → (deed op).exits ≡ false → AllByRecursion IsCalm (on scope op)
@@ -297,7 +305,7 @@ module _ (setup : Setup) (t : Tables) (fit : IsFit setup t) where
   updates_calm scope fields (Some callsite) = on_calm scope (ops.Update (span_update callsite (values_of callsite fields) setup.layer)) refl refl
 
   told : (at lane : ℕ) (answer : Reply) (done : List Done) → AllByRecursion (IsReached t.handles) done → AllByRecursion IsCalm done → Step at false (tells at lane answer done)
-  told at lane answer done reached calm = record { moment = refl; names = no_name; enters = no_entry; spends = no_spending; begins = tt; starts = tt; reached = reached; turns = calm; closing = λ no. refl }
+  told at lane answer done reached calm = record { moment = refl; names = no_name; enters = no_entry; spends = no_spending; begins = tt; starts = tt; reached = reached; turns = calm; closing = λ no. refl; heard = of_open None [] tt }
 
   -- one op on a known scope's own span
   one_told : (at lane : ℕ) (answer : Reply) (scope : Scope) (op : Op) → IsKnown t.handles scope → (deed op).own ≡ None → (deed op).enters ≡ false → (deed op).exits ≡ false → Step at false (tells at lane answer (on scope op))
@@ -317,20 +325,22 @@ module _ (setup : Setup) (t : Tables) (fit : IsFit setup t) where
     reached = on_reached (s ∷ up) op known refl;
     turns = on_calm (s ∷ up) op refl refl;
     closing = λ no. refl;
+    heard = of_open None [] tt;
   })
 
-  -- what a filter hears, or which is put in force, and what is measured is no part of a step
-  beside : (at : ℕ) (e : Effect) (text : Option (List ℕ)) (hooks : List Hook) (added : List Measure) → Step at false e → Step at false (record e { filter = text; heard = hooks; measures = added })
-  beside at e text hooks added s = record { moment = s.moment; names = s.names; enters = s.enters; spends = s.spends; begins = s.begins; starts = s.starts; reached = s.reached; turns = s.turns; closing = s.closing }
+  -- the same, of which a filter hears something, or which puts one in force, and with measures
+  beside : (at : ℕ) (e : Effect) (text : Option (List ℕ)) (hooks : List Hook) (added : List Measure) → Hears t.handles (length t.made) e.closes e.made hooks → Step at false e
+      → Step at false (record e { filter = text; heard = hooks; measures = added })
+  beside at e text hooks added hears s = record { moment = s.moment; names = s.names; enters = s.enters; spends = s.spends; begins = s.begins; starts = s.starts; reached = s.reached; turns = s.turns; closing = s.closing; heard = hears }
 
   given : (at lane : ℕ) (starting : Option ℕ) (context : Context) → Open (option_to_list starting) → Step at false (gives t at lane starting context)
-  given at lane starting context held = record { moment = refl; names = no_name; enters = no_entry; spends = no_spending; begins = tt; starts = held; reached = tt; turns = tt; closing = λ no. refl }
+  given at lane starting context held = record { moment = refl; names = no_name; enters = no_entry; spends = no_spending; begins = tt; starts = held; reached = tt; turns = tt; closing = λ no. refl; heard = of_open None [] tt }
 
   attached : (at lane : ℕ) (context : Context) → Step at false (attaches setup t at lane context)
-  attached at lane context = record { moment = refl; names = no_name; enters = skips lane; spends = no_spending; begins = tt; starts = tt; reached = tt; turns = tt; closing = λ no. refl }
+  attached at lane context = record { moment = refl; names = no_name; enters = skips lane; spends = no_spending; begins = tt; starts = tt; reached = tt; turns = tt; closing = λ no. refl; heard = of_open None [] tt }
 
   detached : (at lane guard : ℕ) → Step at false (detaches at lane guard)
-  detached at lane guard = record { moment = refl; names = no_name; enters = no_entry; spends = no_spending; begins = tt; starts = tt; reached = tt; turns = tt; closing = λ no. refl }
+  detached at lane guard = record { moment = refl; names = no_name; enters = no_entry; spends = no_spending; begins = tt; starts = tt; reached = tt; turns = tt; closing = λ no. refl; heard = of_open None [] tt }
 
   if_both : (at : ℕ) (b : Bool) (x y : Effect) → Step at false x → Step at false y → Step at false (cond b x y)
   if_both at true x y one two = one
@@ -411,7 +421,7 @@ module _ (setup : Setup) (t : Tables) (fit : IsFit setup t) where
       let enabled = admitted setup t (id_at setup.ids lane) there.0 in
       let known = known_place (id_at setup.ids lane) under reached.0 reached.1 in
       subst (Step at false) (the_effect _ e values.2)
-      (beside at (tells at (id_at setup.ids lane) (reply.Enabled enabled) _) None [] _
+      (beside at (tells at (id_at setup.ids lane) (reply.Enabled enabled) _) None [] _ (of_open None [] tt)
       (told at (id_at setup.ids lane) (reply.Enabled enabled) _
       (each_told _ enabled _ (each_on IsUnstarted _ reached.0 _ (reaches reached.0 known) (each_counted IsUnstarted refl setup.counting there.0 op refl)))
       (each_told _ enabled _ (each_on IsCalmOp _ reached.0 _ (λ s up o is calm. calm) (each_counted IsCalmOp (refl, refl) setup.counting there.0 op (refl, refl))))))
@@ -420,6 +430,7 @@ module _ (setup : Setup) (t : Tables) (fit : IsFit setup t) where
       let callsite = callsite_of setup t there.0 in
       subst (Step at false) (the_effect _ e there.2)
       (beside at (tells at (id_at setup.ids lane) reply.Done (updates setup.layer there.0 fields callsite)) None (heard_values at there.0 fields callsite) []
+      (of_open None _ (heard_record t.handles [] there.0 at fields callsite (own_open there.0 (of_handle handle there.0 there.1))))
       (told at (id_at setup.ids lane) reply.Done _ (updates_reached there.0 fields callsite (of_handle handle there.0 there.1)) (updates_calm there.0 fields callsite)))
   by_call at lane (call.HasField handle name) e is =
       let there = found what.Handle (slot_at t.handles handle) _ e is in
@@ -466,7 +477,7 @@ module _ (setup : Setup) (t : Tables) (fit : IsFit setup t) where
   by_call at lane (call.Reload text) e is = by_read (text_read text) is
     where
       by_read : (r : TextRead) → reloads_if at (id_at setup.ids lane) text r ≡ Ok e → Step at false e
-      by_read (Ok ds) read = subst (Step at false) (the_effect _ e read) (beside at (tells at (id_at setup.ids lane) reply.Done []) (Some text) [] [] (told at (id_at setup.ids lane) reply.Done [] tt tt))
+      by_read (Ok ds) read = subst (Step at false) (the_effect _ e read) (beside at (tells at (id_at setup.ids lane) reply.Done []) (Some text) [] [] (of_open None [] tt) (told at (id_at setup.ids lane) reply.Done [] tt tt))
       by_read (Err piece) read = absurd (cc read)
 
   pub step_of : (request : Request) (e : Effect) → effect_of setup t request ≡ Ok e → IsTimed t.moment e.at × IsStep setup t request.at (is_drop request.call) e

@@ -1,19 +1,26 @@
 //! What the gate of a run lets through.
-ghost use Rattle.std.specs.Prelude.{◌≡◌, ℕ, List, [], false};
+ghost use Rattle.std.specs.Prelude.{◌≡◌, ℕ, List, [], ◌++◌, Some, true, false, is_some};
 ghost use Rattle.trace_base.specs.declared.callsite.Callsite.{Callsite};
 ghost use Rattle.trace_base.specs.declared.field.ValueSet.{ValueSet};
-ghost use Rattle.env_filter.specs.Filtering.{is_admitted, span_level};
-ghost use Rattle.env_filter.specs.Histories.{AreInOrder, level_told, levels_told};
+ghost use Rattle.trace_base.specs.Spans.{is_in};
+ghost use Rattle.env_filter.specs.Filtering.{is_admitted};
+ghost use Rattle.env_filter.specs.Histories.{NeverFalls, level_told, levels_told};
 ghost use Rattle.span_pipeline.specs.Admission.{text_filter};
-ghost use Rattle.span_pipeline.specs.Effects.{admitted, events, reloads, in_force, filter_at};
+ghost use Rattle.span_pipeline.specs.Effects.{admitted, events, reloads, filter_at};
 ghost use Rattle.span_pipeline.specs.Setups.{Setup};
-ghost use Rattle.span_pipeline.specs.Tables.{Scope, Tables, after, quiet};
+ghost use Rattle.span_pipeline.specs.Tables.{History, Scope, Tables, after, quiet, tables};
 ghost use Rattle.span_pipeline.specs.declared.reply.Reply.TheVariants as reply;
+ghost use Rattle.span_laws.specs.Laws.{IsHistory};
+ghost use Rattle.span_laws.specs.Levels.{HasNoReload, directives_in, level_in};
 
-/// After a reload the gate speaks of the new text alone, whatever came before.
+/// After a reload the gate speaks of the new text alone, whatever came before. All else is as it was: spans that were made
+/// stay, whatever the new text says of them.
 pub fn reloads()
-    ensures { (setup : Setup) (t : Tables) (at on lane : ℕ) (text : List ℕ) (c : Callsite)
+    ensures gate { (setup : Setup) (t : Tables) (at on lane : ℕ) (text : List ℕ) (c : Callsite)
         → admitted setup (after t (reloads at on text)) lane c ≡ is_admitted (text_filter text) lane c }
+    ensures others { (setup : Setup) (h : History) (at on : ℕ) (text : List ℕ) → IsHistory setup h
+        → after (tables setup h) (reloads at on text)
+        ≡ record (tables setup h) { filter = Some text; heard = []; moment = at } }
 {}
 
 /// An event that isn't let through leaves nothing but its answer.
@@ -23,11 +30,20 @@ pub fn refused_events()
         → events setup t at lane c values reached ≡ quiet at lane (reply.Enabled false) }
 {}
 
-/// Where each span's making is heard once and before all else of it, the levels of spans and of lanes are those that the
-/// values say that were given since the filter was put in force.
+/// The levels of spans and of lanes are those that the values say that were given since the filter was put in force.
 pub fn levels()
-    ensures span { (setup : Setup) (t : Tables) (s : ℕ) → AreInOrder [] t.heard → span_level (filter_at setup t) s
-        ≡ level_told (text_filter (in_force setup t)).dynamics.directives s t.heard }
-    ensures lane { (setup : Setup) (t : Tables) (lane : ℕ) → AreInOrder [] t.heard → (filter_at setup t).lanes lane
-        ≡ levels_told (text_filter (in_force setup t)).dynamics.directives lane t.heard }
+    ensures span { (setup : Setup) (h : History) (s : ℕ) → IsHistory setup h
+        → level_in setup h s ≡ level_told (directives_in setup h) s (tables setup h).heard }
+    ensures lane { (setup : Setup) (h : History) (lane : ℕ) → IsHistory setup h
+        → (filter_at setup (tables setup h)).lanes lane
+        ≡ levels_told (directives_in setup h) lane (tables setup h).heard }
+{}
+
+/// While a filter is in force the level of a span never falls, and a span that has one keeps it until it closes.
+pub fn rises()
+    ensures level { (setup : Setup) (h later : History) (s : ℕ) → IsHistory setup (h ++ later) → HasNoReload later
+        → NeverFalls (level_in setup h s) (level_in setup (h ++ later) s) }
+    ensures kept { (setup : Setup) (h later : History) (s : ℕ) → IsHistory setup (h ++ later) → HasNoReload later
+        → is_in s (tables setup (h ++ later)).closed ≡ false
+        → is_some (level_in setup h s) ≡ true → is_some (level_in setup (h ++ later) s) ≡ true }
 {}

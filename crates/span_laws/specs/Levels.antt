@@ -1,0 +1,22 @@
+-- The levels that a filter keeps of spans, over a history.
+use Rattle.std.specs.Prelude.{◌≡◌, ℕ, List, Option, None}
+use Rattle.std.specs.List.{AllByRecursion}
+use Rattle.trace_base.specs.declared.level.LevelFilter.{LevelFilter}
+use Rattle.env_directives.specs.declared.env.directive.Directive.{Directive}
+use Rattle.env_filter.specs.Filtering.{span_level}
+use Rattle.span_pipeline.specs.Admission.{text_filter}
+use Rattle.span_pipeline.specs.Effects.{in_force, filter_at}
+use Rattle.span_pipeline.specs.Setups.{Setup}
+use Rattle.span_pipeline.specs.Tables.{Effect, History, tables}
+
+-- the level of a span in the filter in force
+abbrev pub level_in : Setup → History → ℕ → Option LevelFilter
+level_in setup h s = span_level (filter_at setup (tables setup h)) s
+
+-- the dynamic directives of the text in force
+abbrev pub directives_in : Setup → History → List Directive
+directives_in setup h = (text_filter (in_force setup (tables setup h))).dynamics.directives
+
+-- no other filter is put in force
+abbrev pub HasNoReload : History → Type 0
+HasNoReload h = AllByRecursion (λ (e : Effect). e.filter ≡ None) h
