@@ -18,9 +18,10 @@ use Rattle.trace_base.specs.Spans.{is_in}
 use Rattle.span_pipeline.specs.Setups.{Setup}
 use Rattle.span_pipeline.specs.Tables.{Scope, Made, Done, Effect, History, Tables, with_new, spend, slots_after, no_tables, nothing_recorded, after, tables, made_of, no_making, with_made, recorded_by, open_part, records_of, slot_at}
 use Rattle.span_pipeline.specs.Effects.{holds, is_open, effect_of}
+use Rattle.span_pipeline.proofs.Running.{records_push}
 use Rattle.span_laws.specs.Closes.{is_drop}
 use Rattle.span_laws.specs.Laws.{IsHistory, none, more, occurrences}
-use Rattle.span_laws.specs.Records.{IsRecord, Each, records_from, records, start_in, ops_in, ops_from, ops_of, closed_at}
+use Rattle.span_laws.specs.Records.{IsRecord, Each, records, start_in, ops_in, ops_from, ops_of, closed_at}
 use Rattle.span_laws.specs.Starts.{with_started, starts_of, started, place_in}
 use Rattle.span_laws.proofs.Closing.{IsSound, IsLine, Stands, named, step_stands, none_stands, fit_of}
 use Rattle.span_laws.proofs.Making.{first_of, starts_spare, made_stories}
@@ -52,10 +53,6 @@ ops_push own h e s = ops_on own s [] h e
 
 pub closed_push : (h : History) (e : Effect) (s : ℕ) → closed_at (h ++ e ∷ []) s ≡ (if is_in s e.closes then e.at else closed_at h s)
 closed_push h e s = fold_push (λ at e. if is_in s e.closes then e.at else at) 0 h e
-
-records_on : (t : Tables) (h : History) (e : Effect) → records_from t (h ++ e ∷ []) ≡ records_from t h ++ records_of (fold after t h) e
-records_on t [] e = append-nil (records_of t e)
-records_on t (x ∷ h) e = ap (λ (rs : List Record). records_of t x ++ rs) (records_on (after t x) h e) ∙ sym (append_assoc (records_of t x) (records_from (after t x) h) (records_of (fold after (after t x) h) e))
 
 -- the ops of one span among those of an effect
 done_all : (at : ℕ) (done : ℕ → SpanContext → List Stamped) (ds : List Done) (s : ℕ) (own : SpanContext) → fold (λ f d. done_by at d f) done ds s own ≡ done s own ++ map (λ d. stamp at d.op) (filter (λ d. d.span == s) ds)
@@ -358,7 +355,7 @@ module _ (setup : Setup) (h : History) (now : IsWhole setup h (tables setup h)) 
       (same_record setup (first_of ms s) (begun_by e.at order e.closes done s) (done_in h' s) (place_in order_in_end s) (place_in (started h') s) e.at r (done_is s) (ap (λ (o : List ℕ). place_in o s) (sym (started_push h e))) c)
 
   records_now : records setup h' ≡ records setup h ++ closes.records
-  records_now = records_on (no_tables setup) h e ∙ ap (λ (rs : List Record). records setup h ++ rs) (closes.finished ∙ ap (λ (rs : List Record). rs ++ closes.records) (before_finished (length t.made) e t.recording ∙ now.clear))
+  records_now = records_push (no_tables setup) h e ∙ ap (λ (rs : List Record). records setup h ++ rs) (closes.finished ∙ ap (λ (rs : List Record). rs ++ closes.records) (before_finished (length t.made) e t.recording ∙ now.clear))
 
   each_now : Each (IsClosed setup ms h') (t.closed ++ e.closes) (records setup h')
   each_now = subst (Each (IsClosed setup ms h') (t.closed ++ e.closes)) (sym records_now)

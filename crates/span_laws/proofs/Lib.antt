@@ -8,6 +8,7 @@ mod Guarding
 mod Hearing
 mod Histories
 mod Levels
+mod Legal
 mod Making
 mod Numbering
 mod Occurrences

@@ -12,17 +12,9 @@ use Rattle.otel_state.specs.Opening.{parent_of}
 use Rattle.otel_state.specs.States.{Told, begun, changed}
 use Rattle.otel_state.specs.Times.{InOrder, open_by}
 use Rattle.trace_base.specs.Spans.{is_in}
-use Rattle.span_pipeline.specs.Setups.{Setup}
-use Rattle.span_pipeline.specs.Tables.{Effect, History, Tables, no_tables, after, records_of}
+pub use Rattle.span_pipeline.specs.Outcomes.{records_from, records}
+use Rattle.span_pipeline.specs.Tables.{Effect, History}
 use Rattle.span_laws.specs.Starts.{with_started, starts_of}
-
--- the records of a history that goes on from some tables: those of each effect, in order
-abbrev pub records_from : Tables → History → List Record
-records_from t [] = []
-records_from t (e ∷ h) = records_of t e ++ records_from (after t e) h
-
-abbrev pub records : Setup → History → List Record
-records setup h = records_from (no_tables setup) h
 
 -- each record is that of the span at its place
 abbrev pub Each : (ℕ → Record → Type 0) → List ℕ → List Record → Type 0

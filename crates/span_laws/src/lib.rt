@@ -7,4 +7,5 @@ pub mod contents;
 pub mod filters;
 pub mod ids;
 pub mod laws;
+pub mod scripts;
 pub mod times;

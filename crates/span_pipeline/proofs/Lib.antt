@@ -34,6 +34,7 @@ mod Recordings
 mod Refusing
 mod Reloading
 mod Requiring
+pub mod Running
 mod Scopes
 mod Serving
 mod Sited

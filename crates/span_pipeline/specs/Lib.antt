@@ -4,6 +4,7 @@ pub mod Effects
 pub mod Fields
 pub mod Fits
 pub mod Guards
+pub mod Outcomes
 pub mod Refusals
 pub mod Setups
 pub mod Slots

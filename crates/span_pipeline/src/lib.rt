@@ -17,10 +17,12 @@ pub mod pipeline;
 mod records;
 pub mod reply;
 pub mod request;
+mod runs;
 pub mod settings;
 pub mod slots;
 
 pub use pipeline::{OpenError, Pipeline};
 pub use reply::{Refusal, Reply, What};
 pub use request::{Call, LAST_MOMENT, Place, Request};
+pub use runs::Outcome;
 pub use settings::Settings;

@@ -1,0 +1,6 @@
+-- The history of a script is legal.
+use Rattle.span_laws.proofs.Legal.{scripts_are_legal}
+use Rattle.span_laws.proofs.scripts.scripts.Goals as goal
+
+pub returns : goal.returns
+returns c = scripts_are_legal

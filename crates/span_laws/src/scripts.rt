@@ -1,0 +1,12 @@
+//! Of which histories the laws speak.
+ghost use Rattle.std.specs.Prelude.{List};
+ghost use Rattle.span_pipeline.specs.declared.request.Request.{Request};
+ghost use Rattle.span_pipeline.specs.Outcomes.{history_of};
+ghost use Rattle.span_pipeline.specs.Setups.{Setup};
+ghost use Rattle.span_laws.specs.Laws.{IsHistory};
+
+/// The history that a script's requests make is legal, whichever they are: so each law here speaks of all that
+/// `span_pipeline::Pipeline::run` gives.
+pub fn scripts()
+    ensures { (setup : Setup) (requests : List Request) → IsHistory setup (history_of setup requests) }
+{}

@@ -1,0 +1,6 @@
+-- There is a reply to each request that was served.
+use Rattle.span_pipeline.proofs.Running.{opened_replies}
+use Rattle.span_pipeline.proofs.pipeline.Pipeline.run.Goals as goal
+
+pub returns-clause-replies : goal.returns-clause-replies
+returns-clause-replies c = opened_replies c.in_ok-pipeline.pipeline _ _ c.run_all-outcome.result c.map_err.result _ c.in_ok-pipeline.ensures.setup c.in_ok-pipeline.ensures.stands c.in_ok-pipeline.ensures.records c.run_all-outcome.ensures.ok c.map_err.ensures.cases c.map_err.ensures.variant

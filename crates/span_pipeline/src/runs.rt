@@ -1,0 +1,108 @@
+//! Whole scripts, run at once.
+ghost use Rattle.std.specs.Prelude.{◌≡◌, ◌≢◌, [], map, IfSome, IfOk, OnOk, IfErr, Ok};
+ghost use Rattle.span_pipeline.specs.Admission.{opening_read, IsUnread};
+ghost use Rattle.span_pipeline.specs.Setups.{HasOwnIds, setup_by};
+ghost use Rattle.span_pipeline.specs.Outcomes.{HasReplies, outcome_of};
+
+use crate::pipeline::{OpenError, Pipeline};
+use crate::reply::{Refusal, Reply};
+use crate::request::Request;
+use crate::settings::Settings;
+use otel_base::list::Items;
+use otel_base::memory::Memory;
+use otel_base::record::Record;
+use std::alloc::Global;
+use trace_base::discard::Discard;
+
+/// What a whole script gives.
+#[derive(Drop)]
+pub struct Outcome {
+    /// The replies to the requests before the first refused one, or to all of them.
+    pub replies: Items<Reply>,
+    /// The records of the spans that these requests closed, oldest first.
+    pub records: Items<Record>,
+    /// The place of the first refused request, from 0, and why it is refused; `None` where none is. It is never
+    /// refused for want of memory.
+    pub refused: Option<(u64, Refusal)>,
+    /// How many spans are open behind the requests that were served.
+    pub left_open: u64,
+}
+
+impl Pipeline {
+    ghost use Rattle.span_pipeline.specs.Tables.{tables};
+    ghost use Rattle.span_pipeline.specs.Fits.{StandsFor};
+    ghost use Rattle.span_pipeline.specs.Outcomes.{Ran};
+
+    /// Stands for a whole script at once: its requests up to the first refused one, of which each reply is read off the
+    /// requests before it. `trace_tool` steps line by line. `Directive` where `open` answers it; it may answer `Memory`,
+    /// at any request too. The measures are given up.
+    pub fn run(
+        alloc: Global,
+        settings: Settings,
+        requests: Items<Request>,
+    ) -> Result<Outcome, OpenError>
+        requires { HasOwnIds (map (λ l. l.0) settings.lanes) }
+        ensures ok { IfOk result (λ outcome. outcome ≡ outcome_of (setup_by settings) requests) }
+        ensures replies { IfOk result (HasReplies requests) }
+        ensures not_memory { IfOk result (λ outcome. IfSome outcome.refused (λ refused. refused.1 ≢ Refusal.Memory)) }
+        ensures read { OnOk result (opening_read settings.filter settings.counting ≡ Ok tt) }
+        ensures refused { IfErr result (IsUnread (opening_read settings.filter settings.counting)) }
+        ensures complete { opening_read settings.filter settings.counting ≡ Ok tt
+            → IfErr result (λ error. error ≡ OpenError.Memory) }
+    {
+        let mut pipeline = Pipeline::open(alloc, settings)?;
+        let outcome = pipeline.run_all(alloc, requests);
+        pipeline.discard();
+        outcome.map_err(|_| OpenError::Memory)
+    }
+
+    // The outcome of requests, none having come before.
+    fn run_all(&mut self, alloc: Global, requests: Items<Request>) -> Result<Outcome, Memory>
+        ensures ok { StandsFor self.old (tables self.old.setup []) → self.old.recording.finished ≡ []
+            → IfOk result (λ outcome. outcome ≡ outcome_of self.old.setup requests) }
+        ensures not_memory { IfOk result (λ outcome. IfSome outcome.refused (λ refused. refused.1 ≢ Refusal.Memory)) }
+    {
+        let mut replies = Vec::new(alloc);
+        let refused = self.serve(requests.into_vec(), &mut replies)?;
+        let left_open = self.open_spans();
+        Ok(Outcome {
+            replies: Items::from(replies),
+            records: self.take_records(alloc)?,
+            refused,
+            left_open,
+        })
+    }
+
+    // Adds the replies to requests, none having come before, and gives the first refused one.
+    fn serve(
+        &mut self,
+        requests: Vec<Request>,
+        replies: &mut Vec<Reply>,
+    ) -> Result<Option<(u64, Refusal)>, Memory>
+        ensures ok { StandsFor self.old (tables self.old.setup []) → self.old.recording.finished ≡ []
+            → replies.old.items ≡ []
+            → IfOk result (Ran self.old.setup requests.items self.new replies.new.items) }
+        ensures not_memory { IfOk result (λ refused. IfSome refused (λ refused. refused.1 ≢ Refusal.Memory)) }
+    {
+        for request in requests {
+            match self.step(request) {
+                Ok(reply) => replies.push(reply)?,
+                Err(Refusal::Memory) => return Err(Memory),
+                // Each request before has a reply.
+                Err(refusal) => return Ok(Some((replies.len() as u64, refusal))),
+            }
+        }
+        Ok(None)
+    }
+
+    // Takes all records.
+    fn take_records(&mut self, alloc: Global) -> Result<Items<Record>, Memory>
+        ensures { IfOk result (λ records. records ≡ self.old.recording.finished) }
+    {
+        let mut records = Items::new(alloc);
+        while let Some(finished) = self.take_record() {
+            records.push(finished)?;
+        }
+        Ok(records)
+    }
+}
