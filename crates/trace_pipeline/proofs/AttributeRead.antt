@@ -1,5 +1,5 @@
 -- The value of each attribute, status and time is read as it.
-use Rattle.std.proofs.Common.{◌≡◌, ℕ, ◌≤◌, ℤ, pos, negsuc, List, [], ◌∷◌, Option, Some, option_map, option_and_then, refl, ap, ◌∙◌, arith}
+use Rattle.std.proofs.Common.{◌≡◌, ℕ, ◌≤◌, pos, negsuc, List, [], ◌∷◌, Some, option_map, option_and_then, refl, ap, ◌∙◌, arith}
 use Rattle.std.proofs.lemmas.Bool.Decides.{nat_tests}
 use Rattle.otel_base.specs.declared.status.Status.{Status}
 use Rattle.otel_base.specs.declared.status.Status.TheVariants as status

@@ -1,5 +1,5 @@
 -- The value of each field is read as the field.
-use Rattle.std.proofs.Common.{◌≡◌, ◌≢◌, ℕ, zero, suc, ◌+◌, ◌-◌, ◌^◌, ◌<◌, ◌≤◌, ℤ, pos, negsuc, neg_ℤ, List, [], ◌∷◌, length, get_or, Bool, true, false, Option, Some, None, option_map, option_and_then, nat_lt, nat_le, decimal, refl, ap, subst, ◌∙◌, arith, ◌&&◌, if◌then◌else◌}
+use Rattle.std.proofs.Common.{◌≡◌, ◌≢◌, ℕ, suc, ◌-◌, ◌^◌, ◌<◌, ℤ, pos, negsuc, neg_ℤ, List, [], ◌∷◌, true, Some, None, option_map, option_and_then, nat_lt, nat_le, decimal, refl, ap, subst, ◌∙◌, arith, ◌&&◌, if◌then◌else◌}
 use Rattle.std.specs.Fmt.{signed_decimal}
 use Rattle.std.specs.Str.Parse.{AllDigits, IsNumeral}
 use Rattle.std.proofs.lemmas.Bool.Decides.{nat_tests}
@@ -9,11 +9,11 @@ use Rattle.serde_json.specs.Data.{string}
 use Rattle.serde_json.specs.Find.{as_str}
 use Rattle.trace_base.specs.declared.field.Value.{Value}
 use Rattle.trace_base.specs.declared.field.Value.TheVariants.{Bool as Truth, I64, U64, I128, U128, Str, Debug, Error}
-use Rattle.trace_pipeline.specs.Decimals.{u128_word, i128_word, below_zero, from_zero}
+use Rattle.trace_pipeline.specs.Decimals.{i128_word, below_zero, from_zero}
 use Rattle.trace_pipeline.specs.FieldData.{written_value, written_field, HasBits, IsValue, AreValues}
-use Rattle.trace_pipeline.specs.FieldForm.{error_form, typed_form, value_of, field_of, fields_of}
+use Rattle.trace_pipeline.specs.FieldForm.{error_form, typed_form, value_of, field_of}
 use Rattle.trace_pipeline.specs.Forms.{at_most, each}
-use Rattle.trace_pipeline.specs.Object.{items, array_of}
+use Rattle.trace_pipeline.specs.Object.{items}
 use Rattle.trace_pipeline.proofs.Decimals.{decimal_read, no_minus}
 
 -- ---- signed numbers

@@ -1,10 +1,9 @@
 -- Pairs of names and values, and fields in a text.
 use Rattle.std.proofs.Common.{◌≡◌, ◌≢◌, ℕ, ◌+◌, List, [], ◌∷◌, ◌++◌, length, Option, Some, None, option_map, option_and_then, unwrap_or, refl, sym, ap, ◌∙◌, arith, append_assoc, length-append}
 use Rattle.json.specs.Print.{quoted}
-use Rattle.serde_json.specs.Data.{Data, null, boolean, number, string, array, object, Items, no_items, item}
-use Rattle.serde_json.specs.Find.{as_array, as_object}
-use Rattle.serde_json.specs.Read.{of_json, of_items}
-use Rattle.serde_json.specs.Written.{compact_text, outline}
+use Rattle.serde_json.specs.Data.{Data, null, boolean, number, string, array, object, no_items, item}
+use Rattle.serde_json.specs.Find.{as_object}
+use Rattle.serde_json.specs.Written.{compact_text}
 use Rattle.trace_base.specs.declared.field.Value.{Value as FieldValue}
 use Rattle.trace_pipeline.specs.Compact.{nested, Begins}
 use Rattle.trace_pipeline.specs.FieldForm.{typed_form, value_of, field_of, fields_of}

@@ -1,12 +1,11 @@
 -- What a reader answers for what there is to be read. Want of memory says nothing.
 use Rattle.std.specs.Prelude.{◌≡◌, Option, Some, None, Result, Ok, Err}
 use Rattle.trace_pipeline.specs.declared.read.LineError.{LineError}
-use Rattle.trace_pipeline.specs.declared.read.LineError.TheVariants.{BadLine, Later, Memory}
+use Rattle.trace_pipeline.specs.declared.read.LineError.TheVariants.{BadLine, Memory}
 
 -- what is read is refused as BadLine, exactly where it is not of its form
 abbrev pub Fails : {Y : Type 0} → LineError → Option Y → Type 0
 Fails BadLine read = read ≡ None
-Fails Later read = ⊥
 Fails Memory read = Unit {0}
 
 -- what a reader gives, seen by a view

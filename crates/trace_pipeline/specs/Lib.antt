@@ -9,7 +9,6 @@ pub mod Decimals
 pub mod FieldForm
 pub mod AttributeForm
 pub mod ExtensionForm
-pub mod Awaited
 pub mod SettingsForm
 pub mod RequestForm
 pub mod FieldData
@@ -18,6 +17,7 @@ pub mod Spelled
 pub mod Hex
 pub mod Object
 pub mod RecordData
+pub mod MeasureData
 pub mod Texts
 pub mod Writes
 pub mod Report

@@ -1,19 +1,22 @@
 -- What a run writes for its input, and whether it accepts it.
-use Rattle.std.specs.Prelude.{◌≡◌, ℕ, ◌+◌, ◌≤◌, List, [], ◌∷◌, ◌++◌, length, Bool, true, false, if◌then◌else◌, Result, Ok, Err}
+use Rattle.std.specs.Prelude.{◌≡◌, ℕ, ◌+◌, ◌≤◌, List, [], ◌∷◌, ◌++◌, length, flat_map, Bool, true, false, if◌then◌else◌, Result, Ok, Err}
 use Rattle.otel_base.specs.declared.record.Record.{Record}
+use Rattle.otel_metrics.specs.declared.measure.Measure.{Measure}
 use Rattle.trace_pipeline.specs.declared.limits.TheConstants.{MAX_INPUT}
 use Rattle.span_pipeline.specs.declared.settings.Settings.{Settings}
+use Rattle.trace_pipeline.specs.declared.signal.Signal.{Signal}
+use Rattle.trace_pipeline.specs.declared.signal.Signal.TheVariants as signal
 use Rattle.trace_pipeline.specs.declared.told.Told.{Told}
 use Rattle.trace_pipeline.specs.declared.told.Told.TheVariants as told
 use Rattle.span_pipeline.specs.declared.request.Request.{Request}
 use Rattle.span_pipeline.specs.declared.reply.Reply.{Reply}
-use Rattle.span_pipeline.specs.Admission.{TextRead, text_read}
+use Rattle.span_pipeline.specs.Admission.{OpeningRead, opening_read}
 use Rattle.span_pipeline.specs.Setups.{Setup, setup_by}
 use Rattle.span_pipeline.specs.Tables.{History, Effect, Tables, tables, records_of}
 use Rattle.span_pipeline.specs.Effects.{Resolved, effect_of, open_spans}
 use Rattle.trace_pipeline.specs.Lines.{lines_of, is_blank}
 use Rattle.trace_pipeline.specs.Spelled.{settings_spelled, request_spelled}
-use Rattle.trace_pipeline.specs.Texts.{reply_text, record_text, refusal_text, end_text}
+use Rattle.trace_pipeline.specs.Texts.{reply_text, record_text, measure_text, refusal_text, end_text, measures_end_text}
 
 -- what is written, and whether no line is refused
 pub record Report : Type 0 where
@@ -33,10 +36,25 @@ abbrev pub record_lines : ℕ → List Record → List ℕ
 record_lines number [] = []
 record_lines number (finished ∷ more) = record_text number finished ++ record_lines (number + 1) more
 
--- what is written for the request on a line, so many records having come before: its reply, and the records of the
--- spans that it closed
-abbrev pub answer_text : ℕ → ℕ → Reply → List Record → List ℕ
-answer_text line records answer finished = reply_text line answer ++ record_lines (records + 1) finished
+-- the measure lines of the event on a line
+abbrev pub measure_lines : ℕ → List Measure → List ℕ
+measure_lines line measures = flat_map (measure_text line) measures
+
+-- what is written for the request on a line, so many records or measures having come before: its reply, and the records
+-- of the spans that it closed; or its measures
+abbrev pub answer_text : Signal → ℕ → ℕ → Reply → List Record → List Measure → List ℕ
+answer_text signal.Traces line count answer finished measures = reply_text line answer ++ record_lines (count + 1) finished
+answer_text signal.Metrics line count answer finished measures = measure_lines line measures
+
+-- how many records or measures these are
+abbrev pub answer_count : Signal → List Record → List Measure → ℕ
+answer_count signal.Traces finished measures = length finished
+answer_count signal.Metrics finished measures = length measures
+
+-- the end line, by how many spans are open, and how many records or measures were written
+abbrev pub last_text : Signal → ℕ → ℕ → List ℕ
+last_text signal.Traces spans count = end_text spans count
+last_text signal.Metrics spans count = measures_end_text count
 
 -- why the step is refused, as the line's refusal
 abbrev pub told_step : Resolved → Result Effect Told
@@ -55,45 +73,49 @@ abbrev pub following : Result Effect Told → (Effect → Report) → ℕ → Re
 following (Ok effect) go line = go effect
 following (Err why) go line = refused line why
 
--- The report on the request lines, so many lines and so many records having come before. Each line's request is one
--- effect more of the history.
-abbrev pub report_on : Setup → History → ℕ → ℕ → List (List ℕ) → Report
-report_on setup h n records [] = record { written = end_text (open_spans (tables setup.layer h)) records; accepted = true }
-report_on setup h n records (text ∷ lines) =
-    if is_blank text then report_on setup h (n + 1) records lines else
-    following (effect_of_line setup (tables setup.layer h) text)
-    (λ effect. behind (answer_text (n + 1) records effect.reply (records_of (tables setup.layer h) effect))
-    (report_on setup (h ++ effect ∷ []) (n + 1) (records + length (records_of (tables setup.layer h) effect)) lines)) (n + 1)
+-- The report on the request lines, so many lines and so many records or measures having come before. Each line's request
+-- is one effect more of the history.
+abbrev pub report_on : Signal → Setup → History → ℕ → ℕ → List (List ℕ) → Report
+report_on signal setup h n count [] = record { written = last_text signal (open_spans (tables setup h)) count; accepted = true }
+report_on signal setup h n count (text ∷ lines) =
+    if is_blank text then report_on signal setup h (n + 1) count lines else
+    following (effect_of_line setup (tables setup h) text)
+    (λ effect. behind (answer_text signal (n + 1) count effect.reply (records_of (tables setup h) effect) effect.measures)
+    (report_on signal setup (h ++ effect ∷ []) (n + 1) (count + answer_count signal (records_of (tables setup h) effect) effect.measures) lines)) (n + 1)
 
--- a run isn't opened where the filter's text has a piece that is no directive
-abbrev pub opened : TextRead → Report → ℕ → Report
-opened (Ok directives) report line = report
-opened (Err piece) report line = refused line (told.Directive piece)
+-- a run isn't opened where a text of the settings has a piece that is no directive
+abbrev pub opened : OpeningRead → Report → ℕ → Report
+opened (Ok read) report line = report
+opened (Err unread) report line = refused line (told.Directive unread.0 unread.1)
 
 abbrev pub opening : Result Settings Told → (Settings → Report) → ℕ → Report
-opening (Ok settings) go line = opened (text_read settings.filter) (go settings) line
+opening (Ok settings) go line = opened (opening_read settings.filter settings.counting) (go settings) line
 opening (Err why) go line = refused line why
 
 -- The first line that isn't blank is the settings line. If there is none, the input is refused at its end.
-abbrev pub report_from : ℕ → List (List ℕ) → Report
-report_from n [] = refused (n + 1) told.BadLine
-report_from n (text ∷ lines) =
-    if is_blank text then report_from (n + 1) lines else
-    opening (settings_spelled text) (λ settings. report_on (setup_by settings) [] (n + 1) 0 lines) (n + 1)
+abbrev pub report_from : Signal → ℕ → List (List ℕ) → Report
+report_from signal n [] = refused (n + 1) told.BadLine
+report_from signal n (text ∷ lines) =
+    if is_blank text then report_from signal (n + 1) lines else
+    opening (settings_spelled text) (λ settings. report_on signal (setup_by settings) [] (n + 1) 0 lines) (n + 1)
 
-abbrev pub report : List ℕ → Report
-report bytes = report_from 0 (lines_of bytes)
+abbrev pub report : Signal → List ℕ → Report
+report signal bytes = report_from signal 0 (lines_of bytes)
 
 -- the output of some bytes
-abbrev pub output : List ℕ → List ℕ
-output bytes = (report bytes).written
+abbrev pub output : Signal → List ℕ → List ℕ
+output signal bytes = (report signal bytes).written
+
+-- no line is refused, which doesn't depend on what is told
+abbrev pub accepts : List (List ℕ) → Bool
+accepts lines = (report_from signal.Traces 0 lines).accepted
 
 -- Bytes are valid if they are no more than an input may have, have a settings line, and none of their lines
 -- is refused.
 pub record IsValid (bytes : List ℕ) : Type 0 where
   pub short : length bytes ≤ MAX_INPUT
-  pub accepted : (report bytes).accepted ≡ true
+  pub accepted : accepts (lines_of bytes) ≡ true
 
 -- some line is refused, or the input ends without a settings line
 abbrev pub IsRefused : List ℕ → Type 0
-IsRefused bytes = (report bytes).accepted ≡ false
+IsRefused bytes = accepts (lines_of bytes) ≡ false

@@ -91,15 +91,16 @@ all_differ (n ∷ ns) = not (list_any (λ m. n == m) ns) && all_differ ns
 abbrev pub ids : List Lane → List ℕ
 ids lanes = map (λ lane. lane.0) lanes
 
--- The filter is any text, and the ids of the lanes differ.
+-- The filter is any text, and so is that for counting, where there is one; the ids of the lanes differ.
 unfoldable pub settings_form : Form Settings
 settings_form = do
   callsite_items ← array (codes "callsites")
   callsites ← when (each (object_of callsite_form) callsite_items)
+  counting ← optional_text (codes "counting")
   filter ← text (codes "filter")
   lane_items ← array (codes "lanes")
   lanes ← when (each (object_of lane_form) lane_items)
   differ ← when (provided (all_differ (ids lanes)))
   layer_there ← optional (codes "layer")
   layer ← when (if_absent default_settings (object_of layer_form) layer_there)
-  give (record { filter = filter; lanes = lanes; callsites = callsites; layer = layer })
+  give (record { filter = filter; counting = counting; lanes = lanes; callsites = callsites; layer = layer })

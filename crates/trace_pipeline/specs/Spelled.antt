@@ -1,6 +1,5 @@
--- What lines spell: settings and requests, or why they spell none.
-use Rattle.std.specs.Prelude.{ℕ, List, Option, None, Bool, true, false, ok_or, option_and_then, Result, if◌then◌else◌}
-use Rattle.std.specs.Option.{option_map_or}
+-- What lines spell: settings and requests, or that they are bad lines.
+use Rattle.std.specs.Prelude.{ℕ, List, Option, None, ok_or, option_and_then, Result, if◌then◌else◌}
 use Rattle.std.specs.Str.{is_utf8}
 use Rattle.serde_json.specs.Data.{Data, Members}
 use Rattle.serde_json.specs.Read.{read}
@@ -8,9 +7,8 @@ use Rattle.serde_json.specs.Find.{as_object}
 use Rattle.span_pipeline.specs.declared.settings.Settings.{Settings}
 use Rattle.span_pipeline.specs.declared.request.Request.{Request}
 use Rattle.trace_pipeline.specs.declared.told.Told.{Told}
-use Rattle.trace_pipeline.specs.declared.told.Told.TheVariants.{BadLine, Later}
+use Rattle.trace_pipeline.specs.declared.told.Told.TheVariants.{BadLine}
 use Rattle.trace_pipeline.specs.Forms.{all_of}
-use Rattle.trace_pipeline.specs.Awaited.{awaits_settings}
 use Rattle.trace_pipeline.specs.SettingsForm.{settings_form}
 use Rattle.trace_pipeline.specs.RequestForm.{request_form}
 
@@ -22,18 +20,13 @@ line_value line = if is_utf8 line then read line else None
 abbrev pub line_members : List ℕ → Option Members
 line_members line = option_and_then as_object (line_value line)
 
--- a settings line that spells nothing is for later if it asks for what isn't built yet, else it is a bad line
-abbrev pub refused : Bool → Told
-refused true = Later
-refused false = BadLine
-
 -- what a line spells by a form
 abbrev pub spelled : {A : Type 0} → (Members → Option A) → List ℕ → Option A
 spelled form line = option_and_then form (line_members line)
 
--- the settings that a line spells, or why it spells none
+-- the settings that a line spells
 unfoldable pub settings_spelled : List ℕ → Result Settings Told
-settings_spelled line = ok_or (spelled (all_of settings_form) line) (refused (option_map_or awaits_settings (line_members line) false))
+settings_spelled line = ok_or (spelled (all_of settings_form) line) BadLine
 
 -- the request that a line spells
 unfoldable pub request_spelled : List ℕ → Result Request Told

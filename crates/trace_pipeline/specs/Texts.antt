@@ -1,7 +1,8 @@
 -- The texts of the lines that are written.
-use Rattle.std.specs.Prelude.{ℕ, List, [], ◌∷◌, codes, true, Result, Ok, Err}
+use Rattle.std.specs.Prelude.{ℕ, List, [], ◌∷◌, codes, Bool, true, false, Result, Ok, Err}
 use Rattle.serde_json.specs.Data.{Data, boolean, string, object}
 use Rattle.otel_base.specs.declared.record.Record.{Record}
+use Rattle.otel_metrics.specs.declared.measure.Measure.{Measure}
 use Rattle.otel_state.specs.declared.op.SetParentError.{SetParentError}
 use Rattle.otel_state.specs.declared.op.SetParentError.TheVariants as unset
 use Rattle.span_pipeline.specs.declared.reply.Reply.{Reply}
@@ -15,6 +16,7 @@ use Rattle.trace_pipeline.specs.declared.told.Told.TheVariants as told
 use Rattle.trace_pipeline.specs.Hex.{hex16, hex32}
 use Rattle.trace_pipeline.specs.Object.{by_name, whole_number, line_of}
 use Rattle.trace_pipeline.specs.RecordData.{record_data}
+use Rattle.trace_pipeline.specs.MeasureData.{measure_data}
 
 -- ---- replies
 
@@ -52,6 +54,12 @@ reply_text line answer = line_of (reply_data line answer)
 unfoldable pub record_text : ℕ → Record → List ℕ
 record_text number finished = line_of (record_data number finished)
 
+-- ---- measures
+
+-- the line of a measure of the event on a line
+unfoldable pub measure_text : ℕ → Measure → List ℕ
+measure_text line measure = line_of (measure_data line measure)
+
 -- ---- refusals
 
 -- the name of what is unknown
@@ -66,6 +74,11 @@ what_name what.Field = codes "field"
 -- the member that names a refusal
 abbrev pub refused_as : List ℕ → List ℕ × Data
 refused_as name = (codes "refused", string name)
+
+-- the settings' texts of directives by their names: the one for counting, and the filter's
+abbrev pub text_name : Bool → List ℕ
+text_name true = codes "counting"
+text_name false = codes "filter"
 
 -- a text of directives that isn't read, and the number of its piece that is none
 abbrev pub directive_members : List ℕ → ℕ → List (List ℕ × Data)
@@ -89,8 +102,7 @@ step_members refusal.Memory = refused_as (codes "Memory") ∷ []
 -- what a refusal line tells of the refusal
 abbrev pub told_members : Told → List (List ℕ × Data)
 told_members told.BadLine = refused_as (codes "BadLine") ∷ []
-told_members told.Later = refused_as (codes "Later") ∷ []
-told_members (told.Directive piece) = directive_members (codes "filter") piece
+told_members (told.Directive counting piece) = directive_members (text_name counting) piece
 told_members (told.Step why) = step_members why
 
 -- a refusal of which the name alone is told, with the number of its line
@@ -116,7 +128,7 @@ refusal_text line why = line_of (refusal_data line why)
 
 -- ---- the end
 
--- the end of a run
+-- the end of a run that tells traces
 abbrev pub end_data : ℕ → ℕ → Data
 end_data open_spans records = object (by_name (
     (codes "done", boolean true)
@@ -126,3 +138,12 @@ end_data open_spans records = object (by_name (
 -- the last line, which tells how many spans are open and how many records were written
 unfoldable pub end_text : ℕ → ℕ → List ℕ
 end_text open_spans records = line_of (end_data open_spans records)
+
+-- the end of a run that tells metrics
+abbrev pub measures_end_data : ℕ → Data
+measures_end_data measures = object (by_name (
+    (codes "done", boolean true) ∷ (codes "measures", whole_number measures) ∷ []))
+
+-- the last line, which tells how many measures were written
+unfoldable pub measures_end_text : ℕ → List ℕ
+measures_end_text measures = line_of (measures_end_data measures)

@@ -7,14 +7,16 @@ pub mod laws;
 mod level_words;
 pub mod limits;
 pub mod read;
+pub mod signal;
 pub mod told;
 pub mod write;
 
 pub use limits::MAX_INPUT;
 pub use read::{LineError, read_fields, read_request, read_settings};
+pub use signal::Signal;
 pub use span_pipeline::{Call, LAST_MOMENT, Place, Refusal, Reply, Request, Settings, What};
 pub use told::Told;
 pub use write::{
-    append_end, append_record, append_refusal, append_reply, end_line, record_line, refusal_line,
-    reply_line,
+    append_end, append_measure, append_measures_end, append_record, append_refusal, append_reply,
+    end_line, measure_line, measures_end_line, record_line, refusal_line, reply_line,
 };

@@ -10,7 +10,6 @@ ghost use Rattle.trace_pipeline.specs.declared.told.Told.{Told};
 ghost use Rattle.trace_pipeline.specs.declared.read.LineError.TheVariants.{Memory};
 
 mod attributes;
-mod awaited;
 mod decimal;
 mod extension;
 mod fields;
@@ -26,7 +25,6 @@ mod settings;
 mod tree;
 mod value;
 
-use awaited::{awaits_settings, refused};
 pub use fields::read_fields;
 use object::Object;
 use otel_base::memory;
@@ -39,8 +37,6 @@ use std::alloc::{AllocError, AllocFailed, Global};
 pub enum LineError {
     /// The line is no JSON, or no object, or one of no form.
     BadLine,
-    /// The line is an object that asks for what isn't built yet.
-    Later,
     /// No memory was to be had.
     Memory,
 }
@@ -88,19 +84,14 @@ fn request_of(alloc: Global, line: &[u8]) -> Result<Request, LineError>
     Ok(request)
 }
 
-/// Reads a settings line. `BadLine` where it is no JSON or no object or one of no form; in its place `Later` where it has a
-/// `counting`, which isn't built yet. `Memory` freely.
+/// Reads a settings line. `BadLine` where it is no JSON or no object or one of no form, `Memory` freely.
 #[tactic(auto, using(crate::proofs::OwnIds::own_ids), unfolding(crate::specs::Spelled::settings_spelled))]
 pub fn read_settings(alloc: Global, line: &[u8]) -> Result<Settings, LineError>
     ensures ok { IfOk result (λ settings. settings_spelled line.now ≡ Ok settings) }
     ensures lanes { IfOk result (λ settings. HasOwnIds (map (λ l. l.0) settings.lanes)) }
     ensures bad_line { IsErrOf result LineError.BadLine → settings_spelled line.now ≡ Err Told.BadLine }
-    ensures later { IsErrOf result LineError.Later → settings_spelled line.now ≡ Err Told.Later }
 {
-    match settings_of(alloc, line) {
-        Err(LineError::BadLine) => Err(refused(awaits_settings(alloc, line)?)),
-        read => read,
-    }
+    settings_of(alloc, line)
 }
 
 /// Reads a request line. `BadLine` where it is no JSON or no object or one of no form, `Memory` freely.
@@ -108,7 +99,6 @@ pub fn read_settings(alloc: Global, line: &[u8]) -> Result<Settings, LineError>
 pub fn read_request(alloc: Global, line: &[u8]) -> Result<Request, LineError>
     ensures ok { IfOk result (λ request. request_spelled line.now ≡ Ok request) }
     ensures bad_line { IsErrOf result LineError.BadLine → request_spelled line.now ≡ Err Told.BadLine }
-    ensures later { IsErrOf result LineError.Later → request_spelled line.now ≡ Err Told.Later }
 {
     request_of(alloc, line)
 }

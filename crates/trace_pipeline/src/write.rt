@@ -1,24 +1,27 @@
-//! Writing lines: replies, records, refusals and the end line, each with its line feed. Each function answers `Memory`
+//! Writing lines: replies, records, measures, refusals and end lines, each with its line feed. Each function answers `Memory`
 //! freely, and nothing else; the `append_` forms then drop what they were given. No Rust item stands behind these lines.
 ghost use Rattle.std.specs.Prelude.{◌≡◌, ◌≢◌, ◌++◌, IfOk, string_bytes};
 ghost use Rattle.std.specs.Str.{IsUtf8};
 ghost use Rattle.trace_pipeline.specs.Writes.{Writes};
-ghost use Rattle.trace_pipeline.specs.Texts.{reply_text, record_text, refusal_text, end_text};
+ghost use Rattle.trace_pipeline.specs.Texts.{reply_text, record_text, measure_text, refusal_text, end_text, measures_end_text};
 ghost use Rattle.span_pipeline.specs.declared.reply.Refusal.{Refusal};
 
 mod attribute;
 mod end;
 pub(crate) mod escape;
 mod hex;
+mod measure;
 mod pieces;
 mod record;
 mod refusal;
 mod reply;
 
 use crate::told::Told;
-use end::add_end;
+use end::{add_end, add_measures_end};
+use measure::add_measure;
 use otel_base::memory::Memory;
 use otel_base::record::Record;
+use otel_metrics::measure::Measure;
 use pieces::add;
 use record::add_record;
 use refusal::add_refusal;
@@ -49,6 +52,15 @@ fn add_record_line(out: &mut Vec<u8>, number: u64, finished: &Record) -> Result<
     Ok(())
 }
 
+// Adds the line of a measure.
+fn add_measure_line(out: &mut Vec<u8>, line: u64, measure: &Measure) -> Result<(), AllocError>
+    ensures { Writes result out.old out.new (measure_text line measure.now) }
+{
+    add_measure(out, line, measure)?;
+    add(out, "\n")?;
+    Ok(())
+}
+
 // Adds the line of a refusal.
 fn add_refusal_line(out: &mut Vec<u8>, line: u64, told: &Told) -> Result<(), AllocError>
     ensures { Writes result out.old out.new (refusal_text line told.now) }
@@ -63,6 +75,15 @@ fn add_end_line(out: &mut Vec<u8>, open_spans: u64, records: u64) -> Result<(), 
     ensures { Writes result out.old out.new (end_text open_spans records) }
 {
     add_end(out, open_spans, records)?;
+    add(out, "\n")?;
+    Ok(())
+}
+
+// Adds the end line of a run that tells metrics.
+fn add_measures_end_line(out: &mut Vec<u8>, measures: u64) -> Result<(), AllocError>
+    ensures { Writes result out.old out.new (measures_end_text measures) }
+{
+    add_measures_end(out, measures)?;
     add(out, "\n")?;
     Ok(())
 }
@@ -94,6 +115,15 @@ pub fn record_line(alloc: Global, number: u64, finished: &Record) -> Result<Stri
     Ok(text_of(out))
 }
 
+/// The line of a measure of the event on a line; what an exporter of metrics would be given.
+pub fn measure_line(alloc: Global, line: u64, measure: &Measure) -> Result<String, Memory>
+    ensures { IfOk result (λ text. string_bytes text ≡ measure_text line measure.now) }
+{
+    let mut out = Vec::with_capacity(alloc, SHORT)?;
+    add_measure_line(&mut out, line, measure)?;
+    Ok(text_of(out))
+}
+
 /// The line that tells why a line is refused. Want of memory has no such line.
 pub fn refusal_line(alloc: Global, line: u64, told: &Told) -> Result<String, Memory>
     requires { told.now ≢ Told.Step Refusal.Memory }
@@ -104,12 +134,21 @@ pub fn refusal_line(alloc: Global, line: u64, told: &Told) -> Result<String, Mem
     Ok(text_of(out))
 }
 
-/// The last line of a run.
+/// The last line of a run that tells traces.
 pub fn end_line(alloc: Global, open_spans: u64, records: u64) -> Result<String, Memory>
     ensures { IfOk result (λ text. string_bytes text ≡ end_text open_spans records) }
 {
     let mut out = Vec::with_capacity(alloc, SHORT)?;
     add_end_line(&mut out, open_spans, records)?;
+    Ok(text_of(out))
+}
+
+/// The last line of a run that tells metrics.
+pub fn measures_end_line(alloc: Global, measures: u64) -> Result<String, Memory>
+    ensures { IfOk result (λ text. string_bytes text ≡ measures_end_text measures) }
+{
+    let mut out = Vec::with_capacity(alloc, SHORT)?;
+    add_measures_end_line(&mut out, measures)?;
     Ok(text_of(out))
 }
 
@@ -131,6 +170,15 @@ pub fn append_record(before: Vec<u8>, number: u64, finished: &Record) -> Result<
     Ok(out)
 }
 
+/// Adds the measure line to what `before` holds, and gives it back.
+pub fn append_measure(before: Vec<u8>, line: u64, measure: &Measure) -> Result<Vec<u8>, Memory>
+    ensures { IfOk result (λ out. out.items ≡ before.items ++ measure_text line measure.now) }
+{
+    let mut out = before;
+    add_measure_line(&mut out, line, measure)?;
+    Ok(out)
+}
+
 /// Adds the refusal line to what `before` holds, and gives it back. Want of memory has no such line.
 pub fn append_refusal(before: Vec<u8>, line: u64, told: &Told) -> Result<Vec<u8>, Memory>
     requires { told.now ≢ Told.Step Refusal.Memory }
@@ -147,5 +195,14 @@ pub fn append_end(before: Vec<u8>, open_spans: u64, records: u64) -> Result<Vec<
 {
     let mut out = before;
     add_end_line(&mut out, open_spans, records)?;
+    Ok(out)
+}
+
+/// Adds the end line of a run that tells metrics to what `before` holds, and gives it back.
+pub fn append_measures_end(before: Vec<u8>, measures: u64) -> Result<Vec<u8>, Memory>
+    ensures { IfOk result (λ out. out.items ≡ before.items ++ measures_end_text measures) }
+{
+    let mut out = before;
+    add_measures_end_line(&mut out, measures)?;
     Ok(out)
 }

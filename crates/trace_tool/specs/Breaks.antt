@@ -3,8 +3,8 @@ use Rattle.std.specs.Prelude.{◌≡◌, ℕ, List, [], ◌∷◌, ◌++◌, Boo
 use Rattle.std.specs.List.{list_all, list_any}
 use Rattle.std.proofs.Common.{◌⊎◌}
 use Rattle.trace_pipeline.specs.Lines.{lines_of, is_blank}
-use Rattle.trace_pipeline.specs.Texts.{end_text}
-use Rattle.trace_pipeline.specs.Report.{report_from}
+use Rattle.trace_pipeline.specs.declared.signal.Signal.{Signal}
+use Rattle.trace_pipeline.specs.Report.{last_text, report_from, accepts}
 
 -- whether a line feed is among the bytes
 abbrev pub has_feed : List ℕ → Bool
@@ -26,11 +26,11 @@ are_blank lines = list_all is_blank lines
 -- Some line is refused, and not only the end of the lines for want of a settings line.
 pub record HasRefused (lines : List (List ℕ)) : Type 0 where
   pub some : are_blank lines ≡ false
-  pub refused : (report_from 0 lines).accepted ≡ false
+  pub refused : accepts lines ≡ false
 
 -- No line is refused, and the text is what they are answered with no end line: nothing where all are blank.
-abbrev pub AnswersAll : List (List ℕ) → List ℕ → Type 0
-AnswersAll lines text =
+abbrev pub AnswersAll : Signal → List (List ℕ) → List ℕ → Type 0
+AnswersAll signal lines text =
     ((are_blank lines ≡ true) × (text ≡ []))
-    ⊎ ((spans : ℕ) × (records : ℕ)
-    × (report_from 0 lines ≡ record { written = text ++ end_text spans records; accepted = true }))
+    ⊎ ((spans : ℕ) × (count : ℕ)
+    × (report_from signal 0 lines ≡ record { written = text ++ last_text signal spans count; accepted = true }))

@@ -3,6 +3,7 @@ use Rattle.std.specs.Prelude.{◌≡◌, ℕ, ◌<◌, ◌≤◌, List, [], leng
 use Rattle.std.proofs.Common.{◌⊎◌}
 use Rattle.trace_pipeline.specs.Report.{report, output, IsValid, IsRefused}
 use Rattle.trace_pipeline.specs.declared.limits.TheConstants.{MAX_INPUT}
+use Rattle.trace_pipeline.specs.declared.signal.Signal.{Signal}
 use Rattle.trace_tool.specs.Streams.{HasFault, IsQuiet, Takes, Puts, PutsFront}
 use Rattle.trace_tool.specs.Breaks.{whole_lines, HasRefused, AnswersAll}
 use Rattle.trace_tool.specs.Answers.{Cuts}
@@ -12,52 +13,52 @@ use Rattle.trace_tool.specs.declared.input.End.TheVariants as end
 use Rattle.trace_tool.specs.declared.status.Status.{Status}
 use Rattle.trace_tool.specs.declared.status.Status.TheVariants as ends
 
--- ---- what a run leaves, of the source's bytes, those left, and what the sink held before and holds now
+-- ---- what a run leaves, by what it tells, of the source's bytes, those left, and what the sink held before and holds now
 
 -- All came, they are valid, and the sink gained their output.
-abbrev pub RunsWhole : List ℕ → Option (List ℕ) → Option (List ℕ) → Option (List ℕ) → Type 0
-RunsWhole bytes left before now = IsValid bytes × (left ≡ Some []) × Puts before now (output bytes)
+abbrev pub RunsWhole : Signal → List ℕ → Option (List ℕ) → Option (List ℕ) → Option (List ℕ) → Type 0
+RunsWhole signal bytes left before now = IsValid bytes × (left ≡ Some []) × Puts before now (output signal bytes)
 
 -- They are refused, at a whole line within the longest input or where they ended, and the sink gained the
 -- lines up to the refusal.
-pub record StopsRefused (bytes : List ℕ) (left before now : Option (List ℕ)) : Type 0 where
+pub record StopsRefused (signal : Signal) (bytes : List ℕ) (left before now : Option (List ℕ)) : Type 0 where
   pub refused : IsRefused bytes
   pub read : List ℕ
   pub took : Takes (Some bytes) left read
   pub place : HasRefused (whole_lines (take MAX_INPUT read)) ⊎ ((left ≡ Some []) × (length bytes ≤ MAX_INPUT))
-  pub put : Puts before now (output bytes)
+  pub put : Puts before now (output signal bytes)
 
 -- Some came, no whole line of these is refused, and the sink gained what those lines are answered.
-pub record BreaksOff (bytes : List ℕ) (left before now : Option (List ℕ)) : Type 0 where
+pub record BreaksOff (signal : Signal) (bytes : List ℕ) (left before now : Option (List ℕ)) : Type 0 where
   pub read : List ℕ
   pub took : Takes (Some bytes) left read
   pub text : List ℕ
-  pub answered : AnswersAll (whole_lines read) text
+  pub answered : AnswersAll signal (whole_lines read) text
   pub put : Puts before now text
 
 -- More than the longest input came, no whole line within that is refused, and the sink gained what those
 -- lines are answered.
-pub record RunsOver (bytes : List ℕ) (left before now : Option (List ℕ)) : Type 0 where
+pub record RunsOver (signal : Signal) (bytes : List ℕ) (left before now : Option (List ℕ)) : Type 0 where
   pub read : List ℕ
   pub took : Takes (Some bytes) left read
   pub long : MAX_INPUT < length read
   pub text : List ℕ
-  pub answered : AnswersAll (whole_lines (take MAX_INPUT read)) text
+  pub answered : AnswersAll signal (whole_lines (take MAX_INPUT read)) text
   pub put : Puts before now text
 
 -- what a run leaves at each status
-abbrev pub Leaves : Status → List ℕ → Option (List ℕ) → Option (List ℕ) → Option (List ℕ) → Type 0
-Leaves ends.Ok bytes left before now = RunsWhole bytes left before now
-Leaves ends.Usage bytes left before now = (left ≡ Some bytes) × (now ≡ before)
-Leaves ends.Refused bytes left before now = StopsRefused bytes left before now
-Leaves ends.ReadFault bytes left before now = BreaksOff bytes left before now
-Leaves ends.WriteFault bytes left before now = PutsFront before now (output bytes)
-Leaves ends.Memory bytes left before now = PutsFront before now (output bytes)
-Leaves ends.TooLong bytes left before now = RunsOver bytes left before now
+abbrev pub Leaves : Signal → Status → List ℕ → Option (List ℕ) → Option (List ℕ) → Option (List ℕ) → Type 0
+Leaves signal ends.Ok bytes left before now = RunsWhole signal bytes left before now
+Leaves signal ends.Usage bytes left before now = (left ≡ Some bytes) × (now ≡ before)
+Leaves signal ends.Refused bytes left before now = StopsRefused signal bytes left before now
+Leaves signal ends.ReadFault bytes left before now = BreaksOff signal bytes left before now
+Leaves signal ends.WriteFault bytes left before now = PutsFront before now (output signal bytes)
+Leaves signal ends.Memory bytes left before now = PutsFront before now (output signal bytes)
+Leaves signal ends.TooLong bytes left before now = RunsOver signal bytes left before now
 
 -- the same, where the source tells its bytes
-abbrev pub Ends : Status → Option (List ℕ) → Option (List ℕ) → Option (List ℕ) → Option (List ℕ) → Type 0
-Ends status bytes left before now = IfSome bytes (λ bs. Leaves status bs left before now)
+abbrev pub Ends : Signal → Status → Option (List ℕ) → Option (List ℕ) → Option (List ℕ) → Option (List ℕ) → Type 0
+Ends signal status bytes left before now = IfSome bytes (λ bs. Leaves signal status bs left before now)
 
 -- ---- what brings a status about
 
@@ -87,8 +88,8 @@ status_of false end.Fault = ends.ReadFault
 status_of false end.TooLong = ends.TooLong
 
 -- what the output tells of the bytes that were read
-abbrev pub Tells : End → List ℕ → Output → Type 0
-Tells end.Whole read output =
-    report read ≡ record { written = output.text.items; accepted = not output.refused }
-Tells end.Fault read output = Cuts output.refused (whole_lines (take MAX_INPUT read)) output.text.items
-Tells end.TooLong read output = Cuts output.refused (whole_lines (take MAX_INPUT read)) output.text.items
+abbrev pub Tells : Signal → End → List ℕ → Output → Type 0
+Tells signal end.Whole read output =
+    report signal read ≡ record { written = output.text.items; accepted = not output.refused }
+Tells signal end.Fault read output = Cuts signal output.refused (whole_lines (take MAX_INPUT read)) output.text.items
+Tells signal end.TooLong read output = Cuts signal output.refused (whole_lines (take MAX_INPUT read)) output.text.items

@@ -3,3 +3,4 @@ pub mod Words
 pub mod Breaks
 pub mod Answers
 pub mod Ends
+pub mod Commands

@@ -2,13 +2,16 @@
 use Rattle.std.specs.Prelude.{ℕ, List, [], ◌∷◌, if◌then◌else◌, Option, Some, None, codes, bytes_eq}
 use Rattle.trace_tool.specs.declared.script.Command.{Command}
 use Rattle.trace_tool.specs.declared.script.Command.TheVariants.{Run}
+use Rattle.trace_pipeline.specs.declared.signal.Signal.TheVariants.{Traces, Metrics}
 use Rattle.trace_tool.specs.declared.status.Status.{Status}
 use Rattle.trace_tool.specs.declared.status.Status.TheVariants as ends
 
--- the one word `run`
+-- one word, `run` or `metrics`
 abbrev pub command_of : List (List ℕ) → Option Command
 command_of [] = None
-command_of (word ∷ []) = if bytes_eq word (codes "run") then Some Run else None
+command_of (word ∷ []) =
+    if bytes_eq word (codes "run") then Some (Run Traces) else
+    (if bytes_eq word (codes "metrics") then Some (Run Metrics) else None)
 command_of (word ∷ other ∷ more) = None
 
 -- the number of a status

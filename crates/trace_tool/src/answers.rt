@@ -1,29 +1,19 @@
 //! Answering lines one after another, whichever lines follow them.
-ghost use Rattle.std.specs.Prelude.{◌≡◌, ◌≢◌, ℕ, List, [], ◌∷◌, ◌++◌, ◌+◌, length, not, false, true, Ok, Err, IfOk, IfErr, OnOk, OnErr};
+ghost use Rattle.std.specs.Prelude.{◌≡◌, ◌≢◌, ℕ, List, [], ◌∷◌, ◌++◌, ◌+◌, not, false, true, IfOk, IfErr, OnOk, OnErr};
 ghost use Rattle.trace_pipeline.specs.Lines.{lines_of, is_blank};
-ghost use Rattle.trace_pipeline.specs.Report.{record_lines, report_from};
-ghost use Rattle.trace_pipeline.specs.Texts.{reply_text, refusal_text};
+ghost use Rattle.trace_pipeline.specs.Report.{report_from};
 ghost use Rattle.span_pipeline.specs.Fits.{is_room};
-ghost use Rattle.trace_tool.specs.Answers.{without_records, IsSpelled, Opens, Runs, AnswersAt, Goes, AnswersTo, Cuts, is_refused};
+ghost use Rattle.trace_tool.specs.Answers.{IsSpelled, Opens, Runs, AnswersAt, Goes, AnswersTo, Cuts, is_refused};
 
 use crate::lines::{first_line, is_blank};
+use crate::written::Written;
 use otel_base::memory::Memory;
 use span_pipeline::pipeline::{OpenError, Pipeline};
 use std::alloc::Global;
 use std::mem;
 use trace_base::discard::Discard;
 use trace_pipeline::read::{LineError, read_request, read_settings};
-use trace_pipeline::write::{append_end, append_record, append_refusal, append_reply};
-use trace_pipeline::{Refusal, Reply, Told};
-
-/// What is written so far.
-#[derive(Drop)]
-pub struct Written {
-    /// The lines, each with its line feed.
-    pub text: Vec<u8>,
-    /// How many records are among them.
-    pub records: u64,
-}
+use trace_pipeline::{Refusal, Signal, Told};
 
 /// Where a run stands between two lines.
 pub enum Stage {
@@ -84,13 +74,12 @@ pub struct Output {
 }
 
 impl Answers {
-    /// The answers to no line.
+    /// The answers to no line, whatever is told.
     pub fn new(alloc: Global) -> Answers
-        ensures { AnswersTo [] result }
+        ensures { (signal : Signal) → AnswersTo signal [] result }
     {
-        let text = Vec::new(alloc);
         Answers {
-            written: Written { text, records: 0 },
+            written: Written::new(alloc),
             lines: 0,
             stage: Stage::Opening,
         }
@@ -98,9 +87,9 @@ impl Answers {
 
     /// Answers one line more. Behind a refused line nothing is written. `Memory` freely; what is left then answers
     /// no lines.
-    pub fn line(&mut self, alloc: Global, line: &[u8]) -> Result<(), Memory>
-        ensures { (lines : List (List ℕ)) → AnswersTo lines self.old
-            → OnOk result (AnswersTo (lines ++ line.now ∷ []) self.new) }
+    pub fn line(&mut self, alloc: Global, signal: Signal, line: &[u8]) -> Result<(), Memory>
+        ensures { (lines : List (List ℕ)) → AnswersTo signal lines self.old
+            → OnOk result (AnswersTo signal (lines ++ line.now ∷ []) self.new) }
     {
         // No input has so many lines that the sum wraps.
         let number = self.lines.checked_add(1).ok_or(Memory)?;
@@ -110,12 +99,12 @@ impl Answers {
         }
         match &mut self.stage {
             Stage::Opening => {
-                let next = open(alloc, &mut self.written, number, line)?;
+                let next = open(alloc, signal, &mut self.written, number, line)?;
                 go_on(&mut self.stage, next);
                 Ok(())
             }
             Stage::Running { pipeline } => {
-                let served = answer(alloc, pipeline, &mut self.written, number, line)?;
+                let served = answer(alloc, signal, pipeline, &mut self.written, number, line)?;
                 if !served {
                     go_on(&mut self.stage, Stage::Refused);
                 }
@@ -137,33 +126,34 @@ impl Answers {
 
     /// All that is written where no line follows: the end line comes last, or the refusal of an input without
     /// a settings line. `Memory` freely.
-    pub fn end(self) -> Result<Output, Memory>
-        ensures { (lines : List (List ℕ)) → AnswersTo lines self
-            → IfOk result (λ output. report_from 0 lines
+    pub fn end(self, alloc: Global, signal: Signal) -> Result<Output, Memory>
+        ensures { (lines : List (List ℕ)) → AnswersTo signal lines self
+            → IfOk result (λ output. report_from signal 0 lines
             ≡ record { written = output.text.items; accepted = not output.refused }) }
     {
         let Answers {
-            written,
+            mut written,
             lines,
             stage,
         } = self;
-        let Written { text, records } = written;
         match stage {
             Stage::Opening => {
                 // No input has so many lines that the sum wraps.
                 let end = lines.checked_add(1).ok_or(Memory)?;
-                let text = append_refusal(text, end, &Told::BadLine)?;
+                written.refuse(alloc, end, &Told::BadLine)?;
+                let text = written.text;
                 let refused = true;
                 Ok(Output { text, refused })
             }
             Stage::Running { pipeline } => {
                 let spans = pipeline.open_spans();
                 pipeline.discard();
-                let text = append_end(text, spans, records)?;
+                let text = written.end(signal, spans)?;
                 let refused = false;
                 Ok(Output { text, refused })
             }
             Stage::Refused => {
+                let text = written.text;
                 let refused = true;
                 Ok(Output { text, refused })
             }
@@ -172,8 +162,8 @@ impl Answers {
 
     /// All that is written where nothing is known of the lines that follow.
     pub fn cut(self) -> Output
-        ensures { (lines : List (List ℕ)) → AnswersTo lines self
-            → Cuts result.refused lines result.text.items }
+        ensures { (signal : Signal) (lines : List (List ℕ)) → AnswersTo signal lines self
+            → Cuts signal result.refused lines result.text.items }
     {
         let refused = self.is_refused();
         let Answers {
@@ -188,14 +178,14 @@ impl Answers {
 }
 
 /// The answers to the lines of some bytes. `Memory` freely.
-pub fn answer_lines(alloc: Global, bytes: &[u8]) -> Result<Answers, Memory>
-    ensures { IfOk result (λ answers. AnswersTo (lines_of bytes.now) answers) }
+pub fn answer_lines(alloc: Global, signal: Signal, bytes: &[u8]) -> Result<Answers, Memory>
+    ensures { IfOk result (λ answers. AnswersTo signal (lines_of bytes.now) answers) }
 {
     let mut answers = Answers::new(alloc);
     let mut rest = bytes;
     while !rest.is_empty() && !answers.is_refused() {
         let (line, after) = first_line(rest);
-        if answers.line(alloc, line).is_err() {
+        if answers.line(alloc, signal, line).is_err() {
             answers.discard();
             return Err(Memory);
         }
@@ -207,25 +197,26 @@ pub fn answer_lines(alloc: Global, bytes: &[u8]) -> Result<Answers, Memory>
 // Opens the run at the first line that isn't blank, and tells where it stands then.
 pub(crate) fn open(
     alloc: Global,
+    signal: Signal,
     written: &mut Written,
     lines: u64,
     line: &[u8],
 ) -> Result<Stage, Memory>
-    ensures { (before : List (List ℕ)) (count : ℕ) → Opens before count written.old → lines ≡ count + 1
+    ensures { (before : List (List ℕ)) (count : ℕ) → Opens signal before count written.old → lines ≡ count + 1
         → is_blank line.now ≡ false
-        → IfOk result (λ stage. AnswersAt stage (before ++ line.now ∷ []) lines written.new) }
+        → IfOk result (λ stage. AnswersAt signal stage (before ++ line.now ∷ []) lines written.new) }
 {
     let settings = match spelled(read_settings(alloc, line))? {
         Ok(settings) => settings,
         Err(told) => {
-            refuse(alloc, written, lines, &told)?;
+            written.refuse(alloc, lines, &told)?;
             return Ok(Stage::Refused);
         }
     };
     match Pipeline::open(alloc, settings) {
         Ok(pipeline) => Ok(Stage::Running { pipeline }),
-        Err(OpenError::Directive { piece }) => {
-            refuse(alloc, written, lines, &Told::Directive { piece })?;
+        Err(OpenError::Directive { counting, piece }) => {
+            written.refuse(alloc, lines, &Told::Directive { counting, piece })?;
             Ok(Stage::Refused)
         }
         Err(OpenError::Memory) => Err(Memory),
@@ -235,31 +226,31 @@ pub(crate) fn open(
 // Answers the request on a line, and tells whether it was served.
 pub(crate) fn answer(
     alloc: Global,
+    signal: Signal,
     pipeline: &mut Pipeline,
     written: &mut Written,
     lines: u64,
     line: &[u8],
 ) -> Result<bool, Memory>
-    ensures { (before : List (List ℕ)) (count : ℕ) → Runs before count pipeline.old written.old
+    ensures { (before : List (List ℕ)) (count : ℕ) → Runs signal before count pipeline.old written.old
         → lines ≡ count + 1 → is_blank line.now ≡ false
-        → IfOk result (λ served. Goes served (before ++ line.now ∷ []) lines pipeline.new written.new) }
+        → IfOk result (λ served. Goes signal served (before ++ line.now ∷ []) lines pipeline.new written.new) }
 {
     let request = match spelled(read_request(alloc, line))? {
         Ok(request) => request,
         Err(told) => {
-            refuse(alloc, written, lines, &told)?;
+            written.refuse(alloc, lines, &told)?;
             return Ok(false);
         }
     };
     match pipeline.step(request) {
         Ok(reply) => {
-            write_reply(alloc, written, lines, &reply)?;
-            write_records(alloc, pipeline, written)?;
+            written.answer(alloc, signal, lines, &reply, pipeline)?;
             Ok(true)
         }
         Err(refusal) => {
             let told = told_of(refusal)?;
-            refuse(alloc, written, lines, &told)?;
+            written.refuse(alloc, lines, &told)?;
             Ok(false)
         }
     }
@@ -282,32 +273,6 @@ fn told_of(refusal: Refusal) -> Result<Told, Memory>
     }
 }
 
-// Writes the refusal line of the last line.
-fn refuse(alloc: Global, written: &mut Written, lines: u64, told: &Told) -> Result<(), Memory>
-    requires { told.now ≢ Told.Step Refusal.Memory }
-    ensures { OnOk result (written.new.text.items ≡ written.old.text.items ++ refusal_text lines told.now) }
-{
-    let text = mem::replace(&mut written.text, Vec::new(alloc));
-    written.text = append_refusal(text, lines, told)?;
-    Ok(())
-}
-
-// Writes the reply line of the last line.
-fn write_reply(
-    alloc: Global,
-    written: &mut Written,
-    lines: u64,
-    reply: &Reply,
-) -> Result<(), Memory>
-    ensures text { OnOk result (
-        written.new.text.items ≡ written.old.text.items ++ reply_text lines reply.now) }
-    ensures count { written.new.records ≡ written.old.records }
-{
-    let text = mem::replace(&mut written.text, Vec::new(alloc));
-    written.text = append_reply(text, lines, reply)?;
-    Ok(())
-}
-
 // What a line spells, or what its refusal line tells. Want of memory has no such line.
 fn spelled<T: Drop>(read: Result<T, LineError>) -> Result<Result<T, Told>, Memory>
     ensures same { IfOk result (λ spelled. IsSpelled read spelled) }
@@ -316,30 +281,6 @@ fn spelled<T: Drop>(read: Result<T, LineError>) -> Result<Result<T, Told>, Memor
     match read {
         Ok(value) => Ok(Ok(value)),
         Err(LineError::BadLine) => Ok(Err(Told::BadLine)),
-        Err(LineError::Later) => Ok(Err(Told::Later)),
         Err(LineError::Memory) => Err(Memory),
     }
-}
-
-// Takes the finished records, and writes their lines.
-fn write_records(
-    alloc: Global,
-    pipeline: &mut Pipeline,
-    written: &mut Written,
-) -> Result<(), Memory>
-    ensures lines { OnOk result (written.new.text.items
-        ≡ written.old.text.items ++ record_lines (written.old.records + 1) pipeline.old.recording.finished) }
-    ensures count { OnOk result (
-        written.new.records ≡ written.old.records + length pipeline.old.recording.finished) }
-    ensures taken { OnOk result (pipeline.new.recording.finished ≡ []) }
-    ensures state { without_records pipeline.new ≡ without_records pipeline.old }
-{
-    while let Some(finished) = pipeline.take_record() {
-        // No run has so many records that the sum wraps.
-        let number = written.records.checked_add(1).ok_or(Memory)?;
-        let text = mem::replace(&mut written.text, Vec::new(alloc));
-        written.text = append_record(text, number, &finished)?;
-        written.records = number;
-    }
-    Ok(())
 }

@@ -1,4 +1,4 @@
-//! Runs scripts of span calls: it reads a settings line and requests, and writes replies and records.
+//! Runs scripts of span calls: it reads a settings line and requests, and writes replies and records, or measures.
 #![tactic(auto)]
 
 ghost use Rattle.std.specs.Prelude.{◌≡◌};
@@ -17,6 +17,7 @@ mod status;
 mod tests;
 mod top;
 mod turns;
+mod written;
 
 use crate::sink::StdSink;
 use crate::source::StdSource;

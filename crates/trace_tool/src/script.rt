@@ -1,8 +1,9 @@
 //! Running a script: all of its input is read, then answered, and then the answers are written.
 ghost use Rattle.std.specs.Prelude.{◌≡◌, ◌≢◌, [], IfSome, IfOk, OnErr};
 ghost use Rattle.trace_pipeline.specs.Report.{output};
-ghost use Rattle.trace_tool.specs.Streams.{HasFault, Puts, PutsFront, StopsReading, StopsWriting};
-ghost use Rattle.trace_tool.specs.Ends.{Leaves, Ends, Causes, Completes, status_of, Tells};
+ghost use Rattle.trace_tool.specs.Commands.{EndsOf, FrontOf, CompletesOf};
+ghost use Rattle.trace_tool.specs.Streams.{Puts, PutsFront, StopsReading, StopsWriting};
+ghost use Rattle.trace_tool.specs.Ends.{Leaves, Causes, status_of, Tells};
 
 use crate::answers::{Output, answer_lines};
 use crate::failed::Failed;
@@ -13,13 +14,14 @@ use crate::source::Source;
 use crate::status::Status;
 use otel_base::memory::Memory;
 use std::alloc::Global;
+use trace_pipeline::Signal;
 use trace_pipeline::limits::MAX_INPUT;
 
 /// What a call of the program asks for.
 #[derive(Clone, Copy, Debug, PartialEq, Eq)]
 pub enum Command {
-    /// To run a script.
-    Run,
+    /// To run a script, and to tell this of it.
+    Run { signal: Signal },
 }
 
 /// Carries a command out. A line that is refused is told before a fault of the source and too long an input.
@@ -29,21 +31,19 @@ pub fn run_script<R: Source, W: Sink>(
     source: &mut R,
     sink: &mut W,
 ) -> Status
-    ensures ends { Ends result
+    ensures ends { EndsOf command result
         (R.remaining source.old) (R.remaining source.new) (W.holds sink.old) (W.holds sink.new) }
     ensures causes { Causes result
         (R.faults source.old) (R.faults source.new) (W.faults sink.old) (W.faults sink.new) }
-    ensures front { IfSome (R.remaining source.old) (λ bytes.
-        PutsFront (W.holds sink.old) (W.holds sink.new) (output bytes)) }
-    ensures complete { IfSome (R.remaining source.old) (λ bytes.
-        Completes result bytes (R.faults source.old) (R.faults source.new)
-        (W.faults sink.old) (W.faults sink.new)) }
+    ensures front { FrontOf command (R.remaining source.old) (W.holds sink.old) (W.holds sink.new) }
+    ensures complete { CompletesOf command result (R.remaining source.old)
+        (R.faults source.old) (R.faults source.new) (W.faults sink.old) (W.faults sink.new) }
     ensures read_stops { result ≡ Status.ReadFault → StopsReading R.faults R.remaining source.old source.new }
     ensures write_stops { result ≡ Status.WriteFault → StopsWriting W.faults W.holds sink.old sink.new }
     ensures usage { result ≢ Status.Usage }
 {
     match command {
-        Command::Run => match run(alloc, source, sink) {
+        Command::Run { signal } => match run(alloc, signal, source, sink) {
             Ok(status) => status,
             Err(Memory) => Status::Memory,
         },
@@ -51,12 +51,17 @@ pub fn run_script<R: Source, W: Sink>(
 }
 
 // Runs a script. Nothing is written where no memory was to be had.
-fn run<R: Source, W: Sink>(alloc: Global, source: &mut R, sink: &mut W) -> Result<Status, Memory>
+fn run<R: Source, W: Sink>(
+    alloc: Global,
+    signal: Signal,
+    source: &mut R,
+    sink: &mut W,
+) -> Result<Status, Memory>
     ensures ends { IfSome (R.remaining source.old) (λ bytes.
         IfOk result (λ status.
-        Leaves status bytes (R.remaining source.new) (W.holds sink.old) (W.holds sink.new))) }
+        Leaves signal status bytes (R.remaining source.new) (W.holds sink.old) (W.holds sink.new))) }
     ensures front { IfSome (R.remaining source.old) (λ bytes.
-        IfOk result (λ _. PutsFront (W.holds sink.old) (W.holds sink.new) (output bytes))) }
+        IfOk result (λ _. PutsFront (W.holds sink.old) (W.holds sink.new) (output signal bytes))) }
     ensures memory { OnErr result (Puts (W.holds sink.old) (W.holds sink.new) []) }
     ensures causes { IfOk result (λ status.
         Causes status (R.faults source.old) (R.faults source.new) (W.faults sink.old) (W.faults sink.new)) }
@@ -67,7 +72,7 @@ fn run<R: Source, W: Sink>(alloc: Global, source: &mut R, sink: &mut W) -> Resul
     ensures other { IfOk result (λ status. (status ≢ Status.Usage) × (status ≢ Status.Memory)) }
 {
     let input = read_all(alloc, source)?;
-    let output = answer_input(alloc, &input)?;
+    let output = answer_input(alloc, signal, &input)?;
     match write_all(sink, output.text.as_slice()) {
         Ok(()) => Ok(status_of(output.refused, input.end)),
         Err(Failed) => Ok(Status::WriteFault),
@@ -75,14 +80,14 @@ fn run<R: Source, W: Sink>(alloc: Global, source: &mut R, sink: &mut W) -> Resul
 }
 
 // Answers what was read of an input: all of it, or its whole lines that end within the longest input.
-fn answer_input(alloc: Global, input: &Input) -> Result<Output, Memory>
-    ensures { IfOk result (λ output. Tells input.now.end input.now.bytes.items output) }
+fn answer_input(alloc: Global, signal: Signal, input: &Input) -> Result<Output, Memory>
+    ensures { IfOk result (λ output. Tells signal input.now.end input.now.bytes.items output) }
 {
     match input.end {
-        End::Whole => answer_lines(alloc, input.bytes.as_slice())?.end(),
+        End::Whole => answer_lines(alloc, signal, input.bytes.as_slice())?.end(alloc, signal),
         End::Fault | End::TooLong => {
             let size = input.bytes.len().min(MAX_INPUT);
-            Ok(answer_lines(alloc, whole_part(&input.bytes[..size]))?.cut())
+            Ok(answer_lines(alloc, signal, whole_part(&input.bytes[..size]))?.cut())
         }
     }
 }

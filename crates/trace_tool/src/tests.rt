@@ -4,6 +4,7 @@ mod extension_runs;
 mod field_runs;
 mod filter_runs;
 mod lines;
+mod metric_runs;
 mod refused_runs;
 mod runs;
 mod steps;
@@ -16,6 +17,7 @@ use crate::turns::Turn;
 use extension_runs::EXTENSION_RUNS;
 use field_runs::FIELD_RUNS;
 use filter_runs::FILTER_RUNS;
+use metric_runs::METRIC_RUNS;
 use refused_runs::REFUSED_RUNS;
 use runs::RUNS;
 use std::process::Abort;
@@ -76,32 +78,40 @@ fn run<H: Threads + Wait + Sync + AllocGlobal, R: Source, W: Sink>(
     Ok(top(rt, rt.alloc(), words.as_slice(), source, sink))
 }
 
-// What is written for an input, over these turns of reads and writes, and behind it the status.
-fn ran<H: Threads + Wait + Sync + AllocGlobal>(
+// What is written for an input by the command of a word, over these turns of reads and writes, and behind it the status.
+fn ran_as<H: Threads + Wait + Sync + AllocGlobal>(
     rt: &H,
+    word: &str,
     input: &[u8],
     reads: &[Turn],
     writes: &[Turn],
 ) -> Result<String, Fail> {
     let mut source = MemSource::new(input, reads);
     let mut sink = MemSink::new(rt.alloc(), writes);
-    let status = run(rt, &mut source, &mut sink, "run")?;
+    let status = run(rt, &mut source, &mut sink, word)?;
     let text = str::from_utf8(sink.as_slice()).ok().ok_or("no text")?;
     ended(rt, text, text.len(), status)
 }
 
-// The first of the runs that goes otherwise than is written there.
-fn differing<H: Threads + Wait + Sync + AllocGlobal>(rt: &H) -> Result<Option<String>, Fail> {
+// The same by `run`.
+fn ran<H: Threads + Wait + Sync + AllocGlobal>(
+    rt: &H,
+    input: &[u8],
+    reads: &[Turn],
+    writes: &[Turn],
+) -> Result<String, Fail> {
+    ran_as(rt, "run", input, reads, writes)
+}
+
+// The first of some runs by the command of a word that goes otherwise than is written there.
+fn differing<H: Threads + Wait + Sync + AllocGlobal>(
+    rt: &H,
+    word: &str,
+    runs: &str,
+) -> Result<Option<String>, Fail> {
     let mut input = String::new(rt.alloc());
     let mut wanted = String::new(rt.alloc());
-    let fields = FIELD_RUNS.lines().chain(EXTENSION_RUNS.lines());
-    let refused = FILTER_RUNS.lines().chain(REFUSED_RUNS.lines());
-    for line in RUNS
-        .lines()
-        .chain(fields)
-        .chain(refused)
-        .chain(STEPS.lines())
-    {
+    for line in runs.lines() {
         if let Some(text) = line.strip_prefix("< ") {
             add_line(&mut input, text)?;
         } else if let Some(text) = line.strip_prefix("> ") {
@@ -113,7 +123,7 @@ fn differing<H: Threads + Wait + Sync + AllocGlobal>(rt: &H) -> Result<Option<St
                 stepped(rt, input.as_str())?
             } else {
                 add_line(&mut wanted, line)?;
-                ran(rt, input.as_bytes(), &[], &[])?
+                ran_as(rt, word, input.as_bytes(), &[], &[])?
             };
             if got.as_str() != wanted.as_str() {
                 return Ok(Some(got));
@@ -127,7 +137,18 @@ fn differing<H: Threads + Wait + Sync + AllocGlobal>(rt: &H) -> Result<Option<St
 
 #[test]
 fn runs_scripts(rt: HostRuntime) -> Result<(), Fail> {
-    let differing = differing(&rt)?;
+    for runs in [
+        RUNS,
+        FIELD_RUNS,
+        EXTENSION_RUNS,
+        FILTER_RUNS,
+        REFUSED_RUNS,
+        STEPS,
+    ] {
+        let differing = differing(&rt, "run", runs)?;
+        assert!(rt; differing.is_none(), "{differing:?}");
+    }
+    let differing = differing(&rt, "metrics", METRIC_RUNS)?;
     assert!(rt; differing.is_none(), "{differing:?}");
     Ok(())
 }
@@ -270,8 +291,8 @@ fn reads_bytes(rt: HostRuntime) -> Result<(), Fail> {
 }
 
 #[test]
-fn knows_one_word(rt: HostRuntime) -> Result<(), Fail> {
-    for word in ["walk", "Run", ""] {
+fn knows_two_words(rt: HostRuntime) -> Result<(), Fail> {
+    for word in ["walk", "Run", "metric", ""] {
         let mut source = SureSource::new(SETTINGS.as_bytes());
         let mut sink = SureSink::new(rt.alloc());
         let status = run(&rt, &mut source, &mut sink, word)?;

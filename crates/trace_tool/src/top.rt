@@ -1,8 +1,8 @@
 //! The entry point of the program, over any source and any sink.
-ghost use Rattle.std.specs.Prelude.{◌≡◌, map, None, IsSome, IfSome, string_bytes};
-ghost use Rattle.trace_pipeline.specs.Report.{output};
-ghost use Rattle.trace_tool.specs.Streams.{PutsFront, StopsReading, StopsWriting};
-ghost use Rattle.trace_tool.specs.Ends.{Ends, Causes, Completes};
+ghost use Rattle.std.specs.Prelude.{◌≡◌, [], ◌∷◌, map, None, IfSome, string_bytes};
+ghost use Rattle.trace_tool.specs.Commands.{EndsOf, FrontOf, CompletesOf};
+ghost use Rattle.trace_tool.specs.Streams.{StopsReading, StopsWriting};
+ghost use Rattle.trace_tool.specs.Ends.{Causes};
 ghost use Rattle.trace_tool.specs.Words.{command_of};
 
 use crate::script::{Command, run_script};
@@ -12,6 +12,7 @@ use crate::status::Status;
 use std::alloc::Global;
 use std::sync::Wait;
 use std::thread::Threads;
+use trace_pipeline::Signal;
 
 /// Carries out what the words ask for, and answers how it ended. Words that ask for nothing touch neither source
 /// nor sink.
@@ -25,18 +26,17 @@ pub fn top<H: Threads + Wait + Sync, R: Source, W: Sink>(
     ensures usage { command_of (map string_bytes words.now) ≡ None → result ≡ Status.Usage }
     ensures only_usage { result ≡ Status.Usage → command_of (map string_bytes words.now) ≡ None }
     ensures usage_leaves { result ≡ Status.Usage → (source.new ≡ source.old) × (sink.new ≡ sink.old) }
-    ensures ends { Ends result
-        (R.remaining source.old) (R.remaining source.new) (W.holds sink.old) (W.holds sink.new) }
+    ensures ends { IfSome (command_of (map string_bytes words.now)) (λ command. EndsOf command result
+        (R.remaining source.old) (R.remaining source.new) (W.holds sink.old) (W.holds sink.new)) }
     ensures causes { Causes result
         (R.faults source.old) (R.faults source.new) (W.faults sink.old) (W.faults sink.new) }
-    ensures front { IfSome (R.remaining source.old) (λ bytes.
-        PutsFront (W.holds sink.old) (W.holds sink.new) (output bytes)) }
+    ensures front { IfSome (command_of (map string_bytes words.now)) (λ command.
+        FrontOf command (R.remaining source.old) (W.holds sink.old) (W.holds sink.new)) }
     ensures read_stops { result ≡ Status.ReadFault → StopsReading R.faults R.remaining source.old source.new }
     ensures write_stops { result ≡ Status.WriteFault → StopsWriting W.faults W.holds sink.old sink.new }
-    ensures complete { IsSome (command_of (map string_bytes words.now))
-        → IfSome (R.remaining source.old) (λ bytes.
-        Completes result bytes (R.faults source.old) (R.faults source.new)
-        (W.faults sink.old) (W.faults sink.new)) }
+    ensures complete { IfSome (command_of (map string_bytes words.now)) (λ command.
+        CompletesOf command result (R.remaining source.old)
+        (R.faults source.old) (R.faults source.new) (W.faults sink.old) (W.faults sink.new)) }
 {
     match command_of(words) {
         Some(command) => run_script(alloc, command, source, sink),
@@ -49,7 +49,19 @@ fn command_of(words: &[String]) -> Option<Command>
     ensures { result ≡ command_of (map string_bytes words.now) }
 {
     match words {
-        [word] if word.as_str() == "run" => Some(Command::Run),
+        [word] => command_by(word.as_str()),
         _ => None,
     }
+}
+
+// What a word asks for.
+fn command_by(word: &str) -> Option<Command>
+    ensures { result ≡ command_of (word.now ∷ []) }
+{
+    let signal = match word {
+        "run" => Signal::Traces,
+        "metrics" => Signal::Metrics,
+        _ => return None,
+    };
+    Some(Command::Run { signal })
 }

@@ -23,8 +23,9 @@ pub fn enter_line()
 
 /// A settings line, with one callsite and two lanes.
 pub fn settings_line()
-    ensures { settings_spelled (codes "{\"callsites\":[{\"name\":\"s\",\"target\":\"app\",\"level\":\"warn\",\"kind\":\"span\",\"fields\":[\"a\"],\"file\":\"f\",\"module\":\"m\",\"line\":7}],\"filter\":\"info\",\"lanes\":[{\"id\":4,\"name\":\"main\"},{\"id\":2}],\"layer\":{\"location\":false,\"target\":false,\"threads\":false}}") ≡ Ok (record {
+    ensures { settings_spelled (codes "{\"callsites\":[{\"name\":\"s\",\"target\":\"app\",\"level\":\"warn\",\"kind\":\"span\",\"fields\":[\"a\"],\"file\":\"f\",\"module\":\"m\",\"line\":7}],\"counting\":\"warn\",\"filter\":\"info\",\"lanes\":[{\"id\":4,\"name\":\"main\"},{\"id\":2}],\"layer\":{\"location\":false,\"target\":false,\"threads\":false}}") ≡ Ok (record {
       filter = codes "info";
+      counting = Some (codes "warn");
       lanes = (4, Some (codes "main")) ∷ (2, None) ∷ [];
       callsites = record {
         name = codes "s";

@@ -1,4 +1,4 @@
-//! Reading settings: callsites, the filter, lanes and the layer.
+//! Reading settings: callsites, the texts of filters, lanes and the layer.
 ghost use Rattle.std.specs.Prelude.{◌≡◌, true, option_map, IfOk};
 ghost use Rattle.otel_state.specs.Settings.{default_settings};
 ghost use Rattle.trace_pipeline.specs.Gives.{Gives};
@@ -197,12 +197,14 @@ pub(crate) fn settings_members(alloc: Global, object: &mut Object) -> Result<Set
     ensures differ { IfOk result (λ s. all_differ (ids s.lanes) ≡ true) }
 {
     let callsites = callsites(alloc, object.array(alloc, "callsites")?)?;
+    let counting = object.optional_text(alloc, "counting")?;
     let filter = object.text(alloc, "filter")?;
     let lanes = lanes(alloc, object.array(alloc, "lanes")?)?;
     distinct(alloc, lanes.as_slice())?;
     let layer = layer(alloc, object.optional("layer"))?;
     Ok(Settings {
         filter,
+        counting,
         lanes,
         callsites,
         layer,

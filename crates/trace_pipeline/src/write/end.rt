@@ -1,6 +1,6 @@
-//! The end line as JSON.
+//! End lines as JSON.
 ghost use Rattle.serde_json.specs.Written.{compact_text};
-ghost use Rattle.trace_pipeline.specs.Texts.{end_data};
+ghost use Rattle.trace_pipeline.specs.Texts.{end_data, measures_end_data};
 ghost use Rattle.trace_pipeline.specs.Writes.{Writes};
 
 use super::pieces::{add, add_number};
@@ -12,6 +12,15 @@ pub fn add_end(out: &mut Vec<u8>, open_spans: u64, records: u64) -> Result<(), A
 {
     add_number(out, "{\"done\":true,\"open\":", open_spans)?;
     add_number(out, ",\"records\":", records)?;
+    add(out, "}")?;
+    Ok(())
+}
+
+/// Adds how many measures were written.
+pub fn add_measures_end(out: &mut Vec<u8>, measures: u64) -> Result<(), AllocError>
+    ensures { Writes result out.old out.new (compact_text (measures_end_data measures)) }
+{
+    add_number(out, "{\"done\":true,\"measures\":", measures)?;
     add(out, "}")?;
     Ok(())
 }

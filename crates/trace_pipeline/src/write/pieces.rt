@@ -42,6 +42,17 @@ pub fn add_integer(out: &mut Vec<u8>, front: &str, number: i64) -> Result<(), Al
     Ok(())
 }
 
+/// Adds an integer of 128 bits.
+pub fn add_long_integer(out: &mut Vec<u8>, front: &str, number: i128) -> Result<(), AllocError>
+    ensures { Writes result out.old out.new (front.now ++ signed_decimal number) }
+{
+    let mut buffer = Buffer::new();
+    let digits = buffer.format(number);
+    add(out, front)?;
+    add(out, digits)?;
+    Ok(())
+}
+
 #[inline(always)]
 fn flag_word(flag: bool) -> &'static str
     ensures { result.now ≡ compact_text (boolean flag) }

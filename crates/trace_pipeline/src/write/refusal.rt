@@ -1,7 +1,7 @@
 //! Refusals as JSON.
 ghost use Rattle.std.specs.Prelude.{◌≡◌};
 ghost use Rattle.serde_json.specs.Written.{compact_text};
-ghost use Rattle.trace_pipeline.specs.Texts.{refusal_data, named_refusal, refusal_on, directive_refusal, what_name};
+ghost use Rattle.trace_pipeline.specs.Texts.{refusal_data, named_refusal, refusal_on, directive_refusal, text_name, what_name};
 ghost use Rattle.trace_pipeline.specs.Writes.{Writes};
 
 use super::pieces::{add, add_number, add_text};
@@ -15,10 +15,21 @@ pub fn add_refusal(out: &mut Vec<u8>, line: u64, told: &Told) -> Result<(), Allo
 {
     match told {
         Told::BadLine => add_named(out, line, "BadLine"),
-        Told::Later => add_named(out, line, "Later"),
-        Told::Directive { piece } => add_directive(out, line, *piece, "filter"),
+        Told::Directive { counting, piece } => add_directive(
+            out,
+            line,
+            *piece,
+            text_name(*counting),
+        ),
         Told::Step { refusal } => add_step(out, line, *refusal),
     }
+}
+
+// The name of the settings' text, which is the one for counting or not.
+fn text_name(counting: bool) -> &'static str
+    ensures { result.now ≡ text_name counting }
+{
+    if counting { "counting" } else { "filter" }
 }
 
 // Adds which line's step is refused and why.

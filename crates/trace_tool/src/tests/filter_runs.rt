@@ -131,4 +131,27 @@ P
 < {"at":0,"do":"enabled","lane":0,"site":5}
 > {"line":2,"refused":"UnknownName","what":"site"}
 = 2
+# events that are counted, of which the span is told those from level INFO on
+< {"callsites":[{"fields":[],"kind":"span","level":"debug","name":"test span","target":"app"},{"fields":["message"],"kind":"event","level":"trace","name":"ev","target":"app"},{"fields":["message"],"kind":"event","level":"debug","name":"ev","target":"app"},{"fields":["message"],"kind":"event","level":"info","name":"ev","target":"app"},{"fields":["message"],"kind":"event","level":"warn","name":"ev","target":"app"},{"fields":["message"],"kind":"event","level":"error","name":"ev","target":"app"}],"counting":"info","filter":"debug","lanes":[{"id":1,"name":"main"},{"id":2}],"layer":{"location":false,"target":false,"threads":false}}
+< {"at":0,"do":"new","lane":0,"site":0}
+< {"at":1,"do":"enter","handle":0,"lane":0}
+< {"at":2,"do":"event","fields":[["message","1"]],"lane":0,"site":1}
+< {"at":3,"do":"event","fields":[["message","2"]],"lane":0,"site":2}
+< {"at":4,"do":"event","fields":[["message","3"]],"lane":0,"site":3}
+< {"at":5,"do":"event","fields":[["message","4"]],"lane":0,"site":4}
+< {"at":6,"do":"event","fields":[["message","5"]],"lane":0,"site":5}
+< {"at":7,"do":"exit","guard":0,"lane":0}
+< {"at":8,"do":"drop","handle":0,"lane":0}
+> {"enabled":true,"handle":0,"reply":2}
+> {"guard":0,"reply":3}
+> {"enabled":false,"reply":4}
+> {"enabled":true,"reply":5}
+> {"enabled":true,"reply":6}
+> {"enabled":true,"reply":7}
+> {"enabled":true,"reply":8}
+> {"reply":9}
+> {"reply":10}
+> {"attributes":[["otel.tracing_event_count",4],["busy_ns",6],["idle_ns",1]],"end":7,"events":[{"attributes":[["level","INFO"],["target","app"]],"name":"3","time":4},{"attributes":[["level","WARN"],["target","app"]],"name":"4","time":5},{"attributes":[["level","ERROR"],["target","app"]],"name":"5","time":6}],"kind":"internal","links":[],"name":"test span","parent":"0000000000000000","record":1,"span":"0000000000000001","start":0,"status":{"error":""},"trace":"00000000000000000000000000000001"}
+> {"done":true,"open":0,"records":1}
+= 0
 "#;

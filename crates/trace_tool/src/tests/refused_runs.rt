@@ -114,9 +114,21 @@ P
 < {"callsites":[],"filter":"app=info","lanes":[],"layer":{"location":false,"target":false,"threads":false}}
 > {"done":true,"open":0,"records":0}
 = 0
-# a counting layer
-< {"callsites":[],"counting":"info","filter":"info","lanes":[]}
-> {"line":1,"refused":"Later"}
+# directives for counting
+< {"callsites":[],"counting":"app=info","filter":"info","lanes":[]}
+> {"done":true,"open":0,"records":0}
+= 0
+# a text for counting with a piece that is no directive
+< {"callsites":[],"counting":"info,,x=loud","filter":"info","lanes":[]}
+> {"line":1,"piece":3,"refused":"Directive","text":"counting"}
+= 2
+# both texts with such a piece
+< {"callsites":[],"counting":"x=loud","filter":"info,x=loud","lanes":[]}
+> {"line":1,"piece":2,"refused":"Directive","text":"filter"}
+= 2
+# no text for counting
+< {"callsites":[],"counting":7,"filter":"info","lanes":[]}
+> {"line":1,"refused":"BadLine"}
 = 2
 # settings without a filter
 < {"callsites":[],"lanes":[]}

@@ -1,8 +1,10 @@
 //! Scripts whose refused requests don't end them, so that what a refused step leaves shows in the steps behind it.
-use crate::answers::{Stage, Written, answer, open};
+use crate::answers::{Stage, answer, open};
+use crate::written::Written;
 use span_pipeline::Pipeline;
 use std::test::Fail;
 use trace_base::discard::Discard;
+use trace_pipeline::Signal;
 
 /// Scripts, written as the runs are, but that `~` ends them. The request `?` asks how many spans are open.
 pub const STEPS: &str = r#"
@@ -112,7 +114,8 @@ fn step_all<R: AllocGlobal>(
             let open = format!(in rt.alloc(); "{}\n", pipeline.open_spans())?;
             written.text.extend_from_slice(open.as_bytes())?;
         } else {
-            let answered = answer(rt.alloc(), pipeline, written, number, line.as_bytes());
+            let line = line.as_bytes();
+            let answered = answer(rt.alloc(), Signal::Traces, pipeline, written, number, line);
             answered.ok().ok_or("no memory")?;
         }
     }
@@ -121,12 +124,10 @@ fn step_all<R: AllocGlobal>(
 
 /// What is written for the settings line of a script and for each step behind it.
 pub fn stepped<R: AllocGlobal>(rt: &R, script: &str) -> Result<String, Fail> {
-    let mut written = Written {
-        text: Vec::new(rt.alloc()),
-        records: 0,
-    };
+    let mut written = Written::new(rt.alloc());
     let (settings, requests) = script.split_once('\n').ok_or("a settings line")?;
-    let Ok(mut stage) = open(rt.alloc(), &mut written, 1, settings.as_bytes()) else {
+    let settings = settings.as_bytes();
+    let Ok(mut stage) = open(rt.alloc(), Signal::Traces, &mut written, 1, settings) else {
         return Err(Fail::from("no memory"));
     };
     let stepped = match &mut stage {

@@ -6,22 +6,22 @@ pub returns-in-Ok-clause-ends : goal.returns-in-Ok-clause-ends
 returns-in-Ok-clause-ends g c =
     let read = c.in_ok-input.ensures in
     rw c.status_of.ensures
-    (written_ends _ _ _ _ c.in_ok-input.input.end c.in_ok-output.output c.in_ok-input.input.bytes.items read.bytes read.whole read.short read.long
+    (written_ends c.args.signal _ _ _ _ c.in_ok-input.input.end c.in_ok-output.output c.in_ok-input.input.bytes.items read.bytes read.whole read.short read.long
     c.in_ok-output.ensures (rw c.as_slice.ensures.value at c.in-Ok.ensures.ok))
 
 pub returns-in-Ok-clause-front : goal.returns-in-Ok-clause-front
 returns-in-Ok-clause-front g c =
-    front_ends _ _ _ _ c.in_ok-input.input.end c.in_ok-output.output c.in_ok-input.input.bytes.items c.in_ok-input.ensures.bytes c.in_ok-input.ensures.whole
+    front_ends c.args.signal _ _ _ _ c.in_ok-input.input.end c.in_ok-output.output c.in_ok-input.input.bytes.items c.in_ok-input.ensures.bytes c.in_ok-input.ensures.whole
     c.in_ok-output.ensures (puts_whole _ _ _ (rw c.as_slice.ensures.value at c.in-Ok.ensures.ok))
 
 pub returns-clause-ends : goal.returns-clause-ends
 returns-clause-ends g c =
-    front_ends _ _ _ _ c.in_ok-input.input.end c.in_ok-output.output c.in_ok-input.input.bytes.items c.in_ok-input.ensures.bytes c.in_ok-input.ensures.whole
+    front_ends c.args.signal _ _ _ _ c.in_ok-input.input.end c.in_ok-output.output c.in_ok-input.input.bytes.items c.in_ok-input.ensures.bytes c.in_ok-input.ensures.whole
     c.in_ok-output.ensures (rw c.as_slice.ensures.value at c.in-Err.ensures.err)
 
 pub returns-clause-front : goal.returns-clause-front
 returns-clause-front g c =
-    front_ends _ _ _ _ c.in_ok-input.input.end c.in_ok-output.output c.in_ok-input.input.bytes.items c.in_ok-input.ensures.bytes c.in_ok-input.ensures.whole
+    front_ends c.args.signal _ _ _ _ c.in_ok-input.input.end c.in_ok-output.output c.in_ok-input.input.bytes.items c.in_ok-input.ensures.bytes c.in_ok-input.ensures.whole
     c.in_ok-output.ensures (rw c.as_slice.ensures.value at c.in-Err.ensures.err)
 
 pub returns-in-Ok-clause-read_stops : goal.returns-in-Ok-clause-read_stops

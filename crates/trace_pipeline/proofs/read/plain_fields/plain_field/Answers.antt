@@ -1,4 +1,4 @@
-use Rattle.std.proofs.Common.{◌≡◌, ℕ, List, Some, option_map, sym, ap, ◌∙◌}
+use Rattle.std.proofs.Common.{ℕ, List, Some, option_map, sym, ap, ◌∙◌}
 use Rattle.serde_json.specs.Data.{string, array, no_items, item}
 use Rattle.trace_base.specs.declared.field.Value.{Value}
 use Rattle.trace_pipeline.specs.Compact.{plain_data}

@@ -2,4 +2,4 @@ use Rattle.trace_tool.proofs.AnswersLemmas.{cut_at}
 use Rattle.trace_tool.proofs.answers.Answers.cut.Goals as goal
 
 pub returns : goal.returns
-returns c lines answers = rw c.is_refused-refused.ensures (cut_at c.args.self.stage lines c.args.self.lines c.args.self.written answers)
+returns c signal lines answers = rw c.is_refused-refused.ensures (cut_at signal c.args.self.stage lines c.args.self.lines c.args.self.written answers)

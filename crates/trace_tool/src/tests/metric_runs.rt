@@ -1,0 +1,41 @@
+//! Scripts of which the measures are told, with what they write, worked out by hand.
+
+/// Runs, written as the others are.
+pub const METRIC_RUNS: &str = r#"
+# one measure for each number that an instrument takes, with what else the event tells
+< {"callsites":[{"fields":["counter.hits","monotonic_counter.n","histogram.h","user"],"kind":"event","level":"info","name":"m","target":"app"}],"filter":"info","lanes":[{"id":1}]}
+< {"at":0,"do":"event","fields":[["counter.hits",-2],["monotonic_counter.n",-1],["histogram.h",{"u64":5}],["user","u"]],"lane":0,"site":0}
+> {"attributes":[["user","u"]],"instrument":"up_down_counter_i64","line":2,"name":"hits","value":-2}
+> {"attributes":[["user","u"]],"instrument":"histogram_u64","line":2,"name":"h","value":5}
+> {"done":true,"measures":2}
+= 0
+# measures with a span and without, of an event that isn't let through, and of one that measures nothing
+< {"callsites":[{"fields":["gauge.g","monotonic_counter.n"],"kind":"event","level":"info","name":"m","target":"app"},{"fields":["gauge.g"],"kind":"event","level":"debug","name":"d","target":"app"},{"fields":["a"],"kind":"event","level":"info","name":"e","target":"app"},{"fields":["gauge.g"],"kind":"span","level":"info","name":"s","target":"app"}],"counting":"off","filter":"info","lanes":[{"id":1}]}
+< 
+< {"at":0,"do":"event","fields":[["gauge.g",{"u64":18446744073709551615}],["gauge.g",-9223372036854775808]],"lane":0,"site":0}
+< {"at":1,"do":"new","fields":[["gauge.g",1]],"lane":0,"site":3}
+< {"at":2,"do":"event","fields":[["gauge.g",2]],"lane":0,"site":1}
+< {"at":3,"do":"event","fields":[["a",3]],"lane":0,"parent":0,"site":2}
+< {"at":4,"do":"event","fields":[["monotonic_counter.n",4]],"lane":0,"parent":0,"site":0}
+< {"at":5,"do":"drop","handle":0,"lane":0}
+> {"attributes":[],"instrument":"gauge_u64","line":3,"name":"g","value":18446744073709551615}
+> {"attributes":[],"instrument":"gauge_i64","line":3,"name":"g","value":-9223372036854775808}
+> {"attributes":[],"instrument":"counter_u64","line":7,"name":"n","value":4}
+> {"done":true,"measures":3}
+= 0
+# a refused line behind a measure
+< {"callsites":[{"fields":["gauge.g"],"kind":"event","level":"info","name":"m","target":"app"}],"filter":"info","lanes":[{"id":1}]}
+< {"at":1,"do":"event","fields":[["gauge.g",1]],"lane":0,"site":0}
+< {"at":0,"do":"event","fields":[["gauge.g",2]],"lane":0,"site":0}
+< {"at":2,"do":"event","fields":[["gauge.g",3]],"lane":0,"site":0}
+> {"attributes":[],"instrument":"gauge_i64","line":2,"name":"g","value":1}
+> {"before":1,"given":0,"line":3,"refused":"BadMoment"}
+= 2
+# settings alone
+P
+> {"done":true,"measures":0}
+= 0
+# no line
+> {"line":1,"refused":"BadLine"}
+= 2
+"#;
