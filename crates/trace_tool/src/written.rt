@@ -57,13 +57,13 @@ impl Written {
     {
         match signal {
             Signal::Traces => {
-                self.reply(alloc, line, reply)?;
-                self.records(alloc, pipeline)?;
+                self.write_reply(alloc, line, reply)?;
+                self.write_records(alloc, pipeline)?;
                 drop_measures(pipeline);
                 Ok(())
             }
             Signal::Metrics => {
-                self.measures(alloc, line, pipeline)?;
+                self.write_measures(alloc, line, pipeline)?;
                 drop_records(pipeline);
                 Ok(())
             }
@@ -71,7 +71,7 @@ impl Written {
     }
 
     // Writes the reply line of a line.
-    fn reply(&mut self, alloc: Global, line: u64, reply: &Reply) -> Result<(), Memory>
+    fn write_reply(&mut self, alloc: Global, line: u64, reply: &Reply) -> Result<(), Memory>
         ensures text { OnOk result (self.new.text.items ≡ self.old.text.items ++ reply_text line reply.now) }
         ensures count { self.new.count ≡ self.old.count }
     {
@@ -81,7 +81,7 @@ impl Written {
     }
 
     // Takes the records, and writes their lines.
-    fn records(&mut self, alloc: Global, pipeline: &mut Pipeline) -> Result<(), Memory>
+    fn write_records(&mut self, alloc: Global, pipeline: &mut Pipeline) -> Result<(), Memory>
         ensures lines { OnOk result (self.new.text.items
             ≡ self.old.text.items ++ record_lines (self.old.count + 1) pipeline.old.recording.finished) }
         ensures count { OnOk result (
@@ -100,7 +100,12 @@ impl Written {
     }
 
     // Takes the measures of the event on a line, and writes their lines.
-    fn measures(&mut self, alloc: Global, line: u64, pipeline: &mut Pipeline) -> Result<(), Memory>
+    fn write_measures(
+        &mut self,
+        alloc: Global,
+        line: u64,
+        pipeline: &mut Pipeline,
+    ) -> Result<(), Memory>
         ensures lines { OnOk result (
             self.new.text.items ≡ self.old.text.items ++ measure_lines line pipeline.old.measures) }
         ensures count { OnOk result (self.new.count ≡ self.old.count + length pipeline.old.measures) }

@@ -1,7 +1,7 @@
 use Rattle.std.proofs.Common.{◌≡◌, ◌+◌, ◌++◌, length}
 use Rattle.trace_pipeline.specs.Report.{record_lines}
 use Rattle.trace_tool.specs.Answers.{without_taken}
-use Rattle.trace_tool.proofs.written.Written.records.Given as goal
+use Rattle.trace_tool.proofs.written.Written.write_records.Given as goal
 
 abbrev pub invariant-loop-finished : goal.invariant-loop-finished
 invariant-loop-finished l = record {

@@ -1,7 +1,7 @@
 use Rattle.std.proofs.Common.{◌≡◌, ◌+◌, ◌++◌, length}
 use Rattle.trace_pipeline.specs.Report.{measure_lines}
 use Rattle.trace_tool.specs.Answers.{without_taken}
-use Rattle.trace_tool.proofs.written.Written.measures.Given as goal
+use Rattle.trace_tool.proofs.written.Written.write_measures.Given as goal
 
 abbrev pub invariant-loop-measure : goal.invariant-loop-measure
 invariant-loop-measure l = record {
