@@ -1,2 +1,4 @@
+pub mod Counting
 pub mod Order
 pub mod Places
+pub mod Tallies

@@ -46,6 +46,28 @@ impl<S: Stack> Scene<S> {
         Ok(Some(span))
     }
 
+    /// A new child of the lane's current span, a root where there is none; none where no more are made.
+    pub fn make_current(
+        &mut self,
+        at: u64,
+        site: SiteId,
+        values: &ValueSet,
+    ) -> Result<Option<Span>, Memory>
+        requires order { InOrder S.spans S.kept S.is_whole self.old }
+        requires site { site < self.old.sites }
+        ensures order { InOrder S.spans S.kept S.is_whole self.new }
+        ensures known { KeepsKnown S.spans self.old.world self.new.world }
+        ensures sites { self.new.sites ≡ self.old.sites }
+        ensures made { IfOk result (λ made. IfSome made (IsHeld S.spans self.new.sites self.new.world)) }
+    {
+        if self.made >= 1000 || !self.has_room_around() {
+            return Ok(None);
+        }
+        let span = Span::new_with(&mut self.world, &self.lane, at, site, values, self.dispatch)?;
+        self.made += 1;
+        Ok(Some(span))
+    }
+
     /// Enters a span; none where it can't be entered.
     pub fn enter(&mut self, at: u64, span: &Span) -> Result<Option<Entry>, Memory>
         requires order { InOrder S.spans S.kept S.is_whole self.old }

@@ -9,6 +9,7 @@ mod play;
 mod scene;
 mod script;
 mod stack;
+mod tally;
 mod told;
 mod words;
 

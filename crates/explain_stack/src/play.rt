@@ -38,11 +38,12 @@ pub fn answer<S: Stack>(
         "new" => make(alloc, scene, handles, at, name, words),
         "follows" => follow(alloc, scene, handles, at, name, words),
         "close" => close(alloc, scene, handles, at, name),
+        "admits" => admits(alloc, scene, name, words),
         _ => one(alloc, scene, handles, at, call, name, words),
     }
 }
 
-// A new span of the words `PARENT SITE VALUES`, where a parent is a handle or `root`.
+// A new span of the words `PARENT SITE VALUES`, where a parent is a handle, `current` or `root`.
 fn make<S: Stack>(
     alloc: Global,
     scene: &mut Scene<S>,
@@ -99,12 +100,31 @@ fn made<S: Stack>(
         root.discard();
         return made;
     }
+    if parent == "current" {
+        return scene.make_current(at, site, values);
+    }
     let Some(slot) = handles.take(parent) else {
         return Ok(None);
     };
     let made = scene.make_under(at, slot.span(), site, values);
     handles.put(parent, slot);
     made
+}
+
+// Whether what the callsite of a number makes is taken on the lane of an id.
+fn admits<S: Stack>(
+    alloc: Global,
+    scene: &Scene<S>,
+    site: &str,
+    lane: &str,
+) -> Result<String, Memory>
+    requires order { InOrder S.spans S.kept S.is_whole scene.now }
+{
+    let Some(site) = scene.site_at(words::number(site).unwrap_or(0)) else {
+        return told::refused(alloc);
+    };
+    let admits = scene.admits_on(alloc, words::number(lane).unwrap_or(0), site);
+    Ok(format!(in alloc; "  admits {admits}\n")?)
 }
 
 // A span follows from another, which may be itself.

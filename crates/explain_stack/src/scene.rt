@@ -1,9 +1,11 @@
 //! A world with one stack, and the calls that are made in it.
 ghost use Rattle.std.specs.Prelude.{◌≡◌, ◌<◌, ◌≤◌, ℕ, true, length, Some, None, IfOk, IfSome, IsTrue};
-ghost use Rattle.trace_base.specs.Conditions.{HasFewHolds};
+ghost use Rattle.trace_base.specs.Conditions.{HasFewHolds, HasFewHoldsAbove};
+ghost use Rattle.trace_base.specs.declared.span.Parent.TheVariants as parent;
 ghost use Rattle.trace_base.specs.Spans.{entries_on, is_in};
 ghost use Rattle.span_registry.specs.Registering.{no_spans};
 ghost use Rattle.span_handles.specs.Handles.{IsKnown, HasOn, IsOf};
+ghost use Rattle.span_handles.specs.Worlds.{Has};
 ghost use Rattle.span_handles.specs.Knowing.{KeepsKnown, KeepsOthers};
 ghost use Rattle.explain_stack.specs.Order.{InOrder, IsHeld};
 
@@ -82,6 +84,20 @@ impl<S: Stack> Scene<S> {
         self.world.admits(&self.lane, site)
     }
 
+    /// The same on the lane of an id.
+    pub fn admits_on(&self, alloc: Global, lane: u64, site: SiteId) -> bool
+        requires order { InOrder S.spans S.kept S.is_whole self.now }
+        requires site { site < self.now.sites }
+    {
+        let lane = Lane {
+            id: lane,
+            name: None,
+            default: Some(self.dispatch),
+            contexts: ContextStack::new(alloc),
+        };
+        self.world.admits(&lane, site)
+    }
+
     /// The records that the stack's recorder still has; the rest of the scene is given up.
     pub fn end(self, alloc: Global) -> Result<String, Memory>
         requires order { InOrder S.spans S.kept S.is_whole self }
@@ -111,6 +127,20 @@ impl<S: Stack> Scene<S> {
                 let registry = self.world.subscriber(self.dispatch).registry();
                 dispatch == self.dispatch && registry.holds(id) < 1000
             }
+        }
+    }
+
+    /// Whether the lane's current span, if it has one, may be held once more.
+    pub(crate) fn has_room_around(&self) -> bool
+        requires order { InOrder S.spans S.kept S.is_whole self.now }
+        ensures few { IsTrue result
+            → Has (λ s. HasFewHoldsAbove (S.spans s) self.now.lane.id parent.Current) self.now.world
+            self.now.dispatch }
+    {
+        let stack = self.world.subscriber(self.dispatch);
+        match stack.current_span(self.lane.id) {
+            None => true,
+            Some((id, _)) => stack.registry().holds(id) < 1000,
         }
     }
 
@@ -157,6 +187,9 @@ fn records<S: Stack>(alloc: Global, stack: &mut S) -> Result<String, Memory> {
             break;
         };
         told.push_str(told::record(alloc, &record)?.as_str())?;
+    }
+    if let Some((reserved, finished)) = stack.counts() {
+        told.push_str(format!(in alloc; "  reserved {reserved}, finished {finished}\n")?.as_str())?;
     }
     Ok(told)
 }

@@ -7,6 +7,7 @@ ghost use Rattle.explain_stack.specs.Places.{AreHeld};
 use crate::handles::Handles;
 use crate::scene::Scene;
 use crate::stack::Stack;
+use crate::tally::Tally;
 use crate::{play, words};
 use env_filter::filter::EnvFilter;
 use otel_base::memory::Memory;
@@ -31,6 +32,10 @@ pub fn run(alloc: Global, stack: &str, lines: &[String]) -> Result<String, Memor
         }
         "counting" => {
             let layer = layer.with_counting_event_filter(filter);
+            run_on(alloc, registry.with(layer), lines)
+        }
+        "counted" => {
+            let layer = layer.with_tracer(Tally::new(alloc));
             run_on(alloc, registry.with(layer), lines)
         }
         "filtered" => run_on(alloc, registry.with(layer).with(filter), lines),

@@ -1,6 +1,7 @@
 //! Stacks of layers over a registry.
 ghost use Rattle.std.specs.Prelude.{◌≡◌};
 
+use crate::tally::Tally;
 use env_filter::filter::EnvFilter;
 use otel_base::record::Record;
 use otel_base::recorder::Recorder;
@@ -24,17 +25,37 @@ pub trait Stack: OtelSubscriber + Discard {
 
     /// The filter that it has, if it has one.
     fn filter(&self) -> Option<&EnvFilter>;
+
+    /// For how many finishes its tracer was asked for room, and how many it was handed; none where that isn't counted.
+    fn counts(&mut self) -> Option<(u64, u64)>;
 }
 
 /// A tracer that may keep records until they are taken.
 pub trait Taken: Tracer {
     /// Takes out the oldest one; none where it has none.
     fn take_one(&mut self) -> Option<Record>;
+
+    /// For how many finishes it was asked for room, and how many it was handed; none where that isn't counted.
+    fn counted(&self) -> Option<(u64, u64)>;
 }
 
 impl Taken for Recorder {
     fn take_one(&mut self) -> Option<Record> {
         self.take()
+    }
+
+    fn counted(&self) -> Option<(u64, u64)> {
+        None
+    }
+}
+
+impl Taken for Tally {
+    fn take_one(&mut self) -> Option<Record> {
+        self.take()
+    }
+
+    fn counted(&self) -> Option<(u64, u64)> {
+        Some(self.counts())
     }
 }
 
@@ -48,6 +69,10 @@ impl Stack for Registry {
     }
 
     fn filter(&self) -> Option<&EnvFilter> {
+        None
+    }
+
+    fn counts(&mut self) -> Option<(u64, u64)> {
         None
     }
 }
@@ -64,6 +89,10 @@ impl<T: Taken + Drop> Stack for Layered<OpenTelemetryLayer<T>, Registry> {
     fn filter(&self) -> Option<&EnvFilter> {
         None
     }
+
+    fn counts(&mut self) -> Option<(u64, u64)> {
+        self.layer_mut().tracer_mut().counted()
+    }
 }
 
 impl<F: Filter + Drop> Stack for Layered<FilteredOpenTelemetryLayer<Recorder, F>, Registry> {
@@ -76,6 +105,10 @@ impl<F: Filter + Drop> Stack for Layered<FilteredOpenTelemetryLayer<Recorder, F>
     }
 
     fn filter(&self) -> Option<&EnvFilter> {
+        None
+    }
+
+    fn counts(&mut self) -> Option<(u64, u64)> {
         None
     }
 }
@@ -91,5 +124,9 @@ impl<S: Stack> Stack for Layered<EnvFilter, S> {
 
     fn filter(&self) -> Option<&EnvFilter> {
         Some(self.layer())
+    }
+
+    fn counts(&mut self) -> Option<(u64, u64)> {
+        self.inner_mut().counts()
     }
 }
