@@ -7,13 +7,14 @@ use otel_base::record::{Link, OtelEvent, Record, SpanKind};
 use otel_base::status::Status;
 use otel_base::text::Text;
 use otel_base::value::{KeyValue, OtelValue};
+use otel_metrics::measure::{Measure, MetricKind};
 use std::alloc::Global;
 use std::sync::Wait;
 use std::test::Fail;
 use std::thread::Threads;
 use trace_pipeline::{
-    Call, Place, Refusal, Reply, Told, What, end_line, read_request, read_settings, record_line,
-    refusal_line, reply_line,
+    Call, Place, Refusal, Reply, Told, What, end_line, measure_line, measures_end_line,
+    read_request, read_settings, record_line, refusal_line, reply_line,
 };
 
 // Request lines, each with its moment, its lane and its call behind it.
@@ -245,6 +246,20 @@ fn writes_lines(rt: HostRuntime) -> Result<(), Fail> {
         "{\"done\":true,\"open\":3,\"records\":12}\n"
     );
     assert_eq!(rt; record_line(alloc, 2, &full(alloc)?)?.as_str(), FULL);
+    assert_eq!(rt;
+        measures_end_line(alloc, 3)?.as_str(),
+        "{\"done\":true,\"measures\":3}\n"
+    );
+    let queue = Measure {
+        kind: MetricKind::GaugeI64,
+        name: text(alloc, "queue")?,
+        value: -3,
+        attributes: Items::new(alloc),
+    };
+    assert_eq!(rt;
+        measure_line(alloc, 5, &queue)?.as_str(),
+        "{\"attributes\":[],\"instrument\":\"gauge_i64\",\"line\":5,\"name\":\"queue\",\"value\":-3}\n"
+    );
     Ok(())
 }
 
