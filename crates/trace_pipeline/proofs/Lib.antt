@@ -19,3 +19,7 @@ pub mod Fields
 pub mod FieldRead
 pub mod Attributes
 pub mod AttributeRead
+pub mod PlainTexts
+pub mod MadeLines
+pub mod MadeReport
+pub mod MadeSteps

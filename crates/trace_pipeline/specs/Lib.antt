@@ -22,3 +22,5 @@ pub mod Texts
 pub mod Writes
 pub mod Report
 pub mod Laws
+pub mod Generated
+pub mod Replay

@@ -3,6 +3,7 @@
 //! What requests do is in `span_pipeline`.
 #![tactic(auto)]
 
+pub mod generated;
 pub mod laws;
 mod level_words;
 pub mod limits;

@@ -25,6 +25,7 @@ mod settings;
 mod tree;
 mod value;
 
+pub use decimal::u128_of;
 pub use fields::read_fields;
 use object::Object;
 use otel_base::memory;

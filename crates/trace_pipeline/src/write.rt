@@ -3,6 +3,7 @@
 ghost use Rattle.std.specs.Prelude.{◌≡◌, ◌≢◌, ◌++◌, IfOk, string_bytes};
 ghost use Rattle.std.specs.Str.{IsUtf8};
 ghost use Rattle.trace_pipeline.specs.Writes.{Writes};
+ghost use Rattle.trace_pipeline.specs.Replay.{summary_text};
 ghost use Rattle.trace_pipeline.specs.Texts.{reply_text, record_text, measure_text, refusal_text, end_text, measures_end_text};
 ghost use Rattle.span_pipeline.specs.declared.reply.Refusal.{Refusal};
 
@@ -15,6 +16,7 @@ mod pieces;
 mod record;
 mod refusal;
 mod reply;
+pub mod summary;
 
 use crate::told::Told;
 use end::{add_end, add_measures_end};
@@ -28,6 +30,7 @@ use refusal::add_refusal;
 use reply::add_reply;
 use span_pipeline::reply::Reply;
 use std::alloc::{AllocError, Global};
+use summary::{Summary, add_summary};
 
 // The bytes that most lines need, of records and of others.
 const LONG: usize = 512;
@@ -84,6 +87,15 @@ fn add_measures_end_line(out: &mut Vec<u8>, measures: u64) -> Result<(), AllocEr
     ensures { Writes result out.old out.new (measures_end_text measures) }
 {
     add_measures_end(out, measures)?;
+    add(out, "\n")?;
+    Ok(())
+}
+
+// Adds the line of a summary.
+fn add_summary_line(out: &mut Vec<u8>, summary: &Summary) -> Result<(), AllocError>
+    ensures { Writes result out.old out.new (summary_text summary.now) }
+{
+    add_summary(out, summary)?;
     add(out, "\n")?;
     Ok(())
 }
@@ -204,5 +216,14 @@ pub fn append_measures_end(before: Vec<u8>, measures: u64) -> Result<Vec<u8>, Me
 {
     let mut out = before;
     add_measures_end_line(&mut out, measures)?;
+    Ok(out)
+}
+
+/// Adds a summary's line to what `before` holds, and gives it back.
+pub fn append_summary(before: Vec<u8>, summary: &Summary) -> Result<Vec<u8>, Memory>
+    ensures { IfOk result (λ out. out.items ≡ before.items ++ summary_text summary.now) }
+{
+    let mut out = before;
+    add_summary_line(&mut out, summary)?;
     Ok(out)
 }

@@ -202,7 +202,7 @@ back k t s = record {
   filtering = record { in_place = s.filtering.in_place; fresh = s.filtering.fresh; counter = s.filtering.counter; new = s.filtering.new };
 }
 
-stands_beside : (old new : State) (t : Tables) → without_taken new ≡ without_taken old → StandsFor old t → StandsFor new t
+pub stands_beside : (old new : State) (t : Tables) → without_taken new ≡ without_taken old → StandsFor old t → StandsFor new t
 stands_beside old new t same stands = back new t (subst (λ (k : State). StandsFor k t) (sym same) (beside old t stands))
 
 -- a request that is answered

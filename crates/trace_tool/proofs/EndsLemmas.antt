@@ -18,6 +18,7 @@ use Rattle.trace_tool.specs.Streams.{Takes, IsFront, Puts, PutsFront}
 use Rattle.trace_tool.specs.Breaks.{whole_part, whole_lines, HasRefused, AnswersAll}
 use Rattle.trace_tool.specs.Answers.{Stops, Cuts}
 use Rattle.trace_tool.specs.Ends.{Leaves, Ends, Causes, Completes, status_of, Tells}
+use Rattle.trace_tool.specs.Making.{LeavesSum, CompletesSum}
 use Rattle.trace_tool.specs.Commands.{EndsOf, CompletesOf}
 use Rattle.trace_tool.specs.declared.script.Command.{Command}
 use Rattle.trace_tool.specs.declared.script.Command.TheVariants as commands
@@ -194,11 +195,24 @@ completes signal ends.TooLong (Some bytes) left before now reads reads' writes w
     let size : length bytes ≡ length ended.read + length ended.took.0 = ap length ended.took.2 ∙ length-append ended.read ended.took.0 in
     absurd (omega (arith, ended.long, valid.short))
 
+completes_sum : (status : Status) (rounds : ℕ) (before now : Option (List ℕ)) (reads reads' writes writes' : ℕ) → LeavesSum status rounds before now
+    → Causes status reads reads' writes writes' → CompletesSum status writes writes'
+completes_sum ends.Ok rounds before now reads reads' writes writes' left causes = λ still. inl refl
+completes_sum ends.Usage rounds before now reads reads' writes writes' left causes = absurd left
+completes_sum ends.Refused rounds before now reads reads' writes writes' left causes = absurd left
+completes_sum ends.ReadFault rounds before now reads reads' writes writes' left causes = absurd left
+completes_sum ends.WriteFault rounds before now reads reads' writes writes' left causes =
+    λ still. let more : writes < writes' = causes still.0 in absurd (omega (arith, still.1))
+completes_sum ends.Memory rounds before now reads reads' writes writes' left causes = λ still. inr refl
+completes_sum ends.TooLong rounds before now reads reads' writes writes' left causes = absurd left
+
 -- the same by the command
 pub completes_of : (command : Command) (status : Status) (old left before now : Option (List ℕ)) (reads reads' writes writes' : ℕ) → EndsOf command status old left before now
     → Causes status reads reads' writes writes' → status ≢ ends.Usage → CompletesOf command status old reads reads' writes writes'
 completes_of (commands.Run signal) status old left before now reads reads' writes writes' ended causes used =
     completes signal status old left before now reads reads' writes writes' ended causes used
+completes_of (commands.Make rounds) status old left before now reads reads' writes writes' ended causes used =
+    completes_sum status rounds before now reads reads' writes writes' ended.1 causes
 
 -- ---- faults
 

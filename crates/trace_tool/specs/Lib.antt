@@ -3,4 +3,5 @@ pub mod Words
 pub mod Breaks
 pub mod Answers
 pub mod Ends
+pub mod Making
 pub mod Commands

@@ -9,6 +9,7 @@ mod answers;
 mod failed;
 mod input;
 mod lines;
+mod make;
 mod script;
 mod sink;
 mod source;

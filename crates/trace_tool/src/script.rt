@@ -1,7 +1,7 @@
 //! Running a script: all of its input is read, then answered, and then the answers are written.
 ghost use Rattle.std.specs.Prelude.{◌≡◌, ◌≢◌, [], IfSome, IfOk, OnErr};
 ghost use Rattle.trace_pipeline.specs.Report.{output};
-ghost use Rattle.trace_tool.specs.Commands.{EndsOf, FrontOf, CompletesOf};
+ghost use Rattle.trace_tool.specs.Commands.{EndsOf, FrontOf, CompletesOf, IsPossible};
 ghost use Rattle.trace_tool.specs.Streams.{Puts, PutsFront, StopsReading, StopsWriting};
 ghost use Rattle.trace_tool.specs.Ends.{Leaves, Causes, status_of, Tells};
 
@@ -9,6 +9,7 @@ use crate::answers::{Output, answer_lines};
 use crate::failed::Failed;
 use crate::input::{End, Input, read_all};
 use crate::lines::whole_part;
+use crate::make::make;
 use crate::sink::{Sink, write_all};
 use crate::source::Source;
 use crate::status::Status;
@@ -22,6 +23,8 @@ use trace_pipeline::limits::MAX_INPUT;
 pub enum Command {
     /// To run a script, and to tell this of it.
     Run { signal: Signal },
+    /// To make the script of so many rounds, run it, and tell what it came to.
+    Make { rounds: u64 },
 }
 
 /// Carries a command out. A line that is refused is told before a fault of the source and too long an input.
@@ -31,6 +34,7 @@ pub fn run_script<R: Source, W: Sink>(
     source: &mut R,
     sink: &mut W,
 ) -> Status
+    requires { IsPossible command }
     ensures ends { EndsOf command result
         (R.remaining source.old) (R.remaining source.new) (W.holds sink.old) (W.holds sink.new) }
     ensures causes { Causes result
@@ -47,6 +51,7 @@ pub fn run_script<R: Source, W: Sink>(
             Ok(status) => status,
             Err(Memory) => Status::Memory,
         },
+        Command::Make { rounds } => make(alloc, rounds, sink),
     }
 }
 

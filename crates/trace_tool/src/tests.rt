@@ -4,6 +4,7 @@ mod extension_runs;
 mod field_runs;
 mod filter_runs;
 mod lines;
+mod makes;
 mod metric_runs;
 mod refused_runs;
 mod runs;

@@ -1,9 +1,10 @@
 //! The entry point of the program, over any source and any sink.
-ghost use Rattle.std.specs.Prelude.{◌≡◌, [], ◌∷◌, map, None, IfSome, string_bytes};
+ghost use Rattle.std.specs.Prelude.{◌≡◌, [], ◌∷◌, map, None, IfSome, option_map, string_bytes};
 ghost use Rattle.trace_tool.specs.Commands.{EndsOf, FrontOf, CompletesOf};
 ghost use Rattle.trace_tool.specs.Streams.{StopsReading, StopsWriting};
 ghost use Rattle.trace_tool.specs.Ends.{Causes};
-ghost use Rattle.trace_tool.specs.Words.{command_of};
+ghost use Rattle.trace_tool.specs.declared.script.Command.TheVariants.{Make};
+ghost use Rattle.trace_tool.specs.Words.{command_of, rounds_of};
 
 use crate::script::{Command, run_script};
 use crate::sink::Sink;
@@ -13,6 +14,8 @@ use std::alloc::Global;
 use std::sync::Wait;
 use std::thread::Threads;
 use trace_pipeline::Signal;
+use trace_pipeline::generated::MOST_ROUNDS;
+use trace_pipeline::read::u128_of;
 
 /// Carries out what the words ask for, and answers how it ended. Words that ask for nothing touch neither source
 /// nor sink.
@@ -50,7 +53,28 @@ fn command_of(words: &[String]) -> Option<Command>
 {
     match words {
         [word] => command_by(word.as_str()),
+        [word, number] if word.as_str() == "make" => make_of(number.as_str()),
         _ => None,
+    }
+}
+
+// A script of a number of rounds.
+fn make_of(number: &str) -> Option<Command>
+    ensures { result ≡ option_map Make (rounds_of number.now) }
+{
+    let rounds = rounds_of(number)?;
+    Some(Command::Make { rounds })
+}
+
+// A number of rounds, by its decimal.
+fn rounds_of(word: &str) -> Option<u64>
+    ensures { result ≡ rounds_of word.now }
+{
+    let rounds = u128_of(word)?;
+    if rounds >= 1 && rounds <= MOST_ROUNDS as u128 {
+        Some(rounds as u64)
+    } else {
+        None
     }
 }
 

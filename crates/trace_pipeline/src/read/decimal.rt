@@ -12,7 +12,7 @@ fn is_decimal(number: u128, word: &str) -> bool
 }
 
 /// The number of 128 bits whose decimal a text is.
-pub(crate) fn u128_of(word: &str) -> Option<u128>
+pub fn u128_of(word: &str) -> Option<u128>
     ensures { result ≡ u128_word word.now }
 {
     match word.parse::<u128>() {

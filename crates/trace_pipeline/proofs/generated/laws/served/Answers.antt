@@ -1,0 +1,5 @@
+use Rattle.trace_pipeline.proofs.MadeSteps.{made_replays}
+use Rattle.trace_pipeline.proofs.generated.laws.served.Goals as goal
+
+pub returns : goal.returns
+returns c = made_replays

@@ -1,0 +1,5 @@
+use Rattle.trace_pipeline.proofs.MadeReport.{made_valid}
+use Rattle.trace_pipeline.proofs.generated.laws.valid.Goals as goal
+
+pub returns : goal.returns
+returns c = made_valid

@@ -1,0 +1,9 @@
+use Rattle.std.proofs.Common.{refl}
+use Rattle.trace_pipeline.specs.Object.{line_of}
+use Rattle.trace_pipeline.specs.Replay.{summary_text}
+use Rattle.trace_pipeline.proofs.Adding.{then, retold}
+use Rattle.trace_pipeline.proofs.write.add_summary_line.Goals as goal
+
+pub returns : goal.returns
+unfolding summary_text line_of
+returns c = retold _ _ _ _ (then _ _ _ _ _ c.in_ok-add_summary.ensures c.in_ok-add.ensures) refl
