@@ -116,16 +116,31 @@ abbrev pub HasLine : Request → Type 0
 HasLine request = IsLine (request_line request) request
 
 round_lines : (i : ℕ) → i < 50000 → Each HasLine (round i)
-round_lines i few =
-    (root_line _ _ i (omega (arith, few)) (omega arith) (omega (arith, few)),
-    (enter_line _ _ _ (omega (arith, few)) (omega arith) (omega (arith, few)),
-    (below_line _ _ (omega (arith, few)) (omega arith),
-    (enter_line _ _ _ (omega (arith, few)) (omega arith) (omega (arith, few)),
-    (event_line _ _ (omega (arith, few)) (omega arith),
-    (exit_line _ _ _ (omega (arith, few)) (omega arith) (omega (arith, few)),
-    (drop_line _ _ _ (omega (arith, few)) (omega arith) (omega (arith, few)),
-    (exit_line _ _ _ (omega (arith, few)) (omega arith) (omega (arith, few)),
-    (drop_line _ _ _ (omega (arith, few)) (omega arith) (omega (arith, few)), tt)))))))))
+round_lines i few = (
+  root_line _ _ i (omega (arith, few)) (omega arith) (omega (arith, few)),
+  (
+    enter_line _ _ _ (omega (arith, few)) (omega arith) (omega (arith, few)),
+    (
+      below_line _ _ (omega (arith, few)) (omega arith),
+      (
+        enter_line _ _ _ (omega (arith, few)) (omega arith) (omega (arith, few)),
+        (
+          event_line _ _ (omega (arith, few)) (omega arith),
+          (
+            exit_line _ _ _ (omega (arith, few)) (omega arith) (omega (arith, few)),
+            (
+              drop_line _ _ _ (omega (arith, few)) (omega arith) (omega (arith, few)),
+              (
+                exit_line _ _ _ (omega (arith, few)) (omega arith) (omega (arith, few)),
+                (drop_line _ _ _ (omega (arith, few)) (omega arith) (omega (arith, few)), tt),
+              ),
+            ),
+          ),
+        ),
+      ),
+    ),
+  ),
+)
 
 -- ---- all rounds
 
@@ -178,8 +193,14 @@ lines_length (r ∷ requests) all =
 
 pub script_short : (n : ℕ) → n ≤ 50000 → length (made_script n) ≤ 67108864
 script_short n few =
-    omega (arith, few, length-append (with_feed settings_line) (flat_map with_feed (map request_line (made_requests n))), length-append settings_line (10 ∷ []),
-    lines_length (made_requests n) (made_each n few), many_rounds 0 n)
+    omega (
+      arith,
+      few,
+      length-append (with_feed settings_line) (flat_map with_feed (map request_line (made_requests n))),
+      length-append settings_line (10 ∷ []),
+      lines_length (made_requests n) (made_each n few),
+      many_rounds 0 n,
+    )
 
 -- ---- what they spell
 

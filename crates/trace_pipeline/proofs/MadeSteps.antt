@@ -107,18 +107,24 @@ made_kept : (enabled : Bool) (t : Tables) (before at lane place site : ℕ) (cal
     (xs hs : List (Option Scope)) (ys gs : List (Option Guarded)) (items : List Attached) → Within xs ys lane hs gs items before t
     → (scope : Scope) × Within xs ys lane (hs ++ Some scope ∷ []) gs items at
     (after t (if enabled then makes_span made_setup t at place site callsite values under up else declines t at (id_at made_setup.ids place)))
-made_kept true t before at lane place site callsite values under up xs hs ys gs items w = (length t.made ∷ up, record {
-  handles = ap (λ l. l ++ Some (length t.made ∷ up) ∷ []) w.handles ∙ append_assoc xs hs (Some (length t.made ∷ up) ∷ []);
-  guards = w.guards;
-  contexts = w.contexts;
-  moment = omega arith;
-})
-made_kept false t before at lane place site callsite values under up xs hs ys gs items w = ([], record {
-  handles = ap (λ l. l ++ Some [] ∷ []) w.handles ∙ append_assoc xs hs (Some [] ∷ []);
-  guards = w.guards;
-  contexts = w.contexts;
-  moment = omega arith;
-})
+made_kept true t before at lane place site callsite values under up xs hs ys gs items w = (
+  length t.made ∷ up,
+  record {
+    handles = ap (λ l. l ++ Some (length t.made ∷ up) ∷ []) w.handles ∙ append_assoc xs hs (Some (length t.made ∷ up) ∷ []);
+    guards = w.guards;
+    contexts = w.contexts;
+    moment = omega arith;
+  },
+)
+made_kept false t before at lane place site callsite values under up xs hs ys gs items w = (
+  [],
+  record {
+    handles = ap (λ l. l ++ Some [] ∷ []) w.handles ∙ append_assoc xs hs (Some [] ∷ []);
+    guards = w.guards;
+    contexts = w.contexts;
+    moment = omega arith;
+  },
+)
 
 abbrev request_site : Callsite
 request_site = made_site (codes "request") (codes "web") kind.Span (codes "otel.kind" ∷ codes "id" ∷ [])
@@ -184,6 +190,7 @@ not_full some items few = rw (unequal (length items) few) (and_false some)
   where
     unequal : (n : ℕ) → n ≤ 2 → (n == 65534) ≡ false
     unequal n few = grind (arith, nat_tests, few)
+
     and_false : (b : Bool) → (b && false) ≡ false
     and_false true = refl
     and_false false = refl
@@ -229,9 +236,11 @@ detached_one contexts lane items rest new (s ∷ up) is all owned l = by_case (l
   where
     here : contexts lane ≡ items
     here = is lane ∙ rw (same lane) refl
+
     gone : without_last (is_by (EntryOf s)) (contexts lane) ≡ rest
     gone = ap (without_last (is_by (EntryOf s))) (here ∙ all ∙ ap (λ (xs : List Attached). rest ++ xs) owned.1)
         ∙ last_gone (is_by (EntryOf s)) rest (record { owner = EntryOf s; context = owned.0 }) (same s)
+
     by_case : (b : Bool) → (lane == l) ≡ b → (if b then without_last (is_by (EntryOf s)) (contexts lane) else contexts l) ≡ (if b then rest else [])
     by_case true e = gone
     by_case false e = is l ∙ rw e refl

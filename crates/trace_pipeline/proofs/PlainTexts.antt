@@ -150,15 +150,27 @@ mutual
   items_length : (later : Bool) (ds : Items) → ArePlain ds → length (items_text later ds) ≤ items_room ds
   items_length later no_items plain = omega arith
   items_length later (item d ds) plain =
-      omega (arith, length-append (comma_if later) (compact_text d ++ items_text true ds), length-append (compact_text d) (items_text true ds),
-      comma_length later, text_length d plain.0, items_length true ds plain.1)
+      omega (
+        arith,
+        length-append (comma_if later) (compact_text d ++ items_text true ds),
+        length-append (compact_text d) (items_text true ds),
+        comma_length later,
+        text_length d plain.0,
+        items_length true ds plain.1,
+      )
 
   members_length : (later : Bool) (ms : Members) → HavePlain ms → length (members_text later ms) ≤ members_room ms
   members_length later no_members plain = omega arith
   members_length later (member k d ms) plain =
-      omega (arith, length-append (comma_if later) (quoted k ++ 58 ∷ (compact_text d ++ members_text true ms)),
-      length-append (quoted k) (58 ∷ (compact_text d ++ members_text true ms)), length-append (compact_text d) (members_text true ms),
-      comma_length later, text_length d plain.1, members_length true ms plain.2)
+      omega (
+        arith,
+        length-append (comma_if later) (quoted k ++ 58 ∷ (compact_text d ++ members_text true ms)),
+        length-append (quoted k) (58 ∷ (compact_text d ++ members_text true ms)),
+        length-append (compact_text d) (members_text true ms),
+        comma_length later,
+        text_length d plain.1,
+        members_length true ms plain.2,
+      )
 
 -- ---- plain bytes are UTF-8
 

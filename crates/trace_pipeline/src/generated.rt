@@ -100,7 +100,10 @@ fn root_fields(alloc: Global, i: u64) -> Result<Items<(Text, Value)>, Memory>
     ensures { IfOk result (λ fields. fields ≡ root_fields i) }
 {
     let mut fields = Items::new(alloc);
-    fields.push((text(alloc, "otel.kind")?, Value::Str(text(alloc, "server")?)))?;
+    fields.push((
+        text(alloc, "otel.kind")?,
+        Value::Str(text(alloc, "server")?),
+    ))?;
     fields.push((text(alloc, "id")?, Value::I64(i as i64)))?;
     Ok(fields)
 }
@@ -139,11 +142,35 @@ fn calls(
     let handle = 2 * i;
     let lower = 2 * i + 1;
     [
-        in_round(i, 0, Call::New { site: 0, place: Place::Root, fields: root }),
+        in_round(
+            i,
+            0,
+            Call::New {
+                site: 0,
+                place: Place::Root,
+                fields: root,
+            },
+        ),
         in_round(i, 10, Call::Enter { handle }),
-        in_round(i, 20, Call::New { site: 1, place: Place::Contextual, fields: below }),
+        in_round(
+            i,
+            20,
+            Call::New {
+                site: 1,
+                place: Place::Contextual,
+                fields: below,
+            },
+        ),
         in_round(i, 30, Call::Enter { handle: lower }),
-        in_round(i, 40, Call::Event { site: 2, place: Place::Contextual, fields: row }),
+        in_round(
+            i,
+            40,
+            Call::Event {
+                site: 2,
+                place: Place::Contextual,
+                fields: row,
+            },
+        ),
         in_round(i, 50, Call::Exit { guard: lower }),
         in_round(i, 60, Call::Drop { handle: lower }),
         in_round(i, 70, Call::Exit { guard: handle }),

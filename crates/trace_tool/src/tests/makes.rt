@@ -22,7 +22,8 @@ fn made<H: Threads + Wait + Sync + AllocGlobal>(rt: &H, words: &[&str]) -> Resul
 
 #[test]
 fn makes_scripts(rt: HostRuntime) -> Result<(), Fail> {
-    let one = "{\"busy\":80,\"events\":1,\"lines\":12,\"open\":0,\"records\":2,\"requests\":9}\n= 0\n";
+    let one =
+        "{\"busy\":80,\"events\":1,\"lines\":12,\"open\":0,\"records\":2,\"requests\":9}\n= 0\n";
     let many =
         "{\"busy\":80000,\"events\":1000,\"lines\":11001,\"open\":0,\"records\":2000,\"requests\":9000}\n= 0\n";
     assert_eq!(rt; made(&rt, &["make", "1"])?.as_str(), one);
