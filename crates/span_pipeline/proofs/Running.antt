@@ -194,3 +194,13 @@ pub opened_replies : {E F : Type 0} (k : State) (setup : Setup) (requests : List
 opened_replies k setup requests given result Why setup_is stands none runs cases same =
     on_ok (HasReplies requests) given result Why cases same
     (replies_are given k.setup requests (runs (subst (λ (s : Setup). StandsFor k (tables s [])) (sym setup_is) stands) none))
+
+-- what it comes to is the outcome of its requests
+pub opened_outcome : {E F : Type 0} (k : State) (setup : Setup) (requests : List Request) (given : Result Outcome E) (result : Result Outcome F) (Why : E → Type 0)
+    → k.setup ≡ setup → StandsFor k (tables setup []) → k.recording.finished ≡ []
+    → (StandsFor k (tables k.setup []) → k.recording.finished ≡ [] → IfOk given (λ outcome. outcome ≡ outcome_of k.setup requests))
+    → MatchResult given (λ x. result ≡ Ok x) Why → is_ok result ≡ is_ok given → IfOk result (λ outcome. outcome ≡ outcome_of setup requests)
+opened_outcome k setup requests given result Why setup_is stands none runs cases same =
+    on_ok (λ outcome. outcome ≡ outcome_of setup requests) given result Why cases same
+    (subst (λ (s : Setup). IfOk given (λ outcome. outcome ≡ outcome_of s requests)) setup_is
+    (runs (subst (λ (s : Setup). StandsFor k (tables s [])) (sym setup_is) stands) none))
