@@ -4,12 +4,13 @@ use Rattle.std.specs.List.{range_with_len}
 use Rattle.std.proofs.lemmas.List.Sums.{sum_by_push}
 use Rattle.std.proofs.lemmas.Bool.{cases_lt}
 use Rattle.std.proofs.lemmas.Bool.Decides.{nat_tests}
-use Rattle.span_pipeline.specs.Setups.{Setup}
-use Rattle.span_pipeline.specs.Tables.{Scope, History, tables}
-use Rattle.span_pipeline.specs.Effects.{is_open, open_spans}
+use Rattle.span_script.specs.Setups.{Setup}
+use Rattle.span_script.specs.Tables.{Scope, History, tables}
+use Rattle.span_script.specs.Effects.{is_open, open_spans}
 use Rattle.span_laws.specs.Laws.{IsHistory, occurrences}
-use Rattle.span_laws.proofs.Occurrences.{occurs_cons, range_more}
+use Rattle.span_laws.proofs.Occurrences.{occurs_cons}
 use Rattle.span_laws.proofs.Histories.{whole}
+use Rattle.span_script.proofs.Counting.{range_more}
 
 -- how often each of the first n numbers stands in a list, in sum
 abbrev among : List ℕ → ℕ → ℕ

@@ -5,16 +5,18 @@ use Rattle.std.proofs.lemmas.List.{append-nil}
 use Rattle.std.proofs.lemmas.Bool.{cases_Bool, eq-eqb, eqb-true, or_right, cond-true, cond-false, true≢false}
 use Rattle.std.proofs.lemmas.Bool.Decides.{nat_tests}
 use Rattle.trace_base.specs.Spans.{is_in}
-use Rattle.span_pipeline.specs.declared.request.Request.{Request}
-use Rattle.span_pipeline.specs.Effects.{holds, is_open, closed_of, effect_of}
-use Rattle.span_pipeline.specs.Setups.{Setup}
-use Rattle.span_pipeline.specs.Tables.{Scope, Made, Guarded, Effect, History, with_new, spend, slot_at, made_of, after, tables}
+use Rattle.span_script.specs.declared.request.Request.{Request}
+use Rattle.span_script.specs.Effects.{holds, is_open, closed_of, effect_of}
+use Rattle.span_script.specs.Setups.{Setup}
+use Rattle.span_script.specs.Tables.{Scope, Made, Guarded, Effect, History, with_new, spend, slot_at, made_of, after, tables}
 use Rattle.span_laws.specs.Closes.{BeginsWith, is_drop}
 use Rattle.span_laws.specs.Laws.{IsHistory}
 use Rattle.span_laws.proofs.Closing.{AreMine, IsLine, IsSound, named, step_stands}
 use Rattle.span_laws.proofs.Histories.{fits, whole}
-use Rattle.span_laws.proofs.Occurrences.{any_counted, pick, slot_open, slot_push}
+use Rattle.span_laws.proofs.Occurrences.{slot_push}
 use Rattle.span_laws.proofs.Steps.{Spends, no_spending, one_spent, step_of}
+use Rattle.span_script.proofs.Openness.{any_counted, pick, slot_open}
+use Rattle.span_script.proofs.Naming.{some_is}
 
 the_rest : (a b : ℕ) (x y : Scope) → ◌≡◌ {A = Scope} (a ∷ x) (b ∷ y) → x ≡ y
 the_rest a b x y e = cc e
@@ -67,15 +69,12 @@ module _ (hs : List (Option Scope)) (ms : List Made) (cs : List ℕ) (sound : Is
 the_number : (a b : ℕ) → ◌≡◌ {A = Option ℕ} (Some a) (Some b) → a ≡ b
 the_number a b e = cc e
 
-the_scope : (a b : Scope) → ◌≡◌ {A = Option Scope} (Some a) (Some b) → a ≡ b
-the_scope a b e = cc e
-
 -- the chain of a spent handle
 chain_of : (hs : List (Option Scope)) (gs : List (Option Guarded)) (ms : List Made) (cs : List ℕ) (o : Option ℕ) (closes : List ℕ) → Spends hs gs o closes → IsSound hs ms cs → IsSound (spend hs o) ms (cs ++ closes)
     → (k : ℕ) (scope : Scope) → o ≡ Some k → slot_at hs k ≡ Some scope → BeginsWith closes scope
 chain_of hs gs ms cs _ _ no_spending before later k scope is there = absurd (cc is)
 chain_of hs gs ms cs _ _ (one_spent n line closes at free same) before later k scope is there =
-    let mine : line ≡ scope = the_scope line scope (sym at ∙ ap (slot_at hs) (the_number n k is) ∙ there) in
+    let mine : line ≡ scope = some_is line scope (sym at ∙ ap (slot_at hs) (the_number n k is) ∙ there) in
     subst (BeginsWith closes) mine (subst (λ (l : List ℕ). BeginsWith l line) (sym same) (chain_front (slice_set hs n None) ms (cs ++ closes) later line (before.lines n line at).mine))
 
 kept_slot : (hs : List (Option Scope)) (o : Option Scope) (k : ℕ) (scope : Scope) → slot_at hs k ≡ Some scope → slot_at (with_new hs (option_map Some o)) k ≡ Some scope

@@ -5,9 +5,9 @@ use Rattle.std.proofs.lemmas.List.Sums.{fold_push}
 use Rattle.std.proofs.lemmas.Bool.{cases_Bool, cases_eq, cases_lt, eq-eqb, eqb-true, or_right, true≢false}
 use Rattle.std.proofs.lemmas.Bool.Decides.{nat_tests}
 use Rattle.trace_base.specs.Spans.{is_in}
-use Rattle.span_pipeline.specs.Effects.{is_open}
-use Rattle.span_pipeline.specs.Setups.{Setup}
-use Rattle.span_pipeline.specs.Tables.{Scope, Made, Guarded, Effect, History, Tables, with_new, spend, slot_at, no_making, made_of, no_tables, after, tables}
+use Rattle.span_script.specs.Effects.{is_open}
+use Rattle.span_script.specs.Setups.{Setup}
+use Rattle.span_script.specs.Tables.{Scope, Made, Guarded, Effect, History, Tables, with_new, spend, slot_at, no_making, made_of, no_tables, after, tables}
 use Rattle.span_laws.specs.Closes.{BeginsWith, is_drop}
 use Rattle.span_laws.specs.Laws.{IsHistory, none, more, occurrences}
 use Rattle.span_laws.proofs.Chaining.{chain_front, in_line, open_above}

@@ -8,14 +8,16 @@ use Rattle.std.proofs.lemmas.Bool.Decides.{nat_tests}
 use Rattle.trace_base.specs.Spans.{is_in, current_of}
 use Rattle.trace_base.proofs.Entering.{counted_if_any}
 use Rattle.trace_base.proofs.Holding.{current_in}
-use Rattle.span_pipeline.specs.Setups.{Setup}
-use Rattle.span_pipeline.specs.Tables.{Scope, Made, Guarded, Effect, Tables, with_new, spend, slot_at, no_making, made_of, scope_of, no_tables, after}
-use Rattle.span_pipeline.specs.Effects.{holds, is_open, closed_of, current_scope}
+use Rattle.span_script.specs.Setups.{Setup}
+use Rattle.span_script.specs.Tables.{Scope, Made, Guarded, Effect, Tables, with_new, spend, slot_at, no_making, made_of, scope_of, no_tables, after}
+use Rattle.span_script.specs.Effects.{holds, is_open, closed_of, current_scope}
 use Rattle.span_laws.specs.Laws.{occurrences}
 use Rattle.span_laws.proofs.Guarding.{IsGuarded}
 use Rattle.span_laws.proofs.Guarding as guarding
-use Rattle.span_laws.proofs.Occurrences.{any_counted, occurs_cons, occurs_append, occurs_filter, is_in_counted, held_push, held_set, get_push_other, named_push, named_set, slot_open}
+use Rattle.span_laws.proofs.Occurrences.{occurs_cons, occurs_append, occurs_filter, is_in_counted, held_push, held_set, get_push_other}
 use Rattle.span_laws.proofs.Steps.{IsKnown, no_scope, of_handle, Names, no_name, another, new_span, Spends, no_spending, one_spent, IsFit, IsStep}
+use Rattle.span_script.proofs.Openness.{any_counted, slot_open}
+use Rattle.span_script.proofs.Naming.{named_push, named_set, some_is}
 
 -- from each span of a scope on it is that span's own scope
 abbrev pub AreMine : List Made → Scope → Type 0
@@ -32,9 +34,6 @@ pub record IsSound (hs : List (Option Scope)) (ms : List Made) (cs : List ℕ) :
   pub lines : (k : ℕ) (scope : Scope) → slot_at hs k ≡ Some scope → IsLine ms scope
   pub ended : (s : ℕ) → occurrences s cs ≡ cond (nat_lt s (length ms) && not (is_open hs s)) 1 0
 
-the_scope : (a scope : Scope) → ◌≡◌ {A = Option Scope} (Some a) (Some scope) → a ≡ scope
-the_scope a scope is = cc is
-
 module _ (hs : List (Option Scope)) (ms : List Made) (cs : List ℕ) (sound : IsSound hs ms cs) where
   known_line : (scope : Scope) → IsKnown hs scope → IsLine ms scope
   known_line _ no_scope = record { once = λ s. omega arith; mine = tt }
@@ -47,7 +46,7 @@ module _ (hs : List (Option Scope)) (ms : List Made) (cs : List ℕ) (sound : Is
   -- a handle more of a known scope
   more_names : (scope : Scope) → IsKnown hs scope → IsSound (hs ++ Some scope ∷ []) ms cs
   more_names scope known = record {
-    lines = named_push (IsLine ms) hs (Some scope) sound.lines (λ k is. subst (IsLine ms) (the_scope scope k is) (known_line scope known));
+    lines = named_push (IsLine ms) hs (Some scope) sound.lines (λ k is. subst (IsLine ms) (some_is scope k is) (known_line scope known));
     ended = λ s.
         let before = any_counted (holds s) hs in
         let later = any_counted (holds s) (hs ++ Some scope ∷ []) in
@@ -92,7 +91,7 @@ module _ (hs : List (Option Scope)) (ms : List Made) (cs : List ℕ) (sound : Is
   -- a span more, and a handle of it
   more_spans : (m : Made) (up : Scope) → IsKnown hs up → m.scope ≡ length ms ∷ up → IsSound (hs ++ Some m.scope ∷ []) (ms ++ m ∷ []) cs
   more_spans m up known is = record {
-    lines = named_push (IsLine (ms ++ m ∷ [])) hs (Some m.scope) (λ k l there. line_stays m l (sound.lines k l there)) (λ l e. subst (IsLine (ms ++ m ∷ [])) (the_scope m.scope l e) (new_line m up known is));
+    lines = named_push (IsLine (ms ++ m ∷ [])) hs (Some m.scope) (λ k l there. line_stays m l (sound.lines k l there)) (λ l e. subst (IsLine (ms ++ m ∷ [])) (some_is m.scope l e) (new_line m up known is));
     ended = λ s.
         let count = length_push ms m in
         let before = any_counted (holds s) hs in

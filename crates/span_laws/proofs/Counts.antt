@@ -5,9 +5,9 @@ use Rattle.env_directives.specs.Choice.{admits}
 use Rattle.otel_state.specs.declared.op.Op.{Op}
 use Rattle.otel_state.specs.declared.op.Op.TheVariants as ops
 use Rattle.trace_base.specs.declared.callsite.Callsite.{Callsite}
-use Rattle.span_pipeline.specs.Admission.{text_filter}
-use Rattle.span_pipeline.specs.Effects.{all_on, counted, if_told}
-use Rattle.span_pipeline.specs.Tables.{Scope, Done}
+use Rattle.span_script.specs.Admission.{text_filter}
+use Rattle.span_script.specs.Effects.{all_on, counted, if_told}
+use Rattle.span_script.specs.Tables.{Scope, Done}
 
 pub each_counted : (P : Op → Type 0) → P ops.Counted → (counting : Option (List ℕ)) (callsite : Callsite) (event : Op) → P event → AllByRecursion P (counted counting callsite event)
 each_counted P count None callsite event own = (own, tt)

@@ -7,10 +7,10 @@ use Rattle.otel_state.specs.Content.{attributes_of, counted_of}
 use Rattle.otel_state.specs.Laws.{TellsTimes, was_entered}
 use Rattle.otel_state.specs.Times.{last_exit}
 use Rattle.trace_base.specs.Spans.{is_in}
-use Rattle.span_pipeline.specs.declared.request.Request.{Request}
-use Rattle.span_pipeline.specs.Effects.{effect_of}
-use Rattle.span_pipeline.specs.Setups.{Setup}
-use Rattle.span_pipeline.specs.Tables.{Effect, Guarded, History, Tables, made_of, records_of, slot_at, tables}
+use Rattle.span_script.specs.declared.request.Request.{Request}
+use Rattle.span_script.specs.Effects.{effect_of}
+use Rattle.span_script.specs.Setups.{Setup}
+use Rattle.span_script.specs.Tables.{Effect, Guarded, History, Tables, made_of, records_of, slot_at, tables}
 use Rattle.span_laws.specs.Closes.{is_drop}
 use Rattle.span_laws.specs.Laws.{IsHistory}
 use Rattle.span_laws.specs.Records.{Each, IsRecord, closed_at, ops_of, records}
@@ -18,10 +18,11 @@ use Rattle.span_laws.specs.Starts.{place_in, started}
 use Rattle.span_laws.specs.Telling.{TellsAttributes, TellsSpan}
 use Rattle.span_laws.proofs.Histories.{IsClosed, done_in, effect_each, fits, whole}
 use Rattle.span_laws.proofs.Making.{first_of}
-use Rattle.span_laws.proofs.Occurrences.{is_in_counted, slot_open}
+use Rattle.span_laws.proofs.Occurrences.{is_in_counted}
 use Rattle.span_laws.proofs.Pairs.{each_length, each_map}
 use Rattle.span_laws.proofs.Steps.{step_of}
 use Rattle.span_laws.proofs.Telling.{attributes_told, span_told, times_told}
+use Rattle.span_script.proofs.Openness.{slot_open}
 
 pub as_many_as_closed : (setup : Setup) (h : History) → IsHistory setup h → length (records setup h) ≡ length (tables setup h).closed
 as_many_as_closed setup h legal = each_length (IsClosed setup (tables setup h).made h) (tables setup h).closed (records setup h) (whole setup h legal).each

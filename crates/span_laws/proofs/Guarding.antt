@@ -6,11 +6,13 @@ use Rattle.std.proofs.lemmas.List.Sums.{sum_by-set, get_or-le-sum_by}
 use Rattle.trace_base.specs.Spans.{times_in, without_last}
 use Rattle.trace_base.proofs.Entering.{count_push}
 use Rattle.trace_base.proofs.Holding.{times_without}
-use Rattle.span_pipeline.specs.Setups.{id_at}
-use Rattle.span_pipeline.specs.Balance.{guards, opened_by}
-use Rattle.span_pipeline.specs.Tables.{Scope, Guarded, with_new, either_after, slot_at, own, with_entry, with_exit}
-use Rattle.span_pipeline.specs.Effects.{borrows, is_borrowed}
-use Rattle.span_laws.proofs.Occurrences.{pick, slot_push, slot_kept, named_push, named_set, named_within}
+use Rattle.span_script.specs.Setups.{id_at}
+use Rattle.span_script.specs.Balance.{guards, opened_by}
+use Rattle.span_script.specs.Tables.{Scope, Guarded, with_new, either_after, slot_at, own, with_entry, with_exit}
+use Rattle.span_script.specs.Effects.{borrows, is_borrowed}
+use Rattle.span_laws.proofs.Occurrences.{slot_push, slot_kept}
+use Rattle.span_script.proofs.Openness.{pick}
+use Rattle.span_script.proofs.Naming.{named_push, named_set, named_within, some_is}
 
 -- an open guard of a span on the lane of an id
 abbrev pub is_on : List ℕ → ℕ → ℕ → Option Guarded → Bool
@@ -27,9 +29,6 @@ pub data Enters (ids : List ℕ) (hs : List (Option Scope)) (gs : List (Option G
   skips : (place : ℕ) → Enters ids hs gs lane None (Some place) None None None
   enters_by : (g : Guarded) → slot_at hs g.handle ≡ Some g.scope → lane ≡ id_at ids g.lane → Enters ids hs gs lane (Some g) None None (own g.scope) None
   exits_by : (n : ℕ) (g : Guarded) → slot_at gs n ≡ Some g → lane ≡ id_at ids g.lane → Enters ids hs gs lane None None (Some n) None (own g.scope)
-
-the_guard : (a b : Guarded) → ◌≡◌ {A = Option Guarded} (Some a) (Some b) → a ≡ b
-the_guard a b e = cc e
 
 module _ (ids : List ℕ) (hs : List (Option Scope)) (gs : List (Option Guarded)) (es : ℕ → List ℕ) (now : IsGuarded ids hs gs es) where
   -- whether an open guard with that scope is one of a span on a lane
@@ -100,7 +99,7 @@ module _ (ids : List ℕ) (hs : List (Option Scope)) (gs : List (Option Guarded)
     counted = λ l s. (let push = count_push (is_on ids l s) gs None in let before = now.counted l s in omega (arith, push, before));
   }
   guarded_after lane _ _ _ _ _ (enters_by g there at) = record {
-    still = λ n x is. named_push (λ (y : Guarded). slot_at hs y.handle ≡ Some y.scope) gs (Some g) now.still (λ y e. subst (λ (z : Guarded). slot_at hs z.handle ≡ Some z.scope) (the_guard g y e) there) n x is;
+    still = λ n x is. named_push (λ (y : Guarded). slot_at hs y.handle ≡ Some y.scope) gs (Some g) now.still (λ y e. subst (λ (z : Guarded). slot_at hs z.handle ≡ Some z.scope) (some_is g y e) there) n x is;
     counted = entered_by g lane there at g.scope refl;
   }
   guarded_after lane _ _ _ _ _ (exits_by n g there at) = record {

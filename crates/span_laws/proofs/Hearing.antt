@@ -12,10 +12,11 @@ use Rattle.trace_base.specs.Spans.{is_in}
 use Rattle.env_filter.specs.Filtering.{Each}
 use Rattle.env_filter.specs.Histories.{IsNext, AreInOrder}
 use Rattle.env_filter.proofs.Stacked.{IsBefore}
-use Rattle.span_pipeline.specs.Fields.{Fields}
-use Rattle.span_pipeline.specs.Tables.{Scope, Made, slot_at}
-use Rattle.span_pipeline.specs.Effects.{is_open, closed_of, heard_on, heard_values}
-use Rattle.span_laws.proofs.Occurrences.{is_in_counted, occurs_filter, slot_open}
+use Rattle.span_script.specs.Fields.{Fields}
+use Rattle.span_script.specs.Tables.{Scope, Made, slot_at}
+use Rattle.span_script.specs.Effects.{is_open, closed_of, heard_on, heard_values}
+use Rattle.span_laws.proofs.Occurrences.{is_in_counted, occurs_filter}
+use Rattle.span_script.proofs.Openness.{slot_open}
 
 -- a call of an open span that makes none; it closes one only where the effect does
 abbrev pub IsHeard : List (Option Scope) → List ℕ → Hook → Type 0

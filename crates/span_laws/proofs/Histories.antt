@@ -15,17 +15,17 @@ use Rattle.otel_state.specs.States.{Told}
 use Rattle.otel_layer.specs.Recording.{Recording, with_start, with_applied, with_close}
 use Rattle.otel_layer.specs.Table.{told_at}
 use Rattle.trace_base.specs.Spans.{is_in}
-use Rattle.span_pipeline.specs.Setups.{Setup}
-use Rattle.span_pipeline.specs.Tables.{Scope, Made, Done, Effect, History, Tables, with_new, spend, slots_after, no_tables, nothing_recorded, after, tables, made_of, no_making, with_made, recorded_by, open_part, records_of, slot_at}
-use Rattle.span_pipeline.specs.Effects.{holds, is_open, effect_of}
-use Rattle.span_pipeline.proofs.Running.{records_push}
+use Rattle.span_script.specs.Setups.{Setup}
+use Rattle.span_script.specs.Tables.{Scope, Made, Done, Effect, History, Tables, with_new, spend, slots_after, no_tables, nothing_recorded, after, tables, made_of, no_making, with_made, recorded_by, open_part, records_of, slot_at}
+use Rattle.span_script.specs.Effects.{holds, is_open, effect_of}
+use Rattle.span_script.proofs.Running.{records_push}
 use Rattle.span_laws.specs.Closes.{is_drop}
 use Rattle.span_laws.specs.Laws.{IsHistory, none, more, occurrences}
 use Rattle.span_laws.specs.Records.{IsRecord, Each, records, start_in, ops_in, ops_from, ops_of, closed_at}
 use Rattle.span_laws.specs.Starts.{with_started, starts_of, started, place_in}
 use Rattle.span_laws.proofs.Closing.{IsSound, IsLine, Stands, named, step_stands, none_stands, fit_of}
 use Rattle.span_laws.proofs.Making.{first_of, starts_spare, made_stories}
-use Rattle.span_laws.proofs.Occurrences.{occurs_cons, occurs_append, is_in_counted, any_counted, pick, get_push_other}
+use Rattle.span_laws.proofs.Occurrences.{occurs_cons, occurs_append, is_in_counted, get_push_other}
 use Rattle.span_laws.proofs.Pairs.{each_append, each_map}
 use Rattle.span_laws.proofs.Places.{places_stay}
 use Rattle.span_laws.proofs.Recorded.{AreStories, Closed, Closes, begun_by, done_by, turned_by, same_record, starts_stories, ops_stories, closes_stories, before_closes, before_finished}
@@ -33,6 +33,7 @@ use Rattle.span_laws.proofs.Starting.{starts_absent}
 use Rattle.span_laws.proofs.Steps.{IsReached, IsTimed, IsFit, IsStep, step_of}
 use Rattle.span_laws.proofs.Stories.{IsStory, stamp, later_story}
 use Rattle.span_laws.proofs.Turning.{guards_of, guards_shut, turns_within}
+use Rattle.span_script.proofs.Openness.{any_counted, pick}
 
 -- ---- a history with one effect more
 

@@ -15,10 +15,10 @@ use Rattle.env_filter.specs.Histories.{AreInOrder, NeverFalls, ends, is_ended, l
 use Rattle.env_filter.proofs.Rising.{level_rises, level_stays}
 use Rattle.env_filter.proofs.Stacked.{IsBefore, all_more, all_push, new_if, in_order}
 use Rattle.env_filter.proofs.Told.{level_is_told, levels_are_told}
-use Rattle.span_pipeline.specs.Admission.{TextRead, filter_if, text_read, text_filter}
-use Rattle.span_pipeline.specs.Effects.{is_open, in_force, filter_at}
-use Rattle.span_pipeline.specs.Setups.{Setup}
-use Rattle.span_pipeline.specs.Tables.{Scope, Made, Effect, History, Tables, with_new, no_tables, after, tables, newer, heard_since}
+use Rattle.span_script.specs.Admission.{TextRead, filter_if, text_read, text_filter}
+use Rattle.span_script.specs.Effects.{is_open, in_force, filter_at}
+use Rattle.span_script.specs.Setups.{Setup}
+use Rattle.span_script.specs.Tables.{Scope, Made, Effect, History, Tables, with_new, no_tables, after, tables, newer, heard_since}
 use Rattle.span_laws.specs.Laws.{IsHistory, none, more}
 use Rattle.span_laws.specs.Levels.{level_in, directives_in, HasNoReload}
 use Rattle.span_laws.proofs.Hearing.{Hears, of_making, of_open, IsEndIn, heard_in_order, heard_before, heard_closed}

@@ -13,8 +13,8 @@ use Rattle.otel_state.specs.States.{Told, begun, changed}
 use Rattle.otel_layer.specs.Table.{told_at, with_span}
 use Rattle.otel_layer.specs.Recording.{Recording}
 use Rattle.otel_layer.proofs.Finding.{told_at_made}
-use Rattle.span_pipeline.specs.Setups.{Setup}
-use Rattle.span_pipeline.specs.Tables.{Made, with_new, made_of, no_making, with_made}
+use Rattle.span_script.specs.Setups.{Setup}
+use Rattle.span_script.specs.Tables.{Made, with_new, made_of, no_making, with_made}
 use Rattle.span_laws.specs.Records.{Began}
 use Rattle.span_laws.specs.Starts.{with_started, place_in}
 use Rattle.span_laws.proofs.Occurrences.{get_push_other}

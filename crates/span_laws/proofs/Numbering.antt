@@ -10,9 +10,9 @@ use Rattle.otel_base.specs.declared.record.Record.{Record}
 use Rattle.otel_base.specs.Ids.{ids_or_zeros}
 use Rattle.otel_layer.specs.Table.{told_at}
 use Rattle.trace_base.specs.Spans.{is_in}
-use Rattle.span_pipeline.specs.Effects.{is_open}
-use Rattle.span_pipeline.specs.Setups.{Setup}
-use Rattle.span_pipeline.specs.Tables.{History, tables}
+use Rattle.span_script.specs.Effects.{is_open}
+use Rattle.span_script.specs.Setups.{Setup}
+use Rattle.span_script.specs.Tables.{History, tables}
 use Rattle.span_laws.specs.Laws.{IsHistory, occurrences}
 use Rattle.span_laws.specs.Records.{Each, records}
 use Rattle.span_laws.specs.Starts.{with_started, starts_of, started, place_from, place_in}

@@ -23,8 +23,8 @@ use Rattle.otel_layer.specs.Table.{told_at, with_span, with_op, waits, waits_by,
 use Rattle.otel_layer.specs.Recording.{Recording, started_under, with_start, with_applied, closed, closed_started, with_close, told_after}
 use Rattle.otel_layer.proofs.Finding.{told_at_op, told_at_made, told_at_removed}
 use Rattle.trace_base.specs.Spans.{is_in}
-use Rattle.span_pipeline.specs.Setups.{Setup}
-use Rattle.span_pipeline.specs.Tables.{Made, Done, Effect, with_made}
+use Rattle.span_script.specs.Setups.{Setup}
+use Rattle.span_script.specs.Tables.{Made, Done, Effect, with_made}
 use Rattle.span_laws.specs.Laws.{occurrences}
 use Rattle.span_laws.specs.Records.{IsRecord, Each, all_ops, start_in}
 use Rattle.span_laws.specs.Starts.{with_started, place_in}

@@ -26,29 +26,30 @@ use Rattle.trace_base.specs.declared.field.ValueSet.{ValueSet}
 use Rattle.trace_base.specs.declared.lane.Lane.{Lane}
 use Rattle.trace_base.specs.Hooks.{Hook}
 use Rattle.trace_base.specs.Spans.{is_in, current_of}
-use Rattle.span_pipeline.specs.declared.request.Request.{Request}
-use Rattle.span_pipeline.specs.declared.request.Place.{Place}
-use Rattle.span_pipeline.specs.declared.request.Place.TheVariants as place
-use Rattle.span_pipeline.specs.declared.request.Call.{Call}
-use Rattle.span_pipeline.specs.declared.request.Call.TheVariants as call
-use Rattle.span_pipeline.specs.declared.reply.Reply.{Reply}
-use Rattle.span_pipeline.specs.declared.reply.Reply.TheVariants as reply
-use Rattle.span_pipeline.specs.declared.reply.Refusal.{Refusal}
-use Rattle.span_pipeline.specs.declared.reply.Refusal.TheVariants as refusal
-use Rattle.span_pipeline.specs.declared.reply.What.{What}
-use Rattle.span_pipeline.specs.declared.reply.What.TheVariants as what
-use Rattle.span_pipeline.specs.Setups.{Setup, id_at, span_site, event_site}
-use Rattle.span_pipeline.specs.Tables.{Scope, Made, Done, Guarded, Effect, Tables, with_new, either_after, slot_at, own}
-use Rattle.span_pipeline.specs.Fields.{Fields, all_values, values_of}
-use Rattle.span_pipeline.specs.Effects.{Resolved, named, is_open, holds, closed_of, is_borrowed, scope_at, parent_at, lane_in, made_at, makes_span, declines, clones, drops, current_scope, scope_or_current, exchanges, on, active, enters, meets_full, opens, exits, exits_on, is_shared, if_told, callsite_of, updates, tells, is_full, gives, own_context, attaches, detaches, follows, happens_at, is_bad_moment, effect_of, effect_of_call, admitted, reloads, reloads_if, bare_lane, heard_values}
-use Rattle.span_pipeline.specs.Admission.{TextRead, text_read}
+use Rattle.span_script.specs.declared.request.Request.{Request}
+use Rattle.span_script.specs.declared.request.Place.{Place}
+use Rattle.span_script.specs.declared.request.Place.TheVariants as place
+use Rattle.span_script.specs.declared.request.Call.{Call}
+use Rattle.span_script.specs.declared.request.Call.TheVariants as call
+use Rattle.span_script.specs.declared.reply.Reply.{Reply}
+use Rattle.span_script.specs.declared.reply.Reply.TheVariants as reply
+use Rattle.span_script.specs.declared.reply.Refusal.{Refusal}
+use Rattle.span_script.specs.declared.reply.Refusal.TheVariants as refusal
+use Rattle.span_script.specs.declared.reply.What.{What}
+use Rattle.span_script.specs.declared.reply.What.TheVariants as what
+use Rattle.span_script.specs.Setups.{Setup, id_at, span_site, event_site}
+use Rattle.span_script.specs.Tables.{Scope, Made, Done, Guarded, Effect, Tables, with_new, either_after, slot_at, own}
+use Rattle.span_script.specs.Fields.{Fields, all_values, values_of}
+use Rattle.span_script.specs.Effects.{Resolved, named, is_open, holds, closed_of, is_borrowed, scope_at, parent_at, lane_in, made_at, makes_span, declines, clones, drops, current_scope, scope_or_current, exchanges, on, active, enters, meets_full, opens, exits, exits_on, is_shared, if_told, callsite_of, updates, tells, is_full, gives, own_context, attaches, detaches, follows, happens_at, is_bad_moment, effect_of, effect_of_call, admitted, reloads, reloads_if, bare_lane, heard_values}
+use Rattle.span_script.specs.Admission.{TextRead, text_read}
 use Rattle.span_laws.specs.Closes.{is_drop}
 use Rattle.span_laws.specs.Laws.{occurrences}
 use Rattle.span_laws.specs.Records.{Began}
 use Rattle.span_laws.proofs.Counts.{each_counted, each_on, each_told}
 use Rattle.span_laws.proofs.Guarding.{Enters, no_entry, skips, enters_by, exits_by}
 use Rattle.span_laws.proofs.Hearing.{Hears, of_making, of_open, heard_entry, heard_exit, heard_record, heard_close}
-use Rattle.span_laws.proofs.Occurrences.{held_push, held_set, any_counted, is_in_counted, occurs_cons, occurs_filter, slot_open, slot_push}
+use Rattle.span_laws.proofs.Occurrences.{held_push, held_set, is_in_counted, occurs_cons, occurs_filter, slot_push}
+use Rattle.span_script.proofs.Openness.{any_counted, slot_open}
 
 -- a scope that an unspent handle has, or none
 pub data IsKnown (hs : List (Option Scope)) : Scope → Type 0 where

@@ -17,7 +17,7 @@ use Rattle.otel_state.specs.States.{Told, changed, first_start, unless_started, 
 use Rattle.otel_state.specs.Times.{InOrder, open_by, open_after}
 use Rattle.otel_state.proofs.Summing.{appended, entries_is, parent_is, content_is}
 use Rattle.otel_layer.specs.Recording.{told_after}
-use Rattle.span_pipeline.specs.Setups.{Setup}
+use Rattle.span_script.specs.Setups.{Setup}
 use Rattle.span_laws.specs.Records.{Began, IsRecord, all_ops}
 
 -- the moment of the last op, else of the making

@@ -11,7 +11,7 @@ use Rattle.otel_state.specs.Laws.{TellsTimes, was_entered}
 use Rattle.otel_state.specs.States.{Told, with_all}
 use Rattle.otel_state.specs.Times.{busy_of, last_exit, idle_of}
 use Rattle.otel_state.proofs.AddingUp.{tells_times}
-use Rattle.span_pipeline.specs.Setups.{Setup}
+use Rattle.span_script.specs.Setups.{Setup}
 use Rattle.span_laws.specs.Records.{IsRecord, all_ops}
 use Rattle.span_laws.specs.Telling.{TellsSpan, TellsAttributes}
 

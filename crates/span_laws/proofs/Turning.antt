@@ -8,13 +8,14 @@ use Rattle.trace_base.specs.Spans.{is_in}
 use Rattle.trace_base.proofs.Entering.{count_push}
 use Rattle.otel_state.specs.declared.op.Op.TheVariants as ops
 use Rattle.otel_state.specs.Deeds.{Deed, deed}
-use Rattle.span_pipeline.specs.Tables.{Scope, Done, Guarded, either_after, slot_at, own}
-use Rattle.span_pipeline.specs.Effects.{is_open}
+use Rattle.span_script.specs.Tables.{Scope, Done, Guarded, either_after, slot_at, own}
+use Rattle.span_script.specs.Effects.{is_open}
 use Rattle.span_laws.proofs.Guarding.{IsGuarded, Enters, no_entry, skips, enters_by, exits_by}
-use Rattle.span_laws.proofs.Occurrences.{pick, named_within, slot_open}
 use Rattle.span_laws.proofs.Recorded.{turned_by}
 use Rattle.span_laws.proofs.Steps.{IsCalm, Turns}
 use Rattle.span_laws.proofs.Stories.{turned}
+use Rattle.span_script.proofs.Openness.{pick, slot_open}
+use Rattle.span_script.proofs.Naming.{named_within}
 
 -- an open guard of an entry of a span
 abbrev pub is_own : ℕ → Scope → Bool

@@ -1,9 +1,9 @@
 -- Legal histories, of which the laws speak.
 use Rattle.std.specs.Prelude.{◌≡◌, ℕ, List, [], ◌∷◌, ◌++◌, count_by, ◌==◌, Ok}
-use Rattle.span_pipeline.specs.declared.request.Request.{Request}
-use Rattle.span_pipeline.specs.Setups.{Setup}
-use Rattle.span_pipeline.specs.Tables.{Effect, History, tables}
-use Rattle.span_pipeline.specs.Effects.{effect_of}
+use Rattle.span_script.specs.declared.request.Request.{Request}
+use Rattle.span_script.specs.Setups.{Setup}
+use Rattle.span_script.specs.Tables.{Effect, History, tables}
+use Rattle.span_script.specs.Effects.{effect_of}
 
 -- A history is legal if each effect in it is that of some request, at the effects before it.
 pub data IsHistory (setup : Setup) : History → Type 0 where

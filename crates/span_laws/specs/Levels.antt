@@ -4,10 +4,10 @@ use Rattle.std.specs.List.{AllByRecursion}
 use Rattle.trace_base.specs.declared.level.LevelFilter.{LevelFilter}
 use Rattle.env_directives.specs.declared.env.directive.Directive.{Directive}
 use Rattle.env_filter.specs.Filtering.{span_level}
-use Rattle.span_pipeline.specs.Admission.{text_filter}
-use Rattle.span_pipeline.specs.Effects.{in_force, filter_at}
-use Rattle.span_pipeline.specs.Setups.{Setup}
-use Rattle.span_pipeline.specs.Tables.{Effect, History, tables}
+use Rattle.span_script.specs.Admission.{text_filter}
+use Rattle.span_script.specs.Effects.{in_force, filter_at}
+use Rattle.span_script.specs.Setups.{Setup}
+use Rattle.span_script.specs.Tables.{Effect, History, tables}
 
 -- the level of a span in the filter in force
 abbrev pub level_in : Setup → History → ℕ → Option LevelFilter

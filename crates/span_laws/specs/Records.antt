@@ -12,9 +12,9 @@ use Rattle.otel_state.specs.Opening.{parent_of}
 use Rattle.otel_state.specs.States.{Told, begun, changed}
 use Rattle.otel_state.specs.Times.{InOrder, open_by}
 use Rattle.trace_base.specs.Spans.{is_in}
-pub use Rattle.span_pipeline.specs.Outcomes.{records_from, records}
-use Rattle.span_pipeline.specs.Setups.{Setup}
-use Rattle.span_pipeline.specs.Tables.{Effect, History}
+pub use Rattle.span_script.specs.Outcomes.{records_from, records}
+use Rattle.span_script.specs.Setups.{Setup}
+use Rattle.span_script.specs.Tables.{Effect, History}
 use Rattle.span_laws.specs.Starts.{with_started, starts_of}
 
 -- each record is that of the span at its place

@@ -1,7 +1,7 @@
 -- The order in which the spans of a history started, which gives them their ids.
 use Rattle.std.specs.Prelude.{ℕ, ◌+◌, ◌==◌, List, [], ◌∷◌, ◌++◌, fold, flat_map, if◌then◌else◌}
 use Rattle.trace_base.specs.Spans.{is_in}
-use Rattle.span_pipeline.specs.Tables.{Effect, History}
+use Rattle.span_script.specs.Tables.{Effect, History}
 
 -- a span more that started, unless it had
 abbrev pub with_started : List ℕ → ℕ → List ℕ

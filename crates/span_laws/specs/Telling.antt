@@ -7,7 +7,7 @@ use Rattle.otel_state.specs.Content.{closing_count, closing_times}
 use Rattle.otel_state.specs.Deeds.{Stamped}
 use Rattle.otel_state.specs.States.{Told}
 use Rattle.otel_state.specs.Times.{end_of, last_exit}
-use Rattle.span_pipeline.specs.Setups.{Setup}
+use Rattle.span_script.specs.Setups.{Setup}
 
 -- the id of a record's span, and of an open span, 0 before its start
 abbrev pub id_of : Record → ℕ

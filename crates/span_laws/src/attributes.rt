@@ -1,7 +1,7 @@
 //! The attributes of records.
 ghost use Rattle.otel_state.specs.Content.{attributes_of, counted_of};
-ghost use Rattle.span_pipeline.specs.Setups.{Setup};
-ghost use Rattle.span_pipeline.specs.Tables.{History, made_of, tables};
+ghost use Rattle.span_script.specs.Setups.{Setup};
+ghost use Rattle.span_script.specs.Tables.{History, made_of, tables};
 ghost use Rattle.span_laws.specs.Laws.{IsHistory};
 ghost use Rattle.span_laws.specs.Records.{Each, ops_of, records};
 ghost use Rattle.span_laws.specs.Telling.{TellsAttributes};

@@ -1,10 +1,10 @@
 //! What closes spans, and in which order.
 ghost use Rattle.std.specs.Prelude.{◌≡◌, ℕ, List, [], ◌∷◌, ◌++◌, false, true, Ok, Some};
 ghost use Rattle.trace_base.specs.Spans.{is_in};
-ghost use Rattle.span_pipeline.specs.declared.request.Request.{Request};
-ghost use Rattle.span_pipeline.specs.Effects.{effect_of};
-ghost use Rattle.span_pipeline.specs.Setups.{Setup};
-ghost use Rattle.span_pipeline.specs.Tables.{Effect, History, Scope, made_of, slot_at, tables};
+ghost use Rattle.span_script.specs.declared.request.Request.{Request};
+ghost use Rattle.span_script.specs.Effects.{effect_of};
+ghost use Rattle.span_script.specs.Setups.{Setup};
+ghost use Rattle.span_script.specs.Tables.{Effect, History, Scope, made_of, slot_at, tables};
 ghost use Rattle.span_laws.specs.Closes.{BeginsWith, is_drop};
 ghost use Rattle.span_laws.specs.Laws.{IsHistory};
 

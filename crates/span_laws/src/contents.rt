@@ -1,9 +1,9 @@
 //! What the records of each history are: one for each closed span, the content of its making and its ops.
 ghost use Rattle.std.specs.Prelude.{◌≡◌, ℕ, length, Ok};
-ghost use Rattle.span_pipeline.specs.declared.request.Request.{Request};
-ghost use Rattle.span_pipeline.specs.Effects.{effect_of};
-ghost use Rattle.span_pipeline.specs.Setups.{Setup};
-ghost use Rattle.span_pipeline.specs.Tables.{Effect, History, made_of, records_of, tables};
+ghost use Rattle.span_script.specs.declared.request.Request.{Request};
+ghost use Rattle.span_script.specs.Effects.{effect_of};
+ghost use Rattle.span_script.specs.Setups.{Setup};
+ghost use Rattle.span_script.specs.Tables.{Effect, History, made_of, records_of, tables};
 ghost use Rattle.span_laws.specs.Laws.{IsHistory};
 ghost use Rattle.span_laws.specs.Records.{Each, IsRecord, closed_at, ops_of, records};
 ghost use Rattle.span_laws.specs.Starts.{place_in, started};

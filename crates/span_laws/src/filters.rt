@@ -5,11 +5,11 @@ ghost use Rattle.trace_base.specs.declared.field.ValueSet.{ValueSet};
 ghost use Rattle.trace_base.specs.Spans.{is_in};
 ghost use Rattle.env_filter.specs.Filtering.{is_admitted};
 ghost use Rattle.env_filter.specs.Histories.{NeverFalls, level_told, levels_told};
-ghost use Rattle.span_pipeline.specs.Admission.{text_filter};
-ghost use Rattle.span_pipeline.specs.Effects.{admitted, events, reloads, filter_at};
-ghost use Rattle.span_pipeline.specs.Setups.{Setup};
-ghost use Rattle.span_pipeline.specs.Tables.{History, Scope, Tables, after, quiet, tables};
-ghost use Rattle.span_pipeline.specs.declared.reply.Reply.TheVariants as reply;
+ghost use Rattle.span_script.specs.Admission.{text_filter};
+ghost use Rattle.span_script.specs.Effects.{admitted, events, reloads, filter_at};
+ghost use Rattle.span_script.specs.Setups.{Setup};
+ghost use Rattle.span_script.specs.Tables.{History, Scope, Tables, after, quiet, tables};
+ghost use Rattle.span_script.specs.declared.reply.Reply.TheVariants as reply;
 ghost use Rattle.span_laws.specs.Laws.{IsHistory};
 ghost use Rattle.span_laws.specs.Levels.{HasNoReload, directives_in, level_in};
 

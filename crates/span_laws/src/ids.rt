@@ -2,9 +2,9 @@
 ghost use Rattle.std.specs.Prelude.{◌≡◌, ◌≤◌, ℕ, true, length, map};
 ghost use Rattle.std.specs.List.{range_with_len};
 ghost use Rattle.otel_layer.specs.Table.{told_at};
-ghost use Rattle.span_pipeline.specs.Effects.{is_open};
-ghost use Rattle.span_pipeline.specs.Setups.{Setup};
-ghost use Rattle.span_pipeline.specs.Tables.{History, tables};
+ghost use Rattle.span_script.specs.Effects.{is_open};
+ghost use Rattle.span_script.specs.Setups.{Setup};
+ghost use Rattle.span_script.specs.Tables.{History, tables};
 ghost use Rattle.span_laws.specs.Laws.{IsHistory, occurrences};
 ghost use Rattle.span_laws.specs.Records.{records};
 ghost use Rattle.span_laws.specs.Starts.{place_in, started};

@@ -1,9 +1,9 @@
 //! What holds of each history that requests give. Each law is a function that does nothing.
 ghost use Rattle.std.specs.Prelude.{◌≡◌, ℕ, ◌+◌, ◌<◌, ◌≤◌, length, not, true, false};
 ghost use Rattle.trace_base.specs.Spans.{is_in};
-ghost use Rattle.span_pipeline.specs.Setups.{Setup};
-ghost use Rattle.span_pipeline.specs.Tables.{History, tables};
-ghost use Rattle.span_pipeline.specs.Effects.{is_open, open_spans};
+ghost use Rattle.span_script.specs.Setups.{Setup};
+ghost use Rattle.span_script.specs.Tables.{History, tables};
+ghost use Rattle.span_script.specs.Effects.{is_open, open_spans};
 ghost use Rattle.span_laws.specs.Laws.{IsHistory, occurrences};
 
 /// A span is recorded at most once, and that when no unspent handle holds it any more.

@@ -1,8 +1,8 @@
 //! Of which histories the laws speak.
 ghost use Rattle.std.specs.Prelude.{List};
-ghost use Rattle.span_pipeline.specs.declared.request.Request.{Request};
-ghost use Rattle.span_pipeline.specs.Outcomes.{history_of};
-ghost use Rattle.span_pipeline.specs.Setups.{Setup};
+ghost use Rattle.span_script.specs.declared.request.Request.{Request};
+ghost use Rattle.span_script.specs.Outcomes.{history_of};
+ghost use Rattle.span_script.specs.Setups.{Setup};
 ghost use Rattle.span_laws.specs.Laws.{IsHistory};
 
 /// The history that a script's requests make is legal, whichever they are: so each law here speaks of all that

@@ -1,7 +1,7 @@
 -- The guards of entries, and how many open ones name each handle. Inner definitions.
 use Rattle.std.specs.Prelude.{◌≡◌, ℕ, List, Option, slice_index_or, count_by}
-use Rattle.span_pipeline.specs.declared.slots.Guard.{Guard}
-use Rattle.span_pipeline.specs.Slots.{names_handle}
+use Rattle.span_script.specs.declared.slots.Guard.{Guard}
+use Rattle.span_script.specs.Slots.{names_handle}
 
 -- the guards by their numbers, for how many more there is room, and how many handles have a count
 pub record Guarding : Type 0 where

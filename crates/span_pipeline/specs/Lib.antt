@@ -1,11 +1,1 @@
-pub mod Admission
-pub mod Balance
-pub mod Effects
-pub mod Fields
-pub mod Fits
 pub mod Guards
-pub mod Outcomes
-pub mod Refusals
-pub mod Setups
-pub mod Slots
-pub mod Tables

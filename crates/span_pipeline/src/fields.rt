@@ -1,6 +1,6 @@
 //! Fields that requests give, by the fields that callsites declare.
 ghost use Rattle.std.specs.Prelude.{◌≡◌, option_map, IfOk};
-ghost use Rattle.span_pipeline.specs.Fields.{values_of, all_values, values_by};
+ghost use Rattle.span_script.specs.Fields.{values_of, all_values, values_by};
 
 use otel_base::list::Items;
 use otel_base::memory::Memory;

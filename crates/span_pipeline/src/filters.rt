@@ -1,13 +1,13 @@
 //! Filters of texts.
 ghost use Rattle.std.specs.Prelude.{◌≡◌, IfOk, IfErr, option_map};
 ghost use Rattle.env_filter.specs.Filtering.{plain, IsNew};
-ghost use Rattle.span_pipeline.specs.Admission.{text_read, judged, counting_read, IsTextFilter, IsCounter, IsUnread, unread_by};
+ghost use Rattle.span_script.specs.Admission.{text_read, judged, counting_read, IsTextFilter, IsCounter, IsUnread, unread_by};
 
-use crate::pipeline::OpenError;
 use env_directives::directive::ParseError;
 use env_filter::builder::Builder;
 use env_filter::filter::EnvFilter;
 use otel_base::text::Text;
+use span_script::open_error::OpenError;
 use std::alloc::Global;
 
 /// The filter of a text without patterns, which is one for counting or not: `Directive` for the first piece that is none.

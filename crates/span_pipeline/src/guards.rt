@@ -1,9 +1,10 @@
 //! The guards of entries, with the number of open ones beside each handle.
 ghost use Rattle.std.specs.Prelude.{◌≡◌, ℕ, ◌<◌, ◌≤◌, ◌+◌, ◌-◌, ◌^◌, ◌++◌, ◌∷◌, [], Some, None, OnOk, option_map, length, slice_index_or, slice_set, vec_capacity};
-ghost use Rattle.span_pipeline.specs.Slots.{is_named, is_shared_by};
+ghost use Rattle.span_script.specs.Slots.{is_named, is_shared_by};
 
-use crate::slots::{self, Guard, slot_at};
+use crate::names::{self, slot_at};
 use otel_base::memory::Memory;
+use span_script::slots::Guard;
 use std::alloc::Global;
 use std::marker::Model;
 use trace_base::discard::Discard;
@@ -97,7 +98,7 @@ impl Guards {
         ensures { self.new.items ≡ self.old.items ++ Some guard ∷ [] }
     {
         count_more(&mut self.counts, guard.handle);
-        slots::keep(&mut self.slots, guard);
+        names::keep(&mut self.slots, guard);
     }
 
     /// Passes over a number, which is an attach's guard, in the room that there is.
@@ -105,7 +106,7 @@ impl Guards {
         requires { 0 < self.old.room }
         ensures { self.new.items ≡ self.old.items ++ None ∷ [] }
     {
-        slots::skip(&mut self.slots);
+        names::skip(&mut self.slots);
     }
 
     /// Takes out the guard of a number, if it is there and isn't spent.
@@ -113,7 +114,7 @@ impl Guards {
         ensures value { result ≡ slice_index_or self.old.items number None }
         ensures spent { self.new.items ≡ slice_set self.old.items number None }
     {
-        let taken = slots::take(&mut self.slots, number);
+        let taken = names::take(&mut self.slots, number);
         if let Some(guard) = &taken {
             count_less(&mut self.counts, guard.handle);
         }

@@ -7,22 +7,16 @@
 #![tactic(auto)]
 
 mod calls;
-pub mod contexts;
 mod fields;
 mod filters;
 mod guards;
-pub mod laws;
+mod names;
 mod opening;
 pub mod pipeline;
 mod records;
-pub mod reply;
-pub mod request;
 mod runs;
-pub mod settings;
-pub mod slots;
 
-pub use pipeline::{OpenError, Pipeline};
-pub use reply::{Refusal, Reply, What};
-pub use request::{Call, LAST_MOMENT, Place, Request};
-pub use runs::Outcome;
-pub use settings::Settings;
+pub use pipeline::Pipeline;
+pub use span_script::{
+    Call, LAST_MOMENT, OpenError, Outcome, Place, Refusal, Reply, Request, Settings, What,
+};

@@ -1,20 +1,21 @@
 //! A pipeline runs the requests of a script over a stack of a registry, the OpenTelemetry layer, the layer of metrics and a
 //! filter.
 ghost use Rattle.std.specs.Prelude.{◌≡◌, ◌<◌, ℕ, [], true, map, length, IfOk, OnOk, IfErr, OnErr, Ok, Err};
-ghost use Rattle.span_pipeline.specs.Admission.{opening_read, IsUnread};
-ghost use Rattle.span_pipeline.specs.Setups.{HasOwnIds, setup_by};
-ghost use Rattle.span_pipeline.specs.Effects.{is_bad_moment};
+ghost use Rattle.span_script.specs.Admission.{opening_read, IsUnread};
+ghost use Rattle.span_script.specs.Setups.{HasOwnIds, setup_by};
+ghost use Rattle.span_script.specs.Effects.{is_bad_moment};
 
-use crate::contexts::Contexts;
 use crate::filters::{read_counting, read_filter};
 use crate::guards::Guards;
 use crate::opening::{self, add_sites};
-use crate::reply::{Refusal, Reply, What};
-use crate::request::{Call, LAST_MOMENT, Request};
-use crate::settings::{Settings, Texts};
 use otel_base::record::Moment;
 use span_handles::laws::same;
 use span_handles::span::Span;
+use span_script::contexts::Contexts;
+use span_script::open_error::OpenError;
+use span_script::reply::{Refusal, Reply, What};
+use span_script::request::{Call, LAST_MOMENT, Request};
+use span_script::settings::{Settings, Texts};
 use span_stack::{Stack, laws, new_stack};
 use std::alloc::Global;
 use std::marker::Model;
@@ -23,16 +24,6 @@ use trace_base::dispatcher::Dispatch;
 use trace_base::lane::Lane;
 use trace_base::subscriber::Subscriber;
 use trace_base::world::World;
-
-/// Why a pipeline can't be opened.
-#[derive(Clone, Copy, Debug, PartialEq, Eq)]
-pub enum OpenError {
-    /// A piece of the filter's text, or of the text for counting, is no directive, which is told by its number, from 1;
-    /// empty pieces count.
-    Directive { counting: bool, piece: u64 },
-    /// Out of memory.
-    Memory,
-}
 
 /// Runs the requests of a script, one after another: a `tracing_subscriber::Registry` with a filter, a
 /// `tracing_opentelemetry::MetricsLayer` whose measures are kept, and a `tracing_opentelemetry::OpenTelemetryLayer` over an
@@ -49,7 +40,7 @@ pub struct Pipeline {
 }
 
 impl Model for Pipeline {
-    ghost use Rattle.span_pipeline.specs.Fits.{State, named_in, state_of, stack_views, IsKept};
+    ghost use Rattle.span_script.specs.Fits.{State, named_in, state_of, stack_views, IsKept};
 
     ghost Value = { State };
 
@@ -92,11 +83,11 @@ fn is_bad_moment(before: Moment, given: Moment) -> bool
 }
 
 impl Pipeline {
-    ghost use Rattle.span_pipeline.specs.Tables.{Tables, History, tables};
-    ghost use Rattle.span_pipeline.specs.Effects.{effect_of, effect_of_call};
-    ghost use Rattle.span_pipeline.specs.Fits.{StandsFor, Served, Recorded, IsRefusal};
-    ghost use Rattle.span_pipeline.specs.Refusals.{takes_no_memory};
-    ghost use Rattle.span_pipeline.specs.declared.reply.Refusal.TheVariants.{Memory as NoMemory};
+    ghost use Rattle.span_script.specs.Tables.{Tables, History, tables};
+    ghost use Rattle.span_script.specs.Effects.{effect_of, effect_of_call};
+    ghost use Rattle.span_script.specs.Fits.{StandsFor, Served, Recorded, IsRefusal};
+    ghost use Rattle.span_script.specs.Refusals.{takes_no_memory};
+    ghost use Rattle.span_script.specs.declared.reply.Refusal.TheVariants.{Memory as NoMemory};
 
     /// A pipeline for the settings, before any request. `Directive` where a piece of the filter's text is none, or else one
     /// of the text for counting; it may answer `Memory`.

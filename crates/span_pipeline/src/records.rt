@@ -25,9 +25,9 @@ fn count_open(registry: &Registry, ids: u64) -> u64
 }
 
 impl Pipeline {
-    ghost use Rattle.span_pipeline.specs.Tables.{Tables};
-    ghost use Rattle.span_pipeline.specs.Effects.{open_spans};
-    ghost use Rattle.span_pipeline.specs.Fits.{StandsFor, without_first, without_first_measure};
+    ghost use Rattle.span_script.specs.Tables.{Tables};
+    ghost use Rattle.span_script.specs.Effects.{open_spans};
+    ghost use Rattle.span_script.specs.Fits.{StandsFor, without_first, without_first_measure};
 
     /// The oldest record that hasn't been taken, if there is one: what an `opentelemetry_sdk::trace::SpanExporter`
     /// would get next.

@@ -1,37 +1,25 @@
 //! Whole scripts, run at once.
 ghost use Rattle.std.specs.Prelude.{◌≡◌, ◌≢◌, [], map, IfSome, IfOk, OnOk, IfErr, Ok};
-ghost use Rattle.span_pipeline.specs.Admission.{opening_read, IsUnread};
-ghost use Rattle.span_pipeline.specs.Setups.{HasOwnIds, setup_by};
-ghost use Rattle.span_pipeline.specs.Outcomes.{HasReplies, outcome_of};
+ghost use Rattle.span_script.specs.Admission.{opening_read, IsUnread};
+ghost use Rattle.span_script.specs.Setups.{HasOwnIds, setup_by};
+ghost use Rattle.span_script.specs.Outcomes.{HasReplies, outcome_of};
 
-use crate::pipeline::{OpenError, Pipeline};
-use crate::reply::{Refusal, Reply};
-use crate::request::Request;
-use crate::settings::Settings;
+use crate::pipeline::Pipeline;
 use otel_base::list::Items;
 use otel_base::memory::Memory;
 use otel_base::record::Record;
+use span_script::open_error::OpenError;
+use span_script::outcome::Outcome;
+use span_script::reply::{Refusal, Reply};
+use span_script::request::Request;
+use span_script::settings::Settings;
 use std::alloc::Global;
 use trace_base::discard::Discard;
 
-/// What a whole script gives.
-#[derive(Drop)]
-pub struct Outcome {
-    /// The replies to the requests before the first refused one, or to all of them.
-    pub replies: Items<Reply>,
-    /// The records of the spans that these requests closed, oldest first.
-    pub records: Items<Record>,
-    /// The place of the first refused request, from 0, and why it is refused; `None` where none is. It is never
-    /// refused for want of memory.
-    pub refused: Option<(u64, Refusal)>,
-    /// How many spans are open behind the requests that were served.
-    pub left_open: u64,
-}
-
 impl Pipeline {
-    ghost use Rattle.span_pipeline.specs.Tables.{tables};
-    ghost use Rattle.span_pipeline.specs.Fits.{StandsFor};
-    ghost use Rattle.span_pipeline.specs.Outcomes.{Ran};
+    ghost use Rattle.span_script.specs.Tables.{tables};
+    ghost use Rattle.span_script.specs.Fits.{StandsFor};
+    ghost use Rattle.span_script.specs.Outcomes.{Ran};
 
     /// Stands for a whole script at once: its requests up to the first refused one, of which each reply is read off the
     /// requests before it. `trace_tool` steps line by line. `Directive` where `open` answers it; it may answer `Memory`,

@@ -6,7 +6,7 @@ use Rattle.otel_base.specs.declared.status.Status.TheVariants as status
 use Rattle.otel_base.specs.declared.value.KeyValue.{KeyValue}
 use Rattle.otel_base.specs.declared.value.OtelValue.{OtelValue}
 use Rattle.otel_base.specs.declared.value.OtelValue.TheVariants as otel
-use Rattle.span_pipeline.specs.declared.request.TheConstants.{LAST_MOMENT}
+use Rattle.span_script.specs.declared.request.TheConstants.{LAST_MOMENT}
 use Rattle.trace_pipeline.specs.AttributeForm.{otel_value_of, keyed, attribute_of, error_status_form, status_of}
 use Rattle.trace_pipeline.specs.FieldData.{IsOtelValue, AreAttributes}
 use Rattle.trace_pipeline.specs.Forms.{at_most, each}

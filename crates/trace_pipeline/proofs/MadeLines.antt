@@ -15,10 +15,10 @@ use Rattle.serde_json.proofs.OnLiterals.{serde_json_on_literals}
 use Rattle.serde_json.proofs.Numbers.{number_of-decimal}
 use Rattle.trace_base.specs.declared.field.Value.{Value}
 use Rattle.trace_base.specs.declared.field.Value.TheVariants.{I64, Str}
-use Rattle.span_pipeline.specs.declared.request.Call.{Call}
-use Rattle.span_pipeline.specs.declared.request.Call.TheVariants as call
-use Rattle.span_pipeline.specs.declared.request.Place.TheVariants as place
-use Rattle.span_pipeline.specs.declared.request.Request.{Request}
+use Rattle.span_script.specs.declared.request.Call.{Call}
+use Rattle.span_script.specs.declared.request.Call.TheVariants as call
+use Rattle.span_script.specs.declared.request.Place.TheVariants as place
+use Rattle.span_script.specs.declared.request.Request.{Request}
 use Rattle.trace_pipeline.specs.declared.told.Told.TheVariants.{BadLine}
 use Rattle.trace_pipeline.specs.Forms.{all_of}
 use Rattle.trace_pipeline.specs.Generated.{made_settings, root_fields, row_fields, in_round, round, rounds, made_requests, request_members, request_line, settings_line, made_lines, made_script}

@@ -1,10 +1,10 @@
 -- A made script whose requests have effects is valid.
 use Rattle.std.proofs.Common.{◌≡◌, ℕ, ◌+◌, ◌≤◌, List, [], ◌∷◌, ◌++◌, length, map, Option, Some, None, true, false, refl, sym, ap, ◌∙◌, Result, Ok, Err}
-use Rattle.span_pipeline.specs.declared.request.Request.{Request}
-use Rattle.span_pipeline.specs.Admission.{OpeningRead, opening_read}
-use Rattle.span_pipeline.specs.Effects.{Resolved, effect_of}
-use Rattle.span_pipeline.specs.Setups.{Setup}
-use Rattle.span_pipeline.specs.Tables.{History, Effect, tables, records_of}
+use Rattle.span_script.specs.declared.request.Request.{Request}
+use Rattle.span_script.specs.Admission.{OpeningRead, opening_read}
+use Rattle.span_script.specs.Effects.{Resolved, effect_of}
+use Rattle.span_script.specs.Setups.{Setup}
+use Rattle.span_script.specs.Tables.{History, Effect, tables, records_of}
 use Rattle.trace_pipeline.specs.declared.signal.Signal.TheVariants as signal
 use Rattle.trace_pipeline.specs.Generated.{made_settings, made_setup, made_requests, request_line, settings_line, made_script}
 use Rattle.trace_pipeline.specs.Lines.{lines_of}

@@ -12,16 +12,16 @@ use Rattle.trace_base.specs.declared.callsite.Callsite.{Callsite}
 use Rattle.trace_base.specs.declared.callsite.Kind.TheVariants as kind
 use Rattle.trace_base.specs.declared.field.ValueSet.{ValueSet}
 use Rattle.trace_base.specs.Spans.{without_last, current_of}
-use Rattle.span_pipeline.specs.declared.request.Call.{Call}
-use Rattle.span_pipeline.specs.declared.request.Call.TheVariants as call
-use Rattle.span_pipeline.specs.declared.request.Place.{Place}
-use Rattle.span_pipeline.specs.declared.request.Place.TheVariants as put
-use Rattle.span_pipeline.specs.declared.request.Request.{Request}
-use Rattle.span_pipeline.specs.declared.request.TheConstants.{LAST_MOMENT}
-use Rattle.span_pipeline.specs.Fields.{values_of}
-use Rattle.span_pipeline.specs.Setups.{id_at}
-use Rattle.span_pipeline.specs.Tables.{Scope, EntryOf, Attached, is_by, Guarded, Effect, Tables, History, tables, after, slot_at, scope_of, with_attached, with_detached}
-use Rattle.span_pipeline.specs.Effects.{Resolved, effect_of, effect_of_call, is_bad_moment, borrows, is_borrowed, admitted, makes, makes_span, declines, events, enters, exits, drops, attached_by, active, is_full}
+use Rattle.span_script.specs.declared.request.Call.{Call}
+use Rattle.span_script.specs.declared.request.Call.TheVariants as call
+use Rattle.span_script.specs.declared.request.Place.{Place}
+use Rattle.span_script.specs.declared.request.Place.TheVariants as put
+use Rattle.span_script.specs.declared.request.Request.{Request}
+use Rattle.span_script.specs.declared.request.TheConstants.{LAST_MOMENT}
+use Rattle.span_script.specs.Fields.{values_of}
+use Rattle.span_script.specs.Setups.{id_at}
+use Rattle.span_script.specs.Tables.{Scope, EntryOf, Attached, is_by, Guarded, Effect, Tables, History, tables, after, slot_at, scope_of, with_attached, with_detached}
+use Rattle.span_script.specs.Effects.{Resolved, effect_of, effect_of_call, is_bad_moment, borrows, is_borrowed, admitted, makes, makes_span, declines, events, enters, exits, drops, attached_by, active, is_full}
 use Rattle.trace_pipeline.specs.Generated.{made_site, made_setup, root_fields, row_fields, round, rounds, made_requests}
 use Rattle.trace_pipeline.specs.Replay.{going_on, replayed}
 use Rattle.trace_pipeline.proofs.MadeLines.{asked, root_call, below_call, event_call}

@@ -2,7 +2,7 @@
 use Rattle.std.proofs.Common.{◌≡◌, ℕ, zero, suc, ◌<◌, ◌==◌, List, [], ◌∷◌, length, true, false, not, refl, sym, ap, arith}
 use Rattle.std.specs.List.{list_any}
 use Rattle.std.proofs.lemmas.Bool.{or_parts, and_parts, eqb-false, not-true}
-use Rattle.span_pipeline.specs.Setups.{HasOwnIds, id_at}
+use Rattle.span_script.specs.Setups.{HasOwnIds, id_at}
 use Rattle.trace_pipeline.specs.SettingsForm.{all_differ}
 
 -- an id that is equal to none stands at no place

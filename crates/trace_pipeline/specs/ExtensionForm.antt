@@ -1,9 +1,9 @@
 -- The forms of the requests that follow spans, and that ask something of the span extension.
 use Rattle.std.specs.Prelude.{ℕ, Option, option_and_then, codes}
 use Rattle.serde_json.specs.Data.{Data}
-use Rattle.span_pipeline.specs.declared.request.Call.{Call}
-use Rattle.span_pipeline.specs.declared.request.Call.TheVariants as call
-use Rattle.span_pipeline.specs.declared.request.TheConstants.{LAST_MOMENT}
+use Rattle.span_script.specs.declared.request.Call.{Call}
+use Rattle.span_script.specs.declared.request.Call.TheVariants as call
+use Rattle.span_script.specs.declared.request.TheConstants.{LAST_MOMENT}
 use Rattle.trace_pipeline.specs.AttributeForm.{otel_value_of, attributes_form, status_of}
 use Rattle.trace_pipeline.specs.Forms.{Form, ◌>>=◌, give, when, whole, text, member, optional, if_there, at_most, as_whole}
 

@@ -10,12 +10,12 @@ use Rattle.trace_base.specs.declared.callsite.Kind.TheVariants as kind
 use Rattle.trace_base.specs.declared.field.Value.{Value}
 use Rattle.trace_base.specs.declared.field.Value.TheVariants.{I64, Str}
 use Rattle.trace_base.specs.declared.level.Level.TheVariants.{INFO}
-use Rattle.span_pipeline.specs.declared.request.Call.{Call}
-use Rattle.span_pipeline.specs.declared.request.Call.TheVariants as call
-use Rattle.span_pipeline.specs.declared.request.Place.TheVariants as place
-use Rattle.span_pipeline.specs.declared.request.Request.{Request}
-use Rattle.span_pipeline.specs.declared.settings.Settings.{Settings}
-use Rattle.span_pipeline.specs.Setups.{Setup, setup_by}
+use Rattle.span_script.specs.declared.request.Call.{Call}
+use Rattle.span_script.specs.declared.request.Call.TheVariants as call
+use Rattle.span_script.specs.declared.request.Place.TheVariants as place
+use Rattle.span_script.specs.declared.request.Request.{Request}
+use Rattle.span_script.specs.declared.settings.Settings.{Settings}
+use Rattle.span_script.specs.Setups.{Setup, setup_by}
 use Rattle.trace_pipeline.specs.Object.{by_name, whole_number}
 use Rattle.trace_pipeline.specs.RequestData.{names, put_at, word_of, names_of}
 

@@ -5,11 +5,11 @@ use Rattle.otel_base.specs.declared.record.Record.{Record}
 use Rattle.otel_base.specs.declared.value.KeyValue.{KeyValue}
 use Rattle.otel_base.specs.declared.value.OtelValue.{OtelValue}
 use Rattle.otel_base.specs.declared.value.OtelValue.TheVariants as otel
-use Rattle.span_pipeline.specs.declared.request.Request.{Request}
-use Rattle.span_pipeline.specs.Setups.{Setup}
-use Rattle.span_pipeline.specs.Tables.{History, Effect, tables}
-use Rattle.span_pipeline.specs.Effects.{Resolved, effect_of, open_spans}
-use Rattle.span_pipeline.specs.Outcomes.{records}
+use Rattle.span_script.specs.declared.request.Request.{Request}
+use Rattle.span_script.specs.Setups.{Setup}
+use Rattle.span_script.specs.Tables.{History, Effect, tables}
+use Rattle.span_script.specs.Effects.{Resolved, effect_of, open_spans}
+use Rattle.span_script.specs.Outcomes.{records}
 use Rattle.serde_json.specs.Data.{Data, object}
 use Rattle.trace_pipeline.specs.Object.{by_name, whole_number, line_of}
 use Rattle.trace_pipeline.specs.declared.write.summary.Summary.{Summary}

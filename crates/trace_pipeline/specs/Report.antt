@@ -3,17 +3,17 @@ use Rattle.std.specs.Prelude.{◌≡◌, ℕ, ◌+◌, ◌≤◌, List, [], ◌�
 use Rattle.otel_base.specs.declared.record.Record.{Record}
 use Rattle.otel_metrics.specs.declared.measure.Measure.{Measure}
 use Rattle.trace_pipeline.specs.declared.limits.TheConstants.{MAX_INPUT}
-use Rattle.span_pipeline.specs.declared.settings.Settings.{Settings}
+use Rattle.span_script.specs.declared.settings.Settings.{Settings}
 use Rattle.trace_pipeline.specs.declared.signal.Signal.{Signal}
 use Rattle.trace_pipeline.specs.declared.signal.Signal.TheVariants as signal
 use Rattle.trace_pipeline.specs.declared.told.Told.{Told}
 use Rattle.trace_pipeline.specs.declared.told.Told.TheVariants as told
-use Rattle.span_pipeline.specs.declared.request.Request.{Request}
-use Rattle.span_pipeline.specs.declared.reply.Reply.{Reply}
-use Rattle.span_pipeline.specs.Admission.{OpeningRead, opening_read}
-use Rattle.span_pipeline.specs.Setups.{Setup, setup_by}
-use Rattle.span_pipeline.specs.Tables.{History, Effect, Tables, tables, records_of}
-use Rattle.span_pipeline.specs.Effects.{Resolved, effect_of, open_spans}
+use Rattle.span_script.specs.declared.request.Request.{Request}
+use Rattle.span_script.specs.declared.reply.Reply.{Reply}
+use Rattle.span_script.specs.Admission.{OpeningRead, opening_read}
+use Rattle.span_script.specs.Setups.{Setup, setup_by}
+use Rattle.span_script.specs.Tables.{History, Effect, Tables, tables, records_of}
+use Rattle.span_script.specs.Effects.{Resolved, effect_of, open_spans}
 use Rattle.trace_pipeline.specs.Lines.{lines_of, is_blank}
 use Rattle.trace_pipeline.specs.Spelled.{settings_spelled, request_spelled}
 use Rattle.trace_pipeline.specs.Texts.{reply_text, record_text, measure_text, refusal_text, end_text, measures_end_text}

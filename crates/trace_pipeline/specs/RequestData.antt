@@ -1,22 +1,22 @@
--- The value that a request of the first lane is read from: the form in the other direction.
+-- The value that a request is read from: the form in the other direction.
 use Rattle.std.specs.Prelude.{◌<◌, ◌≤◌, ◌^◌, ℕ, List, [], ◌∷◌, ◌++◌, fold, codes, Option, Some, None, IfSome}
 use Rattle.serde_json.specs.Data.{Data, number, string, object, unsigned, Members, no_members, put}
 use Rattle.otel_base.specs.declared.value.KeyValue.{KeyValue}
-use Rattle.span_pipeline.specs.declared.request.Request.{Request}
-use Rattle.span_pipeline.specs.declared.request.TheConstants.{LAST_MOMENT}
-use Rattle.span_pipeline.specs.declared.request.Call.{Call}
-use Rattle.span_pipeline.specs.declared.request.Call.TheVariants as call
-use Rattle.span_pipeline.specs.declared.request.Place.{Place}
-use Rattle.span_pipeline.specs.declared.request.Place.TheVariants as place
+use Rattle.span_script.specs.declared.request.Request.{Request}
+use Rattle.span_script.specs.declared.request.TheConstants.{LAST_MOMENT}
+use Rattle.span_script.specs.declared.request.Call.{Call}
+use Rattle.span_script.specs.declared.request.Call.TheVariants as call
+use Rattle.span_script.specs.declared.request.Place.{Place}
+use Rattle.span_script.specs.declared.request.Place.TheVariants as place
 use Rattle.trace_base.specs.declared.field.Value.{Value}
 use Rattle.trace_pipeline.specs.FieldData.{written_field, AreValues, IsOtelValue, AreAttributes}
 use Rattle.trace_pipeline.specs.Hex.{hex16, hex32}
 use Rattle.trace_pipeline.specs.Object.{array_of}
 use Rattle.trace_pipeline.specs.RecordData.{attribute_value, attributes_data, status_data}
 
--- a call on the first lane at a moment
-abbrev pub first_lane : ℕ → Call → Request
-first_lane at call = record { at = at; lane = 0; call = call }
+-- a call at a moment on a lane
+abbrev pub called : ℕ → ℕ → Call → Request
+called at lane call = record { at = at; lane = lane; call = call }
 
 -- ids have 128 and 64 bits, numbers of fields and attributes those of their types, and a time is a moment
 abbrev pub IsInRange : Call → Type 0

@@ -5,11 +5,11 @@ use Rattle.serde_json.specs.Find.{as_str}
 use Rattle.trace_base.specs.declared.field.Value.{Value}
 use Rattle.trace_pipeline.specs.declared.read.request.Verb.{Verb}
 use Rattle.trace_pipeline.specs.declared.read.request.Verb.TheVariants as verb
-use Rattle.span_pipeline.specs.declared.request.Request.{Request}
-use Rattle.span_pipeline.specs.declared.request.Call.{Call}
-use Rattle.span_pipeline.specs.declared.request.Call.TheVariants as call
-use Rattle.span_pipeline.specs.declared.request.Place.{Place}
-use Rattle.span_pipeline.specs.declared.request.Place.TheVariants as place
+use Rattle.span_script.specs.declared.request.Request.{Request}
+use Rattle.span_script.specs.declared.request.Call.{Call}
+use Rattle.span_script.specs.declared.request.Call.TheVariants as call
+use Rattle.span_script.specs.declared.request.Place.{Place}
+use Rattle.span_script.specs.declared.request.Place.TheVariants as place
 use Rattle.trace_pipeline.specs.ExtensionForm.{follows_form, set_parent_form, add_link_form, set_attribute_form, set_status_form, add_event_form}
 use Rattle.trace_pipeline.specs.FieldForm.{fields_of}
 use Rattle.trace_pipeline.specs.Forms.{Form, ◌>>=◌, give, when, whole, text, member, optional, if_absent, as_whole}

@@ -5,7 +5,7 @@ use Rattle.serde_json.specs.Find.{as_str}
 use Rattle.otel_state.specs.Settings.{default_settings}
 use Rattle.otel_state.specs.declared.settings.LayerSettings.{LayerSettings}
 use Rattle.trace_base.specs.declared.callsite.Callsite.{Callsite}
-use Rattle.span_pipeline.specs.declared.settings.Settings.{Settings}
+use Rattle.span_script.specs.declared.settings.Settings.{Settings}
 use Rattle.trace_pipeline.specs.Forms.{Form, ◌>>=◌, give, when, provided, whole_to, text, flag_or, optional, if_absent, optional_text, optional_u32, array, each, object_of}
 use Rattle.trace_pipeline.specs.Words.{level_word, kind_word}
 

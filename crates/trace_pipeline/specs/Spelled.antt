@@ -4,8 +4,8 @@ use Rattle.std.specs.Str.{is_utf8}
 use Rattle.serde_json.specs.Data.{Data, Members}
 use Rattle.serde_json.specs.Read.{read}
 use Rattle.serde_json.specs.Find.{as_object}
-use Rattle.span_pipeline.specs.declared.settings.Settings.{Settings}
-use Rattle.span_pipeline.specs.declared.request.Request.{Request}
+use Rattle.span_script.specs.declared.settings.Settings.{Settings}
+use Rattle.span_script.specs.declared.request.Request.{Request}
 use Rattle.trace_pipeline.specs.declared.told.Told.{Told}
 use Rattle.trace_pipeline.specs.declared.told.Told.TheVariants.{BadLine}
 use Rattle.trace_pipeline.specs.Forms.{all_of}

@@ -5,12 +5,12 @@ use Rattle.otel_base.specs.declared.record.Record.{Record}
 use Rattle.otel_metrics.specs.declared.measure.Measure.{Measure}
 use Rattle.otel_state.specs.declared.op.SetParentError.{SetParentError}
 use Rattle.otel_state.specs.declared.op.SetParentError.TheVariants as unset
-use Rattle.span_pipeline.specs.declared.reply.Reply.{Reply}
-use Rattle.span_pipeline.specs.declared.reply.Reply.TheVariants as reply
-use Rattle.span_pipeline.specs.declared.reply.What.{What}
-use Rattle.span_pipeline.specs.declared.reply.What.TheVariants as what
-use Rattle.span_pipeline.specs.declared.reply.Refusal.{Refusal}
-use Rattle.span_pipeline.specs.declared.reply.Refusal.TheVariants as refusal
+use Rattle.span_script.specs.declared.reply.Reply.{Reply}
+use Rattle.span_script.specs.declared.reply.Reply.TheVariants as reply
+use Rattle.span_script.specs.declared.reply.What.{What}
+use Rattle.span_script.specs.declared.reply.What.TheVariants as what
+use Rattle.span_script.specs.declared.reply.Refusal.{Refusal}
+use Rattle.span_script.specs.declared.reply.Refusal.TheVariants as refusal
 use Rattle.trace_pipeline.specs.declared.told.Told.{Told}
 use Rattle.trace_pipeline.specs.declared.told.Told.TheVariants as told
 use Rattle.trace_pipeline.specs.Hex.{hex16, hex32}

@@ -1,6 +1,6 @@
 //! Lines of scripts of span calls: reading their settings and requests, and writing what these give.
 //!
-//! What requests do is in `span_pipeline`.
+//! What requests do is in `span_script`.
 #![tactic(auto)]
 
 pub mod generated;
@@ -15,7 +15,7 @@ pub mod write;
 pub use limits::MAX_INPUT;
 pub use read::{LineError, read_fields, read_request, read_settings};
 pub use signal::Signal;
-pub use span_pipeline::{Call, LAST_MOMENT, Place, Refusal, Reply, Request, Settings, What};
+pub use span_script::{Call, LAST_MOMENT, Place, Refusal, Reply, Request, Settings, What};
 pub use told::Told;
 pub use write::{
     append_end, append_measure, append_measures_end, append_record, append_refusal, append_reply,

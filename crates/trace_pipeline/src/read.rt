@@ -1,6 +1,6 @@
 //! Reading lines: what a settings line and a request line spell.
 ghost use Rattle.std.specs.Prelude.{◌≡◌, map, true, Ok, Err, IfOk, IsErrOf, option_and_then};
-ghost use Rattle.span_pipeline.specs.Setups.{HasOwnIds};
+ghost use Rattle.span_script.specs.Setups.{HasOwnIds};
 ghost use Rattle.trace_pipeline.specs.Forms.{all_of};
 ghost use Rattle.trace_pipeline.specs.Gives.{Gives};
 ghost use Rattle.trace_pipeline.specs.RequestForm.{request_form};
@@ -29,8 +29,8 @@ pub use decimal::u128_of;
 pub use fields::read_fields;
 use object::Object;
 use otel_base::memory;
-use span_pipeline::request::Request;
-use span_pipeline::settings::Settings;
+use span_script::request::Request;
+use span_script::settings::Settings;
 use std::alloc::{AllocError, AllocFailed, Global};
 
 /// Why a line gives no value.

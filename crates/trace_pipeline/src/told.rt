@@ -1,5 +1,5 @@
 //! Why lines are refused.
-use span_pipeline::reply::Refusal;
+use span_script::reply::Refusal;
 
 /// Why a line is refused, as its refusal line tells it.
 #[derive(Clone, Copy, PartialEq, Eq)]

@@ -5,7 +5,7 @@ ghost use Rattle.std.specs.Str.{IsUtf8};
 ghost use Rattle.trace_pipeline.specs.Writes.{Writes};
 ghost use Rattle.trace_pipeline.specs.Replay.{summary_text};
 ghost use Rattle.trace_pipeline.specs.Texts.{reply_text, record_text, measure_text, refusal_text, end_text, measures_end_text};
-ghost use Rattle.span_pipeline.specs.declared.reply.Refusal.{Refusal};
+ghost use Rattle.span_script.specs.declared.reply.Refusal.{Refusal};
 
 mod attribute;
 mod end;
@@ -28,7 +28,7 @@ use pieces::add;
 use record::add_record;
 use refusal::add_refusal;
 use reply::add_reply;
-use span_pipeline::reply::Reply;
+use span_script::reply::Reply;
 use std::alloc::{AllocError, Global};
 use summary::{Summary, add_summary};
 

@@ -5,23 +5,23 @@ use Rattle.std.proofs.lemmas.List.{append-nil}
 use Rattle.std.proofs.lemmas.List.Folds.{list_all-append}
 use Rattle.otel_base.specs.declared.record.Record.{Record}
 use Rattle.otel_metrics.specs.declared.measure.Measure.{Measure}
-use Rattle.span_pipeline.specs.declared.settings.Settings.{Settings}
-use Rattle.span_pipeline.specs.Setups.{Setup, setup_by}
-use Rattle.span_pipeline.specs.declared.request.Request.{Request}
+use Rattle.span_script.specs.declared.settings.Settings.{Settings}
+use Rattle.span_script.specs.Setups.{Setup, setup_by}
+use Rattle.span_script.specs.declared.request.Request.{Request}
 use Rattle.trace_pipeline.specs.declared.read.LineError.{LineError}
 use Rattle.trace_pipeline.specs.declared.read.LineError.TheVariants as error
-use Rattle.span_pipeline.specs.declared.reply.Reply.{Reply}
-use Rattle.span_pipeline.specs.declared.reply.Refusal.{Refusal}
+use Rattle.span_script.specs.declared.reply.Reply.{Reply}
+use Rattle.span_script.specs.declared.reply.Refusal.{Refusal}
 use Rattle.trace_pipeline.specs.declared.signal.Signal.{Signal}
 use Rattle.trace_pipeline.specs.declared.told.Told.{Told}
 use Rattle.trace_pipeline.specs.declared.told.Told.TheVariants as told
-use Rattle.span_pipeline.specs.Tables.{History, Effect, Tables, tables, records_of}
-use Rattle.span_pipeline.specs.Effects.{effect_of, open_spans}
+use Rattle.span_script.specs.Tables.{History, Effect, Tables, tables, records_of}
+use Rattle.span_script.specs.Effects.{effect_of, open_spans}
 use Rattle.trace_pipeline.specs.Lines.{is_blank}
 use Rattle.trace_pipeline.specs.Spelled.{settings_spelled, request_spelled}
 use Rattle.trace_pipeline.specs.Texts.{refusal_text}
-use Rattle.span_pipeline.specs.Fits.{State, StandsFor, RecordingFits, Recorded}
-use Rattle.span_pipeline.specs.Admission.{opening_read}
+use Rattle.span_script.specs.Fits.{State, StandsFor, RecordingFits, Recorded}
+use Rattle.span_script.specs.Admission.{opening_read}
 use Rattle.trace_pipeline.specs.Report.{Report, behind, effect_of_line, effect_of_request, answer_text, answer_count, last_text, report_on, report_from}
 use Rattle.trace_tool.specs.declared.answers.Stage.{Stage}
 use Rattle.trace_tool.specs.declared.answers.Stage.TheVariants as stage

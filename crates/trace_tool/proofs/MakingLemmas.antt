@@ -3,13 +3,13 @@ use Rattle.std.proofs.Common.{◌≡◌, ℕ, zero, suc, ◌+◌, ◌≤◌, ◌
 use Rattle.std.specs.List.{sum_by, flat_map, range_with_len}
 use Rattle.std.proofs.lemmas.List.Sums.{sum_by-append, fold-append}
 use Rattle.otel_base.specs.declared.record.Record.{Record}
-use Rattle.span_pipeline.specs.declared.reply.Reply.{Reply}
-use Rattle.span_pipeline.specs.declared.request.Request.{Request}
-use Rattle.span_pipeline.specs.Effects.{Resolved, effect_of, open_spans}
-use Rattle.span_pipeline.specs.Fits.{State, StandsFor, Recorded}
-use Rattle.span_pipeline.specs.Outcomes.{records, records_from}
-use Rattle.span_pipeline.specs.Setups.{Setup, HasOwnIds, id_at}
-use Rattle.span_pipeline.specs.Tables.{History, Effect, Tables, no_tables, tables, after, records_of}
+use Rattle.span_script.specs.declared.reply.Reply.{Reply}
+use Rattle.span_script.specs.declared.request.Request.{Request}
+use Rattle.span_script.specs.Effects.{Resolved, effect_of, open_spans}
+use Rattle.span_script.specs.Fits.{State, StandsFor, Recorded}
+use Rattle.span_script.specs.Outcomes.{records, records_from}
+use Rattle.span_script.specs.Setups.{Setup, HasOwnIds, id_at}
+use Rattle.span_script.specs.Tables.{History, Effect, Tables, no_tables, tables, after, records_of}
 use Rattle.trace_pipeline.specs.Generated.{made_settings, made_setup, made_requests, made_script, round, rounds}
 use Rattle.trace_pipeline.specs.Replay.{going_on, replayed, busy_of, events_of, summary_of, summary_text}
 use Rattle.trace_pipeline.specs.Report.{IsValid}
@@ -18,6 +18,7 @@ use Rattle.trace_tool.specs.Answers.{without_taken}
 use Rattle.trace_tool.specs.Making.{SumsUp, IsMadeLine, line_if, with_records, of_requests, totals_of, Counts, Serves}
 use Rattle.trace_tool.specs.declared.make.Totals.{Totals}
 use Rattle.trace_tool.proofs.AnswersLemmas.{stands_beside}
+use Rattle.span_script.proofs.Running.{records_push}
 
 -- ---- totals
 
@@ -54,10 +55,6 @@ with_request n m rs ss t next is =
 
 -- ---- histories
 
-recorded_more : (t : Tables) (h : History) (e : Effect) → records_from t (h ++ e ∷ []) ≡ records_from t h ++ records_of (fold after t h) e
-recorded_more t [] e = append-nil (records_of t e)
-recorded_more t (x ∷ h) e = ap (λ (rs : List Record). records_of t x ++ rs) (recorded_more (after t x) h e) ∙ sym (append_assoc (records_of t x) (records_from (after t x) h) (records_of (fold after (after t x) h) e))
-
 pub served : (h : History) (old mid new : State) (before last : Totals) (request : Request) (reply : Reply) → Counts h old before
     → Recorded (effect_of old.setup (tables old.setup h) request) h old mid reply
     → last ≡ with_records (record before { requests = before.requests + 1 }) mid.recording.finished → new.recording.finished ≡ [] → without_taken new ≡ without_taken mid
@@ -76,7 +73,7 @@ served h old mid new before last request reply c a last_is taken state =
         taken = taken;
         totals_are = last_is ∙ ap (λ (f : List Record). with_records (record before { requests = before.requests + 1 }) f) finished
             ∙ with_request (length h) (length (h ++ a.effect ∷ [])) (records made_setup h) (records_of t a.effect) before (length-append h (a.effect ∷ [])) c.totals_are
-            ∙ ap (with_records (of_requests (length (h ++ a.effect ∷ [])))) (sym (recorded_more (no_tables made_setup) h a.effect));
+            ∙ ap (with_records (of_requests (length (h ++ a.effect ∷ [])))) (sym (records_push (no_tables made_setup) h a.effect));
       };
       replays = λ more. ap (λ (r : Resolved). going_on r (λ e. replayed made_setup (h ++ e ∷ []) more)) is;
     }

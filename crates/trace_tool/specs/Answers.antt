@@ -5,9 +5,9 @@ use Rattle.trace_pipeline.specs.declared.read.LineError.TheVariants as error
 use Rattle.trace_pipeline.specs.declared.signal.Signal.{Signal}
 use Rattle.trace_pipeline.specs.declared.told.Told.{Told}
 use Rattle.trace_pipeline.specs.declared.told.Told.TheVariants as told
-use Rattle.span_pipeline.specs.declared.reply.Reply.{Reply}
-use Rattle.span_pipeline.specs.Tables.{History, tables}
-use Rattle.span_pipeline.specs.Fits.{State, StandsFor}
+use Rattle.span_script.specs.declared.reply.Reply.{Reply}
+use Rattle.span_script.specs.Tables.{History, tables}
+use Rattle.span_script.specs.Fits.{State, StandsFor}
 use Rattle.trace_pipeline.specs.Report.{behind, answer_text, answer_count, report_on, report_from}
 use Rattle.trace_tool.specs.Streams.{IsFront}
 use Rattle.trace_tool.specs.Breaks.{are_blank, AnswersAll}

@@ -3,10 +3,10 @@ use Rattle.std.specs.Prelude.{◌≡◌, ℕ, ◌+◌, List, [], ◌++◌, lengt
 use Rattle.std.proofs.Common.{◌⊎◌}
 use Rattle.std.specs.List.{sum_by}
 use Rattle.otel_base.specs.declared.record.Record.{Record}
-use Rattle.span_pipeline.specs.declared.request.Request.{Request}
-use Rattle.span_pipeline.specs.Tables.{History, tables}
-use Rattle.span_pipeline.specs.Fits.{State, StandsFor}
-use Rattle.span_pipeline.specs.Outcomes.{records}
+use Rattle.span_script.specs.declared.request.Request.{Request}
+use Rattle.span_script.specs.Tables.{History, tables}
+use Rattle.span_script.specs.Fits.{State, StandsFor}
+use Rattle.span_script.specs.Outcomes.{records}
 use Rattle.trace_pipeline.specs.Generated.{made_setup, made_requests, made_script}
 use Rattle.trace_pipeline.specs.Replay.{replayed, busy_of, events_of, summary_of, summary_text}
 use Rattle.trace_pipeline.specs.Report.{IsValid}

@@ -2,13 +2,14 @@
 ghost use Rattle.std.specs.Prelude.{◌≡◌, ◌≢◌, ℕ, List, [], ◌∷◌, ◌++◌, ◌+◌, not, false, true, IfOk, IfErr, OnOk, OnErr};
 ghost use Rattle.trace_pipeline.specs.Lines.{lines_of, is_blank};
 ghost use Rattle.trace_pipeline.specs.Report.{report_from};
-ghost use Rattle.span_pipeline.specs.Fits.{is_room};
+ghost use Rattle.span_script.specs.Fits.{is_room};
 ghost use Rattle.trace_tool.specs.Answers.{IsSpelled, Opens, Runs, AnswersAt, Goes, AnswersTo, Cuts, is_refused};
 
 use crate::lines::{first_line, is_blank};
 use crate::written::Written;
 use otel_base::memory::Memory;
-use span_pipeline::pipeline::{OpenError, Pipeline};
+use span_pipeline::pipeline::Pipeline;
+use span_script::open_error::OpenError;
 use std::alloc::Global;
 use std::mem;
 use trace_base::discard::Discard;

@@ -1,6 +1,6 @@
 //! Making a script and running it: what it came to is written as one line.
 ghost use Rattle.std.specs.Prelude.{◌≡◌, ◌∷◌, ◌≤◌, ◌<◌, ◌+◌, [], length, IfOk, OnOk};
-ghost use Rattle.span_pipeline.specs.Tables.{History};
+ghost use Rattle.span_script.specs.Tables.{History};
 ghost use Rattle.trace_pipeline.specs.Generated.{made_requests};
 ghost use Rattle.trace_pipeline.specs.Replay.{busy_in, busy_of};
 ghost use Rattle.trace_tool.specs.Answers.{without_taken};
@@ -14,7 +14,7 @@ use otel_base::memory::Memory;
 use otel_base::record::Record;
 use otel_base::value::{KeyValue, OtelValue};
 use span_pipeline::pipeline::Pipeline;
-use span_pipeline::request::Request;
+use span_script::request::Request;
 use std::alloc::Global;
 use trace_base::discard::Discard;
 use trace_pipeline::generated::laws::valid;

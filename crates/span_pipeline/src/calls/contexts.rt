@@ -5,13 +5,11 @@ ghost use Rattle.otel_base.specs.declared.stack.TheConstants.{MOST as MOST_CONTE
 ghost use Rattle.otel_base.specs.declared.enter_error.EnterError.TheVariants.{Full};
 ghost use Rattle.trace_base.specs.Gate.{Worlds};
 ghost use Rattle.span_handles.specs.Worlds.{Has};
-ghost use Rattle.span_pipeline.specs.declared.reply.Refusal.TheVariants.{Memory as NoMemory};
-ghost use Rattle.span_pipeline.specs.declared.request.Call.{Call};
+ghost use Rattle.span_script.specs.declared.reply.Refusal.TheVariants.{Memory as NoMemory};
+ghost use Rattle.span_script.specs.declared.request.Call.{Call};
 
-use crate::contexts::{Attach, add, context_at};
+use crate::names::{add, context_at, keep, slot_at, take};
 use crate::pipeline::{MOST, Pipeline};
-use crate::reply::{Refusal, Reply, What};
-use crate::slots::{keep, slot_at, take};
 use otel_base::context::{Context, SpanContext};
 use otel_base::enter_error::EnterError;
 use otel_base::record::Moment;
@@ -19,6 +17,8 @@ use otel_base::stack::Attached;
 use otel_layer::part::OtelSubscriber;
 use otel_layer::recording::leaves;
 use otel_layer::span_ext::OpenTelemetrySpanExt;
+use span_script::contexts::Attach;
+use span_script::reply::{Refusal, Reply, What};
 use span_stack::{Stack, laws};
 use trace_base::lane::Lane;
 
@@ -50,9 +50,9 @@ fn detach_from(lane: &mut Lane, attached: Attached)
 }
 
 impl Pipeline {
-    ghost use Rattle.span_pipeline.specs.Tables.{Tables};
-    ghost use Rattle.span_pipeline.specs.Effects.{effect_of_call};
-    ghost use Rattle.span_pipeline.specs.Fits.{StandsFor, Served, IsRefusal};
+    ghost use Rattle.span_script.specs.Tables.{Tables};
+    ghost use Rattle.span_script.specs.Effects.{effect_of_call};
+    ghost use Rattle.span_script.specs.Fits.{StandsFor, Served, IsRefusal};
 
     pub(crate) fn remote(
         &mut self,

@@ -1,19 +1,19 @@
 //! Handles of the span that is current on a lane.
 ghost use Rattle.std.specs.Prelude.{◌≡◌, ◌<◌, length, IfOk, IfErr, OnErr};
-ghost use Rattle.span_pipeline.specs.declared.request.Call.TheVariants as request;
+ghost use Rattle.span_script.specs.declared.request.Call.TheVariants as request;
 
+use crate::names::{keep, slot_at, take};
 use crate::pipeline::{MOST, Pipeline};
-use crate::reply::{Refusal, Reply, What};
-use crate::slots::{keep, slot_at, take};
 use otel_base::record::Moment;
 use span_handles::laws::calls;
 use span_handles::span::Span;
+use span_script::reply::{Refusal, Reply, What};
 use span_stack::{Stack, laws};
 
 impl Pipeline {
-    ghost use Rattle.span_pipeline.specs.Tables.{Tables};
-    ghost use Rattle.span_pipeline.specs.Effects.{effect_of_call};
-    ghost use Rattle.span_pipeline.specs.Fits.{StandsFor, Served, IsRefusal};
+    ghost use Rattle.span_script.specs.Tables.{Tables};
+    ghost use Rattle.span_script.specs.Effects.{effect_of_call};
+    ghost use Rattle.span_script.specs.Fits.{StandsFor, Served, IsRefusal};
 
     pub(crate) fn current(&mut self, at: Moment, lane: u64) -> Result<Reply, Refusal>
         requires { lane < length self.old.lanes }

@@ -1,19 +1,20 @@
 //! Entering the span of a handle, and exiting it again.
 ghost use Rattle.std.specs.Prelude.{◌≡◌, ◌<◌, length, IfOk, IfErr, OnErr, Err};
-ghost use Rattle.span_pipeline.specs.declared.reply.Refusal.TheVariants.{Memory as NoMemory};
-ghost use Rattle.span_pipeline.specs.declared.request.Call.{Call};
+ghost use Rattle.span_script.specs.declared.reply.Refusal.TheVariants.{Memory as NoMemory};
+ghost use Rattle.span_script.specs.declared.request.Call.{Call};
 
+use crate::names::{skip, slot_at};
 use crate::pipeline::{MOST, Pipeline};
-use crate::reply::{Refusal, Reply, What};
-use crate::slots::{Guard, skip, slot_at};
 use otel_base::record::Moment;
 use span_handles::laws::{calls, same};
+use span_script::reply::{Refusal, Reply, What};
+use span_script::slots::Guard;
 use span_stack::{Stack, laws};
 
 impl Pipeline {
-    ghost use Rattle.span_pipeline.specs.Tables.{Tables};
-    ghost use Rattle.span_pipeline.specs.Effects.{effect_of_call, opens};
-    ghost use Rattle.span_pipeline.specs.Fits.{StandsFor, Served, IsRefusal};
+    ghost use Rattle.span_script.specs.Tables.{Tables};
+    ghost use Rattle.span_script.specs.Effects.{effect_of_call, opens};
+    ghost use Rattle.span_script.specs.Fits.{StandsFor, Served, IsRefusal};
 
     /// Enters the span of a handle, which the guard owns or not.
     pub(crate) fn enter(

@@ -2,20 +2,20 @@
 ghost use Rattle.std.specs.Prelude.{◌≡◌, ◌<◌, length, true, is_some, None, IfSome, IfOk, OnOk, IfErr, OnErr};
 ghost use Rattle.trace_base.specs.Conditions.{IsLivePlace};
 ghost use Rattle.span_handles.specs.Worlds.{Has, Replaced};
-ghost use Rattle.span_pipeline.specs.declared.request.Call.{Call};
-ghost use Rattle.span_pipeline.specs.Setups.{event_site};
-ghost use Rattle.span_pipeline.specs.Slots.{TellsOnly};
+ghost use Rattle.span_script.specs.declared.request.Call.{Call};
+ghost use Rattle.span_script.specs.Setups.{event_site};
+ghost use Rattle.span_script.specs.Slots.{TellsOnly};
 
 use crate::fields::all_values;
+use crate::names::place_above;
 use crate::pipeline::Pipeline;
-use crate::reply::{Refusal, Reply, What};
-use crate::request::Place;
-use crate::slots::place_above;
 use otel_base::list::Items;
 use otel_base::memory::Memory;
 use otel_base::record::Moment;
 use otel_base::text::Text;
 use span_handles::laws::{calls, same};
+use span_script::reply::{Refusal, Reply, What};
+use span_script::request::Place;
 use span_stack::{Stack, admits, laws};
 use trace_base::callsite::{Kind, SiteId};
 use trace_base::dispatcher::Dispatch;
@@ -65,9 +65,9 @@ fn tell_if<S: Subscriber>(
 }
 
 impl Pipeline {
-    ghost use Rattle.span_pipeline.specs.Tables.{Tables};
-    ghost use Rattle.span_pipeline.specs.Effects.{effect_of_call};
-    ghost use Rattle.span_pipeline.specs.Fits.{StandsFor, Served, IsRefusal};
+    ghost use Rattle.span_script.specs.Tables.{Tables};
+    ghost use Rattle.span_script.specs.Effects.{effect_of_call};
+    ghost use Rattle.span_script.specs.Fits.{StandsFor, Served, IsRefusal};
 
     pub(crate) fn event(
         &mut self,

@@ -1,13 +1,11 @@
 //! What is asked of the span extension: parents, attributes, statuses and events.
 ghost use Rattle.std.specs.Prelude.{◌≡◌, IfOk, IfErr, OnErr, Err};
-ghost use Rattle.span_pipeline.specs.declared.reply.Refusal.TheVariants.{Memory as NoMemory};
-ghost use Rattle.span_pipeline.specs.declared.request.Call.{Call};
-ghost use Rattle.span_pipeline.specs.Effects.{happens_at};
+ghost use Rattle.span_script.specs.declared.reply.Refusal.TheVariants.{Memory as NoMemory};
+ghost use Rattle.span_script.specs.declared.request.Call.{Call};
+ghost use Rattle.span_script.specs.Effects.{happens_at};
 
-use crate::contexts::context_at;
+use crate::names::{context_at, slot_at};
 use crate::pipeline::Pipeline;
-use crate::reply::{Refusal, Reply, What};
-use crate::slots::slot_at;
 use otel_base::list::Items;
 use otel_base::record::Moment;
 use otel_base::status::Status;
@@ -15,6 +13,7 @@ use otel_base::text::Text;
 use otel_base::value::{KeyValue, OtelValue};
 use otel_layer::recording;
 use otel_layer::span_ext::OpenTelemetrySpanExt;
+use span_script::reply::{Refusal, Reply, What};
 use span_stack::{Stack, laws};
 
 // When an event happens: at its time, else at the request's moment.
@@ -28,9 +27,9 @@ fn happens_at(at: Moment, time: Option<Moment>) -> Moment
 }
 
 impl Pipeline {
-    ghost use Rattle.span_pipeline.specs.Tables.{Tables};
-    ghost use Rattle.span_pipeline.specs.Effects.{effect_of_call};
-    ghost use Rattle.span_pipeline.specs.Fits.{StandsFor, Served, IsRefusal};
+    ghost use Rattle.span_script.specs.Tables.{Tables};
+    ghost use Rattle.span_script.specs.Effects.{effect_of_call};
+    ghost use Rattle.span_script.specs.Fits.{StandsFor, Served, IsRefusal};
 
     pub(crate) fn set_parent(
         &mut self,

@@ -1,23 +1,23 @@
 //! Recording fields on spans, and asking for fields.
 ghost use Rattle.std.specs.Prelude.{◌≡◌, IfOk, IfErr, OnErr, Err};
-ghost use Rattle.span_pipeline.specs.declared.reply.Refusal.TheVariants.{Memory as NoMemory};
-ghost use Rattle.span_pipeline.specs.declared.request.Call.{Call};
+ghost use Rattle.span_script.specs.declared.reply.Refusal.TheVariants.{Memory as NoMemory};
+ghost use Rattle.span_script.specs.declared.request.Call.{Call};
 
 use crate::fields::values_by;
+use crate::names::slot_at;
 use crate::pipeline::Pipeline;
-use crate::reply::{Refusal, Reply, What};
-use crate::slots::slot_at;
 use otel_base::list::Items;
 use otel_base::record::Moment;
 use otel_base::text::Text;
 use span_handles::laws::{calls, same};
+use span_script::reply::{Refusal, Reply, What};
 use span_stack::{Stack, laws};
 use trace_base::field::Value;
 
 impl Pipeline {
-    ghost use Rattle.span_pipeline.specs.Tables.{Tables};
-    ghost use Rattle.span_pipeline.specs.Effects.{effect_of_call};
-    ghost use Rattle.span_pipeline.specs.Fits.{StandsFor, Served, IsRefusal};
+    ghost use Rattle.span_script.specs.Tables.{Tables};
+    ghost use Rattle.span_script.specs.Effects.{effect_of_call};
+    ghost use Rattle.span_script.specs.Fits.{StandsFor, Served, IsRefusal};
 
     pub(crate) fn record(
         &mut self,

@@ -1,19 +1,20 @@
 //! Asking the gate, and putting another filter in force.
 ghost use Rattle.std.specs.Prelude.{◌≡◌, ◌<◌, length, IfOk, IfErr, OnErr, Err};
-ghost use Rattle.span_pipeline.specs.declared.reply.Refusal.TheVariants.{Memory as NoMemory};
-ghost use Rattle.span_pipeline.specs.declared.request.Call.{Call};
+ghost use Rattle.span_script.specs.declared.reply.Refusal.TheVariants.{Memory as NoMemory};
+ghost use Rattle.span_script.specs.declared.request.Call.{Call};
 
 use crate::filters::read_filter;
-use crate::pipeline::{OpenError, Pipeline};
-use crate::reply::{Refusal, Reply, What};
+use crate::pipeline::Pipeline;
 use otel_base::record::Moment;
 use otel_base::text::Text;
+use span_script::open_error::OpenError;
+use span_script::reply::{Refusal, Reply, What};
 use span_stack::{admits, put_in_force};
 
 impl Pipeline {
-    ghost use Rattle.span_pipeline.specs.Tables.{Tables};
-    ghost use Rattle.span_pipeline.specs.Effects.{effect_of_call};
-    ghost use Rattle.span_pipeline.specs.Fits.{StandsFor, Served, IsRefusal};
+    ghost use Rattle.span_script.specs.Tables.{Tables};
+    ghost use Rattle.span_script.specs.Effects.{effect_of_call};
+    ghost use Rattle.span_script.specs.Fits.{StandsFor, Served, IsRefusal};
 
     pub(crate) fn enabled(&mut self, at: Moment, lane: u64, place: u64) -> Result<Reply, Refusal>
         requires { lane < length self.old.lanes }

@@ -1,23 +1,22 @@
 //! Links: to a span that is followed, and to what a context shows.
 ghost use Rattle.std.specs.Prelude.{◌≡◌, IfOk, IfErr, OnErr};
-ghost use Rattle.span_pipeline.specs.declared.request.Call.{Call};
+ghost use Rattle.span_script.specs.declared.request.Call.{Call};
 
-use crate::contexts::context_at;
+use crate::names::{context_at, slot_at};
 use crate::pipeline::Pipeline;
-use crate::reply::{Refusal, Reply, What};
-use crate::slots::slot_at;
 use otel_base::list::Items;
 use otel_base::record::Moment;
 use otel_base::value::KeyValue;
 use otel_layer::recording;
 use otel_layer::span_ext::OpenTelemetrySpanExt;
 use span_handles::laws::{calls, same};
+use span_script::reply::{Refusal, Reply, What};
 use span_stack::{Stack, laws};
 
 impl Pipeline {
-    ghost use Rattle.span_pipeline.specs.Tables.{Tables};
-    ghost use Rattle.span_pipeline.specs.Effects.{effect_of_call};
-    ghost use Rattle.span_pipeline.specs.Fits.{StandsFor, Served, IsRefusal};
+    ghost use Rattle.span_script.specs.Tables.{Tables};
+    ghost use Rattle.span_script.specs.Effects.{effect_of_call};
+    ghost use Rattle.span_script.specs.Fits.{StandsFor, Served, IsRefusal};
 
     pub(crate) fn follows(
         &mut self,

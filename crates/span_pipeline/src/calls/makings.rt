@@ -2,21 +2,22 @@
 ghost use Rattle.std.specs.Prelude.{◌≡◌, ◌<◌, length, true, is_some, None, IfSome, IfOk, IfErr, OnErr};
 ghost use Rattle.span_handles.specs.Worlds.{Replaced};
 ghost use Rattle.span_handles.specs.Handles.{MayMake};
-ghost use Rattle.span_pipeline.specs.declared.request.Call.{Call};
-ghost use Rattle.span_pipeline.specs.Setups.{span_site};
-ghost use Rattle.span_pipeline.specs.Slots.{parent_of, IsAbove, MakesOnly};
+ghost use Rattle.span_script.specs.declared.request.Call.{Call};
+ghost use Rattle.span_script.specs.Setups.{span_site};
+ghost use Rattle.span_script.specs.Slots.{parent_of, IsAbove, MakesOnly};
 
 use crate::fields::all_values;
+use crate::names::{keep, place_above};
 use crate::pipeline::{MOST, Pipeline};
-use crate::reply::{Refusal, Reply, What};
-use crate::request::Place;
-use crate::slots::{Above, keep, place_above};
 use otel_base::list::Items;
 use otel_base::memory::Memory;
 use otel_base::record::Moment;
 use otel_base::text::Text;
 use span_handles::laws::{calls, same};
 use span_handles::span::Span;
+use span_script::reply::{Refusal, Reply, What};
+use span_script::request::Place;
+use span_script::slots::Above;
 use span_stack::{Stack, admits, laws};
 use trace_base::callsite::{Kind, SiteId};
 use trace_base::dispatcher::Dispatch;
@@ -70,9 +71,9 @@ fn make_if<S: Subscriber>(
 }
 
 impl Pipeline {
-    ghost use Rattle.span_pipeline.specs.Tables.{Tables};
-    ghost use Rattle.span_pipeline.specs.Effects.{effect_of_call};
-    ghost use Rattle.span_pipeline.specs.Fits.{StandsFor, Served, IsRefusal};
+    ghost use Rattle.span_script.specs.Tables.{Tables};
+    ghost use Rattle.span_script.specs.Effects.{effect_of_call};
+    ghost use Rattle.span_script.specs.Fits.{StandsFor, Served, IsRefusal};
 
     pub(crate) fn make(
         &mut self,

@@ -1,19 +1,19 @@
 //! Handles of spans, and dropping these.
 ghost use Rattle.std.specs.Prelude.{◌≡◌, IfOk, IfErr, OnErr, Err};
-ghost use Rattle.span_pipeline.specs.declared.reply.Refusal.TheVariants.{Memory as NoMemory};
-ghost use Rattle.span_pipeline.specs.declared.request.Call.{Call};
+ghost use Rattle.span_script.specs.declared.reply.Refusal.TheVariants.{Memory as NoMemory};
+ghost use Rattle.span_script.specs.declared.request.Call.{Call};
 
+use crate::names::{keep, slot_at, take};
 use crate::pipeline::{MOST, Pipeline};
-use crate::reply::{Refusal, Reply, What};
-use crate::slots::{keep, slot_at, take};
 use otel_base::record::Moment;
 use span_handles::laws::{calls, chains};
+use span_script::reply::{Refusal, Reply, What};
 use span_stack::{Stack, laws};
 
 impl Pipeline {
-    ghost use Rattle.span_pipeline.specs.Tables.{Tables};
-    ghost use Rattle.span_pipeline.specs.Effects.{effect_of_call};
-    ghost use Rattle.span_pipeline.specs.Fits.{StandsFor, Served, IsRefusal};
+    ghost use Rattle.span_script.specs.Tables.{Tables};
+    ghost use Rattle.span_script.specs.Effects.{effect_of_call};
+    ghost use Rattle.span_script.specs.Fits.{StandsFor, Served, IsRefusal};
 
     pub(crate) fn clone_handle(
         &mut self,

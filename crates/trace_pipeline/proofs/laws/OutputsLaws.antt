@@ -2,14 +2,14 @@
 use Rattle.std.proofs.Common.{◌≡◌, ℕ, List, [], ◌∷◌, ◌++◌, refl, sym, ap, ◌∙◌, append_assoc, ◌+◌}
 use Rattle.std.specs.Prelude.{Bool, true, false, if◌then◌else◌, Result, Ok, Err}
 use Rattle.otel_base.specs.declared.record.Record.{Record}
-use Rattle.span_pipeline.specs.declared.settings.Settings.{Settings}
+use Rattle.span_script.specs.declared.settings.Settings.{Settings}
 use Rattle.trace_pipeline.specs.declared.signal.Signal.{Signal}
 use Rattle.trace_pipeline.specs.declared.signal.Signal.TheVariants as signal
 use Rattle.trace_pipeline.specs.declared.told.Told.{Told}
-use Rattle.span_pipeline.specs.Setups.{Setup, setup_by}
-use Rattle.span_pipeline.specs.Tables.{History, Effect, tables, records_of}
+use Rattle.span_script.specs.Setups.{Setup, setup_by}
+use Rattle.span_script.specs.Tables.{History, Effect, tables, records_of}
 use Rattle.trace_pipeline.specs.Lines.{is_blank}
-use Rattle.span_pipeline.specs.Admission.{OpeningRead, opening_read}
+use Rattle.span_script.specs.Admission.{OpeningRead, opening_read}
 use Rattle.trace_pipeline.specs.Spelled.{settings_spelled}
 use Rattle.trace_pipeline.specs.Report.{Report, behind, answer_text, answer_count, effect_of_line, following, opened, opening, report_on, report_from, accepts}
 use Rattle.trace_pipeline.specs.Laws.{GoesOn}

@@ -1,7 +1,7 @@
 //! What holds of each script that is made. Each law is a function that does nothing.
 ghost use Rattle.std.specs.Prelude.{◌≡◌, ◌≤◌, ℕ, [], true, map, Ok, Some};
-ghost use Rattle.span_pipeline.specs.Admission.{opening_read};
-ghost use Rattle.span_pipeline.specs.Tables.{History};
+ghost use Rattle.span_script.specs.Admission.{opening_read};
+ghost use Rattle.span_script.specs.Tables.{History};
 ghost use Rattle.trace_pipeline.specs.Generated.{made_settings, made_setup, made_requests, request_line, settings_line, made_lines, made_script};
 ghost use Rattle.trace_pipeline.specs.Lines.{lines_of};
 ghost use Rattle.trace_pipeline.specs.Replay.{replayed};

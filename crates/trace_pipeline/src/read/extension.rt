@@ -7,7 +7,7 @@ use crate::read::LineError;
 use crate::read::attributes::{given_attributes, otel_value_of, status_of};
 use crate::read::object::{Object, within};
 use otel_base::record::Moment;
-use span_pipeline::request::{Call, LAST_MOMENT};
+use span_script::request::{Call, LAST_MOMENT};
 use std::alloc::Global;
 
 #[tactic(auto, unfolding(crate::specs::ExtensionForm::follows_form))]

@@ -2,21 +2,21 @@
 ghost use Rattle.std.specs.Prelude.{◌≡◌, ℕ, [], ◌∷◌, false, Ok, Err, Some, None, codes};
 ghost use Rattle.otel_state.specs.Settings.{default_settings};
 ghost use Rattle.trace_pipeline.specs.Forms.{object_of};
-ghost use Rattle.trace_pipeline.specs.RequestData.{IsInRange, first_lane, request_data};
+ghost use Rattle.trace_pipeline.specs.RequestData.{IsInRange, called, request_data};
 ghost use Rattle.trace_pipeline.specs.RequestForm.{request_form};
 ghost use Rattle.trace_pipeline.specs.Spelled.{settings_spelled, request_spelled};
 ghost use Rattle.trace_pipeline.specs.declared.told.Told.{Told};
-ghost use Rattle.span_pipeline.specs.declared.request.Call.{Call as AnyCall};
+ghost use Rattle.span_script.specs.declared.request.Call.{Call as AnyCall};
 
 use crate::told::Told;
-use span_pipeline::request::Call;
+use span_script::request::Call;
 use trace_base::callsite::Kind;
 use trace_base::level::Level;
 
 /// A line that enters a span, and the same line with a member too many.
 pub fn enter_line()
     ensures read { request_spelled (codes "{\"at\":5,\"lane\":0,\"do\":\"enter\",\"handle\":3}")
-        ≡ Ok (first_lane 5 (Call.Enter 3)) }
+        ≡ Ok (called 5 0 (Call.Enter 3)) }
     ensures refused { request_spelled (codes "{\"at\":5,\"lane\":0,\"do\":\"enter\",\"handle\":3,\"name\":\"a\"}")
         ≡ Err Told.BadLine }
 {}
@@ -41,8 +41,8 @@ pub fn settings_line()
     }) }
 {}
 
-/// Each request of the first lane, with ids in their ranges, has a value that is read as it.
+/// Each request, on whatever lane, with ids, numbers and times in their ranges, has a value that is read as it.
 pub fn every_request()
-    ensures { (at : ℕ) (call : AnyCall) → IsInRange call
-        → object_of request_form (request_data (first_lane at call)) ≡ Some (first_lane at call) }
+    ensures { (at lane : ℕ) (call : AnyCall) → IsInRange call
+        → object_of request_form (request_data (called at lane call)) ≡ Some (called at lane call) }
 {}

@@ -16,7 +16,7 @@ use crate::read::value::Value;
 use otel_base::context::SpanContext;
 use otel_base::list::Items;
 use otel_base::text::Text;
-use span_pipeline::request::{Call, Place, Request};
+use span_script::request::{Call, Place, Request};
 use std::alloc::Global;
 use trace_base::field::Value as FieldValue;
 

@@ -15,7 +15,7 @@ use crate::read::value::Value;
 use otel_base::list::Items;
 use otel_base::text::Text;
 use otel_state::settings::LayerSettings;
-use span_pipeline::settings::Settings;
+use span_script::settings::Settings;
 use std::alloc::Global;
 use std::collections::BTreeSet;
 use trace_base::callsite::Callsite;

@@ -6,7 +6,7 @@ ghost use Rattle.trace_pipeline.specs.Writes.{Writes};
 
 use super::pieces::{add, add_number, add_text};
 use crate::told::Told;
-use span_pipeline::reply::{Refusal, What};
+use span_script::reply::{Refusal, What};
 use std::alloc::AllocError;
 
 /// Adds why a line is refused.

@@ -8,7 +8,7 @@ use super::hex::{add_id, add_long_id};
 use super::pieces::{add, add_flag, add_number, add_text};
 use otel_base::context::SpanContext;
 use otel_state::op::SetParentError;
-use span_pipeline::reply::Reply;
+use span_script::reply::Reply;
 use std::alloc::AllocError;
 
 fn add_made(out: &mut Vec<u8>, line: u64, enabled: bool, handle: u64) -> Result<(), AllocError>

@@ -1,9 +1,9 @@
 use Rattle.std.proofs.Common.{◌≡◌, ℕ, List, [], Some, refl, sym, ap, subst}
 use Rattle.std.proofs.lemmas.List.{append-nil}
 use Rattle.std.proofs.lemmas.List.Sums.{fold_push}
-use Rattle.span_pipeline.specs.Effects.{reloads}
-use Rattle.span_pipeline.specs.Setups.{Setup}
-use Rattle.span_pipeline.specs.Tables.{History, Tables, no_tables, after, tables}
+use Rattle.span_script.specs.Effects.{reloads}
+use Rattle.span_script.specs.Setups.{Setup}
+use Rattle.span_script.specs.Tables.{History, Tables, no_tables, after, tables}
 use Rattle.span_laws.specs.Laws.{IsHistory, none, more}
 use Rattle.span_laws.proofs.filters.reloads.Goals as goal
 

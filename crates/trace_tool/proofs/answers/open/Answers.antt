@@ -1,7 +1,7 @@
 use Rattle.std.proofs.Common.{◌∙◌, map, subst}
-use Rattle.span_pipeline.specs.Admission.{opening_read, IsUnread}
+use Rattle.span_script.specs.Admission.{opening_read, IsUnread}
 use Rattle.trace_tool.proofs.AnswersLemmas.{spelled_as, spelled_keeps, opened, unfiltered}
-use Rattle.span_pipeline.specs.Setups.{HasOwnIds}
+use Rattle.span_script.specs.Setups.{HasOwnIds}
 use Rattle.trace_tool.proofs.answers.open.Goals as goal
 
 pub open-requires : goal.open-requires

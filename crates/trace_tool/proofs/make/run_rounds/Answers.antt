@@ -1,9 +1,9 @@
 use Rattle.std.proofs.Common.{◌≡◌, ◌+◌, ℕ, [], Ok, refl, ap, subst, ◌∙◌}
-use Rattle.span_pipeline.specs.declared.settings.Settings.{Settings}
-use Rattle.span_pipeline.specs.Admission.{opening_read}
-use Rattle.span_pipeline.specs.Fits.{StandsFor}
-use Rattle.span_pipeline.specs.Setups.{setup_by}
-use Rattle.span_pipeline.specs.Tables.{tables}
+use Rattle.span_script.specs.declared.settings.Settings.{Settings}
+use Rattle.span_script.specs.Admission.{opening_read}
+use Rattle.span_script.specs.Fits.{StandsFor}
+use Rattle.span_script.specs.Setups.{setup_by}
+use Rattle.span_script.specs.Tables.{tables}
 use Rattle.trace_tool.proofs.MakingLemmas.{opened, summed}
 use Rattle.trace_tool.proofs.make.run_rounds.Goals as goal
 

@@ -1,7 +1,7 @@
 use Rattle.std.proofs.Common.{ℕ, sym, ap, subst, ◌∙◌}
-use Rattle.span_pipeline.specs.Fits.{StandsFor}
-use Rattle.span_pipeline.specs.Setups.{Setup}
-use Rattle.span_pipeline.specs.Tables.{tables}
+use Rattle.span_script.specs.Fits.{StandsFor}
+use Rattle.span_script.specs.Setups.{Setup}
+use Rattle.span_script.specs.Tables.{tables}
 use Rattle.trace_tool.specs.Making.{with_records}
 use Rattle.trace_tool.proofs.MakingLemmas.{served}
 use Rattle.trace_tool.proofs.make.serve.Goals as goal

@@ -1,7 +1,7 @@
 -- The requests so far are served, and those that are left come behind them.
 use Rattle.std.proofs.Common.{◌≡◌, ◌++◌, List}
-use Rattle.span_pipeline.specs.declared.request.Request.{Request}
-use Rattle.span_pipeline.specs.Tables.{History}
+use Rattle.span_script.specs.declared.request.Request.{Request}
+use Rattle.span_script.specs.Tables.{History}
 use Rattle.trace_tool.specs.Making.{Counts, Serves}
 use Rattle.trace_tool.proofs.make.serve_all.Given as goal
 

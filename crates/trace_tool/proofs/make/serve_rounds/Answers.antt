@@ -1,5 +1,5 @@
 use Rattle.std.proofs.Common.{◌≡◌, ◌+◌, ℕ, List, [], ◌++◌, sym, ap, subst, ◌∙◌, arith}
-use Rattle.span_pipeline.specs.declared.request.Request.{Request}
+use Rattle.span_script.specs.declared.request.Request.{Request}
 use Rattle.trace_pipeline.specs.Generated.{round, rounds}
 use Rattle.trace_tool.specs.Making.{Serves}
 use Rattle.trace_tool.proofs.MakingLemmas.{serves_on, rounds_more}

@@ -1,10 +1,10 @@
 -- The current span.
 use Rattle.std.proofs.Common.{rules, refl}
-use Rattle.span_pipeline.specs.declared.request.Call.TheVariants as call
-use Rattle.span_pipeline.specs.Fits.{named_in}
-use Rattle.span_pipeline.proofs.Keeping.{within_view}
-use Rattle.span_pipeline.proofs.Serving.{by_view}
-use Rattle.span_pipeline.proofs.Currents.{serves_current, keeps_current}
+use Rattle.span_script.specs.declared.request.Call.TheVariants as call
+use Rattle.span_script.specs.Fits.{named_in}
+use Rattle.span_script.proofs.Keeping.{within_view}
+use Rattle.span_script.proofs.Serving.{by_view}
+use Rattle.span_script.proofs.Currents.{serves_current, keeps_current}
 use Rattle.span_pipeline.proofs.pipeline.Pipeline.current.Goals as goal
 
 pub invariant_of-self-2 : goal.invariant_of-self-2

@@ -1,10 +1,10 @@
 -- The detach.
 use Rattle.std.proofs.Common.{rules, refl}
-use Rattle.span_pipeline.specs.declared.request.Call.TheVariants as call
-use Rattle.span_pipeline.specs.Fits.{named_in, stack_views}
-use Rattle.span_pipeline.proofs.Detaches.{still_live, serves_detached, keeps_detached, keeps_tokens, none_more, filtered_keeps}
-use Rattle.span_pipeline.proofs.Keeping.{within_view}
-use Rattle.span_pipeline.proofs.Serving.{by_view}
+use Rattle.span_script.specs.declared.request.Call.TheVariants as call
+use Rattle.span_script.specs.Fits.{named_in, stack_views}
+use Rattle.span_script.proofs.Detaches.{still_live, serves_detached, keeps_detached, keeps_tokens, none_more, filtered_keeps}
+use Rattle.span_script.proofs.Keeping.{within_view}
+use Rattle.span_script.proofs.Serving.{by_view}
 use Rattle.span_pipeline.proofs.pipeline.Pipeline.detach.Goals as goal
 
 pub detach_from-requires : goal.detach_from-requires

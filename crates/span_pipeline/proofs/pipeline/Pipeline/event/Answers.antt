@@ -1,17 +1,17 @@
 -- The event.
 use Rattle.std.proofs.Common.{rules, refl, ◌∙◌}
-use Rattle.span_pipeline.specs.declared.request.Call.TheVariants as call
-use Rattle.span_pipeline.specs.Fits.{named_in}
+use Rattle.span_script.specs.declared.request.Call.TheVariants as call
+use Rattle.span_script.specs.Fits.{named_in}
 use Rattle.span_stack.specs.Reading.{stack_interest}
-use Rattle.span_pipeline.proofs.Beside.{stack_same}
-use Rattle.span_pipeline.proofs.Filtering.{stack_shows}
-use Rattle.span_pipeline.proofs.Gating.{is_current}
-use Rattle.span_pipeline.proofs.Keeping.{within_view, on_err}
-use Rattle.span_pipeline.proofs.Naming.{found_parent}
-use Rattle.span_pipeline.proofs.Serving.{by_view, by_view_refused}
-use Rattle.span_pipeline.proofs.Declaring.{refuses_event}
-use Rattle.span_pipeline.proofs.Making.{made_alike, tell_live}
-use Rattle.span_pipeline.proofs.Telling.{serves_told, keeps_told}
+use Rattle.span_script.proofs.Beside.{stack_same}
+use Rattle.span_script.proofs.Filtering.{stack_shows}
+use Rattle.span_script.proofs.Gating.{is_current}
+use Rattle.span_script.proofs.Keeping.{within_view, on_err}
+use Rattle.span_script.proofs.Naming.{found_parent}
+use Rattle.span_script.proofs.Serving.{by_view, by_view_refused}
+use Rattle.span_script.proofs.Declaring.{refuses_event}
+use Rattle.span_script.proofs.Making.{made_alike, tell_live}
+use Rattle.span_script.proofs.Telling.{serves_told, keeps_told}
 use Rattle.span_pipeline.proofs.pipeline.Pipeline.event.Goals as goal
 
 pub tell_if-requires-clause-there : goal.tell_if-requires-clause-there

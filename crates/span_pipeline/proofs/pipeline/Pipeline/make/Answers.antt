@@ -1,16 +1,16 @@
 -- The making.
 use Rattle.std.proofs.Common.{rules, refl, ◌∙◌}
-use Rattle.span_pipeline.specs.declared.request.Call.TheVariants as call
-use Rattle.span_pipeline.specs.Fits.{named_in}
+use Rattle.span_script.specs.declared.request.Call.TheVariants as call
+use Rattle.span_script.specs.Fits.{named_in}
 use Rattle.span_stack.specs.Reading.{stack_interest}
-use Rattle.span_pipeline.proofs.Beside.{stack_same}
-use Rattle.span_pipeline.proofs.Filtering.{stack_shows}
-use Rattle.span_pipeline.proofs.Gating.{is_current}
-use Rattle.span_pipeline.proofs.Keeping.{within_view, on_err}
-use Rattle.span_pipeline.proofs.Naming.{found_place, found_nowhere}
-use Rattle.span_pipeline.proofs.Serving.{by_view, by_view_refused}
-use Rattle.span_pipeline.proofs.Declaring.{refuses_new, refuses_place}
-use Rattle.span_pipeline.proofs.Making.{make_may, all_of, made_alike, serves_new, keeps_new}
+use Rattle.span_script.proofs.Beside.{stack_same}
+use Rattle.span_script.proofs.Filtering.{stack_shows}
+use Rattle.span_script.proofs.Gating.{is_current}
+use Rattle.span_script.proofs.Keeping.{within_view, on_err}
+use Rattle.span_script.proofs.Naming.{found_place, found_nowhere}
+use Rattle.span_script.proofs.Serving.{by_view, by_view_refused}
+use Rattle.span_script.proofs.Declaring.{refuses_new, refuses_place}
+use Rattle.span_script.proofs.Making.{make_may, all_of, made_alike, serves_new, keeps_new}
 use Rattle.span_pipeline.proofs.pipeline.Pipeline.make.Goals as goal
 
 pub make_if-requires-clause-may : goal.make_if-requires-clause-may

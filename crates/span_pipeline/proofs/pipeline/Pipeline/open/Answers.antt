@@ -1,14 +1,14 @@
 -- The pipeline as it is opened.
 use Rattle.std.proofs.Common.{rules, ℕ, List, map, ap, subst, sym, refl}
-use Rattle.span_pipeline.specs.Admission.{IsTextFilter, IsCounter}
-use Rattle.span_pipeline.specs.Setups.{setup_by}
+use Rattle.span_script.specs.Admission.{IsTextFilter, IsCounter}
+use Rattle.span_script.specs.Setups.{setup_by}
 use Rattle.otel_layer.specs.Recording.{Recording}
-use Rattle.span_pipeline.proofs.Beside.{stack_same}
-use Rattle.span_pipeline.proofs.Beginning.{begins, recorded_nothing, measured_nothing, keeps_begun, begun_setup, records_none}
+use Rattle.span_script.proofs.Beside.{stack_same}
+use Rattle.span_script.proofs.Beginning.{begins, recorded_nothing, measured_nothing, keeps_begun, begun_setup, records_none}
 use Rattle.env_filter.specs.Filtering.{plain}
 use Rattle.span_stack.specs.Reading.{stack_interest}
-use Rattle.span_pipeline.proofs.Filtering.{stack_shows}
-use Rattle.span_pipeline.specs.Fits.{named_in}
+use Rattle.span_script.proofs.Filtering.{stack_shows}
+use Rattle.span_script.specs.Fits.{named_in}
 use Rattle.span_pipeline.proofs.pipeline.Pipeline.open.Goals as goal
 
 pub invariant_of-result : goal.invariant_of-result

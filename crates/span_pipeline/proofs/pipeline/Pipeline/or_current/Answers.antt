@@ -1,11 +1,11 @@
 -- A handle that is exchanged.
 use Rattle.std.proofs.Common.{rules, refl}
-use Rattle.span_pipeline.specs.declared.request.Call.TheVariants as call
-use Rattle.span_pipeline.specs.Fits.{named_in}
-use Rattle.span_pipeline.proofs.Keeping.{within_view}
-use Rattle.span_pipeline.proofs.Refusing.{refuses_unknown}
-use Rattle.span_pipeline.proofs.Serving.{by_view, by_view_refused}
-use Rattle.span_pipeline.proofs.Currents.{refuses_in_use, serves_exchanged, keeps_exchanged}
+use Rattle.span_script.specs.declared.request.Call.TheVariants as call
+use Rattle.span_script.specs.Fits.{named_in}
+use Rattle.span_script.proofs.Keeping.{within_view}
+use Rattle.span_script.proofs.Refusing.{refuses_unknown}
+use Rattle.span_script.proofs.Serving.{by_view, by_view_refused}
+use Rattle.span_script.proofs.Currents.{refuses_in_use, serves_exchanged, keeps_exchanged}
 use Rattle.span_pipeline.proofs.pipeline.Pipeline.or_current.Goals as goal
 
 pub returns-in_default-clause-refused : goal.returns-in_default-clause-refused

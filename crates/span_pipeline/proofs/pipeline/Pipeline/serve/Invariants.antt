@@ -1,8 +1,8 @@
 -- The requests that were passed are served.
 use Rattle.std.proofs.Common.{◌≡◌, []}
-use Rattle.span_pipeline.specs.Tables.{tables}
-use Rattle.span_pipeline.specs.Fits.{StandsFor}
-use Rattle.span_pipeline.proofs.Running.{Reached}
+use Rattle.span_script.specs.Tables.{tables}
+use Rattle.span_script.specs.Fits.{StandsFor}
+use Rattle.span_script.proofs.Running.{Reached}
 use Rattle.span_pipeline.proofs.pipeline.Pipeline.serve.Given as goal
 
 abbrev pub invariant-loop-request : goal.invariant-loop-request

@@ -1,0 +1,47 @@
+-- What stands beside the filter in place: the filter that counts, and the measures that wait.
+use Rattle.std.proofs.Common.{◌≡◌, ℕ, List, [], ◌++◌, Option, None, option_map, sym, ap, ◌∙◌}
+use Rattle.std.proofs.lemmas.List.{append-nil}
+use Rattle.trace_base.specs.Gate.{Worlds}
+use Rattle.span_handles.specs.Worlds.{seen}
+use Rattle.env_filter.specs.Filtering.{Filtered}
+use Rattle.otel_metrics.specs.declared.measure.Measure.{Measure}
+use Rattle.span_stack.specs.Reading.{StackWorlds, counter_in, measures_in}
+use Rattle.span_script.specs.Fits.{Views, shown_of, stack_views, State}
+
+abbrev pub Aside : Type 0
+Aside = Option Filtered × List Measure
+
+abbrev pub aside_in : {S : Type 0} → Views S → Worlds S → ℕ → Aside
+aside_in views world dispatch = (seen views.counter None world dispatch, seen views.measured [] world dispatch)
+
+-- what counts stays, and some measures wait behind the others
+pub record Adds (before later : Aside) (added : List Measure) : Type 0 where
+  pub counter : later.0 ≡ before.0
+  pub measures : later.1 ≡ before.1 ++ added
+
+pub adds_none : (before later : Aside) → later.0 ≡ before.0 → later.1 ≡ before.1 → Adds before later []
+adds_none before later counter measures = record { counter = counter; measures = measures ∙ sym (append-nil before.1) }
+
+pub adds_nothing : (before later : Aside) → Adds before later [] → (later.0 ≡ before.0) × (later.1 ≡ before.1)
+adds_nothing before later adds = (adds.counter, adds.measures ∙ append-nil before.1)
+
+-- where a world didn't change
+pub adds_same : {S : Type 0} (views : Views S) (old new : Worlds S) (dispatch : ℕ) → new ≡ old → Adds (aside_in views old dispatch) (aside_in views new dispatch) []
+adds_same views old new dispatch same = adds_none (aside_in views old dispatch) (aside_in views new dispatch) (ap (λ (w : Worlds _). seen views.counter None w dispatch) same) (ap (λ (w : Worlds _). seen views.measured [] w dispatch) same)
+
+-- the same of stacks
+pub stack_same : (old new : StackWorlds) (dispatch : ℕ) → counter_in new dispatch ≡ counter_in old dispatch → measures_in new dispatch ≡ measures_in old dispatch → Adds (aside_in stack_views old dispatch) (aside_in stack_views new dispatch) []
+stack_same old new dispatch counter measures = adds_none (aside_in stack_views old dispatch) (aside_in stack_views new dispatch) counter measures
+
+-- what is seen of that in what is kept
+pub record AddsTo (k next : State) (added : List Measure) : Type 0 where
+  pub before : Aside
+  pub later : Aside
+  pub shown_before : k.counter ≡ option_map (shown_of 0 k.setup.ids) before.0
+  pub shown_later : next.counter ≡ option_map (shown_of 0 next.setup.ids) later.0
+  pub waits_before : k.measures ≡ before.1
+  pub waits_later : next.measures ≡ later.1
+  pub adds : Adds before later added
+
+pub measured : (k next : State) (added : List Measure) → AddsTo k next added → next.measures ≡ k.measures ++ added
+measured k next added a = a.waits_later ∙ a.adds.measures ∙ ap (λ (ms : List Measure). ms ++ added) (sym a.waits_before)

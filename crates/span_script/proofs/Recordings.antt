@@ -1,0 +1,182 @@
+-- What was recorded after one effect more, and the contexts of lanes.
+use Rattle.std.specs.Option.{option_to_list}
+use Rattle.std.proofs.Common.{◌≡◌, ℕ, List, [], ◌∷◌, ◌++◌, length, fold, Option, Some, None, refl, sym, ap, ◌∙◌}
+use Rattle.std.proofs.lemmas.List.{append-nil, append_assoc}
+use Rattle.otel_base.specs.declared.context.Context.{Context}
+use Rattle.otel_base.specs.declared.record.Record.{Record}
+use Rattle.otel_state.specs.States.{Told}
+use Rattle.otel_layer.specs.declared.tokens.Token.{Token}
+use Rattle.otel_layer.specs.Table.{told_at, waits}
+use Rattle.otel_layer.specs.Recording.{Recording, started_under, with_start, with_starts, with_applied, with_close, closed, closed_started}
+use Rattle.span_script.specs.Tables.{Made, Done, Effect, Tables, after, with_made, recorded_by, open_part, records_of}
+
+-- a recording with other entries, and records before its own
+abbrev shifted : List Token → List Record → Recording → Recording
+shifted ts fs r = record r { tokens = ts; finished = fs ++ r.finished }
+
+module _ (ts : List Token) (fs : List Record) where
+  start_apart : (s at : ℕ) (r : Recording) → with_start s at (shifted ts fs r) ≡ shifted ts fs (with_start s at r)
+  start_apart s at r = by_context (waits (told_at s r.spans))
+    where
+      by_context : (o : Option Context) → started_under o s at (shifted ts fs r) ≡ shifted ts fs (started_under o s at r)
+      by_context None = refl
+      by_context (Some under) = refl
+
+  closed_apart : (o : Option Told) (s at : ℕ) (r : Recording) → closed o s at (shifted ts fs r) ≡ shifted ts fs (closed o s at r)
+  closed_apart None s at r = refl
+  closed_apart (Some told) s at r = ap (λ (xs : List Record). record (shifted ts fs (closed (Some told) s at r)) { finished = xs }) (append_assoc fs r.finished _)
+
+  close_apart : (s at : ℕ) (r : Recording) → with_close s at (shifted ts fs r) ≡ shifted ts fs (with_close s at r)
+  close_apart s at r = ap (closed_started s at) (start_apart s at r) ∙ closed_apart (told_at s (with_start s at r).spans) s at (with_start s at r)
+
+  starts_apart : (at : ℕ) (ss : List ℕ) (r : Recording) → fold (λ r s. with_start s at r) (shifted ts fs r) ss ≡ shifted ts fs (fold (λ r s. with_start s at r) r ss)
+  starts_apart at [] r = refl
+  starts_apart at (s ∷ ss) r = ap (λ (x : Recording). fold (λ r s. with_start s at r) x ss) (start_apart s at r) ∙ starts_apart at ss (with_start s at r)
+
+  ops_apart : (at : ℕ) (ds : List Done) (r : Recording) → fold (λ r d. with_applied d.span at d.op r) (shifted ts fs r) ds ≡ shifted ts fs (fold (λ r d. with_applied d.span at d.op r) r ds)
+  ops_apart at [] r = refl
+  ops_apart at (d ∷ ds) r = ops_apart at ds (with_applied d.span at d.op r)
+
+  closes_apart : (at : ℕ) (ss : List ℕ) (r : Recording) → fold (λ r s. with_close s at r) (shifted ts fs r) ss ≡ shifted ts fs (fold (λ r s. with_close s at r) r ss)
+  closes_apart at [] r = refl
+  closes_apart at (s ∷ ss) r = ap (λ (x : Recording). fold (λ r s. with_close s at r) x ss) (close_apart s at r) ∙ closes_apart at ss (with_close s at r)
+
+  made_apart : (n : ℕ) (o : Option Made) (r : Recording) → with_made n o (shifted ts fs r) ≡ shifted ts fs (with_made n o r)
+  made_apart n None r = refl
+  made_apart n (Some m) r = refl
+
+  recorded_apart : (n : ℕ) (e : Effect) (r : Recording) → recorded_by n e (shifted ts fs r) ≡ shifted ts fs (recorded_by n e r)
+  recorded_apart n e r =
+      let started = fold (λ r s. with_start s e.at r) r e.starts in
+      let made = with_made n e.made started in
+      let done = fold (λ r d. with_applied d.span e.at d.op r) made e.ops in
+      ap (λ (x : Recording). fold (λ r s. with_close s e.at r) (fold (λ r d. with_applied d.span e.at d.op r) (with_made n e.made x) e.ops) e.closes) (starts_apart e.at e.starts r)
+      ∙ ap (λ (x : Recording). fold (λ r s. with_close s e.at r) (fold (λ r d. with_applied d.span e.at d.op r) x e.ops) e.closes) (made_apart n e.made started)
+      ∙ ap (λ (x : Recording). fold (λ r s. with_close s e.at r) x e.closes) (ops_apart e.at e.ops made)
+      ∙ closes_apart e.at e.closes done
+
+-- what is kept is the open part with its entries and records
+shift_back : (r x : Recording) → open_part r ≡ x → r ≡ shifted r.tokens r.finished x
+shift_back r x is = sym (ap (λ (fs : List Record). record r { finished = fs }) (append-nil r.finished)) ∙ ap (shifted r.tokens r.finished) is
+
+-- with the open part alone an effect makes the same of what was recorded
+pub record RecordedStep (k next : Recording) (t : Tables) (e : Effect) : Type 0 where
+  pub open_is : open_part next ≡ (after t e).recording
+  pub finished : next.finished ≡ k.finished ++ records_of t e
+
+pub recording_step : (k next : Recording) (t : Tables) (e : Effect) → open_part k ≡ t.recording → (toks : List Token) → next ≡ record (recorded_by (length t.made) e k) { tokens = toks } → RecordedStep k next t e
+recording_step k next t e is toks now =
+    let n = length t.made in
+    let all : recorded_by n e k ≡ shifted k.tokens k.finished (recorded_by n e t.recording) = ap (recorded_by n e) (shift_back k t.recording is) ∙ recorded_apart k.tokens k.finished n e t.recording in
+    record {
+      open_is = ap open_part now ∙ ap (λ (x : Recording). open_part x) all;
+      finished = ap (λ (x : Recording). x.finished) now ∙ ap (λ (x : Recording). x.finished) all;
+    }
+
+-- starts one by one
+pub starts_fold : (o : Option ℕ) (at : ℕ) (r : Recording) → fold (λ r s. with_start s at r) r (option_to_list o) ≡ with_starts o at r
+starts_fold None at r = refl
+starts_fold (Some s) at r = refl
+
+-- settings stay
+start_settings : (s at : ℕ) (r : Recording) → (with_start s at r).settings ≡ r.settings
+start_settings s at r = by_context (waits (told_at s r.spans))
+  where
+    by_context : (o : Option Context) → (started_under o s at r).settings ≡ r.settings
+    by_context None = refl
+    by_context (Some under) = refl
+
+close_settings : (s at : ℕ) (r : Recording) → (with_close s at r).settings ≡ r.settings
+close_settings s at r = by_told (told_at s (with_start s at r).spans) ∙ start_settings s at r
+  where
+    by_told : (o : Option Told) → (closed o s at (with_start s at r)).settings ≡ (with_start s at r).settings
+    by_told None = refl
+    by_told (Some told) = refl
+
+starts_settings : (at : ℕ) (ss : List ℕ) (r : Recording) → (fold (λ r s. with_start s at r) r ss).settings ≡ r.settings
+starts_settings at [] r = refl
+starts_settings at (s ∷ ss) r = starts_settings at ss (with_start s at r) ∙ start_settings s at r
+
+ops_settings : (at : ℕ) (ds : List Done) (r : Recording) → (fold (λ r d. with_applied d.span at d.op r) r ds).settings ≡ r.settings
+ops_settings at [] r = refl
+ops_settings at (d ∷ ds) r = ops_settings at ds (with_applied d.span at d.op r)
+
+closes_settings : (at : ℕ) (ss : List ℕ) (r : Recording) → (fold (λ r s. with_close s at r) r ss).settings ≡ r.settings
+closes_settings at [] r = refl
+closes_settings at (s ∷ ss) r = closes_settings at ss (with_close s at r) ∙ close_settings s at r
+
+made_settings : (n : ℕ) (o : Option Made) (r : Recording) → (with_made n o r).settings ≡ r.settings
+made_settings n None r = refl
+made_settings n (Some m) r = refl
+
+pub recorded_settings : (n : ℕ) (e : Effect) (r : Recording) → (recorded_by n e r).settings ≡ r.settings
+recorded_settings n e r =
+    let started = fold (λ r s. with_start s e.at r) r e.starts in
+    let made = with_made n e.made started in
+    closes_settings e.at e.closes (fold (λ r d. with_applied d.span e.at d.op r) made e.ops) ∙ ops_settings e.at e.ops made ∙ made_settings n e.made started ∙ starts_settings e.at e.starts r
+
+-- so do open entries
+start_tokens : (s at : ℕ) (r : Recording) → (with_start s at r).tokens ≡ r.tokens
+start_tokens s at r = by_context (waits (told_at s r.spans))
+  where
+    by_context : (o : Option Context) → (started_under o s at r).tokens ≡ r.tokens
+    by_context None = refl
+    by_context (Some under) = refl
+
+close_tokens : (s at : ℕ) (r : Recording) → (with_close s at r).tokens ≡ r.tokens
+close_tokens s at r = by_told (told_at s (with_start s at r).spans) ∙ start_tokens s at r
+  where
+    by_told : (o : Option Told) → (closed o s at (with_start s at r)).tokens ≡ (with_start s at r).tokens
+    by_told None = refl
+    by_told (Some told) = refl
+
+starts_tokens : (at : ℕ) (ss : List ℕ) (r : Recording) → (fold (λ r s. with_start s at r) r ss).tokens ≡ r.tokens
+starts_tokens at [] r = refl
+starts_tokens at (s ∷ ss) r = starts_tokens at ss (with_start s at r) ∙ start_tokens s at r
+
+ops_tokens : (at : ℕ) (ds : List Done) (r : Recording) → (fold (λ r d. with_applied d.span at d.op r) r ds).tokens ≡ r.tokens
+ops_tokens at [] r = refl
+ops_tokens at (d ∷ ds) r = ops_tokens at ds (with_applied d.span at d.op r)
+
+closes_tokens : (at : ℕ) (ss : List ℕ) (r : Recording) → (fold (λ r s. with_close s at r) r ss).tokens ≡ r.tokens
+closes_tokens at [] r = refl
+closes_tokens at (s ∷ ss) r = closes_tokens at ss (with_close s at r) ∙ close_tokens s at r
+
+made_tokens : (n : ℕ) (o : Option Made) (r : Recording) → (with_made n o r).tokens ≡ r.tokens
+made_tokens n None r = refl
+made_tokens n (Some m) r = refl
+
+pub recorded_tokens : (n : ℕ) (e : Effect) (r : Recording) → (recorded_by n e r).tokens ≡ r.tokens
+recorded_tokens n e r =
+    let started = fold (λ r s. with_start s e.at r) r e.starts in
+    let made = with_made n e.made started in
+    closes_tokens e.at e.closes (fold (λ r d. with_applied d.span e.at d.op r) made e.ops) ∙ ops_tokens e.at e.ops made ∙ made_tokens n e.made started ∙ starts_tokens e.at e.starts r
+
+-- a start of the open part
+pub start_open : (s at : ℕ) (r x : Recording) → open_part r ≡ x → (with_start s at r).spans ≡ (with_start s at x).spans
+start_open s at r x is = by_context (waits (told_at s r.spans)) ∙ ap (λ (y : Recording). (with_start s at y).spans) is
+  where
+    by_context : (o : Option Context) → (started_under o s at r).spans ≡ (started_under o s at (open_part r)).spans
+    by_context None = refl
+    by_context (Some under) = refl
+
+pub starts_open : (o : Option ℕ) (at : ℕ) (r x : Recording) → open_part r ≡ x → (with_starts o at r).spans ≡ (with_starts o at x).spans
+starts_open None at r x is = ap (λ (y : Recording). y.spans) is
+starts_open (Some s) at r x is = start_open s at r x is
+
+-- an entry leaves the others open
+pub entry_tokens : (o : Option ℕ) (at : ℕ) (r : Recording) → (with_starts o at r).tokens ≡ r.tokens
+entry_tokens None at r = refl
+entry_tokens (Some s) at r = start_tokens s at r
+
+pub entry_settings : (o : Option ℕ) (at : ℕ) (r : Recording) → (with_starts o at r).settings ≡ r.settings
+entry_settings None at r = refl
+entry_settings (Some s) at r = start_settings s at r
+
+pub entry_counting : (o : Option ℕ) (at : ℕ) (r : Recording) → (with_starts o at r).counting ≡ r.counting
+entry_counting None at r = refl
+entry_counting (Some s) at r = by_context (waits (told_at s r.spans))
+  where
+    by_context : (o : Option Context) → (started_under o s at r).counting ≡ r.counting
+    by_context None = refl
+    by_context (Some under) = refl

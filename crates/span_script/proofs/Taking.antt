@@ -1,0 +1,80 @@
+-- A record or a measure that is taken, and how many spans are open.
+use Rattle.std.specs.Prelude.{MatchOption}
+use Rattle.std.proofs.Common.{◌≡◌, ℕ, List, [], ◌∷◌, drop, Bool, Option, Some, None, map, refl, sym, ap, subst, ◌∙◌, arith, slice_get}
+use Rattle.trace_base.specs.declared.lane.Lane.{Lane}
+use Rattle.trace_base.specs.Gate.{Worlds}
+use Rattle.trace_base.specs.Spans.{Spans}
+use Rattle.span_handles.specs.Worlds.{Alike, seen}
+use Rattle.span_handles.specs.Handles.{Handle}
+use Rattle.otel_base.specs.declared.record.Record.{Record}
+use Rattle.std.specs.Option.{option_map_or}
+use Rattle.otel_layer.specs.Recording.{no_recording}
+use Rattle.span_script.specs.declared.slots.Guard.{Guard}
+use Rattle.span_script.specs.declared.settings.Texts.{Texts}
+use Rattle.span_script.specs.Tables.{Tables}
+use Rattle.otel_metrics.specs.declared.measure.Measure.{Measure}
+use Rattle.span_script.specs.Fits.{Views, Named, State, state_of, Fits, StandsFor, LanesFit, IsKept, laned}
+
+-- what is kept, but that some of the records and measures were taken
+abbrev pub but_taken : State → List Record → List Measure → State
+but_taken k records measures = record k { recording = record k.recording { finished = records }; measures = measures }
+
+fits_taken : (k : State) (t : Tables) (records : List Record) (measures : List Measure) → Fits k t → Fits (but_taken k records measures) t
+fits_taken k t records measures fits = record {
+  handle_slots = fits.handle_slots;
+  site_slots = fits.site_slots;
+  guard_slots = fits.guard_slots;
+  attach_slots = fits.attach_slots;
+  paired = fits.paired;
+  named = fits.named;
+  latest = fits.latest;
+  balanced = fits.balanced;
+  made = fits.made;
+  one_lane = fits.one_lane;
+  scopes = fits.scopes;
+  still = fits.still;
+  own_scopes = fits.own_scopes;
+  sited = fits.sited;
+  few = fits.few;
+  few_holds = fits.few_holds;
+}
+
+stands_taken : (k : State) (t : Tables) (records : List Record) (measures : List Measure) → StandsFor k t → StandsFor (but_taken k records measures) t
+stands_taken k t records measures stands = record {
+  fits = fits_taken k t records measures stands.fits;
+  recording = record { recorded = stands.recording.recorded; known = stands.recording.known; attached = stands.recording.attached };
+  filtering = record { in_place = stands.filtering.in_place; fresh = stands.filtering.fresh; counter = stands.filtering.counter; new = stands.filtering.new };
+}
+
+-- a world whose stack has some records and measures
+module _ {S : Type 0} (spans : S → Spans) (views : Views S) (attaches : S → Bool) (kept : S → ℕ → ℕ → ℕ) (is_whole : S → Type 0) (old new : Worlds S) (dispatch : ℕ) (alike : Alike spans attaches kept is_whole old new dispatch)
+    (sites : new.sites ≡ old.sites) (cached : new.cached ≡ old.cached) (filters : seen views.filtered None new dispatch ≡ seen views.filtered None old dispatch) (counter : seen views.counter None new dispatch ≡ seen views.counter None old dispatch)
+    (records : List Record) (finished : seen views.recorded no_recording new dispatch ≡ record (seen views.recorded no_recording old dispatch) { finished = records })
+    (measures : List Measure) (waiting : seen views.measured [] new dispatch ≡ measures)
+    (opening : Texts) (lanes : List Lane) (hs : List (Option Handle)) (gs : List (Option Guard)) (cs : Named) (m : ℕ) where
+  pub state_taken : state_of spans views new dispatch opening lanes hs gs cs m ≡ but_taken (state_of spans views old dispatch opening lanes hs gs cs m) records measures
+  state_taken = rw (alike.spans_same, sites, finished, filters, cached, counter, waiting) refl
+
+  pub kept_taken : IsKept kept is_whole old (state_of spans views old dispatch opening lanes hs gs cs m) → IsKept kept is_whole new (state_of spans views new dispatch opening lanes hs gs cs m)
+  kept_taken inv =
+      let stands = stands_taken _ inv.tables records measures (record { fits = inv.fits; recording = inv.recording; filtering = inv.filtering }) in
+      subst (λ (k : State). IsKept kept is_whole new k) (sym state_taken) (record {
+        there = (let c = alike.count in let b = inv.there in omega (arith, c, b));
+        alone = alike.count ∙ inv.alone;
+        whole = alike.whole inv.whole;
+        lanes = subst (λ (f : ℕ → ℕ → ℕ). LanesFit f (map laned lanes)) (sym alike.kept_same) inv.lanes;
+        tables = inv.tables;
+        fits = stands.fits;
+        recording = stands.recording;
+        filtering = stands.filtering;
+      })
+
+-- what was taken is the first of what is no more there
+pub oldest_by : {A : Type 0} (read : State → List A) (view k : State) (rest : List A) (o : Option A) → view ≡ k → rest ≡ drop 1 (read view) → MatchOption o (read view ≡ []) (λ a. read view ≡ a ∷ drop 1 (read view))
+    → MatchOption o (read k ≡ []) (λ a. read k ≡ a ∷ rest)
+oldest_by {A} read view k rest o same without is =
+    subst (λ (x : State). MatchOption o (read x ≡ []) (λ a. read x ≡ a ∷ rest)) same
+    (subst (λ (zs : List A). MatchOption o (read view ≡ []) (λ a. read view ≡ a ∷ zs)) (sym without) is)
+
+pub seen_there : {S A : Type 0} (read : S → A) (none : A) (world : Worlds S) (dispatch : ℕ) (s : S) → slice_get world.subscribers dispatch ≡ Some s → seen read none world dispatch ≡ read s
+seen_there read none world dispatch s there = ap (λ (o : Option _). option_map_or read o none) there

@@ -1,0 +1,13 @@
+-- By the balance of holds.
+use Rattle.span_script.proofs.Openness.{opens, closes_them}
+use Rattle.span_script.proofs.Ordering.{drop_order}
+use Rattle.span_script.proofs.laws.holds.Goals as goal
+
+pub returns-clause-open : goal.returns-clause-open
+returns-clause-open c = opens
+
+pub returns-clause-closes : goal.returns-clause-closes
+returns-clause-closes c = closes_them
+
+pub returns-clause-order : goal.returns-clause-order
+returns-clause-order c = drop_order

@@ -1,0 +1,304 @@
+-- What a pipeline keeps, and when it fits the tables of a history.
+use Rattle.std.specs.Prelude.{◌≡◌, ℕ, zero, suc, ◌+◌, ◌<◌, ◌≤◌, ◌==◌, ◌≢◌, Bool, true, false, List, [], ◌∷◌, ◌++◌, length, drop, map, filter, if◌then◌else◌, count_by, Option, Some, None, option_map, IfSome, Ok, Err, slice_index_or}
+use Rattle.otel_base.specs.declared.context.Context.{Context}
+use Rattle.trace_base.specs.declared.lane.Lane.{Lane}
+use Rattle.trace_base.specs.declared.callsite.Callsite.{Callsite}
+use Rattle.trace_base.specs.declared.subscriber.Interest.{Interest}
+use Rattle.trace_base.specs.Gate.{Worlds}
+use Rattle.trace_base.specs.Spans.{Spans, Span, span_at}
+use Rattle.trace_base.specs.Sound.{OneEach}
+use Rattle.otel_base.specs.Stack.{has}
+use Rattle.otel_state.specs.declared.settings.LayerSettings.{LayerSettings}
+use Rattle.otel_layer.specs.declared.tokens.Token.{Token}
+use Rattle.otel_layer.specs.Core.{is_token}
+use Rattle.otel_layer.specs.Table.{told_at}
+use Rattle.otel_layer.specs.Recording.{Recording, no_recording}
+use Rattle.env_directives.specs.Table.{Table}
+use Rattle.env_directives.specs.declared.directive.StaticDirective.{StaticDirective}
+use Rattle.env_directives.specs.declared.env.directive.Directive.{Directive}
+use Rattle.env_filter.specs.Filtering.{Filtered, IsNew, interest_in}
+use Rattle.env_filter.specs.Levels.{Opened}
+use Rattle.env_filter.specs.Watching.{Watched}
+use Rattle.span_handles.specs.Worlds.{Has, seen, spans_in, kept_in}
+use Rattle.span_handles.specs.Handles.{Handle, Held}
+use Rattle.otel_metrics.specs.declared.measure.Measure.{Measure}
+use Rattle.span_stack.specs.Reading.{Stacks, recorded, in_place, counts_by, measured}
+use Rattle.span_script.specs.declared.slots.Guard.{Guard}
+use Rattle.span_script.specs.declared.contexts.Attach.{Attach}
+use Rattle.span_script.specs.declared.contexts.Contexts.{Contexts}
+use Rattle.span_script.specs.declared.reply.Reply.{Reply}
+use Rattle.span_script.specs.declared.reply.Refusal.{Refusal}
+use Rattle.span_script.specs.declared.reply.Refusal.TheVariants as refusal
+use Rattle.span_script.specs.declared.settings.Texts.{Texts}
+use Rattle.span_script.specs.Admission.{text_filter}
+use Rattle.span_script.specs.Setups.{Setup}
+use Rattle.span_script.specs.Balance.{Balanced, named_by, opened_by}
+use Rattle.span_script.specs.Tables.{Scope, Made, Owner, EntryOf, GuardOf, Attached, is_by, Guarded, Effect, Tables, History, tables, after, open_part, records_of, slot_at, own, site_of, made_of}
+use Rattle.span_script.specs.Effects.{Resolved, filter_at}
+
+-- a lane, without its room
+pub record Laned : Type 0 where
+  pub id : ℕ
+  pub live : List (ℕ × Context)
+
+abbrev pub laned : Lane → Laned
+laned lane = record { id = lane.id; live = lane.contexts.live }
+
+abbrev pub no_lane : Laned
+no_lane = record { id = 0; live = [] }
+
+abbrev pub lane_at : List Laned → ℕ → Laned
+lane_at lanes n = slice_index_or lanes n no_lane
+
+-- the contexts that a script names, and the guards of its attaches
+pub record Named : Type 0 where
+  pub made : List Context
+  pub attaches : List (Option Attach)
+
+abbrev pub named_in : Contexts → Named
+named_in contexts = record { made = contexts.made.items; attaches = contexts.attaches.items }
+
+-- how what was recorded, the filter that is in place, the filter that counts and the measures that wait are read of a subscriber
+pub record Views (S : Type 0) : Type 0 where
+  pub recorded : S → Recording
+  pub filtered : S → Option Filtered
+  pub counter : S → Option Filtered
+  pub measured : S → List Measure
+
+-- those of the stack that pipelines run on
+abbrev pub stack_views : Views Stacks
+stack_views = record { recorded = recorded; filtered = in_place; counter = counts_by; measured = measured }
+
+-- What is seen of a filter at the spans of the first ids, from the last one on, and at the lanes of some ids.
+pub record ShownFilter : Type 0 where
+  pub statics : Table StaticDirective
+  pub dynamics : Table Directive
+  pub spans : List (Option Watched)
+  pub lanes : List (List Opened)
+
+abbrev pub first_of : {X : Type 0} → (ℕ → X) → ℕ → List X
+first_of f zero = []
+first_of f (suc n) = f n ∷ first_of f n
+
+abbrev pub shown_of : ℕ → List ℕ → Filtered → ShownFilter
+shown_of many ids f = record { statics = f.statics; dynamics = f.dynamics; spans = first_of f.spans many; lanes = map f.lanes ids }
+
+-- what is kept, without spare room; the interests that are cached; and the measures that weren't taken
+pub record State : Type 0 where
+  pub setup : Setup
+  pub spans : Spans
+  pub lanes : List Laned
+  pub recording : Recording
+  pub filter : Option ShownFilter
+  pub cached : List (List Interest)
+  pub counter : Option ShownFilter
+  pub measures : List Measure
+  pub dispatch : ℕ
+  pub handles : List (Option Held)
+  pub handle_sites : List (Option (Option ℕ))
+  pub guards : List (Option Guard)
+  pub contexts : Named
+  pub moment : ℕ
+
+-- what an unspent handle stands for
+abbrev pub held_by : Option Handle → Option Held
+held_by slot = option_map (λ h. h.held) slot
+
+-- the place of its callsite, if it has one
+abbrev pub site_by : Option Handle → Option (Option ℕ)
+site_by slot = option_map (λ h. h.site) slot
+
+abbrev pub setup_of : List Callsite → List Lane → Texts → LayerSettings → Setup
+setup_of sites lanes opening layer = record { sites = sites; ids = map (λ l. l.id) lanes; names = map (λ l. l.name) lanes; filter = opening.filter; counting = opening.counting; layer = layer }
+
+abbrev pub state_of : {S : Type 0} → (S → Spans) → Views S → Worlds S → ℕ → Texts → List Lane → List (Option Handle) → List (Option Guard) → Named → ℕ → State
+state_of spans views world dispatch opening lanes handles guards contexts moment = record {
+  setup = setup_of world.sites lanes opening (seen views.recorded no_recording world dispatch).settings;
+  spans = spans_in spans world dispatch;
+  lanes = map laned lanes;
+  recording = seen views.recorded no_recording world dispatch;
+  filter = option_map (shown_of (length (spans_in spans world dispatch).made) (map (λ l. l.id) lanes)) (seen views.filtered None world dispatch);
+  cached = world.cached;
+  counter = option_map (shown_of 0 (map (λ l. l.id) lanes)) (seen views.counter None world dispatch);
+  measures = seen views.measured [] world dispatch;
+  dispatch = dispatch;
+  handles = map held_by handles;
+  handle_sites = map site_by handles;
+  guards = guards;
+  contexts = contexts;
+  moment = moment;
+}
+
+-- what a handle of a scope stands for, and what a guard keeps
+abbrev pub held_of : ℕ → Scope → Held
+held_of dispatch [] = None
+held_of dispatch (s ∷ up) = Some (dispatch, s)
+
+abbrev pub guard_of : ℕ → Guarded → Guard
+guard_of dispatch g = record { handle = g.handle; lane = g.lane; owns = g.owns; entry = held_of dispatch g.scope }
+
+-- the place of the lane of an attach's guard
+abbrev pub lane_of : Attach → ℕ
+lane_of = λ a. a.lane
+
+-- a scope is of spans that were made, each under the next
+abbrev pub IsUnder : ℕ → Scope → Type 0
+IsUnder s [] = Unit {0}
+IsUnder s (p ∷ up) = p < s
+
+abbrev pub IsScope : List Made → Scope → Type 0
+IsScope made [] = Unit {0}
+IsScope made (s ∷ up) = (s < length made) × ((made_of made s).scope ≡ s ∷ up) × IsUnder s up × IsScope made up
+
+-- the parent that a scope gives to its own span
+abbrev pub above : Scope → Option ℕ
+above [] = None
+above (s ∷ up) = own up
+
+-- the spans are those that were made; of those that closed nothing is kept
+pub record MadeFit (spans : List Span) (made : List Made) : Type 0 where
+  pub count : length spans ≡ length made
+  pub parent : (s : ℕ) → 0 < (span_at spans s).holds → (span_at spans s).parent ≡ above (made_of made s).scope
+  pub site : (s : ℕ) → 0 < (span_at spans s).holds → (span_at spans s).site ≡ (made_of made s).site
+
+-- what is kept attached is live on its lane, and lanes have ids of their own
+pub record LanesFit (kept : ℕ → ℕ → ℕ) (lanes : List Laned) : Type 0 where
+  pub differ : (n m : ℕ) → n < length lanes → m < length lanes → (lane_at lanes n).id ≡ (lane_at lanes m).id → n ≡ m
+  pub attached : (n number : ℕ) → n < length lanes
+      → kept (lane_at lanes n).id number ≤ count_by (λ item. item.0 == number) (lane_at lanes n).live
+
+-- ---- what was recorded, and the contexts of lanes
+
+-- the numbers of what an owner attached, by the contexts that are live
+abbrev pub numbers_of : Owner → List (ℕ × Context) → List Attached → List (Option ℕ)
+numbers_of o [] items = []
+numbers_of o (x ∷ live) [] = []
+numbers_of o (x ∷ live) (a ∷ items) = if is_by o a then Some x.0 ∷ numbers_of o live items else numbers_of o live items
+
+-- the same of a span by the layer's open entries, and of an attach on the lane at a place by its guard
+abbrev pub tokens_of : ℕ → ℕ → List Token → List (Option ℕ)
+tokens_of lane s tokens = map (λ k. k.attached) (filter (is_token lane s) tokens)
+
+abbrev pub kept_on : ℕ → Option Attach → List (Option ℕ)
+kept_on place None = []
+kept_on place (Some a) = if a.lane == place then Some a.attached ∷ [] else []
+
+-- without activation entries attach nothing
+abbrev pub numbers_by : Bool → ℕ → ℕ → List Token → List (Option Attach) → Owner → List (Option ℕ)
+numbers_by activation place lane tokens attaches (EntryOf s) = if activation then tokens_of lane s tokens else []
+numbers_by activation place lane tokens attaches (GuardOf n) = kept_on place (slot_at attaches n)
+
+-- each live context has a number of its own
+abbrev pub AreDistinct : List (ℕ × Context) → Type 0
+AreDistinct [] = Unit {0}
+AreDistinct (x ∷ live) = (has x.0 live ≡ false) × AreDistinct live
+
+-- a lane's contexts are those that the history attached, and each owner keeps the numbers of its own
+pub record ContextsFit (numbers : Owner → List (Option ℕ)) (live : List (ℕ × Context)) (items : List Attached) : Type 0 where
+  pub contexts : map (λ x. x.1) live ≡ map (λ a. a.context) items
+  pub distinct : AreDistinct live
+  pub numbers_are : (o : Owner) → numbers_of o live items ≡ numbers o
+
+-- so do those of all lanes
+abbrev pub AllContextsFit : Bool → List Laned → List Token → List (Option Attach) → (ℕ → List Attached) → Type 0
+AllContextsFit activation lanes tokens attaches contexts = (n : ℕ) → n < length lanes
+    → ContextsFit (numbers_by activation n (lane_at lanes n).id tokens attaches) (lane_at lanes n).live (contexts (lane_at lanes n).id)
+
+pub record RecordingFits (k : State) (t : Tables) : Type 0 where
+  pub recorded : open_part k.recording ≡ t.recording
+  pub known : (s : ℕ) → 0 < (span_at k.spans.made s).holds → told_at s k.recording.spans ≢ None
+  pub attached : AllContextsFit k.setup.layer.activation k.lanes k.recording.tokens k.contexts.attaches t.contexts
+
+-- what is seen of the filter that counts: that of the text for counting, where there is one
+abbrev pub counter_by : Setup → Option ShownFilter
+counter_by setup = option_map (shown_of 0 setup.ids) (option_map text_filter setup.counting)
+
+-- The filter is the one in force, for each callsite its interest is cached, and events are counted by the filter of the text
+-- for that, which hears nothing.
+pub record FilteringFits (k : State) (t : Tables) : Type 0 where
+  pub in_place : k.filter ≡ Some (shown_of (length t.made) k.setup.ids (filter_at k.setup t))
+  pub fresh : k.cached ≡ map (λ c. interest_in (filter_at k.setup t) c ∷ []) k.setup.sites
+  pub counter : k.counter ≡ counter_by k.setup
+  pub new : IfSome (option_map text_filter k.setup.counting) IsNew
+
+-- What is kept fits the tables of a history.
+pub record Fits (k : State) (t : Tables) : Type 0 where
+  pub handle_slots : k.handles ≡ map (option_map (held_of k.dispatch)) t.handles
+  pub site_slots : k.handle_sites ≡ map (option_map (site_of t.made)) t.handles
+  pub guard_slots : k.guards ≡ map (option_map (guard_of k.dispatch)) t.guards
+  pub attach_slots : map (option_map lane_of) k.contexts.attaches ≡ t.attaches
+  pub paired : length t.attaches ≡ length t.guards
+  pub named : k.contexts.made ≡ t.named
+  pub latest : k.moment ≡ t.moment
+  pub balanced : Balanced k.spans (map named_by t.handles) (map (opened_by k.setup.ids) t.guards) t.entries
+  pub made : MadeFit k.spans.made t.made
+  pub one_lane : OneEach k.spans.lanes
+  -- facts of each history that leads here
+  pub scopes : (n : ℕ) (scope : Scope) → slot_at t.handles n ≡ Some scope → IsScope t.made scope
+  pub still : (n : ℕ) (g : Guarded) → slot_at t.guards n ≡ Some g → slot_at t.handles g.handle ≡ Some g.scope
+  pub own_scopes : (s : ℕ) → s < length t.made
+      → (own (made_of t.made s).scope ≡ Some s) × IsScope t.made (made_of t.made s).scope
+  pub sited : (s : ℕ) → s < length t.made → (made_of t.made s).site < length k.setup.sites
+  pub few : length t.made ≤ length t.handles
+  pub few_holds : (s : ℕ) → (span_at k.spans.made s).holds ≤ length t.handles + length t.guards
+
+-- What is kept stands for a history with these tables: it fits them, and so do what was recorded, the lanes' contexts,
+-- and the filter.
+pub record StandsFor (k : State) (t : Tables) : Type 0 where
+  pub fits : Fits k t
+  pub recording : RecordingFits k t
+  pub filtering : FilteringFits k t
+
+-- the same but for the oldest record
+abbrev pub without_first : State → State
+without_first k = record k { recording = record k.recording { finished = drop 1 k.recording.finished } }
+
+-- and but for the oldest measure
+abbrev pub without_first_measure : State → State
+without_first_measure k = record k { measures = drop 1 k.measures }
+
+-- What every pipeline keeps: it stands for some history.
+pub record IsKept {S : Type 0} (kept : S → ℕ → ℕ → ℕ) (is_whole : S → Type 0) (world : Worlds S) (k : State) : Type 0 where
+  pub there : k.dispatch < length world.subscribers
+  pub alone : length world.subscribers ≡ 1
+  pub whole : Has is_whole world k.dispatch
+  pub lanes : LanesFit (kept_in kept world k.dispatch) k.lanes
+  pub tables : Tables
+  pub fits : Fits k tables
+  pub recording : RecordingFits k tables
+  pub filtering : FilteringFits k tables
+
+-- A reply is served where the request has an effect: the reply is the effect's, the records
+-- are those of the spans that close, the measures are the effect's, and what is kept stands for one effect more.
+pub record Served (resolved : Resolved) (t : Tables) (old new : State) (reply : Reply) : Type 0 where
+  pub effect : Effect
+  pub is : resolved ≡ Ok effect
+  pub reply_is : reply ≡ effect.reply
+  pub setup : new.setup ≡ old.setup
+  pub records : new.recording.finished ≡ old.recording.finished ++ records_of t effect
+  pub measures : new.measures ≡ old.measures ++ effect.measures
+  pub stands : StandsFor new (after t effect)
+
+-- a refusal for want of memory
+abbrev pub is_room : Refusal → Bool
+is_room refusal.Memory = true
+is_room (refusal.Full lane) = false
+is_room (refusal.BadMoment before given) = false
+is_room (refusal.UnknownName unknown) = false
+is_room refusal.InUse = false
+is_room (refusal.WrongLane lane) = false
+is_room (refusal.Directive piece) = false
+
+-- Any other is the one that was resolved.
+abbrev pub IsRefusal : Resolved → Refusal → Type 0
+IsRefusal resolved given = is_room given ≡ false → resolved ≡ Err given
+
+-- The same of a history.
+pub record Recorded (resolved : Resolved) (h : History) (old new : State) (reply : Reply) : Type 0 where
+  pub effect : Effect
+  pub is : resolved ≡ Ok effect
+  pub reply_is : reply ≡ effect.reply
+  pub setup : new.setup ≡ old.setup
+  pub records : new.recording.finished ≡ old.recording.finished ++ records_of (tables old.setup h) effect
+  pub measures : new.measures ≡ old.measures ++ effect.measures
+  pub stands : StandsFor new (tables old.setup (h ++ effect ∷ []))

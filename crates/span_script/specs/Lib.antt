@@ -1,0 +1,10 @@
+pub mod Admission
+pub mod Balance
+pub mod Effects
+pub mod Fields
+pub mod Fits
+pub mod Outcomes
+pub mod Refusals
+pub mod Setups
+pub mod Slots
+pub mod Tables
