@@ -9,6 +9,7 @@ mod metric_runs;
 mod refused_runs;
 mod runs;
 mod steps;
+mod whole_runs;
 
 use crate::sink::{MemSink, Sink, StdSink, SureSink};
 use crate::source::{MemSource, Source, StdSource, SureSource};
@@ -27,6 +28,7 @@ use std::test::Fail;
 use std::thread::Threads;
 use steps::{STEPS, stepped};
 use trace_pipeline::limits::MAX_INPUT;
+use whole_runs::{WHOLE_RUNS, at_once};
 
 const SETTINGS: &str =
     r#"{"callsites":[{"fields":["a","f","otel.status_code"],"kind":"span","level":"info","name":"s","target":"app"},{"fields":["error","message"],"kind":"event","level":"info","name":"e","target":"app"},{"fields":["error","message"],"kind":"event","level":"error","name":"x","target":"app"},{"fields":[],"kind":"event","level":"debug","name":"d","target":"app"},{"fields":[],"kind":"span","level":"trace","name":"t","target":"app"}],"filter":"info","lanes":[{"id":1,"name":"main"},{"id":2}],"layer":{"location":false,"target":false,"threads":false}}"#;
@@ -119,12 +121,14 @@ fn differing<H: Threads + Wait + Sync + AllocGlobal>(
             add_line(&mut wanted, text)?;
         } else if line == "P" {
             add_line(&mut input, SETTINGS)?;
-        } else if line == "~" || line.starts_with('=') {
-            let got = if line == "~" {
-                stepped(rt, input.as_str())?
-            } else {
-                add_line(&mut wanted, line)?;
-                ran_as(rt, word, input.as_bytes(), &[], &[])?
+        } else if line == "~" || line == "^" || line.starts_with('=') {
+            let got = match line {
+                "~" => stepped(rt, input.as_str())?,
+                "^" => at_once(rt, input.as_str())?,
+                status => {
+                    add_line(&mut wanted, status)?;
+                    ran_as(rt, word, input.as_bytes(), &[], &[])?
+                }
             };
             if got.as_str() != wanted.as_str() {
                 return Ok(Some(got));
@@ -145,6 +149,7 @@ fn runs_scripts(rt: HostRuntime) -> Result<(), Fail> {
         FILTER_RUNS,
         REFUSED_RUNS,
         STEPS,
+        WHOLE_RUNS,
     ] {
         let differing = differing(&rt, "run", runs)?;
         assert!(rt; differing.is_none(), "{differing:?}");
