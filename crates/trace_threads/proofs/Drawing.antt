@@ -83,8 +83,8 @@ is_home making turns owner place tickets home views id t v r at is own served = 
     home_in : IsHome making turns home views → home ≡ core.some (home_of making (entries turns))
     home_in (inl e) = e
     home_in (inr h) =
-        let same = owned h.0 h.1.stage h.1.seen h.3 (r.each h.0 h.1 h.2).staged in
-        absurd (subst IsHolder (ap (λ (u : View). u.stage) (same_view views h.0 id h.1 v same h.2 at) ∙ is) h.3)
+        let same = owned h.1 h.2.stage h.2.seen h.4 (r.each h.1 h.2 h.3).staged in
+        absurd (subst IsHolder (ap (λ (u : View). u.stage) (same_view views h.1 id h.2 v same h.3 at) ∙ is) h.4)
 
 staged_as : (turns : List Turn) (owner : ℕ → ℕ) (tickets j : ℕ) (seen : List Turn) (stage : Stage) (t : ℕ) → stage ≡ Waits t → Staged turns owner tickets j seen stage → Staged turns owner tickets j seen (Waits t)
 staged_as turns owner tickets j seen stage t e s = subst (Staged turns owner tickets j seen) e s
@@ -104,7 +104,7 @@ looked_case id t v waits turns owner place tickets home views r at true is =
       capped = r.capped;
       behind = r.behind;
       legal = r.legal;
-      at_home = inr (id, w, set_here views id w (there views id v at), tt);
+      at_home = inr (refl, id, w, set_here views id w (there views id v at), tt);
       each = fits_set v.origin turns owner place tickets views id w (λ j u apart e. r.each j u e) mine;
     } in
     let has : HasTurn (v, []) t (w, (0, home_of v.origin (entries turns)) ∷ []) = record { view = refl; slot = refl; begins = f.begins; before = f.before; legal = r.legal; own = f.own; other = f.other; apart = λ k a b. sides id (sym (at_own place (id, false) v.number k a f.own_place) ∙ at_own place (id, true) v.other k b f.other_place) } in (

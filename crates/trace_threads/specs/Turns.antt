@@ -98,11 +98,11 @@ IsHolder Idle = ⊥
 IsHolder (Waits t) = ⊥
 IsHolder (Holds t) = Unit {0}
 
--- the slot is at home with what the turns come to, or with the seat that holds the turn
+-- the slot is at home with what the turns come to, or it is out, with the seat that holds the turn
 abbrev pub IsHome : Making → List Turn → core.Option Slot → List View → Type 0
 IsHome making turns home views =
     (home ≡ core.some (home_of making (entries turns)))
-    ⊎ ((h : ℕ) × (v : View) × (get_elem? views h ≡ core.some v) × IsHolder v.stage)
+    ⊎ ((home ≡ core.none) × (h : ℕ) × (v : View) × (get_elem? views h ≡ core.some v) × IsHolder v.stage)
 
 pub record Ruled (making : Making) (turns : List Turn) (owner : ℕ → ℕ) (place : ℕ → ℕ × Bool) (tickets : ℕ) (home : core.Option Slot) (views : List View) : Type 0 where
   pub capped : tickets ≤ LAST
