@@ -1,4 +1,4 @@
--- Why a text is no directive: the first fault from the left.
+-- Why a text is no directive: the first fault from the left. Where values are patterns, `Pattern` may stand beside another fault.
 use Rattle.std.specs.Prelude.{◌≡◌, ℕ, List, [], ◌∷◌, ◌++◌, Bool, true, None, codes}
 use Rattle.env_directives.specs.Cuts.{is_among}
 use Rattle.env_directives.specs.Forms.{begins, Front, front_text, IsFront, IsLevelText, level_behind, opened, IsOpened, IsField, IsDirective}

@@ -257,7 +257,7 @@ without_first k = record k { recording = record k.recording { finished = drop 1 
 abbrev pub without_first_measure : State → State
 without_first_measure k = record k { measures = drop 1 k.measures }
 
--- What every pipeline keeps: it stands for some history.
+-- What every pipeline keeps: it is alone in its world, whole, and fits some tables.
 pub record IsKept {S : Type 0} (kept : S → ℕ → ℕ → ℕ) (is_whole : S → Type 0) (world : Worlds S) (k : State) : Type 0 where
   pub there : k.dispatch < length world.subscribers
   pub alone : length world.subscribers ≡ 1

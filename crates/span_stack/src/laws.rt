@@ -24,8 +24,8 @@ use env_filter::reload;
 use otel_layer::part::OtelPart;
 use trace_base::subscriber::Subscriber;
 
-/// One call is one step of what is recorded and one of the filter in place; the filter that counts and the cached
-/// interests stay.
+/// One call is one step of what is recorded and one of the filter in place, and an event adds its measures; the filter that
+/// counts and the cached interests stay.
 pub fn calls()
     ensures recording { (old new : StackWorlds) (dispatch : ℕ) (call : SubscriberCall)
         → Replaced (λ s t. ⟦<Stack as Subscriber>⟧.does s call t) old new dispatch
@@ -109,7 +109,7 @@ pub fn chains()
     stay_fresh::<Stack>();
 }
 
-/// A call from outside is one step of what is recorded, and leaves the filter and the cached interests.
+/// A call from outside is one step of what is recorded, and leaves the filters, the measures and the cached interests.
 pub fn asks()
     ensures recording { (old new : StackWorlds) (dispatch : ℕ) (call : PartCall)
         → Replaced (λ s t. ⟦<Stack as OtelPart>⟧.touches s call t) old new dispatch

@@ -1,5 +1,5 @@
-//! The stack that scripts run on: a registry, the OpenTelemetry layer over it, and a filter outside. How it is made, and
-//! what a caller over a world with it reads off each call.
+//! The stack that scripts run on: a registry, the OpenTelemetry layer over it, which may count events, the layer of metrics,
+//! and a filter outside. How it is made, and what a caller over a world with it reads off each call.
 #![tactic(auto)]
 
 pub mod filters;
