@@ -6,11 +6,13 @@ use Rattle.env_directives.specs.Forms.{IsDirective}
 use Rattle.env_directives.specs.declared.directive.StaticDirective.{StaticDirective}
 use Rattle.env_directives.specs.declared.env.directive.Directive.{Directive}
 use Rattle.env_directives.specs.declared.env.field.Match.{Match}
-use Rattle.env_directives.specs.Printed.{directive_text}
+use Rattle.env_directives.specs.Printed.{directive_text, HasNoMinusZero}
 use Rattle.env_directives.specs.StaticPrinted.{static_text}
 use Rattle.env_directives.specs.Table.{Table, greatest_of}
 use Rattle.trace_base.specs.declared.level.LevelFilter.{LevelFilter}
 use Rattle.trace_base.specs.Level.{greatest_verbosity}
+use Rattle.env_filter.specs.Building.{Building, default_builder}
+use Rattle.env_filter.specs.Filtering.{Each, Filtered}
 use Rattle.env_filter.specs.Tables.{statics_of, dynamics_of}
 
 -- each item behind a comma
@@ -52,3 +54,15 @@ HasOwnGreatest level t = greatest_verbosity t.greatest ≡ greatest_of (map (λ 
 
 abbrev pub HaveOwnGreatest : List Directive → Type 0
 HaveOwnGreatest ds = HasOwnGreatest (λ s. s.level) (statics_of ds) × HasOwnGreatest (λ d. d.level) (dynamics_of ds)
+
+-- no directive asks for the number 0 as one that was read behind a minus
+abbrev pub HaveNoMinusZero : List Directive → Type 0
+HaveNoMinusZero ds = Each (λ d. HasNoMinusZero d.fields) ds
+
+-- what a filter prints
+abbrev pub text_of : Filtered → List ℕ
+text_of f = filter_text f.statics.directives f.dynamics.directives
+
+-- a builder that takes no patterns and has no default
+abbrev pub fixed_builder : Building
+fixed_builder = record default_builder { patterns = false }

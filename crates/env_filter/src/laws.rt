@@ -1,16 +1,18 @@
 //! What holds of every filter.
 ghost use Rattle.std.specs.Prelude.{◌≡◌, ◌<◌, length, ◌++◌, [], ℕ, List, None, Some, is_some, true, false, option_map};
+ghost use Rattle.std.specs.Str.{IsUtf8};
 ghost use Rattle.trace_base.specs.Calls.{SubscriberCall};
 ghost use Rattle.trace_base.specs.Gate.{IsFresh, IsOwn, dispatch_on};
 ghost use Rattle.trace_base.specs.Hooks.{Hook};
 ghost use Rattle.span_registry.specs.History.{Runs};
 ghost use Rattle.env_directives.specs.declared.directive.StaticDirective.{StaticDirective};
 ghost use Rattle.env_directives.specs.declared.env.directive.Directive.{Directive};
-ghost use Rattle.env_filter.specs.Building.{IsFilterOf, default_builder};
+ghost use Rattle.env_filter.specs.declared.pieces.Ignored.{Ignored};
+ghost use Rattle.env_filter.specs.Building.{IsFilterOf};
 ghost use Rattle.env_filter.specs.Filtering.{Each, Filtered, plain, AreWhole, IsNew, is_admitted};
 ghost use Rattle.env_filter.specs.Histories.{level_told, is_ended, NeverFalls};
 ghost use Rattle.env_filter.specs.Pieces.{ReadsText};
-ghost use Rattle.env_filter.specs.Printing.{HaveOwnGreatest, IsReadBack, filter_text, printed, printed_of};
+ghost use Rattle.env_filter.specs.Printing.{HaveNoMinusZero, HaveOwnGreatest, IsReadBack, filter_text, fixed_builder, printed, printed_of, text_of};
 ghost use Rattle.env_filter.specs.Stacked.{HearsCalls, HearsInPlace};
 ghost use Rattle.env_filter.specs.Tables.{dynamics_of, filter_of, statics_of};
 ghost use Rattle.env_filter.specs.Worlds.{ComesTo, TakesAll, filter_rule, in_place_rule, IsWholeInPlace, EachSubscriber, AdmitsBy};
@@ -48,8 +50,17 @@ pub fn printing()
     ensures statics { (ds : List Directive) → (statics_of (printed_of ds)).directives ≡ (statics_of ds).directives }
     ensures dynamics { (ds : List Directive) → (dynamics_of (printed_of ds)).directives ≡ (dynamics_of ds).directives }
     ensures again { (ds : List Directive) → Each IsReadBack ds → HaveOwnGreatest ds
-        → IsFilterOf (record default_builder { patterns = false })
-        (filter_text (statics_of ds).directives (dynamics_of ds).directives) [] (filter_of false None ds) }
+        → IsFilterOf fixed_builder (text_of (filter_of false None ds)) [] (filter_of false None ds) }
+{}
+
+/// Each directive that a text gives without patterns is read back alone, unless a value was read as minus zero. So what
+/// the filter of a text prints is read as that very filter, where no level was greater than those that are still there.
+pub fn reads_back()
+    ensures alone { (text : List ℕ) (ds : List Directive) (ignored : List Ignored) → IsUtf8 text
+        → ReadsText false text ds ignored → HaveNoMinusZero ds → Each IsReadBack ds }
+    ensures same { (text : List ℕ) (ignored : List Ignored) (f : Filtered) → IsUtf8 text
+        → (was : IsFilterOf fixed_builder text ignored f) → HaveNoMinusZero was.directives
+        → HaveOwnGreatest was.directives → IsFilterOf fixed_builder (text_of f) [] f }
 {}
 
 /// A filter that had no span hears the hooks of all calls of the subscriber below it, each span's making once and
