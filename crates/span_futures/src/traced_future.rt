@@ -4,6 +4,7 @@ ghost use Rattle.futures.specs.Task.{Covers, Keeps};
 ghost use Rattle.trace_base.specs.declared.lane.Lane.{Lane};
 ghost use Rattle.trace_base.specs.Gate.{Worlds, IsOwn};
 ghost use Rattle.span_handles.specs.Knowing.{KeepsKnown};
+ghost use Rattle.span_futures.specs.Calling.{CallsBy};
 ghost use Rattle.span_futures.specs.Lent.{HasAll, AreAllAttached, KeepsLent, KeepsParts};
 ghost use Rattle.span_futures.specs.Polls.{Polled, IfEnded, IfPending, UnlessEnded};
 
@@ -36,8 +37,8 @@ pub trait TracedFuture<S: Subscriber> {
     /// What a poll makes of it, the world and the lane.
     ghost polls: { Self → Worlds S → Lane → ℕ → Polled Self.Output → Self → Worlds S → Lane → Type 0 };
 
-    /// Polls it in a world on a lane at a moment. It may be polled again unless it was ready. `Full` and `Memory` come
-    /// as `polls` says.
+    /// Polls it in a world on a lane at a moment, and gives no call of a subscriber a later one. It may be polled again
+    /// unless it was ready. `Full` and `Memory` come as `polls` says.
     fn poll_in(
         &mut self,
         world: &mut World<S>,
@@ -53,6 +54,7 @@ pub trait TracedFuture<S: Subscriber> {
         requires still { AreAllAttached S.kept world.old lane.old }
         ensures did { polls self.old world.old lane.old at result self.new world.new lane.new }
         ensures keeps { KeepsLent S.spans S.kept S.is_whole world.old world.new lane.old lane.new }
+        ensures moments { CallsBy S.does S.same at world.old world.new }
         ensures known_after { knows self.new world.new }
         ensures value { IfEnded result (gives self.old) }
         ensures again { UnlessEnded result (can_poll self.new) }

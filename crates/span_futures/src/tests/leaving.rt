@@ -2,6 +2,7 @@
 ghost use Rattle.std.specs.Prelude.{◌≡◌, ◌<◌, ◌∷◌, ℕ, length, [], Some, None, IfOk, OnOk};
 ghost use Rattle.trace_base.specs.Conditions.{HasFewHolds};
 ghost use Rattle.span_handles.specs.Handles.{IsKnown, HasOn};
+ghost use Rattle.span_futures.specs.Calling.{CallsBy};
 ghost use Rattle.span_futures.specs.Lent.{HasAll, KeepsLent};
 
 use super::{current, first, lane, poll};
@@ -71,6 +72,7 @@ fn enter_for_good<S: Subscriber>(
     requires whole { HasAll S.is_whole world.old }
     requires few_holds { HasOn (λ s id. HasFewHolds (S.spans s).made id) world.old span.now.held }
     ensures keeps { KeepsLent S.spans S.kept S.is_whole world.old world.new lane.old lane.new }
+    ensures moments { CallsBy S.does S.same at world.old world.new }
     ensures known { IsKnown S.spans world.new span.now.held }
 {
     match span.open_entry(world, lane, at) {

@@ -1,6 +1,7 @@
 -- The span is entered, the future inside polled, and the span exited.
 use Rattle.std.proofs.Common.{refl, sym, inl, inr}
 use Rattle.std.proofs.lemmas.Bool.{true≢false}
+use Rattle.span_futures.proofs.Calling.{calls_inside, calls_refused}
 use Rattle.span_futures.proofs.Inside.{on_all, begun, may_exit, polled_inside, ended, refused}
 use Rattle.span_futures.proofs.instrument.InstrumentedTracedFuture.poll_in.Goals as goal
 
@@ -53,6 +54,10 @@ pub returns-in-Ok-clause-keeps : goal.returns-in-Ok-clause-keeps
 returns-in-Ok-clause-keeps g c =
     polled_inside g.S.Subscriber.spans g.S.Subscriber.attaches g.S.Subscriber.kept g.S.Subscriber.is_whole g.S.Subscriber.does g.met.S.Subscriber.sound g.met.S.Subscriber.allowed g.met.S.Subscriber.shows g.met.S.Subscriber.lanes g.met.S.Subscriber.keeps_whole c.args.at c.args.self.now.span.held c.args.world.now c.open_entry.new.world c.poll_in-polled.new.world c.close_entry.new.world c.args.lane.now c.open_entry.new.lane c.poll_in-polled.new.lane c.close_entry.new.lane c.requires.known.0 (record { entered = c.in-Ok.ensures.did; none = c.open_entry.ensures.none }) c.poll_in-polled.ensures.keeps c.close_entry.ensures.did c.close_entry.ensures.none
 
+pub returns-in-Ok-clause-moments : goal.returns-in-Ok-clause-moments
+returns-in-Ok-clause-moments g c =
+    calls_inside g.S.Subscriber.does g.S.Subscriber.same g.met.S.Subscriber.same_refl g.met.S.Subscriber.same_trans g.met.S.Subscriber.same_does c.args.at c.args.self.now.span.held c.args.world.now c.open_entry.new.world c.poll_in-polled.new.world c.close_entry.new.world c.args.lane.now c.open_entry.new.lane c.poll_in-polled.new.lane c.close_entry.new.lane c.in-Ok.ensures.did c.poll_in-polled.ensures.moments c.close_entry.ensures.did
+
 pub returns-in-Ok-clause-known_after : goal.returns-in-Ok-clause-known_after
 returns-in-Ok-clause-known_after g c =
     let b = begun g.S.Subscriber.spans g.S.Subscriber.attaches g.S.Subscriber.kept g.S.Subscriber.is_whole g.S.Subscriber.does g.met.S.Subscriber.sound g.met.S.Subscriber.allowed g.met.S.Subscriber.shows g.met.S.Subscriber.lanes g.met.S.Subscriber.keeps_whole c.args.at c.args.self.now.span.held c.args.world.now c.open_entry.new.world c.args.lane.now c.open_entry.new.lane (record { entered = c.in-Ok.ensures.did; none = c.open_entry.ensures.none }) in
@@ -66,6 +71,10 @@ returns-in-Err-clause-did g c =
 pub returns-in-Err-clause-keeps : goal.returns-in-Err-clause-keeps
 returns-in-Err-clause-keeps g c =
     refused g.S.Subscriber.spans g.S.Subscriber.kept g.S.Subscriber.is_whole g.S.Subscriber.same g.met.S.Subscriber.same_spans g.met.S.Subscriber.same_kept g.met.S.Subscriber.same_whole c.args.self.now.span.held c.args.world.now c.open_entry.new.world c.args.lane.now c.open_entry.new.lane c.in-Err.ensures.leaves c.in-Err.ensures.lane_leaves
+
+pub returns-in-Err-clause-moments : goal.returns-in-Err-clause-moments
+returns-in-Err-clause-moments g c =
+    calls_refused g.S.Subscriber.does g.S.Subscriber.same g.met.S.Subscriber.same_refl g.met.S.Subscriber.same_trans g.met.S.Subscriber.same_does c.args.at c.args.world.now c.open_entry.new.world c.args.self.now.span.held c.in-Err.ensures.leaves
 
 pub returns-in-Err-clause-known_after : goal.returns-in-Err-clause-known_after
 returns-in-Err-clause-known_after g c =
