@@ -13,7 +13,7 @@ use Rattle.trace_base.specs.Contexts.{AreAttached, Lanes}
 use Rattle.span_handles.specs.Worlds.{Has, Replaced, spans_in, no_spans}
 use Rattle.span_handles.specs.Handles.{Held, IsKnown, HasOn, ReplacedOn}
 use Rattle.span_handles.specs.Entries.{IsOpenOn, IsStillOn, Begins, Keeps, LeavesLane}
-use Rattle.span_handles.specs.Knowing.{KeepsKnown, KeepsHandles, KeepsOthers}
+use Rattle.span_handles.specs.Knowing.{KeepsKnown, KeepsHandles, KeepsOthers, LosesOne}
 use Rattle.span_handles.proofs.Knowing.{keeps_same}
 use Rattle.span_handles.proofs.Scoping.{MayEnd, may_end}
 use Rattle.span_handles.proofs.Showing.{keeps, seen_before, seen_later}
@@ -233,4 +233,11 @@ pub others_after : {S : Type 0} (spans : S → Spans) (old now new : Worlds S) (
 others_after spans old now new closed first second = record {
   known = λ held apart known. second.known held apart (first.known held known);
   beside = λ others held apart known. second.beside others held apart (first.beside others held known);
+}
+
+-- beside a handle of the closed one's span there is one less
+pub loses_after : {S : Type 0} (spans : S → Spans) (old now new : Worlds S) (closed : Held) → KeepsHandles spans old now → LosesOne spans now new closed → LosesOne spans old new closed
+loses_after spans old now new closed first second = record {
+  last = λ beside. second.last (first.beside 1 closed beside);
+  fewer = λ others beside. second.fewer others (first.beside (others + 1) closed beside);
 }

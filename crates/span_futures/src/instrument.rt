@@ -126,6 +126,8 @@ impl<T> Instrumented<T> {
         ensures ok { OnOk result (EndsInside S.spans S.does at self.span.held world.old lane.old world.new lane.new
             × F.post f self.inner tt) }
         ensures keeps { KeepsOthers S.spans world.old world.new self.span.held }
+        ensures fewer { OnOk result (LosesOne S.spans world.old world.new self.span.held) }
+        ensures refused_keeps { OnErr result (KeepsHandles S.spans world.old world.new) }
         ensures disabled { self.span.held ≡ None → IsOk result }
         ensures back { IfErr result (λ refused. refused.0 ≡ self) }
         ensures leaves { OnErr result
