@@ -1,4 +1,5 @@
--- Why a text is no directive: the first fault from the left. Where values are patterns, `Pattern` may stand beside another fault.
+-- Why a text is no directive. Without patterns it has one fault, the first from the left; where patterns are wanted, a text
+-- with a refused value may also have another fault further right, or the form of a directive, and either may be told.
 use Rattle.std.specs.Prelude.{◌≡◌, ℕ, List, [], ◌∷◌, ◌++◌, Bool, true, None, codes}
 use Rattle.env_directives.specs.Cuts.{is_among}
 use Rattle.env_directives.specs.Forms.{begins, Front, front_text, IsFront, IsLevelText, level_behind, opened, IsOpened, IsField, IsDirective}

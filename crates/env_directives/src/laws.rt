@@ -16,7 +16,8 @@ ghost use Rattle.trace_base.specs.declared.level.Level.{Level};
 
 use crate::directive::Match;
 
-/// A text is that of one directive at most; and a text with a fault is no directive's, and has no other fault.
+/// A text is that of one directive at most; and one that has no level behind its equals sign, or an empty field, is no
+/// directive's, and hasn't both.
 pub fn readings()
     ensures directive { (patterns : Bool) (text : List ℕ) (d e : Directive) → IsDirective patterns text d → IsDirective patterns text e → d ≡ e }
     ensures level { (patterns : Bool) (text : List ℕ) (d : Directive) → IsDirective patterns text d → HasNoLevel text → ⊥ }
