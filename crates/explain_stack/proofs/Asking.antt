@@ -16,7 +16,7 @@ use Rattle.trace_base.specs.Contexts.{Lanes}
 use Rattle.otel_state.specs.declared.op.Op.{Op}
 use Rattle.otel_state.specs.declared.op.OpReply.{OpReply}
 use Rattle.span_handles.specs.Worlds.{Replaced}
-use Rattle.span_handles.specs.Handles.{Held, ReplacedOn, RecordsAt, FollowsOn}
+use Rattle.span_handles.specs.Handles.{Held, RecordsAt, FollowsOn}
 use Rattle.span_handles.specs.Knowing.{KeepsKnown}
 use Rattle.span_handles.proofs.Knowing.{keeps_call, keeps_same}
 use Rattle.otel_layer.specs.Parts.{PartCall, Applies, Shows, StaysStack}
@@ -27,17 +27,17 @@ use Rattle.explain_stack.proofs.Quiet.{quiet_call, quiet_part, quiet_same}
 
 -- it stands as before, and knows what it knew
 pub record Goes {S : Type 0} (spans : S → Spans) (kept : S → ℕ → ℕ → ℕ) (is_whole : S → Type 0) (old new : Worlds S) : Type 0 where
-  pub stands : (dispatch made sites : ℕ) (lane : Lane) → Stands spans kept is_whole dispatch made sites old lane → Stands spans kept is_whole dispatch made sites new lane
+  pub stands : (dispatch made sites : ℕ) (lane other : Lane) → Stands spans kept is_whole dispatch made sites old lane other → Stands spans kept is_whole dispatch made sites new lane other
   pub known : KeepsKnown spans old new
 
 pub goes_nowhere : {S : Type 0} (spans : S → Spans) (kept : S → ℕ → ℕ → ℕ) (is_whole : S → Type 0) (old new : Worlds S) → new ≡ old → Goes spans kept is_whole old new
-goes_nowhere {S} spans kept is_whole old new same = subst (λ (w : Worlds S). Goes spans kept is_whole old w) (sym same) (record { stands = λ d m s l stands. stands; known = λ held known. known })
+goes_nowhere {S} spans kept is_whole old new same = subst (λ (w : Worlds S). Goes spans kept is_whole old w) (sym same) (record { stands = λ d m s l o stands. stands; known = λ held known. known })
 
 module _ {S : Type 0} (spans : S → Spans) (kept : S → ℕ → ℕ → ℕ) (attaches : S → Bool) (is_whole : S → Type 0) (touches : S → PartCall → S → Type 0)
     (stays : (s : S) (call : PartCall) (t : S) → touches s call t → StaysStack spans kept attaches is_whole s t) where
   part_goes : (call : PartCall) (old new : Worlds S) (d : ℕ) → Replaced (λ s t. touches s call t) old new d → Goes spans kept is_whole old new
   part_goes call old new d r = record {
-    stands = λ dispatch made sites lane stands. quiet_stands spans kept is_whole (λ s t. touches s call t) (quiet_part spans kept is_whole attaches touches stays call) old new d dispatch made sites lane r stands;
+    stands = λ dispatch made sites lane other stands. quiet_stands spans kept is_whole (λ s t. touches s call t) (quiet_part spans kept is_whole attaches touches stays call) old new d dispatch made sites lane other r stands;
     known = keeps_same spans (λ s t. touches s call t) (λ s t did. (stays s call t did).spans_same) old new d r;
   }
 
@@ -51,16 +51,16 @@ module _ {S : Type 0} (spans : S → Spans) (kept : S → ℕ → ℕ → ℕ) (
 
 module _ {S : Type 0} (spans : S → Spans) (attaches : S → Bool) (kept : S → ℕ → ℕ → ℕ) (is_whole : S → Type 0) (does : S → SubscriberCall → S → Type 0)
     (shows : (s : S) (call : SubscriberCall) (t : S) → does s call t → spans t ≡ after (spans s) call) (lanes : (s : S) (call : SubscriberCall) (t : S) → does s call t → Lanes (attaches s) (kept s) call (kept t))
-    (keeps_whole : (s : S) (call : SubscriberCall) (t : S) → does s call t → is_whole s → is_whole t) (old new : Worlds S) (at : ℕ) (dispatch made sites : ℕ) (lane : Lane) (stands : Stands spans kept is_whole dispatch made sites old lane) where
-  pub recorded_stands : (values : ValueSet) (held : Held) (callsite : Option Callsite) → RecordsAt does old new at values held callsite → Stands spans kept is_whole dispatch made sites new lane
-  recorded_stands values None callsite did = (goes_nowhere spans kept is_whole old new did).stands dispatch made sites lane stands
-  recorded_stands values (Some h) None did = (goes_nowhere spans kept is_whole old new did).stands dispatch made sites lane stands
-  recorded_stands values (Some h) (Some c) did = quiet_stands spans kept is_whole (λ s t. does s (Records h.1 at c values) t) (quiet_call spans attaches kept is_whole does shows lanes keeps_whole (Records h.1 at c values) tt) old new h.0 dispatch made sites lane did stands
+    (keeps_whole : (s : S) (call : SubscriberCall) (t : S) → does s call t → is_whole s → is_whole t) (old new : Worlds S) (at : ℕ) (dispatch made sites : ℕ) (lane other : Lane) (stands : Stands spans kept is_whole dispatch made sites old lane other) where
+  pub recorded_stands : (values : ValueSet) (held : Held) (callsite : Option Callsite) → RecordsAt does old new at values held callsite → Stands spans kept is_whole dispatch made sites new lane other
+  recorded_stands values None callsite did = (goes_nowhere spans kept is_whole old new did).stands dispatch made sites lane other stands
+  recorded_stands values (Some h) None did = (goes_nowhere spans kept is_whole old new did).stands dispatch made sites lane other stands
+  recorded_stands values (Some h) (Some c) did = quiet_stands spans kept is_whole (λ s t. does s (Records h.1 at c values) t) (quiet_call spans attaches kept is_whole does shows lanes keeps_whole (Records h.1 at c values) tt) old new h.0 dispatch made sites lane other did stands
 
-  pub followed_stands : (held from : Held) → FollowsOn does old new at held from → Stands spans kept is_whole dispatch made sites new lane
-  followed_stands None from did = (goes_nowhere spans kept is_whole old new did).stands dispatch made sites lane stands
-  followed_stands (Some h) None did = (goes_nowhere spans kept is_whole old new did).stands dispatch made sites lane stands
-  followed_stands (Some h) (Some f) did = quiet_stands spans kept is_whole (λ s t. does s (Follows h.1 f.1 at) t) (quiet_call spans attaches kept is_whole does shows lanes keeps_whole (Follows h.1 f.1 at) tt) old new h.0 dispatch made sites lane did stands
+  pub followed_stands : (held from : Held) → FollowsOn does old new at held from → Stands spans kept is_whole dispatch made sites new lane other
+  followed_stands None from did = (goes_nowhere spans kept is_whole old new did).stands dispatch made sites lane other stands
+  followed_stands (Some h) None did = (goes_nowhere spans kept is_whole old new did).stands dispatch made sites lane other stands
+  followed_stands (Some h) (Some f) did = quiet_stands spans kept is_whole (λ s t. does s (Follows h.1 f.1 at) t) (quiet_call spans attaches kept is_whole does shows lanes keeps_whole (Follows h.1 f.1 at) tt) old new h.0 dispatch made sites lane other did stands
 
 -- a link whose context is valid, or nothing
 pub links_go : {S : Type 0} (spans : S → Spans) (kept : S → ℕ → ℕ → ℕ) (attaches : S → Bool) (is_whole : S → Type 0) (touches : S → PartCall → S → Type 0)
@@ -80,10 +80,10 @@ pub event_goes : {S : Type 0} (spans : S → Spans) (attaches : S → Bool) (kep
 event_goes spans attaches kept is_whole does sound allowed shows lanes keeps_whole same same_spans same_kept same_whole old new d lane at place site values (Ok x) did left =
     let call : SubscriberCall = Event lane at place site did.0 values in
     record {
-      stands = λ dispatch made sites on stands. quiet_stands spans kept is_whole (λ s t. does s call t) (quiet_call spans attaches kept is_whole does shows lanes keeps_whole call tt) old new d dispatch made sites on did.1 stands;
+      stands = λ dispatch made sites on other stands. quiet_stands spans kept is_whole (λ s t. does s call t) (quiet_call spans attaches kept is_whole does shows lanes keeps_whole call tt) old new d dispatch made sites on other did.1 stands;
       known = keeps_call spans does sound allowed shows old new d call did.1 tt;
     }
 event_goes spans attaches kept is_whole does sound allowed shows lanes keeps_whole same same_spans same_kept same_whole old new d lane at place site values (Err e) did left = record {
-  stands = λ dispatch made sites on stands. quiet_stands spans kept is_whole same (quiet_same spans kept is_whole same same_spans same_kept same_whole) old new d dispatch made sites on left stands;
+  stands = λ dispatch made sites on other stands. quiet_stands spans kept is_whole same (quiet_same spans kept is_whole same same_spans same_kept same_whole) old new d dispatch made sites on other left stands;
   known = keeps_same spans same same_spans old new d left;
 }

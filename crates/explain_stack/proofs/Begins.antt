@@ -1,12 +1,11 @@
 -- What a scene begins with.
-use Rattle.std.proofs.Common.{◌≡◌, ℕ, zero, suc, ◌+◌, ◌<◌, ◌≤◌, List, [], ◌∷◌, ◌++◌, length, Some, refl, sym, ap, subst, ◌∙◌, arith, slice_get, sum_by}
+use Rattle.std.proofs.Common.{◌≡◌, ℕ, zero, suc, ◌<◌, ◌≤◌, List, [], ◌∷◌, ◌++◌, length, Some, None, refl, sym, ap, subst, ◌∙◌, arith, slice_get, sum_by}
 use Rattle.std.specs.Prelude.{IfSome}
 use Rattle.std.proofs.lemmas.List.Sums.{sum_by-cons}
 use Rattle.trace_base.specs.declared.lane.Lane.{Lane}
 use Rattle.trace_base.specs.Gate.{Worlds, AreSame}
 use Rattle.trace_base.specs.Spans.{Spans}
 use Rattle.span_registry.specs.Registering.{no_spans}
-use Rattle.span_futures.specs.Lent.{HasAll}
 use Rattle.explain_stack.specs.Order.{Stands}
 
 nothing : {X : Type 0} (xs : List X) → length xs ≡ 0 → xs ≡ []
@@ -29,8 +28,8 @@ module _ {S : Type 0} (same : S → S → Type 0) (first : S) where
   pub begins : (spans : S → Spans) (kept : S → ℕ → ℕ → ℕ) (is_whole : S → Type 0) → ((s t : S) → same s t → spans t ≡ spans s) → ((s t : S) → same s t → kept t ≡ kept s) → ((s t : S) → same s t → is_whole s → is_whole t)
       → is_whole first → spans first ≡ no_spans → ((lane number : ℕ) → kept first lane number ≡ 0)
       → (before : List S) → length before ≡ 0 → (world : Worlds S) → AreSame same (before ++ first ∷ []) world.subscribers → (sites : ℕ) → sites ≤ length world.sites
-      → (lane : Lane) (dispatch : ℕ) → dispatch ≡ length before → lane.default ≡ Some dispatch → Stands spans kept is_whole dispatch 0 sites world lane
-  begins spans kept is_whole same_spans same_kept same_whole whole none nothing_kept before empty world are_more sites declared lane dispatch is default =
+      → (lane other : Lane) (dispatch : ℕ) → dispatch ≡ length before → lane.default ≡ Some dispatch → other.default ≡ None → (other.id ≡ lane.id → ⊥) → Stands spans kept is_whole dispatch 0 sites world lane other
+  begins spans kept is_whole same_spans same_kept same_whole whole none nothing_kept before empty world are_more sites declared lane other dispatch is default none_other apart =
       let are : AreSame same (first ∷ []) world.subscribers = subst (λ (xs : List S). AreSame same (xs ++ first ∷ []) world.subscribers) (nothing before empty) are_more in
       let count = are.count in
       record {
@@ -42,4 +41,9 @@ module _ {S : Type 0} (same : S → S → Type 0) (first : S) where
             let e = one_sum (λ s. kept s lane.id number) (λ t is. ap (λ (k : ℕ → ℕ → ℕ). k lane.id number) (same_kept first t is) ∙ nothing_kept lane.id number) world.subscribers are in
             omega (arith, e));
         own = subst (λ o. IfSome o (λ d. d < length world.subscribers)) (sym default) (omega (arith, count, is, empty));
+        attached_other = λ number. (
+            let e = one_sum (λ s. kept s other.id number) (λ t is. ap (λ (k : ℕ → ℕ → ℕ). k other.id number) (same_kept first t is) ∙ nothing_kept other.id number) world.subscribers are in
+            omega (arith, e));
+        own_other = subst (λ o. IfSome o (λ d. d < length world.subscribers)) (sym none_other) tt;
+        apart = apart;
       }

@@ -1,5 +1,5 @@
 -- Three handles after a take, a put and a call.
-use Rattle.std.proofs.Common.{◌≡◌, ℕ, Bool, false, true, Some, None, refl, sym, ap, ◌∙◌, subst, inl, inr, ◌⊎◌}
+use Rattle.std.proofs.Common.{◌≡◌, ℕ, Bool, false, Some, None, refl, sym, ap, ◌∙◌, subst, inl, inr}
 use Rattle.std.specs.Prelude.{◌==◌, ◌&&◌}
 use Rattle.std.proofs.lemmas.Bool.{eq-eqb, true≢false}
 use Rattle.trace_base.specs.Gate.{Worlds}

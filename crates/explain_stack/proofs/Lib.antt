@@ -2,5 +2,6 @@ pub mod Asking
 pub mod Begins
 pub mod Held
 pub mod Moves
+pub mod Polling
 pub mod Quiet
 pub mod Steps

@@ -1,8 +1,8 @@
 -- What entries, exits and makings keep of a scene.
-use Rattle.std.proofs.Common.{◌≡◌, ℕ, ◌+◌, ◌<◌, ◌≤◌, List, [], ◌∷◌, ◌++◌, length, Bool, Option, Some, None, refl, sym, ap, subst, ◌∙◌, arith, count_by, slice_get, true, false, inl, inr}
+use Rattle.std.proofs.Common.{◌≡◌, ℕ, ◌+◌, ◌≤◌, List, [], ◌∷◌, length, Bool, Option, Some, None, refl, sym, ap, subst, ◌∙◌, arith, count_by, slice_get, true, false, inl, inr}
 use Rattle.std.specs.Prelude.{◌==◌, if◌then◌else◌}
 use Rattle.std.proofs.lemmas.List.{length-set, length-append}
-use Rattle.std.proofs.lemmas.Bool.{cases_eq}
+use Rattle.std.proofs.lemmas.Bool.{cases_eq, cond-false, ne_eqb}
 use Rattle.trace_base.specs.declared.callsite.Callsite.{Callsite}
 use Rattle.trace_base.specs.declared.field.ValueSet.{ValueSet}
 use Rattle.trace_base.specs.declared.lane.Lane.{Lane}
@@ -11,14 +11,14 @@ use Rattle.trace_base.specs.Gate.{Worlds, IsOwn}
 use Rattle.trace_base.specs.Spans.{Span, Spans, entries_on, times_in, is_in, place_on, held, released, held_by_child}
 use Rattle.trace_base.specs.Calls.{SubscriberCall, NewSpan, Enter, Exit, after, entered, exited}
 use Rattle.trace_base.specs.Conditions.{HasOwnHold, MayExit}
-use Rattle.trace_base.specs.Contexts.{Lanes, KeepsAttached}
+use Rattle.trace_base.specs.Contexts.{Lanes, KeepsAttached, attached_as}
 use Rattle.trace_base.proofs.Entering.{counted_if_any, length_held}
 use Rattle.trace_base.proofs.Holding.{first_if_in}
-use Rattle.span_handles.specs.Worlds.{Has, Replaced}
+use Rattle.span_handles.specs.Worlds.{Replaced}
 use Rattle.span_handles.specs.Handles.{Held, IsKnown, HasOn, ReplacedOn}
 use Rattle.span_handles.specs.Entries.{LeavesLane}
 use Rattle.span_handles.proofs.Showing.{as_many, now_there}
-use Rattle.span_futures.specs.Lent.{all_kept}
+use Rattle.span_futures.specs.Lent.{all_kept, AreAllAttached}
 use Rattle.span_futures.proofs.Keeping.{keeps_all, others_same, same_kept, own_after, attached_after}
 use Rattle.explain_stack.specs.Order.{Stands}
 
@@ -49,14 +49,26 @@ enter_made x id lane = if_length (is_in id (entries_on lane x.lanes)) x.made (he
 exit_made : (x : Spans) (id lane : ℕ) → length (exited x id lane).made ≡ length x.made
 exit_made x id lane = if_length (times_in id (entries_on lane x.lanes) == 1) (released x.made id) x.made (length x.made) (length-set x.made id _) refl
 
+-- what one lane's entries attach is nothing of another lane
+attached_elsewhere : {S : Type 0} (R : S → S → Type 0) (old new : Worlds S) (d : ℕ) (r : Replaced R old new d) (kept : S → ℕ → ℕ → ℕ) (before later other : Lane) → later.id ≡ before.id → (other.id ≡ before.id → ⊥)
+    → KeepsAttached (kept r.before) before later (kept r.later) → AreAllAttached kept old other → AreAllAttached kept new other
+attached_elsewhere R old new d r kept before later other same apart moves still =
+    attached_after R old new d r (λ s lane number. kept s other.id number) other other refl
+    (λ lane number. (
+    let k = moves other.id number in
+    let x = cond-false {A = ℕ} (before.id == other.id) (attached_as number before) 0 (ne_eqb before.id other.id (λ e. apart (sym e))) in
+    let y = cond-false {A = ℕ} (later.id == other.id) (attached_as number later) 0 (ne_eqb later.id other.id (λ e. apart (sym e ∙ same))) in
+    omega (arith, k, x, y)))
+    still
+
 module _ {S : Type 0} (spans : S → Spans) (attaches : S → Bool) (kept : S → ℕ → ℕ → ℕ) (is_whole : S → Type 0) (does : S → SubscriberCall → S → Type 0)
     (shows : (s : S) (call : SubscriberCall) (t : S) → does s call t → spans t ≡ after (spans s) call) (lanes : (s : S) (call : SubscriberCall) (t : S) → does s call t → Lanes (attaches s) (kept s) call (kept t))
     (keeps_whole : (s : S) (call : SubscriberCall) (t : S) → does s call t → is_whole s → is_whole t) (dispatch made sites : ℕ) where
   -- a span more
   pub grown_stands : (old new : Worlds S) (d id : ℕ) (in_lane : Lane) (at : ℕ) (place : Parent) (site : ℕ) (callsite : Callsite) (values : ValueSet)
       → Replaced (λ s t. (id ≡ length (spans s).made) × does s (NewSpan in_lane at place site callsite values) t) old new d
-      → (lane : Lane) → Stands spans kept is_whole dispatch made sites old lane → Stands spans kept is_whole dispatch (made + 1) sites new lane
-  grown_stands old new d id in_lane at place site callsite values r lane stands =
+      → (lane other : Lane) → Stands spans kept is_whole dispatch made sites old lane other → Stands spans kept is_whole dispatch (made + 1) sites new lane other
+  grown_stands old new d id in_lane at place site callsite values r lane other stands =
       let call : SubscriberCall = NewSpan in_lane at place site callsite values in
       let R : S → S → Type 0 = λ s t. (id ≡ length (spans s).made) × does s call t in
       record {
@@ -69,8 +81,8 @@ module _ {S : Type 0} (spans : S → Spans) (attaches : S → Bool) (kept : S �
               let one = ap (λ (x : Spans). length x.made) (shows r.before call r.later r.did.1) ∙ new_made (spans r.before) in_lane at place site callsite values in
               let was = stands.few d r.before r.there in
               subst (λ (s : S). length (spans s).made ≤ made + 1) last (omega (arith, one, was)))
-          | inr other ↦ (
-              let was = stands.few e t (sym (others_same R old new d r e other) ∙ there) in
+          | inr apart ↦ (
+              let was = stands.few e t (sym (others_same R old new d r e apart) ∙ there) in
               omega (arith, was))
         ];
         declared = (let e = ap (λ (w : Worlds S). length w.sites) r.others in omega (arith, e, stands.declared));
@@ -79,12 +91,18 @@ module _ {S : Type 0} (spans : S → Spans) (attaches : S → Bool) (kept : S �
             let a = stands.attached number in
             omega (arith, k, a));
         own = own_after R old new d r lane lane refl stands.own;
+        attached_other = λ number. (
+            let k = same_kept R old new d r kept (lanes r.before call r.later r.did.1) other.id number in
+            let a = stands.attached_other number in
+            omega (arith, k, a));
+        own_other = own_after R old new d r other other refl stands.own_other;
+        apart = stands.apart;
       }
 
   -- the lane has other contexts
-  moved_stands : (call : SubscriberCall) (old new : Worlds S) (d : ℕ) (before later : Lane) (r : Replaced (λ s t. does s call t) old new d) → later.id ≡ before.id → later.default ≡ before.default → KeepsAttached (kept r.before) before later (kept r.later)
-      → ((x : Spans) → length (after x call).made ≡ length x.made) → Stands spans kept is_whole dispatch made sites old before → Stands spans kept is_whole dispatch made sites new later
-  moved_stands call old new d before later r same default moves as_many_made stands =
+  moved_stands : (call : SubscriberCall) (old new : Worlds S) (d : ℕ) (before later other : Lane) (r : Replaced (λ s t. does s call t) old new d) → later.id ≡ before.id → later.default ≡ before.default → KeepsAttached (kept r.before) before later (kept r.later)
+      → ((x : Spans) → length (after x call).made ≡ length x.made) → Stands spans kept is_whole dispatch made sites old before other → Stands spans kept is_whole dispatch made sites new later other
+  moved_stands call old new d before later other r same default moves as_many_made stands =
       let R : S → S → Type 0 = λ s t. does s call t in
       record {
         there = (let n = as_many R old new d r in omega (arith, n, stands.there));
@@ -93,28 +111,31 @@ module _ {S : Type 0} (spans : S → Spans) (attaches : S → Bool) (kept : S �
         declared = (let e = ap (λ (w : Worlds S). length w.sites) r.others in omega (arith, e, stands.declared));
         attached = attached_after R old new d r kept before later same moves stands.attached;
         own = own_after R old new d r before later default stands.own;
+        attached_other = attached_elsewhere R old new d r kept before later other same stands.apart moves stands.attached_other;
+        own_other = own_after R old new d r other other refl stands.own_other;
+        apart = λ e. stands.apart (e ∙ same);
       }
 
-  pub entered_stands : (held : Held) (old new : Worlds S) (at : ℕ) (before later : Lane) → ReplacedOn (λ id s t. does s (Enter id at before later) t) old new held → (held ≡ None → later ≡ before)
-      → Stands spans kept is_whole dispatch made sites old before → Stands spans kept is_whole dispatch made sites new later
-  entered_stands None old new at before later r none stands =
-      subst (λ (l : Lane). Stands spans kept is_whole dispatch made sites new l) (sym (none refl)) (subst (λ (w : Worlds S). Stands spans kept is_whole dispatch made sites w before) (sym r) stands)
-  entered_stands (Some h) old new at before later r none stands =
+  pub entered_stands : (held : Held) (old new : Worlds S) (at : ℕ) (before later other : Lane) → ReplacedOn (λ id s t. does s (Enter id at before later) t) old new held → (held ≡ None → later ≡ before)
+      → Stands spans kept is_whole dispatch made sites old before other → Stands spans kept is_whole dispatch made sites new later other
+  entered_stands None old new at before later other r none stands =
+      subst (λ (l : Lane). Stands spans kept is_whole dispatch made sites new l other) (sym (none refl)) (subst (λ (w : Worlds S). Stands spans kept is_whole dispatch made sites w before other) (sym r) stands)
+  entered_stands (Some h) old new at before later other r none stands =
       let l = lanes r.before (Enter h.1 at before later) r.later r.did in
-      moved_stands (Enter h.1 at before later) old new h.0 before later r l.0.id l.0.default l.1 (λ x. enter_made x h.1 before.id) stands
+      moved_stands (Enter h.1 at before later) old new h.0 before later other r l.0.id l.0.default l.1 (λ x. enter_made x h.1 before.id) stands
 
-  pub exited_stands : (held : Held) (old new : Worlds S) (at : ℕ) (before later : Lane) → ReplacedOn (λ id s t. does s (Exit id at before later) t) old new held → (held ≡ None → later ≡ before)
-      → Stands spans kept is_whole dispatch made sites old before → Stands spans kept is_whole dispatch made sites new later
-  exited_stands None old new at before later r none stands =
-      subst (λ (l : Lane). Stands spans kept is_whole dispatch made sites new l) (sym (none refl)) (subst (λ (w : Worlds S). Stands spans kept is_whole dispatch made sites w before) (sym r) stands)
-  exited_stands (Some h) old new at before later r none stands =
+  pub exited_stands : (held : Held) (old new : Worlds S) (at : ℕ) (before later other : Lane) → ReplacedOn (λ id s t. does s (Exit id at before later) t) old new held → (held ≡ None → later ≡ before)
+      → Stands spans kept is_whole dispatch made sites old before other → Stands spans kept is_whole dispatch made sites new later other
+  exited_stands None old new at before later other r none stands =
+      subst (λ (l : Lane). Stands spans kept is_whole dispatch made sites new l other) (sym (none refl)) (subst (λ (w : Worlds S). Stands spans kept is_whole dispatch made sites w before other) (sym r) stands)
+  exited_stands (Some h) old new at before later other r none stands =
       let l = lanes r.before (Exit h.1 at before later) r.later r.did in
-      moved_stands (Exit h.1 at before later) old new h.0 before later r l.0.id l.0.default l.1 (λ x. exit_made x h.1 before.id) stands
+      moved_stands (Exit h.1 at before later) old new h.0 before later other r l.0.id l.0.default l.1 (λ x. exit_made x h.1 before.id) stands
 
 -- the lane is the same but for room
-pub lane_left : {S : Type 0} (spans : S → Spans) (kept : S → ℕ → ℕ → ℕ) (is_whole : S → Type 0) (dispatch made sites : ℕ) (world : Worlds S) (before later : Lane) → LeavesLane before later
-    → Stands spans kept is_whole dispatch made sites world before → Stands spans kept is_whole dispatch made sites world later
-lane_left spans kept is_whole dispatch made sites world before later left stands = record {
+pub lane_left : {S : Type 0} (spans : S → Spans) (kept : S → ℕ → ℕ → ℕ) (is_whole : S → Type 0) (dispatch made sites : ℕ) (world : Worlds S) (before later other : Lane) → LeavesLane before later
+    → Stands spans kept is_whole dispatch made sites world before other → Stands spans kept is_whole dispatch made sites world later other
+lane_left spans kept is_whole dispatch made sites world before later other left stands = record {
   there = stands.there;
   whole = stands.whole;
   few = stands.few;
@@ -125,4 +146,7 @@ lane_left spans kept is_whole dispatch made sites world before later left stands
       let b = stands.attached number in
       omega (arith, i, a, b));
   own = subst (λ (o : Option ℕ). IsOwn world o) (sym left.default) stands.own;
+  attached_other = stands.attached_other;
+  own_other = stands.own_other;
+  apart = λ e. stands.apart (e ∙ left.id);
 }

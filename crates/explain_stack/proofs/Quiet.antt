@@ -1,5 +1,5 @@
 -- Which steps of a stack make no span and leave lanes.
-use Rattle.std.proofs.Common.{◌≡◌, ℕ, ◌+◌, ◌≤◌, List, [], ◌∷◌, length, Bool, Option, Some, None, refl, sym, ap, subst, ◌∙◌, arith}
+use Rattle.std.proofs.Common.{◌≡◌, ℕ, length, Bool, Option, Some, refl, ap, ◌∙◌}
 use Rattle.std.proofs.lemmas.List.{length-set}
 use Rattle.trace_base.specs.Spans.{Spans, next_of}
 use Rattle.trace_base.specs.Calls.{SubscriberCall, NewSpan, Records, Follows, Event, Enter, Exit, CloneSpan, TryClose, after}

@@ -1,14 +1,11 @@
 -- What one step of a stack keeps of a scene.
-use Rattle.std.proofs.Common.{◌≡◌, ℕ, ◌+◌, ◌≤◌, length, Some, None, refl, sym, ap, subst, ◌∙◌, arith}
+use Rattle.std.proofs.Common.{◌≡◌, ℕ, ◌≤◌, length, Some, None, refl, sym, ap, subst, arith}
 use Rattle.trace_base.specs.declared.lane.Lane.{Lane}
 use Rattle.trace_base.specs.Gate.{Worlds}
 use Rattle.trace_base.specs.Spans.{Spans}
 use Rattle.span_handles.specs.Worlds.{Replaced}
 use Rattle.span_handles.specs.Handles.{Held, ReplacedOn}
-use Rattle.span_handles.specs.Knowing.{KeepsKnown}
-use Rattle.span_handles.proofs.Knowing.{keeps_same}
 use Rattle.span_handles.proofs.Showing.{as_many}
-use Rattle.span_futures.specs.Lent.{HasAll}
 use Rattle.span_futures.proofs.Keeping.{keeps_all, same_kept, own_after}
 use Rattle.explain_stack.specs.Order.{Stands}
 
@@ -19,8 +16,8 @@ module _ {S : Type 0} (spans : S → Spans) (kept : S → ℕ → ℕ → ℕ) (
     pub as_many_made : (s t : S) → R s t → length (spans t).made ≡ length (spans s).made
     pub as_kept : (s t : S) → R s t → kept t ≡ kept s
 
-  pub quiet_stands : (R : S → S → Type 0) (q : IsQuiet R) (old new : Worlds S) (d dispatch made sites : ℕ) (lane : Lane) → Replaced R old new d → Stands spans kept is_whole dispatch made sites old lane → Stands spans kept is_whole dispatch made sites new lane
-  quiet_stands R q old new d dispatch made sites lane r stands = record {
+  pub quiet_stands : (R : S → S → Type 0) (q : IsQuiet R) (old new : Worlds S) (d dispatch made sites : ℕ) (lane other : Lane) → Replaced R old new d → Stands spans kept is_whole dispatch made sites old lane other → Stands spans kept is_whole dispatch made sites new lane other
+  quiet_stands R q old new d dispatch made sites lane other r stands = record {
     there = (let n = as_many R old new d r in omega (arith, n, stands.there));
     whole = keeps_all R old new d r is_whole q.stays_whole stands.whole;
     few = keeps_all R old new d r (λ s. length (spans s).made ≤ made) (λ s t did few. (let e = q.as_many_made s t did in omega (arith, e, few))) stands.few;
@@ -30,8 +27,14 @@ module _ {S : Type 0} (spans : S → Spans) (kept : S → ℕ → ℕ → ℕ) (
         let a = stands.attached number in
         omega (arith, k, a));
     own = own_after R old new d r lane lane refl stands.own;
+    attached_other = λ number. (
+        let k = same_kept R old new d r kept (q.as_kept r.before r.later r.did) other.id number in
+        let a = stands.attached_other number in
+        omega (arith, k, a));
+    own_other = own_after R old new d r other other refl stands.own_other;
+    apart = stands.apart;
   }
 
-  pub quiet_on : (R : ℕ → S → S → Type 0) (q : (id : ℕ) → IsQuiet (R id)) (old new : Worlds S) (held : Held) (dispatch made sites : ℕ) (lane : Lane) → ReplacedOn R old new held → Stands spans kept is_whole dispatch made sites old lane → Stands spans kept is_whole dispatch made sites new lane
-  quiet_on R q old new None dispatch made sites lane r stands = subst (λ (w : Worlds S). Stands spans kept is_whole dispatch made sites w lane) (sym r) stands
-  quiet_on R q old new (Some h) dispatch made sites lane r stands = quiet_stands (R h.1) (q h.1) old new h.0 dispatch made sites lane r stands
+  pub quiet_on : (R : ℕ → S → S → Type 0) (q : (id : ℕ) → IsQuiet (R id)) (old new : Worlds S) (held : Held) (dispatch made sites : ℕ) (lane other : Lane) → ReplacedOn R old new held → Stands spans kept is_whole dispatch made sites old lane other → Stands spans kept is_whole dispatch made sites new lane other
+  quiet_on R q old new None dispatch made sites lane other r stands = subst (λ (w : Worlds S). Stands spans kept is_whole dispatch made sites w lane other) (sym r) stands
+  quiet_on R q old new (Some h) dispatch made sites lane other r stands = quiet_stands (R h.1) (q h.1) old new h.0 dispatch made sites lane other r stands

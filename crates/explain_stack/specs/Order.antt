@@ -1,5 +1,5 @@
 -- What the calls of a scene keep.
-use Rattle.std.specs.Prelude.{◌<◌, ◌≤◌, ℕ, length, IfSome}
+use Rattle.std.specs.Prelude.{◌≡◌, ◌<◌, ◌≤◌, ℕ, length, IfSome}
 use Rattle.trace_base.specs.declared.lane.Lane.{Lane}
 use Rattle.trace_base.specs.Gate.{Worlds, IsOwn}
 use Rattle.trace_base.specs.Spans.{Spans}
@@ -7,18 +7,21 @@ use Rattle.span_handles.specs.Handles.{Handle, IsKnown}
 use Rattle.span_futures.specs.Lent.{HasAll, AreAllAttached}
 use Rattle.explain_stack.specs.declared.scene.Scene.{Scene}
 
--- a world with a subscriber of that number, so many callsites and at most so many spans; what was attached by entries is
--- attached to the lane
-pub record Stands {S : Type 0} (spans : S → Spans) (kept : S → ℕ → ℕ → ℕ) (is_whole : S → Type 0) (dispatch made sites : ℕ) (world : Worlds S) (lane : Lane) : Type 0 where
+-- a world with a subscriber of that number, so many callsites and at most so many spans, and two lanes with different ids:
+-- what was attached by entries is attached to both
+pub record Stands {S : Type 0} (spans : S → Spans) (kept : S → ℕ → ℕ → ℕ) (is_whole : S → Type 0) (dispatch made sites : ℕ) (world : Worlds S) (lane other : Lane) : Type 0 where
   pub there : dispatch < length world.subscribers
   pub whole : HasAll is_whole world
   pub few : HasAll (λ s. length (spans s).made ≤ made) world
   pub declared : sites ≤ length world.sites
   pub attached : AreAllAttached kept world lane
   pub own : IsOwn world lane.default
+  pub attached_other : AreAllAttached kept world other
+  pub own_other : IsOwn world other.default
+  pub apart : other.id ≡ lane.id → ⊥
 
 abbrev pub InOrder : {S : Type 0} → (S → Spans) → (S → ℕ → ℕ → ℕ) → (S → Type 0) → Scene S → Type 0
-InOrder spans kept is_whole scene = Stands spans kept is_whole scene.dispatch scene.made scene.sites scene.world scene.lane
+InOrder spans kept is_whole scene = Stands spans kept is_whole scene.dispatch scene.made scene.sites scene.world scene.lane scene.other
 
 -- a handle that is known, with a callsite of the world
 pub record IsHeld {S : Type 0} (spans : S → Spans) (sites : ℕ) (world : Worlds S) (handle : Handle) : Type 0 where

@@ -1,10 +1,23 @@
 -- Three handles, of which one is taken or put.
-use Rattle.std.specs.Prelude.{◌≡◌, ◌⊎◌, ℕ}
+use Rattle.std.specs.Prelude.{◌≡◌, ◌⊎◌, ℕ, List, Option, Some, None, if◌then◌else◌, codes, bytes_eq}
 use Rattle.trace_base.specs.Gate.{Worlds}
 use Rattle.trace_base.specs.Spans.{Spans}
 use Rattle.span_handles.specs.Handles.{Handle, no_handle}
 use Rattle.explain_stack.specs.declared.handles.Handles.{Handles}
 use Rattle.explain_stack.specs.Order.{IsHeld}
+
+-- the one of a name, and the three with another one there
+abbrev pub named : List ℕ → Handles → Option Handle
+named name handles =
+    if bytes_eq name (codes "a") then Some handles.a else
+    (if bytes_eq name (codes "b") then Some handles.b else
+    (if bytes_eq name (codes "c") then Some handles.c else None))
+
+abbrev pub with_named : List ℕ → Handle → Handles → Handles
+with_named name slot handles =
+    if bytes_eq name (codes "a") then record handles { a = slot } else
+    (if bytes_eq name (codes "b") then record handles { b = slot } else
+    (if bytes_eq name (codes "c") then record handles { c = slot } else handles))
 
 -- one is taken, and a disabled one is left
 abbrev pub Takes : Handles → Handles → Handle → Type 0

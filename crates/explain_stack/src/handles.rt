@@ -1,17 +1,19 @@
 //! Three handles, by name.
 ghost use Rattle.std.specs.Prelude.{◌≡◌, false, IfSome, None};
 ghost use Rattle.span_handles.specs.Handles.{no_handle, same_held};
-ghost use Rattle.explain_stack.specs.Places.{Takes, Puts};
+ghost use Rattle.explain_stack.specs.Places.{Takes, Puts, named, with_named};
 
 use span_handles::entry::Entry;
 use span_handles::span::Span;
 use std::marker::Model;
 use std::mem;
+use trace_base::discard::Discard;
 
-/// A handle, and an entry of its span while one is open.
+/// A handle, and the entries of its span while they are open: on the lane on which calls are made, and on the other one.
 pub struct Slot {
     pub(crate) span: Span,
     pub(crate) entry: Option<Entry>,
+    pub(crate) other: Option<Entry>,
 }
 
 impl Model for Slot {
@@ -22,7 +24,7 @@ impl Model for Slot {
 
     ghost view = { λ s. s.span };
 
-    ghost invariant = { λ s. IfSome s.entry (λ e. e ≡ s.span.held) };
+    ghost invariant = { λ s. IfSome s.entry (λ e. e ≡ s.span.held) × IfSome s.other (λ e. e ≡ s.span.held) };
 }
 
 impl Slot {
@@ -30,7 +32,11 @@ impl Slot {
     pub fn of(span: Span) -> Slot
         ensures { result ≡ span }
     {
-        Slot { span, entry: None }
+        Slot {
+            span,
+            entry: None,
+            other: None,
+        }
     }
 
     /// The handle.
@@ -42,22 +48,27 @@ impl Slot {
 
     /// Whether an entry is open.
     pub fn is_entered(&self) -> bool {
-        self.entry.is_some()
+        self.entry.is_some() || self.other.is_some()
     }
 
-    /// The handle; an entry stays open for good.
+    /// The lanes change places.
+    pub fn turn(&mut self)
+        ensures { self.new ≡ self.old }
+    {
+        mem::swap(&mut self.entry, &mut self.other);
+    }
+
+    /// The handle; entries stay open for good.
     pub fn into_span(self) -> Span
         ensures { result ≡ self }
     {
-        let Slot { span, entry } = self;
-        match entry {
-            Some(entry) => entry.discard(),
-            None => {}
-        }
+        let Slot { span, entry, other } = self;
+        entry.discard();
+        other.discard();
         span
     }
 
-    /// Keeps its hold and its entry for good.
+    /// Keeps its hold and its entries for good.
     pub fn discard(self) {
         self.into_span().discard();
     }
@@ -84,6 +95,8 @@ impl Handles {
 
     /// Takes the handle of a name, and leaves a disabled one there; none where there is no such name.
     pub fn take(&mut self, name: &str) -> Option<Slot>
+        ensures value { result ≡ named name.now self.old }
+        ensures rest { self.new ≡ with_named name.now no_handle self.old }
         ensures some { IfSome result (Takes self.old self.new) }
         ensures none { result ≡ None → self.new ≡ self.old }
     {
@@ -97,7 +110,8 @@ impl Handles {
 
     /// Puts a handle where one was taken.
     pub fn put(&mut self, name: &str, slot: Slot)
-        ensures { Puts self.old slot self.new }
+        ensures there { self.new ≡ with_named name.now slot self.old }
+        ensures puts { Puts self.old slot self.new }
     {
         match name {
             "a" => mem::replace(&mut self.a, slot).discard(),
@@ -105,6 +119,15 @@ impl Handles {
             "c" => mem::replace(&mut self.c, slot).discard(),
             _ => slot.discard(),
         }
+    }
+
+    /// The lanes change places.
+    pub fn turn(&mut self)
+        ensures { self.new ≡ self.old }
+    {
+        self.a.turn();
+        self.b.turn();
+        self.c.turn();
     }
 
     /// Whether one of them is of a span.

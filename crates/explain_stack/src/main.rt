@@ -6,6 +6,7 @@ mod asks;
 mod calls;
 mod handles;
 mod play;
+mod polls;
 mod scene;
 mod script;
 mod stack;
@@ -13,16 +14,23 @@ mod tally;
 mod told;
 mod words;
 
+use futures::test::MockTask;
 use std::io::{self, ErrorKind};
 
 fn main(rt: HostRuntime) -> io::Result<()> {
+    let task = MockTask::new(&rt)?;
     let mut stack = String::new(rt.alloc());
     let mut lines = Vec::new(rt.alloc());
     for line in rt.lines(rt.alloc()) {
         let line = line?;
         match line.as_str().strip_prefix("stack ") {
             Some(words) => {
-                let told = script::run(rt.alloc(), stack.as_str(), lines.as_slice());
+                let told = task.enter(|cx| script::run(
+                    rt.alloc(),
+                    stack.as_str(),
+                    lines.as_slice(),
+                    cx,
+                ));
                 let told = told.map_err(|_| ErrorKind::OutOfMemory)?;
                 print!(rt; "{told}stack {words}\n")?;
                 stack = String::from_str(rt.alloc(), words)?;
@@ -31,7 +39,7 @@ fn main(rt: HostRuntime) -> io::Result<()> {
             None => lines.push(line)?,
         }
     }
-    let told = script::run(rt.alloc(), stack.as_str(), lines.as_slice());
+    let told = task.enter(|cx| script::run(rt.alloc(), stack.as_str(), lines.as_slice(), cx));
     let told = told.map_err(|_| ErrorKind::OutOfMemory)?;
     print!(rt; "{told}")?;
     Ok(())

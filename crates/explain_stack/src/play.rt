@@ -8,7 +8,8 @@ ghost use Rattle.explain_stack.specs.Places.{AreHeld};
 use crate::handles::{Handles, Slot};
 use crate::scene::Scene;
 use crate::stack::Stack;
-use crate::{told, words};
+use crate::{polls, told, words};
+use futures::task;
 use otel_base::context::Context;
 use otel_base::memory::Memory;
 use span_handles::span::Span;
@@ -22,6 +23,7 @@ pub fn answer<S: Stack>(
     scene: &mut Scene<S>,
     handles: &mut Handles,
     line: &str,
+    cx: &mut task::Context<'_>,
 ) -> Result<String, Memory>
     requires order { InOrder S.spans S.kept S.is_whole scene.old }
     requires held { AreHeld S.spans scene.old.sites scene.old.world handles.old }
@@ -39,6 +41,9 @@ pub fn answer<S: Stack>(
         "follows" => follow(alloc, scene, handles, at, name, words),
         "close" => close(alloc, scene, handles, at, name),
         "admits" => admits(alloc, scene, name, words),
+        "lane" => turn(alloc, scene, handles, name),
+        "fill" => polls::filled(alloc, scene),
+        "poll" => polls::polled(alloc, scene, handles, at, name, words, cx),
         _ => one(alloc, scene, handles, at, call, name, words),
     }
 }
@@ -63,7 +68,7 @@ fn make<S: Stack>(
         return told::refused(alloc);
     };
     let values = words::values(alloc, words)?;
-    if !scene.admits(site) {
+    if !scene.admits(alloc, site) {
         handles.put(name, Slot::of(Span::new_disabled(site)));
         return told::done(alloc, false);
     }
@@ -125,6 +130,27 @@ fn admits<S: Stack>(
     };
     let admits = scene.admits_on(alloc, words::number(lane).unwrap_or(0), site);
     Ok(format!(in alloc; "  admits {admits}\n")?)
+}
+
+// Calls are made on the lane of an id from here on.
+fn turn<S: Stack>(
+    alloc: Global,
+    scene: &mut Scene<S>,
+    handles: &mut Handles,
+    lane: &str,
+) -> Result<String, Memory>
+    requires order { InOrder S.spans S.kept S.is_whole scene.old }
+    requires held { AreHeld S.spans scene.old.sites scene.old.world handles.old }
+    ensures order { InOrder S.spans S.kept S.is_whole scene.new }
+    ensures held { AreHeld S.spans scene.new.sites scene.new.world handles.new }
+{
+    let (here, there) = scene.lanes();
+    let lane = words::number(lane).unwrap_or(0);
+    if lane == there {
+        scene.turn();
+        handles.turn();
+    }
+    told::done(alloc, lane == here || lane == there)
 }
 
 // A span follows from another, which may be itself.
@@ -303,18 +329,18 @@ fn enter<S: Stack>(
     ensures sites { scene.new.sites ≡ scene.old.sites }
     ensures slot { result.0 ≡ slot }
 {
-    let Slot { span, entry } = slot;
+    let Slot { span, entry, other } = slot;
     match entry {
         Some(entry) => {
             let entry = Some(entry);
-            (Slot { span, entry }, told::refused(alloc))
+            (Slot { span, entry, other }, told::refused(alloc))
         }
         None => match scene.enter(at, &span) {
             Ok(entry) => {
                 let entered = entry.is_some();
-                (Slot { span, entry }, told::done(alloc, entered))
+                (Slot { span, entry, other }, told::done(alloc, entered))
             }
-            Err(memory) => (Slot { span, entry: None }, Err(memory)),
+            Err(memory) => (Slot { span, entry, other }, Err(memory)),
         },
     }
 }
@@ -333,14 +359,14 @@ fn exit<S: Stack>(
     ensures sites { scene.new.sites ≡ scene.old.sites }
     ensures slot { result.0 ≡ slot }
 {
-    let Slot { span, entry } = slot;
+    let Slot { span, entry, other } = slot;
     match entry {
         Some(entry) => {
             let entry = scene.exit(at, &span, entry);
             let exited = entry.is_none();
-            (Slot { span, entry }, told::done(alloc, exited))
+            (Slot { span, entry, other }, told::done(alloc, exited))
         }
-        None => (Slot { span, entry: None }, told::refused(alloc)),
+        None => (Slot { span, entry, other }, told::refused(alloc)),
     }
 }
 
@@ -386,7 +412,7 @@ fn event<S: Stack>(
     let (site, words) = words.split_once(' ').unwrap_or((words, ""));
     let values = words::values(alloc, words)?;
     if let Some(site) = scene.site_at(words::number(site).unwrap_or(0)) {
-        if scene.admits(site) {
+        if scene.admits(alloc, site) {
             scene.event(at, span, site, &values)?;
         }
     }

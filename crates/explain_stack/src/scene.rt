@@ -1,4 +1,4 @@
-//! A world with one stack, and the calls that are made in it.
+//! A world with one stack, and the two lanes on which calls are made in it.
 ghost use Rattle.std.specs.Prelude.{◌≡◌, ◌<◌, ◌≤◌, ℕ, true, length, Some, None, IfOk, IfSome, IsTrue};
 ghost use Rattle.trace_base.specs.Conditions.{HasFewHolds, HasFewHoldsAbove};
 ghost use Rattle.trace_base.specs.declared.span.Parent.TheVariants as parent;
@@ -16,6 +16,7 @@ use otel_base::stack::ContextStack;
 use span_handles::span::Span;
 use span_registry::registry::Registry;
 use std::alloc::Global;
+use std::mem;
 use trace_base::callsite::SiteId;
 use trace_base::discard::Discard;
 use trace_base::dispatcher::Dispatch;
@@ -24,10 +25,11 @@ use trace_base::span::Id;
 use trace_base::subscriber::Subscriber;
 use trace_base::world::World;
 
-/// A world with one stack, and the lane on which all calls are made.
+/// A world with one stack, the lane on which calls are made, and another lane.
 pub struct Scene<S> {
     pub(crate) world: World<S>,
     pub(crate) lane: Lane,
+    pub(crate) other: Lane,
     pub(crate) dispatch: Dispatch,
     // At least as many as were made.
     pub(crate) made: u64,
@@ -47,12 +49,8 @@ impl<S: Stack> Scene<S> {
         match world.add(stack) {
             Ok(dispatch) => Ok(Scene {
                 world,
-                lane: Lane {
-                    id: 1,
-                    name: None,
-                    default: Some(dispatch),
-                    contexts: ContextStack::new(alloc),
-                },
+                lane: bare_lane(alloc, 1, Some(dispatch)),
+                other: bare_lane(alloc, 2, None),
                 dispatch,
                 made: 0,
                 sites,
@@ -76,12 +74,12 @@ impl<S: Stack> Scene<S> {
         }
     }
 
-    /// Whether the stack takes what a callsite makes.
-    pub fn admits(&self, site: SiteId) -> bool
+    /// Whether the stack takes what a callsite makes on the lane on which calls are made.
+    pub fn admits(&self, alloc: Global, site: SiteId) -> bool
         requires order { InOrder S.spans S.kept S.is_whole self.now }
         requires site { site < self.now.sites }
     {
-        self.world.admits(&self.lane, site)
+        self.admits_on(alloc, self.lane.id, site)
     }
 
     /// The same on the lane of an id.
@@ -89,13 +87,24 @@ impl<S: Stack> Scene<S> {
         requires order { InOrder S.spans S.kept S.is_whole self.now }
         requires site { site < self.now.sites }
     {
-        let lane = Lane {
-            id: lane,
-            name: None,
-            default: Some(self.dispatch),
-            contexts: ContextStack::new(alloc),
-        };
+        let lane = bare_lane(alloc, lane, Some(self.dispatch));
         self.world.admits(&lane, site)
+    }
+
+    /// The ids of the lane on which calls are made, and of the other one.
+    pub fn lanes(&self) -> (u64, u64)
+        ensures { result ≡ (self.now.lane.id, self.now.other.id) }
+    {
+        (self.lane.id, self.other.id)
+    }
+
+    /// Calls are made on the other lane from here on.
+    pub fn turn(&mut self)
+        requires order { InOrder S.spans S.kept S.is_whole self.old }
+        ensures order { InOrder S.spans S.kept S.is_whole self.new }
+        ensures lanes { self.new ≡ record self.old { lane = self.old.other; other = self.old.lane } }
+    {
+        mem::swap(&mut self.lane, &mut self.other);
     }
 
     /// The records that the stack's recorder still has; the rest of the scene is given up.
@@ -105,6 +114,7 @@ impl<S: Stack> Scene<S> {
         let Scene {
             mut world,
             lane: _,
+            other: _,
             dispatch,
             made: _,
             sites: _,
@@ -158,6 +168,19 @@ impl<S: Stack> Scene<S> {
                 dispatch == self.dispatch && has_entry(registry, self.lane.id, id)
             }
         }
+    }
+}
+
+// A lane of an id that nothing is attached to.
+fn bare_lane(alloc: Global, id: u64, default: Option<Dispatch>) -> Lane
+    ensures id { result.id ≡ id }
+    ensures default { result.default ≡ default }
+{
+    Lane {
+        id,
+        name: None,
+        default,
+        contexts: ContextStack::new(alloc),
     }
 }
 

@@ -10,6 +10,7 @@ use crate::stack::Stack;
 use crate::tally::Tally;
 use crate::{play, words};
 use env_filter::filter::EnvFilter;
+use futures::task::Context;
 use otel_base::memory::Memory;
 use otel_base::recorder::Recorder;
 use otel_layer::layer::OpenTelemetryLayer;
@@ -19,35 +20,45 @@ use trace_base::discard::Discard;
 use trace_base::world::World;
 
 /// Runs the lines of a script on the stack of some words, and tells each line and what came of it.
-pub fn run(alloc: Global, stack: &str, lines: &[String]) -> Result<String, Memory> {
+pub fn run(
+    alloc: Global,
+    stack: &str,
+    lines: &[String],
+    cx: &mut Context<'_>,
+) -> Result<String, Memory> {
     let (kind, words) = stack.split_once(' ').unwrap_or((stack, ""));
     let filter = EnvFilter::new(alloc, words)?;
     let layer = OpenTelemetryLayer::new(alloc, Recorder::new(alloc));
     let registry = Registry::new(alloc);
     match kind {
-        "layer" => run_on(alloc, registry.with(layer), lines),
+        "layer" => run_on(alloc, registry.with(layer), lines, cx),
         "passive" => {
             let layer = layer.with_context_activation(false);
-            run_on(alloc, registry.with(layer), lines)
+            run_on(alloc, registry.with(layer), lines, cx)
         }
         "counting" => {
             let layer = layer.with_counting_event_filter(filter);
-            run_on(alloc, registry.with(layer), lines)
+            run_on(alloc, registry.with(layer), lines, cx)
         }
         "counted" => {
             let layer = layer.with_tracer(Tally::new(alloc));
-            run_on(alloc, registry.with(layer), lines)
+            run_on(alloc, registry.with(layer), lines, cx)
         }
-        "filtered" => run_on(alloc, registry.with(layer).with(filter), lines),
+        "filtered" => run_on(alloc, registry.with(layer).with(filter), lines, cx),
         _ => {
             layer.discard();
-            run_on(alloc, registry, lines)
+            run_on(alloc, registry, lines, cx)
         }
     }
 }
 
 // Runs them on a stack that knows no span.
-fn run_on<S: Stack>(alloc: Global, stack: S, lines: &[String]) -> Result<String, Memory>
+fn run_on<S: Stack>(
+    alloc: Global,
+    stack: S,
+    lines: &[String],
+    cx: &mut Context<'_>,
+) -> Result<String, Memory>
     requires whole { S.is_whole stack }
     requires spans { S.spans stack ≡ no_spans }
     requires kept { (lane number : ℕ) → S.kept stack lane number ≡ 0 }
@@ -63,7 +74,7 @@ fn run_on<S: Stack>(alloc: Global, stack: S, lines: &[String]) -> Result<String,
     };
     let mut scene = Scene::new(alloc, world, sites, stack)?;
     let mut handles = Handles::new();
-    let told = play(alloc, &mut scene, &mut handles, lines);
+    let told = play(alloc, &mut scene, &mut handles, lines, cx);
     handles.discard();
     let records = scene.end(alloc);
     let mut told = told?;
@@ -93,6 +104,7 @@ fn play<S: Stack>(
     scene: &mut Scene<S>,
     handles: &mut Handles,
     lines: &[String],
+    cx: &mut Context<'_>,
 ) -> Result<String, Memory>
     requires order { InOrder S.spans S.kept S.is_whole scene.old }
     requires held { AreHeld S.spans scene.old.sites scene.old.world handles.old }
@@ -103,7 +115,8 @@ fn play<S: Stack>(
         told.push_str(line.as_str())?;
         told.push_str("\n")?;
         if !line.as_str().starts_with("site ") && !line.as_str().starts_with('#') {
-            told.push_str(play::answer(alloc, scene, handles, line.as_str())?.as_str())?;
+            let answer = play::answer(alloc, scene, handles, line.as_str(), cx)?;
+            told.push_str(answer.as_str())?;
         }
     }
     Ok(told)

@@ -1,4 +1,9 @@
 //! The lines that tell what became of a span.
+ghost use Rattle.std.specs.Prelude.{◌≡◌, false, IfOk, string_bytes};
+ghost use Rattle.explain_stack.specs.Telling.{done_line, answer_line};
+
+use futures::task::Poll;
+use otel_base::enter_error::EnterError;
 use otel_base::memory::Memory;
 use otel_base::record::Record;
 use otel_base::status::Status;
@@ -55,12 +60,33 @@ fn attribute(alloc: Global, pair: &KeyValue) -> Result<String, Memory> {
 }
 
 /// A line that is no call, or one that can't be made now.
-pub fn refused(alloc: Global) -> Result<String, Memory> {
+pub fn refused(alloc: Global) -> Result<String, Memory>
+    ensures { IfOk result (λ told. string_bytes told ≡ done_line false) }
+{
     Ok(String::from_str(alloc, "  refused\n")?)
 }
 
+/// What a poll answers, if there was one: pending, ready with whether a subscriber serves the lane, or refused by a full lane.
+pub fn polled(
+    alloc: Global,
+    polled: Option<Result<Poll<bool>, EnterError>>,
+) -> Result<String, Memory>
+    ensures { IfOk result (λ told. string_bytes told ≡ answer_line polled) }
+{
+    match polled {
+        None => refused(alloc),
+        Some(Ok(Poll::Pending)) => Ok(String::from_str(alloc, "  pending\n")?),
+        Some(Ok(Poll::Ready(true))) => Ok(String::from_str(alloc, "  ready, served true\n")?),
+        Some(Ok(Poll::Ready(false))) => Ok(String::from_str(alloc, "  ready, served false\n")?),
+        Some(Err(EnterError::Full)) => Ok(String::from_str(alloc, "  full\n")?),
+        Some(Err(EnterError::Memory)) => Err(Memory),
+    }
+}
+
 /// That a call was made, if it was.
-pub fn done(alloc: Global, done: bool) -> Result<String, Memory> {
+pub fn done(alloc: Global, done: bool) -> Result<String, Memory>
+    ensures { IfOk result (λ told. string_bytes told ≡ done_line done) }
+{
     if done {
         Ok(String::from_str(alloc, "  done\n")?)
     } else {

@@ -1,4 +1,7 @@
 //! What the words of a line name.
+ghost use Rattle.std.specs.Prelude.{◌≡◌, IfOk};
+ghost use Rattle.explain_stack.specs.Telling.{status_of};
+
 use otel_base::context::SpanContext;
 use otel_base::list::Items;
 use otel_base::memory::Memory;
@@ -64,15 +67,20 @@ pub fn ids(words: &str) -> SpanContext {
 }
 
 /// The status of a word: `ok`, or the description of an error.
-pub fn status(alloc: Global, word: &str) -> Result<Status, Memory> {
-    if word == "ok" {
-        return Ok(Status::Ok);
+pub fn status(alloc: Global, word: &str) -> Result<Status, Memory>
+    ensures { IfOk result (λ status. status ≡ status_of word.now) }
+{
+    match word {
+        "ok" => Ok(Status::Ok),
+        _ => Ok(Status::Error {
+            description: text(alloc, word)?,
+        }),
     }
-    let description = text(alloc, word)?;
-    Ok(Status::Error { description })
 }
 
 /// A text of a word.
-pub fn text(alloc: Global, word: &str) -> Result<Text, Memory> {
+pub fn text(alloc: Global, word: &str) -> Result<Text, Memory>
+    ensures { IfOk result (λ text. text ≡ word.now) }
+{
     Ok(Text::from(String::from_str(alloc, word)?))
 }

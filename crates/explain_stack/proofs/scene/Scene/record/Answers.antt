@@ -6,8 +6,8 @@ use Rattle.explain_stack.proofs.scene.Scene.record.Goals as goal
 
 pub returns-in_err-record_all-clause-order : goal.returns-in_err-record_all-clause-order
 returns-in_err-record_all-clause-order g c =
-    quiet_on g.S.Subscriber.spans g.S.Subscriber.kept g.S.Subscriber.is_whole (λ id. g.S.Subscriber.same) (λ id. quiet_same g.S.Subscriber.spans g.S.Subscriber.kept g.S.Subscriber.is_whole g.S.Subscriber.same g.met.S.Subscriber.same_spans g.met.S.Subscriber.same_kept g.met.S.Subscriber.same_whole) c.args.self.now.world c.record_all.new.world c.args.span.now.held c.args.self.now.dispatch c.args.self.now.made c.args.self.now.sites c.args.self.now.lane c.in_err-record_all.ensures.memory_leaves c.requires.order
+    quiet_on g.S.Subscriber.spans g.S.Subscriber.kept g.S.Subscriber.is_whole (λ id. g.S.Subscriber.same) (λ id. quiet_same g.S.Subscriber.spans g.S.Subscriber.kept g.S.Subscriber.is_whole g.S.Subscriber.same g.met.S.Subscriber.same_spans g.met.S.Subscriber.same_kept g.met.S.Subscriber.same_whole) c.args.self.now.world c.record_all.new.world c.args.span.now.held c.args.self.now.dispatch c.args.self.now.made c.args.self.now.sites c.args.self.now.lane c.args.self.now.other c.in_err-record_all.ensures.memory_leaves c.requires.order
 
 pub returns-clause-order : goal.returns-clause-order
 returns-clause-order g c =
-    recorded_stands g.S.Subscriber.spans g.S.Subscriber.attaches g.S.Subscriber.kept g.S.Subscriber.is_whole g.S.Subscriber.does g.met.S.Subscriber.shows g.met.S.Subscriber.lanes g.met.S.Subscriber.keeps_whole c.args.self.now.world c.record_all.new.world c.args.at c.args.self.now.dispatch c.args.self.now.made c.args.self.now.sites c.args.self.now.lane c.requires.order c.args.values.now c.args.span.now.held _ c.in_ok-record_all.ensures.did
+    recorded_stands g.S.Subscriber.spans g.S.Subscriber.attaches g.S.Subscriber.kept g.S.Subscriber.is_whole g.S.Subscriber.does g.met.S.Subscriber.shows g.met.S.Subscriber.lanes g.met.S.Subscriber.keeps_whole c.args.self.now.world c.record_all.new.world c.args.at c.args.self.now.dispatch c.args.self.now.made c.args.self.now.sites c.args.self.now.lane c.args.self.now.other c.requires.order c.args.values.now c.args.span.now.held _ c.in_ok-record_all.ensures.did

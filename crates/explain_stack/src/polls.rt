@@ -1,0 +1,203 @@
+//! Futures that are polled under the spans of handles, and full lanes.
+ghost use Rattle.std.specs.Prelude.{◌≡◌, ◌≤◌, ℕ, IfSome};
+ghost use Rattle.trace_base.specs.Conditions.{HasFewHolds};
+ghost use Rattle.trace_base.specs.Contexts.{attached_as};
+ghost use Rattle.trace_base.specs.Gate.{dispatch_on};
+ghost use Rattle.span_handles.specs.Handles.{IsKnown, HasOn};
+ghost use Rattle.span_handles.specs.Knowing.{KeepsKnown};
+ghost use Rattle.explain_stack.specs.Looking.{looks};
+ghost use Rattle.explain_stack.specs.Order.{InOrder, IsHeld};
+ghost use Rattle.explain_stack.specs.Places.{AreHeld};
+
+use crate::handles::{Handles, Slot};
+use crate::scene::Scene;
+use crate::stack::Stack;
+use crate::told;
+use futures::task::{Context, Poll};
+use otel_base::context::Context as OtelContext;
+use otel_base::enter_error::EnterError;
+use otel_base::memory::Memory;
+use span_futures::instrument::Instrument;
+use span_futures::traced_future::TracedFuture;
+use span_futures::with_dispatch::WithSubscriber;
+use span_handles::span::Span;
+use std::alloc::Global;
+use std::mem;
+use trace_base::dispatcher::get_default;
+use trace_base::lane::Lane;
+use trace_base::subscriber::Subscriber;
+use trace_base::world::World;
+
+/// A future that is pending until it is told to be ready, and then answers whether a subscriber serves the lane.
+#[derive(Drop)]
+pub struct Looks {
+    pub(crate) is_ready: bool,
+}
+
+impl<S: Subscriber> TracedFuture<S> for Looks {
+    type Output = bool;
+
+    ghost can_poll = { λ f. Unit {0} };
+
+    ghost needs = { λ f source. ⊥ };
+
+    ghost gives = { λ f x. Unit {0} };
+
+    ghost knows = { λ f world. Unit {0} };
+
+    ghost has_room = { λ f world lane at. Unit {0} };
+
+    ghost polls = { λ f world lane at r g new later.
+        (new ≡ world) × (later ≡ lane) × (g ≡ f)
+        × (r ≡ looks f.is_ready (dispatch_on lane.default world.global)) };
+
+    ghost carries = { λ f old new known parts was. tt };
+
+    fn poll_in(
+        &mut self,
+        world: &mut World<S>,
+        lane: &mut Lane,
+        _at: u64,
+        cx: &mut Context<'_>,
+    ) -> Result<Poll<bool>, EnterError> {
+        if self.is_ready {
+            Ok(Poll::Ready(get_default(world, lane).is_some()))
+        } else {
+            Ok(cx.yield_now())
+        }
+    }
+}
+
+impl<S: Stack> Scene<S> {
+    /// Polls a future under a span, as it is or under the scene's stack; none where the span has too many holds.
+    fn poll(
+        &mut self,
+        at: u64,
+        span: Span,
+        future: Looks,
+        is_served: bool,
+        cx: &mut Context<'_>,
+    ) -> (Span, Option<Result<Poll<bool>, EnterError>>)
+        requires order { InOrder S.spans S.kept S.is_whole self.old }
+        requires known { IsKnown S.spans self.old.world span.held }
+        ensures order { InOrder S.spans S.kept S.is_whole self.new }
+        ensures known { KeepsKnown S.spans self.old.world self.new.world }
+        ensures sites { self.new.sites ≡ self.old.sites }
+        ensures back { result.0 ≡ span }
+    {
+        if !self.has_room(&span) {
+            return (span, None);
+        }
+        let (span, polled) = if is_served {
+            self.poll_under(at, span, future.with_subscriber(self.dispatch), cx)
+        } else {
+            self.poll_under(at, span, future, cx)
+        };
+        (span, Some(polled))
+    }
+
+    // Polls a future, which leaves the world and the lane as they are, under a span.
+    fn poll_under<T: TracedFuture<S, Output = bool> + Drop>(
+        &mut self,
+        at: u64,
+        span: Span,
+        future: T,
+        cx: &mut Context<'_>,
+    ) -> (Span, Result<Poll<bool>, EnterError>)
+        requires order { InOrder S.spans S.kept S.is_whole self.old }
+        requires known { IsKnown S.spans self.old.world span.held }
+        requires few { HasOn (λ s id. HasFewHolds (S.spans s).made id) self.old.world span.held }
+        requires can_poll { T.can_poll future }
+        requires knows { T.knows future self.old.world }
+        requires room { (world : _) (lane : _) → T.has_room future world lane at }
+        requires leaves { (f : T) (world : _) (lane : _) (moment : ℕ) (r : _) (g : T) (new : _) (later : _)
+            → T.polls f world lane moment r g new later → (new ≡ world) × (later ≡ lane) }
+        ensures order { InOrder S.spans S.kept S.is_whole self.new }
+        ensures known { KeepsKnown S.spans self.old.world self.new.world }
+        ensures sites { self.new.sites ≡ self.old.sites }
+        ensures back { result.0 ≡ span }
+    {
+        let mut future = future.instrument(span);
+        let polled = future.poll_in(&mut self.world, &mut self.lane, at, cx);
+        let span = mem::replace(future.span_mut(), Span::none());
+        future.into_inner(&mut self.world, at);
+        (span, polled)
+    }
+
+    /// Attaches empty contexts to the lane until it is full.
+    fn fill(&mut self) -> Result<(), Memory>
+        requires order { InOrder S.spans S.kept S.is_whole self.old }
+        ensures order { InOrder S.spans S.kept S.is_whole self.new }
+        ensures world { self.new.world ≡ self.old.world }
+        ensures sites { self.new.sites ≡ self.old.sites }
+    {
+        fill(&mut self.lane)
+    }
+}
+
+// Attaches empty contexts to a lane until it is full; they stay for good.
+fn fill(lane: &mut Lane) -> Result<(), Memory>
+    ensures id { lane.new.id ≡ lane.old.id }
+    ensures default { lane.new.default ≡ lane.old.default }
+    ensures more { (number : ℕ) → attached_as number lane.old ≤ attached_as number lane.new }
+{
+    for _ in 0..100_000 {
+        match attach_empty(lane) {
+            Ok(()) => {}
+            Err(EnterError::Full) => return Ok(()),
+            Err(EnterError::Memory) => return Err(Memory),
+        }
+    }
+    Ok(())
+}
+
+// Attaches an empty context to a lane for good.
+#[tactic(auto, using(crate::proofs::Polling::attached_more, crate::proofs::Polling::attached_same))]
+fn attach_empty(lane: &mut Lane) -> Result<(), EnterError>
+    ensures id { lane.new.id ≡ lane.old.id }
+    ensures default { lane.new.default ≡ lane.old.default }
+    ensures more { (number : ℕ) → attached_as number lane.old ≤ attached_as number lane.new }
+{
+    lane.contexts.attach(OtelContext::empty())?.discard();
+    Ok(())
+}
+
+/// Fills the lane on which calls are made.
+pub fn filled<S: Stack>(alloc: Global, scene: &mut Scene<S>) -> Result<String, Memory>
+    requires order { InOrder S.spans S.kept S.is_whole scene.old }
+    ensures order { InOrder S.spans S.kept S.is_whole scene.new }
+    ensures world { scene.new.world ≡ scene.old.world }
+    ensures sites { scene.new.sites ≡ scene.old.sites }
+{
+    scene.fill()?;
+    told::done(alloc, true)
+}
+
+/// Polls a future under the span of a handle: one that is pending, one that is ready, or one that is ready and served by the
+/// stack.
+#[tactic(auto, using(crate::proofs::Held::takes_held, crate::proofs::Held::puts_held, crate::proofs::Held::still_held))]
+pub fn polled<S: Stack>(
+    alloc: Global,
+    scene: &mut Scene<S>,
+    handles: &mut Handles,
+    at: u64,
+    name: &str,
+    word: &str,
+    cx: &mut Context<'_>,
+) -> Result<String, Memory>
+    requires order { InOrder S.spans S.kept S.is_whole scene.old }
+    requires held { AreHeld S.spans scene.old.sites scene.old.world handles.old }
+    ensures order { InOrder S.spans S.kept S.is_whole scene.new }
+    ensures held { AreHeld S.spans scene.new.sites scene.new.world handles.new }
+{
+    let Some(slot) = handles.take(name) else {
+        return told::refused(alloc);
+    };
+    let Slot { span, entry, other } = slot;
+    let future = Looks {
+        is_ready: word != "pending",
+    };
+    let (span, polled) = scene.poll(at, span, future, word == "served", cx);
+    handles.put(name, Slot { span, entry, other });
+    told::polled(alloc, polled)
+}
