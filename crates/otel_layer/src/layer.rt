@@ -82,8 +82,7 @@ impl<T: Tracer> OpenTelemetryLayer<T> {
 }
 
 impl<T: Tracer + Drop> OpenTelemetryLayer<T> {
-    /// The same layer over another tracer, with which nothing is reserved yet; `OpenTelemetryLayer::with_tracer`. It
-    /// can
+    /// The same layer over another tracer, with which nothing is reserved yet; `OpenTelemetryLayer::with_tracer`. It can
     /// close the spans that it knows only if there are none.
     pub fn with_tracer<U: Tracer>(self, tracer: U) -> OpenTelemetryLayer<U>
         requires { U.started tracer ≤ 2 ^ 62 }
