@@ -13,8 +13,6 @@ pub mod record;
 pub mod recorder;
 pub mod stack;
 pub mod status;
-#[cfg(test)]
-mod tests;
 pub mod text;
 pub mod tracer;
 pub mod value;

@@ -6,8 +6,6 @@ pub mod filter;
 pub mod instruments;
 pub mod layer;
 pub mod measure;
-#[cfg(test)]
-mod tests;
 mod visitor;
 
 pub use filter::MetricsFilter;

@@ -9,8 +9,6 @@ pub mod op;
 pub mod settings;
 pub mod stack;
 pub mod state;
-#[cfg(test)]
-mod tests;
 pub mod times;
 pub mod update;
 

@@ -7,8 +7,6 @@ pub mod guard;
 pub mod laws;
 pub mod record;
 pub mod span;
-#[cfg(test)]
-mod tests;
 
 pub use entry::Entry;
 pub use guard::{Entered, EnteredSpan};

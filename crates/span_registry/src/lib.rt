@@ -10,8 +10,6 @@ pub mod layered;
 pub mod registry;
 mod table;
 pub mod telling;
-#[cfg(test)]
-mod tests;
 
 pub use layered::Layered;
 pub use registry::Registry;
