@@ -1,6 +1,6 @@
 //! The trace event format: a row for each trace, times in microseconds with three decimals.
-use crate::fault::Fault;
-use crate::record::{Event, Kind, Link, Plain, Record, Status};
+use crate::record::{Event, Link, Plain, Record, Status};
+use convert_base::{Fault, Kind};
 use serde::Serialize;
 use std::alloc::Global;
 use std::collections::BTreeMap;

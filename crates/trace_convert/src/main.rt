@@ -2,15 +2,12 @@
 #![tactic(auto)]
 
 mod chrome;
-mod fault;
 mod otlp;
 mod record;
-mod words;
 
 use crate::chrome::Rows;
-use crate::fault::Fault;
 use crate::record::{Record, record_of};
-use crate::words::Format;
+use convert_base::{Fault, Format};
 use std::env;
 use std::process::ExitCode;
 

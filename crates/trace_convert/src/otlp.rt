@@ -1,9 +1,7 @@
 //! OTLP JSON, one export request a line.
-ghost use Rattle.std.specs.Prelude.{◌≡◌};
-ghost use Rattle.trace_convert.specs.Numbers.{kind_number, names_none};
 
-use crate::fault::Fault;
-use crate::record::{self, Kind, Plain, Record};
+use crate::record::{self, Plain, Record};
+use convert_base::{Fault, is_zero};
 use serde::Serialize;
 use std::alloc::Global;
 
@@ -126,7 +124,7 @@ fn span_of(alloc: Global, record: Record) -> Result<Span, Fault> {
             Some(parent)
         },
         name: record.name,
-        kind: kind_number(record.kind),
+        kind: record.kind.number(),
         start_time_unix_nano: format!(in alloc; "{}", record.start)?,
         end_time_unix_nano: format!(in alloc; "{}", record.end)?,
         attributes: attributes_of(alloc, record.attributes)?,
@@ -134,25 +132,6 @@ fn span_of(alloc: Global, record: Record) -> Result<Span, Fault> {
         links: links_of(alloc, record.links)?,
         status: status_of(record.status),
     })
-}
-
-// The id that stands for no parent.
-fn is_zero(id: &str) -> bool
-    ensures { result ≡ names_none id.now }
-{
-    id.bytes().all(|digit| digit == b'0')
-}
-
-fn kind_number(kind: Kind) -> u8
-    ensures { result ≡ kind_number kind }
-{
-    match kind {
-        Kind::Internal => 1,
-        Kind::Server => 2,
-        Kind::Client => 3,
-        Kind::Producer => 4,
-        Kind::Consumer => 5,
-    }
 }
 
 fn status_of(status: record::Status) -> Status {

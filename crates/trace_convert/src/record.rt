@@ -1,5 +1,5 @@
 //! Record lines, as `trace_tool` writes them.
-use crate::fault::Fault;
+use convert_base::{Fault, Kind};
 use serde::{Deserialize, Serialize};
 use serde_json::{Error, Value};
 use std::alloc::Global;
@@ -18,17 +18,6 @@ pub struct Record {
     pub events: Vec<Event>,
     pub links: Vec<Link>,
     pub status: Status,
-}
-
-/// The part that a span plays.
-#[derive(Clone, Copy, Deserialize)]
-#[serde(rename_all = "lowercase")]
-pub enum Kind {
-    Internal,
-    Server,
-    Client,
-    Producer,
-    Consumer,
 }
 
 /// The value of an attribute.

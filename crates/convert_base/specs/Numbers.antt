@@ -1,12 +1,12 @@
 -- The numbers and words by which the two formats and the process go.
 use Rattle.std.specs.Prelude.{ℕ, List, Bool, ◌==◌, Option, Some, None, if◌then◌else◌, codes, bytes_eq}
 use Rattle.std.specs.List.{list_all}
-use Rattle.trace_convert.specs.declared.record.Kind.{Kind}
-use Rattle.trace_convert.specs.declared.record.Kind.TheVariants as kind
-use Rattle.trace_convert.specs.declared.words.Format.{Format}
-use Rattle.trace_convert.specs.declared.words.Format.TheVariants as format
-use Rattle.trace_convert.specs.declared.fault.Fault.{Fault}
-use Rattle.trace_convert.specs.declared.fault.Fault.TheVariants as fault
+use Rattle.convert_base.specs.declared.kind.Kind.{Kind}
+use Rattle.convert_base.specs.declared.kind.Kind.TheVariants as kind
+use Rattle.convert_base.specs.declared.format.Format.{Format}
+use Rattle.convert_base.specs.declared.format.Format.TheVariants as format
+use Rattle.convert_base.specs.declared.fault.Fault.{Fault}
+use Rattle.convert_base.specs.declared.fault.Fault.TheVariants as fault
 
 -- the kinds of the OpenTelemetry protocol
 abbrev pub kind_number : Kind → ℕ

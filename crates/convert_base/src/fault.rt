@@ -1,6 +1,6 @@
 //! Why a conversion ends early.
 ghost use Rattle.std.specs.Prelude.{◌≡◌};
-ghost use Rattle.trace_convert.specs.Numbers.{status_of};
+ghost use Rattle.convert_base.specs.Numbers.{status_of};
 
 use std::alloc::{AllocError, AllocFailed};
 use std::io;

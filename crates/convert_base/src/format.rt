@@ -1,6 +1,6 @@
 //! The program's words.
 ghost use Rattle.std.specs.Prelude.{◌≡◌};
-ghost use Rattle.trace_convert.specs.Numbers.{format_of};
+ghost use Rattle.convert_base.specs.Numbers.{format_of};
 
 /// What the records are converted to.
 #[derive(Clone, Copy, Debug, PartialEq, Eq)]
