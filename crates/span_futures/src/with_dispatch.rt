@@ -39,7 +39,8 @@ pub trait WithSubscriber: Sized {
         world: &World<S>,
         lane: &Lane,
     ) -> WithDispatch<Self>
-        ensures { result ≡ record { inner = self; dispatch = dispatch_on lane.now.default world.now.global } }
+        ensures value { result ≡ record { inner = self; dispatch = dispatch_on lane.now.default world.now.global } }
+        ensures own { IsOwn world.now lane.now.default → IsOwn world.now result.dispatch }
     {
         WithDispatch {
             inner: self,
