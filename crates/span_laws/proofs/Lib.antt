@@ -9,6 +9,7 @@ mod Hearing
 mod Histories
 mod Levels
 mod Legal
+mod Living
 mod Making
 mod Numbering
 mod Occurrences

@@ -2,5 +2,6 @@ pub mod Laws
 pub mod Closes
 pub mod Starts
 pub mod Levels
+pub mod Live
 pub mod Records
 pub mod Telling

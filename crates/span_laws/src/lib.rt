@@ -7,5 +7,6 @@ pub mod contents;
 pub mod filters;
 pub mod ids;
 pub mod laws;
+pub mod live;
 pub mod scripts;
 pub mod times;
