@@ -1,5 +1,6 @@
 //! Runs of the program over sources and sinks in memory.
 
+mod event_runs;
 mod extension_runs;
 mod field_runs;
 mod filter_runs;
@@ -8,6 +9,7 @@ mod makes;
 mod metric_runs;
 mod refused_runs;
 mod runs;
+mod span_runs;
 mod steps;
 mod whole_runs;
 
@@ -16,12 +18,14 @@ use crate::source::{MemSource, Source, StdSource, SureSource};
 use crate::status::Status;
 use crate::top::top;
 use crate::turns::Turn;
+use event_runs::EVENT_RUNS;
 use extension_runs::EXTENSION_RUNS;
 use field_runs::FIELD_RUNS;
 use filter_runs::FILTER_RUNS;
 use metric_runs::METRIC_RUNS;
 use refused_runs::REFUSED_RUNS;
 use runs::RUNS;
+use span_runs::SPAN_RUNS;
 use std::process::Abort;
 use std::sync::Wait;
 use std::test::Fail;
@@ -145,6 +149,8 @@ fn runs_scripts(rt: HostRuntime) -> Result<(), Fail> {
     for runs in [
         RUNS,
         FIELD_RUNS,
+        EVENT_RUNS,
+        SPAN_RUNS,
         EXTENSION_RUNS,
         FILTER_RUNS,
         REFUSED_RUNS,

@@ -9,6 +9,24 @@ pub const METRIC_RUNS: &str = r#"
 > {"attributes":[["user","u"]],"instrument":"histogram_u64","line":2,"name":"h","value":5}
 > {"done":true,"measures":2}
 = 0
+# several numbers of one name, and numbers that their instrument doesn't take
+< {"callsites":[{"fields":["counter.hits","monotonic_counter.n","histogram.h","gauge.g","user"],"kind":"event","level":"info","name":"m","target":"app"}],"filter":"info","lanes":[{"id":1}]}
+< {"at":0,"do":"event","fields":[["counter.hits",-2],["counter.hits",{"u64":9223372036854775808}],["monotonic_counter.n",-1],["monotonic_counter.n",4],["monotonic_counter.n",{"u64":18446744073709551615}],["histogram.h",{"u64":5}],["histogram.h",6],["gauge.g",-7],["gauge.g",{"u64":8}],["user","u"],["user",{"u64":9223372036854775808}],["user",{"u64":9}],["counter.hits",{"u128":"10"}]],"lane":0,"site":0}
+< {"at":1,"do":"event","fields":[["counter.hits",-2],["counter.hits",{"u64":9223372036854775808}],["monotonic_counter.n",-1],["monotonic_counter.n",4],["monotonic_counter.n",{"u64":18446744073709551615}],["histogram.h",{"u64":5}],["histogram.h",6],["gauge.g",-7],["gauge.g",{"u64":8}],["user","u"],["user",{"u64":9223372036854775808}],["user",{"u64":9}],["counter.hits",{"u128":"10"}]],"lane":0,"site":0}
+> {"attributes":[["histogram.h",6],["user","u"],["user",9],["counter.hits","10"]],"instrument":"up_down_counter_i64","line":2,"name":"hits","value":-2}
+> {"attributes":[["histogram.h",6],["user","u"],["user",9],["counter.hits","10"]],"instrument":"counter_u64","line":2,"name":"n","value":4}
+> {"attributes":[["histogram.h",6],["user","u"],["user",9],["counter.hits","10"]],"instrument":"counter_u64","line":2,"name":"n","value":18446744073709551615}
+> {"attributes":[["histogram.h",6],["user","u"],["user",9],["counter.hits","10"]],"instrument":"histogram_u64","line":2,"name":"h","value":5}
+> {"attributes":[["histogram.h",6],["user","u"],["user",9],["counter.hits","10"]],"instrument":"gauge_i64","line":2,"name":"g","value":-7}
+> {"attributes":[["histogram.h",6],["user","u"],["user",9],["counter.hits","10"]],"instrument":"gauge_u64","line":2,"name":"g","value":8}
+> {"attributes":[["histogram.h",6],["user","u"],["user",9],["counter.hits","10"]],"instrument":"up_down_counter_i64","line":3,"name":"hits","value":-2}
+> {"attributes":[["histogram.h",6],["user","u"],["user",9],["counter.hits","10"]],"instrument":"counter_u64","line":3,"name":"n","value":4}
+> {"attributes":[["histogram.h",6],["user","u"],["user",9],["counter.hits","10"]],"instrument":"counter_u64","line":3,"name":"n","value":18446744073709551615}
+> {"attributes":[["histogram.h",6],["user","u"],["user",9],["counter.hits","10"]],"instrument":"histogram_u64","line":3,"name":"h","value":5}
+> {"attributes":[["histogram.h",6],["user","u"],["user",9],["counter.hits","10"]],"instrument":"gauge_i64","line":3,"name":"g","value":-7}
+> {"attributes":[["histogram.h",6],["user","u"],["user",9],["counter.hits","10"]],"instrument":"gauge_u64","line":3,"name":"g","value":8}
+> {"done":true,"measures":12}
+= 0
 # measures with a span and without, of an event that isn't let through, and of one that measures nothing
 < {"callsites":[{"fields":["gauge.g","monotonic_counter.n"],"kind":"event","level":"info","name":"m","target":"app"},{"fields":["gauge.g"],"kind":"event","level":"debug","name":"d","target":"app"},{"fields":["a"],"kind":"event","level":"info","name":"e","target":"app"},{"fields":["gauge.g"],"kind":"span","level":"info","name":"s","target":"app"}],"counting":"off","filter":"info","lanes":[{"id":1}]}
 < 
