@@ -7,7 +7,8 @@ use otel_base::list::Items;
 use otel_base::memory::Memory;
 use otel_base::stack::ContextStack;
 use otel_base::text::Text;
-use otel_state::{LayerSettings, Op, SpanState, first_attributes, span_update};
+use otel_base::value::KeyValue;
+use otel_state::{LayerSettings, Op, SpanState, Update, first_attributes, span_update};
 use std::alloc::Global;
 use trace_base::callsite::{Callsite, Kind};
 use trace_base::field::{Value, ValueSet};
@@ -37,13 +38,24 @@ pub fn span(alloc: Global) -> Result<Handle, Memory>
 
 /// The state of a span that is made as the shared one, with nobody to share it.
 pub fn alone(alloc: Global) -> Result<SpanState, Memory> {
-    let settings = LayerSettings::default();
-    let callsite = callsite(alloc)?;
-    let first = first_attributes(alloc, &callsite, &lane(alloc), &settings)?;
-    let mut state = SpanState::new(alloc, "s", Context::empty(), 5, first, false, true)?;
-    let update = span_update(alloc, &callsite, &values(alloc)?, &settings)?;
-    state.apply(5, Op::Update { update })?;
+    let mut state = SpanState::new(alloc, "s", Context::empty(), 5, first(alloc)?, false, true)?;
+    state.apply(
+        5,
+        Op::Update {
+            update: update(alloc)?,
+        },
+    )?;
     Ok(state)
+}
+
+fn first(alloc: Global) -> Result<Items<KeyValue>, Memory> {
+    let settings = LayerSettings::default();
+    first_attributes(alloc, &callsite(alloc)?, &lane(alloc), &settings)
+}
+
+fn update(alloc: Global) -> Result<Update, Memory> {
+    let settings = LayerSettings::default();
+    span_update(alloc, &callsite(alloc)?, &values(alloc)?, &settings)
 }
 
 fn lane(alloc: Global) -> Lane {
