@@ -6,6 +6,7 @@
 //! span extension, on every lane and with any number of open guards.
 #![tactic(auto)]
 
+mod asked;
 mod calls;
 mod fields;
 mod filters;
@@ -15,6 +16,8 @@ mod opening;
 pub mod pipeline;
 mod records;
 mod runs;
+mod shown;
+mod sites;
 
 pub use pipeline::Pipeline;
 pub use span_script::{

@@ -8,8 +8,8 @@ ghost use Rattle.span_script.specs.Effects.{is_bad_moment};
 use crate::filters::{read_counting, read_filter};
 use crate::guards::Guards;
 use crate::opening::{self, add_sites};
+use crate::shown::same;
 use otel_base::record::Moment;
-use span_handles::laws::same;
 use span_handles::span::Span;
 use span_script::contexts::Contexts;
 use span_script::open_error::OpenError;
@@ -100,7 +100,7 @@ impl Pipeline {
         ensures read { OnOk result (opening_read settings.filter settings.counting ≡ Ok tt) }
         ensures refused { IfErr result (IsUnread (opening_read settings.filter settings.counting)) }
     {
-        same::<Stack>();
+        same();
         laws::same();
         let Settings {
             filter,

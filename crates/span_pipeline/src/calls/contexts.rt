@@ -1,31 +1,23 @@
 //! Contexts: making them, attaching them to a lane, and detaching them again.
-ghost use Rattle.std.specs.Prelude.{◌≡◌, ◌↔◌, ◌<◌, ◌++◌, ℕ, [], ◌∷◌, true, false, length, IfOk, IfErr, OnErr, Err};
+ghost use Rattle.std.specs.Prelude.{◌≡◌, ◌↔◌, ◌<◌, ◌++◌, [], ◌∷◌, true, false, length, IfOk, IfErr, OnErr, Err};
 ghost use Rattle.otel_base.specs.Stack.{has, without};
 ghost use Rattle.otel_base.specs.declared.stack.TheConstants.{MOST as MOST_CONTEXTS};
 ghost use Rattle.otel_base.specs.declared.enter_error.EnterError.TheVariants.{Full};
-ghost use Rattle.trace_base.specs.Gate.{Worlds};
-ghost use Rattle.span_handles.specs.Worlds.{Has};
 ghost use Rattle.span_script.specs.declared.reply.Refusal.TheVariants.{Memory as NoMemory};
 ghost use Rattle.span_script.specs.declared.request.Call.{Call};
 
 use crate::names::{add, context_at, keep, slot_at, take};
 use crate::pipeline::{MOST, Pipeline};
+use crate::shown::{leaves, starts};
 use otel_base::context::{Context, SpanContext};
 use otel_base::enter_error::EnterError;
 use otel_base::record::Moment;
 use otel_base::stack::Attached;
-use otel_layer::part::OtelSubscriber;
-use otel_layer::recording::leaves;
 use otel_layer::span_ext::OpenTelemetrySpanExt;
 use span_script::contexts::Attach;
 use span_script::reply::{Refusal, Reply, What};
-use span_stack::{Stack, laws};
+use span_stack::laws;
 use trace_base::lane::Lane;
-
-// Whatever spans a whole subscriber has can be started.
-fn starts<S: OtelSubscriber>()
-    ensures { (world : Worlds S) (dispatch : ℕ) → Has S.is_whole world dispatch → Has S.can_start world dispatch }
-{}
 
 // Attaches a context to a lane above all others.
 fn attach_to(lane: &mut Lane, context: Context) -> Result<Attached, EnterError>
@@ -79,8 +71,8 @@ impl Pipeline {
             → IfErr result (IsRefusal (effect_of_call self.old.setup t at lane (Call.Context handle))) }
         ensures err { OnErr result (self.new ≡ self.old) }
     {
-        starts::<Stack>();
-        leaves::<Stack>();
+        starts();
+        leaves();
         laws::asks();
         let number = self.contexts.made.len() as u64;
         self.contexts.made.reserve(1)?;

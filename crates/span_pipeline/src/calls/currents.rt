@@ -4,11 +4,11 @@ ghost use Rattle.span_script.specs.declared.request.Call.TheVariants as request;
 
 use crate::names::{keep, slot_at, take};
 use crate::pipeline::{MOST, Pipeline};
+use crate::shown::calls;
 use otel_base::record::Moment;
-use span_handles::laws::calls;
 use span_handles::span::Span;
 use span_script::reply::{Refusal, Reply, What};
-use span_stack::{Stack, laws};
+use span_stack::laws;
 
 impl Pipeline {
     ghost use Rattle.span_script.specs.Tables.{Tables};
@@ -23,7 +23,7 @@ impl Pipeline {
             → IfErr result (IsRefusal (effect_of_call self.old.setup t at lane request.Current)) }
         ensures err { OnErr result (self.new ≡ self.old) }
     {
-        calls::<Stack>();
+        calls();
         laws::calls();
         if self.handles.len() >= MOST || self.guards.len() >= MOST {
             return Err(Refusal::Memory);
@@ -56,7 +56,7 @@ impl Pipeline {
             → IfErr result (IsRefusal (effect_of_call self.old.setup t at lane (request.OrCurrent handle))) }
         ensures err { OnErr result (self.new ≡ self.old) }
     {
-        calls::<Stack>();
+        calls();
         laws::calls();
         if self.handles.len() >= MOST || self.guards.len() >= MOST {
             return Err(Refusal::Memory);

@@ -5,11 +5,11 @@ ghost use Rattle.span_script.specs.declared.request.Call.{Call};
 
 use crate::names::{skip, slot_at};
 use crate::pipeline::{MOST, Pipeline};
+use crate::shown::{calls, same};
 use otel_base::record::Moment;
-use span_handles::laws::{calls, same};
 use span_script::reply::{Refusal, Reply, What};
 use span_script::slots::Guard;
-use span_stack::{Stack, laws};
+use span_stack::laws;
 
 impl Pipeline {
     ghost use Rattle.span_script.specs.Tables.{Tables};
@@ -31,9 +31,9 @@ impl Pipeline {
             → IfErr result (IsRefusal (opens self.old.setup t at lane handle owns)) }
         ensures err { OnErr result (self.new ≡ self.old) }
     {
-        calls::<Stack>();
+        calls();
         laws::calls();
-        same::<Stack>();
+        same();
         laws::same();
         if self.handles.len() >= MOST || self.guards.len() >= MOST {
             return Err(Refusal::Memory);
@@ -85,7 +85,7 @@ impl Pipeline {
         ensures err { OnErr result (self.new ≡ self.old) }
         ensures room { ¬ (result ≡ Err NoMemory) }
     {
-        calls::<Stack>();
+        calls();
         laws::calls();
         let Some(named) = self.guards.at(guard) else {
             return Err(Refusal::UnknownName { what: What::Guard });

@@ -9,11 +9,12 @@ ghost use Rattle.span_script.specs.Slots.{TellsOnly};
 use crate::fields::all_values;
 use crate::names::place_above;
 use crate::pipeline::Pipeline;
+use crate::shown::{calls, same};
+use crate::sites::{site, site_at};
 use otel_base::list::Items;
 use otel_base::memory::Memory;
 use otel_base::record::Moment;
 use otel_base::text::Text;
-use span_handles::laws::{calls, same};
 use span_script::reply::{Refusal, Reply, What};
 use span_script::request::Place;
 use span_stack::{Stack, admits, laws};
@@ -26,14 +27,14 @@ use trace_base::subscriber::Subscriber;
 use trace_base::world::World;
 
 // The callsite at a place, if it makes events.
-fn event_site<S: Subscriber>(world: &World<S>, place: u64) -> Option<SiteId>
+fn event_site(world: &World<Stack>, place: u64) -> Option<SiteId>
     ensures none { result ≡ None → event_site world.now.sites place ≡ None }
     ensures some { IfSome result (λ found. (found ≡ place) × (place < length world.now.sites)
         × (is_some (event_site world.now.sites place) ≡ true)) }
 {
-    let site = world.site_at(place)?;
-    match world.site(site).kind {
-        Kind::Event => Some(site),
+    let found = site_at(world, place)?;
+    match site(world, found).kind {
+        Kind::Event => Some(found),
         Kind::Span => None,
     }
 }
@@ -84,9 +85,9 @@ impl Pipeline {
             → IfErr result (IsRefusal (effect_of_call self.old.setup t at lane (Call.Event place under fields))) }
         ensures err { OnErr result (self.new ≡ self.old) }
     {
-        calls::<Stack>();
+        calls();
         laws::calls();
-        same::<Stack>();
+        same();
         laws::same();
         laws::statics();
         let Some(found) = event_site(&self.world, place) else {
@@ -96,8 +97,8 @@ impl Pipeline {
             return Err(Refusal::UnknownName { what: What::Handle });
         };
         let parent = above.parent();
-        let callsite = self.world.site(found);
-        let Some(values) = all_values(self.world.allocator(), callsite, fields)? else {
+        let callsite = site(&self.world, found);
+        let Some(values) = all_values(*self.handles.allocator(), callsite, fields)? else {
             return Err(Refusal::UnknownName { what: What::Field });
         };
         let on = &self.lanes[lane as usize];

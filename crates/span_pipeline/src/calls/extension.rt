@@ -4,17 +4,18 @@ ghost use Rattle.span_script.specs.declared.reply.Refusal.TheVariants.{Memory as
 ghost use Rattle.span_script.specs.declared.request.Call.{Call};
 ghost use Rattle.span_script.specs.Effects.{happens_at};
 
+use crate::asked::{Asked, ask};
 use crate::names::{context_at, slot_at};
 use crate::pipeline::Pipeline;
+use crate::shown::leaves;
 use otel_base::list::Items;
 use otel_base::record::Moment;
 use otel_base::status::Status;
 use otel_base::text::Text;
 use otel_base::value::{KeyValue, OtelValue};
-use otel_layer::recording;
 use otel_layer::span_ext::OpenTelemetrySpanExt;
 use span_script::reply::{Refusal, Reply, What};
-use span_stack::{Stack, laws};
+use span_stack::laws;
 
 // When an event happens: at its time, else at the request's moment.
 fn happens_at(at: Moment, time: Option<Moment>) -> Moment
@@ -45,7 +46,7 @@ impl Pipeline {
         ensures err { OnErr result (self.new ≡ self.old) }
         ensures room { ¬ (result ≡ Err NoMemory) }
     {
-        recording::leaves::<Stack>();
+        leaves();
         laws::asks();
         let Some(span) = slot_at(&self.handles, handle) else {
             return Err(Refusal::UnknownName { what: What::Handle });
@@ -74,12 +75,12 @@ impl Pipeline {
             → IfErr result (IsRefusal (effect_of_call self.old.setup t at lane (Call.SetAttribute handle key value))) }
         ensures err { OnErr result (self.new ≡ self.old) }
     {
-        recording::leaves::<Stack>();
+        leaves();
         laws::asks();
         let Some(span) = slot_at(&self.handles, handle) else {
             return Err(Refusal::UnknownName { what: What::Handle });
         };
-        span.set_attribute(&mut self.world, at, key, value)?;
+        ask(span, &mut self.world, at, Asked::Attribute { key, value })?;
         self.moment = at;
         Ok(Reply::Done)
     }
@@ -98,12 +99,13 @@ impl Pipeline {
         ensures err { OnErr result (self.new ≡ self.old) }
         ensures room { ¬ (result ≡ Err NoMemory) }
     {
-        recording::leaves::<Stack>();
+        leaves();
         laws::asks();
         let Some(span) = slot_at(&self.handles, handle) else {
             return Err(Refusal::UnknownName { what: What::Handle });
         };
-        span.set_status(&mut self.world, at, status);
+        // No memory is wanted for a status.
+        let _ = ask(span, &mut self.world, at, Asked::Status { status });
         self.moment = at;
         Ok(Reply::Done)
     }
@@ -123,13 +125,18 @@ impl Pipeline {
             → IfErr result (IsRefusal (effect_of_call self.old.setup t at lane (Call.AddEvent handle name attributes time))) }
         ensures err { OnErr result (self.new ≡ self.old) }
     {
-        recording::leaves::<Stack>();
+        leaves();
         laws::asks();
         let Some(span) = slot_at(&self.handles, handle) else {
             return Err(Refusal::UnknownName { what: What::Handle });
         };
         let time = happens_at(at, time);
-        span.add_event_with_timestamp(&mut self.world, at, name, time, attributes)?;
+        let event = Asked::Event {
+            name,
+            time,
+            attributes,
+        };
+        ask(span, &mut self.world, at, event)?;
         self.moment = at;
         Ok(Reply::Done)
     }

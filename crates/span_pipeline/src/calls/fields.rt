@@ -6,12 +6,12 @@ ghost use Rattle.span_script.specs.declared.request.Call.{Call};
 use crate::fields::values_by;
 use crate::names::slot_at;
 use crate::pipeline::Pipeline;
+use crate::shown::{calls, same};
 use otel_base::list::Items;
 use otel_base::record::Moment;
 use otel_base::text::Text;
-use span_handles::laws::{calls, same};
 use span_script::reply::{Refusal, Reply, What};
-use span_stack::{Stack, laws};
+use span_stack::laws;
 use trace_base::field::Value;
 
 impl Pipeline {
@@ -32,15 +32,15 @@ impl Pipeline {
             → IfErr result (IsRefusal (effect_of_call self.old.setup t at lane (Call.Record handle fields))) }
         ensures err { OnErr result (self.new ≡ self.old) }
     {
-        calls::<Stack>();
+        calls();
         laws::calls();
-        same::<Stack>();
+        same();
         laws::same();
         let Some(span) = slot_at(&self.handles, handle) else {
             return Err(Refusal::UnknownName { what: What::Handle });
         };
         let callsite = span.metadata(&self.world);
-        let values = values_by(self.world.allocator(), callsite, fields)?;
+        let values = values_by(*self.handles.allocator(), callsite, fields)?;
         span.record_all(&mut self.world, at, &values)?;
         self.moment = at;
         Ok(Reply::Done)

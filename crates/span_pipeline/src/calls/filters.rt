@@ -5,6 +5,7 @@ ghost use Rattle.span_script.specs.declared.request.Call.{Call};
 
 use crate::filters::read_filter;
 use crate::pipeline::Pipeline;
+use crate::sites::site_at;
 use otel_base::record::Moment;
 use otel_base::text::Text;
 use span_script::open_error::OpenError;
@@ -25,7 +26,7 @@ impl Pipeline {
         ensures err { OnErr result (self.new ≡ self.old) }
         ensures room { ¬ (result ≡ Err NoMemory) }
     {
-        let Some(site) = self.world.site_at(place) else {
+        let Some(site) = site_at(&self.world, place) else {
             return Err(Refusal::UnknownName { what: What::Site });
         };
         let enabled = admits(&self.world, self.dispatch, &self.lanes[lane as usize], site);
@@ -40,7 +41,7 @@ impl Pipeline {
             → IfErr result (IsRefusal (effect_of_call self.old.setup t at lane (Call.Reload text))) }
         ensures err { OnErr result (self.new ≡ self.old) }
     {
-        let filter = match read_filter(self.world.allocator(), false, text.as_str()) {
+        let filter = match read_filter(*self.handles.allocator(), false, text.as_str()) {
             Ok(filter) => filter,
             Err(error) => return Err(Refusal::of_text(error)),
         };

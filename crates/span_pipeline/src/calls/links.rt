@@ -2,16 +2,15 @@
 ghost use Rattle.std.specs.Prelude.{◌≡◌, IfOk, IfErr, OnErr};
 ghost use Rattle.span_script.specs.declared.request.Call.{Call};
 
+use crate::asked::{Asked, ask};
 use crate::names::{context_at, slot_at};
 use crate::pipeline::Pipeline;
+use crate::shown::{calls, leaves, same};
 use otel_base::list::Items;
 use otel_base::record::Moment;
 use otel_base::value::KeyValue;
-use otel_layer::recording;
-use otel_layer::span_ext::OpenTelemetrySpanExt;
-use span_handles::laws::{calls, same};
 use span_script::reply::{Refusal, Reply, What};
-use span_stack::{Stack, laws};
+use span_stack::laws;
 
 impl Pipeline {
     ghost use Rattle.span_script.specs.Tables.{Tables};
@@ -31,9 +30,9 @@ impl Pipeline {
             → IfErr result (IsRefusal (effect_of_call self.old.setup t at lane (Call.Follows handle from))) }
         ensures err { OnErr result (self.new ≡ self.old) }
     {
-        calls::<Stack>();
+        calls();
         laws::calls();
-        same::<Stack>();
+        same();
         laws::same();
         let Some(span) = slot_at(&self.handles, handle) else {
             return Err(Refusal::UnknownName { what: What::Handle });
@@ -60,7 +59,7 @@ impl Pipeline {
             → IfErr result (IsRefusal (effect_of_call self.old.setup t at lane (Call.AddLink handle context attributes))) }
         ensures err { OnErr result (self.new ≡ self.old) }
     {
-        recording::leaves::<Stack>();
+        leaves();
         laws::asks();
         let Some(span) = slot_at(&self.handles, handle) else {
             return Err(Refusal::UnknownName { what: What::Handle });
@@ -70,7 +69,11 @@ impl Pipeline {
                 what: What::Context,
             });
         };
-        span.add_link_with_attributes(&mut self.world, at, given.span_context(), attributes)?;
+        let link = Asked::Link {
+            ids: given.span_context(),
+            attributes,
+        };
+        ask(span, &mut self.world, at, link)?;
         self.moment = at;
         Ok(Reply::Done)
     }

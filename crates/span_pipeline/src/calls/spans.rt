@@ -5,10 +5,10 @@ ghost use Rattle.span_script.specs.declared.request.Call.{Call};
 
 use crate::names::{keep, slot_at, take};
 use crate::pipeline::{MOST, Pipeline};
+use crate::shown::{calls, chains};
 use otel_base::record::Moment;
-use span_handles::laws::{calls, chains};
 use span_script::reply::{Refusal, Reply, What};
-use span_stack::{Stack, laws};
+use span_stack::laws;
 
 impl Pipeline {
     ghost use Rattle.span_script.specs.Tables.{Tables};
@@ -27,7 +27,7 @@ impl Pipeline {
             → IfErr result (IsRefusal (effect_of_call self.old.setup t at lane (Call.Clone handle))) }
         ensures err { OnErr result (self.new ≡ self.old) }
     {
-        calls::<Stack>();
+        calls();
         laws::calls();
         if self.handles.len() >= MOST || self.guards.len() >= MOST {
             return Err(Refusal::Memory);
@@ -60,7 +60,7 @@ impl Pipeline {
         ensures err { OnErr result (self.new ≡ self.old) }
         ensures room { ¬ (result ≡ Err NoMemory) }
     {
-        chains::<Stack>();
+        chains();
         laws::chains();
         let Some(_named) = slot_at(&self.handles, handle) else {
             return Err(Refusal::UnknownName { what: What::Handle });

@@ -16,17 +16,17 @@ returns-in_default-clause-refused c = λ t stands no. refuses_unknown _ _ c.self
 pub returns-in_default-context_at-clause-refused : goal.returns-in_default-context_at-clause-refused
 returns-in_default-context_at-clause-refused c = λ t stands no. by_view_refused c.args.at c.args.lane (call.AddLink c.args.handle c.args.context c.args.attributes) _ _ _ c.self.view_is (λ t stands. refuses_context _ _ _ _ _ c.self.inside.world c.self.inside.world _ (λ old new dispatch call r. c.leaves.ensures old new dispatch call r) (λ o n d k r. (c.asks.ensures.recording o n d k r, c.asks.ensures.filter o n d k r, stack_same o n d (c.asks.ensures.counter o n d k r) (c.asks.ensures.measures o n d k r))) c.self.inside.dispatch c.self.inside.opening c.self.inside.lanes.items c.self.inside.handles.items c.self.inside.guards.items (named_in c.self.inside.contexts) c.self.inside.moment c.args.at c.args.lane c.args.handle c.in-Some.span.now (search rules) c.args.context (search rules) t stands.fits _) t stands
 
-pub add_link_with_attributes-requires : goal.add_link_with_attributes-requires
-add_link_with_attributes-requires c = needs_there _ _ _ _ c.self.inside.world c.self.inside.dispatch c.self.inside.opening c.self.inside.lanes.items c.self.inside.handles.items c.self.inside.guards.items (named_in c.self.inside.contexts) c.self.inside.moment c.self.invariant c.args.handle c.in-Some.span.now (search rules)
+pub ask-requires : goal.ask-requires
+ask-requires c = needs_there _ _ _ _ c.self.inside.world c.self.inside.dispatch c.self.inside.opening c.self.inside.lanes.items c.self.inside.handles.items c.self.inside.guards.items (named_in c.self.inside.contexts) c.self.inside.moment c.self.invariant c.args.handle c.in-Some.span.now (search rules)
 
 pub invariant_of-self : goal.invariant_of-self
-invariant_of-self c = left_link_kept _ _ _ _ _ c.self.inside.world c.add_link_with_attributes.new.world _ c.leaves.ensures (λ o n d k r. (c.asks.ensures.recording o n d k r, c.asks.ensures.filter o n d k r, stack_same o n d (c.asks.ensures.counter o n d k r) (c.asks.ensures.measures o n d k r))) c.self.inside.dispatch c.self.inside.opening c.self.inside.lanes.items c.self.inside.handles.items c.self.inside.guards.items (named_in c.self.inside.contexts) c.self.inside.moment c.args.at c.args.lane c.args.handle c.in-Some.span.now (search rules) c.args.context c.in-Some-context_at.given (search rules) c.span_context.result c.span_context.ensures c.args.attributes c.add_link_with_attributes.result c.add_link_with_attributes.ensures.valid c.add_link_with_attributes.ensures.invalid _ (search rules) c.self.invariant
+invariant_of-self c = left_link_kept _ _ _ _ _ c.self.inside.world c.ask.new.world _ c.leaves.ensures (λ o n d k r. (c.asks.ensures.recording o n d k r, c.asks.ensures.filter o n d k r, stack_same o n d (c.asks.ensures.counter o n d k r) (c.asks.ensures.measures o n d k r))) c.self.inside.dispatch c.self.inside.opening c.self.inside.lanes.items c.self.inside.handles.items c.self.inside.guards.items (named_in c.self.inside.contexts) c.self.inside.moment c.args.at c.args.lane c.args.handle c.in-Some.span.now (search rules) c.args.context c.in-Some-context_at.given (search rules) c.span_context.result c.span_context.ensures c.args.attributes c.ask.result c.ask.ensures.valid c.ask.ensures.invalid _ (search rules) c.self.invariant
 
-pub returns-in_err-add_link_with_attributes-clause-err : goal.returns-in_err-add_link_with_attributes-clause-err
-returns-in_err-add_link_with_attributes-clause-err c = on_err _ _ (left_link_state _ _ _ _ _ c.self.inside.world c.add_link_with_attributes.new.world _ c.leaves.ensures (λ o n d k r. (c.asks.ensures.recording o n d k r, c.asks.ensures.filter o n d k r, stack_same o n d (c.asks.ensures.counter o n d k r) (c.asks.ensures.measures o n d k r))) c.self.inside.dispatch c.self.inside.opening c.self.inside.lanes.items c.self.inside.handles.items c.self.inside.guards.items (named_in c.self.inside.contexts) c.self.inside.moment c.args.at c.args.lane c.args.handle c.in-Some.span.now (search rules) c.args.context c.in-Some-context_at.given (search rules) c.span_context.result c.span_context.ensures c.args.attributes c.add_link_with_attributes.result c.add_link_with_attributes.ensures.valid c.add_link_with_attributes.ensures.invalid _ (search rules) c.self.invariant ∙ c.self.view_is)
+pub returns-in_err-ask-clause-err : goal.returns-in_err-ask-clause-err
+returns-in_err-ask-clause-err c = on_err _ _ (left_link_state _ _ _ _ _ c.self.inside.world c.ask.new.world _ c.leaves.ensures (λ o n d k r. (c.asks.ensures.recording o n d k r, c.asks.ensures.filter o n d k r, stack_same o n d (c.asks.ensures.counter o n d k r) (c.asks.ensures.measures o n d k r))) c.self.inside.dispatch c.self.inside.opening c.self.inside.lanes.items c.self.inside.handles.items c.self.inside.guards.items (named_in c.self.inside.contexts) c.self.inside.moment c.args.at c.args.lane c.args.handle c.in-Some.span.now (search rules) c.args.context c.in-Some-context_at.given (search rules) c.span_context.result c.span_context.ensures c.args.attributes c.ask.result c.ask.ensures.valid c.ask.ensures.invalid _ (search rules) c.self.invariant ∙ c.self.view_is)
 
 pub invariant_of-self-2 : goal.invariant_of-self-2
-invariant_of-self-2 c = keeps_link _ _ _ _ _ c.self.inside.world c.add_link_with_attributes.new.world _ c.leaves.ensures (λ o n d k r. (c.asks.ensures.recording o n d k r, c.asks.ensures.filter o n d k r, stack_same o n d (c.asks.ensures.counter o n d k r) (c.asks.ensures.measures o n d k r))) c.self.inside.dispatch c.self.inside.opening c.self.inside.lanes.items c.self.inside.handles.items c.self.inside.guards.items (named_in c.self.inside.contexts) c.self.inside.moment c.args.at c.args.lane c.args.handle c.in-Some.span.now (search rules) c.args.context c.in-Some-context_at.given (search rules) c.span_context.result c.span_context.ensures c.args.attributes c.add_link_with_attributes.result c.add_link_with_attributes.ensures.valid c.add_link_with_attributes.ensures.invalid (search rules) c.self.invariant
+invariant_of-self-2 c = keeps_link _ _ _ _ _ c.self.inside.world c.ask.new.world _ c.leaves.ensures (λ o n d k r. (c.asks.ensures.recording o n d k r, c.asks.ensures.filter o n d k r, stack_same o n d (c.asks.ensures.counter o n d k r) (c.asks.ensures.measures o n d k r))) c.self.inside.dispatch c.self.inside.opening c.self.inside.lanes.items c.self.inside.handles.items c.self.inside.guards.items (named_in c.self.inside.contexts) c.self.inside.moment c.args.at c.args.lane c.args.handle c.in-Some.span.now (search rules) c.args.context c.in-Some-context_at.given (search rules) c.span_context.result c.span_context.ensures c.args.attributes c.ask.result c.ask.ensures.valid c.ask.ensures.invalid (search rules) c.self.invariant
 
 pub returns-clause-ok : goal.returns-clause-ok
-returns-clause-ok c = by_view c.args.at c.args.lane (call.AddLink c.args.handle c.args.context c.args.attributes) _ _ _ _ c.self.view_is (λ t stands. serves_link _ _ _ _ _ c.self.inside.world c.add_link_with_attributes.new.world _ c.leaves.ensures (λ o n d k r. (c.asks.ensures.recording o n d k r, c.asks.ensures.filter o n d k r, stack_same o n d (c.asks.ensures.counter o n d k r) (c.asks.ensures.measures o n d k r))) c.self.inside.dispatch c.self.inside.opening c.self.inside.lanes.items c.self.inside.handles.items c.self.inside.guards.items (named_in c.self.inside.contexts) c.self.inside.moment c.args.at c.args.lane c.args.handle c.in-Some.span.now (search rules) c.args.context c.in-Some-context_at.given (search rules) c.span_context.result c.span_context.ensures c.args.attributes c.add_link_with_attributes.result c.add_link_with_attributes.ensures.valid c.add_link_with_attributes.ensures.invalid (search rules) t stands)
+returns-clause-ok c = by_view c.args.at c.args.lane (call.AddLink c.args.handle c.args.context c.args.attributes) _ _ _ _ c.self.view_is (λ t stands. serves_link _ _ _ _ _ c.self.inside.world c.ask.new.world _ c.leaves.ensures (λ o n d k r. (c.asks.ensures.recording o n d k r, c.asks.ensures.filter o n d k r, stack_same o n d (c.asks.ensures.counter o n d k r) (c.asks.ensures.measures o n d k r))) c.self.inside.dispatch c.self.inside.opening c.self.inside.lanes.items c.self.inside.handles.items c.self.inside.guards.items (named_in c.self.inside.contexts) c.self.inside.moment c.args.at c.args.lane c.args.handle c.in-Some.span.now (search rules) c.args.context c.in-Some-context_at.given (search rules) c.span_context.result c.span_context.ensures c.args.attributes c.ask.result c.ask.ensures.valid c.ask.ensures.invalid (search rules) t stands)

@@ -14,17 +14,17 @@ use Rattle.span_pipeline.proofs.pipeline.Pipeline.set_attribute.Goals as goal
 pub returns-in_default-clause-refused : goal.returns-in_default-clause-refused
 returns-in_default-clause-refused c = λ t stands no. refuses_unknown _ _ c.self.view_is c.self.inside.handles.items refl c.args.handle (search rules) t stands.fits _
 
-pub set_attribute-requires : goal.set_attribute-requires
-set_attribute-requires c = needs_there _ _ _ _ c.self.inside.world c.self.inside.dispatch c.self.inside.opening c.self.inside.lanes.items c.self.inside.handles.items c.self.inside.guards.items (named_in c.self.inside.contexts) c.self.inside.moment c.self.invariant c.args.handle c.in-Some.span.now (search rules)
+pub ask-requires : goal.ask-requires
+ask-requires c = needs_there _ _ _ _ c.self.inside.world c.self.inside.dispatch c.self.inside.opening c.self.inside.lanes.items c.self.inside.handles.items c.self.inside.guards.items (named_in c.self.inside.contexts) c.self.inside.moment c.self.invariant c.args.handle c.in-Some.span.now (search rules)
 
 pub invariant_of-self : goal.invariant_of-self
-invariant_of-self c = left_kept _ _ _ _ _ c.self.inside.world c.set_attribute.new.world _ c.leaves.ensures (λ o n d k r. (c.asks.ensures.recording o n d k r, c.asks.ensures.filter o n d k r, stack_same o n d (c.asks.ensures.counter o n d k r) (c.asks.ensures.measures o n d k r))) c.self.inside.dispatch c.self.inside.opening c.self.inside.lanes.items c.self.inside.handles.items c.self.inside.guards.items (named_in c.self.inside.contexts) c.self.inside.moment c.args.at c.args.lane c.args.handle c.in-Some.span.now (search rules) (ops.SetAttribute (record { key = c.args.key; value = c.args.value })) c.set_attribute.result c.set_attribute.ensures _ (search rules) c.self.invariant
+invariant_of-self c = left_kept _ _ _ _ _ c.self.inside.world c.ask.new.world _ c.leaves.ensures (λ o n d k r. (c.asks.ensures.recording o n d k r, c.asks.ensures.filter o n d k r, stack_same o n d (c.asks.ensures.counter o n d k r) (c.asks.ensures.measures o n d k r))) c.self.inside.dispatch c.self.inside.opening c.self.inside.lanes.items c.self.inside.handles.items c.self.inside.guards.items (named_in c.self.inside.contexts) c.self.inside.moment c.args.at c.args.lane c.args.handle c.in-Some.span.now (search rules) (ops.SetAttribute (record { key = c.args.key; value = c.args.value })) c.ask.result c.ask.ensures _ (search rules) c.self.invariant
 
-pub returns-in_err-set_attribute-clause-err : goal.returns-in_err-set_attribute-clause-err
-returns-in_err-set_attribute-clause-err c = on_err _ _ (left_state _ _ _ _ _ c.self.inside.world c.set_attribute.new.world _ c.leaves.ensures (λ o n d k r. (c.asks.ensures.recording o n d k r, c.asks.ensures.filter o n d k r, stack_same o n d (c.asks.ensures.counter o n d k r) (c.asks.ensures.measures o n d k r))) c.self.inside.dispatch c.self.inside.opening c.self.inside.lanes.items c.self.inside.handles.items c.self.inside.guards.items (named_in c.self.inside.contexts) c.self.inside.moment c.args.at c.args.lane c.args.handle c.in-Some.span.now (search rules) (ops.SetAttribute (record { key = c.args.key; value = c.args.value })) c.set_attribute.result c.set_attribute.ensures _ (search rules) c.self.invariant ∙ c.self.view_is)
+pub returns-in_err-ask-clause-err : goal.returns-in_err-ask-clause-err
+returns-in_err-ask-clause-err c = on_err _ _ (left_state _ _ _ _ _ c.self.inside.world c.ask.new.world _ c.leaves.ensures (λ o n d k r. (c.asks.ensures.recording o n d k r, c.asks.ensures.filter o n d k r, stack_same o n d (c.asks.ensures.counter o n d k r) (c.asks.ensures.measures o n d k r))) c.self.inside.dispatch c.self.inside.opening c.self.inside.lanes.items c.self.inside.handles.items c.self.inside.guards.items (named_in c.self.inside.contexts) c.self.inside.moment c.args.at c.args.lane c.args.handle c.in-Some.span.now (search rules) (ops.SetAttribute (record { key = c.args.key; value = c.args.value })) c.ask.result c.ask.ensures _ (search rules) c.self.invariant ∙ c.self.view_is)
 
 pub invariant_of-self-2 : goal.invariant_of-self-2
-invariant_of-self-2 c = keeps_op _ _ _ _ _ c.self.inside.world c.set_attribute.new.world _ c.leaves.ensures (λ o n d k r. (c.asks.ensures.recording o n d k r, c.asks.ensures.filter o n d k r, stack_same o n d (c.asks.ensures.counter o n d k r) (c.asks.ensures.measures o n d k r))) c.self.inside.dispatch c.self.inside.opening c.self.inside.lanes.items c.self.inside.handles.items c.self.inside.guards.items (named_in c.self.inside.contexts) c.self.inside.moment c.args.at c.args.lane c.args.handle c.in-Some.span.now (search rules) (ops.SetAttribute (record { key = c.args.key; value = c.args.value })) c.set_attribute.result c.set_attribute.ensures (search rules) c.self.invariant
+invariant_of-self-2 c = keeps_op _ _ _ _ _ c.self.inside.world c.ask.new.world _ c.leaves.ensures (λ o n d k r. (c.asks.ensures.recording o n d k r, c.asks.ensures.filter o n d k r, stack_same o n d (c.asks.ensures.counter o n d k r) (c.asks.ensures.measures o n d k r))) c.self.inside.dispatch c.self.inside.opening c.self.inside.lanes.items c.self.inside.handles.items c.self.inside.guards.items (named_in c.self.inside.contexts) c.self.inside.moment c.args.at c.args.lane c.args.handle c.in-Some.span.now (search rules) (ops.SetAttribute (record { key = c.args.key; value = c.args.value })) c.ask.result c.ask.ensures (search rules) c.self.invariant
 
 pub returns-clause-ok : goal.returns-clause-ok
-returns-clause-ok c = by_view c.args.at c.args.lane (call.SetAttribute c.args.handle c.args.key c.args.value) _ _ _ _ c.self.view_is (λ t stands. serves_op _ _ _ _ _ c.self.inside.world c.set_attribute.new.world _ c.leaves.ensures (λ o n d k r. (c.asks.ensures.recording o n d k r, c.asks.ensures.filter o n d k r, stack_same o n d (c.asks.ensures.counter o n d k r) (c.asks.ensures.measures o n d k r))) c.self.inside.dispatch c.self.inside.opening c.self.inside.lanes.items c.self.inside.handles.items c.self.inside.guards.items (named_in c.self.inside.contexts) c.self.inside.moment c.args.at c.args.lane c.args.handle c.in-Some.span.now (search rules) (ops.SetAttribute (record { key = c.args.key; value = c.args.value })) c.set_attribute.result c.set_attribute.ensures (search rules) t stands)
+returns-clause-ok c = by_view c.args.at c.args.lane (call.SetAttribute c.args.handle c.args.key c.args.value) _ _ _ _ c.self.view_is (λ t stands. serves_op _ _ _ _ _ c.self.inside.world c.ask.new.world _ c.leaves.ensures (λ o n d k r. (c.asks.ensures.recording o n d k r, c.asks.ensures.filter o n d k r, stack_same o n d (c.asks.ensures.counter o n d k r) (c.asks.ensures.measures o n d k r))) c.self.inside.dispatch c.self.inside.opening c.self.inside.lanes.items c.self.inside.handles.items c.self.inside.guards.items (named_in c.self.inside.contexts) c.self.inside.moment c.args.at c.args.lane c.args.handle c.in-Some.span.now (search rules) (ops.SetAttribute (record { key = c.args.key; value = c.args.value })) c.ask.result c.ask.ensures (search rules) t stands)

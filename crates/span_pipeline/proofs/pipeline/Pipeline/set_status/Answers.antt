@@ -12,11 +12,11 @@ use Rattle.span_pipeline.proofs.pipeline.Pipeline.set_status.Goals as goal
 pub returns-in_default-clause-refused : goal.returns-in_default-clause-refused
 returns-in_default-clause-refused c = λ t stands no. refuses_unknown _ _ c.self.view_is c.self.inside.handles.items refl c.args.handle (search rules) t stands.fits _
 
-pub set_status-requires : goal.set_status-requires
-set_status-requires c = needs_there _ _ _ _ c.self.inside.world c.self.inside.dispatch c.self.inside.opening c.self.inside.lanes.items c.self.inside.handles.items c.self.inside.guards.items (named_in c.self.inside.contexts) c.self.inside.moment c.self.invariant c.args.handle c.in-Some.span.now (search rules)
+pub ask-requires : goal.ask-requires
+ask-requires c = needs_there _ _ _ _ c.self.inside.world c.self.inside.dispatch c.self.inside.opening c.self.inside.lanes.items c.self.inside.handles.items c.self.inside.guards.items (named_in c.self.inside.contexts) c.self.inside.moment c.self.invariant c.args.handle c.in-Some.span.now (search rules)
 
 pub invariant_of-self : goal.invariant_of-self
-invariant_of-self c = keeps_status _ _ _ _ _ c.self.inside.world c.set_status.new.world _ c.leaves.ensures (λ o n d k r. (c.asks.ensures.recording o n d k r, c.asks.ensures.filter o n d k r, stack_same o n d (c.asks.ensures.counter o n d k r) (c.asks.ensures.measures o n d k r))) c.self.inside.dispatch c.self.inside.opening c.self.inside.lanes.items c.self.inside.handles.items c.self.inside.guards.items (named_in c.self.inside.contexts) c.self.inside.moment c.args.at c.args.lane c.args.handle c.in-Some.span.now (search rules) c.args.status c.set_status.ensures c.self.invariant
+invariant_of-self c = keeps_status _ _ _ _ _ c.self.inside.world c.ask.new.world _ c.leaves.ensures (λ o n d k r. (c.asks.ensures.recording o n d k r, c.asks.ensures.filter o n d k r, stack_same o n d (c.asks.ensures.counter o n d k r) (c.asks.ensures.measures o n d k r))) c.self.inside.dispatch c.self.inside.opening c.self.inside.lanes.items c.self.inside.handles.items c.self.inside.guards.items (named_in c.self.inside.contexts) c.self.inside.moment c.args.at c.args.lane c.args.handle c.in-Some.span.now (search rules) c.args.status c.ask.ensures.done c.self.invariant
 
 pub returns-clause-ok : goal.returns-clause-ok
-returns-clause-ok c = by_view c.args.at c.args.lane (call.SetStatus c.args.handle c.args.status) _ _ _ _ c.self.view_is (λ t stands. serves_status _ _ _ _ _ c.self.inside.world c.set_status.new.world _ c.leaves.ensures (λ o n d k r. (c.asks.ensures.recording o n d k r, c.asks.ensures.filter o n d k r, stack_same o n d (c.asks.ensures.counter o n d k r) (c.asks.ensures.measures o n d k r))) c.self.inside.dispatch c.self.inside.opening c.self.inside.lanes.items c.self.inside.handles.items c.self.inside.guards.items (named_in c.self.inside.contexts) c.self.inside.moment c.args.at c.args.lane c.args.handle c.in-Some.span.now (search rules) c.args.status c.set_status.ensures t stands)
+returns-clause-ok c = by_view c.args.at c.args.lane (call.SetStatus c.args.handle c.args.status) _ _ _ _ c.self.view_is (λ t stands. serves_status _ _ _ _ _ c.self.inside.world c.ask.new.world _ c.leaves.ensures (λ o n d k r. (c.asks.ensures.recording o n d k r, c.asks.ensures.filter o n d k r, stack_same o n d (c.asks.ensures.counter o n d k r) (c.asks.ensures.measures o n d k r))) c.self.inside.dispatch c.self.inside.opening c.self.inside.lanes.items c.self.inside.handles.items c.self.inside.guards.items (named_in c.self.inside.contexts) c.self.inside.moment c.args.at c.args.lane c.args.handle c.in-Some.span.now (search rules) c.args.status c.ask.ensures.done t stands)
