@@ -3,33 +3,38 @@ use otel_base::list::Items;
 use otel_base::memory::Memory;
 use otel_base::text::Text;
 use std::alloc::Global;
-use std::test::Fail;
 use trace_base::callsite::{Callsite, Kind};
 use trace_base::field::{Value, ValueSet};
 use trace_base::level::Level;
 use trace_base::span::{Id, Parent};
 use trace_base::subscriber::Interest;
 
-fn text(alloc: Global, text: &str) -> Result<Text, Memory> {
+/// A text.
+pub fn text(alloc: Global, text: &str) -> Result<Text, Memory> {
     Ok(Text::from(String::from_str(alloc, text)?))
 }
 
 /// A callsite of spans with fields of these names.
 pub fn callsite(alloc: Global, names: &[&str]) -> Result<Callsite, Memory> {
-    let mut fields = Items::new(alloc);
+    let mut made = bare(alloc);
     for name in names {
-        fields.push(text(alloc, *name)?)?;
+        made.fields.push(text(alloc, *name)?)?;
     }
-    Ok(Callsite {
-        name: text(alloc, "span")?,
-        target: text(alloc, "app")?,
+    Ok(made)
+}
+
+/// A callsite of spans without a name, a target or fields.
+pub fn bare(alloc: Global) -> Callsite {
+    Callsite {
+        name: Text::from(String::new(alloc)),
+        target: Text::from(String::new(alloc)),
         level: Level::INFO,
         kind: Kind::Span,
         file: None,
         module_path: None,
         line: None,
-        fields,
-    })
+        fields: Items::new(alloc),
+    }
 }
 
 #[test]
@@ -42,13 +47,23 @@ fn tells_interests_and_spans_apart(rt: HostRuntime) {
     assert!(rt; Parent::Of(third).same() == Parent::Of(third));
 }
 
+// The places of some names, of which one is declared twice.
+fn places(alloc: Global) -> Result<[Option<usize>; 6], Memory> {
+    let declared = callsite(alloc, &["a", "f", "a", "otel.name", ""])?;
+    Ok([
+        declared.field("a"),
+        declared.field("otel.name"),
+        declared.field(""),
+        declared.field("A"),
+        declared.field("otel"),
+        declared.field("otel.name2"),
+    ])
+}
+
 #[test]
-fn finds_the_first_place_of_a_name(rt: HostRuntime) -> Result<(), Fail> {
-    let declared = callsite(rt.alloc(), &["a", "f", "a", "otel.name", ""])?;
-    assert!(rt; declared.field("a") == Some(0) && declared.field("otel.name") == Some(3));
-    assert!(rt; declared.field("") == Some(4) && declared.field("A") == None);
-    assert!(rt; declared.field("otel") == None && declared.field("otel.name2") == None);
-    Ok(())
+fn finds_the_first_place_of_a_name(rt: HostRuntime) {
+    let told = places(rt.alloc());
+    assert!(rt; told == Ok([Some(0), Some(3), Some(4), None, None, None]));
 }
 
 // A number at place 1 and an error at place 0.
@@ -62,20 +77,22 @@ fn two_values(alloc: Global) -> Result<ValueSet, Memory> {
     Ok(ValueSet { pairs })
 }
 
-#[test]
-fn copies_values(rt: HostRuntime) -> Result<(), Fail> {
-    let copy = two_values(rt.alloc())?.clone()?;
+// Whether a copy has the same number, and the same error.
+fn copied(alloc: Global) -> Result<[bool; 2], Memory> {
+    let copy = two_values(alloc)?.clone()?;
     let [
         (first, Value::I128(number)),
         (second, Value::Error { message, chain }),
     ] = copy.pairs.as_slice()
     else {
-        return Err(Fail::from("the copy has other values"));
+        return Ok([false; 2]);
     };
-    assert!(rt; (*first, *second, *number) == (1, 0, i128::MIN));
-    assert_eq!(rt;
-        (message.as_str(), chain.as_slice().len()),
-        ("can't read", 1)
-    );
-    Ok(())
+    let same_number = (*first, *number) == (1, i128::MIN);
+    let same_error = (*second, message.as_str(), chain.as_slice().len()) == (0, "can't read", 1);
+    Ok([same_number, same_error])
+}
+
+#[test]
+fn copies_values(rt: HostRuntime) {
+    assert_eq!(rt; copied(rt.alloc()), Ok([true; 2]));
 }

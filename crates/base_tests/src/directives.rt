@@ -1,76 +1,124 @@
 //! What no line of the program's input shows of directives: how they are made, kept, cloned and handed out.
+use crate::callsites::text;
 use env_directives::{
     BadFieldName, BadName, Directive, DirectiveSet, MatchDebug, StaticDirective, Targets,
     ValueMatch,
 };
-use otel_base::text::Text;
+use otel_base::memory::Memory;
 use std::alloc::Global;
+use std::fmt::Write;
 use std::test::Fail;
 use trace_base::field::Value;
 use trace_base::level::{Level, LevelFilter};
 
-fn text_of(alloc: Global, text: &str) -> Result<Text, Fail> {
-    Ok(Text::from(String::from_str(alloc, text)?))
-}
-
 const STRUCT: &str = "MyStruct { answer: 42, question: \"life, the universe, and everything\" }";
 
-const STRUCTS: [&str; 5] = [
-    "MyStruct { answer: 42, question: \"life, the universe, and everything\" }",
-    "MyStruct { answer: 42, question: \"what shall I call you?\" }",
-    "MyStruct { answer: 42, question: \"life, the universe, and everything\"",
-    "MyStruct { answer: 42, question: \"life, the universe, and everything\" } ",
-    "MyStruct",
+// Fixed texts, and whether that debug form with commas meets them.
+const STRUCTS: [(&str, bool); 5] = [
+    (
+        "MyStruct { answer: 42, question: \"life, the universe, and everything\" }",
+        true,
+    ),
+    (
+        "MyStruct { answer: 42, question: \"what shall I call you?\" }",
+        false,
+    ),
+    (
+        "MyStruct { answer: 42, question: \"life, the universe, and everything\"",
+        false,
+    ),
+    (
+        "MyStruct { answer: 42, question: \"life, the universe, and everything\" } ",
+        false,
+    ),
+    ("MyStruct", false),
 ];
 
-// `y` or `n` for each fixed text, whether a debug form with commas meets it.
-fn structs(alloc: Global) -> Result<String, Fail> {
-    let value = Value::Debug(text_of(alloc, STRUCT)?);
-    let mut told = String::new(alloc);
-    for text in STRUCTS {
-        let asked = ValueMatch::Debug(MatchDebug::new(text_of(alloc, text)?));
-        told.push(if asked.met(alloc, &value)? { 'y' } else { 'n' })?;
-    }
-    Ok(told)
+// Whether a debug form meets what is asked.
+fn meets(alloc: Global, asked: &ValueMatch, form: &str) -> Result<bool, Memory> {
+    let value = Value::Debug(text(alloc, form)?);
+    asked.met(alloc, &value)
 }
 
-// The text of a pattern, and whether its own text meets the fixed text of the same bytes, and another.
-fn as_fixed_text(alloc: Global) -> Result<String, Fail> {
-    let directive = Directive::from_str(alloc, "[{f=a.c}]")?.clone_directive()?;
-    let mut told = String::new(alloc);
-    for field in directive.fields() {
-        if let Some(ValueMatch::Pat(pattern)) = &field.value {
-            told.push_str(pattern.as_str())?;
-            let fixed = ValueMatch::Debug(pattern.clone()?.into_debug_match());
-            let same = fixed.met(alloc, &Value::Debug(text_of(alloc, "a.c")?))?;
-            let other = fixed.met(alloc, &Value::Debug(text_of(alloc, "abc")?))?;
-            told.push_str(format!(in alloc; " {same} {other} {fixed}")?.as_str())?;
-        }
-    }
-    Ok(told)
-}
-
-// Directives that are made of levels, and a name that isn't valid, as they print.
-fn made(alloc: Global) -> Result<String, Fail> {
-    let level = Directive::from_level(alloc, Level::DEBUG);
-    let filter = Directive::from_filter(alloc, LevelFilter::WARN);
-    let default = Directive::default(alloc);
-    let errors = StaticDirective::default(alloc);
-    let name = text_of(alloc, "x")?;
-    let fault: BadFieldName = BadName { name };
-    Ok(format!(in alloc; "{level} {filter} {default} {errors} {fault} {fault:?}")?)
+// Whether the debug form of the struct meets a fixed text.
+fn is_met(alloc: Global, fixed: &str) -> Result<bool, Memory> {
+    let asked = ValueMatch::Debug(MatchDebug::new(text(alloc, fixed)?));
+    meets(alloc, &asked, STRUCT)
 }
 
 #[test]
-fn makes_and_meets(rt: HostRuntime) -> Result<(), Fail> {
-    assert_eq!(rt; structs(rt.alloc())?.as_str(), "ynnnn");
-    assert_eq!(rt; as_fixed_text(rt.alloc())?.as_str(), "a.c true false a.c");
+fn meets_fixed_texts(rt: HostRuntime) {
+    for (fixed, wanted) in STRUCTS {
+        assert_eq!(rt; is_met(rt.alloc(), fixed), Ok(wanted));
+    }
+}
+
+// The first pattern of a directive, if it is of this text, made a fixed text.
+fn fixed_pattern(directive: &Directive, wanted: &str) -> Result<ValueMatch, Fail> {
+    for field in directive.fields() {
+        if let Some(ValueMatch::Pat(pattern)) = &field.value {
+            if pattern.as_str() == wanted {
+                return Ok(ValueMatch::Debug(pattern.clone()?.into_debug_match()));
+            }
+        }
+    }
+    Err(Fail::from("no such pattern"))
+}
+
+// A pattern made a fixed text, from a copy of its directive.
+fn fixed(alloc: Global) -> Result<ValueMatch, Fail> {
+    let directive = Directive::from_str(alloc, "[{f=a.c}]")?.clone_directive()?;
+    fixed_pattern(&directive, "a.c")
+}
+
+// Whether a pattern that was made a fixed text is met by its own text, and by what it would match.
+fn fixed_is_met(alloc: Global) -> Result<[Result<bool, Memory>; 2], Fail> {
+    let fixed = fixed(alloc)?;
+    Ok([meets(alloc, &fixed, "a.c"), meets(alloc, &fixed, "abc")])
+}
+
+#[test]
+fn makes_fixed_texts_of_patterns(rt: HostRuntime) -> Result<(), Fail> {
+    assert!(rt; fixed_is_met(rt.alloc())? == [Ok(true), Ok(false)]);
+    let told = fixed(rt.alloc())?.to_string(rt.alloc())?;
+    assert_eq!(rt; told.as_str(), "a.c");
+    Ok(())
+}
+
+// Directives that are made of levels, as they print.
+fn made(alloc: Global) -> Result<String, Fail> {
+    let level = Directive::from_level(alloc, Level::DEBUG);
+    let filter = Directive::from_filter(alloc, LevelFilter::WARN);
+    Ok(format!(in alloc; "{level} {filter}")?)
+}
+
+// Those that are made of nothing.
+fn defaults(alloc: Global) -> Result<String, Fail> {
+    let default = Directive::default(alloc);
+    let errors = StaticDirective::default(alloc);
+    Ok(format!(in alloc; "{default} {errors}")?)
+}
+
+// A name that isn't valid.
+fn fault(alloc: Global) -> Result<String, Fail> {
+    let name = text(alloc, "x")?;
+    let fault: BadFieldName = BadName { name };
+    Ok(format!(in alloc; "{fault} {fault:?}")?)
+}
+
+#[test]
+fn makes_directives_of_levels(rt: HostRuntime) -> Result<(), Fail> {
+    assert_eq!(rt; made(rt.alloc())?.as_str(), "debug warn");
+    assert_eq!(rt; defaults(rt.alloc())?.as_str(), "off error");
+    let fault = fault(rt.alloc())?;
     assert_eq!(rt;
-        made(rt.alloc())?.as_str(),
-        "debug warn off error invalid field name `x` BadName { name: \"x\" }"
+        fault.as_str(),
+        "invalid field name `x` BadName { name: \"x\" }"
     );
     Ok(())
 }
+
+type Set = DirectiveSet<StaticDirective>;
 
 const KEPT: [&str; 6] = [
     "info",
@@ -81,61 +129,89 @@ const KEPT: [&str; 6] = [
     "app=debug",
 ];
 
-// What a set keeps of those, and what a set of what it hands out does; with the greatest level of each.
-fn kept(alloc: Global) -> Result<String, Fail> {
+// A set of those, added in turn.
+fn kept(alloc: Global) -> Result<Set, Fail> {
     let mut set = DirectiveSet::new(alloc);
-    let mut told = format!(in alloc; "{} {} ", set.is_empty(), set.max_level())?;
     for text in KEPT {
         set.add(StaticDirective::from_str(alloc, text)?)?;
     }
+    Ok(set)
+}
+
+// A set of what a copy of a set hands out.
+fn again(alloc: Global, set: &Set) -> Result<Set, Fail> {
     let mut listed = Vec::new(alloc);
     for directive in set.clone_set()?.into_iter() {
         listed.push(directive)?;
     }
     let mut again = DirectiveSet::new(alloc);
     again.extend(listed)?;
-    push_set(alloc, &mut told, &set)?;
-    push_set(alloc, &mut told, &again)?;
-    Ok(told)
+    Ok(again)
 }
 
 // The directives of a set, each with a blank behind it, and the greatest level.
-fn push_set(
-    alloc: Global,
-    told: &mut String,
-    set: &DirectiveSet<StaticDirective>,
-) -> Result<(), Fail> {
+fn listed(alloc: Global, set: &Set) -> Result<String, Fail> {
+    let mut told = String::new(alloc);
     for directive in set.iter() {
-        told.push_str(format!(in alloc; "{directive} ")?.as_str())?;
+        write!(told, "{directive} ")?;
     }
-    told.push_str(format!(in alloc; "{} ", set.max_level())?.as_str())?;
-    Ok(())
+    write!(told, "{}", set.max_level())?;
+    Ok(told)
+}
+
+// Whether a set has nothing, and its greatest level.
+fn is_empty(set: &Set) -> (bool, LevelFilter) {
+    (set.is_empty(), set.max_level())
+}
+
+// What is kept, and what a set of what that hands out keeps.
+fn kept_once(alloc: Global) -> Result<String, Fail> {
+    let kept = kept(alloc)?;
+    listed(alloc, &kept)
+}
+
+fn kept_again(alloc: Global) -> Result<String, Fail> {
+    let again = again(alloc, &kept(alloc)?)?;
+    listed(alloc, &again)
 }
 
 #[test]
 fn keeps_directives_in_order(rt: HostRuntime) -> Result<(), Fail> {
     assert_eq!(rt;
-        kept(rt.alloc())?.as_str(),
-        "true off app[{b}]=off app=debug db[{a,b}]=error db[{a}]=warn info trace \
-        app[{b}]=off app=debug db[{a,b}]=error db[{a}]=warn info debug "
+        is_empty(&DirectiveSet::new(rt.alloc())),
+        (true, LevelFilter::OFF)
+    );
+    assert_eq!(rt;
+        kept_once(rt.alloc())?.as_str(),
+        "app[{b}]=off app=debug db[{a,b}]=error db[{a}]=warn info trace"
+    );
+    assert_eq!(rt;
+        kept_again(rt.alloc())?.as_str(),
+        "app[{b}]=off app=debug db[{a,b}]=error db[{a}]=warn info debug"
     );
     Ok(())
 }
 
 const FIVE: &str = "crate1::mod1=error,crate1::mod2,crate2=debug,crate3=off,warn";
 
-// Targets that are set in each of the four ways.
-fn set(alloc: Global) -> Result<Targets, Fail> {
+// Targets that are set in three ways.
+fn with_three(alloc: Global) -> Result<Targets, Fail> {
     let app = String::from_str(alloc, "app")?;
     let Ok(targets) = Targets::new(alloc).with_target(app, LevelFilter::INFO) else {
         return Err(Fail::from("no memory"));
     };
-    let Ok(targets) = targets.with_targets(one_target(alloc, "db", LevelFilter::OFF)?) else {
+    let Ok(targets) = targets.with_default(LevelFilter::DEBUG) else {
         return Err(Fail::from("no memory"));
     };
-    let Ok(mut targets) = targets.with_default(LevelFilter::DEBUG) else {
-        return Err(Fail::from("no memory"));
-    };
+    match targets.with_targets(one_target(alloc, "db", LevelFilter::OFF)?) {
+        Ok(targets) => Ok(targets),
+        Err(_) => Err(Fail::from("no memory")),
+    }
+}
+
+// Targets that are set in each of the four ways.
+fn with_four(alloc: Global) -> Result<Targets, Fail> {
+    let mut targets = with_three(alloc)?;
     targets.extend(one_target(alloc, "web", LevelFilter::WARN)?)?;
     Ok(targets)
 }
@@ -149,27 +225,42 @@ fn one_target(
     Ok(vec![in alloc; (String::from_str(alloc, target)?, level)]?)
 }
 
+// The level of targets where none is met, and how they print.
+fn printed(alloc: Global) -> Result<(Option<LevelFilter>, String), Fail> {
+    let targets = with_four(alloc)?;
+    Ok((targets.default_level(), targets.to_string(alloc)?))
+}
+
+// Whether a copy is equal.
+fn is_copied(alloc: Global) -> Result<bool, Fail> {
+    let five = Targets::from_str(alloc, FIVE)?;
+    Ok(five.clone_targets()? == five)
+}
+
+// Whether other targets aren't.
+fn is_other(alloc: Global) -> Result<bool, Fail> {
+    let four = with_four(alloc)?;
+    Ok(Targets::from_str(alloc, FIVE)? != four)
+}
+
 // The pairs that targets give by value, each with a blank behind it.
-fn owned(alloc: Global, targets: Targets) -> Result<String, Fail> {
+fn owned(alloc: Global) -> Result<String, Fail> {
     let mut told = String::new(alloc);
-    for (target, level) in targets.into_iter() {
-        told.push_str(format!(in alloc; "{}={level} ", target.as_str())?.as_str())?;
+    for (target, level) in Targets::from_str(alloc, FIVE)?.into_iter() {
+        write!(told, "{}={level} ", target.as_str())?;
     }
     Ok(told)
 }
 
 #[test]
 fn sets_targets(rt: HostRuntime) -> Result<(), Fail> {
-    let five = Targets::from_str(rt.alloc(), FIVE)?;
-    let targets = set(rt.alloc())?;
-    assert!(rt; five.clone_targets()? == five && targets != five);
-    assert_eq!(rt; targets.default_level(), Some(LevelFilter::DEBUG));
-    assert_eq!(rt;
-        targets.to_string(rt.alloc())?.as_str(),
-        "web=warn,app=info,db=off,debug"
+    let (level, told) = printed(rt.alloc())?;
+    assert!(rt;
+        level == Some(LevelFilter::DEBUG) && told.as_str() == "web=warn,app=info,db=off,debug"
     );
+    assert!(rt; is_copied(rt.alloc())? && is_other(rt.alloc())?);
     assert_eq!(rt;
-        owned(rt.alloc(), five)?.as_str(),
+        owned(rt.alloc())?.as_str(),
         "crate1::mod2=trace crate1::mod1=error crate3=off crate2=debug "
     );
     Ok(())

@@ -1,12 +1,16 @@
 //! The sites and subscribers of a world, what names a field at a site, and the defaults of lanes.
-use crate::callsites::callsite;
+ghost use Rattle.std.specs.Prelude.{◌<◌, ◌≤◌, length, IfOk};
+
+use crate::callsites::{bare, callsite};
+use crate::lanes::lane;
 use otel_base::memory::Memory;
-use otel_base::stack::ContextStack;
 use span_registry::registry::Registry;
 use std::alloc::Global;
 use trace_base::callsite::{Callsite, SiteId};
 use trace_base::discard::Discard;
-use trace_base::dispatcher::{Dispatch, set_default, with_default};
+use trace_base::dispatcher::{
+    Dispatch, TryInitError, get_default, set_default, set_global_default, try_init, with_default,
+};
 use trace_base::field::{AsField, Field};
 use trace_base::filter::Filter;
 use trace_base::lane::Lane;
@@ -43,7 +47,10 @@ fn names_fields_at_their_own_callsite(rt: HostRuntime) {
 }
 
 // Adds a registry.
-fn add(alloc: Global, world: &mut World<Registry>) -> Result<Dispatch, Memory> {
+fn add(alloc: Global, world: &mut World<Registry>) -> Result<Dispatch, Memory>
+    ensures there { IfOk result (λ dispatch. dispatch < length world.new.subscribers) }
+    ensures more { length world.old.subscribers ≤ length world.new.subscribers }
+{
     match world.add(Registry::new(alloc)) {
         Ok(dispatch) => Ok(dispatch),
         Err((registry, memory)) => {
@@ -58,12 +65,7 @@ fn nested(alloc: Global, world: &mut World<Registry>) -> Result<[Option<u64>; 5]
     let first = add(alloc, world)?;
     let second = add(alloc, world)?;
     let third = add(alloc, world)?;
-    let mut lane = Lane {
-        id: 1,
-        name: None,
-        default: None,
-        contexts: ContextStack::new(alloc),
-    };
+    let mut lane = lane(alloc);
     let outer = set_default(&mut lane, first);
     let inner = set_default(&mut lane, second);
     let before = number(&lane);
@@ -87,19 +89,54 @@ fn puts_defaults_back_in_order(rt: HostRuntime) {
     assert_eq!(rt; told, Ok([Some(1), Some(2), Some(1), Some(0), None]));
 }
 
-// What a world without a subscriber of the lane lets through, and what one that admits nothing answers.
-fn nothing(alloc: Global) -> Result<(Interest, bool, Option<LevelFilter>), Memory> {
-    let callsite = callsite(alloc, &[])?;
+// Whether nothing serves a lane before a global subscriber is set, the first that is set then does, a second is refused, and
+// the lane's own one goes before it.
+fn globals(
+    world: &mut World<Registry>,
+    lane: &mut Lane,
+    first: Dispatch,
+    second: Dispatch,
+) -> [bool; 5]
+    requires first { first < length world.old.subscribers }
+    requires second { second < length world.old.subscribers }
+{
+    let before = get_default(world, lane) == None;
+    let set = try_init(world, first) == Ok(());
+    let refused = set_global_default(world, second) == Err(TryInitError::AlreadySet);
+    let after = get_default(world, lane) == Some(first);
+    lane.default = Some(second);
+    let own = get_default(world, lane) == Some(second);
+    [before, set, refused, after, own]
+}
+
+// The same in a world with two registries.
+fn served(alloc: Global, world: &mut World<Registry>) -> Result<[bool; 5], Memory> {
+    let first = add(alloc, world)?;
+    let second = add(alloc, world)?;
+    Ok(globals(world, &mut lane(alloc), first, second))
+}
+
+#[test]
+fn sets_the_global_default_once(rt: HostRuntime) {
+    let mut world = World::new(rt.alloc());
+    let told = served(rt.alloc(), &mut world);
+    world.discard();
+    assert_eq!(rt; told, Ok([true; 5]));
+}
+
+// What a subscriber that admits nothing answers.
+fn nothing(alloc: Global) -> (Interest, bool, Option<LevelFilter>) {
+    let callsite = bare(alloc);
     let nothing = NoSubscriber {};
-    Ok((
+    (
         nothing.callsite_enabled(&callsite),
         nothing.enabled(1, &callsite),
         nothing.max_level_hint(),
-    ))
+    )
 }
 
 #[test]
 fn admits_nothing_without_a_subscriber(rt: HostRuntime) {
     let told = nothing(rt.alloc());
-    assert!(rt; told == Ok((Interest::Never, false, Some(LevelFilter::OFF))));
+    assert!(rt; told == (Interest::Never, false, Some(LevelFilter::OFF)));
 }

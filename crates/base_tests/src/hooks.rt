@@ -1,0 +1,142 @@
+//! Each call over two layers and a registry: which hooks it tells, and in which order.
+ghost use Rattle.std.specs.Prelude.{◌≡◌, OnOk};
+ghost use Rattle.trace_base.specs.Calls.{entered};
+ghost use Rattle.trace_base.specs.Conditions.{HasFewHolds, IsLive};
+ghost use Rattle.span_registry.specs.Registering.{no_spans};
+
+use crate::asked::{Asked, Notes};
+use crate::registries::{Making, prepared};
+use otel_base::memory::Memory;
+use span_registry::layer::registry;
+use span_registry::layered::Layered;
+use span_registry::registry::Registry;
+use std::alloc::Global;
+use std::cell::Cell;
+use std::rc::Rc;
+use trace_base::discard::Discard;
+use trace_base::lane::Lane;
+use trace_base::span::{Id, Parent};
+use trace_base::subscriber::{Interest, Subscriber};
+use trace_base::world::World;
+
+// Such layers know no span, so they are in step with any registry.
+fn whole(stack: &Layered<Asked, Layered<Asked, Registry>>)
+    ensures { ⟦<Layered<Asked, Layered<Asked, Registry>> as Subscriber>⟧.is_whole stack.now }
+{
+    stack.inner().inner().sound();
+}
+
+fn enter(
+    stack: &mut Layered<Asked, Layered<Asked, Registry>>,
+    id: Id,
+    lane: &mut Lane,
+) -> Result<(), Memory>
+    requires live { IsLive stack.old.inner.inner.spans.made id }
+    requires few_holds { HasFewHolds stack.old.inner.inner.spans.made id }
+    ensures lane { OnOk result (lane.new.id ≡ lane.old.id) }
+    ensures spans { OnOk result
+        (stack.new.inner.inner.spans ≡ entered stack.old.inner.inner.spans id lane.old.id) }
+{
+    whole(stack);
+    match stack.enter(id, lane, 5) {
+        Ok(()) => Ok(()),
+        Err(_) => Err(Memory),
+    }
+}
+
+// What each call notes, and whether the last one closed the span.
+fn noted(
+    stack: &mut Layered<Asked, Layered<Asked, Registry>>,
+    making: &mut Making,
+    log: &Cell<u64>,
+) -> Result<[u64; 10], Memory>
+    requires { stack.old.inner.inner.spans ≡ no_spans }
+{
+    whole(stack);
+    let id = stack.new_span(
+        &making.lane,
+        1,
+        Parent::Root,
+        making.site,
+        &making.callsite,
+        &making.values,
+    )?;
+    let made = log.replace(0);
+    whole(stack);
+    stack.record(id, 2, &making.callsite, &making.values)?;
+    let recorded = log.replace(0);
+    whole(stack);
+    stack.record_follows_from(id, id, 3)?;
+    let followed = log.replace(0);
+    whole(stack);
+    stack.event(
+        &making.lane,
+        4,
+        Parent::Of(id),
+        making.site,
+        &making.callsite,
+        &making.values,
+    )?;
+    let told = log.replace(0);
+    enter(stack, id, &mut making.lane)?;
+    let entered = log.replace(0);
+    whole(stack);
+    stack.exit(id, &mut making.lane, 6);
+    let exited = log.replace(0);
+    whole(stack);
+    stack.clone_span(id);
+    let cloned = log.replace(0);
+    whole(stack);
+    stack.try_close(id, 7);
+    let released = log.replace(0);
+    whole(stack);
+    let closing = stack.try_close(id, 8);
+    Ok([
+        made,
+        recorded,
+        followed,
+        told,
+        entered,
+        exited,
+        cloned,
+        released,
+        log.get(),
+        u64::from(closing.closed),
+    ])
+}
+
+fn layer(number: u64, log: Rc<Cell<u64>>) -> Asked {
+    Asked {
+        interest: Interest::Always,
+        enables: true,
+        hint: None,
+        notes: Some(Notes { layer: number, log }),
+    }
+}
+
+fn all_noted(alloc: Global, making: &mut Making) -> Result<[u64; 10], Memory> {
+    let log = Rc::new(alloc, Cell::new(0u64))?;
+    let inner = layer(1, log.clone()?);
+    let outer = layer(2, log.clone()?);
+    let mut stack = registry(alloc).with(inner).with(outer);
+    let told = noted(&mut stack, making, &log);
+    stack.discard();
+    told
+}
+
+// The same by a callsite of a world.
+fn told(alloc: Global, sites: &mut World<Registry>) -> Result<[u64; 10], Memory> {
+    all_noted(alloc, &mut prepared(alloc, sites)?)
+}
+
+// A layer takes its memory before what it lies over does, and its hook comes after.
+#[test]
+fn tells_layers_in_the_order_in_which_they_were_put_on(rt: HostRuntime) {
+    let mut sites = World::new(rt.alloc());
+    let told = told(rt.alloc(), &mut sites);
+    sites.discard();
+    let wanted = [
+        20101121, 20101222, 20101323, 20101424, 20101525, 1626, 0, 0, 1727, 1,
+    ];
+    assert_eq!(rt; told, Ok(wanted));
+}
