@@ -1,6 +1,6 @@
 -- The layer of a stack keeps one state of each span that is live.
-use Rattle.std.proofs.Common.{◌≡◌, ◌≢◌, ℕ, ◌+◌, ◌-◌, ◌<◌, ◌≤◌, List, [], ◌∷◌, ◌++◌, length, Bool, true, false, cond, count_by, set, Option, Some, None, refl, sym, ap, subst, ◌∙◌, arith, inl, inr}
-use Rattle.std.specs.Prelude.{if◌then◌else◌, ◌==◌, nat_lt, is_some, fold, IfSome, Result, Ok, Err}
+use Rattle.std.proofs.Common.{◌≡◌, ◌≢◌, ℕ, ◌+◌, ◌<◌, List, [], ◌∷◌, ◌++◌, length, Bool, true, false, count_by, set, Option, Some, None, refl, sym, ap, subst, ◌∙◌, arith, inl, inr}
+use Rattle.std.specs.Prelude.{◌==◌, nat_lt, is_some, fold, IfSome, Result, Ok, Err}
 use Rattle.std.specs.List.{list_any}
 use Rattle.std.specs.Map.{keys_of, remove_entry}
 use Rattle.std.proofs.lemmas.Bool.{eqb-true, eq-eqb, ne_eqb, cases_eq, cases_lt, cases_Bool, cond-true, cond-false, lt-ltb, le-ltb, true≢false}
@@ -17,8 +17,8 @@ use Rattle.trace_base.specs.Conditions.{IsLive, MayExit, HasOwnHold, Allowed}
 use Rattle.trace_base.specs.Hooks.{one_if}
 use Rattle.trace_base.specs.Sound.{IsSound}
 use Rattle.trace_base.specs.Spans.{Span, Spans, no_span, span_at, entries_on, is_in, times_in, current_of, place_on, held, less_held, released, held_by_child, next_of}
-use Rattle.trace_base.proofs.Entering.{count_cons, count_push, counted_if_any, any_if_counted, none_counted, made_if_held, length_held}
-use Rattle.trace_base.proofs.Holding.{less_last, less_holds, holds_set, holds_other}
+use Rattle.trace_base.proofs.Entering.{count_cons, count_push, counted_if_any, any_if_counted, made_if_held, length_held}
+use Rattle.trace_base.proofs.Holding.{less_holds, holds_set, holds_other}
 use Rattle.trace_base.proofs.Sound.{place_live}
 use Rattle.trace_base.specs.Gate.{Worlds}
 use Rattle.span_handles.specs.Worlds.{Replaced, seen, Released, all_released, releases, closed_in, no_spans}
@@ -33,9 +33,9 @@ use Rattle.otel_state.specs.SpanFields.{span_update}
 use Rattle.otel_state.specs.States.{Told, changed}
 use Rattle.otel_layer.specs.Keeping.{update_keys}
 use Rattle.otel_layer.specs.Parts.{PartCall, Applies, Shows, AppliesTo, context_at}
-use Rattle.otel_layer.specs.Recording.{Recording, with_applied, started_under, with_start, with_starts, with_made, linked, with_follow, with_event, source_of, with_entry, with_exit, closed, with_close, Enters, Exits, Stays, RecordsCall, RecordsChain, RecordsPart}
+use Rattle.otel_layer.specs.Recording.{Recording, with_applied, started_under, with_start, with_starts, with_made, with_follow, with_event, source_of, with_entry, with_exit, closed, with_close, Enters, Exits, Stays, RecordsCall, RecordsChain, RecordsPart}
 use Rattle.otel_layer.specs.Steps.{IfKnown, above, with_link}
-use Rattle.otel_layer.specs.Table.{told_at, knows_span, with_op, waits, ids_at, is_id}
+use Rattle.otel_layer.specs.Table.{told_at, knows_span, waits, ids_at, is_id}
 use Rattle.env_filter.specs.Filtering.{Filtered, enables_in}
 use Rattle.span_stack.specs.Counting.{with_counted, with_event_by, RecordsCallBy}
 use Rattle.span_stack.specs.Reading.{new_recording}
