@@ -1,17 +1,15 @@
 -- What closes is one chain.
-use Rattle.std.proofs.Common.{◌≡◌, ℕ, ◌<◌, ◌≤◌, ◌==◌, ◌||◌, List, [], ◌∷◌, ◌++◌, length, Bool, true, false, cond, filter, not, slice_set, Option, Some, None, option_map, Ok, refl, sym, ap, subst, ◌∙◌, arith, inl, inr}
-use Rattle.std.specs.Prelude.{if◌then◌else◌}
-use Rattle.std.proofs.lemmas.List.{append-nil}
+use Rattle.std.proofs.Common.{◌≡◌, ℕ, ◌==◌, ◌||◌, List, [], ◌∷◌, ◌++◌, Bool, true, false, filter, not, slice_set, Option, Some, None, option_map, Ok, refl, sym, ap, subst, ◌∙◌, arith, inl, inr}
 use Rattle.std.proofs.lemmas.Bool.{cases_Bool, eq-eqb, eqb-true, or_right, cond-true, cond-false, true≢false}
 use Rattle.std.proofs.lemmas.Bool.Decides.{nat_tests}
 use Rattle.trace_base.specs.Spans.{is_in}
 use Rattle.span_script.specs.declared.request.Request.{Request}
 use Rattle.span_script.specs.Effects.{holds, is_open, closed_of, effect_of}
 use Rattle.span_script.specs.Setups.{Setup}
-use Rattle.span_script.specs.Tables.{Scope, Made, Guarded, Effect, History, with_new, spend, slot_at, made_of, after, tables}
+use Rattle.span_script.specs.Tables.{Scope, Made, Guarded, Effect, History, with_new, spend, slot_at, made_of, tables}
 use Rattle.span_laws.specs.Closes.{BeginsWith, is_drop}
 use Rattle.span_laws.specs.Laws.{IsHistory}
-use Rattle.span_laws.proofs.Closing.{AreMine, IsLine, IsSound, named, step_stands}
+use Rattle.span_laws.proofs.Closing.{AreMine, IsSound, named, step_stands}
 use Rattle.span_laws.proofs.Histories.{fits, whole}
 use Rattle.span_laws.proofs.Occurrences.{slot_push}
 use Rattle.span_laws.proofs.Steps.{Spends, no_spending, one_spent, step_of}

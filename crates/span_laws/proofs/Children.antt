@@ -1,20 +1,20 @@
 -- A child closes before its parent.
-use Rattle.std.proofs.Common.{◌≡◌, ℕ, zero, suc, ◌<◌, ◌≤◌, ◌==◌, ◌&&◌, ◌||◌, List, [], ◌∷◌, ◌++◌, length, Bool, true, false, cond, not, nat_lt, slice_set, Option, Some, None, option_map, Ok, refl, sym, ap, subst, ◌∙◌, arith, ◌⊎◌, inl, inr, append_assoc}
-use Rattle.std.proofs.lemmas.List.{append-nil, length_push, get_or_push}
+use Rattle.std.proofs.Common.{◌≡◌, ℕ, zero, suc, ◌<◌, ◌≤◌, ◌==◌, ◌||◌, List, [], ◌∷◌, ◌++◌, length, Bool, true, false, slice_set, Option, None, refl, sym, ap, subst, ◌∙◌, arith, ◌⊎◌, inl, inr, append_assoc}
+use Rattle.std.proofs.lemmas.List.{append-nil, get_or_push}
 use Rattle.std.proofs.lemmas.List.Sums.{fold_push}
-use Rattle.std.proofs.lemmas.Bool.{cases_Bool, cases_eq, cases_lt, eq-eqb, eqb-true, or_right, true≢false}
+use Rattle.std.proofs.lemmas.Bool.{cases_eq, eq-eqb, eqb-true, or_right}
 use Rattle.std.proofs.lemmas.Bool.Decides.{nat_tests}
 use Rattle.trace_base.specs.Spans.{is_in}
 use Rattle.span_script.specs.Effects.{is_open}
 use Rattle.span_script.specs.Setups.{Setup}
-use Rattle.span_script.specs.Tables.{Scope, Made, Guarded, Effect, History, Tables, with_new, spend, slot_at, no_making, made_of, no_tables, after, tables}
+use Rattle.span_script.specs.Tables.{Scope, Made, Guarded, History, Tables, with_new, spend, no_making, made_of, no_tables, after, tables}
 use Rattle.span_laws.specs.Closes.{BeginsWith, is_drop}
 use Rattle.span_laws.specs.Laws.{IsHistory, none, more, occurrences}
 use Rattle.span_laws.proofs.Chaining.{chain_front, in_line, open_above}
-use Rattle.span_laws.proofs.Closing.{AreMine, IsLine, IsSound, known_open, named, step_stands}
-use Rattle.span_laws.proofs.Histories.{fits, open_made, whole}
+use Rattle.span_laws.proofs.Closing.{AreMine, IsSound, known_open, named, step_stands}
+use Rattle.span_laws.proofs.Histories.{fits, whole}
 use Rattle.span_laws.proofs.Occurrences.{get_push_other, is_in_counted, occurs_append, occurs_cons}
-use Rattle.span_laws.proofs.Steps.{IsKnown, Names, no_name, another, new_span, Spends, no_spending, one_spent, step_of}
+use Rattle.span_laws.proofs.Steps.{Names, no_name, another, new_span, Spends, no_spending, one_spent, step_of}
 
 -- where a list of two parts holds a span, it stands in one of them
 module _ (p : ℕ) (rest : List ℕ) where

@@ -1,29 +1,28 @@
 -- What stands of each legal history: its tables, the stories of its open spans, and the records of its closed ones.
-use Rattle.std.proofs.Common.{◌≡◌, ℕ, suc, ◌+◌, ◌<◌, ◌≤◌, ◌==◌, ◌&&◌, ◌||◌, List, [], ◌∷◌, ◌++◌, length, Bool, true, false, cond, filter, flat_map, map, fold, not, nat_lt, Option, Some, None, option_map, refl, sym, ap, subst, ◌∙◌, arith, inl, inr, append_assoc}
+use Rattle.std.proofs.Common.{◌≡◌, ℕ, ◌<◌, ◌≤◌, ◌==◌, ◌&&◌, ◌||◌, List, [], ◌∷◌, ◌++◌, length, Bool, true, false, cond, filter, flat_map, map, fold, not, nat_lt, Option, Some, None, option_map, refl, sym, ap, subst, ◌∙◌, arith, append_assoc}
 use Rattle.std.specs.Prelude.{if◌then◌else◌}
 use Rattle.std.specs.List.{AllByRecursion}
 use Rattle.std.proofs.lemmas.List.{append-nil, length_push}
 use Rattle.std.proofs.lemmas.List.Sums.{fold_push, fold-append}
 use Rattle.std.proofs.lemmas.Grind.{flat_map-append}
-use Rattle.std.proofs.lemmas.Bool.{cases_Bool, cases_eq, cases_lt, eq-eqb, eqb-true, ne_eqb, cond-true, cond-false, true≢false}
+use Rattle.std.proofs.lemmas.Bool.{ne_eqb, cond-true, cond-false, true≢false}
 use Rattle.std.proofs.lemmas.Bool.Decides.{nat_tests}
 use Rattle.otel_base.specs.declared.context.SpanContext.{SpanContext}
 use Rattle.otel_base.specs.declared.record.Record.{Record}
-use Rattle.otel_state.specs.declared.times.TheConstants.{GREATEST}
 use Rattle.otel_state.specs.Deeds.{Stamped, deed}
 use Rattle.otel_state.specs.States.{Told}
-use Rattle.otel_layer.specs.Recording.{Recording, with_start, with_applied, with_close}
+use Rattle.otel_layer.specs.Recording.{Recording, with_start}
 use Rattle.otel_layer.specs.Table.{told_at}
 use Rattle.trace_base.specs.Spans.{is_in}
 use Rattle.span_script.specs.Setups.{Setup}
-use Rattle.span_script.specs.Tables.{Scope, Made, Done, Effect, History, Tables, with_new, spend, slots_after, no_tables, nothing_recorded, after, tables, made_of, no_making, with_made, recorded_by, open_part, records_of, slot_at}
-use Rattle.span_script.specs.Effects.{holds, is_open, effect_of}
+use Rattle.span_script.specs.Tables.{Scope, Made, Done, Effect, History, Tables, with_new, no_tables, after, tables, no_making, with_made, recorded_by, open_part, records_of, slot_at}
+use Rattle.span_script.specs.Effects.{holds, is_open}
 use Rattle.span_script.proofs.Running.{records_push}
 use Rattle.span_laws.specs.Closes.{is_drop}
 use Rattle.span_laws.specs.Laws.{IsHistory, none, more, occurrences}
 use Rattle.span_laws.specs.Records.{IsRecord, Each, records, start_in, ops_in, ops_from, ops_of, closed_at}
 use Rattle.span_laws.specs.Starts.{with_started, starts_of, started, place_in}
-use Rattle.span_laws.proofs.Closing.{IsSound, IsLine, Stands, named, step_stands, none_stands, fit_of}
+use Rattle.span_laws.proofs.Closing.{IsSound, Stands, named, step_stands, none_stands, fit_of}
 use Rattle.span_laws.proofs.Making.{first_of, starts_spare, made_stories}
 use Rattle.span_laws.proofs.Occurrences.{occurs_cons, occurs_append, is_in_counted, get_push_other}
 use Rattle.span_laws.proofs.Pairs.{each_append, each_map}

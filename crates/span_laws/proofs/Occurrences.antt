@@ -1,15 +1,12 @@
 -- How often a span stands in a list, and how many slots hold it.
-use Rattle.std.proofs.Common.{◌≡◌, ℕ, zero, suc, ◌+◌, ◌<◌, ◌==◌, ◌||◌, List, [], ◌∷◌, ◌++◌, length, Bool, true, false, cond, nat_lt, filter, count_by, get_or, slice_set, Option, Some, None, refl, sym, ap, ◌∙◌, arith, inl, inr}
-use Rattle.std.specs.List.{list_any, range_with_len}
+use Rattle.std.proofs.Common.{◌≡◌, ℕ, zero, suc, ◌+◌, ◌==◌, List, [], ◌∷◌, ◌++◌, length, Bool, true, false, cond, nat_lt, filter, count_by, get_or, slice_set, Option, Some, None, refl, sym, ap, ◌∙◌, arith, inl, inr}
 use Rattle.std.proofs.lemmas.List.Sums.{sum_by-cons, sum_by-append, sum_by-set, sum_by_push}
-use Rattle.std.proofs.lemmas.List.{map-id, get_or-set_other}
-use Rattle.std.proofs.lemmas.List.FromFn.{map-range_with_len_more}
-use Rattle.std.proofs.lemmas.Bool.{cases_eq, cases_Bool, or_right}
+use Rattle.std.proofs.lemmas.List.{get_or-set_other}
+use Rattle.std.proofs.lemmas.Bool.{cases_eq, cases_Bool}
 use Rattle.std.proofs.lemmas.Bool.Decides.{nat_tests}
-use Rattle.std.proofs.Common.{add-one}
 use Rattle.trace_base.specs.Spans.{is_in}
 use Rattle.span_script.specs.Tables.{Scope, slot_at}
-use Rattle.span_script.specs.Effects.{holds, is_open}
+use Rattle.span_script.specs.Effects.{holds}
 use Rattle.span_laws.specs.Laws.{occurrences}
 use Rattle.span_script.proofs.Naming.{named_within}
 use Rattle.span_script.proofs.Openness.{any_counted}

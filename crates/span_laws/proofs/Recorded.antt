@@ -1,10 +1,9 @@
 -- What is recorded of the open spans, as an effect starts spans, makes one, does ops and closes spans.
-use Rattle.std.proofs.Common.{◌≡◌, ℕ, suc, ◌+◌, ◌<◌, ◌≤◌, ◌==◌, ◌&&◌, ◌||◌, List, [], ◌∷◌, ◌++◌, length, Bool, true, false, cond, filter, map, not, nat_lt, fold, Option, Some, None, refl, sym, ap, subst, ◌∙◌, arith, inl, inr, append_assoc}
+use Rattle.std.proofs.Common.{◌≡◌, ℕ, ◌+◌, ◌<◌, ◌≤◌, ◌==◌, ◌&&◌, ◌||◌, List, [], ◌∷◌, ◌++◌, length, Bool, true, false, cond, not, fold, Option, Some, None, refl, sym, ap, subst, ◌∙◌, arith, inl, inr, append_assoc}
 use Rattle.std.specs.Prelude.{if◌then◌else◌, is_some}
 use Rattle.std.specs.List.{AllByRecursion}
-use Rattle.std.specs.Map.{remove_entry}
 use Rattle.std.proofs.lemmas.List.{append-nil, length_push}
-use Rattle.std.proofs.lemmas.Bool.{cases_Bool, cases_eq, eq-eqb, eqb-true, ne_eqb, cond-true, cond-false, true≢false}
+use Rattle.std.proofs.lemmas.Bool.{cases_Bool, cases_eq, eq-eqb, ne_eqb, cond-true, cond-false, true≢false}
 use Rattle.std.proofs.lemmas.Bool.Decides.{nat_tests}
 use Rattle.otel_base.specs.declared.context.Context.{Context}
 use Rattle.otel_base.specs.declared.context.SpanContext.{SpanContext}
@@ -19,9 +18,9 @@ use Rattle.otel_state.specs.Deeds.{Stamped, deed}
 use Rattle.otel_state.specs.Opening.{parent_of}
 use Rattle.otel_state.specs.States.{Told, record_of}
 use Rattle.otel_state.specs.Times.{InOrder, open_by}
-use Rattle.otel_layer.specs.Table.{told_at, with_span, with_op, waits, waits_by, is_id}
-use Rattle.otel_layer.specs.Recording.{Recording, started_under, with_start, with_applied, closed, closed_started, with_close, told_after}
-use Rattle.otel_layer.proofs.Finding.{told_at_op, told_at_made, told_at_removed}
+use Rattle.otel_layer.specs.Table.{told_at, waits, waits_by}
+use Rattle.otel_layer.specs.Recording.{Recording, started_under, with_start, with_applied, closed, with_close, told_after}
+use Rattle.otel_layer.proofs.Finding.{told_at_op, told_at_removed}
 use Rattle.trace_base.specs.Spans.{is_in}
 use Rattle.span_script.specs.Setups.{Setup}
 use Rattle.span_script.specs.Tables.{Made, Done, Effect, with_made}

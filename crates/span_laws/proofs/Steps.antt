@@ -40,7 +40,7 @@ use Rattle.span_script.specs.declared.reply.What.TheVariants as what
 use Rattle.span_script.specs.Setups.{Setup, id_at, span_site, event_site}
 use Rattle.span_script.specs.Tables.{Scope, Made, Done, Guarded, Effect, Tables, with_new, either_after, slot_at, own}
 use Rattle.span_script.specs.Fields.{Fields, all_values, values_of}
-use Rattle.span_script.specs.Effects.{Resolved, named, is_open, holds, closed_of, is_borrowed, scope_at, parent_at, lane_in, made_at, makes_span, declines, clones, drops, current_scope, scope_or_current, exchanges, on, active, enters, meets_full, opens, exits, exits_on, is_shared, if_told, callsite_of, updates, tells, is_full, gives, own_context, attaches, detaches, follows, happens_at, is_bad_moment, effect_of, effect_of_call, admitted, reloads, reloads_if, bare_lane, heard_values}
+use Rattle.span_script.specs.Effects.{Resolved, named, is_open, holds, closed_of, is_borrowed, scope_at, parent_at, lane_in, made_at, makes_span, declines, clones, drops, current_scope, scope_or_current, exchanges, on, active, enters, meets_full, opens, exits, exits_on, is_shared, callsite_of, updates, tells, is_full, gives, own_context, attaches, detaches, follows, happens_at, is_bad_moment, effect_of, effect_of_call, admitted, reloads_if, bare_lane, heard_values}
 use Rattle.span_script.specs.Admission.{TextRead, text_read}
 use Rattle.span_laws.specs.Closes.{is_drop}
 use Rattle.span_laws.specs.Laws.{occurrences}

@@ -4,7 +4,6 @@ use Rattle.std.specs.Prelude.{if◌then◌else◌, min}
 use Rattle.std.proofs.lemmas.List.Sums.{fold_push}
 use Rattle.otel_base.specs.declared.context.Context.{Context}
 use Rattle.otel_base.specs.declared.context.SpanContext.{SpanContext}
-use Rattle.otel_base.specs.declared.record.Record.{Record}
 use Rattle.otel_base.specs.Ids.{ids_of, ids_or_zeros}
 use Rattle.otel_base.specs.RecorderIds.{recorder_ids}
 use Rattle.otel_state.specs.declared.op.Op.{Op}
@@ -14,7 +13,7 @@ use Rattle.otel_state.specs.Content.{Making, content}
 use Rattle.otel_state.specs.Deeds.{Deed, Stamped, deed}
 use Rattle.otel_state.specs.Opening.{parent_of}
 use Rattle.otel_state.specs.States.{Told, changed, first_start, unless_started, Stands, record_of}
-use Rattle.otel_state.specs.Times.{InOrder, open_by, open_after}
+use Rattle.otel_state.specs.Times.{InOrder, open_by}
 use Rattle.otel_state.proofs.Summing.{appended, entries_is, parent_is, content_is}
 use Rattle.otel_layer.specs.Recording.{told_after}
 use Rattle.span_script.specs.Setups.{Setup}

@@ -1,13 +1,12 @@
 -- A span's open entries are at most its open guards.
-use Rattle.std.proofs.Common.{◌≡◌, ℕ, ◌+◌, ◌-◌, ◌<◌, ◌≤◌, ◌==◌, ◌||◌, List, [], ◌∷◌, ◌++◌, Bool, true, false, cond, count_by, fold, slice_set, Option, Some, None, refl, sym, ap, subst, ◌∙◌, arith, inl, inr}
+use Rattle.std.proofs.Common.{◌≡◌, ℕ, ◌+◌, ◌-◌, ◌≤◌, ◌==◌, ◌||◌, List, [], ◌∷◌, ◌++◌, Bool, true, false, cond, count_by, fold, slice_set, Option, Some, None, refl, sym, ap, subst, ◌∙◌, arith, inl, inr}
 use Rattle.std.specs.Prelude.{if◌then◌else◌}
 use Rattle.std.specs.List.{AllByRecursion}
-use Rattle.std.proofs.lemmas.Bool.{cases_lt, eq-eqb, eqb-true, true≢false}
+use Rattle.std.proofs.lemmas.Bool.{cases_lt, true≢false}
 use Rattle.std.proofs.lemmas.List.Sums.{sum_by-set}
 use Rattle.trace_base.specs.Spans.{is_in}
 use Rattle.trace_base.proofs.Entering.{count_push}
-use Rattle.otel_state.specs.declared.op.Op.TheVariants as ops
-use Rattle.otel_state.specs.Deeds.{Deed, deed}
+use Rattle.otel_state.specs.Deeds.{deed}
 use Rattle.span_script.specs.Tables.{Scope, Done, Guarded, either_after, slot_at, own}
 use Rattle.span_script.specs.Effects.{is_open}
 use Rattle.span_laws.proofs.Guarding.{IsGuarded, Enters, no_entry, skips, enters_by, exits_by}

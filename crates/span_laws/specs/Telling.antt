@@ -4,9 +4,8 @@ use Rattle.otel_base.specs.declared.record.Record.{Record}
 use Rattle.otel_base.specs.declared.value.KeyValue.{KeyValue}
 use Rattle.otel_base.specs.Ids.{ids_or_zeros}
 use Rattle.otel_state.specs.Content.{closing_count, closing_times}
-use Rattle.otel_state.specs.Deeds.{Stamped}
 use Rattle.otel_state.specs.States.{Told}
-use Rattle.otel_state.specs.Times.{end_of, last_exit}
+use Rattle.otel_state.specs.Times.{end_of}
 use Rattle.span_script.specs.Setups.{Setup}
 
 -- the id of a record's span, and of an open span, 0 before its start

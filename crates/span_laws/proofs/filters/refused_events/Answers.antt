@@ -1,4 +1,4 @@
-use Rattle.std.proofs.Common.{refl, ap}
+use Rattle.std.proofs.Common.{ap}
 use Rattle.std.specs.Prelude.{Bool}
 use Rattle.otel_metrics.specs.Measures.{measures}
 use Rattle.otel_state.specs.EventFields.{event_of}
