@@ -1,7 +1,7 @@
 //! Filters of texts.
-ghost use Rattle.std.specs.Prelude.{◌≡◌, IfOk, IfErr, option_map};
+ghost use Rattle.std.specs.Prelude.{◌≡◌, IfOk, OnOk, IfErr, Ok, option_map};
 ghost use Rattle.env_filter.specs.Filtering.{plain, IsNew};
-ghost use Rattle.span_script.specs.Admission.{text_read, judged, counting_read, IsTextFilter, IsCounter, IsUnread, unread_by};
+ghost use Rattle.span_script.specs.Admission.{text_read, judged, counting_read, opening_read, IsTextFilter, IsCounter, IsUnread, unread_by};
 
 use env_directives::directive::ParseError;
 use env_filter::builder::Builder;
@@ -9,6 +9,24 @@ use env_filter::filter::EnvFilter;
 use otel_base::text::Text;
 use span_script::open_error::OpenError;
 use std::alloc::Global;
+
+/// The filter of a text, and the one by which events are counted, if there is a text for that: `Directive` where a piece of
+/// the first is none, or else one of the second.
+pub fn read_texts(
+    alloc: Global,
+    filter: &Text,
+    counting: &Option<Text>,
+) -> Result<(EnvFilter, Option<EnvFilter>), OpenError>
+    ensures gate { IfOk result (λ read. IsTextFilter filter.now (plain read.0)) }
+    ensures new { IfOk result (λ read. IsNew (plain read.0)) }
+    ensures counter { IfOk result (λ read. IsCounter counting.now (option_map plain read.1)) }
+    ensures read { OnOk result (opening_read filter.now counting.now ≡ Ok tt) }
+    ensures refused { IfErr result (IsUnread (opening_read filter.now counting.now)) }
+{
+    let gate = read_filter(alloc, false, filter.as_str())?;
+    let counter = read_counting(alloc, counting)?;
+    Ok((gate, counter))
+}
 
 /// The filter of a text without patterns, which is one for counting or not: `Directive` for the first piece that is none.
 pub fn read_filter(alloc: Global, counting: bool, text: &str) -> Result<EnvFilter, OpenError>
@@ -23,8 +41,8 @@ pub fn read_filter(alloc: Global, counting: bool, text: &str) -> Result<EnvFilte
     }
 }
 
-/// The filter by which events are counted, if there is a text for that.
-pub fn read_counting(alloc: Global, text: &Option<Text>) -> Result<Option<EnvFilter>, OpenError>
+// The filter by which events are counted, if there is a text for that.
+fn read_counting(alloc: Global, text: &Option<Text>) -> Result<Option<EnvFilter>, OpenError>
     ensures filter { IfOk result (λ f. IsCounter text.now (option_map plain f)) }
     ensures refused { IfErr result (IsUnread (counting_read text.now)) }
 {

@@ -1,5 +1,6 @@
 //! What a pipeline begins with.
-ghost use Rattle.std.specs.Prelude.{◌≡◌, ◌++◌, ◌<◌, ◌≤◌, [], length, map, IfOk, OnOk};
+ghost use Rattle.std.specs.Prelude.{◌≡◌, ◌++◌, ◌<◌, ◌≤◌, [], ◌∷◌, length, map, IfOk, OnOk};
+ghost use Rattle.trace_base.specs.Gate.{AreSame, IsFresh};
 
 use otel_base::list::Items;
 use otel_base::memory::Memory;
@@ -7,6 +8,8 @@ use otel_base::stack::ContextStack;
 use otel_base::text::Text;
 use std::alloc::Global;
 use trace_base::callsite::Callsite;
+use trace_base::discard::Discard;
+use trace_base::dispatcher::Dispatch;
 use trace_base::lane::Lane;
 use trace_base::subscriber::Subscriber;
 use trace_base::world::World;
@@ -29,11 +32,35 @@ pub fn lanes(alloc: Global, named: Items<(u64, Option<Text>)>) -> Result<Vec<Lan
     Ok(lanes)
 }
 
-/// Adds callsites to a world.
-pub fn add_sites<S: Subscriber>(
-    world: &mut World<S>,
+/// A world with callsites and one subscriber.
+pub fn world_of<S: Subscriber + Discard>(
+    alloc: Global,
     callsites: Vec<Callsite>,
-) -> Result<(), Memory>
+    subscriber: S,
+) -> Result<(World<S>, Dispatch), Memory>
+    ensures dispatch { IfOk result (λ opened. opened.1 ≡ 0) }
+    ensures subscriber { IfOk result (λ opened. AreSame S.same (subscriber ∷ []) opened.0.subscribers) }
+    ensures fresh { IfOk result (λ opened. IsFresh S.interest opened.0) }
+    ensures sites { IfOk result (λ opened. opened.0.sites ≡ callsites.items) }
+{
+    let mut world = World::new(alloc);
+    if add_sites(&mut world, callsites).is_err() {
+        subscriber.discard();
+        world.discard();
+        return Err(Memory);
+    }
+    match world.add(subscriber) {
+        Ok(dispatch) => Ok((world, dispatch)),
+        Err((subscriber, memory)) => {
+            subscriber.discard();
+            world.discard();
+            Err(memory)
+        }
+    }
+}
+
+// Adds callsites to a world.
+fn add_sites<S: Subscriber>(world: &mut World<S>, callsites: Vec<Callsite>) -> Result<(), Memory>
     ensures sites { OnOk result (world.new.sites ≡ world.old.sites ++ callsites.items) }
     ensures subscribers { length world.new.subscribers ≡ length world.old.subscribers }
 {

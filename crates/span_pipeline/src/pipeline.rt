@@ -1,14 +1,17 @@
 //! A pipeline runs the requests of a script over a stack of a registry, the OpenTelemetry layer, the layer of metrics and a
 //! filter.
-ghost use Rattle.std.specs.Prelude.{◌≡◌, ◌<◌, ℕ, [], true, map, length, IfOk, OnOk, IfErr, OnErr, Ok, Err};
-ghost use Rattle.span_script.specs.Admission.{opening_read, IsUnread};
+ghost use Rattle.std.specs.Prelude.{◌≡◌, ◌<◌, ℕ, [], true, map, option_map, length, IfOk, OnOk, IfErr, OnErr, Ok, Err};
+ghost use Rattle.env_filter.specs.Filtering.{plain, IsNew};
+ghost use Rattle.span_script.specs.Admission.{opening_read, IsUnread, IsTextFilter, IsCounter};
 ghost use Rattle.span_script.specs.Setups.{HasOwnIds, setup_by};
 ghost use Rattle.span_script.specs.Effects.{is_bad_moment};
 
-use crate::filters::{read_counting, read_filter};
+use crate::filters::read_texts;
 use crate::guards::Guards;
-use crate::opening::{self, add_sites};
+use crate::opening;
 use crate::shown::same;
+use env_filter::filter::EnvFilter;
+use otel_base::memory::Memory;
 use otel_base::record::Moment;
 use span_handles::span::Span;
 use span_script::contexts::Contexts;
@@ -100,6 +103,29 @@ impl Pipeline {
         ensures read { OnOk result (opening_read settings.filter settings.counting ≡ Ok tt) }
         ensures refused { IfErr result (IsUnread (opening_read settings.filter settings.counting)) }
     {
+        let (gate, counter) = read_texts(alloc, &settings.filter, &settings.counting)?;
+        match Pipeline::begin(alloc, settings, gate, counter) {
+            Ok(pipeline) => Ok(pipeline),
+            Err(_) => Err(OpenError::Memory),
+        }
+    }
+
+    // A pipeline for settings, with the filters of their texts.
+    fn begin(
+        alloc: Global,
+        settings: Settings,
+        gate: EnvFilter,
+        counter: Option<EnvFilter>,
+    ) -> Result<Pipeline, Memory>
+        requires ids { HasOwnIds (map (λ l. l.0) settings.lanes) }
+        requires gate { IsTextFilter settings.filter (plain gate) }
+        requires new { IsNew (plain gate) }
+        requires counter { IsCounter settings.counting (option_map plain counter) }
+        ensures setup { IfOk result (λ pipeline. pipeline.setup ≡ setup_by settings) }
+        ensures stands { IfOk result (λ pipeline. StandsFor pipeline (tables (setup_by settings) [])) }
+        ensures records { IfOk result (λ pipeline. pipeline.recording.finished ≡ []) }
+        ensures measures { IfOk result (λ pipeline. pipeline.measures ≡ []) }
+    {
         same();
         laws::same();
         let Settings {
@@ -109,33 +135,19 @@ impl Pipeline {
             callsites,
             layer,
         } = settings;
-        let gate = read_filter(alloc, false, filter.as_str())?;
-        let counter = read_counting(alloc, &counting)?;
-        let Ok(lanes) = opening::lanes(alloc, lanes) else {
-            return Err(OpenError::Memory);
-        };
-        let mut world = World::new(alloc);
-        if add_sites(&mut world, callsites.into_vec()).is_err() {
-            world.discard();
-            return Err(OpenError::Memory);
-        }
-        match world.add(new_stack(alloc, layer, gate, counter)) {
-            Ok(dispatch) => Ok(Pipeline {
-                world,
-                dispatch,
-                opening: Texts { filter, counting },
-                lanes,
-                handles: Vec::new(alloc),
-                guards: Guards::new(alloc),
-                contexts: Contexts::new(alloc),
-                moment: 0,
-            }),
-            Err((stack, _)) => {
-                stack.discard();
-                world.discard();
-                Err(OpenError::Memory)
-            }
-        }
+        let lanes = opening::lanes(alloc, lanes)?;
+        let stack = new_stack(alloc, layer, gate, counter);
+        let (world, dispatch) = opening::world_of(alloc, callsites.into_vec(), stack)?;
+        Ok(Pipeline {
+            world,
+            dispatch,
+            opening: Texts { filter, counting },
+            lanes,
+            handles: Vec::new(alloc),
+            guards: Guards::new(alloc),
+            contexts: Contexts::new(alloc),
+            moment: 0,
+        })
     }
 
     /// Runs a request. A refused step leaves the pipeline as it was: `BadMoment` where the moment falls or is above

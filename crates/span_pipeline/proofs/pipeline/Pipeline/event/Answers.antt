@@ -7,11 +7,12 @@ use Rattle.span_script.proofs.Beside.{stack_same}
 use Rattle.span_script.proofs.Filtering.{stack_shows}
 use Rattle.span_script.proofs.Gating.{is_current}
 use Rattle.span_script.proofs.Keeping.{within_view, on_err}
-use Rattle.span_script.proofs.Naming.{found_parent}
+use Rattle.span_script.proofs.Naming.{found_parent, found_nowhere}
 use Rattle.span_script.proofs.Serving.{by_view, by_view_refused}
 use Rattle.span_script.proofs.Declaring.{refuses_event}
 use Rattle.span_script.proofs.Making.{made_alike, tell_live}
 use Rattle.span_script.proofs.Telling.{serves_told, keeps_told}
+use Rattle.span_pipeline.proofs.Placing.{refuses_event_site, refuses_event_place}
 use Rattle.span_pipeline.proofs.pipeline.Pipeline.event.Goals as goal
 
 pub tell_if-requires-clause-there : goal.tell_if-requires-clause-there
@@ -42,3 +43,9 @@ returns-in_default-2-clause-refused c = λ t stands no. by_view_refused c.args.a
 
 pub admits-enabled-requires-clause-current : goal.admits-enabled-requires-clause-current
 admits-enabled-requires-clause-current c = is_current _ _ c.self.inside.world c.self.inside.dispatch c.self.inside.opening c.self.inside.lanes.items c.self.inside.handles.items c.self.inside.guards.items (named_in c.self.inside.contexts) c.self.inside.moment _ _ stack_interest stack_shows c.self.invariant
+
+pub returns-in_default-clause-refused : goal.returns-in_default-clause-refused
+returns-in_default-clause-refused c = λ t stands no. by_view_refused c.args.at c.args.lane (call.Event c.args.place c.args.under c.args.fields) _ _ _ c.self.view_is (λ t stands. refuses_event_site _ t stands.fits c.args.at c.args.lane c.args.place c.args.under c.args.fields (c.event_site.ensures.none c.in_default.is)) t stands
+
+pub returns-in_default-place_above-clause-refused : goal.returns-in_default-place_above-clause-refused
+returns-in_default-place_above-clause-refused c = λ t stands no. by_view_refused c.args.at c.args.lane (call.Event c.args.place c.args.under c.args.fields) _ _ _ c.self.view_is (λ t stands. refuses_event_place _ t stands.fits c.args.at c.args.lane c.args.place c.args.under c.args.fields (search rules) (found_nowhere c.self.inside.handles.items c.self.inside.handles.items c.args.under c.place_above.result refl c.place_above.ensures.place (search rules))) t stands

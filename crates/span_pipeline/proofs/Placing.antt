@@ -1,0 +1,45 @@
+-- Events that are refused for their callsite or their place.
+use Rattle.std.proofs.Common.{◌≡◌, ℕ, Bool, true, false, Option, Some, None, option_map, refl, sym, ap, ◌∙◌, Ok, Err}
+use Rattle.std.specs.Prelude.{is_some}
+use Rattle.std.proofs.lemmas.Bool.{true≢false}
+use Rattle.std.proofs.Math.ListN.{get_or-map}
+use Rattle.trace_base.specs.declared.callsite.Callsite.{Callsite}
+use Rattle.span_handles.specs.Handles.{place_under}
+use Rattle.span_script.specs.declared.reply.Refusal.TheVariants as refusal
+use Rattle.span_script.specs.declared.reply.What.TheVariants as what
+use Rattle.span_script.specs.declared.request.Call.TheVariants as call
+use Rattle.span_script.specs.declared.request.Place.{Place}
+use Rattle.span_script.specs.declared.request.Place.TheVariants as place
+use Rattle.span_script.specs.Setups.{id_at, event_site}
+use Rattle.span_script.specs.Tables.{Scope, Tables, slot_at}
+use Rattle.span_script.specs.Fields.{Fields, all_values}
+use Rattle.span_script.specs.Effects.{Resolved, named, effect_of_call, scope_at, events}
+use Rattle.span_script.specs.Slots.{place_for}
+use Rattle.span_script.specs.Fits.{State, Fits, held_of}
+
+-- a place that isn't there gives no scope
+no_scope : (k : State) (t : Tables) → Fits k t → (lane : ℕ) (under : Place) → place_for k.handles under ≡ None → scope_at t lane under ≡ None
+no_scope k t fits lane place.Root is = absurd (cc is)
+no_scope k t fits lane place.Contextual is = absurd (cc is)
+no_scope k t fits lane (place.Under handle) is = by_slot (slot_at t.handles handle) (sym (ap (λ xs. option_map place_under (slot_at xs handle)) fits.handle_slots ∙ ap (option_map place_under) (get_or-map (option_map (held_of k.dispatch)) t.handles handle None)) ∙ is)
+  where
+    by_slot : (o : Option Scope) → option_map place_under (option_map (held_of k.dispatch) o) ≡ None → o ≡ None
+    by_slot None e = refl
+    by_slot (Some scope) e = absurd (cc e)
+
+-- what an event does at its callsite
+abbrev at_site : State → Tables → ℕ → ℕ → Place → Fields → Callsite → Resolved
+at_site k t at lane under fields c = named what.Handle (scope_at t (id_at k.setup.ids lane) under) (λ reached. named what.Field (all_values c fields) (λ v. Ok (events k.setup t at (id_at k.setup.ids lane) c v reached)))
+
+pub refuses_event_site : (k : State) (t : Tables) → Fits k t → (at lane site : ℕ) (under : Place) (fields : Fields) → event_site k.setup.sites site ≡ None → effect_of_call k.setup t at lane (call.Event site under fields) ≡ Err (refusal.UnknownName what.Site)
+refuses_event_site k t fits at lane site under fields none = ap (λ o. named what.Site o (at_site k t at lane under fields)) none
+
+pub refuses_event_place : (k : State) (t : Tables) → Fits k t → (at lane site : ℕ) (under : Place) (fields : Fields) → is_some (event_site k.setup.sites site) ≡ true → place_for k.handles under ≡ None
+    → effect_of_call k.setup t at lane (call.Event site under fields) ≡ Err (refusal.UnknownName what.Handle)
+refuses_event_place k t fits at lane site under fields evented gone = by_site (event_site k.setup.sites site) refl evented
+  where
+    by_site : (o : Option Callsite) → event_site k.setup.sites site ≡ o → is_some o ≡ true → effect_of_call k.setup t at lane (call.Event site under fields) ≡ Err (refusal.UnknownName what.Handle)
+    by_site None is e = absurd (true≢false (sym e))
+    by_site (Some c) is e =
+        ap (λ o. named what.Site o (at_site k t at lane under fields)) is
+        ∙ ap (λ o. named what.Handle o (λ reached. named what.Field (all_values c fields) (λ v. Ok (events k.setup t at (id_at k.setup.ids lane) c v reached)))) (no_scope k t fits (id_at k.setup.ids lane) under gone)
