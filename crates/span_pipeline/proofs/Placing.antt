@@ -1,4 +1,4 @@
--- Events that are refused for their callsite or their place.
+-- Spans and events that are refused for their callsite or their place.
 use Rattle.std.proofs.Common.{◌≡◌, ℕ, Bool, true, false, Option, Some, None, option_map, refl, sym, ap, ◌∙◌, Ok, Err}
 use Rattle.std.specs.Prelude.{is_some}
 use Rattle.std.proofs.lemmas.Bool.{true≢false}
@@ -10,10 +10,10 @@ use Rattle.span_script.specs.declared.reply.What.TheVariants as what
 use Rattle.span_script.specs.declared.request.Call.TheVariants as call
 use Rattle.span_script.specs.declared.request.Place.{Place}
 use Rattle.span_script.specs.declared.request.Place.TheVariants as place
-use Rattle.span_script.specs.Setups.{id_at, event_site}
+use Rattle.span_script.specs.Setups.{id_at, span_site, event_site}
 use Rattle.span_script.specs.Tables.{Scope, Tables, slot_at}
 use Rattle.span_script.specs.Fields.{Fields, all_values}
-use Rattle.span_script.specs.Effects.{Resolved, named, effect_of_call, scope_at, events}
+use Rattle.span_script.specs.Effects.{Resolved, named, effect_of_call, scope_at, makes, events}
 use Rattle.span_script.specs.Slots.{place_for}
 use Rattle.span_script.specs.Fits.{State, Fits, held_of}
 
@@ -26,6 +26,9 @@ no_scope k t fits lane (place.Under handle) is = by_slot (slot_at t.handles hand
     by_slot : (o : Option Scope) → option_map place_under (option_map (held_of k.dispatch) o) ≡ None → o ≡ None
     by_slot None e = refl
     by_slot (Some scope) e = absurd (cc e)
+
+pub refuses_span_site : (k : State) (t : Tables) → Fits k t → (at lane site : ℕ) (under : Place) (fields : Fields) → span_site k.setup.sites site ≡ None → effect_of_call k.setup t at lane (call.New site under fields) ≡ Err (refusal.UnknownName what.Site)
+refuses_span_site k t fits at lane site under fields none = ap (λ o. named what.Site o (λ c. named what.Handle (scope_at t (id_at k.setup.ids lane) under) (λ up. named what.Field (all_values c fields) (λ v. Ok (makes k.setup t at lane site c v under up))))) none
 
 -- what an event does at its callsite
 abbrev at_site : State → Tables → ℕ → ℕ → Place → Fields → Callsite → Resolved

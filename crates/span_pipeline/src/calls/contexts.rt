@@ -74,11 +74,11 @@ impl Pipeline {
         starts();
         leaves();
         laws::asks();
-        let number = self.contexts.made.len() as u64;
-        self.contexts.made.reserve(1)?;
         let Some(span) = slot_at(&self.handles, handle) else {
             return Err(Refusal::UnknownName { what: What::Handle });
         };
+        let number = self.contexts.made.len() as u64;
+        self.contexts.made.reserve(1)?;
         let context = span.context(&mut self.world, at);
         add(&mut self.contexts.made, context);
         self.moment = at;

@@ -61,14 +61,14 @@ impl Pipeline {
         if self.handles.len() >= MOST || self.guards.len() >= MOST {
             return Err(Refusal::Memory);
         }
-        let number = self.handles.len() as u64;
-        self.handles.reserve(1)?;
         let Some(_named) = slot_at(&self.handles, handle) else {
             return Err(Refusal::UnknownName { what: What::Handle });
         };
         if self.guards.is_borrowed(handle) {
             return Err(Refusal::InUse);
         }
+        let number = self.handles.len() as u64;
+        self.handles.reserve(1)?;
         let Some(span) = take(&mut self.handles, handle) else {
             unreachable!()
         };

@@ -11,6 +11,7 @@ use Rattle.span_script.proofs.Naming.{found_place, found_nowhere}
 use Rattle.span_script.proofs.Serving.{by_view, by_view_refused}
 use Rattle.span_script.proofs.Declaring.{refuses_new, refuses_place}
 use Rattle.span_script.proofs.Making.{make_may, all_of, made_alike, serves_new, keeps_new}
+use Rattle.span_pipeline.proofs.Placing.{refuses_span_site}
 use Rattle.span_pipeline.proofs.pipeline.Pipeline.make.Goals as goal
 
 pub make_if-requires-clause-may : goal.make_if-requires-clause-may
@@ -41,3 +42,6 @@ admits-enabled-requires-clause-current c = is_current _ _ c.self.inside.world c.
 
 pub returns-in_default-place_above-clause-refused : goal.returns-in_default-place_above-clause-refused
 returns-in_default-place_above-clause-refused c = λ t stands no. by_view_refused c.args.at c.args.lane (call.New c.args.place c.args.under c.args.fields) _ _ _ c.self.view_is (λ t stands. refuses_place _ t stands.fits c.args.at c.args.lane c.args.place c.args.under c.args.fields (search rules) (found_nowhere c.reserve.new.self.items c.self.inside.handles.items c.args.under c.place_above.result (search rules) c.place_above.ensures.place (search rules))) t stands
+
+pub returns-in_default-clause-refused : goal.returns-in_default-clause-refused
+returns-in_default-clause-refused c = λ t stands no. by_view_refused c.args.at c.args.lane (call.New c.args.place c.args.under c.args.fields) _ _ _ c.self.view_is (λ t stands. refuses_span_site _ t stands.fits c.args.at c.args.lane c.args.place c.args.under c.args.fields (c.span_site.ensures.none c.in_default.is)) t stands
