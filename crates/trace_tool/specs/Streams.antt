@@ -1,4 +1,4 @@
--- What a source gives and a sink takes, where its bytes are told, and how counts of faults go.
+-- What a source gives and a sink takes, where its bytes are told, and how counts of faults and of ends go.
 use Rattle.std.specs.Prelude.{◌≡◌, ℕ, ◌-◌, ◌^◌, ◌<◌, ◌≤◌, max, List, [], ◌∷◌, ◌++◌, Option, Some, None, Result, IfOk, IsErr}
 use Rattle.trace_tool.specs.declared.turns.Turn.{Turn}
 use Rattle.trace_tool.specs.declared.turns.Turn.TheVariants.{Fails, Moves}
@@ -6,6 +6,10 @@ use Rattle.trace_tool.specs.declared.turns.Turn.TheVariants.{Fails, Moves}
 -- the count rises, unless it stands at its greatest value
 abbrev pub HasFault : ℕ → ℕ → Type 0
 HasFault before now = before < 2 ^ 64 - 1 → before < now
+
+-- that the end was met is counted, unless the count stands at its greatest value
+abbrev pub MeetsEnd : ℕ → ℕ → Type 0
+MeetsEnd before now = before < 2 ^ 64 - 1 → before < now
 
 -- no fault was counted, and one would have been
 abbrev pub IsQuiet : ℕ → ℕ → Type 0

@@ -1,5 +1,5 @@
 //! The input of a run, which is read before its first line is handled.
-ghost use Rattle.std.specs.Prelude.{◌≡◌, ◌≢◌, ◌<◌, ◌≤◌, length, IfOk, vec_len};
+ghost use Rattle.std.specs.Prelude.{◌≡◌, ◌≢◌, ◌+◌, ◌<◌, ◌≤◌, length, IfOk, vec_len};
 ghost use Rattle.std.specs.Io.KnownBytes.{IsAtEnd};
 ghost use Rattle.trace_tool.specs.Streams.{HasFault, Takes, StopsReading};
 
@@ -32,7 +32,8 @@ pub struct Input {
     pub end: End,
 }
 
-/// Reads the source to its end, to a fault, or until more was read than an input may have. `Memory` freely.
+/// Reads the source to its end, to a fault, or until more was read than an input may have. Behind its end it isn't read
+/// again. `Memory` freely.
 pub fn read_all<R: Source>(alloc: Global, source: &mut R) -> Result<Input, Memory>
     ensures bytes { IfOk result (λ input.
         Takes (R.remaining source.old) (R.remaining source.new) input.bytes.items) }
@@ -45,6 +46,7 @@ pub fn read_all<R: Source>(alloc: Global, source: &mut R) -> Result<Input, Memor
     ensures sure { IfOk result (λ input. input.end ≢ End.Fault → R.faults source.new ≡ R.faults source.old) }
     ensures stops { IfOk result (λ input. input.end ≡ End.Fault
         → StopsReading R.faults R.remaining source.old source.new) }
+    ensures end_once { R.ends source.new ≤ R.ends source.old + 1 }
 {
     let mut bytes = Vec::new(alloc);
     let mut room = zeros(alloc, BLOCK)?;

@@ -1,5 +1,5 @@
 //! Running a script: all of its input is read, then answered, and then the answers are written.
-ghost use Rattle.std.specs.Prelude.{◌≡◌, ◌≢◌, [], IfSome, IfOk, OnErr};
+ghost use Rattle.std.specs.Prelude.{◌≡◌, ◌≢◌, ◌+◌, ◌≤◌, [], IfSome, IfOk, OnErr};
 ghost use Rattle.trace_pipeline.specs.Report.{output};
 ghost use Rattle.trace_tool.specs.Commands.{EndsOf, FrontOf, CompletesOf, IsPossible};
 ghost use Rattle.trace_tool.specs.Streams.{Puts, PutsFront, StopsReading, StopsWriting};
@@ -44,6 +44,7 @@ pub fn run_script<R: Source, W: Sink>(
         (R.faults source.old) (R.faults source.new) (W.faults sink.old) (W.faults sink.new) }
     ensures read_stops { result ≡ Status.ReadFault → StopsReading R.faults R.remaining source.old source.new }
     ensures write_stops { result ≡ Status.WriteFault → StopsWriting W.faults W.holds sink.old sink.new }
+    ensures end_once { R.ends source.new ≤ R.ends source.old + 1 }
     ensures usage { result ≢ Status.Usage }
 {
     match command {
@@ -74,6 +75,7 @@ fn run<R: Source, W: Sink>(
         → StopsReading R.faults R.remaining source.old source.new) }
     ensures write_stops { IfOk result (λ status. status ≡ Status.WriteFault
         → StopsWriting W.faults W.holds sink.old sink.new) }
+    ensures end_once { R.ends source.new ≤ R.ends source.old + 1 }
     ensures other { IfOk result (λ status. (status ≢ Status.Usage) × (status ≢ Status.Memory)) }
 {
     let input = read_all(alloc, source)?;

@@ -1,5 +1,5 @@
 //! The entry point of the program, over any source and any sink.
-ghost use Rattle.std.specs.Prelude.{◌≡◌, [], ◌∷◌, map, None, IfSome, option_map, string_bytes};
+ghost use Rattle.std.specs.Prelude.{◌≡◌, ◌+◌, ◌≤◌, [], ◌∷◌, map, None, IfSome, option_map, string_bytes};
 ghost use Rattle.trace_tool.specs.Commands.{EndsOf, FrontOf, CompletesOf};
 ghost use Rattle.trace_tool.specs.Streams.{StopsReading, StopsWriting};
 ghost use Rattle.trace_tool.specs.Ends.{Causes};
@@ -36,6 +36,7 @@ pub fn top<H: Threads + Wait + Sync, R: Source, W: Sink>(
     ensures front { IfSome (command_of (map string_bytes words.now)) (λ command.
         FrontOf command (R.remaining source.old) (W.holds sink.old) (W.holds sink.new)) }
     ensures read_stops { result ≡ Status.ReadFault → StopsReading R.faults R.remaining source.old source.new }
+    ensures end_once { R.ends source.new ≤ R.ends source.old + 1 }
     ensures write_stops { result ≡ Status.WriteFault → StopsWriting W.faults W.holds sink.old sink.new }
     ensures complete { IfSome (command_of (map string_bytes words.now)) (λ command.
         CompletesOf command result (R.remaining source.old)
