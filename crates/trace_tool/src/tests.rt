@@ -2,19 +2,20 @@
 
 mod event_runs;
 mod extension_runs;
+mod faults;
 mod field_runs;
 mod filter_runs;
-mod lines;
-mod makes;
+mod line_runs;
 mod metric_runs;
 mod refused_runs;
 mod runs;
 mod span_runs;
 mod steps;
 mod whole_runs;
+mod words;
 
-use crate::sink::{MemSink, Sink, StdSink, SureSink};
-use crate::source::{MemSource, Source, StdSource, SureSource};
+use crate::sink::{MemSink, Sink, StdSink};
+use crate::source::{MemSource, Source, StdSource};
 use crate::status::Status;
 use crate::top::top;
 use crate::turns::Turn;
@@ -22,6 +23,7 @@ use event_runs::EVENT_RUNS;
 use extension_runs::EXTENSION_RUNS;
 use field_runs::FIELD_RUNS;
 use filter_runs::FILTER_RUNS;
+use line_runs::LINE_RUNS;
 use metric_runs::METRIC_RUNS;
 use refused_runs::REFUSED_RUNS;
 use runs::RUNS;
@@ -31,7 +33,6 @@ use std::sync::Wait;
 use std::test::Fail;
 use std::thread::Threads;
 use steps::{STEPS, stepped};
-use trace_pipeline::limits::MAX_INPUT;
 use whole_runs::{WHOLE_RUNS, at_once};
 
 const SETTINGS: &str =
@@ -110,207 +111,141 @@ fn ran<H: Threads + Wait + Sync + AllocGlobal>(
     ran_as(rt, "run", input, reads, writes)
 }
 
+// A run of a table, as far as it is read.
+#[derive(Drop)]
+struct Row {
+    // Its input.
+    input: String,
+    // The same with a blank in front of each line, which no line is read quickly with.
+    led: String,
+    // What it is to write.
+    wanted: String,
+}
+
+impl Row {
+    fn new<R: AllocGlobal>(rt: &R) -> Row {
+        Row {
+            input: String::new(rt.alloc()),
+            led: String::new(rt.alloc()),
+            wanted: String::new(rt.alloc()),
+        }
+    }
+
+    fn clear(&mut self) {
+        self.input.clear();
+        self.led.clear();
+        self.wanted.clear();
+    }
+
+    // Takes a line of the table, which leads an input line or an output line, or tells nothing of the run.
+    fn take(&mut self, line: &str) -> Result<(), Fail> {
+        if line == "P" {
+            return self.ask(SETTINGS);
+        }
+        if let Some(text) = line.strip_prefix("< ") {
+            return self.ask(text);
+        }
+        match line.strip_prefix("> ") {
+            Some(text) => add_line(&mut self.wanted, text),
+            None => Ok(()),
+        }
+    }
+
+    fn ask(&mut self, line: &str) -> Result<(), Fail> {
+        add_line(&mut self.input, line)?;
+        self.led.push(' ')?;
+        add_line(&mut self.led, line)
+    }
+}
+
+// What is written for a run of a table by the command of a word; with a blank in front of each line it has to be the same.
+fn both_ways<H: Threads + Wait + Sync + AllocGlobal>(
+    rt: &H,
+    word: &str,
+    row: &Row,
+) -> Result<String, Fail> {
+    let quick = ran_as(rt, word, row.input.as_bytes(), &[], &[])?;
+    let led = ran_as(rt, word, row.led.as_bytes(), &[], &[])?;
+    if led.as_str() == quick.as_str() {
+        Ok(quick)
+    } else {
+        Ok(led)
+    }
+}
+
+// What is written for a run of a table that a line ends. None where the line ends none.
+fn written<H: Threads + Wait + Sync + AllocGlobal>(
+    rt: &H,
+    word: &str,
+    row: &mut Row,
+    line: &str,
+) -> Result<Option<String>, Fail> {
+    if line == "~" {
+        return Ok(Some(stepped(rt, row.input.as_str())?));
+    }
+    if line == "^" {
+        return Ok(Some(at_once(rt, row.input.as_str())?));
+    }
+    if line.starts_with('=') {
+        add_line(&mut row.wanted, line)?;
+        return Ok(Some(both_ways(rt, word, row)?));
+    }
+    Ok(None)
+}
+
 // The first of some runs by the command of a word that goes otherwise than is written there.
 fn differing<H: Threads + Wait + Sync + AllocGlobal>(
     rt: &H,
     word: &str,
     runs: &str,
 ) -> Result<Option<String>, Fail> {
-    let mut input = String::new(rt.alloc());
-    let mut wanted = String::new(rt.alloc());
+    let mut row = Row::new(rt);
     for line in runs.lines() {
-        if let Some(text) = line.strip_prefix("< ") {
-            add_line(&mut input, text)?;
-        } else if let Some(text) = line.strip_prefix("> ") {
-            add_line(&mut wanted, text)?;
-        } else if line == "P" {
-            add_line(&mut input, SETTINGS)?;
-        } else if line == "~" || line == "^" || line.starts_with('=') {
-            let got = match line {
-                "~" => stepped(rt, input.as_str())?,
-                "^" => at_once(rt, input.as_str())?,
-                status => {
-                    add_line(&mut wanted, status)?;
-                    ran_as(rt, word, input.as_bytes(), &[], &[])?
-                }
-            };
-            if got.as_str() != wanted.as_str() {
-                return Ok(Some(got));
-            }
-            input.clear();
-            wanted.clear();
+        match written(rt, word, &mut row, line)? {
+            Some(got) if got.as_str() != row.wanted.as_str() => return Ok(Some(got)),
+            Some(_) => row.clear(),
+            None => row.take(line)?,
         }
     }
     Ok(None)
+}
+
+// The tables by their numbers, each with the word of the command that it is run by.
+fn table(number: u32) -> Option<(&'static str, &'static str)> {
+    match number {
+        0 => Some(("run", RUNS)),
+        1 => Some(("run", LINE_RUNS)),
+        2 => Some(("run", FIELD_RUNS)),
+        3 => Some(("run", EXTENSION_RUNS)),
+        4 => Some(("run", FILTER_RUNS)),
+        5 => Some(("run", REFUSED_RUNS)),
+        6 => Some(("run", STEPS)),
+        7 => Some(("run", WHOLE_RUNS)),
+        8 => Some(("run", EVENT_RUNS)),
+        9 => Some(("run", SPAN_RUNS)),
+        10 => Some(("metrics", METRIC_RUNS)),
+        _ => None,
+    }
 }
 
 #[test]
 fn runs_scripts(rt: HostRuntime) -> Result<(), Fail> {
-    for runs in [
-        RUNS,
-        FIELD_RUNS,
-        EVENT_RUNS,
-        SPAN_RUNS,
-        EXTENSION_RUNS,
-        FILTER_RUNS,
-        REFUSED_RUNS,
-        STEPS,
-        WHOLE_RUNS,
-    ] {
-        let differing = differing(&rt, "run", runs)?;
+    for number in 0..11 {
+        let (word, runs) = table(number).ok_or("a table")?;
+        let differing = differing(&rt, word, runs)?;
         assert!(rt; differing.is_none(), "{differing:?}");
     }
-    let differing = differing(&rt, "metrics", METRIC_RUNS)?;
-    assert!(rt; differing.is_none(), "{differing:?}");
-    Ok(())
-}
-
-// How many bytes the first lines have.
-fn size_of_lines(text: &str, lines: usize) -> usize {
-    let mut size = 0usize;
-    for line in text.lines().take(lines) {
-        size = size.saturating_add(line.len()).saturating_add(1);
-    }
-    size
-}
-
-// The first read of the first span's script, byte by byte, that isn't answered by the lines of the whole lines
-// before it where it fails.
-fn wrong_read<H: Threads + Wait + Sync + AllocGlobal>(rt: &H) -> Result<Option<usize>, Fail> {
-    let input = script(rt, FIRST)?;
-    let mut turns = vec![in rt.alloc(); Turn::Moves { most: 1 }; input.len()]?;
-    // The settings line is answered nothing, the last line a record too.
-    let mut answered = [0, 1, 2, 3, 5].iter();
-    let mut size = 0;
-    for (at, byte) in input.as_bytes().iter().enumerate() {
-        turns[at] = Turn::Fails;
-        let got = ran(rt, input.as_bytes(), turns.as_slice(), &[])?;
-        let wanted = ended(rt, ANSWERS, size, Status::ReadFault)?;
-        if got.as_str() != wanted.as_str() {
-            return Ok(Some(at));
-        }
-        turns[at] = Turn::Moves { most: 1 };
-        if *byte == b'\n' {
-            size = size_of_lines(ANSWERS, *answered.next().ok_or("a line")?);
-        }
-    }
-    Ok(None)
-}
-
-// The first write, byte by byte, that isn't told with the bytes before it where it fails.
-fn wrong_write<H: Threads + Wait + Sync + AllocGlobal>(rt: &H) -> Result<Option<usize>, Fail> {
-    let input = script(rt, FIRST)?;
-    let mut turns = vec![in rt.alloc(); Turn::Moves { most: 1 }; ANSWERS.len()]?;
-    for at in 0..ANSWERS.len() {
-        turns[at] = Turn::Fails;
-        let got = ran(rt, input.as_bytes(), &[], turns.as_slice())?;
-        let wanted = ended(rt, ANSWERS, at, Status::WriteFault)?;
-        if got.as_str() != wanted.as_str() {
-            return Ok(Some(at));
-        }
-        turns[at] = Turn::Moves { most: 1 };
-    }
-    Ok(None)
-}
-
-#[test]
-fn tells_each_fault(rt: HostRuntime) -> Result<(), Fail> {
-    assert_eq!(rt; wrong_read(&rt)?, None);
-    assert_eq!(rt; wrong_write(&rt)?, None);
-    Ok(())
-}
-
-// The same script over these turns.
-fn first<H: Threads + Wait + Sync + AllocGlobal>(
-    rt: &H,
-    reads: &[Turn],
-    writes: &[Turn],
-    size: usize,
-    status: Status,
-) -> Result<bool, Fail> {
-    let input = script(rt, FIRST)?;
-    let got = ran(rt, input.as_bytes(), reads, writes)?;
-    let wanted = ended(rt, ANSWERS, size, status)?;
-    Ok(got.as_str() == wanted.as_str())
-}
-
-#[test]
-fn breaks_off(rt: HostRuntime) -> Result<(), Fail> {
-    let settings = SETTINGS.len() + 1;
-    let most = settings.saturating_add(size_of_lines(FIRST, 2));
-    let whole = [Turn::Moves { most }, Turn::Fails];
-    let most = settings + 20;
-    let cut = [Turn::Moves { most }, Turn::Fails];
-    let ten = Turn::Moves { most: 10 };
-    let full = [ten, ten, ten, Turn::Moves { most: 0 }];
-    let answers = size_of_lines(ANSWERS, 2);
-    assert!(rt; first(&rt, &whole, &[], answers, Status::ReadFault)?);
-    assert!(rt; first(&rt, &cut, &[], 0, Status::ReadFault)?);
-    assert!(rt; first(&rt, &[], &full, 30, Status::WriteFault)?);
-    Ok(())
-}
-
-// What is written for a text that is filled up with blanks to so many bytes, and behind it the status.
-fn filled<H: Threads + Wait + Sync + AllocGlobal>(
-    rt: &H,
-    text: &[u8],
-    size: usize,
-) -> Result<String, Fail> {
-    let mut input = Vec::new(rt.alloc());
-    input.extend_from_slice(text)?;
-    input.resize(size, b' ')?;
-    ran(rt, input.as_slice(), &[], &[])
-}
-
-#[test]
-fn tells_a_long_input(rt: HostRuntime) -> Result<(), Fail> {
-    let made = script(&rt, "{\"at\":0,\"do\":\"new\",\"lane\":0,\"site\":0}\n")?;
-    let longer = MAX_INPUT + 1;
-    let over = filled(&rt, made.as_bytes(), longer)?;
-    assert_eq!(rt;
-        over.as_str(),
-        "{\"enabled\":true,\"handle\":0,\"reply\":2}\n= 6\n"
-    );
-    let refused = filled(&rt, b"7\n", MAX_INPUT + 2)?;
-    assert_eq!(rt;
-        refused.as_str(),
-        "{\"line\":1,\"refused\":\"BadLine\"}\n= 2\n"
-    );
-    let longest = filled(&rt, SETTINGS.as_bytes(), MAX_INPUT)?;
-    assert_eq!(rt;
-        longest.as_str(),
-        "{\"done\":true,\"open\":0,\"records\":0}\n= 0\n"
-    );
     Ok(())
 }
 
 #[test]
 fn reads_bytes(rt: HostRuntime) -> Result<(), Fail> {
     let mut input = script(&rt, "\r\n")?.into_bytes();
-    input.extend_from_slice(b"{\"at\":0,\"do\":\"new\",\"lane\":0,\"site\":0}")?;
-    let made = ran(&rt, input.as_slice(), &[], &[])?;
+    input.extend_from_slice(b"{\"at\":0,\"do\":\"new\",\"lane\":0,\"site\":0}\n\"\xff\"")?;
+    let got = ran(&rt, input.as_slice(), &[], &[])?;
     let wanted =
-        "{\"enabled\":true,\"handle\":0,\"reply\":3}\n{\"done\":true,\"open\":1,\"records\":0}\n= 0\n";
-    assert_eq!(rt; made.as_str(), wanted);
-    let mut input = script(&rt, "")?.into_bytes();
-    input.extend_from_slice(b"\"\xff\"\n")?;
-    let refused = ran(&rt, input.as_slice(), &[], &[])?;
-    assert_eq!(rt;
-        refused.as_str(),
-        "{\"line\":2,\"refused\":\"BadLine\"}\n= 2\n"
-    );
-    Ok(())
-}
-
-#[test]
-fn knows_two_words(rt: HostRuntime) -> Result<(), Fail> {
-    for word in ["walk", "Run", "metric", ""] {
-        let mut source = SureSource::new(SETTINGS.as_bytes());
-        let mut sink = SureSink::new(rt.alloc());
-        let status = run(&rt, &mut source, &mut sink, word)?;
-        assert_eq!(rt; status.number(), 1);
-        assert!(rt; sink.as_slice().is_empty());
-    }
+        "{\"enabled\":true,\"handle\":0,\"reply\":3}\n{\"line\":4,\"refused\":\"BadLine\"}\n= 2\n";
+    assert_eq!(rt; got.as_str(), wanted);
     Ok(())
 }
 
@@ -319,8 +254,9 @@ fn runs_over_readers_and_writers(rt: HostRuntime) -> Result<(), Fail> {
     let input = script(&rt, FIRST)?;
     let mut source = StdSource::new(input.as_bytes());
     let mut sink = StdSink::new(Vec::new(rt.alloc()));
-    assert_eq!(rt; run(&rt, &mut source, &mut sink, "run")?, Status::Ok);
-    assert!(rt; sink.get_ref().as_slice() == ANSWERS.as_bytes());
-    assert!(rt; source.get_ref().is_empty());
+    let status = run(&rt, &mut source, &mut sink, "run")?;
+    let told = sink.get_ref().as_slice() == ANSWERS.as_bytes();
+    let left = source.get_ref().len();
+    assert_eq!(rt; (status, told, left), (Status::Ok, true, 0));
     Ok(())
 }

@@ -100,6 +100,17 @@ P
 ~
 "#;
 
+// Writes how many spans are open.
+fn add_open<R: AllocGlobal>(
+    rt: &R,
+    pipeline: &Pipeline,
+    written: &mut Written,
+) -> Result<(), Fail> {
+    let open = format!(in rt.alloc(); "{}\n", pipeline.open_spans())?;
+    written.text.extend_from_slice(open.as_bytes())?;
+    Ok(())
+}
+
 // Answers each line of a script by a step.
 fn step_all<R: AllocGlobal>(
     rt: &R,
@@ -111,12 +122,10 @@ fn step_all<R: AllocGlobal>(
     for line in requests.lines() {
         number = number.saturating_add(1);
         if line == "?" {
-            let open = format!(in rt.alloc(); "{}\n", pipeline.open_spans())?;
-            written.text.extend_from_slice(open.as_bytes())?;
+            add_open(rt, pipeline, written)?;
         } else {
             let line = line.as_bytes();
-            let answered = answer(rt.alloc(), Signal::Traces, pipeline, written, number, line);
-            answered.ok().ok_or("no memory")?;
+            answer(rt.alloc(), Signal::Traces, pipeline, written, number, line)?;
         }
     }
     Ok(())
@@ -124,20 +133,21 @@ fn step_all<R: AllocGlobal>(
 
 /// What is written for the settings line of a script and for each step behind it.
 pub fn stepped<R: AllocGlobal>(rt: &R, script: &str) -> Result<String, Fail> {
-    let mut written = Written::new(rt.alloc());
     let (settings, requests) = script.split_once('\n').ok_or("a settings line")?;
-    let settings = settings.as_bytes();
-    let Ok(mut stage) = open(rt.alloc(), Signal::Traces, &mut written, 1, settings) else {
-        return Err(Fail::from("no memory"));
-    };
-    let stepped = match &mut stage {
-        Stage::Running { pipeline } => step_all(rt, pipeline, &mut written, requests),
+    let mut written = Written::new(rt.alloc());
+    match open(
+        rt.alloc(),
+        Signal::Traces,
+        &mut written,
+        1,
+        settings.as_bytes(),
+    )? {
+        Stage::Running { mut pipeline } => {
+            let stepped = step_all(rt, &mut pipeline, &mut written, requests);
+            pipeline.discard();
+            stepped?;
+            Ok(String::from_utf8(written.text)?)
+        }
         Stage::Opening | Stage::Refused => Err(Fail::from("no pipeline")),
-    };
-    stage.discard();
-    stepped?;
-    let text = str::from_utf8(written.text.as_slice())
-        .ok()
-        .ok_or("no text")?;
-    Ok(String::from_str(rt.alloc(), text)?)
+    }
 }

@@ -1,12 +1,13 @@
 //! Scripts that are run at once, by `Pipeline::run`.
-use crate::written::Written;
 use otel_base::list::Items;
 use span_pipeline::Pipeline;
 use span_script::open_error::OpenError;
 use span_script::outcome::Outcome;
 use std::test::Fail;
-use trace_pipeline::write::{append_record, append_reply};
-use trace_pipeline::{Refusal, Request, Signal, Told, read_request, read_settings};
+use trace_pipeline::{
+    Refusal, Request, Told, end_line, read_request, read_settings, record_line, refusal_line,
+    reply_line,
+};
 
 /// Scripts, written as the runs are, but that `^` ends them. Replies come first, then records, and then the refusal of the
 /// first refused request or, where none is, the end line.
@@ -48,74 +49,69 @@ P
 ^
 "#;
 
-// What an outcome says, in lines.
-fn told<R: AllocGlobal>(rt: &R, outcome: &Outcome) -> Result<Written, Fail> {
-    let mut text = Vec::new(rt.alloc());
+// Adds what a run answers: its replies, and then its records.
+fn add_answers<R: AllocGlobal>(rt: &R, text: &mut String, outcome: &Outcome) -> Result<(), Fail> {
     let mut line = 1u64;
     for reply in outcome.replies.as_slice() {
         line = line.saturating_add(1);
-        text = append_reply(text, line, reply).ok().ok_or("no memory")?;
+        text.push_str(reply_line(rt.alloc(), line, reply)?.as_str())?;
     }
-    let mut count = 0u64;
+    let mut number = 0u64;
     for record in outcome.records.as_slice() {
-        count = count.saturating_add(1);
-        text = append_record(text, count, record).ok().ok_or("no memory")?;
+        number = number.saturating_add(1);
+        text.push_str(record_line(rt.alloc(), number, record)?.as_str())?;
     }
-    Ok(Written { text, count })
+    Ok(())
 }
 
-// The same with the last line, of the refusal of a request that names its place, or of the end.
-fn ended<R: AllocGlobal>(rt: &R, outcome: Outcome) -> Result<Vec<u8>, Fail> {
-    let mut written = told(rt, &outcome)?;
+// The last line of a run: the refusal of a request that names its place, or the end.
+fn last_line<R: AllocGlobal>(rt: &R, outcome: &Outcome) -> Result<String, Fail> {
     match outcome.refused {
         Some((_, Refusal::Memory)) => Err(Fail::from("want of memory")),
         Some((place, refusal)) => {
-            let line = place.saturating_add(2);
             let told = Told::Step { refusal };
-            written
-                .refuse(rt.alloc(), line, &told)
-                .ok()
-                .ok_or("no memory")?;
-            Ok(written.text)
+            Ok(refusal_line(rt.alloc(), place.saturating_add(2), &told)?)
         }
         None => {
-            let text = written.end(Signal::Traces, outcome.left_open);
-            Ok(text.ok().ok_or("no memory")?)
+            let records = outcome.records.as_slice().len() as u64;
+            Ok(end_line(rt.alloc(), outcome.left_open, records)?)
         }
     }
+}
+
+// All lines of a run.
+fn told<R: AllocGlobal>(rt: &R, outcome: &Outcome) -> Result<String, Fail> {
+    let mut text = String::new(rt.alloc());
+    add_answers(rt, &mut text, outcome)?;
+    text.push_str(last_line(rt, outcome)?.as_str())?;
+    Ok(text)
 }
 
 // The requests of some lines.
 fn requests<R: AllocGlobal>(rt: &R, lines: &str) -> Result<Items<Request>, Fail> {
     let mut requests = Items::new(rt.alloc());
     for line in lines.lines() {
-        let request = read_request(rt.alloc(), line.as_bytes());
-        let request = request.ok().ok_or("a request")?;
-        requests.push(request).ok().ok_or("no memory")?;
+        requests.push(read_request(rt.alloc(), line.as_bytes())?)?;
     }
     Ok(requests)
+}
+
+// What is told of a run.
+fn ran<R: AllocGlobal>(rt: &R, ran: Result<Outcome, OpenError>) -> Result<String, Fail> {
+    match ran {
+        Ok(outcome) => told(rt, &outcome),
+        Err(OpenError::Directive { counting, piece }) => {
+            let told = Told::Directive { counting, piece };
+            Ok(refusal_line(rt.alloc(), 1, &told)?)
+        }
+        Err(OpenError::Memory) => Err(Fail::from("no memory")),
+    }
 }
 
 /// What is told of a script that is run at once.
 pub fn at_once<R: AllocGlobal>(rt: &R, script: &str) -> Result<String, Fail> {
     let (settings, lines) = script.split_once('\n').ok_or("a settings line")?;
     let requests = requests(rt, lines)?;
-    let Ok(settings) = read_settings(rt.alloc(), settings.as_bytes()) else {
-        return Err(Fail::from("a settings line"));
-    };
-    let text = match Pipeline::run(rt.alloc(), settings, requests) {
-        Ok(outcome) => ended(rt, outcome)?,
-        Err(OpenError::Directive { counting, piece }) => {
-            let mut written = Written::new(rt.alloc());
-            let told = Told::Directive { counting, piece };
-            written
-                .refuse(rt.alloc(), 1, &told)
-                .ok()
-                .ok_or("no memory")?;
-            written.text
-        }
-        Err(OpenError::Memory) => return Err(Fail::from("no memory")),
-    };
-    let text = str::from_utf8(text.as_slice()).ok().ok_or("no text")?;
-    Ok(String::from_str(rt.alloc(), text)?)
+    let settings = read_settings(rt.alloc(), settings.as_bytes())?;
+    ran(rt, Pipeline::run(rt.alloc(), settings, requests))
 }
