@@ -24,8 +24,31 @@ pub fn filter(alloc: Global, filter: &EnvFilter) -> Result<String, Memory>
     Ok(format!(in alloc; "  prints `{filter}`, hint {hint}\n")?)
 }
 
-/// A piece that was left out.
-pub fn ignored(alloc: Global, piece: &Ignored) -> Result<String, Memory> {
+/// The same, behind other lines.
+pub fn push_filter(alloc: Global, told: &mut String, shown: &EnvFilter) -> Result<(), Memory>
+    ensures { OnOk result (string_bytes told.new ≡ string_bytes told.old ++ filter_line shown.now) }
+{
+    let line = filter(alloc, shown)?;
+    told.push_str(line.as_str())?;
+    Ok(())
+}
+
+/// The pieces that were left out.
+pub fn all_ignored(alloc: Global, pieces: &[Ignored]) -> Result<String, Memory> {
+    let mut told = String::new(alloc);
+    for piece in pieces {
+        push_ignored(alloc, &mut told, piece)?;
+    }
+    Ok(told)
+}
+
+fn push_ignored(alloc: Global, told: &mut String, piece: &Ignored) -> Result<(), Memory> {
+    let line = ignored(alloc, piece)?;
+    told.push_str(line.as_str())?;
+    Ok(())
+}
+
+fn ignored(alloc: Global, piece: &Ignored) -> Result<String, Memory> {
     let number = piece.piece;
     let text = piece.text.as_str();
     let fault = piece.fault;

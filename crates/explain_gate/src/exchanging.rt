@@ -14,7 +14,12 @@ pub fn exchanged(filter: EnvFilter, next: EnvFilter) -> Option<EnvFilter> {
     }
 }
 
-/// What a layer answers of which the filter was taken out for good, and whether it takes another.
+/// A copy of the filter inside a layer that can be exchanged.
+pub fn copied(filter: EnvFilter) -> Result<Option<EnvFilter>, Memory> {
+    reload::Layer::new(filter).clone_current()
+}
+
+/// What a layer answers of which the filter was taken out for good, and whether it says so when it is given another.
 pub fn retired(alloc: Global, lane: u64, callsite: &Callsite) -> Result<String, Memory> {
     let mut layer = reload::Layer::new(EnvFilter::new(alloc, "trace")?);
     let before = layer.enabled(lane, callsite);
@@ -22,11 +27,11 @@ pub fn retired(alloc: Global, lane: u64, callsite: &Callsite) -> Result<String, 
     let interest = layer.register_callsite(callsite);
     let enabled = layer.enabled(lane, callsite);
     let hinted = layer.max_level_hint().is_some();
-    let taken = match inner {
-        Some(filter) => layer.reload(filter).is_ok(),
-        None => true,
+    let dropped = match inner {
+        Some(filter) => layer.reload(filter).is_err_and(|error| error.is_dropped()),
+        None => false,
     };
     Ok(format!(in alloc;
-        "  enabled {before}, then {interest:?}, enabled {enabled}, hinted {hinted}, taken {taken}\n"
+        "  enabled {before}, then {interest:?}, enabled {enabled}, hinted {hinted}, dropped {dropped}\n"
     )?)
 }

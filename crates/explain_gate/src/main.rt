@@ -8,22 +8,31 @@ mod variables;
 mod words;
 
 use crate::session::Session;
+use otel_base::memory::Memory;
 use std::io::{self, ErrorKind};
 
 fn main(rt: HostRuntime) -> io::Result<()> {
     let mut session = Session::new(rt.alloc());
     for line in rt.lines(rt.alloc()) {
-        let line = line?;
-        let line = line.as_str();
-        println!(rt; "{line}")?;
-        if !line.starts_with('#') {
-            let told = match line.strip_prefix("process ") {
-                Some(name) => variables::of_process(rt.alloc(), &rt, name),
-                None => session.answer(line),
-            };
-            let told = told.map_err(|_| ErrorKind::OutOfMemory)?;
-            print!(rt; "{told}")?;
-        }
+        answer(&rt, &mut session, line?.as_str())?;
     }
     Ok(())
+}
+
+// Prints a line, and behind it what is answered to it if it is a call.
+fn answer(rt: &HostRuntime, session: &mut Session, line: &str) -> io::Result<()> {
+    println!(rt; "{line}")?;
+    if line.starts_with('#') {
+        return Ok(());
+    }
+    let told = told(rt, session, line).map_err(|_| ErrorKind::OutOfMemory)?;
+    print!(rt; "{told}")?;
+    Ok(())
+}
+
+fn told(rt: &HostRuntime, session: &mut Session, line: &str) -> Result<String, Memory> {
+    match line.strip_prefix("process ") {
+        Some(words) => variables::of_process(rt.alloc(), rt, words),
+        None => session.answer(line),
+    }
 }

@@ -1,7 +1,7 @@
 //! A filter, and the calls that are made of it.
 use crate::{answers, exchanging, variables, words};
 use env_directives::Directive;
-use env_filter::{Builder, EnvFilter};
+use env_filter::{Builder, EnvFilter, Ignored};
 use otel_base::memory::Memory;
 use std::alloc::Global;
 use std::mem;
@@ -46,7 +46,9 @@ impl Session {
     // The calls that make a filter of the one in place, or of variables.
     fn answer_around(&mut self, call: &str, words: &str) -> Result<String, Memory> {
         match call {
+            "default" => self.by_default(words),
             "clone" => self.copy(),
+            "current" => self.copy_current(),
             "reload" => self.exchange(words),
             "vars" => variables::in_memory(self.alloc, words),
             "var" => variables::given(self.alloc, words),
@@ -80,15 +82,19 @@ impl Session {
 
     // The filter of the pieces that are directives, and errors where there is none; the others are told.
     fn lossy(&mut self, text: &str) -> Result<String, Memory> {
+        let ignored = self.put_lossy(text)?;
+        let mut told = answers::all_ignored(self.alloc, ignored.as_slice())?;
+        answers::push_filter(self.alloc, &mut told, &self.filter)?;
+        Ok(told)
+    }
+
+    // Puts that filter in place; the pieces that are no directives come back.
+    fn put_lossy(&mut self, text: &str) -> Result<Vec<Ignored>, Memory> {
         let errors = Directive::from_filter(self.alloc, LevelFilter::ERROR);
         let builder = Builder::default(self.alloc).with_default_directive(errors);
         let (filter, ignored) = builder.parse_lossy(text)?;
-        let mut told = String::new(self.alloc);
-        for piece in ignored.as_slice() {
-            told.push_str(answers::ignored(self.alloc, piece)?.as_str())?;
-        }
-        told.push_str(self.put(filter)?.as_str())?;
-        Ok(told)
+        self.filter = filter;
+        Ok(ignored)
     }
 
     // The filter of a text, or the first piece that is no directive.
@@ -98,6 +104,15 @@ impl Session {
             Ok(filter) => self.put(filter),
             Err((piece, fault)) => answers::refused(self.alloc, piece, fault),
         }
+    }
+
+    // The filter of the empty text, where that has a default directive.
+    fn by_default(&mut self, text: &str) -> Result<String, Memory> {
+        let Ok(directive) = Directive::parse(self.alloc, text, true) else {
+            return answers::unknown(self.alloc);
+        };
+        let filter = defaulted(self.alloc, directive)?;
+        self.put(filter)
     }
 
     // A directive more.
@@ -119,6 +134,15 @@ impl Session {
     fn copy(&mut self) -> Result<String, Memory> {
         let copy = self.filter.clone_filter()?;
         self.put(copy)
+    }
+
+    // Puts what a layer over the filter has as a copy of it in its place.
+    fn copy_current(&mut self) -> Result<String, Memory> {
+        let filter = mem::replace(&mut self.filter, EnvFilter::default(self.alloc));
+        match exchanging::copied(filter)? {
+            Some(copy) => self.put(copy),
+            None => answers::unknown(self.alloc),
+        }
     }
 
     // Exchanges the filter for that of a text.
@@ -220,6 +244,22 @@ impl Session {
             Some(callsite) => exchanging::retired(self.alloc, lane, callsite),
             None => answers::unknown(self.alloc),
         }
+    }
+}
+
+// The filter of the empty text, by a copy of a builder that takes no patterns and has a default directive.
+fn defaulted(alloc: Global, directive: Directive) -> Result<EnvFilter, Memory> {
+    let builder = Builder::default(alloc)
+        .with_regex(false)
+        .with_default_directive(directive);
+    empty_text(&builder.clone_builder()?)
+}
+
+// What a builder makes of the empty text, in which no piece has a fault.
+fn empty_text(builder: &Builder) -> Result<EnvFilter, Memory> {
+    match builder.parse("") {
+        Ok(filter) => Ok(filter),
+        Err(_) => Err(Memory),
     }
 }
 

@@ -1,6 +1,6 @@
 //! Filters from variables.
 use crate::answers;
-use env_filter::{EnvFilter, FromEnvError, MemVars, SysVars};
+use env_filter::{Builder, EnvFilter, FromEnvError, MemVars, SysVars, Vars};
 use otel_base::list::Items;
 use otel_base::memory::Memory;
 use otel_base::text::Text;
@@ -10,11 +10,20 @@ use std::env::Env;
 /// What is read of variables in memory, of words `NAME=TEXT`: leniently, and where it has to be set.
 pub fn in_memory(alloc: Global, words: &str) -> Result<String, Memory> {
     let vars = MemVars::new(alloc, pairs(alloc, words)?);
-    let read = EnvFilter::from_default_env(alloc, &vars)?;
-    let mut told = answers::filter(alloc, &read)?;
-    let required = read_as(alloc, EnvFilter::try_from_default_env(alloc, &vars))?;
-    told.push_str(required.as_str())?;
+    let mut told = read_default(alloc, &vars)?;
+    push_required(alloc, &mut told, &vars)?;
     Ok(told)
+}
+
+fn read_default(alloc: Global, vars: &MemVars) -> Result<String, Memory> {
+    let filter = EnvFilter::from_default_env(alloc, vars)?;
+    answers::filter(alloc, &filter)
+}
+
+fn push_required(alloc: Global, told: &mut String, vars: &MemVars) -> Result<(), Memory> {
+    let line = read_as(alloc, EnvFilter::try_from_default_env(alloc, vars))?;
+    told.push_str(line.as_str())?;
+    Ok(())
 }
 
 fn pairs(alloc: Global, words: &str) -> Result<Items<(Text, Text)>, Memory> {
@@ -37,10 +46,38 @@ pub fn given(alloc: Global, words: &str) -> Result<String, Memory> {
     read_as(alloc, builder.from_var(Some(held)))
 }
 
-/// What is read of a variable of the process, which has to be set.
-pub fn of_process<R: Env>(alloc: Global, rt: &R, name: &str) -> Result<String, Memory> {
+/// What a reader makes of a variable of the process, of words `READER NAME`.
+pub fn of_process<R: Env>(alloc: Global, rt: &R, words: &str) -> Result<String, Memory> {
     let vars = SysVars::new(alloc, rt);
-    read_as(alloc, EnvFilter::try_from_env(alloc, name, &vars))
+    let (reader, name) = words.split_once(' ').unwrap_or((words, ""));
+    match reader {
+        "from_env" => read(alloc, name, &vars),
+        "try_from_env" => read_as(alloc, EnvFilter::try_from_env(alloc, name, &vars)),
+        "builder.from_env" => read_by_builder(alloc, name, &vars),
+        "builder.try_from_env" => required_by_builder(alloc, name, &vars),
+        _ => answers::unknown(alloc),
+    }
+}
+
+fn read<V: Vars>(alloc: Global, name: &str, vars: &V) -> Result<String, Memory> {
+    let filter = EnvFilter::from_env(alloc, name, vars)?;
+    answers::filter(alloc, &filter)
+}
+
+fn read_by_builder<V: Vars>(alloc: Global, name: &str, vars: &V) -> Result<String, Memory> {
+    let builder = builder(alloc, name)?;
+    read_as(alloc, builder.from_env(vars))
+}
+
+fn required_by_builder<V: Vars>(alloc: Global, name: &str, vars: &V) -> Result<String, Memory> {
+    let builder = builder(alloc, name)?;
+    read_as(alloc, builder.try_from_env(vars))
+}
+
+// A builder that reads the variable of a name.
+fn builder(alloc: Global, name: &str) -> Result<Builder, Memory> {
+    let name = String::from_str(alloc, name)?;
+    Ok(EnvFilter::builder(alloc).with_env_var(name))
 }
 
 fn read_as(alloc: Global, read: Result<EnvFilter, FromEnvError>) -> Result<String, Memory> {

@@ -26,12 +26,7 @@ pub fn callsite(alloc: Global, kind: Kind, words: &str) -> Result<Option<Callsit
         return Ok(None);
     };
     let (name, names) = rest.split_once(' ').unwrap_or((rest, ""));
-    let mut fields = Items::new(alloc);
-    for field in names.split(' ') {
-        if !field.is_empty() {
-            fields.push(text(alloc, field)?)?;
-        }
-    }
+    let fields = fields(alloc, names)?;
     Ok(Some(Callsite {
         name: text(alloc, name)?,
         target: text(alloc, target)?,
@@ -42,6 +37,16 @@ pub fn callsite(alloc: Global, kind: Kind, words: &str) -> Result<Option<Callsit
         line: None,
         fields,
     }))
+}
+
+fn fields(alloc: Global, names: &str) -> Result<Items<Text>, Memory> {
+    let mut fields = Items::new(alloc);
+    for name in names.split(' ') {
+        if !name.is_empty() {
+            fields.push(text(alloc, name)?)?;
+        }
+    }
+    Ok(fields)
 }
 
 // The level and the target at the front, and the words behind them.
