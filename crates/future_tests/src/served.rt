@@ -102,8 +102,9 @@ pub fn taken_default<S: Stack>(
         stack: second,
         refuses: false,
     };
+    let first = lane.default.replace(second);
     let mut future = looks.with_current_subscriber(world, lane);
-    lane.default = Some(second);
+    lane.default = first;
     let seen = told(future.poll_in(world, lane, 10, cx));
     let after = number(get_default(world, lane));
     let of = number(future.dispatcher());
@@ -121,6 +122,6 @@ fn with_dispatch_poll(rt: HostRuntime) -> Result<(), Fail> {
 #[test]
 fn polls_under_the_default_that_was_taken(rt: HostRuntime) -> Result<(), Fail> {
     let told = played(&rt, Play::TakenDefault)?;
-    assert_eq!(rt; told.as_str(), "0 1 0");
+    assert_eq!(rt; told.as_str(), "100 0 1");
     Ok(())
 }
