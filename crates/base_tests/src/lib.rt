@@ -23,11 +23,7 @@ mod hooks;
 #[cfg(test)]
 mod lanes;
 #[cfg(test)]
-mod leaving;
-#[cfg(test)]
 mod metrics;
-#[cfg(test)]
-mod polls;
 #[cfg(test)]
 mod registries;
 #[cfg(test)]

@@ -1,10 +1,7 @@
 -- An entry keeps all, and a refused one does.
 use Rattle.span_futures.proofs.Calling.{calls_enter, calls_refused}
-use Rattle.span_futures.proofs.Inside.{on_all, begun, refused}
-use Rattle.base_tests.proofs.leaving.enter_for_good.Goals as goal
-
-pub open_entry-requires-clause-whole : goal.open_entry-requires-clause-whole
-open_entry-requires-clause-whole g c = on_all g.S.Subscriber.is_whole c.args.world.now c.args.span.now.held c.requires.whole
+use Rattle.span_futures.proofs.Inside.{begun, refused}
+use Rattle.future_tests.proofs.acts.enter_for_good.Goals as goal
 
 pub returns-in-Ok-clause-keeps : goal.returns-in-Ok-clause-keeps
 returns-in-Ok-clause-keeps g c =

@@ -1,0 +1,67 @@
+//! What the tests play, each in a world of its own.
+ghost use Rattle.std.specs.Prelude.{◌≡◌, [], None};
+
+use crate::leaving::left;
+use crate::polls::{ended, looked, polled_twice};
+use crate::scopes::scoped;
+use crate::served::{made_under, taken_default};
+use crate::stack::lane;
+use futures::task::Context;
+use futures::test::MockTask;
+use otel_base::memory::Memory;
+use otel_layer::recording::RecordedStack;
+use std::alloc::{AllocGlobal, Global};
+use std::random::RandomSource;
+use std::test::Fail;
+use trace_base::discard::Discard;
+use trace_base::lane::Lane;
+use trace_base::world::World;
+
+/// What is played.
+#[derive(Clone, Copy)]
+pub enum Play {
+    Scoped,
+    Twice,
+    Looked,
+    Refused,
+    Ended,
+    Left,
+    MadeUnder,
+    TakenDefault,
+}
+
+/// Plays it in a new world on a new lane, and answers what is told of it.
+pub fn played<R: RandomSource + AllocGlobal>(rt: &R, play: Play) -> Result<String, Fail> {
+    let task = MockTask::new(rt)?;
+    let alloc = rt.alloc();
+    let told = task.enter(|cx| {
+        let mut world = World::new(alloc);
+        let mut lane = lane(alloc);
+        let told = told(alloc, &mut world, &mut lane, play, cx);
+        world.discard();
+        told
+    });
+    Ok(told?)
+}
+
+fn told(
+    alloc: Global,
+    world: &mut World<RecordedStack>,
+    lane: &mut Lane,
+    play: Play,
+    cx: &mut Context<'_>,
+) -> Result<String, Memory>
+    requires empty { world.old ≡ record { sites = []; subscribers = []; cached = []; global = None } }
+    requires own { lane.old.default ≡ None }
+{
+    match play {
+        Play::Scoped => scoped(alloc, world, lane),
+        Play::Twice => polled_twice(alloc, world, lane, cx),
+        Play::Looked => looked(alloc, world, lane, false, cx),
+        Play::Refused => looked(alloc, world, lane, true, cx),
+        Play::Ended => ended(alloc, world, lane),
+        Play::Left => left(alloc, world, lane, cx),
+        Play::MadeUnder => made_under(alloc, world, lane, cx),
+        Play::TakenDefault => taken_default(alloc, world, lane, cx),
+    }
+}
