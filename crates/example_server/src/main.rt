@@ -1,12 +1,9 @@
-//! A server that is traced: it serves requests, one a line, each under a span, and prints the records of its spans.
-//! `docs/USING.md` is read beside it.
+//! A server that is traced: it serves requests, one a line, each under a span, and prints the records of its spans. Its
+//! calls are `example_calls`, and `docs/USING.md` is read beside it.
 #![tactic(auto)]
 
-mod server;
-mod sites;
-
-use crate::server::Server;
 use env_filter::filter::EnvFilter;
+use example_calls::server::Server;
 use otel_base::memory::Memory;
 use otel_base::record::Record;
 use otel_base::recorder::Recorder;

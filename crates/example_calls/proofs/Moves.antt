@@ -22,12 +22,12 @@ use Rattle.span_handles.specs.Entries.{LeavesLane}
 use Rattle.span_handles.specs.Knowing.{KeepsKnown, KeepsOthers}
 use Rattle.span_handles.proofs.Knowing.{keeps_call, keeps_same}
 use Rattle.span_handles.proofs.Showing.{as_many, shown, alike, chain_shown}
-use Rattle.example_server.specs.declared.server.Server.{Server}
-use Rattle.example_server.specs.declared.sites.Sites.{Sites}
-use Rattle.example_server.specs.Closing.{AreAsBefore, IsOfNewest}
-use Rattle.example_server.specs.Order.{AreAtMost, AreThere, Stands, IsApart, Leaves, Tells}
-use Rattle.example_server.proofs.Closing.{IsReleasedOn, IsEnteredOn, IsExitedOn, IsLiveOn}
-use Rattle.example_server.proofs.Counts.{more, with_new, with_entry, with_exit, with_closes}
+use Rattle.example_calls.specs.declared.server.Server.{Server}
+use Rattle.example_calls.specs.declared.sites.Sites.{Sites}
+use Rattle.example_calls.specs.Closing.{AreAsBefore, IsOfNewest}
+use Rattle.example_calls.specs.Order.{AreAtMost, AreThere, Stands, IsApart, Leaves, Tells}
+use Rattle.example_calls.proofs.Closing.{IsReleasedOn, IsEnteredOn, IsExitedOn, IsLiveOn}
+use Rattle.example_calls.proofs.Counts.{more, with_new, with_entry, with_exit, with_closes}
 
 -- what is read of a subscriber that is there
 read_there : {S : Type 0} (spans : S → Spans) (world : Worlds S) (dispatch : ℕ) (s : S) → slice_get world.subscribers dispatch ≡ Some s → spans_in spans world dispatch ≡ spans s

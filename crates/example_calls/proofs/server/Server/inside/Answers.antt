@@ -2,14 +2,14 @@
 use Rattle.std.proofs.Common.{◌≡◌, ◌+◌, ℕ, ◌∙◌, arith, ap, sym, subst}
 use Rattle.trace_base.specs.Spans.{Spans, span_at}
 use Rattle.span_handles.specs.Worlds.{spans_in}
-use Rattle.example_server.specs.declared.server.Server.{Server}
+use Rattle.example_calls.specs.declared.server.Server.{Server}
 use Rattle.span_handles.specs.Handles.{HasOn, IsOf}
 use Rattle.span_handles.specs.Entries.{Opened}
 use Rattle.trace_base.specs.Conditions.{MayExit}
 use Rattle.trace_base.specs.Contexts.{AreAttached}
-use Rattle.example_server.proofs.Closing.{exits, IsExitedOn}
-use Rattle.example_server.proofs.Moves.{later, still_on, own_after, may_after, entered_on, exited_on, refused_on, entered_spans, exited_spans, refused_spans}
-use Rattle.example_server.proofs.server.Server.inside.Goals as goal
+use Rattle.example_calls.proofs.Closing.{exits, IsExitedOn}
+use Rattle.example_calls.proofs.Moves.{later, still_on, own_after, may_after, entered_on, exited_on, refused_on, entered_spans, exited_spans, refused_spans}
+use Rattle.example_calls.proofs.server.Server.inside.Goals as goal
 
 pub answer-told-requires-clause-order : goal.answer-told-requires-clause-order
 answer-told-requires-clause-order g c = (entered_on g.S.Subscriber.spans g.S.Subscriber.attaches g.S.Subscriber.kept g.S.Subscriber.is_whole g.S.Subscriber.does g.met.S.Subscriber.allowed g.met.S.Subscriber.shows g.met.S.Subscriber.lanes g.met.S.Subscriber.keeps_attaches g.met.S.Subscriber.keeps_whole g.S.Subscriber.same g.met.S.Subscriber.same_spans g.met.S.Subscriber.same_attaches g.met.S.Subscriber.same_kept g.met.S.Subscriber.same_whole c.args.self.now.dispatch c.args.self.now.sites (c.args.at + 10) (c.args.at + 20) c.args.self.now.world c.enter.new.world c.args.self.now.lane c.enter.new.lane (c.args.at + 10) c.args.span.now.held (omega arith) c.requires.held.own c.in-Ok.ensures.did c.enter.ensures.none c.requires.order).0

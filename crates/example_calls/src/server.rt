@@ -3,8 +3,8 @@ ghost use Rattle.std.specs.Prelude.{◌≡◌, ◌<◌, ◌^◌, ◌+◌, ℕ, l
 ghost use Rattle.span_registry.specs.Registering.{no_spans};
 ghost use Rattle.span_handles.specs.Worlds.{Has, Replaced, spans_in};
 ghost use Rattle.span_handles.specs.Knowing.{KeepsKnown};
-ghost use Rattle.example_server.specs.Closing.{spans_of, IsAsBefore, IsOfNewest};
-ghost use Rattle.example_server.specs.Order.{InOrder, IsHeld, IsApart, Leaves, IsHeldBack, IsMade, Tells, IsTold};
+ghost use Rattle.example_calls.specs.Closing.{spans_of, IsAsBefore, IsOfNewest};
+ghost use Rattle.example_calls.specs.Order.{InOrder, IsHeld, IsApart, Leaves, IsHeldBack, IsMade, Tells, IsTold};
 
 use crate::sites::{self, Sites};
 use otel_base::memory::Memory;

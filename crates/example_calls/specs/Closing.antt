@@ -4,7 +4,7 @@ use Rattle.trace_base.specs.Spans.{Spans, span_at}
 use Rattle.trace_base.specs.Calls.{with_span}
 use Rattle.span_handles.specs.Worlds.{spans_in}
 use Rattle.span_handles.specs.Handles.{Held}
-use Rattle.example_server.specs.declared.server.Server.{Server}
+use Rattle.example_calls.specs.declared.server.Server.{Server}
 
 -- the spans that a server's stack knows
 abbrev pub spans_of : {S : Type 0} → (S → Spans) → Server S → Spans

@@ -1,6 +1,6 @@
 //! The callsites of the program, which in Rust its macros make, and values for their fields.
 ghost use Rattle.std.specs.Prelude.{◌≡◌, IfOk, length};
-ghost use Rattle.example_server.specs.Order.{AreThere};
+ghost use Rattle.example_calls.specs.Order.{AreThere};
 
 use otel_base::list::Items;
 use otel_base::memory::Memory;

@@ -2,9 +2,9 @@
 use Rattle.std.proofs.Common.{length, List, ap, sym, subst, refl}
 use Rattle.trace_base.specs.declared.callsite.Callsite.{Callsite}
 use Rattle.trace_base.specs.Gate.{Worlds}
-use Rattle.example_server.specs.Order.{AreThere}
-use Rattle.example_server.proofs.Begins.{begins}
-use Rattle.example_server.proofs.server.Server.new.Goals as goal
+use Rattle.example_calls.specs.Order.{AreThere}
+use Rattle.example_calls.proofs.Begins.{begins}
+use Rattle.example_calls.proofs.server.Server.new.Goals as goal
 
 pub returns-in-Ok-add : goal.returns-in-Ok-add
 returns-in-Ok-add g c =

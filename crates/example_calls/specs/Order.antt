@@ -12,8 +12,8 @@ use Rattle.trace_base.specs.Spans.{Spans, span_at}
 use Rattle.span_handles.specs.Worlds.{Has, Replaced, spans_in, kept_in}
 use Rattle.span_handles.specs.Handles.{Handle, Held, IsKnown, IsOf, Makes}
 use Rattle.span_handles.specs.Knowing.{KeepsKnown}
-use Rattle.example_server.specs.declared.server.Server.{Server}
-use Rattle.example_server.specs.declared.sites.Sites.{Sites}
+use Rattle.example_calls.specs.declared.server.Server.{Server}
+use Rattle.example_calls.specs.declared.sites.Sites.{Sites}
 
 -- at most so many spans, and so many holds of each
 pub record AreAtMost (most : ℕ) (x : Spans) : Type 0 where

@@ -8,7 +8,7 @@ use Rattle.trace_base.specs.Calls.{TryClose, after, with_span, entered, exited}
 use Rattle.trace_base.proofs.Entering.{length_held}
 use Rattle.trace_base.proofs.Holding.{holds_set, holds_other, less_holds}
 use Rattle.span_handles.specs.Worlds.{Released, all_released, releases}
-use Rattle.example_server.specs.Order.{AreAtMost}
+use Rattle.example_calls.specs.Order.{AreAtMost}
 
 pub more : (n m : ℕ) (x : Spans) → n ≤ m → AreAtMost n x → AreAtMost m x
 more n m x within few = record { spans = omega (arith, within, few.spans); holds = λ id. (let h = few.holds id in omega (arith, h, within)) }

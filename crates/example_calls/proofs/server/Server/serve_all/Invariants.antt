@@ -1,8 +1,8 @@
 -- The server is in order at the moment of the next request.
 use Rattle.std.specs.Prelude.{◌≤◌, ◌^◌, ◌+◌}
-use Rattle.example_server.specs.Closing.{IsAsBefore}
-use Rattle.example_server.specs.Order.{InOrder}
-use Rattle.example_server.proofs.server.Server.serve_all.Given as goal
+use Rattle.example_calls.specs.Closing.{IsAsBefore}
+use Rattle.example_calls.specs.Order.{InOrder}
+use Rattle.example_calls.proofs.server.Server.serve_all.Given as goal
 
 abbrev pub invariant-loop-line : goal.invariant-loop-line
 invariant-loop-line g l = record {

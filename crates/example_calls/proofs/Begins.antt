@@ -6,8 +6,8 @@ use Rattle.trace_base.specs.Gate.{Worlds, AreSame}
 use Rattle.trace_base.specs.Spans.{Spans}
 use Rattle.span_registry.specs.Registering.{no_spans}
 use Rattle.span_handles.specs.Worlds.{spans_in, kept_in}
-use Rattle.example_server.specs.declared.sites.Sites.{Sites}
-use Rattle.example_server.specs.Order.{AreAtMost, AreThere, Stands}
+use Rattle.example_calls.specs.declared.sites.Sites.{Sites}
+use Rattle.example_calls.specs.Order.{AreAtMost, AreThere, Stands}
 
 nothing : {X : Type 0} (xs : List X) → length xs ≡ 0 → xs ≡ []
 nothing [] e = refl

@@ -1,9 +1,9 @@
 -- The span of a request is closed, and the next request comes later.
 use Rattle.std.proofs.Common.{◌+◌, arith}
 use Rattle.span_handles.specs.Worlds.{spans_in}
-use Rattle.example_server.proofs.Closing.{closes, stays_newest}
-use Rattle.example_server.proofs.Moves.{closed, later, released_spans}
-use Rattle.example_server.proofs.server.Server.serve.Goals as goal
+use Rattle.example_calls.proofs.Closing.{closes, stays_newest}
+use Rattle.example_calls.proofs.Moves.{closed, later, released_spans}
+use Rattle.example_calls.proofs.server.Server.serve.Goals as goal
 
 pub returns-clause-order : goal.returns-clause-order
 returns-clause-order g c = later g.S.Subscriber.spans g.S.Subscriber.kept g.S.Subscriber.is_whole c.inside-told.new.self.dispatch c.inside-told.new.self.sites (c.args.at + 60) (c.args.at + 100) c.close.new.world c.inside-told.new.self.lane (omega arith)

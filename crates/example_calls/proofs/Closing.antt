@@ -9,7 +9,7 @@ use Rattle.trace_base.proofs.Entering.{count_push, counted_if_any, none_counted,
 use Rattle.trace_base.proofs.Holding.{less_last, less_more}
 use Rattle.span_handles.specs.Worlds.{Released, all_released, releases}
 use Rattle.span_handles.specs.Handles.{Held}
-use Rattle.example_server.specs.Closing.{AreAsBefore, IsNewest, IsOfNewest}
+use Rattle.example_calls.specs.Closing.{AreAsBefore, IsNewest, IsOfNewest}
 
 -- a span that has a hold, and another one, where one hold less is written
 at_released : (made : List Span) (id q : ℕ) → 0 < (span_at made id).holds → q ≡ id → span_at (released made id) q ≡ less_held (span_at made id)

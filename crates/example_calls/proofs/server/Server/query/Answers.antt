@@ -1,10 +1,10 @@
 -- A span that is made and closed.
 use Rattle.std.proofs.Common.{◌+◌, ap, ◌∙◌}
 use Rattle.span_handles.specs.Worlds.{spans_in}
-use Rattle.example_server.specs.declared.server.Server.{Server}
-use Rattle.example_server.proofs.Closing.{closes}
-use Rattle.example_server.proofs.Moves.{closed, known_beside, released_spans}
-use Rattle.example_server.proofs.server.Server.query.Goals as goal
+use Rattle.example_calls.specs.declared.server.Server.{Server}
+use Rattle.example_calls.proofs.Closing.{closes}
+use Rattle.example_calls.proofs.Moves.{closed, known_beside, released_spans}
+use Rattle.example_calls.proofs.server.Server.query.Goals as goal
 
 pub returns-clause-order : goal.returns-clause-order
 returns-clause-order g c = (closed g.S.Subscriber.spans g.S.Subscriber.attaches g.S.Subscriber.kept g.S.Subscriber.is_whole g.S.Subscriber.does g.met.S.Subscriber.allowed g.met.S.Subscriber.shows g.met.S.Subscriber.lanes g.met.S.Subscriber.keeps_attaches g.met.S.Subscriber.keeps_whole g.S.Subscriber.same g.met.S.Subscriber.same_spans g.met.S.Subscriber.same_attaches g.met.S.Subscriber.same_kept g.met.S.Subscriber.same_whole c.span.new.self.dispatch c.span.new.self.sites (c.args.at + 10) c.span.new.self.world c.close.new.world c.span.new.self.lane (c.args.at + 5) _ c.in_ok-span.ensures.held.own c.close.ensures.did c.span.ensures.order).stands
