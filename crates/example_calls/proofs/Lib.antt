@@ -1,0 +1,4 @@
+pub mod Begins
+pub mod Closing
+pub mod Counts
+pub mod Moves
