@@ -3,30 +3,13 @@
 
 ghost use Rattle.std.specs.Prelude.{◌≡◌};
 ghost use Rattle.std.specs.Process.{exit_status};
-ghost use Rattle.trace_tool.specs.Words.{number_of};
+ghost use Rattle.trace_run.specs.Words.{number_of};
 
-mod answers;
-mod failed;
-mod input;
-mod lines;
-mod make;
-mod script;
-mod sink;
-mod source;
-mod status;
-#[cfg(test)]
-mod tests;
-mod top;
-mod turns;
-mod written;
-
-use crate::sink::StdSink;
-use crate::source::StdSource;
-use crate::status::Status;
-use crate::top::top;
 use std::env;
 use std::io::{self, ErrorKind};
 use std::process::ExitCode;
+use trace_run::top::top;
+use trace_run::{Status, StdSink, StdSource};
 
 fn main(rt: HostRuntime) -> ExitCode {
     let status = match words(&rt) {

@@ -1,0 +1,124 @@
+//! Reads and writes that fail, one after another, and inputs that are too long.
+use trace_run::status::Status;
+use crate::tests::{ANSWERS, FIRST, SETTINGS, ended, ran, script};
+use trace_run::turns::Turn;
+use std::sync::Wait;
+use std::test::Fail;
+use std::thread::Threads;
+use trace_pipeline::limits::MAX_INPUT;
+
+// How many bytes the first lines have.
+fn size_of_lines(text: &str, lines: usize) -> usize {
+    let mut size = 0usize;
+    for line in text.lines().take(lines) {
+        size = size.saturating_add(line.len()).saturating_add(1);
+    }
+    size
+}
+
+// Whether the first span's script over these turns writes so many bytes of its answers, and ends so.
+fn goes<H: Threads + Wait + Sync + AllocGlobal>(
+    rt: &H,
+    reads: &[Turn],
+    writes: &[Turn],
+    size: usize,
+    status: Status,
+) -> Result<bool, Fail> {
+    let input = script(rt, FIRST)?;
+    let got = ran(rt, input.as_bytes(), reads, writes)?;
+    let wanted = ended(rt, ANSWERS, size, status)?;
+    Ok(got.as_str() == wanted.as_str())
+}
+
+// How many bytes the whole lines are answered that end within the first bytes of the script. The settings line is answered
+// nothing, and the last line a record too.
+fn answered(input: &[u8], size: usize) -> usize {
+    let mut lines = 0usize;
+    for byte in input.iter().take(size) {
+        if *byte == b'\n' {
+            lines = lines.saturating_add(1);
+        }
+    }
+    let told = if lines < 5 {
+        lines.saturating_sub(1)
+    } else {
+        5
+    };
+    size_of_lines(ANSWERS, told)
+}
+
+// The first read of the script, byte by byte, that isn't answered by the lines of the whole lines before it where it fails.
+fn wrong_read<H: Threads + Wait + Sync + AllocGlobal>(rt: &H) -> Result<Option<usize>, Fail> {
+    let input = script(rt, FIRST)?;
+    let mut turns = vec![in rt.alloc(); Turn::Moves { most: 1 }; input.len()]?;
+    for at in 0..input.len() {
+        turns[at] = Turn::Fails;
+        let size = answered(input.as_bytes(), at);
+        if !goes(rt, turns.as_slice(), &[], size, Status::ReadFault)? {
+            return Ok(Some(at));
+        }
+        turns[at] = Turn::Moves { most: 1 };
+    }
+    Ok(None)
+}
+
+// The first write, byte by byte, that isn't told with the bytes before it where it fails.
+fn wrong_write<H: Threads + Wait + Sync + AllocGlobal>(rt: &H) -> Result<Option<usize>, Fail> {
+    let mut turns = vec![in rt.alloc(); Turn::Moves { most: 1 }; ANSWERS.len()]?;
+    for at in 0..ANSWERS.len() {
+        turns[at] = Turn::Fails;
+        if !goes(rt, &[], turns.as_slice(), at, Status::WriteFault)? {
+            return Ok(Some(at));
+        }
+        turns[at] = Turn::Moves { most: 1 };
+    }
+    Ok(None)
+}
+
+#[test]
+fn tells_each_fault(rt: HostRuntime) -> Result<(), Fail> {
+    assert!(rt; wrong_read(&rt)?.is_none());
+    assert!(rt; wrong_write(&rt)?.is_none());
+    Ok(())
+}
+
+#[test]
+fn breaks_off(rt: HostRuntime) -> Result<(), Fail> {
+    let settings = SETTINGS.len() + 1;
+    let most = settings.saturating_add(size_of_lines(FIRST, 2));
+    let whole = [Turn::Moves { most }, Turn::Fails];
+    let most = settings + 20;
+    let cut = [Turn::Moves { most }, Turn::Fails];
+    let ten = Turn::Moves { most: 10 };
+    let full = [ten, ten, ten, Turn::Moves { most: 0 }];
+    let answers = size_of_lines(ANSWERS, 2);
+    assert!(rt; goes(&rt, &whole, &[], answers, Status::ReadFault)?);
+    assert!(rt; goes(&rt, &cut, &[], 0, Status::ReadFault)?);
+    assert!(rt; goes(&rt, &[], &full, 30, Status::WriteFault)?);
+    Ok(())
+}
+
+// Whether a text that is filled up with blanks to so many bytes is answered so.
+fn fills<H: Threads + Wait + Sync + AllocGlobal>(
+    rt: &H,
+    text: &str,
+    size: usize,
+    wanted: &str,
+) -> Result<bool, Fail> {
+    let mut input = Vec::new(rt.alloc());
+    input.extend_from_slice(text.as_bytes())?;
+    input.resize(size, b' ')?;
+    Ok(ran(rt, input.as_slice(), &[], &[])?.as_str() == wanted)
+}
+
+#[test]
+fn tells_a_long_input(rt: HostRuntime) -> Result<(), Fail> {
+    let refused = "{\"line\":1,\"refused\":\"BadLine\"}\n= 2\n";
+    assert!(rt; fills(&rt, "7\n", MAX_INPUT + 2, refused)?);
+    let longest = "{\"done\":true,\"open\":0,\"records\":0}\n= 0\n";
+    assert!(rt; fills(&rt, SETTINGS, MAX_INPUT, longest)?);
+    let made = script(&rt, "{\"at\":0,\"do\":\"new\",\"lane\":0,\"site\":0}\n")?;
+    let over = "{\"enabled\":true,\"handle\":0,\"reply\":2}\n= 6\n";
+    assert!(rt; fills(&rt, made.as_str(), MAX_INPUT + 1, over)?);
+    Ok(())
+}

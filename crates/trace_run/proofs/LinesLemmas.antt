@@ -1,0 +1,131 @@
+-- Where lines end.
+use Rattle.std.proofs.Common.{◌≡◌, ℕ, List, [], ◌∷◌, ◌++◌, refl, sym, ap, ◌∙◌, append_assoc, take, drop, length, get_or, ◌+◌, ◌-◌, ◌<◌, ◌≤◌, ◌==◌, arith, zero, suc, Bool, true, false, inl, inr}
+use Rattle.std.proofs.lemmas.Bool.{cases_Bool}
+use Rattle.std.proofs.lemmas.List.{take-append-drop, take_more, drop_more, take_rest}
+use Rattle.memchr.specs.Find.{Nowhere, Passes, is_byte}
+use Rattle.trace_pipeline.specs.Lines.{onto, lines_of}
+use Rattle.trace_run.specs.Breaks.{has_feed, whole_part, whole_lines}
+
+-- no byte is a line feed
+abbrev pub NoFeed : List ℕ → Type 0
+NoFeed [] = Unit {0}
+NoFeed (b ∷ bs) = ((b == 10) ≡ false) × NoFeed bs
+
+-- ---- the first line
+
+ended_line : (line rest : List ℕ) → NoFeed line → lines_of (line ++ 10 ∷ rest) ≡ line ∷ lines_of rest
+ended_line [] rest none = refl
+ended_line (b ∷ bs) rest none = rw none.0 (ap (onto b) (ended_line bs rest none.1))
+
+last_line : (b : ℕ) (bs : List ℕ) → NoFeed (b ∷ bs) → lines_of (b ∷ bs) ≡ (b ∷ bs) ∷ []
+last_line b [] none = rw none.0 refl
+last_line b (c ∷ bs) none = rw none.0 (ap (onto b) (last_line c bs none.1))
+
+-- the only line, where no line feed comes
+pub only_line : (bytes : List ℕ) → 0 < length bytes → NoFeed bytes → lines_of bytes ≡ bytes ∷ []
+only_line [] some none = absurd (omega (arith, some))
+only_line (b ∷ bs) some none = last_line b bs none
+
+-- the first line, where a line feed ends it
+pub fed_line : (bytes : List ℕ) (at : ℕ) → NoFeed (take at bytes) → at < length bytes → get_or bytes at 0 ≡ 10
+    → lines_of bytes ≡ take at bytes ∷ lines_of (take (length bytes - (at + 1)) (drop (at + 1) bytes))
+fed_line bytes at none within feed =
+    rw (take_rest bytes (at + 1)) (ap lines_of (sym (take-append-drop at bytes) ∙ ap (λ (r : List ℕ). take at bytes ++ r) (drop_more bytes at 0 within ∙ ap (λ (b : ℕ). b ∷ drop (at + 1) bytes) feed))
+    ∙ ended_line (take at bytes) (drop (at + 1) bytes) none)
+
+onto_front : (b : ℕ) (front more : List (List ℕ)) → 0 < length front → onto b (front ++ more) ≡ onto b front ++ more
+onto_front b [] more some = absurd (omega (arith, some))
+onto_front b (line ∷ lines) more some = refl
+
+onto_some : (b : ℕ) (lines : List (List ℕ)) → 0 < length (onto b lines)
+onto_some b [] = omega arith
+onto_some b (line ∷ lines) = omega arith
+
+line_some : (b : ℕ) (bs : List ℕ) → 0 < length (lines_of (b ∷ bs))
+line_some b bs = elim (cases_Bool (b == 10)) [
+  | inl is ↦ rw is (omega arith)
+  | inr is ↦ rw is (onto_some b (lines_of bs))
+]
+
+-- ---- the whole lines
+
+no_feed : (bs : List ℕ) → NoFeed bs → has_feed bs ≡ false
+no_feed [] none = refl
+no_feed (b ∷ bs) none = rw none.0 (no_feed bs none.1)
+
+-- bytes without a line feed have no whole line
+pub part_none : (bs : List ℕ) → NoFeed bs → whole_part bs ≡ []
+part_none [] none = refl
+part_none (b ∷ bs) none = rw (no_feed (b ∷ bs) none) refl
+
+fed : (bs rest : List ℕ) → has_feed (bs ++ 10 ∷ rest) ≡ true
+fed [] rest = refl
+fed (b ∷ bs) rest = elim (cases_Bool (b == 10)) [
+  | inl is ↦ rw is refl
+  | inr is ↦ rw is (fed bs rest)
+]
+
+part_fed : (bs rest : List ℕ) → NoFeed rest → whole_part (bs ++ 10 ∷ rest) ≡ bs ++ 10 ∷ []
+part_fed [] rest none = ap (λ (r : List ℕ). 10 ∷ r) (part_none rest none)
+part_fed (b ∷ bs) rest none = rw (fed (b ∷ bs) rest) (ap (λ (r : List ℕ). b ∷ r) (part_fed bs rest none))
+
+-- the last line feed ends the whole lines
+pub part_at : (bytes : List ℕ) (at : ℕ) → at < length bytes → get_or bytes at 0 ≡ 10 → NoFeed (drop (at + 1) bytes) → take (at + 1) bytes ≡ whole_part bytes
+part_at bytes at within feed none =
+    let parts : take at bytes ++ 10 ∷ drop (at + 1) bytes ≡ bytes =
+    sym (ap (λ (r : List ℕ). take at bytes ++ r) (drop_more bytes at 0 within ∙ ap (λ (b : ℕ). b ∷ drop (at + 1) bytes) feed)) ∙ take-append-drop at bytes in
+    take_more bytes at 0 within ∙ ap (λ (b : ℕ). take at bytes ++ b ∷ []) feed
+    ∙ sym (part_fed (take at bytes) (drop (at + 1) bytes) none) ∙ ap whole_part parts
+
+part_some : (bs : List ℕ) → has_feed bs ≡ true → 0 < length (lines_of (whole_part bs))
+part_some [] is = cc
+part_some (b ∷ bs) is = rw is (line_some b (whole_part bs))
+
+-- what follows the whole lines begins a line
+part_on : (bs tail : List ℕ) → lines_of (whole_part bs ++ tail) ≡ whole_lines bs ++ lines_of tail
+part_on [] tail = refl
+part_on (b ∷ bs) tail = elim (cases_Bool (has_feed (b ∷ bs))) [
+  | inr is ↦ rw is refl
+  | inl is ↦ rw is (line_on b bs tail is (part_on bs tail))
+] where
+  line_on : (b : ℕ) (bs tail : List ℕ) → has_feed (b ∷ bs) ≡ true → lines_of (whole_part bs ++ tail) ≡ whole_lines bs ++ lines_of tail
+      → lines_of (b ∷ (whole_part bs ++ tail)) ≡ lines_of (b ∷ whole_part bs) ++ lines_of tail
+  line_on b bs tail some on = elim (cases_Bool (b == 10)) [
+    | inl is ↦ rw is (ap (λ (ls : List (List ℕ)). [] ∷ ls) on)
+    | inr is ↦ rw is (ap (onto b) on ∙ onto_front b (whole_lines bs) (lines_of tail) (part_some bs (rw is at some)))
+  ]
+
+part_rest : (bs : List ℕ) → (rest : List ℕ) × (bs ≡ whole_part bs ++ rest)
+part_rest [] = ([], refl)
+part_rest (b ∷ bs) = elim (cases_Bool (has_feed (b ∷ bs))) [
+  | inl is ↦ rw is ((part_rest bs).0, ap (λ (r : List ℕ). b ∷ r) (part_rest bs).1)
+  | inr is ↦ rw is (b ∷ bs, refl)
+]
+
+-- the lines of bytes that go on begin with the whole lines
+pub lines_on : (bs tail : List ℕ) → (more : List (List ℕ)) × (lines_of (bs ++ tail) ≡ whole_lines bs ++ more)
+lines_on bs tail =
+    let rest = part_rest bs in
+    (lines_of (rest.0 ++ tail), ap (λ (r : List ℕ). lines_of (r ++ tail)) rest.1 ∙ ap lines_of (append_assoc (whole_part bs) rest.0 tail) ∙ part_on bs (rest.0 ++ tail))
+
+-- ---- where a search found the first line feed, or the last
+
+unpassed : (t : Bool) → (t ≡ true → ⊥) → t ≡ false
+unpassed true none = absurd (none refl)
+unpassed false none = refl
+
+-- no byte before a place is a line feed
+pub feedless_before : (bs : List ℕ) (at : ℕ) → at ≤ length bs → Nowhere (Passes (is_byte 10) bs) 0 at → NoFeed (take at bs)
+feedless_before bs zero within none = tt
+feedless_before [] (suc at) within none = absurd (omega (arith, within))
+feedless_before (b ∷ bs) (suc at) within none =
+    (unpassed (b == 10) (none 0 (omega arith) (omega arith)), feedless_before bs at (omega (arith, within)) (λ k low below. none (suc k) (omega arith) (omega (arith, below))))
+
+-- no byte from a place on is a line feed
+pub feedless_from : (bs : List ℕ) (at : ℕ) → Nowhere (Passes (is_byte 10) bs) at (length bs) → NoFeed (drop at bs)
+feedless_from [] zero none = tt
+feedless_from [] (suc at) none = tt
+feedless_from (b ∷ bs) zero none =
+    (unpassed (b == 10) (none 0 (omega arith) (omega arith)), feedless_from bs zero (λ k low below. none (suc k) (omega arith) (omega (arith, below))))
+feedless_from (b ∷ bs) (suc at) none =
+    feedless_from bs at (λ k low below. none (suc k) (omega (arith, low)) (omega (arith, below)))

@@ -1,0 +1,126 @@
+-- What serving the made requests comes to.
+use Rattle.std.proofs.Common.{◌≡◌, ℕ, zero, suc, ◌+◌, ◌≤◌, ◌<◌, List, [], ◌∷◌, ◌++◌, length, fold, Option, Some, Ok, refl, sym, ap, subst, ◌∙◌, arith, append_assoc, append-nil, length-append}
+use Rattle.std.specs.List.{sum_by, flat_map, range_with_len}
+use Rattle.std.proofs.lemmas.List.Sums.{sum_by-append, fold-append}
+use Rattle.otel_base.specs.declared.record.Record.{Record}
+use Rattle.span_script.specs.declared.reply.Reply.{Reply}
+use Rattle.span_script.specs.declared.request.Request.{Request}
+use Rattle.span_script.specs.Effects.{Resolved, effect_of, open_spans}
+use Rattle.span_script.specs.Fits.{State, StandsFor, Recorded}
+use Rattle.span_script.specs.Outcomes.{records, records_from}
+use Rattle.span_script.specs.Setups.{Setup, HasOwnIds, id_at}
+use Rattle.span_script.specs.Tables.{History, Effect, Tables, no_tables, tables, after, records_of}
+use Rattle.trace_pipeline.specs.Generated.{made_settings, made_setup, made_requests, made_script, round, rounds}
+use Rattle.trace_pipeline.specs.Replay.{going_on, replayed, busy_of, events_of, summary_of, summary_text}
+use Rattle.trace_pipeline.specs.Report.{IsValid}
+use Rattle.trace_pipeline.specs.declared.write.summary.Summary.{Summary}
+use Rattle.trace_run.specs.Answers.{without_taken}
+use Rattle.trace_run.specs.Making.{SumsUp, IsMadeLine, line_if, with_records, of_requests, totals_of, Counts, Serves}
+use Rattle.trace_run.specs.declared.make.Totals.{Totals}
+use Rattle.trace_run.proofs.AnswersLemmas.{stands_beside}
+use Rattle.span_script.proofs.Running.{records_push}
+
+-- ---- totals
+
+pub with_none : (t : Totals) → with_records t [] ≡ t
+with_none t =
+    let busy : t.busy + 0 ≡ t.busy = omega arith in
+    let events : t.events + 0 ≡ t.events = omega arith in
+    let records : t.records + 0 ≡ t.records = omega arith in
+    ap (λ b. record t { busy = b; events = t.events + 0; records = t.records + 0 }) busy
+    ∙ ap (λ e. record t { busy = t.busy; events = e; records = t.records + 0 }) events
+    ∙ ap (λ n. record t { busy = t.busy; events = t.events; records = n }) records
+
+plain_totals : (n : ℕ) (rs : List Record) → with_records (of_requests n) rs ≡ record { busy = sum_by busy_of rs; events = sum_by events_of rs; records = length rs; requests = n }
+plain_totals n rs =
+    let busy : 0 + sum_by busy_of rs ≡ sum_by busy_of rs = omega arith in
+    let events : 0 + sum_by events_of rs ≡ sum_by events_of rs = omega arith in
+    let count : 0 + length rs ≡ length rs = omega arith in
+    ap (λ (b : ℕ). record (of_requests n) { busy = b; events = 0 + sum_by events_of rs; records = 0 + length rs }) busy
+    ∙ ap (λ (e : ℕ). record (of_requests n) { busy = sum_by busy_of rs; events = e; records = 0 + length rs }) events
+    ∙ ap (λ (k : ℕ). record (of_requests n) { busy = sum_by busy_of rs; events = sum_by events_of rs; records = k }) count
+
+-- the totals of some requests with records, one request more, and its records
+with_request : (n m : ℕ) (rs ss : List Record) (t : Totals) → m ≡ n + 1 → t ≡ with_records (of_requests n) rs
+    → with_records (record t { requests = t.requests + 1 }) ss ≡ with_records (of_requests m) (rs ++ ss)
+with_request n m rs ss t next is =
+    let busy : (0 + sum_by busy_of rs) + sum_by busy_of ss ≡ 0 + sum_by busy_of (rs ++ ss) = omega (arith, sum_by-append busy_of rs ss) in
+    let events : (0 + sum_by events_of rs) + sum_by events_of ss ≡ 0 + sum_by events_of (rs ++ ss) = omega (arith, sum_by-append events_of rs ss) in
+    let records : (0 + length rs) + length ss ≡ 0 + length (rs ++ ss) = omega (arith, length-append rs ss) in
+    ap (λ (u : Totals). with_records (record u { requests = u.requests + 1 }) ss) is
+    ∙ ap (λ (b : ℕ). record (of_requests (n + 1)) { busy = b; events = (0 + sum_by events_of rs) + sum_by events_of ss; records = (0 + length rs) + length ss }) busy
+    ∙ ap (λ (e : ℕ). record (of_requests (n + 1)) { busy = 0 + sum_by busy_of (rs ++ ss); events = e; records = (0 + length rs) + length ss }) events
+    ∙ ap (λ (k : ℕ). record (of_requests (n + 1)) { busy = 0 + sum_by busy_of (rs ++ ss); events = 0 + sum_by events_of (rs ++ ss); records = k }) records
+    ∙ ap (λ (k : ℕ). with_records (of_requests k) (rs ++ ss)) (sym next)
+
+-- ---- histories
+
+pub served : (h : History) (old mid new : State) (before last : Totals) (request : Request) (reply : Reply) → Counts h old before
+    → Recorded (effect_of old.setup (tables old.setup h) request) h old mid reply
+    → last ≡ with_records (record before { requests = before.requests + 1 }) mid.recording.finished → new.recording.finished ≡ [] → without_taken new ≡ without_taken mid
+    → Serves (request ∷ []) h new last
+served h old mid new before last request reply c a last_is taken state =
+    let t : Tables = tables made_setup h in
+    let setup : new.setup ≡ made_setup = ap (λ (k : State). k.setup) state ∙ a.setup ∙ c.setup in
+    let is : effect_of made_setup t request ≡ Ok a.effect = subst (λ (s : Setup). effect_of s (tables s h) request ≡ Ok a.effect) c.setup a.is in
+    let finished : mid.recording.finished ≡ records_of t a.effect =
+    a.records ∙ ap (λ (f : List Record). f ++ records_of (tables old.setup h) a.effect) c.taken ∙ ap (λ (s : Setup). records_of (tables s h) a.effect) c.setup in
+    record {
+      history = h ++ a.effect ∷ [];
+      counts = record {
+        setup = setup;
+        stands = stands_beside mid new (tables made_setup (h ++ a.effect ∷ [])) state (subst (λ (s : Setup). StandsFor mid (tables s (h ++ a.effect ∷ []))) c.setup a.stands);
+        taken = taken;
+        totals_are = last_is ∙ ap (λ (f : List Record). with_records (record before { requests = before.requests + 1 }) f) finished
+            ∙ with_request (length h) (length (h ++ a.effect ∷ [])) (records made_setup h) (records_of t a.effect) before (length-append h (a.effect ∷ [])) c.totals_are
+            ∙ ap (with_records (of_requests (length (h ++ a.effect ∷ [])))) (sym (records_push (no_tables made_setup) h a.effect));
+      };
+      replays = λ more. ap (λ (r : Resolved). going_on r (λ e. replayed made_setup (h ++ e ∷ []) more)) is;
+    }
+
+pub serves_none : (h : History) (k : State) (t : Totals) → Counts h k t → Serves [] h k t
+serves_none h k t c = record { history = h; counts = c; replays = λ more. refl }
+
+pub serves_on : (xs ys all : List Request) (h : History) (k l : State) (t u : Totals) (s : Serves xs h k t) → Serves ys s.history l u → xs ++ ys ≡ all → Serves all h l u
+serves_on xs ys all h k l t u s z is =
+    subst (λ (rs : List Request). Serves rs h l u) is (record {
+      history = z.history;
+      counts = z.counts;
+      replays = λ more. ap (replayed made_setup h) (append_assoc xs ys more) ∙ s.replays (ys ++ more) ∙ z.replays more;
+    })
+
+pub rounds_more : (first i : ℕ) → rounds first (i + 1) ≡ rounds first i ++ round (first + i)
+rounds_more first zero = append-nil (round first) ∙ ap round {x = first} {y = first + 0} (omega arith)
+rounds_more first (suc i) =
+    ap (rounds first) {x = suc i + 1} {y = suc (i + 1)} (omega arith)
+    ∙ ap (λ (rs : List Request). round first ++ rs) (rounds_more (first + 1) i) ∙ sym (append_assoc (round first) (rounds (first + 1) i) (round ((first + 1) + i)))
+    ∙ ap (λ (k : ℕ). rounds first (suc i) ++ round k) {x = (first + 1) + i} {y = first + suc i} (omega arith)
+
+-- ---- the whole run
+
+pub own_ids : HasOwnIds (1 ∷ 2 ∷ [])
+own_ids zero zero n m same = refl
+own_ids zero (suc zero) n m same = absurd (cc same)
+own_ids (suc zero) zero n m same = absurd (cc same)
+own_ids (suc zero) (suc zero) n m same = refl
+own_ids (suc (suc k)) j n m same = absurd (omega (arith, n))
+own_ids zero (suc (suc j)) n m same = absurd (omega (arith, m))
+own_ids (suc zero) (suc (suc j)) n m same = absurd (omega (arith, m))
+
+pub opened : (k : State) → k.setup ≡ made_setup → StandsFor k (tables made_setup []) → k.recording.finished ≡ [] → Counts [] k (of_requests 0)
+opened k setup stands taken = record { setup = setup; stands = stands; taken = taken; totals_are = sym (with_none (of_requests 0)) }
+
+pub summed : (n : ℕ) (k : State) (t : Totals) (summary : Summary) (spans lines : ℕ) (s : Serves (made_requests n) [] k t) → ((h : History) → replayed made_setup [] (made_requests n) ≡ Some h → IsValid (made_script n))
+    → ((u : Tables) → StandsFor k u → spans ≡ open_spans u) → lines ≡ t.requests + t.records + 1
+    → summary ≡ record { busy = t.busy; events = t.events; lines = lines; open_spans = spans; records = t.records; requests = t.requests } → SumsUp n summary
+summed n k t summary spans lines s valid counts lines_are is =
+    let runs : replayed made_setup [] (made_requests n) ≡ Some s.history = ap (replayed made_setup []) (sym (append-nil (made_requests n))) ∙ s.replays [] in
+    record {
+      valid = valid s.history runs;
+      history = s.history;
+      runs = runs;
+      summary_is = is ∙ rw (lines_are, counts (tables made_setup s.history) s.counts.stands, s.counts.totals_are ∙ plain_totals (length s.history) (records made_setup s.history)) refl;
+    }
+
+pub tells : (n : ℕ) (summary : Summary) (text : List ℕ) → SumsUp n summary → text ≡ summary_text summary → IsMadeLine n text
+tells n summary text s is = (s.valid, is ∙ ap summary_text s.summary_is ∙ ap line_if (sym s.runs))

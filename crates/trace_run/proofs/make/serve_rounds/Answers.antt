@@ -1,0 +1,15 @@
+use Rattle.std.proofs.Common.{◌≡◌, ◌+◌, ℕ, List, [], ◌++◌, sym, ap, subst, ◌∙◌, arith}
+use Rattle.span_script.specs.declared.request.Request.{Request}
+use Rattle.trace_pipeline.specs.Generated.{round, rounds}
+use Rattle.trace_run.specs.Making.{Serves}
+use Rattle.trace_run.proofs.MakingLemmas.{serves_on, rounds_more}
+use Rattle.trace_run.proofs.make.serve_rounds.Goals as goal
+
+pub loop-i-preserved : goal.loop-i-preserved
+loop-i-preserved c counts =
+    let before = c.loop-i.invariant counts in
+    let i = c.loop-i.i in
+    let here : 0 + i ≡ i = omega arith in
+    let next = c.in_ok-serve_all.ensures before.history before.counts in
+    serves_on (rounds 0 i) c.in_ok-requests.requests.items (rounds 0 (i + 1)) [] _ _ _ _ before next
+    (ap (λ (rs : List Request). rounds 0 i ++ rs) (c.in_ok-requests.ensures ∙ ap round (sym here)) ∙ sym (rounds_more 0 i))

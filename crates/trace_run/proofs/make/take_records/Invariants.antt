@@ -1,0 +1,14 @@
+-- What is counted, and what is to be, are all.
+use Rattle.std.proofs.Common.{◌≡◌, length}
+use Rattle.trace_run.specs.Answers.{without_taken}
+use Rattle.trace_run.specs.Making.{with_records}
+use Rattle.trace_run.proofs.make.take_records.Given as goal
+
+abbrev pub invariant-loop-finished : goal.invariant-loop-finished
+invariant-loop-finished l = record {
+  totals : with_records l.totals l.pipeline.recording.finished ≡ with_records l.initial.totals l.initial.pipeline.recording.finished;
+  state : without_taken l.pipeline ≡ without_taken l.initial.pipeline;
+}
+
+abbrev pub decreases-loop-finished : goal.decreases-loop-finished
+decreases-loop-finished l = length l.pipeline.recording.finished

@@ -1,0 +1,31 @@
+-- What each command leaves, of the source's bytes, those left, and what the sink held before and holds now.
+use Rattle.std.specs.Prelude.{◌≡◌, ℕ, ◌≤◌, List, Option, IfSome}
+use Rattle.trace_pipeline.specs.declared.generated.TheConstants.{MOST_ROUNDS}
+use Rattle.trace_pipeline.specs.Report.{output}
+use Rattle.trace_run.specs.Streams.{PutsFront}
+use Rattle.trace_run.specs.Ends.{Ends, Completes}
+use Rattle.trace_run.specs.Making.{made_line, LeavesSum, CompletesSum}
+use Rattle.trace_run.specs.declared.script.Command.{Command}
+use Rattle.trace_run.specs.declared.script.Command.TheVariants as command
+use Rattle.trace_run.specs.declared.status.Status.{Status}
+
+-- what it leaves at each status
+abbrev pub EndsOf : Command → Status → Option (List ℕ) → Option (List ℕ) → Option (List ℕ) → Option (List ℕ) → Type 0
+EndsOf (command.Run signal) status bytes left before now = Ends signal status bytes left before now
+EndsOf (command.Make rounds) status bytes left before now = (left ≡ bytes) × LeavesSum status rounds before now
+
+-- whatever the status, what was written is a front of all that it would write
+abbrev pub FrontOf : Command → Option (List ℕ) → Option (List ℕ) → Option (List ℕ) → Type 0
+FrontOf (command.Run signal) bytes before now = IfSome bytes (λ bs. PutsFront before now (output signal bs))
+FrontOf (command.Make rounds) bytes before now = PutsFront before now (made_line rounds)
+
+-- when it is bound to end well, by the counts of reads and of writes that failed, before and now
+abbrev pub CompletesOf : Command → Status → Option (List ℕ) → ℕ → ℕ → ℕ → ℕ → Type 0
+CompletesOf (command.Run signal) status bytes reads reads' writes writes' =
+    IfSome bytes (λ bs. Completes status bs reads reads' writes writes')
+CompletesOf (command.Make rounds) status bytes reads reads' writes writes' = CompletesSum status writes writes'
+
+-- so many rounds can be made
+abbrev pub IsPossible : Command → Type 0
+IsPossible (command.Run signal) = Unit {0}
+IsPossible (command.Make rounds) = rounds ≤ MOST_ROUNDS

@@ -1,0 +1,81 @@
+-- What a run of the script that is made for a number came to.
+use Rattle.std.specs.Prelude.{◌≡◌, ℕ, ◌+◌, List, [], ◌++◌, length, Option, Some, None}
+use Rattle.std.proofs.Common.{◌⊎◌}
+use Rattle.std.specs.List.{sum_by}
+use Rattle.otel_base.specs.declared.record.Record.{Record}
+use Rattle.span_script.specs.declared.request.Request.{Request}
+use Rattle.span_script.specs.Tables.{History, tables}
+use Rattle.span_script.specs.Fits.{State, StandsFor}
+use Rattle.span_script.specs.Outcomes.{records}
+use Rattle.trace_pipeline.specs.Generated.{made_setup, made_requests, made_script}
+use Rattle.trace_pipeline.specs.Replay.{replayed, busy_of, events_of, summary_of, summary_text}
+use Rattle.trace_pipeline.specs.Report.{IsValid}
+use Rattle.trace_pipeline.specs.declared.write.summary.Summary.{Summary}
+use Rattle.trace_run.specs.Streams.{IsQuiet, Puts, PutsFront}
+use Rattle.trace_run.specs.declared.make.Totals.{Totals}
+use Rattle.trace_run.specs.declared.status.Status.{Status}
+use Rattle.trace_run.specs.declared.status.Status.TheVariants as ends
+
+-- the line of what a history comes to, if it is there
+abbrev pub line_if : Option History → List ℕ
+line_if None = []
+line_if (Some h) = summary_text (summary_of made_setup h)
+
+-- the summary of the script of so many rounds
+abbrev pub made_line : ℕ → List ℕ
+made_line rounds = line_if (replayed made_setup [] (made_requests rounds))
+
+-- What is left in a sink at each status: the whole line, the script being valid, a front of it, or nothing.
+abbrev pub LeavesSum : Status → ℕ → Option (List ℕ) → Option (List ℕ) → Type 0
+LeavesSum ends.Ok rounds before now = IsValid (made_script rounds) × Puts before now (made_line rounds)
+LeavesSum ends.Usage rounds before now = ⊥
+LeavesSum ends.Refused rounds before now = ⊥
+LeavesSum ends.ReadFault rounds before now = ⊥
+LeavesSum ends.WriteFault rounds before now = PutsFront before now (made_line rounds)
+LeavesSum ends.Memory rounds before now = Puts before now []
+LeavesSum ends.TooLong rounds before now = ⊥
+
+-- With no fault of the sink the line is written, unless memory wants.
+abbrev pub CompletesSum : Status → ℕ → ℕ → Type 0
+CompletesSum status writes writes' = IsQuiet writes writes' → (status ≡ ends.Ok) ⊎ (status ≡ ends.Memory)
+
+-- ---- inner
+
+-- The script is valid, each of its requests has an effect, and a summary is that of these effects.
+pub record SumsUp (rounds : ℕ) (summary : Summary) : Type 0 where
+  pub valid : IsValid (made_script rounds)
+  pub history : History
+  pub runs : replayed made_setup [] (made_requests rounds) ≡ Some history
+  pub summary_is : summary ≡ summary_of made_setup history
+
+-- the script is valid, and a text is its summary
+abbrev pub IsMadeLine : ℕ → List ℕ → Type 0
+IsMadeLine rounds text = IsValid (made_script rounds) × (text ≡ made_line rounds)
+
+-- the totals with those of some records more
+abbrev pub with_records : Totals → List Record → Totals
+with_records totals finished = record totals {
+  busy = totals.busy + sum_by busy_of finished;
+  events = totals.events + sum_by events_of finished;
+  records = totals.records + length finished;
+}
+
+-- those of so many requests without a record
+abbrev pub of_requests : ℕ → Totals
+of_requests n = record { busy = 0; events = 0; records = 0; requests = n }
+
+abbrev pub totals_of : History → Totals
+totals_of h = with_records (of_requests (length h)) (records made_setup h)
+
+-- A pipeline stands for a history, its records are taken, and the totals are those of the history.
+pub record Counts (h : History) (kept : State) (totals : Totals) : Type 0 where
+  pub setup : kept.setup ≡ made_setup
+  pub stands : StandsFor kept (tables made_setup h)
+  pub taken : kept.recording.finished ≡ []
+  pub totals_are : totals ≡ totals_of h
+
+-- Behind a history some requests were served: they have effects, and the totals are those of all effects.
+pub record Serves (requests : List Request) (h : History) (kept : State) (totals : Totals) : Type 0 where
+  pub history : History
+  pub counts : Counts history kept totals
+  pub replays : (more : List Request) → replayed made_setup h (requests ++ more) ≡ replayed made_setup history more

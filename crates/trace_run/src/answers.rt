@@ -1,0 +1,287 @@
+//! Answering lines one after another, whichever lines follow them.
+ghost use Rattle.std.specs.Prelude.{◌≡◌, ◌≢◌, ℕ, List, [], ◌∷◌, ◌++◌, ◌+◌, not, false, true, IfOk, IfErr, OnOk, OnErr};
+ghost use Rattle.trace_pipeline.specs.Lines.{lines_of, is_blank};
+ghost use Rattle.trace_pipeline.specs.Report.{report_from};
+ghost use Rattle.span_script.specs.Fits.{is_room};
+ghost use Rattle.trace_run.specs.Answers.{IsSpelled, Opens, Runs, AnswersAt, Goes, AnswersTo, Cuts, is_refused};
+
+use crate::lines::{first_line, is_blank};
+use crate::written::Written;
+use otel_base::memory::Memory;
+use span_pipeline::pipeline::Pipeline;
+use span_script::open_error::OpenError;
+use std::alloc::Global;
+use std::mem;
+use trace_base::discard::Discard;
+use trace_pipeline::read::{LineError, read_request, read_settings};
+use trace_pipeline::{Refusal, Signal, Told};
+
+/// Where a run stands between two lines.
+pub enum Stage {
+    /// No settings line came: each line so far is blank.
+    Opening,
+    /// The settings line came, and each request is answered.
+    Running { pipeline: Pipeline },
+    /// A line was refused, and its refusal line is the last that is written.
+    Refused,
+}
+
+/// The pipeline is given up, if there is one.
+impl Discard for Stage {
+    fn discard(self) {
+        match self {
+            Stage::Opening | Stage::Refused => {}
+            Stage::Running { pipeline } => pipeline.discard(),
+        }
+    }
+}
+
+/// What the lines so far are answered. It has to be spent.
+pub struct Answers {
+    /// What is written for them.
+    pub written: Written,
+    /// How many they are, blank ones included.
+    pub lines: u64,
+    /// Where the run stands.
+    pub stage: Stage,
+}
+
+/// What is written is dropped.
+impl Discard for Answers {
+    fn discard(self) {
+        let Answers {
+            written: _,
+            lines: _,
+            stage,
+        } = self;
+        stage.discard();
+    }
+}
+
+// Goes on to another stage.
+fn go_on(stage: &mut Stage, next: Stage)
+    ensures { stage.new ≡ next }
+{
+    mem::replace(stage, next).discard();
+}
+
+/// All that is written for an input.
+#[derive(Drop)]
+pub struct Output {
+    /// The lines, each with its line feed.
+    pub text: Vec<u8>,
+    /// Whether the last of them is a refusal line.
+    pub refused: bool,
+}
+
+impl Answers {
+    /// The answers to no line, whatever is told.
+    pub fn new(alloc: Global) -> Answers
+        ensures { (signal : Signal) → AnswersTo signal [] result }
+    {
+        Answers {
+            written: Written::new(alloc),
+            lines: 0,
+            stage: Stage::Opening,
+        }
+    }
+
+    /// Answers one line more. Behind a refused line nothing is written. `Memory` freely; what is left then answers
+    /// no lines.
+    pub fn line(&mut self, alloc: Global, signal: Signal, line: &[u8]) -> Result<(), Memory>
+        ensures { (lines : List (List ℕ)) → AnswersTo signal lines self.old
+            → OnOk result (AnswersTo signal (lines ++ line.now ∷ []) self.new) }
+    {
+        // No input has so many lines that the sum wraps.
+        let number = self.lines.checked_add(1).ok_or(Memory)?;
+        self.lines = number;
+        if is_blank(line) {
+            return Ok(());
+        }
+        match &mut self.stage {
+            Stage::Opening => {
+                let next = open(alloc, signal, &mut self.written, number, line)?;
+                go_on(&mut self.stage, next);
+                Ok(())
+            }
+            Stage::Running { pipeline } => {
+                let served = answer(alloc, signal, pipeline, &mut self.written, number, line)?;
+                if !served {
+                    go_on(&mut self.stage, Stage::Refused);
+                }
+                Ok(())
+            }
+            Stage::Refused => Ok(()),
+        }
+    }
+
+    /// Whether a line was refused.
+    pub fn is_refused(&self) -> bool
+        ensures { result ≡ is_refused self.now.stage }
+    {
+        match &self.stage {
+            Stage::Opening | Stage::Running { .. } => false,
+            Stage::Refused => true,
+        }
+    }
+
+    /// All that is written where no line follows: the end line comes last, or the refusal of an input without
+    /// a settings line. `Memory` freely.
+    pub fn end(self, alloc: Global, signal: Signal) -> Result<Output, Memory>
+        ensures { (lines : List (List ℕ)) → AnswersTo signal lines self
+            → IfOk result (λ output. report_from signal 0 lines
+            ≡ record { written = output.text.items; accepted = not output.refused }) }
+    {
+        let Answers {
+            mut written,
+            lines,
+            stage,
+        } = self;
+        match stage {
+            Stage::Opening => {
+                // No input has so many lines that the sum wraps.
+                let end = lines.checked_add(1).ok_or(Memory)?;
+                written.refuse(alloc, end, &Told::BadLine)?;
+                let text = written.text;
+                let refused = true;
+                Ok(Output { text, refused })
+            }
+            Stage::Running { pipeline } => {
+                let spans = pipeline.open_spans();
+                pipeline.discard();
+                let text = written.end(signal, spans)?;
+                let refused = false;
+                Ok(Output { text, refused })
+            }
+            Stage::Refused => {
+                let text = written.text;
+                let refused = true;
+                Ok(Output { text, refused })
+            }
+        }
+    }
+
+    /// All that is written where nothing is known of the lines that follow.
+    pub fn cut(self) -> Output
+        ensures { (signal : Signal) (lines : List (List ℕ)) → AnswersTo signal lines self
+            → Cuts signal result.refused lines result.text.items }
+    {
+        let refused = self.is_refused();
+        let Answers {
+            written,
+            lines: _,
+            stage,
+        } = self;
+        stage.discard();
+        let text = written.text;
+        Output { text, refused }
+    }
+}
+
+/// The answers to the lines of some bytes. `Memory` freely.
+pub fn answer_lines(alloc: Global, signal: Signal, bytes: &[u8]) -> Result<Answers, Memory>
+    ensures { IfOk result (λ answers. AnswersTo signal (lines_of bytes.now) answers) }
+{
+    let mut answers = Answers::new(alloc);
+    let mut rest = bytes;
+    while !rest.is_empty() && !answers.is_refused() {
+        let (line, after) = first_line(rest);
+        if answers.line(alloc, signal, line).is_err() {
+            answers.discard();
+            return Err(Memory);
+        }
+        rest = after;
+    }
+    Ok(answers)
+}
+
+/// Opens the run at the first line that isn't blank, and tells where it stands then.
+pub fn open(
+    alloc: Global,
+    signal: Signal,
+    written: &mut Written,
+    lines: u64,
+    line: &[u8],
+) -> Result<Stage, Memory>
+    ensures { (before : List (List ℕ)) (count : ℕ) → Opens signal before count written.old → lines ≡ count + 1
+        → is_blank line.now ≡ false
+        → IfOk result (λ stage. AnswersAt signal stage (before ++ line.now ∷ []) lines written.new) }
+{
+    let settings = match spelled(read_settings(alloc, line))? {
+        Ok(settings) => settings,
+        Err(told) => {
+            written.refuse(alloc, lines, &told)?;
+            return Ok(Stage::Refused);
+        }
+    };
+    match Pipeline::open(alloc, settings) {
+        Ok(pipeline) => Ok(Stage::Running { pipeline }),
+        Err(OpenError::Directive { counting, piece }) => {
+            written.refuse(alloc, lines, &Told::Directive { counting, piece })?;
+            Ok(Stage::Refused)
+        }
+        Err(OpenError::Memory) => Err(Memory),
+    }
+}
+
+/// Answers the request on a line, and tells whether it was served.
+pub fn answer(
+    alloc: Global,
+    signal: Signal,
+    pipeline: &mut Pipeline,
+    written: &mut Written,
+    lines: u64,
+    line: &[u8],
+) -> Result<bool, Memory>
+    ensures { (before : List (List ℕ)) (count : ℕ) → Runs signal before count pipeline.old written.old
+        → lines ≡ count + 1 → is_blank line.now ≡ false
+        → IfOk result (λ served. Goes signal served (before ++ line.now ∷ []) lines pipeline.new written.new) }
+{
+    let request = match spelled(read_request(alloc, line))? {
+        Ok(request) => request,
+        Err(told) => {
+            written.refuse(alloc, lines, &told)?;
+            return Ok(false);
+        }
+    };
+    match pipeline.step(request) {
+        Ok(reply) => {
+            written.answer(alloc, signal, lines, &reply, pipeline)?;
+            Ok(true)
+        }
+        Err(refusal) => {
+            let told = told_of(refusal)?;
+            written.refuse(alloc, lines, &told)?;
+            Ok(false)
+        }
+    }
+}
+
+// What a refusal line tells of a refusal. Want of memory has no such line.
+fn told_of(refusal: Refusal) -> Result<Told, Memory>
+    ensures same { IfOk result (λ told. told ≡ Told.Step refusal) }
+    ensures other { OnOk result (is_room refusal ≡ false) }
+    ensures memory { OnErr result (is_room refusal ≡ true) }
+{
+    match refusal {
+        Refusal::Memory => Err(Memory),
+        Refusal::BadMoment { .. }
+        | Refusal::UnknownName { .. }
+        | Refusal::InUse
+        | Refusal::WrongLane { .. }
+        | Refusal::Full { .. }
+        | Refusal::Directive { .. } => Ok(Told::Step { refusal }),
+    }
+}
+
+// What a line spells, or what its refusal line tells. Want of memory has no such line.
+fn spelled<T: Drop>(read: Result<T, LineError>) -> Result<Result<T, Told>, Memory>
+    ensures same { IfOk result (λ spelled. IsSpelled read spelled) }
+    ensures told { IfOk result (λ spelled. IfErr spelled (λ why. why ≢ Told.Step Refusal.Memory)) }
+{
+    match read {
+        Ok(value) => Ok(Ok(value)),
+        Err(LineError::BadLine) => Ok(Err(Told::BadLine)),
+        Err(LineError::Memory) => Err(Memory),
+    }
+}

@@ -1,0 +1,23 @@
+//! Runs scripts of span calls from a source to a sink: it reads a settings line and requests, and writes replies and
+//! records, or measures.
+//!
+//! `top` is what the program carries out; sources and sinks in memory stand in for its streams in tests.
+#![tactic(auto)]
+
+pub mod answers;
+pub mod failed;
+mod input;
+mod lines;
+mod make;
+pub mod script;
+pub mod sink;
+pub mod source;
+pub mod status;
+pub mod top;
+pub mod turns;
+pub mod written;
+
+pub use sink::{MemSink, Sink, StdSink};
+pub use source::{MemSource, Source, StdSource};
+pub use status::Status;
+pub use turns::Turn;

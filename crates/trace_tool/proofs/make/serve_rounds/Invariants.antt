@@ -1,8 +1,0 @@
--- The rounds so far are served.
-use Rattle.trace_pipeline.specs.Generated.{rounds}
-use Rattle.trace_tool.specs.Making.{Counts, Serves}
-use Rattle.trace_tool.proofs.make.serve_rounds.Given as goal
-use Rattle.std.proofs.Common.{[]}
-
-abbrev pub invariant-loop-i : goal.invariant-loop-i
-invariant-loop-i l = Counts [] l.initial.pipeline l.initial.totals → Serves (rounds 0 l.i) [] l.pipeline l.totals
