@@ -69,7 +69,7 @@ fn make<S: Stack>(
     };
     let values = words::values(alloc, words)?;
     if !scene.admits(alloc, site) {
-        handles.put(name, Slot::of(Span::new_disabled(site)));
+        handles.put(name, Slot::of(Span::none()));
         return told::done(alloc, false);
     }
     let made = made(scene, handles, at, parent, site, &values)?;
