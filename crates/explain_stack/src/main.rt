@@ -25,21 +25,20 @@ fn main(rt: HostRuntime) -> io::Result<()> {
         let line = line?;
         match line.as_str().strip_prefix("stack ") {
             Some(words) => {
-                let told = task.enter(|cx| script::run(
-                    rt.alloc(),
-                    stack.as_str(),
-                    lines.as_slice(),
-                    cx,
-                ));
-                let told = told.map_err(|_| ErrorKind::OutOfMemory)?;
-                print!(rt; "{told}stack {words}\n")?;
+                tell(&rt, &task, stack.as_str(), lines.as_slice())?;
+                print!(rt; "stack {words}\n")?;
                 stack = String::from_str(rt.alloc(), words)?;
                 lines = Vec::new(rt.alloc());
             }
             None => lines.push(line)?,
         }
     }
-    let told = task.enter(|cx| script::run(rt.alloc(), stack.as_str(), lines.as_slice(), cx));
+    tell(&rt, &task, stack.as_str(), lines.as_slice())
+}
+
+// Prints what a script over a stack comes to.
+fn tell(rt: &HostRuntime, task: &MockTask, stack: &str, lines: &[String]) -> io::Result<()> {
+    let told = task.enter(|cx| script::run(rt.alloc(), stack, lines, cx));
     let told = told.map_err(|_| ErrorKind::OutOfMemory)?;
     print!(rt; "{told}")?;
     Ok(())

@@ -209,10 +209,10 @@ fn records<S: Stack>(alloc: Global, stack: &mut S) -> Result<String, Memory> {
         let Some(record) = stack.take() else {
             break;
         };
-        told.push_str(told::record(alloc, &record)?.as_str())?;
+        told::add(&mut told, told::record(alloc, &record)?)?;
     }
     if let Some((reserved, finished)) = stack.counts() {
-        told.push_str(format!(in alloc; "  reserved {reserved}, finished {finished}\n")?.as_str())?;
+        told::add(&mut told, format!(in alloc; "  reserved {reserved}, finished {finished}\n")?)?;
     }
     Ok(told)
 }

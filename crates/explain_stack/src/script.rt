@@ -27,29 +27,58 @@ pub fn run(
     cx: &mut Context<'_>,
 ) -> Result<String, Memory> {
     let (kind, words) = stack.split_once(' ').unwrap_or((stack, ""));
-    let filter = EnvFilter::new(alloc, words)?;
-    let layer = OpenTelemetryLayer::new(alloc, Recorder::new(alloc));
-    let registry = Registry::new(alloc);
     match kind {
-        "layer" => run_on(alloc, registry.with(layer), lines, cx),
-        "passive" => {
-            let layer = layer.with_context_activation(false);
-            run_on(alloc, registry.with(layer), lines, cx)
+        "layer" => {
+            let layer = OpenTelemetryLayer::new(alloc, Recorder::new(alloc));
+            run_on(alloc, Registry::new(alloc).with(layer), lines, cx)
         }
-        "counting" => {
-            let layer = layer.with_counting_event_filter(filter);
-            run_on(alloc, registry.with(layer), lines, cx)
+        "passive" => {
+            let layer = OpenTelemetryLayer::new(
+                alloc,
+                Recorder::new(alloc),
+            ).with_context_activation(false);
+            run_on(alloc, Registry::new(alloc).with(layer), lines, cx)
         }
         "counted" => {
-            let layer = layer.with_tracer(Tally::new(alloc));
-            run_on(alloc, registry.with(layer), lines, cx)
+            let layer = OpenTelemetryLayer::new(alloc, Recorder::new(alloc)).with_tracer(Tally::new(
+                alloc,
+            ));
+            run_on(alloc, Registry::new(alloc).with(layer), lines, cx)
         }
-        "filtered" => run_on(alloc, registry.with(layer).with(filter), lines, cx),
-        _ => {
-            layer.discard();
-            run_on(alloc, registry, lines, cx)
-        }
+        "counting" => run_counting(alloc, words, lines, cx),
+        "filtered" => run_filtered(alloc, words, lines, cx),
+        _ => run_on(alloc, Registry::new(alloc), lines, cx),
     }
+}
+
+// Runs them under a layer that counts the events which the filter of some words lets through.
+fn run_counting(
+    alloc: Global,
+    words: &str,
+    lines: &[String],
+    cx: &mut Context<'_>,
+) -> Result<String, Memory> {
+    let filter = EnvFilter::new(alloc, words)?;
+    let layer = OpenTelemetryLayer::new(alloc, Recorder::new(alloc));
+    let layer = layer.with_counting_event_filter(filter);
+    run_on(alloc, Registry::new(alloc).with(layer), lines, cx)
+}
+
+// Runs them under the filter of some words, over the layer.
+fn run_filtered(
+    alloc: Global,
+    words: &str,
+    lines: &[String],
+    cx: &mut Context<'_>,
+) -> Result<String, Memory> {
+    let filter = EnvFilter::new(alloc, words)?;
+    let layer = OpenTelemetryLayer::new(alloc, Recorder::new(alloc));
+    run_on(
+        alloc,
+        Registry::new(alloc).with(layer).with(filter),
+        lines,
+        cx,
+    )
 }
 
 // Runs them on a stack that knows no span.

@@ -12,35 +12,49 @@ use std::alloc::Global;
 
 /// A record: ids, times, and behind them its status, links, events and attributes, each on a line of its own.
 pub fn record(alloc: Global, record: &Record) -> Result<String, Memory> {
+    let mut told = head(alloc, record)?;
+    add(&mut told, status(alloc, &record.status)?)?;
+    add_links(alloc, &mut told, record)?;
+    add_events(alloc, &mut told, record)?;
+    add_attributes(alloc, &mut told, record)?;
+    Ok(told)
+}
+
+fn head(alloc: Global, record: &Record) -> Result<String, Memory> {
     let (id, trace, parent) = (record.context.span, record.context.trace, record.parent);
     let (name, start, end) = (record.name.as_str(), record.start, record.end);
-    let mut told = format!(in alloc;
-        "  record {id} `{name}` in {trace} under {parent}, {start} to {end}\n"
-    )?;
-    told.push_str(status(alloc, &record.status)?.as_str())?;
-    for link in record.links.as_slice() {
-        let (trace, span) = (link.context.trace, link.context.span);
-        told.push_str(format!(in alloc; "    link {trace} {span}\n")?.as_str())?;
-    }
-    for event in record.events.as_slice() {
-        let (name, time) = (event.name.as_str(), event.time);
-        told.push_str(format!(in alloc; "    event `{name}` at {time}\n")?.as_str())?;
-    }
-    for pair in record.attributes.as_slice() {
-        told.push_str(attribute(alloc, pair)?.as_str())?;
-    }
-    Ok(told)
+    Ok(format!(in alloc; "  record {id} `{name}` in {trace} under {parent}, {start} to {end}\n")?)
 }
 
 fn status(alloc: Global, status: &Status) -> Result<String, Memory> {
     match status {
         Status::Unset => Ok(String::new(alloc)),
-        Status::Error { description } => {
-            let description = description.as_str();
-            Ok(format!(in alloc; "    error `{description}`\n")?)
-        }
+        Status::Error { description } => quoted(alloc, "error", description.as_str()),
         Status::Ok => Ok(String::from_str(alloc, "    ok\n")?),
     }
+}
+
+fn add_links(alloc: Global, told: &mut String, record: &Record) -> Result<(), Memory> {
+    for link in record.links.as_slice() {
+        let (trace, span) = (link.context.trace, link.context.span);
+        add(told, format!(in alloc; "    link {trace} {span}\n")?)?;
+    }
+    Ok(())
+}
+
+fn add_events(alloc: Global, told: &mut String, record: &Record) -> Result<(), Memory> {
+    for event in record.events.as_slice() {
+        let (name, time) = (event.name.as_str(), event.time);
+        add(told, format!(in alloc; "    event `{name}` at {time}\n")?)?;
+    }
+    Ok(())
+}
+
+fn add_attributes(alloc: Global, told: &mut String, record: &Record) -> Result<(), Memory> {
+    for pair in record.attributes.as_slice() {
+        add(told, attribute(alloc, pair)?)?;
+    }
+    Ok(())
 }
 
 fn attribute(alloc: Global, pair: &KeyValue) -> Result<String, Memory> {
@@ -48,15 +62,22 @@ fn attribute(alloc: Global, pair: &KeyValue) -> Result<String, Memory> {
     match &pair.value {
         OtelValue::Bool(value) => Ok(format!(in alloc; "    {key} {value}\n")?),
         OtelValue::I64(value) => Ok(format!(in alloc; "    {key} {value}\n")?),
-        OtelValue::Str(value) => {
-            let value = value.as_str();
-            Ok(format!(in alloc; "    {key} `{value}`\n")?)
-        }
+        OtelValue::Str(value) => quoted(alloc, key, value.as_str()),
         OtelValue::List(values) => {
             let count = values.as_slice().len();
             Ok(format!(in alloc; "    {key} of {count} texts\n")?)
         }
     }
+}
+
+fn quoted(alloc: Global, key: &str, value: &str) -> Result<String, Memory> {
+    Ok(format!(in alloc; "    {key} `{value}`\n")?)
+}
+
+/// Adds a text behind another.
+pub fn add(told: &mut String, text: String) -> Result<(), Memory> {
+    told.push_str(text.as_str())?;
+    Ok(())
 }
 
 /// A line that is no call, or one that can't be made now.
