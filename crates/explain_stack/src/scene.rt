@@ -212,7 +212,10 @@ fn records<S: Stack>(alloc: Global, stack: &mut S) -> Result<String, Memory> {
         told::add(&mut told, told::record(alloc, &record)?)?;
     }
     if let Some((reserved, finished)) = stack.counts() {
-        told::add(&mut told, format!(in alloc; "  reserved {reserved}, finished {finished}\n")?)?;
+        told::add(
+            &mut told,
+            format!(in alloc; "  reserved {reserved}, finished {finished}\n")?,
+        )?;
     }
     Ok(told)
 }

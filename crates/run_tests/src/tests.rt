@@ -14,11 +14,6 @@ mod steps;
 mod whole_runs;
 mod words;
 
-use trace_run::sink::{MemSink, Sink, StdSink};
-use trace_run::source::{MemSource, Source, StdSource};
-use trace_run::status::Status;
-use trace_run::top::top;
-use trace_run::turns::Turn;
 use event_runs::EVENT_RUNS;
 use extension_runs::EXTENSION_RUNS;
 use field_runs::FIELD_RUNS;
@@ -33,6 +28,11 @@ use std::sync::Wait;
 use std::test::Fail;
 use std::thread::Threads;
 use steps::{STEPS, stepped};
+use trace_run::sink::{MemSink, Sink, StdSink};
+use trace_run::source::{MemSource, Source, StdSource};
+use trace_run::status::Status;
+use trace_run::top::top;
+use trace_run::turns::Turn;
 use whole_runs::{WHOLE_RUNS, at_once};
 
 const SETTINGS: &str =

@@ -1,11 +1,11 @@
 //! Reads and writes that fail, one after another, and inputs that are too long.
-use trace_run::status::Status;
 use crate::tests::{ANSWERS, FIRST, SETTINGS, ended, ran, script};
-use trace_run::turns::Turn;
 use std::sync::Wait;
 use std::test::Fail;
 use std::thread::Threads;
 use trace_pipeline::limits::MAX_INPUT;
+use trace_run::status::Status;
+use trace_run::turns::Turn;
 
 // How many bytes the first lines have.
 fn size_of_lines(text: &str, lines: usize) -> usize {

@@ -1,10 +1,10 @@
 //! Scripts whose refused requests don't end them, so that what a refused step leaves shows in the steps behind it.
-use trace_run::answers::{Stage, answer, open};
-use trace_run::written::Written;
 use span_pipeline::Pipeline;
 use std::test::Fail;
 use trace_base::discard::Discard;
 use trace_pipeline::Signal;
+use trace_run::answers::{Stage, answer, open};
+use trace_run::written::Written;
 
 /// Scripts, written as the runs are, but that `~` ends them. The request `?` asks how many spans are open.
 pub const STEPS: &str = r#"

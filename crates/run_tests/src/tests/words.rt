@@ -1,11 +1,11 @@
 //! What the program is asked for by words that need no input.
-use trace_run::sink::SureSink;
-use trace_run::source::SureSource;
 use crate::tests::ended;
-use trace_run::top::top;
 use std::sync::Wait;
 use std::test::Fail;
 use std::thread::Threads;
+use trace_run::sink::SureSink;
+use trace_run::source::SureSource;
+use trace_run::top::top;
 
 // Words that ask for nothing, with a stroke between them.
 const UNKNOWN: &str =
