@@ -1,10 +1,11 @@
 //! A server whose calls are traced.
-ghost use Rattle.std.specs.Prelude.{◌≡◌, ◌<◌, ◌^◌, ◌+◌, ℕ, length, IfOk, OnOk, OnErr, Some};
+ghost use Rattle.std.specs.Prelude.{◌≡◌, ◌<◌, ◌^◌, ◌+◌, ℕ, length, IsOk, IfOk, OnOk, OnErr, Ok, Some};
 ghost use Rattle.span_registry.specs.Registering.{no_spans};
 ghost use Rattle.span_handles.specs.Worlds.{Has, Replaced, spans_in};
+ghost use Rattle.span_handles.specs.Handles.{no_handle};
 ghost use Rattle.span_handles.specs.Knowing.{KeepsKnown};
 ghost use Rattle.example_calls.specs.Closing.{spans_of, IsAsBefore, IsOfNewest};
-ghost use Rattle.example_calls.specs.Order.{InOrder, IsHeld, IsApart, Leaves, IsHeldBack, IsMade, Tells, IsTold};
+ghost use Rattle.example_calls.specs.Order.{InOrder, IsHeld, IsApart, Leaves, IsHeldBack, IsMade, IsOfSite, Tells, IsTold};
 
 use crate::sites::{self, Sites};
 use otel_base::memory::Memory;
@@ -157,10 +158,10 @@ impl<S: Subscriber> Server<S> {
         ensures order { InOrder S.spans S.kept S.is_whole (at + 10) self.new }
         ensures leaves { Leaves S.spans self.old self.new }
         ensures held { IfOk result (IsHeld S.spans self.new) }
-        ensures site { IfOk result (λ span. span.site ≡ Some site) }
+        ensures site { IfOk result (IsOfSite S.hint S.enables site self.old) }
         ensures apart { IfOk result (λ span. IsApart S.spans self.old.world span.held) }
         ensures made { IfOk result (IsMade S.hint S.enables S.spans S.does at site values.now self.old self.new) }
-        ensures refused { IsHeldBack S.hint S.enables site self.old self.new }
+        ensures refused { IsHeldBack S.hint S.enables site self.old self.new (result ≡ Ok no_handle) }
         ensures newest { IfOk result
             (λ span. IsOfNewest (spans_of S.spans self.old) (spans_of S.spans self.new) span.held) }
         ensures none_made { OnErr result (IsAsBefore S.spans self.old self.new) }
@@ -168,7 +169,7 @@ impl<S: Subscriber> Server<S> {
         if self.world.admits(&self.lane, site) {
             Span::new(&mut self.world, &self.lane, at, site, values)
         } else {
-            Ok(Span::new_disabled(site))
+            Ok(Span::none())
         }
     }
 
@@ -179,7 +180,7 @@ impl<S: Subscriber> Server<S> {
         ensures order { InOrder S.spans S.kept S.is_whole at self.new }
         ensures leaves { Leaves S.spans self.old self.new }
         ensures told { OnOk result (IsTold S.hint S.enables S.does at site values.now self.old self.new) }
-        ensures refused { IsHeldBack S.hint S.enables site self.old self.new }
+        ensures refused { IsHeldBack S.hint S.enables site self.old self.new (IsOk result) }
         ensures as_before { IsAsBefore S.spans self.old self.new }
     {
         if !self.world.admits(&self.lane, site) {
