@@ -7,7 +7,7 @@ ghost use Rattle.span_handles.specs.Knowing.{KeepsKnown};
 ghost use Rattle.example_calls.specs.Closing.{spans_of, IsAsBefore, IsOfNewest};
 ghost use Rattle.example_calls.specs.Order.{InOrder, IsHeld, IsApart, Leaves, IsHeldBack, IsMade, IsOfSite, Tells, IsTold};
 
-use crate::sites::{self, Sites};
+use crate::sites::{self, Request, Sites};
 use otel_base::memory::Memory;
 use otel_base::stack::ContextStack;
 use span_handles::span::Span;
@@ -93,19 +93,13 @@ impl<S: Subscriber> Server<S> {
     {
         let request = sites::read(alloc, line)?;
         let span = self.span(at, self.sites.request, &request.given)?;
-        let told = self.inside(at, &span, &request.parsed, &request.answered);
+        let told = self.inside(at, &span, &request);
         span.close(&mut self.world, at + 60);
         told
     }
 
     // What the server does inside the span of a request.
-    fn inside(
-        &mut self,
-        at: u64,
-        span: &Span,
-        parsed: &ValueSet,
-        answered: &ValueSet,
-    ) -> Result<(), Memory>
+    fn inside(&mut self, at: u64, span: &Span, request: &Request) -> Result<(), Memory>
         requires order { InOrder S.spans S.kept S.is_whole (at + 10) self.old }
         requires early { at < 2 ^ 62 }
         requires held { IsHeld S.spans self.old span.now }
@@ -115,7 +109,7 @@ impl<S: Subscriber> Server<S> {
     {
         match span.enter(&mut self.world, &mut self.lane, at + 10) {
             Ok(guard) => {
-                let told = self.answer(at, parsed, answered);
+                let told = self.answer(at, request);
                 guard.exit(&mut self.world, &mut self.lane, at + 50);
                 told
             }
@@ -125,16 +119,16 @@ impl<S: Subscriber> Server<S> {
 
     // What is told there.
     #[tactic(auto, using(crate::proofs::Moves::later))]
-    fn answer(&mut self, at: u64, parsed: &ValueSet, answered: &ValueSet) -> Result<(), Memory>
+    fn answer(&mut self, at: u64, request: &Request) -> Result<(), Memory>
         requires order { InOrder S.spans S.kept S.is_whole (at + 20) self.old }
         requires early { at < 2 ^ 62 }
         ensures order { InOrder S.spans S.kept S.is_whole (at + 50) self.new }
         ensures leaves { Leaves S.spans self.old self.new }
         ensures as_before { IsAsBefore S.spans self.old self.new }
     {
-        self.event(at + 20, self.sites.parsed, parsed)?;
-        self.query(at + 30, parsed)?;
-        self.event(at + 40, self.sites.answered, answered)
+        self.event(at + 20, self.sites.parsed, &request.parsed)?;
+        self.query(at + 30, &request.queried)?;
+        self.event(at + 40, self.sites.answered, &request.answered)
     }
 
     // A query, in a span of its own.
