@@ -1,6 +1,6 @@
 -- An event keeps spans, or there is room alone.
-use Rattle.std.proofs.Common.{ap, refl}
-use Rattle.trace_base.specs.Spans.{Spans, span_at}
+use Rattle.std.proofs.Common.{refl}
+use Rattle.example_calls.proofs.Closing.{unchanged}
 use Rattle.example_calls.proofs.Moves.{told, told_known, told_spans}
 use Rattle.example_calls.proofs.server.Server.event.Goals as goal
 
@@ -15,4 +15,4 @@ returns-clause-leaves g c = record {
 }
 
 pub returns-clause-as_before : goal.returns-clause-as_before
-returns-clause-as_before g c = λ id. ap (λ (v : Spans). span_at v.made id) (told_spans g.S.Subscriber.spans g.S.Subscriber.attaches g.S.Subscriber.kept g.S.Subscriber.is_whole g.S.Subscriber.does g.met.S.Subscriber.allowed g.met.S.Subscriber.shows g.met.S.Subscriber.lanes g.met.S.Subscriber.keeps_attaches g.met.S.Subscriber.keeps_whole g.S.Subscriber.same g.met.S.Subscriber.same_spans g.met.S.Subscriber.same_attaches g.met.S.Subscriber.same_kept g.met.S.Subscriber.same_whole c.args.self.now.dispatch c.args.self.now.sites c.args.self.now.world c.tell.new.world c.args.self.now.lane c.args.at c.args.site c.args.values.now c.tell.result c.tell.ensures.did c.tell.ensures.memory_leaves)
+returns-clause-as_before g c = unchanged _ _ (told_spans g.S.Subscriber.spans g.S.Subscriber.attaches g.S.Subscriber.kept g.S.Subscriber.is_whole g.S.Subscriber.does g.met.S.Subscriber.allowed g.met.S.Subscriber.shows g.met.S.Subscriber.lanes g.met.S.Subscriber.keeps_attaches g.met.S.Subscriber.keeps_whole g.S.Subscriber.same g.met.S.Subscriber.same_spans g.met.S.Subscriber.same_attaches g.met.S.Subscriber.same_kept g.met.S.Subscriber.same_whole c.args.self.now.dispatch c.args.self.now.sites c.args.self.now.world c.tell.new.world c.args.self.now.lane c.args.at c.args.site c.args.values.now c.tell.result c.tell.ensures.did c.tell.ensures.memory_leaves)

@@ -1,13 +1,12 @@
 -- An entry, what is done inside, and the exit.
 use Rattle.std.proofs.Common.{◌≡◌, ◌+◌, ℕ, ◌∙◌, arith, ap, sym, subst}
-use Rattle.trace_base.specs.Spans.{Spans, span_at}
 use Rattle.span_handles.specs.Worlds.{spans_in}
 use Rattle.example_calls.specs.declared.server.Server.{Server}
 use Rattle.span_handles.specs.Handles.{HasOn, IsOf}
 use Rattle.span_handles.specs.Entries.{Opened}
 use Rattle.trace_base.specs.Conditions.{MayExit}
 use Rattle.trace_base.specs.Contexts.{AreAttached}
-use Rattle.example_calls.proofs.Closing.{exits, IsExitedOn}
+use Rattle.example_calls.proofs.Closing.{exits, unchanged, IsExitedOn}
 use Rattle.example_calls.proofs.Moves.{later, still_on, own_after, may_after, entered_on, exited_on, refused_on, entered_spans, exited_spans, refused_spans}
 use Rattle.example_calls.proofs.server.Server.inside.Goals as goal
 
@@ -51,4 +50,4 @@ returns-in-Ok-clause-as_before g c =
     (subst (λ (l : ℕ). IsExitedOn held l y z) same (subst (λ (o : Opened). IsExitedOn o.span.held c.answer-told.new.self.lane.id y z) c.in-Ok.ensures.value exit))
 
 pub returns-in-Err-clause-as_before : goal.returns-in-Err-clause-as_before
-returns-in-Err-clause-as_before g c = λ id. ap (λ (v : Spans). span_at v.made id) (refused_spans g.S.Subscriber.spans g.S.Subscriber.attaches g.S.Subscriber.kept g.S.Subscriber.is_whole g.S.Subscriber.does g.met.S.Subscriber.allowed g.met.S.Subscriber.shows g.met.S.Subscriber.lanes g.met.S.Subscriber.keeps_attaches g.met.S.Subscriber.keeps_whole g.S.Subscriber.same g.met.S.Subscriber.same_spans g.met.S.Subscriber.same_attaches g.met.S.Subscriber.same_kept g.met.S.Subscriber.same_whole c.args.self.now.dispatch c.args.self.now.sites c.args.self.now.world c.enter.new.world c.args.span.now.held c.requires.held.own c.in-Err.ensures.leaves)
+returns-in-Err-clause-as_before g c = unchanged _ _ (refused_spans g.S.Subscriber.spans g.S.Subscriber.attaches g.S.Subscriber.kept g.S.Subscriber.is_whole g.S.Subscriber.does g.met.S.Subscriber.allowed g.met.S.Subscriber.shows g.met.S.Subscriber.lanes g.met.S.Subscriber.keeps_attaches g.met.S.Subscriber.keeps_whole g.S.Subscriber.same g.met.S.Subscriber.same_spans g.met.S.Subscriber.same_attaches g.met.S.Subscriber.same_kept g.met.S.Subscriber.same_whole c.args.self.now.dispatch c.args.self.now.sites c.args.self.now.world c.enter.new.world c.args.span.now.held c.requires.held.own c.in-Err.ensures.leaves)
