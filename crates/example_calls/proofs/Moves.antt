@@ -308,3 +308,13 @@ pub told_known : {S : Type 0} (spans : S → Spans) (does : S → SubscriberCall
     → OnErr result (Replaced same old new dispatch) → KeepsKnown spans old new
 told_known spans does sound allowed shows same same_spans old new dispatch lane at site values (Ok done) did left = keeps_call spans does sound allowed shows old new dispatch (Event lane at parent.Current site did.callsite values) did.did tt
 told_known spans does sound allowed shows same same_spans old new dispatch lane at site values (Err memory) did left = keeps_same spans same same_spans old new dispatch left
+
+-- what is told to the subscriber that serves a lane is told to the lane's default
+pub told_to : {S : Type 0} (does : S → SubscriberCall → S → Type 0) (same : S → S → Type 0) (old new : Worlds S) (given dispatch : ℕ) (lane : Lane) (at site : ℕ) (values : ValueSet) (result : Result (Unit {0}) Memory)
+    → Some given ≡ dispatch_on lane.default old.global → lane.default ≡ Some dispatch → OnOk result (Tells does lane given at site values old new) → OnErr result (Replaced same old new given)
+    → OnOk result (Tells does lane dispatch at site values old new) × OnErr result (Replaced same old new dispatch)
+told_to {S} does same old new given dispatch lane at site values result serves own did left =
+    let it : given ≡ dispatch = cc (serves ∙ ap (λ (o : Option ℕ). dispatch_on o old.global) own) in (
+      subst (λ (d : ℕ). OnOk result (Tells does lane d at site values old new)) it did,
+      subst (λ (d : ℕ). OnErr result (Replaced same old new d)) it left,
+    )
