@@ -1,15 +1,23 @@
 -- What is made is closed, and what is entered is exited.
-use Rattle.std.proofs.Common.{◌≡◌, ℕ, ◌+◌, ◌-◌, ◌<◌, List, [], ◌∷◌, ◌++◌, length, Option, Some, None, refl, sym, ap, ◌∙◌, subst, arith, inl, inr}
-use Rattle.std.specs.Prelude.{◌==◌}
+use Rattle.std.proofs.Common.{◌≡◌, ℕ, ◌+◌, ◌-◌, ◌<◌, List, [], ◌∷◌, ◌++◌, length, Option, Some, None, Bool, true, refl, sym, ap, ◌∙◌, subst, arith, inl, inr}
+use Rattle.std.specs.Prelude.{◌==◌, if◌then◌else◌}
+use Rattle.std.specs.List.{list_any}
 use Rattle.std.proofs.lemmas.Bool.{cases_eq, cases_order, cases_Bool, cond-true, cond-false, eq-eqb, ne_eqb}
 use Rattle.std.proofs.lemmas.List.{length_push, get_or_past, get_or_push, get_or_append_left, get_or-set_same, get_or-set_other}
-use Rattle.trace_base.specs.Spans.{Span, Spans, no_span, span_at, entries_on, is_in, times_in, next_of, held, released, less_held, held_by_child}
-use Rattle.trace_base.specs.Calls.{entered, exited}
-use Rattle.trace_base.proofs.Entering.{count_push, counted_if_any, none_counted, length_held, made_if_held, with_same}
+use Rattle.trace_base.specs.Spans.{Span, Spans, no_span, span_at, entries_on, is_in, times_in, without_last, next_of, held, released, less_held, held_by_child}
+use Rattle.trace_base.specs.Calls.{with_span, entered, exited}
+use Rattle.trace_base.proofs.Entering.{count_push, counted_if_any, any_if_counted, none_counted, length_held, made_if_held, with_same, with_other}
 use Rattle.trace_base.proofs.Holding.{less_last, less_more}
 use Rattle.span_handles.specs.Worlds.{Released, all_released, releases}
 use Rattle.span_handles.specs.Handles.{Held}
 use Rattle.example_calls.specs.Closing.{AreAsBefore, IsNewest, IsOfNewest}
+
+-- nothing has changed, and what was kept stays kept
+pub unchanged : (x y : Spans) → y ≡ x → AreAsBefore x y
+unchanged x y is = record { spans = λ id. ap (λ (v : Spans). span_at v.made id) is; entries = λ lane. ap (λ (v : Spans). entries_on lane v.lanes) is }
+
+pub on : (x y z : Spans) → AreAsBefore x y → AreAsBefore y z → AreAsBefore x z
+on x y z first later = record { spans = λ id. later.spans id ∙ first.spans id; entries = λ lane. later.entries lane ∙ first.entries lane }
 
 -- a span that has a hold, and another one, where one hold less is written
 at_released : (made : List Span) (id q : ℕ) → 0 < (span_at made id).holds → q ≡ id → span_at (released made id) q ≡ less_held (span_at made id)
@@ -62,7 +70,7 @@ beside_newest made new q other = elim (cases_order q (length made)) [
 -- the newest span is closed, and then its parent gives back the hold of its child
 module _ (x y z : Spans) (id : ℕ) (newest : IsNewest x y id) (chain : Released (Some id) y z) where
   at_newest : span_at y.made id ≡ record { holds = 1; parent = newest.above; site = newest.site }
-  at_newest = newest.made id ∙ get_or_push (held_by_child x.made newest.above) (record { holds = 1; parent = newest.above; site = newest.site }) no_span id (length_held x.made newest.above ∙ sym newest.is)
+  at_newest = newest.made.spans id ∙ get_or_push (held_by_child x.made newest.above) (record { holds = 1; parent = newest.above; site = newest.site }) no_span id (length_held x.made newest.above ∙ sym newest.is)
 
   last : (span_at y.made id).holds ≡ 1
   last = ap (λ (s : Span). s.holds) at_newest
@@ -84,10 +92,10 @@ module _ (x y z : Spans) (id : ℕ) (newest : IsNewest x y id) (chain : Released
     | inr other ↦ (
         let long = length_held x.made newest.above in
         let is = newest.is in
-        beside_released y.made id q other ∙ newest.made q ∙ beside_newest (held_by_child x.made newest.above) (record { holds = 1; parent = newest.above; site = newest.site }) q (λ e. other (omega (arith, e, long, is))))
+        beside_released y.made id q other ∙ newest.made.spans q ∙ beside_newest (held_by_child x.made newest.above) (record { holds = 1; parent = newest.above; site = newest.site }) q (λ e. other (omega (arith, e, long, is))))
   ]
 
-under : (x y z : Spans) (id : ℕ) (newest : IsNewest x y id) → Released (Some id) y z → (above : Option ℕ) → newest.above ≡ above → AreAsBefore x z
+under : (x y z : Spans) (id : ℕ) (newest : IsNewest x y id) → Released (Some id) y z → (above : Option ℕ) → newest.above ≡ above → (q : ℕ) → span_at z.made q ≡ span_at x.made q
 under x y z id newest chain None is q =
     let ended = ends newest.above (record y { made = released y.made id }) z (rest x y z id newest chain) is in
     ap (λ (w : Spans). span_at w.made q) ended ∙ without x y z id newest chain q ∙ ap (λ (o : Option ℕ). span_at (held_by_child x.made o) q) is
@@ -103,13 +111,13 @@ under x y z id newest chain (Some p) is q =
 
 -- it is the newest after calls that leave spans as they were
 pub stays_newest : (h : Held) (x w y : Spans) → IsOfNewest x w h → AreAsBefore w y → IsOfNewest x y h
-stays_newest None x w y newest same = λ q. same q ∙ newest q
+stays_newest None x w y newest same = on x w y newest same
 stays_newest (Some h) x w y newest same = record {
   above = newest.above;
   site = newest.site;
   is = newest.is;
   live = newest.live;
-  made = λ q. same q ∙ newest.made q;
+  made = on (with_span x newest.above newest.site) w y newest.made same;
 }
 
 -- what the close of a handle makes
@@ -117,9 +125,17 @@ abbrev pub IsReleasedOn : Held → Spans → Spans → Type 0
 IsReleasedOn None y z = z ≡ y
 IsReleasedOn (Some h) y z = Released (Some h.1) y z
 
+-- a chain of closes leaves entries as they are
+same_lanes : (next : Option ℕ) (x y : Spans) → Released next x y → y.lanes ≡ x.lanes
+same_lanes _ _ _ (all_released x) = refl
+same_lanes _ _ _ (releases id at x y own rest) = same_lanes (next_of x.made id) (record x { made = released x.made id }) y rest
+
 pub closes : (h : Held) (x y z : Spans) → IsOfNewest x y h → IsReleasedOn h y z → AreAsBefore x z
-closes None x y z newest did q = ap (λ (v : Spans). span_at v.made q) did ∙ newest q
-closes (Some h) x y z newest did q = under x y z h.1 newest did newest.above refl q
+closes None x y z newest did = on x y z newest (unchanged y z did)
+closes (Some h) x y z newest did = record {
+  spans = under x y z h.1 newest did newest.above refl;
+  entries = λ lane. ap (entries_on lane) (same_lanes (Some h.1) y z did) ∙ newest.made.entries lane;
+}
 
 -- an entry is exited
 abbrev pub IsEnteredOn : Held → ℕ → Spans → Spans → Type 0
@@ -134,7 +150,7 @@ abbrev pub IsLiveOn : Held → Spans → Type 0
 IsLiveOn None x = Unit {0}
 IsLiveOn (Some h) x = 0 < (span_at x.made h.1).holds
 
-both : (x y : Spans) (id lane : ℕ) → 0 < (span_at x.made id).holds → AreAsBefore (entered x id lane) y → entries_on lane y.lanes ≡ entries_on lane x.lanes ++ id ∷ [] → AreAsBefore x (exited y id lane)
+both : (x y : Spans) (id lane : ℕ) → 0 < (span_at x.made id).holds → ((q : ℕ) → span_at y.made q ≡ span_at (entered x id lane).made q) → entries_on lane y.lanes ≡ entries_on lane x.lanes ++ id ∷ [] → (q : ℕ) → span_at (exited y id lane).made q ≡ span_at x.made q
 both x y id lane live same lanes q =
     let ids = entries_on lane x.lanes in
     let first = is_in id ids in
@@ -152,9 +168,32 @@ both x y id lane live same lanes q =
           ∙ given_back x.made y.made id live (λ k. same k ∙ ap (λ (m : List Span). span_at m k) (cond-false {A = List Span} first x.made (held x.made id) new)) q)
     ]
 
+-- the last entry of a span is the one that was made last
+without_pushed : {X : Type 0} (p : X → Bool) (xs : List X) (x : X) → p x ≡ true → without_last p (xs ++ x ∷ []) ≡ xs
+without_pushed {X} p [] x is = cond-true {A = List X} (p x) [] (x ∷ []) is
+without_pushed {X} p (y ∷ ys) x is =
+    let one = cond-true {A = ℕ} (p x) 1 0 is in
+    let later = any_if_counted p (ys ++ x ∷ []) (let count = count_push p ys x in omega (arith, count, one)) in
+    cond-true {A = List X} (list_any p (ys ++ x ∷ [])) (y ∷ without_last p (ys ++ x ∷ [])) (if p y then ys ++ x ∷ [] else y ∷ (ys ++ x ∷ [])) later ∙ ap (λ (zs : List X). y ∷ zs) (without_pushed p ys x is)
+
+entries_both : (x y : Spans) (id lane : ℕ) → y.lanes ≡ (entered x id lane).lanes → (l : ℕ) → entries_on l (exited y id lane).lanes ≡ entries_on l x.lanes
+entries_both x y id lane lanes l =
+    let ids = entries_on lane x.lanes ++ id ∷ [] in
+    let less = without_last (λ k. k == id) (entries_on lane y.lanes) in
+    elim (cases_eq lane l) [
+      | inl here ↦ (
+          let pushed : entries_on lane y.lanes ≡ ids = ap (entries_on lane) lanes ∙ with_same lane ids x.lanes in
+          subst (λ (k : ℕ). entries_on k (exited y id lane).lanes ≡ entries_on k x.lanes) here
+          (with_same lane less y.lanes ∙ ap (without_last (λ k. k == id)) pushed ∙ without_pushed (λ k. k == id) (entries_on lane x.lanes) id (eq-eqb id id refl)))
+      | inr other ↦ with_other lane l less y.lanes other ∙ ap (entries_on l) lanes ∙ with_other lane l ids x.lanes other
+    ]
+
 pub exits : (h : Held) (x e y z : Spans) (lane : ℕ) → IsLiveOn h x → IsEnteredOn h lane x e → AreAsBefore e y → y.lanes ≡ e.lanes → IsExitedOn h lane y z → AreAsBefore x z
-exits None x e y z lane live enter same lanes exit q = ap (λ (v : Spans). span_at v.made q) exit ∙ same q ∙ ap (λ (v : Spans). span_at v.made q) enter
-exits (Some h) x e y z lane live enter same lanes exit q =
-    ap (λ (v : Spans). span_at v.made q) exit
-    ∙ both x y h.1 lane live (λ k. same k ∙ ap (λ (v : Spans). span_at v.made k) enter)
-    (ap (entries_on lane) (lanes ∙ ap (λ (v : Spans). v.lanes) enter) ∙ with_same lane (entries_on lane x.lanes ++ h.1 ∷ []) x.lanes) q
+exits None x e y z lane live enter same lanes exit = on x e z (unchanged x e enter) (on e y z same (unchanged y z exit))
+exits (Some h) x e y z lane live enter same lanes exit =
+    let entry = ap (λ (v : Spans). v.lanes) enter in
+    let back : AreAsBefore x (exited y h.1 lane) = record {
+      spans = both x y h.1 lane live (λ k. same.spans k ∙ ap (λ (v : Spans). span_at v.made k) enter) (ap (entries_on lane) (lanes ∙ entry) ∙ with_same lane (entries_on lane x.lanes ++ h.1 ∷ []) x.lanes);
+      entries = entries_both x y h.1 lane (lanes ∙ entry);
+    } in
+    on x (exited y h.1 lane) z back (unchanged (exited y h.1 lane) z exit)

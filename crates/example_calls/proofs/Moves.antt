@@ -26,7 +26,7 @@ use Rattle.example_calls.specs.declared.server.Server.{Server}
 use Rattle.example_calls.specs.declared.sites.Sites.{Sites}
 use Rattle.example_calls.specs.Closing.{AreAsBefore, IsOfNewest}
 use Rattle.example_calls.specs.Order.{AreAtMost, AreThere, Stands, IsApart, Leaves, Tells}
-use Rattle.example_calls.proofs.Closing.{IsReleasedOn, IsEnteredOn, IsExitedOn, IsLiveOn}
+use Rattle.example_calls.proofs.Closing.{unchanged, IsReleasedOn, IsEnteredOn, IsExitedOn, IsLiveOn}
 use Rattle.example_calls.proofs.Counts.{more, with_new, with_entry, with_exit, with_closes}
 
 -- what is read of a subscriber that is there
@@ -263,13 +263,13 @@ module _ {S : Type 0} (spans : S → Spans) (attaches : S → Bool) (kept : S �
         site = site;
         is = made.made.did.0 ∙ sym (ap (λ (v : Spans). length v.made) read);
         live = λ p is. current_live x lane.id p is_sound is;
-        made = λ q. ap (λ (v : Spans). span_at v.made q) sh.spans_after;
+        made = unchanged _ (spans_in spans new dispatch) sh.spans_after;
       })
   made_one old new lane at site values (Err memory) own sound did = tt
 
   pub none_made : (old new : Worlds S) (lane : Lane) (result : Result Handle Memory) → lane.default ≡ Some dispatch → OnErr result (ReplacedIf same old new (dispatch_on lane.default old.global)) → OnErr result (AreAsBefore (spans_in spans old dispatch) (spans_in spans new dispatch))
   none_made old new lane (Ok handle) own left = tt
-  none_made old new lane (Err memory) own left = λ q. ap (λ (v : Spans). span_at v.made q) (same_in old new (subst (λ (o : Option ℕ). ReplacedIf same old new (dispatch_on o old.global)) own left))
+  none_made old new lane (Err memory) own left = unchanged (spans_in spans old dispatch) (spans_in spans new dispatch) (same_in old new (subst (λ (o : Option ℕ). ReplacedIf same old new (dispatch_on o old.global)) own left))
 
   pub released_spans : (old new : Worlds S) (at : ℕ) (held : Held) → IsOf held dispatch → ReplacedOn (λ id s t. Chain spans does at (Some id) s t) old new held → IsReleasedOn held (spans_in spans old dispatch) (spans_in spans new dispatch)
   released_spans old new at None own did = ap (λ (w : Worlds S). spans_in spans w dispatch) did
@@ -308,3 +308,13 @@ pub told_known : {S : Type 0} (spans : S → Spans) (does : S → SubscriberCall
     → OnErr result (Replaced same old new dispatch) → KeepsKnown spans old new
 told_known spans does sound allowed shows same same_spans old new dispatch lane at site values (Ok done) did left = keeps_call spans does sound allowed shows old new dispatch (Event lane at parent.Current site did.callsite values) did.did tt
 told_known spans does sound allowed shows same same_spans old new dispatch lane at site values (Err memory) did left = keeps_same spans same same_spans old new dispatch left
+
+-- what is told to the subscriber that serves a lane is told to the lane's default
+pub told_to : {S : Type 0} (does : S → SubscriberCall → S → Type 0) (same : S → S → Type 0) (old new : Worlds S) (given dispatch : ℕ) (lane : Lane) (at site : ℕ) (values : ValueSet) (result : Result (Unit {0}) Memory)
+    → Some given ≡ dispatch_on lane.default old.global → lane.default ≡ Some dispatch → OnOk result (Tells does lane given at site values old new) → OnErr result (Replaced same old new given)
+    → OnOk result (Tells does lane dispatch at site values old new) × OnErr result (Replaced same old new dispatch)
+told_to {S} does same old new given dispatch lane at site values result serves own did left =
+    let it : given ≡ dispatch = cc (serves ∙ ap (λ (o : Option ℕ). dispatch_on o old.global) own) in (
+      subst (λ (d : ℕ). OnOk result (Tells does lane d at site values old new)) it did,
+      subst (λ (d : ℕ). OnErr result (Replaced same old new d)) it left,
+    )

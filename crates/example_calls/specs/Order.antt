@@ -59,15 +59,22 @@ pub record Leaves {S : Type 0} (spans : S → Spans) (old new : Server S) : Type
 abbrev pub answered : {S : Type 0} → (S → Option LevelFilter) → (S → ℕ → Callsite → Bool) → Server S → ℕ → S → Callsite → Bool
 answered hint enables server site s callsite = gate (cached_at server.world.cached server.dispatch site) (hint s) (enables s server.lane.id callsite) callsite.level
 
--- nothing happens where that is no
-abbrev pub IsHeldBack : {S : Type 0} → (S → Option LevelFilter) → (S → ℕ → Callsite → Bool) → ℕ → Server S → Server S → Type 0
-IsHeldBack {S} hint enables site old new = (s : S) (callsite : Callsite) → slice_get old.world.subscribers old.dispatch ≡ Some s → slice_get old.world.sites site ≡ Some callsite
-    → answered hint enables old site s callsite ≡ false → new ≡ old
+-- what holds where that is the answer
+abbrev pub IfAnswered : {S : Type 0} → (S → Option LevelFilter) → (S → ℕ → Callsite → Bool) → ℕ → Server S → Bool → (Callsite → Type 0) → Type 0
+IfAnswered {S} hint enables site server answer holds = (s : S) (callsite : Callsite) → slice_get server.world.subscribers server.dispatch ≡ Some s → slice_get server.world.sites site ≡ Some callsite
+    → answered hint enables server site s callsite ≡ answer → holds callsite
 
--- and where it is yes, a span is made under the lane's current one
+-- where it is no, nothing happens, and the call answers so
+abbrev pub IsHeldBack : {S : Type 0} → (S → Option LevelFilter) → (S → ℕ → Callsite → Bool) → ℕ → Server S → Server S → Type 0 → Type 0
+IsHeldBack hint enables site old new answers = IfAnswered hint enables site old false (λ callsite. (new ≡ old) × answers)
+
+-- where it is yes, a span is made under the lane's current one
 abbrev pub IsMade : {S : Type 0} → (S → Option LevelFilter) → (S → ℕ → Callsite → Bool) → (S → Spans) → (S → SubscriberCall → S → Type 0) → ℕ → ℕ → ValueSet → Server S → Server S → Handle → Type 0
-IsMade {S} hint enables spans does at site values old new handle = (s : S) (callsite : Callsite) → slice_get old.world.subscribers old.dispatch ≡ Some s → slice_get old.world.sites site ≡ Some callsite
-    → answered hint enables old site s callsite ≡ true → Makes spans does old.world new.world old.lane at parent.Current site values old.dispatch handle
+IsMade hint enables spans does at site values old new handle = IfAnswered hint enables site old true (λ callsite. Makes spans does old.world new.world old.lane at parent.Current site values old.dispatch handle)
+
+-- the handle of one has its callsite
+abbrev pub IsOfSite : {S : Type 0} → (S → Option LevelFilter) → (S → ℕ → Callsite → Bool) → ℕ → Server S → Handle → Type 0
+IsOfSite hint enables site old handle = IfAnswered hint enables site old true (λ callsite. handle.site ≡ Some site)
 
 -- an event is told on the lane's current span
 pub record Tells {S : Type 0} (does : S → SubscriberCall → S → Type 0) (lane : Lane) (dispatch at site : ℕ) (values : ValueSet) (old new : Worlds S) : Type 0 where
@@ -77,5 +84,4 @@ pub record Tells {S : Type 0} (does : S → SubscriberCall → S → Type 0) (la
 
 -- and that is so where the gate says yes
 abbrev pub IsTold : {S : Type 0} → (S → Option LevelFilter) → (S → ℕ → Callsite → Bool) → (S → SubscriberCall → S → Type 0) → ℕ → ℕ → ValueSet → Server S → Server S → Type 0
-IsTold {S} hint enables does at site values old new = (s : S) (callsite : Callsite) → slice_get old.world.subscribers old.dispatch ≡ Some s → slice_get old.world.sites site ≡ Some callsite
-    → answered hint enables old site s callsite ≡ true → Tells does old.lane old.dispatch at site values old.world new.world
+IsTold hint enables does at site values old new = IfAnswered hint enables site old true (λ callsite. Tells does old.lane old.dispatch at site values old.world new.world)

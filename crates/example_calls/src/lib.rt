@@ -2,5 +2,6 @@
 //! beside it, and the program `example_server` gives it a stack and prints the records of its spans.
 #![tactic(auto)]
 
+pub mod error;
 pub mod server;
 pub mod sites;

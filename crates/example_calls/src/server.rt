@@ -1,19 +1,24 @@
 //! A server whose calls are traced.
-ghost use Rattle.std.specs.Prelude.{◌≡◌, ◌<◌, ◌^◌, ◌+◌, ℕ, length, IfOk, OnOk, OnErr, Some};
+ghost use Rattle.std.specs.Prelude.{◌≡◌, ◌<◌, ◌^◌, ◌+◌, ℕ, length, IsOk, IsErr, IfOk, IfErr, OnOk, OnErr, Ok, Err, Some};
+ghost use Rattle.trace_base.specs.Contexts.{IsFull};
 ghost use Rattle.span_registry.specs.Registering.{no_spans};
 ghost use Rattle.span_handles.specs.Worlds.{Has, Replaced, spans_in};
+ghost use Rattle.span_handles.specs.Entries.{MeetsFullLane};
+ghost use Rattle.span_handles.specs.Handles.{no_handle};
 ghost use Rattle.span_handles.specs.Knowing.{KeepsKnown};
+ghost use Rattle.example_calls.specs.declared.error.ServeError.TheVariants as fault;
 ghost use Rattle.example_calls.specs.Closing.{spans_of, IsAsBefore, IsOfNewest};
-ghost use Rattle.example_calls.specs.Order.{InOrder, IsHeld, IsApart, Leaves, IsHeldBack, IsMade, Tells, IsTold};
+ghost use Rattle.example_calls.specs.Order.{InOrder, IsHeld, IsApart, Leaves, IsHeldBack, IsMade, IsOfSite, Tells, IsTold};
 
-use crate::sites::{self, Sites};
+use crate::error::ServeError;
+use crate::sites::{self, Request, Sites};
 use otel_base::memory::Memory;
 use otel_base::stack::ContextStack;
 use span_handles::span::Span;
 use std::alloc::Global;
 use trace_base::callsite::SiteId;
 use trace_base::discard::Discard;
-use trace_base::dispatcher::Dispatch;
+use trace_base::dispatcher::{Dispatch, get_default};
 use trace_base::field::ValueSet;
 use trace_base::lane::Lane;
 use trace_base::span::Parent;
@@ -64,9 +69,10 @@ impl<S: Subscriber + Discard> Server<S> {
 }
 
 impl<S: Subscriber> Server<S> {
-    /// Serves the requests of some lines, each 100 after the one before.
+    /// Serves the requests of some lines, each 100 after the one before. The first is at 0, so this is called once, on a
+    /// new server. Lines that would come at 2^62 or later are left out.
     #[tactic(auto, using(crate::proofs::Moves::later))]
-    pub fn serve_all(&mut self, alloc: Global, lines: &[String]) -> Result<(), Memory>
+    pub fn serve_all(&mut self, alloc: Global, lines: &[String]) -> Result<(), ServeError>
         requires order { InOrder S.spans S.kept S.is_whole 0 self.old }
         ensures order { InOrder S.spans S.kept S.is_whole (2 ^ 63) self.new }
         ensures as_before { IsAsBefore S.spans self.old self.new }
@@ -82,58 +88,52 @@ impl<S: Subscriber> Server<S> {
         Ok(())
     }
 
-    /// Serves a request of the words `METHOD PATH STATUS`.
+    /// Serves a request of the words `METHOD PATH STATUS`. It is `Full` only where the lane is.
     #[tactic(auto, using(crate::proofs::Moves::later))]
-    pub fn serve(&mut self, alloc: Global, at: u64, line: &str) -> Result<(), Memory>
+    pub fn serve(&mut self, alloc: Global, at: u64, line: &str) -> Result<(), ServeError>
         requires order { InOrder S.spans S.kept S.is_whole at self.old }
         requires early { at < 2 ^ 62 }
         ensures order { InOrder S.spans S.kept S.is_whole (at + 100) self.new }
         ensures as_before { IsAsBefore S.spans self.old self.new }
+        ensures full { result ≡ Err fault.Full → IsFull self.old.lane }
     {
         let request = sites::read(alloc, line)?;
         let span = self.span(at, self.sites.request, &request.given)?;
-        let told = self.inside(at, &span, &request.parsed, &request.answered);
+        let told = self.inside(at, &span, &request);
         span.close(&mut self.world, at + 60);
         told
     }
 
     // What the server does inside the span of a request.
-    fn inside(
-        &mut self,
-        at: u64,
-        span: &Span,
-        parsed: &ValueSet,
-        answered: &ValueSet,
-    ) -> Result<(), Memory>
+    fn inside(&mut self, at: u64, span: &Span, request: &Request) -> Result<(), ServeError>
         requires order { InOrder S.spans S.kept S.is_whole (at + 10) self.old }
         requires early { at < 2 ^ 62 }
         requires held { IsHeld S.spans self.old span.now }
         ensures order { InOrder S.spans S.kept S.is_whole (at + 60) self.new }
         ensures held { IsHeld S.spans self.new span.now }
         ensures as_before { IsAsBefore S.spans self.old self.new }
+        ensures full { result ≡ Err fault.Full → MeetsFullLane S.activates self.old.world self.old.lane span.now.held }
+        ensures full_refused { MeetsFullLane S.activates self.old.world self.old.lane span.now.held → IsErr result }
     {
-        match span.enter(&mut self.world, &mut self.lane, at + 10) {
-            Ok(guard) => {
-                let told = self.answer(at, parsed, answered);
-                guard.exit(&mut self.world, &mut self.lane, at + 50);
-                told
-            }
-            Err(_) => Err(Memory),
-        }
+        let guard = span.enter(&mut self.world, &mut self.lane, at + 10)?;
+        let told = self.answer(at, request);
+        guard.exit(&mut self.world, &mut self.lane, at + 50);
+        told
     }
 
     // What is told there.
     #[tactic(auto, using(crate::proofs::Moves::later))]
-    fn answer(&mut self, at: u64, parsed: &ValueSet, answered: &ValueSet) -> Result<(), Memory>
+    fn answer(&mut self, at: u64, request: &Request) -> Result<(), ServeError>
         requires order { InOrder S.spans S.kept S.is_whole (at + 20) self.old }
         requires early { at < 2 ^ 62 }
         ensures order { InOrder S.spans S.kept S.is_whole (at + 50) self.new }
         ensures leaves { Leaves S.spans self.old self.new }
         ensures as_before { IsAsBefore S.spans self.old self.new }
+        ensures memory { IfErr result (λ error. error ≡ fault.Memory) }
     {
-        self.event(at + 20, self.sites.parsed, parsed)?;
-        self.query(at + 30, parsed)?;
-        self.event(at + 40, self.sites.answered, answered)
+        self.event(at + 20, self.sites.parsed, &request.parsed)?;
+        self.query(at + 30, &request.queried)?;
+        Ok(self.event(at + 40, self.sites.answered, &request.answered)?)
     }
 
     // A query, in a span of its own.
@@ -157,10 +157,10 @@ impl<S: Subscriber> Server<S> {
         ensures order { InOrder S.spans S.kept S.is_whole (at + 10) self.new }
         ensures leaves { Leaves S.spans self.old self.new }
         ensures held { IfOk result (IsHeld S.spans self.new) }
-        ensures site { IfOk result (λ span. span.site ≡ Some site) }
+        ensures site { IfOk result (IsOfSite S.hint S.enables site self.old) }
         ensures apart { IfOk result (λ span. IsApart S.spans self.old.world span.held) }
         ensures made { IfOk result (IsMade S.hint S.enables S.spans S.does at site values.now self.old self.new) }
-        ensures refused { IsHeldBack S.hint S.enables site self.old self.new }
+        ensures refused { IsHeldBack S.hint S.enables site self.old self.new (result ≡ Ok no_handle) }
         ensures newest { IfOk result
             (λ span. IsOfNewest (spans_of S.spans self.old) (spans_of S.spans self.new) span.held) }
         ensures none_made { OnErr result (IsAsBefore S.spans self.old self.new) }
@@ -168,7 +168,7 @@ impl<S: Subscriber> Server<S> {
         if self.world.admits(&self.lane, site) {
             Span::new(&mut self.world, &self.lane, at, site, values)
         } else {
-            Ok(Span::new_disabled(site))
+            Ok(Span::none())
         }
     }
 
@@ -179,13 +179,16 @@ impl<S: Subscriber> Server<S> {
         ensures order { InOrder S.spans S.kept S.is_whole at self.new }
         ensures leaves { Leaves S.spans self.old self.new }
         ensures told { OnOk result (IsTold S.hint S.enables S.does at site values.now self.old self.new) }
-        ensures refused { IsHeldBack S.hint S.enables site self.old self.new }
+        ensures refused { IsHeldBack S.hint S.enables site self.old self.new (IsOk result) }
         ensures as_before { IsAsBefore S.spans self.old self.new }
     {
         if !self.world.admits(&self.lane, site) {
             return Ok(());
         }
-        tell(&mut self.world, &self.lane, self.dispatch, at, site, values)
+        match get_default(&self.world, &self.lane) {
+            Some(dispatch) => tell(&mut self.world, &self.lane, dispatch, at, site, values),
+            None => Ok(()),
+        }
     }
 }
 

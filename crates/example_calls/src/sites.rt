@@ -19,7 +19,7 @@ pub struct Sites {
     pub request: SiteId,
     /// `debug!("parsed")`.
     pub parsed: SiteId,
-    /// `debug_span!(target: "db", "query")`.
+    /// `debug_span!(target: "db", "query", table)`.
     pub query: SiteId,
     /// `info!(status, "answered")`.
     pub answered: SiteId,
@@ -47,7 +47,7 @@ impl Sites {
             "parsed",
             &["message"],
         )?;
-        let query = site(alloc, Kind::Span, Level::DEBUG, "db", "query", &[])?;
+        let query = site(alloc, Kind::Span, Level::DEBUG, "db", "query", &["table"])?;
         let answered = site(
             alloc,
             Kind::Event,
@@ -90,13 +90,15 @@ fn site(
     })
 }
 
-/// What is given to the span and the events of a request.
+/// What is given to the spans and the events of a request.
 #[derive(Drop)]
 pub struct Request {
     /// Its method and its path.
     pub given: ValueSet,
     /// A message.
     pub parsed: ValueSet,
+    /// The table that it reads.
+    pub queried: ValueSet,
     /// A message and its status.
     pub answered: ValueSet,
 }
@@ -108,6 +110,7 @@ pub fn read(alloc: Global, line: &str) -> Result<Request, Memory> {
     Ok(Request {
         given: values(alloc, &[method, path])?,
         parsed: values(alloc, &["parsed"])?,
+        queried: values(alloc, &[path.trim_start_matches('/')])?,
         answered: values(alloc, &["answered", status])?,
     })
 }

@@ -9,7 +9,7 @@ use std::alloc::Global;
 use trace_base::dispatcher::Dispatch;
 use trace_base::world::World;
 
-/// The records that a stack still has.
+/// The records that a stack still has, nine at most.
 pub fn records<S: Stack>(
     alloc: Global,
     world: &mut World<S>,

@@ -42,7 +42,7 @@ fn two<S: Stack>(
 }
 
 /// What is made at 10 in a poll under the second of two subscribers, on a lane that has the first: the number of the
-/// span's subscriber, the lane's afterwards, and the records of both after the close of the span at 30.
+/// span's subscriber, the lane's afterwards, and the records of the second after the close of the span at 30.
 pub fn made_under<S: Stack>(
     alloc: Global,
     world: &mut World<S>,
