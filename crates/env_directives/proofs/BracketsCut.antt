@@ -10,7 +10,6 @@ use Rattle.env_directives.specs.Reading.{Answers, read_fields, read_fielded, rea
 use Rattle.env_directives.specs.declared.directive.ParseError.{ParseError}
 use Rattle.env_directives.specs.declared.directive.ParseError.TheVariants.{Shape, Level, Field, Pattern, Equals, Fields, Memory}
 use Rattle.env_directives.specs.declared.env.directive.Directive.{Directive}
-use Rattle.env_directives.specs.declared.env.field.Match.{Match}
 use Rattle.env_directives.proofs.Cutting.{cut_joined, cut_front, cut_stop, cut_off}
 
 -- what a cut gives: the text is joined of its pieces, and these are a front without stops and a stop
@@ -44,16 +43,18 @@ module _ (patterns : Bool) (d : Directive) (text front rest : List ℕ) (stop : 
     leads = leads;
   }
 
-  -- fields that can't be read
-  pub span_fault : {X : Type 0} (view : X → List Match × List ℕ) (e : ParseError) → Answers view patterns (LeadsToNoPattern rest) (Err e) (read_fields patterns [] rest) →
-      Answers {X = Directive} (λ d. d) patterns (SpanLeadsToNoPattern text) (Err e) (read_bracket patterns d text)
-  span_fault view Memory h = tt
-  span_fault view Pattern h = (h.0, span_leads h.1)
-  span_fault view Shape h = span_cut ∙ ap (read_fielded (record d { in_span = unless_empty front })) h
-  span_fault view Level h = span_cut ∙ ap (read_fielded (record d { in_span = unless_empty front })) h
-  span_fault view Field h = span_cut ∙ ap (read_fielded (record d { in_span = unless_empty front })) h
-  span_fault view Equals h = span_cut ∙ ap (read_fielded (record d { in_span = unless_empty front })) h
-  span_fault view (Fields many) h = span_cut ∙ ap (read_fielded (record d { in_span = unless_empty front })) h
+  -- what is answered to fields
+  pub span_answers : (r : Result Directive ParseError) →
+      Answers (λ d. d) patterns (LeadsToNoPattern rest) r (read_fielded (record d { in_span = unless_empty front }) (read_fields patterns [] rest)) →
+      Answers (λ d. d) patterns (SpanLeadsToNoPattern text) r (read_bracket patterns d text)
+  span_answers (Ok read) h = span_cut ∙ h
+  span_answers (Err Memory) h = tt
+  span_answers (Err Pattern) h = (h.0, span_leads h.1)
+  span_answers (Err Shape) h = span_cut ∙ h
+  span_answers (Err Level) h = span_cut ∙ h
+  span_answers (Err Field) h = span_cut ∙ h
+  span_answers (Err Equals) h = span_cut ∙ h
+  span_answers (Err (Fields many)) h = span_cut ∙ h
 
 -- behind a head stands an opening bracket
 module _ (patterns : Bool) (text front rest : List ℕ) (stop : ℕ) (start : begins text ≡ true) (is_front : front ≡ (cut (codes "=[,") text).front)

@@ -1,7 +1,7 @@
 -- A text of several directives, read piece by piece.
 use Rattle.std.specs.Prelude.{◌≡◌, ℕ, List, ◌∷◌, Result, Ok, Err}
-use Rattle.std.specs.Result.{IsErrAnd}
-use Rattle.std.proofs.Common.{refl, sym, subst}
+use Rattle.std.specs.Result.{IsErrAnd, IsOkAnd}
+use Rattle.std.proofs.Common.{refl, sym, ap, ◌∙◌, subst}
 use Rattle.env_directives.specs.declared.directive.ParseError.{ParseError}
 use Rattle.env_directives.specs.declared.directive.ParseError.TheVariants as fault
 use Rattle.env_directives.specs.declared.directive.StaticDirective.{StaticDirective}
@@ -13,7 +13,7 @@ use Rattle.env_directives.specs.Targets.{added, all_added, statics_of}
 abbrev pub read_on : List (List ℕ) → Table StaticDirective → Result (Table StaticDirective) ParseError
 read_on texts t = and_then (statics_of texts) (λ ds. Ok (all_added ds t))
 
-pub read_more : (text : List ℕ) (texts : List (List ℕ)) (d : StaticDirective) (t : Table StaticDirective) → static_of text ≡ Ok d
+read_more : (text : List ℕ) (texts : List (List ℕ)) (d : StaticDirective) (t : Table StaticDirective) → static_of text ≡ Ok d
     → read_on (text ∷ texts) t ≡ read_on texts (added d t)
 read_more text texts d t is = rw is (by (statics_of texts))
   where
@@ -21,6 +21,14 @@ read_more text texts d t is = rw is (by (statics_of texts))
         → and_then (and_then r (λ ds. Ok (d ∷ ds))) (λ ds. Ok (all_added ds t)) ≡ and_then r (λ ds. Ok (all_added ds (added d t)))
     by (Ok ds) = refl
     by (Err e) = refl
+
+pub read_added : (text : List ℕ) (texts : List (List ℕ)) (t s : Table StaticDirective) → IsOkAnd (static_of text) (λ d. s ≡ added d t)
+    → read_on (text ∷ texts) t ≡ read_on texts s
+read_added text texts t s h = by (static_of text) refl h
+  where
+    by : (r : Result StaticDirective ParseError) → static_of text ≡ r → IsOkAnd r (λ d. s ≡ added d t) → read_on (text ∷ texts) t ≡ read_on texts s
+    by (Ok d) read is = read_more text texts d t read ∙ ap (read_on texts) (sym is)
+    by (Err e) read is = absurd is
 
 ended : (e : ParseError) (text : List ℕ) (texts : List (List ℕ)) (t : Table StaticDirective) → static_of text ≡ Err e → read_on (text ∷ texts) t ≡ Err e
 ended e text texts t is = rw is refl

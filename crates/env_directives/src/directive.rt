@@ -1,8 +1,9 @@
 //! Directives that speak of targets and field names alone, and why a text is no directive.
-ghost use Rattle.std.specs.Prelude.{◌≡◌, [], Bool, None, Some, Ok};
+ghost use Rattle.std.specs.Prelude.{◌≡◌, [], ◌∷◌, flat_map, Bool, None, Some, Ok};
 ghost use Rattle.std.specs.Cmp.{partial_order_from_own_ties};
 ghost use Rattle.std.specs.Cmp.Rules.{comparing};
 ghost use Rattle.std.specs.Ordering.{as_partial_cmp, eq_by_cmp};
+ghost use Rattle.std.specs.Fmt.{WritesOnOk};
 ghost use Rattle.std.proofs.Common.{rules};
 ghost use Rattle.env_directives.specs.declared.directive.ParseError.TheVariants.{Memory as OutOfMemory};
 ghost use Rattle.trace_base.specs.declared.level.LevelFilter.TheVariants.{ERROR};
@@ -283,11 +284,18 @@ impl<'a> fmt::Display for Names<'a> {
             return Ok(());
         };
         f.write_str(first.as_str())?;
-        for name in others {
-            write!(f, ",{}", name.as_str())?;
-        }
-        Ok(())
+        write_others(f, others)
     }
+}
+
+// Each name behind a comma.
+fn write_others<W: fmt::Write>(f: &mut fmt::Formatter<W>, names: &[Text]) -> fmt::Result
+    ensures { WritesOnOk W.write_str_gives f.old result (flat_map (λ other. 44 ∷ other) names.now) f.new }
+{
+    for name in names {
+        write!(f, ",{}", name.as_str())?;
+    }
+    Ok(())
 }
 
 /// The level isn't compared: a directive that differs from another in its level alone takes its place.

@@ -1,5 +1,7 @@
 //! Filters by target: which level is let through for which part of a program.
-ghost use Rattle.std.specs.Prelude.{◌≡◌, Some, map, string_bytes, IfOk, IfErr, OnOk, OnErr};
+ghost use Rattle.std.specs.Prelude.{◌≡◌, ◌∷◌, Some, flat_map, map, string_bytes, IfOk, IfErr, OnOk, OnErr};
+ghost use Rattle.std.specs.Fmt.{WritesOnOk};
+ghost use Rattle.std.specs.Result.{IsOkAnd};
 ghost use Rattle.std.proofs.Common.{rules};
 ghost use Rattle.std.specs.Cmp.{and_equiv, eq_by_cmp_equiv, nat_cmp_total, on_equiv, on_total, partial_equiv_from_equiv};
 ghost use Rattle.std.specs.Cmp.Lexicographic.{pointwise, lists_equiv};
@@ -11,7 +13,7 @@ ghost use Rattle.env_directives.specs.Choice.{admits_target};
 ghost use Rattle.env_directives.specs.Iterators.{pairs_left};
 ghost use Rattle.env_directives.specs.StaticOrder.{most_specific_first};
 ghost use Rattle.env_directives.specs.StaticPrinted.{joined, static_text};
-ghost use Rattle.env_directives.specs.StaticText.{Reads};
+ghost use Rattle.env_directives.specs.StaticText.{Reads, Fails, static_of};
 ghost use Rattle.env_directives.specs.Table.{empty_table, AddsSome};
 ghost use Rattle.env_directives.specs.Targets.{added, all_added, target_directive, pair_directive, default_directive, default_level, pairs, targets_of, same_rule, same_level, same_directive, same_targets};
 
@@ -59,7 +61,7 @@ impl Targets {
     {
         let mut set = DirectiveSet::new(alloc);
         for piece in text.split(',') {
-            set.add(StaticDirective::from_str(alloc, piece)?)?;
+            add_read(alloc, &mut set, piece)?;
         }
         Ok(Targets { set })
     }
@@ -222,12 +224,22 @@ impl fmt::Display for Targets {
         let Some((first, others)) = self.set.as_slice().split_first() else {
             return Ok(());
         };
-        write!(f, "{first}")?;
-        for directive in others {
-            write!(f, ",{directive}")?;
-        }
-        Ok(())
+        fmt::Display::fmt(first, f)?;
+        write_others(f, others)
     }
+}
+
+// Each directive behind a comma.
+fn write_others<W: fmt::Write>(
+    f: &mut fmt::Formatter<W>,
+    directives: &[StaticDirective],
+) -> fmt::Result
+    ensures { WritesOnOk W.write_str_gives f.old result (flat_map (λ other. 44 ∷ other) (map static_text directives.now)) f.new }
+{
+    for directive in directives {
+        write!(f, ",{directive}")?;
+    }
+    Ok(())
 }
 
 /// The targets of a filter with their levels; `tracing_subscriber::filter::targets::Iter`.
@@ -290,6 +302,18 @@ impl Iterator for IntoIter {
         }
         None
     }
+}
+
+// Adds the directive that a text spells.
+fn add_read(
+    alloc: Global,
+    set: &mut DirectiveSet<StaticDirective>,
+    text: &str,
+) -> Result<(), ParseError>
+    ensures ok { OnOk result (IsOkAnd (static_of text.now) (λ d. set.new ≡ added d set.old)) }
+    ensures err { IfErr result (λ e. Fails e (static_of text.now)) }
+{
+    Ok(set.add(StaticDirective::from_str(alloc, text)?)?)
 }
 
 fn target_directive(target: String, level: LevelFilter) -> StaticDirective

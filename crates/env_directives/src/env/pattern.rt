@@ -9,7 +9,7 @@ ghost use Rattle.std.specs.Cmp.{partial_order_from_own_ties};
 ghost use Rattle.std.specs.Cmp.Lexicographic.{slice_cmp};
 ghost use Rattle.env_directives.specs.Values.{MayFail};
 ghost use Rattle.env_directives.specs.Meeting.{is_matched_if_any, plain_text};
-ghost use Rattle.env_directives.specs.Patterns.{whole, is_matched, IsRefused, IsNoPattern};
+ghost use Rattle.env_directives.specs.Patterns.{whole, is_matched, IsCompiled, IsRefused, IsNoPattern};
 
 use crate::directive::ParseError;
 use crate::env::field::{MatchDebug, text_of};
@@ -50,8 +50,7 @@ impl MatchPattern {
         ensures err { IfErr result (MayFail true (IsNoPattern text.now)) }
     {
         compile(alloc, text)?;
-        let whole = format!(in alloc; "\\A(?:{text})\\z")?;
-        let regex = compile(alloc, whole.as_str())?;
+        let regex = compile_whole(alloc, text)?;
         Ok(MatchPattern {
             pattern: text_of(alloc, text)?,
             regex: Arc::new(alloc, regex)?,
@@ -143,6 +142,14 @@ impl PartialOrd for MatchPattern {
     fn partial_cmp(&self, other: &MatchPattern) -> Option<Ordering> {
         Some(self.cmp(other))
     }
+}
+
+fn compile_whole(alloc: Global, text: &str) -> Result<Regex, ParseError>
+    ensures ok { IfOk result (IsCompiled text.now) }
+    ensures err { IfErr result (MayFail true (IsRefused (whole text.now))) }
+{
+    let whole = format!(in alloc; "\\A(?:{text})\\z")?;
+    compile(alloc, whole.as_str())
 }
 
 fn compile(alloc: Global, source: &str) -> Result<Regex, ParseError>

@@ -1,7 +1,7 @@
 //! Reading a directive from its text, one cut after the other.
 ghost use Rattle.std.specs.Prelude.{◌≡◌, [], IfOk, Some, false, true};
 ghost use Rattle.env_directives.specs.Forms.{begins, may_begin, head_alone, target_at, level_behind, unless_empty};
-ghost use Rattle.env_directives.specs.Reading.{Answers, read_last, read_level, LeadsToNoPattern, SpanLeadsToNoPattern, read_end, read_close, read_fields, read_bracket, reading};
+ghost use Rattle.env_directives.specs.Reading.{Answers, read_last, read_level, LeadsToNoPattern, SpanLeadsToNoPattern, read_end, read_close, read_fields, read_fielded, read_bracket, reading};
 ghost use Rattle.trace_base.specs.declared.level.LevelFilter.TheVariants.{TRACE};
 ghost use Rattle.env_directives.specs.Faults.{HasNoPattern};
 
@@ -167,29 +167,50 @@ fn read_bracket(
     let pieces = cut(text, b"]{");
     match pieces.stop {
         None => Err(ParseError::Shape),
-        Some(b']') => {
-            let in_span = Some(text_of(alloc, pieces.front)?);
-            read_end(
-                Directive {
-                    in_span,
-                    ..directive
-                },
-                pieces.rest,
-            )
-        }
-        Some(_) => {
-            let in_span = unless_empty(alloc, pieces.front)?;
-            let (fields, rest) = read_fields(alloc, pieces.rest, patterns)?;
-            read_close(
-                Directive {
-                    in_span,
-                    fields,
-                    ..directive
-                },
-                rest,
-            )
-        }
+        Some(b']') => read_named(alloc, directive, pieces.front, pieces.rest),
+        Some(_) => read_fielded(alloc, directive, pieces.front, pieces.rest, patterns),
     }
+}
+
+// Behind the closing bracket of a span without fields.
+fn read_named(
+    alloc: Global,
+    directive: Directive,
+    span: &str,
+    rest: &str,
+) -> Result<Directive, ParseError>
+    ensures { Answers (λ d. d) false ⊥ result (read_end (record directive { in_span = Some span.now }) rest.now) }
+{
+    let in_span = Some(text_of(alloc, span)?);
+    read_end(
+        Directive {
+            in_span,
+            ..directive
+        },
+        rest,
+    )
+}
+
+// Behind the opening brace of a span's fields.
+fn read_fielded(
+    alloc: Global,
+    directive: Directive,
+    span: &str,
+    rest: &str,
+    patterns: bool,
+) -> Result<Directive, ParseError>
+    ensures { Answers (λ d. d) patterns (LeadsToNoPattern rest.now) result (read_fielded (record directive { in_span = unless_empty span.now }) (read_fields patterns [] rest.now)) }
+{
+    let in_span = unless_empty(alloc, span)?;
+    let (fields, rest) = read_fields(alloc, rest, patterns)?;
+    read_close(
+        Directive {
+            in_span,
+            fields,
+            ..directive
+        },
+        rest,
+    )
 }
 
 // The fields up to their closing brace, and what stands behind it.

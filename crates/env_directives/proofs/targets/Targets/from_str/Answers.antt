@@ -4,7 +4,7 @@ use Rattle.std.proofs.lemmas.Iterator.Splits.{YieldsList-from_str_split}
 use Rattle.env_directives.specs.Separators.{comma_pieces}
 use Rattle.env_directives.specs.Targets.{targets_of}
 use Rattle.env_directives.proofs.Pieces.{first_piece, no_piece}
-use Rattle.env_directives.proofs.StaticReading.{read_on, read_more, read_fault, handed_on}
+use Rattle.env_directives.proofs.StaticReading.{read_on, read_added, read_fault, handed_on}
 use Rattle.env_directives.proofs.targets.Targets.from_str.Goals as goal
 
 pub loop-piece-init : goal.loop-piece-init
@@ -15,12 +15,12 @@ loop-piece-init c =
       ap (read_on (comma_pieces c.args.text.now)) (sym c.new-set.ensures),
     )
 
-pub returns-in_err-from_str : goal.returns-in_err-from_str
-returns-in_err-from_str c =
+pub returns-in_err-add_read : goal.returns-in_err-add_read
+returns-in_err-add_read c =
     let left = first_piece _ c.next.new.self c.in-Some.piece _ c.loop-piece.invariant.1 c.in-Some.ensures.steps in
     let whole : targets_of c.args.text.now ≡ read_on (c.in-Some.piece.now ∷ left.0) c.loop-piece.set = c.loop-piece.invariant.2 ∙ ap (λ ts. read_on ts c.loop-piece.set) left.1 in
-    let faulty = read_fault c.in_err-from_str.field-0.0 c.in-Some.piece.now left.0 c.loop-piece.set c.in_err-from_str.ensures in
-    rw whole (handed_on c.in_err-from_str.field-0.0 _ _ c.from_residual.ensures.1 faulty)
+    let faulty = read_fault c.in_err-add_read.field-0.0 c.in-Some.piece.now left.0 c.loop-piece.set c.in_err-add_read.ensures.err in
+    rw whole (handed_on c.in_err-add_read.field-0.0 _ _ c.from_residual.ensures.1 faulty)
 
 pub loop-piece-preserved : goal.loop-piece-preserved
 loop-piece-preserved c =
@@ -28,8 +28,7 @@ loop-piece-preserved c =
       left.0,
       left.2,
       c.loop-piece.invariant.2 ∙ ap (λ ts. read_on ts c.loop-piece.set) left.1
-          ∙ read_more c.in-Some.piece.now left.0 c.in_ok-from_str.field-0 c.loop-piece.set c.in_ok-from_str.ensures
-          ∙ ap (read_on left.0) (sym c.in_ok-add.ensures.ok),
+          ∙ read_added c.in-Some.piece.now left.0 c.loop-piece.set _ c.in_ok-add_read.ensures.ok,
     )
 
 pub returns : goal.returns

@@ -1,4 +1,4 @@
-use Rattle.std.proofs.Common.{ℕ, List, is_some, ap, sym, ◌∙◌, subst, arith}
+use Rattle.std.proofs.Common.{ℕ, List, is_some, ap, ◌∙◌, subst, arith}
 use Rattle.regex.specs.Patterns.{find_str}
 use Rattle.regex.specs.Strings.{regex_pattern}
 use Rattle.regex.specs.declared.string.regex.Regex.{Regex}
