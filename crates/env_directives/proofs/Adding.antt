@@ -1,7 +1,7 @@
 -- Directives that are added in turn.
-use Rattle.std.specs.Prelude.{◌≡◌, List, [], ◌∷◌, ◌++◌}
+use Rattle.std.specs.Prelude.{◌≡◌, List, [], ◌∷◌, ◌++◌, length}
 use Rattle.std.specs.declared.cmp.Ordering.{Ordering}
-use Rattle.std.proofs.Common.{refl, sym, ◌∙◌, ap, append_assoc, append-nil}
+use Rattle.std.proofs.Common.{refl, sym, ◌∙◌, ap, append_assoc, append-nil, arith}
 use Rattle.trace_base.specs.declared.level.LevelFilter.{LevelFilter}
 use Rattle.env_directives.specs.Table.{Table, with_added, with_all_added, AddsSome}
 
@@ -28,8 +28,9 @@ module _ {T : Type 0} (cmp : T → T → Ordering) (level : T → LevelFilter) w
     table = ap (with_added cmp level d) a.table ∙ sym (all_added_push a.added d old);
   }
 
-  pub done : (all : List T) (old now : Table T) → Adding all old now [] → now ≡ with_all_added cmp level all old
-  done all old now a = a.table ∙ ap (λ ds. with_all_added cmp level ds old) (sym (a.parts ∙ append-nil a.added))
+  pub done : (all : List T) (old now : Table T) (left : List T) → length left ≡ 0 → Adding all old now left → now ≡ with_all_added cmp level all old
+  done all old now [] none a = a.table ∙ ap (λ ds. with_all_added cmp level ds old) (sym (a.parts ∙ append-nil a.added))
+  done all old now (d ∷ left) none a = absurd (omega arith)
 
   pub refused : (all : List T) (old now : Table T) (d : T) (left : List T) → Adding all old now (d ∷ left)
       → AddsSome cmp level all old now

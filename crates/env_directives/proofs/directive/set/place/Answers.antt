@@ -15,5 +15,4 @@ returns-in_ok-insert-in-Err-clause-ok g c =
     let bound = rw c.as_slice.ensures at c.in-Err.ensures.bound in
     let parted = rw c.as_slice.ensures at c.in-Err.ensures.position in
     let sides = parted (searchable g.met.T.Ord.total c.args.directive c.args.directives.now.items c.requires) in
-    c.in_ok-insert-in-Err.ensures.ok
-    ∙ inserted g.met.T.Ord.total c.args.directive c.args.directives.now.items c.in-Err.place bound sides.0 sides.1
+    rw c.in_ok-insert-in-Err.ensures.ok (inserted g.met.T.Ord.total c.args.directive c.args.directives.now.items c.in-Err.place bound sides.0 sides.1)
