@@ -124,5 +124,12 @@ new_of f patterns statics dynamics ds es is static dynamic =
     let tables : f ≡ with_tables patterns (statics_of ds) (dynamics_of es) = is ∙ ap (λ (t : Table StaticDirective). with_tables patterns t dynamics) static ∙ ap (λ (t : Table Directive). with_tables patterns (statics_of ds) t) dynamic in
     subst IsNew (sym tables) (new_fresh (with_tables patterns (statics_of ds) (dynamics_of es)) (whole_tables patterns (map static_of (filter is_static ds)) (filter is_dynamic es)))
 
+pub new_or_default : (default : Option Directive) (f : Filtered) → IsNew f → IsNew (or_default default f)
+new_or_default None f n = n
+new_or_default (Some d) f n = elim (cases_Bool (has_none f)) [
+  | inl none ↦ subst IsNew (sym (cond-true {A = Filtered} (has_none f) _ _ none)) (new_placed f (if f.patterns then d else fixed_directive d) n)
+  | inr some ↦ subst IsNew (sym (cond-false {A = Filtered} (has_none f) _ _ some)) n
+]
+
 pub new_default : (patterns : Bool) → IsNew (with_tables patterns empty_table empty_table)
 new_default patterns = new_fresh (with_tables patterns empty_table empty_table) (whole_tables patterns [] [])

@@ -1,8 +1,8 @@
 //! What filters are built by.
-ghost use Rattle.std.specs.Prelude.{◌≡◌, [], Some, IfOk, IfErr, string_bytes};
-ghost use Rattle.env_filter.specs.Building.{default_builder, filter_by, IsFilterOf, IsRefused, IsRefusedAt};
+ghost use Rattle.std.specs.Prelude.{◌≡◌, [], List, ℕ, Some, IfOk, IfErr, OnOk, string_bytes};
+ghost use Rattle.env_filter.specs.Building.{Building, default_builder, filter_by, IsFilterOf, IsSomeFilterOf, IsRefused, IsRefusedAt};
 ghost use Rattle.env_filter.specs.Filtering.{plain, IsNew};
-ghost use Rattle.env_filter.specs.Tables.{or_default};
+ghost use Rattle.env_filter.specs.Tables.{or_default, with_directive};
 
 use crate::filter::EnvFilter;
 use crate::pieces::{self, Ignored};
@@ -95,10 +95,7 @@ impl Builder {
         ensures refused { IfErr result (λ e. IsRefusedAt self.now.patterns dirs.now e.0 e.1) }
     {
         match self.parse_lossy(dirs) {
-            Ok((filter, ignored)) => match ignored.first() {
-                Some(first) => Err((first.piece, first.fault)),
-                None => Ok(filter),
-            },
+            Ok((filter, ignored)) => unless_ignored(filter, ignored.as_slice()),
             Err(Memory) => Err((0, ParseError::Memory)),
         }
     }
@@ -112,10 +109,22 @@ impl Builder {
         Ok((self.from_directives(directives)?, ignored))
     }
 
+    // The filter of those pieces of a text that are directives.
+    pub(crate) fn parse_some(self, dirs: &str) -> Result<EnvFilter, Memory>
+        ensures ok { IfOk result (λ f. IsSomeFilterOf self dirs.now (plain f)) }
+        ensures new { IfOk result (λ f. IsNew (plain f)) }
+    {
+        let read = self.parse_lossy(dirs);
+        drop(self);
+        let (filter, _) = read?;
+        Ok(filter)
+    }
+
     /// A builder that is set to the same; `Clone` for `Builder`.
     pub fn clone_builder(&self) -> Result<Builder, Memory>
         ensures { IfOk result (λ b. b ≡ self.now) }
     {
+        let env = self.env.clone()?;
         let default_directive = match &self.default_directive {
             Some(directive) => Some(directive.clone_directive()?),
             None => None,
@@ -124,7 +133,7 @@ impl Builder {
             alloc: self.alloc,
             patterns: self.patterns,
             default_directive,
-            env: self.env.clone()?,
+            env,
         })
     }
 
@@ -145,24 +154,58 @@ impl Builder {
     {
         let statics = tables::statics(self.alloc, directives.as_slice())?;
         let dynamics = tables::dynamics(self.alloc, directives)?;
-        let filter = EnvFilter::with_tables(self.alloc, self.patterns, statics, dynamics);
+        let mut filter = EnvFilter::with_tables(self.alloc, self.patterns, statics, dynamics);
+        match self.complete(&mut filter) {
+            Ok(()) => Ok(filter),
+            Err(memory) => {
+                drop(filter);
+                Err(memory)
+            }
+        }
+    }
+
+    // Adds the default directive to a filter that would have none.
+    fn complete(&self, filter: &mut EnvFilter) -> Result<(), Memory>
+        ensures { OnOk result (plain filter.new ≡ or_default self.now.default (plain filter.old)) }
+    {
         match &self.default_directive {
             Some(directive) => or_default(filter, directive),
-            None => Ok(filter),
+            None => Ok(()),
         }
     }
 }
 
-// The filter, with a directive where it would have none.
-fn or_default(filter: EnvFilter, directive: &Directive) -> Result<EnvFilter, Memory>
-    ensures is { IfOk result (λ f. plain f ≡ or_default (Some directive.now) (plain filter)) }
-    ensures new { IsNew (plain filter) → IfOk result (λ f. IsNew (plain f)) }
+// Adds a directive to a filter that would have none.
+fn or_default(filter: &mut EnvFilter, directive: &Directive) -> Result<(), Memory>
+    ensures { OnOk result (plain filter.new ≡ or_default (Some directive.now) (plain filter.old)) }
 {
-    if !filter.has_none() {
-        return Ok(filter);
+    if filter.has_none() {
+        add_copy(filter, directive)
+    } else {
+        Ok(())
     }
-    match filter.add_directive(directive.clone_directive()?) {
-        Ok(filter) => Ok(filter),
-        Err((_, memory)) => Err(memory),
+}
+
+fn add_copy(filter: &mut EnvFilter, directive: &Directive) -> Result<(), Memory>
+    ensures { OnOk result (plain filter.new ≡ with_directive (plain filter.old) directive.now) }
+{
+    let directive = directive.clone_directive()?;
+    filter.add(directive)
+}
+
+// The filter where no piece was left out, else the number and the fault of the first one.
+fn unless_ignored(filter: EnvFilter, ignored: &[Ignored]) -> Result<EnvFilter, (u64, ParseError)>
+    ensures ok { (b : Building) (text : List ℕ) → IsFilterOf b text ignored.now (plain filter)
+        → IfOk result (λ f. IsFilterOf b text [] (plain f)) }
+    ensures new { IsNew (plain filter) → IfOk result (λ f. IsNew (plain f)) }
+    ensures refused { (b : Building) (text : List ℕ) → IsFilterOf b text ignored.now (plain filter)
+        → IfErr result (λ e. IsRefusedAt b.patterns text e.0 e.1) }
+{
+    match ignored.first() {
+        Some(first) => {
+            drop(filter);
+            Err((first.piece, first.fault))
+        }
+        None => Ok(filter),
     }
 }

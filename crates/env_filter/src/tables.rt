@@ -3,7 +3,7 @@ ghost use Rattle.std.specs.Prelude.{◌≡◌, [], ◌++◌, ◌∷◌, IfOk, On
 ghost use Rattle.std.specs.List.{list_any};
 ghost use Rattle.env_directives.specs.DirectiveOrder.{directive_cmp};
 ghost use Rattle.env_directives.specs.StaticOrder.{most_specific_first};
-ghost use Rattle.env_directives.specs.Table.{empty_table, with_all_added};
+ghost use Rattle.env_directives.specs.Table.{empty_table, with_added, with_all_added};
 ghost use Rattle.env_filter.specs.Filtering.{asks_value};
 ghost use Rattle.env_filter.specs.Tables.{is_static, is_dynamic, static_of, all_static, statics_of, dynamics_of, fixed, fixed_field, fixed_directive};
 
@@ -79,9 +79,24 @@ fn add_static(
     ensures { OnOk result (statics.new ≡ all_static (directive.now ∷ []) statics.old) }
 {
     if is_static(directive) {
-        statics.add(static_of(alloc, directive)?)?;
+        put_static(alloc, statics, directive)
+    } else {
+        Ok(())
     }
-    Ok(())
+}
+
+// Adds the static directive of one that is static.
+pub(crate) fn put_static(
+    alloc: Global,
+    statics: &mut DirectiveSet<StaticDirective>,
+    directive: &Directive,
+) -> Result<(), Memory>
+    ensures ok { OnOk result
+        (statics.new ≡ with_added most_specific_first (λ d. d.level) (static_of directive.now) statics.old) }
+    ensures memory_leaves { OnErr result (statics.new ≡ statics.old) }
+{
+    let directive = static_of(alloc, directive)?;
+    statics.add(directive)
 }
 
 // The table of the dynamic ones.

@@ -63,6 +63,17 @@ impl Builder {
             None => Err(FromEnvError::Env),
         }
     }
+
+    // The filter of those pieces of the builder's variable that are directives.
+    fn some_from_env<V: Vars>(self, vars: &V) -> Result<EnvFilter, Memory>
+        ensures ok { IfOk result (λ f. IsSomeReadAs (V.told vars.now) self (plain f)) }
+        ensures new { IfOk result (λ f. IsNew (plain f)) }
+    {
+        let read = self.from_env_lossy(vars);
+        drop(self);
+        let (filter, _) = read?;
+        Ok(filter)
+    }
 }
 
 impl EnvFilter {
@@ -72,8 +83,7 @@ impl EnvFilter {
         ensures ok { IfOk result (λ f. IsSomeReadAs (V.told vars.now) errors_builder (plain f)) }
         ensures new { IfOk result (λ f. IsNew (plain f)) }
     {
-        let (filter, _) = errors_builder(alloc).from_env_lossy(vars)?;
-        Ok(filter)
+        errors_builder(alloc).some_from_env(vars)
     }
 
     /// The same of the variable of a name; `EnvFilter::from_env`.
@@ -83,10 +93,7 @@ impl EnvFilter {
         ensures new { IfOk result (λ f. IsNew (plain f)) }
     {
         let name = named(alloc, name)?;
-        let (filter, _) = errors_builder(alloc)
-            .with_env_var(name)
-            .from_env_lossy(vars)?;
-        Ok(filter)
+        errors_builder(alloc).with_env_var(name).some_from_env(vars)
     }
 
     /// The filter of `RUST_LOG`, which has to be set, and each piece of which has to be a directive;

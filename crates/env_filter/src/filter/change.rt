@@ -36,16 +36,24 @@ impl EnvFilter {
         ensures new { IsNew (plain self) → IfOk result (λ f. IsNew (plain f)) }
         ensures memory_leaves { IfErr result (λ e. plain e.0 ≡ plain self) }
     {
+        let mut filter = self;
+        match filter.add(directive) {
+            Ok(()) => Ok(filter),
+            Err(memory) => Err((filter, memory)),
+        }
+    }
+
+    // Adds a directive in place.
+    pub(crate) fn add(&mut self, directive: Directive) -> Result<(), Memory>
+        ensures ok { OnOk result (plain self.new ≡ with_directive (plain self.old) directive) }
+        ensures memory_leaves { OnErr result (plain self.new ≡ plain self.old) }
+    {
         let directive = if self.patterns {
             directive
         } else {
             tables::fixed_directive(directive)
         };
-        let mut filter = self;
-        match filter.place(directive) {
-            Ok(()) => Ok(filter),
-            Err(memory) => Err((filter, memory)),
-        }
+        self.place(directive)
     }
 
     /// A filter with the same tables, whose patterns share what they were compiled to, and with no span and no level;
@@ -101,11 +109,11 @@ impl EnvFilter {
         ensures memory_leaves { OnErr result (plain self.new ≡ plain self.old) }
     {
         if tables::is_static(&directive) {
-            self.statics
-                .add(tables::static_of(self.alloc, &directive)?)?;
+            let added = tables::put_static(self.alloc, &mut self.statics, &directive);
+            drop(directive);
+            added
         } else {
-            self.dynamics.add(directive)?;
+            self.dynamics.add(directive)
         }
-        Ok(())
     }
 }

@@ -33,8 +33,7 @@ impl EnvFilter {
         ensures ok { IfOk result (λ f. IsSomeFilterOf errors_builder dirs.now (plain f)) }
         ensures new { IfOk result (λ f. IsNew (plain f)) }
     {
-        let (filter, _) = errors_builder(alloc).parse_lossy(dirs)?;
-        Ok(filter)
+        errors_builder(alloc).parse_some(dirs)
     }
 
     /// The filter of a text, each piece of which has to be a directive; `EnvFilter::try_new`. The error is the fault of

@@ -1,7 +1,19 @@
--- The first piece that is left out has the first fault.
-use Rattle.env_filter.proofs.Refusals.{refused_first}
+-- What is left out has the first fault.
+use Rattle.std.proofs.Common.{subst, sym, List}
+use Rattle.env_filter.specs.declared.pieces.Ignored.{Ignored}
+use Rattle.env_filter.specs.Building.{IsFilterOf}
+use Rattle.env_filter.specs.Filtering.{plain}
 use Rattle.env_filter.proofs.builder.Builder.parse_pieces.Goals as goal
 
-pub returns-in-Some-clause-refused : goal.returns-in-Some-clause-refused
-returns-in-Some-clause-refused c =
-    refused_first c.args.self.now.patterns c.args.dirs.now c.in-Ok.ensures.ok.directives c.in-Ok.ignored.items c.deref.result.now c.in-Some.first.now c.in-Ok.ensures.ok.reads c.deref.ensures.value c.in-Some.ensures.value
+pub returns-in-Ok-clause-ok : goal.returns-in-Ok-clause-ok
+returns-in-Ok-clause-ok c =
+    c.unless_ignored.ensures.ok c.args.self.now c.args.dirs.now
+    (subst (λ (is : List Ignored). IsFilterOf c.args.self.now c.args.dirs.now is (plain c.in-Ok.filter)) (sym c.as_slice.ensures.value) c.in-Ok.ensures.ok)
+
+pub returns-in-Ok-clause-new : goal.returns-in-Ok-clause-new
+returns-in-Ok-clause-new c = c.unless_ignored.ensures.new c.in-Ok.ensures.new
+
+pub returns-in-Ok-clause-refused : goal.returns-in-Ok-clause-refused
+returns-in-Ok-clause-refused c =
+    c.unless_ignored.ensures.refused c.args.self.now c.args.dirs.now
+    (subst (λ (is : List Ignored). IsFilterOf c.args.self.now c.args.dirs.now is (plain c.in-Ok.filter)) (sym c.as_slice.ensures.value) c.in-Ok.ensures.ok)
