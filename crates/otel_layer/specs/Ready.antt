@@ -12,7 +12,7 @@ use Rattle.otel_state.specs.declared.update.Update.{Update}
 use Rattle.otel_state.specs.EventFields.{event_of}
 use Rattle.otel_state.specs.FirstAttributes.{first_attributes}
 use Rattle.otel_state.specs.SpanFields.{span_update}
-use Rattle.otel_state.specs.States.{Kept, begun}
+use Rattle.otel_state.specs.States.{Told, Kept, begun}
 use Rattle.otel_layer.specs.declared.ready.Ready.{Ready}
 use Rattle.otel_layer.specs.declared.ready.Ready.TheVariants as ready
 use Rattle.otel_layer.specs.Table.{knows_span, RoomFor, RoomForLink}
@@ -24,10 +24,14 @@ pub record IsReadySpan {T : Type 0} (s : Roomed T) : Type 0 where
   pub spare : length s.core.spans < s.core.reserved
   pub few : s.core.made + 1 < 2 ^ 62
 
--- the state of a new span, which doesn't know its parent and its moment yet, and what its fields write
+-- what a new span has come to that doesn't know its parent and its moment yet
+abbrev pub fresh_told : {T : Type 0} → Core T → Lane → Callsite → Told
+fresh_told c lane callsite = begun (record { name = callsite.name; parent = empty_context; made = 0; first = first_attributes callsite lane c.settings; counting = c.counting; inactivity = c.settings.inactivity })
+
+-- its state, and what its fields write
 pub record IsReadyState {T : Type 0} (s : Roomed T) (lane : Lane) (callsite : Callsite) (values : ValueSet) (state : Kept) (update : Update) : Type 0 where
   pub span : IsReadySpan s
-  pub told : state.told ≡ begun (record { name = callsite.name; parent = empty_context; made = 0; first = first_attributes callsite lane s.core.settings; counting = s.core.counting; inactivity = s.core.settings.inactivity })
+  pub told : state.told ≡ fresh_told s.core lane callsite
   pub is : update ≡ span_update callsite values s.core.settings
   pub room : length update.attributes ≤ state.room.attributes
 
@@ -36,15 +40,23 @@ abbrev pub retimed : ℕ → Op → Op
 retimed at (ops.Event is_error update event) = ops.Event is_error update (record event { time = at })
 retimed at op = op
 
+-- a state with room for what fields write
+abbrev pub IsRoomed : Told → Update → Ready → Type 0
+IsRoomed told update (ready.Made state written) = (state.told ≡ told) × (written ≡ update) × (length written.attributes ≤ state.room.attributes)
+IsRoomed told update _ = ⊥
+
+-- an op, with the room that it needs
+abbrev pub IsReadyOp : {T : Type 0} → Roomed T → ℕ → Op → Ready → Type 0
+IsReadyOp s id wanted (ready.Happened op) = (op ≡ wanted) × RoomFor id op s.rooms
+IsReadyOp s id wanted _ = ⊥
+
 abbrev pub IsReadyOtel : {T : Type 0} → Roomed T → Preparation → Ready → Type 0
 IsReadyOtel s (ForNewSpan lane callsite values) (ready.Made state update) = IsReadyState s lane callsite values state update
 IsReadyOtel s (ForNewSpan lane callsite values) _ = ⊥
-IsReadyOtel s (ForRecord id callsite values) (ready.Happened op) = (op ≡ ops.Update (span_update callsite values s.core.settings)) × RoomFor id op s.rooms
-IsReadyOtel s (ForRecord id callsite values) _ = ⊥
+IsReadyOtel s (ForRecord id callsite values) r = IsReadyOp s id (ops.Update (span_update callsite values s.core.settings)) r
 IsReadyOtel s (ForFollows id from) r = RoomForLink id s.rooms
 IsReadyOtel s (ForEvent None callsite values) r = Unit {0}
-IsReadyOtel s (ForEvent (Some id) callsite values) (ready.Happened op) = (op ≡ event_of callsite values s.core.settings 0) × RoomFor id op s.rooms
-IsReadyOtel s (ForEvent (Some id) callsite values) _ = ⊥
+IsReadyOtel s (ForEvent (Some id) callsite values) r = IsReadyOp s id (event_of callsite values s.core.settings 0) r
 IsReadyOtel s (ForEnter id lane) r = 0 < s.token_room
 
 -- ---- lanes, for a span that is known

@@ -82,6 +82,8 @@ impl<T: Tracer> OpenTelemetryLayer<T> {
         self.put_op(id, at, Op::Counted);
         if is_taken {
             self.put_op(id, at, op);
+        } else {
+            drop(op);
         }
     }
 

@@ -169,7 +169,7 @@ impl<T: Tracer, F: Filter> Layer for FilteredOpenTelemetryLayer<T, F> {
                 }
                 _ => unreachable!(),
             },
-            None => {}
+            None => drop(prepared),
         }
     }
 

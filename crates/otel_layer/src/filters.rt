@@ -34,7 +34,8 @@ impl OtelPart for EnvFilter {
         false
     }
 
-    fn otel_apply(&mut self, _id: Id, _at: u64, _op: Op) -> Option<Result<OpReply, Memory>> {
+    fn otel_apply(&mut self, _id: Id, _at: u64, op: Op) -> Option<Result<OpReply, Memory>> {
+        drop(op);
         None
     }
 
@@ -69,7 +70,8 @@ impl<L> OtelPart for reload::Layer<L> {
         false
     }
 
-    fn otel_apply(&mut self, _id: Id, _at: u64, _op: Op) -> Option<Result<OpReply, Memory>> {
+    fn otel_apply(&mut self, _id: Id, _at: u64, op: Op) -> Option<Result<OpReply, Memory>> {
+        drop(op);
         None
     }
 
@@ -104,7 +106,8 @@ impl OtelPart for Targets {
         false
     }
 
-    fn otel_apply(&mut self, _id: Id, _at: u64, _op: Op) -> Option<Result<OpReply, Memory>> {
+    fn otel_apply(&mut self, _id: Id, _at: u64, op: Op) -> Option<Result<OpReply, Memory>> {
+        drop(op);
         None
     }
 

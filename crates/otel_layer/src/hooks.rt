@@ -144,7 +144,8 @@ impl<T: Tracer> Layer for OpenTelemetryLayer<T> {
         self.prepare_link(id, from)
     }
 
-    fn on_follows_from(&mut self, _prepared: Ready, id: Id, from: Id, at: u64) {
+    fn on_follows_from(&mut self, prepared: Ready, id: Id, from: Id, at: u64) {
+        drop(prepared);
         self.follow(id, from, at);
     }
 
@@ -171,7 +172,7 @@ impl<T: Tracer> Layer for OpenTelemetryLayer<T> {
                 Ready::Happened { op } => self.put_op(id, at, at_moment(op, at)),
                 _ => unreachable!(),
             },
-            None => {}
+            None => drop(prepared),
         }
     }
 
@@ -183,7 +184,8 @@ impl<T: Tracer> Layer for OpenTelemetryLayer<T> {
         }
     }
 
-    fn on_enter(&mut self, _prepared: Ready, id: Id, lane: &mut Lane, at: u64) {
+    fn on_enter(&mut self, prepared: Ready, id: Id, lane: &mut Lane, at: u64) {
+        drop(prepared);
         self.enter_if_known(id, lane, at);
     }
 

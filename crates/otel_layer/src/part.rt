@@ -131,7 +131,8 @@ impl OtelPart for Registry {
         false
     }
 
-    fn otel_apply(&mut self, _id: Id, _at: u64, _op: Op) -> Option<Result<OpReply, Memory>> {
+    fn otel_apply(&mut self, _id: Id, _at: u64, op: Op) -> Option<Result<OpReply, Memory>> {
+        drop(op);
         None
     }
 

@@ -4,7 +4,7 @@ ghost use Rattle.otel_base.specs.declared.enter_error.EnterError.TheVariants.{Fu
 ghost use Rattle.trace_base.specs.Contexts.{KeepsLive};
 ghost use Rattle.trace_base.specs.Hooks.{ForNewSpan, ForRecord, ForFollows, ForEvent, ForEnter};
 ghost use Rattle.otel_layer.specs.Steps.{SameCore};
-ghost use Rattle.otel_layer.specs.Ready.{IsReadySpan, IsReadyOtel, IsReadyLane, MeetsFull};
+ghost use Rattle.otel_layer.specs.Ready.{IsReadySpan, IsReadyOtel, IsReadyOp, IsReadyLane, MeetsFull, fresh_told, IsRoomed};
 
 use crate::layer::OpenTelemetryLayer;
 use crate::ready::Ready;
@@ -17,6 +17,7 @@ use otel_state::fields::first::first_attributes;
 use otel_state::fields::span::span_update;
 use otel_state::op::Op;
 use otel_state::state::SpanState;
+use otel_state::update::Update;
 use trace_base::callsite::Callsite;
 use trace_base::field::ValueSet;
 use trace_base::lane::Lane;
@@ -36,9 +37,23 @@ impl<T: Tracer> OpenTelemetryLayer<T> {
         ensures same { SameCore T.does self.old.core self.new.core }
         ensures ready { IfOk result (IsReadyOtel self.new (ForNewSpan lane.now callsite.now values.now)) }
     {
+        self.reserve_span()?;
+        let state = self.new_state(lane, callsite)?;
+        match span_update(self.alloc, callsite, values, &self.settings) {
+            Ok(update) => roomed(state, update),
+            Err(memory) => {
+                drop(state);
+                Err(memory)
+            }
+        }
+    }
+
+    // The state of a new span, which doesn't know its parent and its moment yet.
+    fn new_state(&self, lane: &Lane, callsite: &Callsite) -> Result<SpanState, Memory>
+        ensures { IfOk result (λ state. state.told ≡ fresh_told self.now.core lane.now callsite.now) }
+    {
         let first = first_attributes(self.alloc, callsite, lane, &self.settings)?;
-        let update = span_update(self.alloc, callsite, values, &self.settings)?;
-        let mut state = SpanState::new(
+        SpanState::new(
             self.alloc,
             callsite.name.as_str(),
             Context::empty(),
@@ -46,10 +61,7 @@ impl<T: Tracer> OpenTelemetryLayer<T> {
             first,
             self.counting,
             self.settings.inactivity,
-        )?;
-        state.reserve_room(update.attributes.as_slice().len(), 0, 0)?;
-        self.reserve_span()?;
-        Ok(Ready::Made { state, update })
+        )
     }
 
     // What a record needs.
@@ -63,9 +75,7 @@ impl<T: Tracer> OpenTelemetryLayer<T> {
         ensures ready { IfOk result (IsReadyOtel self.new (ForRecord id callsite.now values.now)) }
     {
         let update = span_update(self.alloc, callsite, values, &self.settings)?;
-        let op = Op::Update { update };
-        self.table.reserve_op(id, &op)?;
-        Ok(Ready::Happened { op })
+        self.reserve_op(id, Op::Update { update })
     }
 
     // What a link needs.
@@ -90,10 +100,23 @@ impl<T: Tracer> OpenTelemetryLayer<T> {
         match reached {
             Some(id) => {
                 let op = event_op(self.alloc, callsite, values, &self.settings, 0)?;
-                self.table.reserve_op(id, &op)?;
-                Ok(Ready::Happened { op })
+                self.reserve_op(id, op)
             }
             None => Ok(Ready::Light),
+        }
+    }
+
+    // Takes the room for an op in the state of a span, if it is known.
+    fn reserve_op(&mut self, id: Id, op: Op) -> Result<Ready, Memory>
+        ensures core { self.new.core ≡ self.old.core }
+        ensures ready { IfOk result (IsReadyOp self.new id op) }
+    {
+        match self.table.reserve_op(id, &op) {
+            Ok(()) => Ok(Ready::Happened { op }),
+            Err(memory) => {
+                drop(op);
+                Err(memory)
+            }
         }
     }
 
@@ -148,5 +171,19 @@ impl<T: Tracer> OpenTelemetryLayer<T> {
         self.tracer.reserve()?;
         self.reserved += 1;
         Ok(())
+    }
+}
+
+// The state of a new span, with room for what its fields write.
+fn roomed(mut state: SpanState, update: Update) -> Result<Ready, Memory>
+    ensures { IfOk result (IsRoomed state.told update) }
+{
+    match state.reserve_room(update.attributes.as_slice().len(), 0, 0) {
+        Ok(()) => Ok(Ready::Made { state, update }),
+        Err(memory) => {
+            drop(state);
+            drop(update);
+            Err(memory)
+        }
     }
 }

@@ -216,7 +216,10 @@ fn apply<S: Subscriber + OtelPart>(
 {
     match held_by(span) {
         Some((id, dispatch)) => apply_in(world, dispatch, id, at, op),
-        None => None,
+        None => {
+            drop(op);
+            None
+        }
     }
 }
 

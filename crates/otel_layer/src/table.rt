@@ -297,9 +297,9 @@ fn put(entries: &mut [Entry], rising: bool, id: Id, at: u64, op: Op)
     match find(entries, rising, id) {
         Some(place) => match &mut entries[place].state {
             Some(state) => state.put(at, op),
-            None => {}
+            None => unreachable!(),
         },
-        None => {}
+        None => drop(op),
     }
 }
 
@@ -347,9 +347,12 @@ fn apply(
     match find(entries, rising, id) {
         Some(place) => match &mut entries[place].state {
             Some(state) => Some(state.apply(at, op)),
-            None => None,
+            None => unreachable!(),
         },
-        None => None,
+        None => {
+            drop(op);
+            None
+        }
     }
 }
 

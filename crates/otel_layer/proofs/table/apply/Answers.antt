@@ -25,14 +25,14 @@ returns-in-Some-state-clause-ids c =
     let place = sym c.find.ensures ∙ c.in-Some.is in
     found_ids c.args.id xs n d _ place refl
 
-pub returns-in-None-state-clause-did : goal.returns-in-None-state-clause-did
-returns-in-None-state-clause-did c =
+pub unreachable-requires : goal.unreachable-requires
+unreachable-requires c =
     let xs = c.args.entries.now in
     let n = c.in-Some.place in
     let d = c.index-entries-place.result in
     let place = sym c.find.ensures ∙ c.in-Some.is in
     let gap : (get_or xs n d).state ≡ None = c.in-None-state.is in
-    absurd (no_gap c.args.id xs n d place gap)
+    no_gap c.args.id xs n d place gap
 
 pub returns-in-None-clause-did : goal.returns-in-None-clause-did
 returns-in-None-clause-did c = applies_none _ _ c.args.id c.args.at c.args.op (not_read (λ s. s.told) c.args.id c.args.entries.now (sym c.find.ensures ∙ c.in-None.is))

@@ -39,14 +39,14 @@ returns-in-Some-state-clause-ids c =
     let place = sym c.find.ensures ∙ c.in-Some.is in
     found_ids c.args.id xs n d _ place refl
 
-pub returns-in-None-state-clause-told : goal.returns-in-None-state-clause-told
-returns-in-None-state-clause-told c =
+pub unreachable-requires : goal.unreachable-requires
+unreachable-requires c =
     let xs = c.args.entries.now in
     let n = c.in-Some.place in
     let d = c.index-entries-place.result in
     let place = sym c.find.ensures ∙ c.in-Some.is in
     let gap : (get_or xs n d).state ≡ None = c.in-None-state.is in
-    absurd (no_gap c.args.id xs n d place gap)
+    no_gap c.args.id xs n d place gap
 
 pub returns-in-None-clause-told : goal.returns-in-None-clause-told
 returns-in-None-clause-told c = sym (not_updated c.args.id (λ t. changed t c.args.at c.args.op) c.args.entries.now (sym c.find.ensures ∙ c.in-None.is))
