@@ -4,10 +4,9 @@
 mod answer;
 mod asked;
 mod explain;
-mod reading;
 
 use crate::explain::explain;
-use crate::reading::Reading;
+use explain_base::Reading;
 use std::io::{self, ErrorKind};
 
 fn main(rt: HostRuntime) -> io::Result<()> {

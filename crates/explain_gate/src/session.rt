@@ -2,6 +2,8 @@
 use crate::{answers, exchanging, variables, words};
 use env_directives::Directive;
 use env_filter::{Builder, EnvFilter, Ignored};
+use explain_base::filters::{filter_line, push_filter};
+use explain_base::levels::{level_line, levels_line};
 use otel_base::memory::Memory;
 use std::alloc::Global;
 use std::mem;
@@ -77,14 +79,14 @@ impl Session {
     // Puts a filter in place.
     fn put(&mut self, filter: EnvFilter) -> Result<String, Memory> {
         self.filter = filter;
-        answers::filter(self.alloc, &self.filter)
+        filter_line(self.alloc, &self.filter)
     }
 
     // The filter of the pieces that are directives, and errors where there is none; the others are told.
     fn lossy(&mut self, text: &str) -> Result<String, Memory> {
         let ignored = self.put_lossy(text)?;
         let mut told = answers::all_ignored(self.alloc, ignored.as_slice())?;
-        answers::push_filter(self.alloc, &mut told, &self.filter)?;
+        push_filter(self.alloc, &mut told, &self.filter)?;
         Ok(told)
     }
 
@@ -178,7 +180,7 @@ impl Session {
         let parent = Parent::Current;
         self.filter
             .on_new_span(prepared, span, &lane, 0, parent, None, callsite, &values);
-        answers::level(self.alloc, self.filter.level(span))
+        level_line(self.alloc, self.filter.level(span))
     }
 
     // Values are recorded on a span of a callsite.
@@ -190,7 +192,7 @@ impl Session {
         let values = words::values(self.alloc, callsite, more)?;
         let prepared = self.filter.prepare_record(span, callsite, &values)?;
         self.filter.on_record(prepared, span, 0, callsite, &values);
-        answers::level(self.alloc, self.filter.level(span))
+        level_line(self.alloc, self.filter.level(span))
     }
 
     // A span is entered on a lane.
@@ -205,7 +207,7 @@ impl Session {
         };
         self.filter
             .on_enter(prepared, span, &mut words::lane(self.alloc, lane), 0);
-        answers::levels(self.alloc, self.filter.levels(lane))
+        levels_line(self.alloc, self.filter.levels(lane))
     }
 
     // A span is exited on a lane.
@@ -215,13 +217,13 @@ impl Session {
         };
         self.filter
             .on_exit(span, &mut words::lane(self.alloc, lane), 0);
-        answers::levels(self.alloc, self.filter.levels(lane))
+        levels_line(self.alloc, self.filter.levels(lane))
     }
 
     // A span closes.
     fn close(&mut self, span: Id) -> Result<String, Memory> {
         self.filter.on_close(span, 0);
-        answers::level(self.alloc, self.filter.level(span))
+        level_line(self.alloc, self.filter.level(span))
     }
 
     // Whether the filter lets a callsite through on a lane.

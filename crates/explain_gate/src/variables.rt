@@ -1,6 +1,7 @@
 //! Filters from variables.
 use crate::answers;
 use env_filter::{Builder, EnvFilter, FromEnvError, MemVars, SysVars, Vars};
+use explain_base::filters::filter_line;
 use otel_base::list::Items;
 use otel_base::memory::Memory;
 use otel_base::text::Text;
@@ -17,7 +18,7 @@ pub fn in_memory(alloc: Global, words: &str) -> Result<String, Memory> {
 
 fn read_default(alloc: Global, vars: &MemVars) -> Result<String, Memory> {
     let filter = EnvFilter::from_default_env(alloc, vars)?;
-    answers::filter(alloc, &filter)
+    filter_line(alloc, &filter)
 }
 
 fn push_required(alloc: Global, told: &mut String, vars: &MemVars) -> Result<(), Memory> {
@@ -61,7 +62,7 @@ pub fn of_process<R: Env>(alloc: Global, rt: &R, words: &str) -> Result<String, 
 
 fn read<V: Vars>(alloc: Global, name: &str, vars: &V) -> Result<String, Memory> {
     let filter = EnvFilter::from_env(alloc, name, vars)?;
-    answers::filter(alloc, &filter)
+    filter_line(alloc, &filter)
 }
 
 fn read_by_builder<V: Vars>(alloc: Global, name: &str, vars: &V) -> Result<String, Memory> {
@@ -82,7 +83,7 @@ fn builder(alloc: Global, name: &str) -> Result<Builder, Memory> {
 
 fn read_as(alloc: Global, read: Result<EnvFilter, FromEnvError>) -> Result<String, Memory> {
     match read {
-        Ok(filter) => answers::filter(alloc, &filter),
+        Ok(filter) => filter_line(alloc, &filter),
         Err(FromEnvError::Memory) => Err(Memory),
         Err(fault) => Ok(format!(in alloc; "  {fault:?}, {fault}\n")?),
     }

@@ -1,7 +1,7 @@
 -- Which reading a line's word asks for.
 use Rattle.std.specs.Prelude.{ℕ, List, if◌then◌else◌, codes, bytes_eq}
-use Rattle.explain_filter.specs.declared.reading.Reading.{Reading}
-use Rattle.explain_filter.specs.declared.reading.Reading.TheVariants.{Filter, Directive, Fixed, Targets, Levels}
+use Rattle.explain_base.specs.declared.reading.Reading.{Reading}
+use Rattle.explain_base.specs.declared.reading.Reading.TheVariants.{Filter, Directive, Fixed, Targets, Levels}
 
 -- the reading that a word names, the first argument where it names none
 abbrev pub switched : Reading → List ℕ → Reading

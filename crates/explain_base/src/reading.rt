@@ -1,6 +1,6 @@
 //! As what a line's text is read.
 ghost use Rattle.std.specs.Prelude.{◌≡◌};
-ghost use Rattle.explain_filter.specs.Switches.{switched};
+ghost use Rattle.explain_base.specs.Switches.{switched};
 
 /// As what a line's text is read. A line `# WORD` changes it for the lines behind it; other lines with `#` in front are
 /// comments.
