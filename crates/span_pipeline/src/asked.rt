@@ -1,15 +1,18 @@
-//! What is asked of the span extension that is answered with no more than whether memory was wanted.
+//! What is asked of the span extension at the stack: what is answered with no more than whether memory was wanted, and
+//! contexts.
 ghost use Rattle.span_handles.specs.Entries.{IsThere};
+ghost use Rattle.span_handles.specs.Handles.{HasOn};
+ghost use Rattle.otel_layer.specs.Asking.{AsksContext};
 ghost use Rattle.span_pipeline.specs.Asked.{AsksFor};
 
-use otel_base::context::SpanContext;
+use otel_base::context::{Context, SpanContext};
 use otel_base::list::Items;
 use otel_base::memory::Memory;
 use otel_base::record::Moment;
 use otel_base::status::Status;
 use otel_base::text::Text;
 use otel_base::value::{KeyValue, OtelValue};
-use otel_layer::part::OtelPart;
+use otel_layer::part::{OtelPart, OtelSubscriber};
 use otel_layer::span_ext::OpenTelemetrySpanExt;
 use span_handles::span::Span;
 use span_stack::Stack;
@@ -74,4 +77,22 @@ pub fn ask(span: &Span, world: &mut World<Stack>, at: Moment, asked: Asked) -> R
     ensures { AsksFor ⟦<Stack as OtelPart>⟧.touches world.old world.new at asked span.now.held result }
 {
     ask_any(span, world, at, asked)
+}
+
+// Starts a span of any whole subscriber, and answers its context.
+fn context_any<S: OtelSubscriber>(span: &Span, world: &mut World<S>, at: Moment) -> Context
+    requires there { IsThere world.old span.now.held }
+    requires whole { HasOn (λ s id. S.is_whole s) world.old span.now.held }
+    ensures { AsksContext S.touches world.old world.new at span.now.held result }
+{
+    span.context(world, at)
+}
+
+/// Starts a span of the stack, and answers its context.
+pub fn context_of(span: &Span, world: &mut World<Stack>, at: Moment) -> Context
+    requires there { IsThere world.old span.now.held }
+    requires whole { HasOn (λ s id. ⟦<Stack as Subscriber>⟧.is_whole s) world.old span.now.held }
+    ensures { AsksContext ⟦<Stack as OtelPart>⟧.touches world.old world.new at span.now.held result }
+{
+    context_any(span, world, at)
 }

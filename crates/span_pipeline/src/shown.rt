@@ -4,7 +4,7 @@ ghost use Rattle.std.specs.Prelude.{ℕ, Some};
 ghost use Rattle.trace_base.specs.Gate.{Worlds};
 ghost use Rattle.trace_base.specs.Calls.{SubscriberCall};
 ghost use Rattle.otel_layer.specs.Parts.{PartCall};
-ghost use Rattle.span_handles.specs.Worlds.{Has, Replaced, Shown, Alike, Chain, ChainShown};
+ghost use Rattle.span_handles.specs.Worlds.{Replaced, Shown, Alike, Chain, ChainShown};
 ghost use Rattle.span_stack.specs.Reading.{StackWorlds};
 
 use otel_layer::part::{OtelPart, OtelSubscriber};
@@ -26,7 +26,6 @@ fn of_any<S: OtelSubscriber>()
     ensures leaves { (old new : Worlds S) (dispatch : ℕ) (call : PartCall)
         → Replaced (λ s t. S.touches s call t) old new dispatch
         → Alike S.spans S.attaches S.kept S.is_whole old new dispatch }
-    ensures starts { (world : Worlds S) (dispatch : ℕ) → Has S.is_whole world dispatch → Has S.can_start world dispatch }
 {
     laws::calls::<S>();
     laws::same::<S>();
@@ -52,8 +51,6 @@ fn of_stack()
         → Replaced (λ s t. ⟦<Stack as OtelPart>⟧.touches s call t) old new dispatch
         → Alike ⟦<Stack as Subscriber>⟧.spans ⟦<Stack as Subscriber>⟧.attaches ⟦<Stack as Subscriber>⟧.kept
         ⟦<Stack as Subscriber>⟧.is_whole old new dispatch }
-    ensures starts { (world : StackWorlds) (dispatch : ℕ) → Has ⟦<Stack as Subscriber>⟧.is_whole world dispatch
-        → Has ⟦<Stack as OtelPart>⟧.can_start world dispatch }
 {
     of_any::<Stack>();
 }
@@ -94,14 +91,6 @@ pub fn leaves()
         → Replaced (λ s t. ⟦<Stack as OtelPart>⟧.touches s call t) old new dispatch
         → Alike ⟦<Stack as Subscriber>⟧.spans ⟦<Stack as Subscriber>⟧.attaches ⟦<Stack as Subscriber>⟧.kept
         ⟦<Stack as Subscriber>⟧.is_whole old new dispatch }
-{
-    of_stack();
-}
-
-/// Whatever spans a whole stack has can be started.
-pub fn starts()
-    ensures { (world : StackWorlds) (dispatch : ℕ) → Has ⟦<Stack as Subscriber>⟧.is_whole world dispatch
-        → Has ⟦<Stack as OtelPart>⟧.can_start world dispatch }
 {
     of_stack();
 }

@@ -2,5 +2,6 @@ pub mod Counters
 pub mod Counting
 pub mod Filtered
 pub mod Measured
+pub mod Over
 pub mod Reading
 pub mod Through

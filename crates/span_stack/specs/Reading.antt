@@ -21,9 +21,13 @@ use Rattle.span_stack.specs.declared.telemetry.Telemetry.{Telemetry}
 use Rattle.span_stack.specs.Measured.{waiting}
 use Rattle.span_stack.specs.Counters.{core_of, counter_of, taken_from}
 
--- a stack: the filter that is in place, the layer of metrics, the OpenTelemetry layer that may count events, and the registry
+-- over any subscriber, the layer of metrics and the filter that is in place
+abbrev pub StackOver : Type 0 → Type 0
+StackOver S = Layered (Layer Filtering) (Layered Measuring S)
+
+-- a stack: these, over the OpenTelemetry layer that may count events, and the registry
 abbrev pub Stacks : Type 0
-Stacks = Layered (Layer Filtering) (Layered Measuring (Layered (Telemetry Recorded Filtering) Registered))
+Stacks = StackOver (Layered (Telemetry Recorded Filtering) Registered)
 
 abbrev pub StackWorlds : Type 0
 StackWorlds = Worlds Stacks

@@ -1,7 +1,7 @@
 //! The gate of a stack, and the exchange of its filter.
 ghost use Rattle.std.specs.Prelude.{◌≡◌, ◌≢◌, ◌<◌, ℕ, true, None, Some, length, is_some, slice_get, OnOk, OnErr};
 ghost use Rattle.trace_base.specs.declared.callsite.Callsite.{Callsite};
-ghost use Rattle.trace_base.specs.Gate.{AreSame};
+ghost use Rattle.trace_base.specs.Gate.{AreSame, Admits};
 ghost use Rattle.span_handles.specs.Worlds.{Has, Replaced, Alike};
 ghost use Rattle.otel_layer.specs.Parts.{StaysStack};
 ghost use Rattle.env_filter.specs.Filtering.{Filtered, plain, is_admitted, IsNew};
@@ -18,6 +18,26 @@ use trace_base::lane::Lane;
 use trace_base::subscriber::Subscriber;
 use trace_base::world::World;
 
+// The gate of a lane that a subscriber serves.
+fn admits_by<S: Subscriber>(
+    world: &World<S>,
+    dispatch: Dispatch,
+    lane: &Lane,
+    site: SiteId,
+) -> bool
+    requires site { site < length world.now.sites }
+    requires there { dispatch < length world.now.subscribers }
+    ensures { Admits S.hint S.enables world.now lane.now.id site (Some dispatch) result }
+{
+    let served = Lane {
+        id: lane.id,
+        name: None,
+        default: Some(dispatch),
+        contexts: ContextStack::new(world.allocator()),
+    };
+    world.admits(&served, site)
+}
+
 /// Whether what a callsite makes is let through on a lane that a stack serves, by the interest that was cached: what
 /// the macros of `tracing` ask.
 pub fn admits(world: &World<Stack>, dispatch: Dispatch, lane: &Lane, site: SiteId) -> bool
@@ -28,13 +48,7 @@ pub fn admits(world: &World<Stack>, dispatch: Dispatch, lane: &Lane, site: SiteI
     ensures { (f : Filtered) (c : Callsite) → filter_in world.now dispatch ≡ Some f
         → slice_get world.now.sites site ≡ Some c → result ≡ is_admitted f lane.now.id c }
 {
-    let served = Lane {
-        id: lane.id,
-        name: None,
-        default: Some(dispatch),
-        contexts: ContextStack::new(world.allocator()),
-    };
-    world.admits(&served, site)
+    admits_by(world, dispatch, lane, site)
 }
 
 // Room leaves the plain data as they are.

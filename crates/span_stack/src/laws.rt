@@ -13,16 +13,39 @@ ghost use Rattle.env_filter.specs.Filtering.{Filtered, IsNew, enables_in};
 ghost use Rattle.span_stack.specs.Counting.{RecordsCallBy};
 ghost use Rattle.span_stack.specs.Filtered.{filter_after, FiltersChain};
 ghost use Rattle.span_stack.specs.Measured.{measured_by};
+ghost use Rattle.span_stack.specs.Over.{StepsOver, AsksOver};
 ghost use Rattle.span_stack.specs.Reading.{StackWorlds, recording_in, filter_in, counter_in, measures_in, IsCurrent, without_first, WithoutMeasure};
 
-use crate::interests::stay_fresh;
-use crate::measuring::Measuring;
-use crate::stack::{MeasuredStack, RecordedStack, Stack};
-use crate::{filters, measured, through};
-use env_filter::filter::EnvFilter;
-use env_filter::reload;
+use crate::over;
+use crate::stack::{RecordedStack, Stack};
 use otel_layer::part::OtelPart;
 use trace_base::subscriber::Subscriber;
+
+// What each change of a stack comes to, read at the stack once, for all laws below.
+fn of_stack()
+    ensures calls { (old new : StackWorlds) (dispatch : ℕ) (call : SubscriberCall)
+        → Replaced (λ s t. ⟦<Stack as Subscriber>⟧.does s call t) old new dispatch
+        → StepsOver (λ s t. ⟦<RecordedStack as Subscriber>⟧.does s call t)
+        (λ f g. g ≡ option_map (filter_after (spans_in ⟦<Stack as Subscriber>⟧.spans old dispatch) call) f)
+        (λ ms. ms ++ measured_by call) ⟦<Stack as Subscriber>⟧.interest old new dispatch }
+    ensures same { (old new : StackWorlds) (dispatch : ℕ)
+        → Replaced ⟦<Stack as Subscriber>⟧.same old new dispatch
+        → StepsOver ⟦<RecordedStack as Subscriber>⟧.same (λ f g. g ≡ f) (λ ms. ms)
+        ⟦<Stack as Subscriber>⟧.interest old new dispatch }
+    ensures chains { (old new : StackWorlds) (dispatch at id : ℕ)
+        → Replaced (λ s t. Chain ⟦<Stack as Subscriber>⟧.spans ⟦<Stack as Subscriber>⟧.does at (Some id) s t)
+        old new dispatch
+        → StepsOver
+        (λ s t. Chain ⟦<RecordedStack as Subscriber>⟧.spans ⟦<RecordedStack as Subscriber>⟧.does at (Some id) s t)
+        (λ f g. FiltersChain (Some id) (spans_in ⟦<Stack as Subscriber>⟧.spans old dispatch)
+        (spans_in ⟦<Stack as Subscriber>⟧.spans new dispatch) f g)
+        (λ ms. ms) ⟦<Stack as Subscriber>⟧.interest old new dispatch }
+    ensures asks { (old new : StackWorlds) (dispatch : ℕ) (call : PartCall)
+        → Replaced (λ s t. ⟦<Stack as OtelPart>⟧.touches s call t) old new dispatch
+        → AsksOver ⟦<RecordedStack as OtelPart>⟧.touches call old new dispatch }
+{
+    over::steps::<RecordedStack>();
+}
 
 /// One call is one step of what is recorded and one of the filter in place, and an event adds its measures; the filter that
 /// counts and the cached interests stay.
@@ -45,11 +68,7 @@ pub fn calls()
         → Replaced (λ s t. ⟦<Stack as Subscriber>⟧.does s call t) old new dispatch
         → IsCurrent old → IsCurrent new }
 {
-    through::calls::<reload::Layer<EnvFilter>, MeasuredStack>();
-    through::calls::<Measuring, RecordedStack>();
-    filters::calls::<MeasuredStack>();
-    measured::calls::<RecordedStack>();
-    stay_fresh::<Stack>();
+    of_stack();
 }
 
 /// Spare room is nothing that is kept.
@@ -69,11 +88,7 @@ pub fn same()
     ensures current { (old new : StackWorlds) (dispatch : ℕ)
         → Replaced ⟦<Stack as Subscriber>⟧.same old new dispatch → IsCurrent old → IsCurrent new }
 {
-    through::calls::<reload::Layer<EnvFilter>, MeasuredStack>();
-    through::calls::<Measuring, RecordedStack>();
-    filters::calls::<MeasuredStack>();
-    measured::calls::<RecordedStack>();
-    stay_fresh::<Stack>();
+    of_stack();
 }
 
 /// A chain of closes closes each span that it closes in the recording, in order, and the filter forgets it.
@@ -102,11 +117,7 @@ pub fn chains()
         old new dispatch
         → IsCurrent old → IsCurrent new }
 {
-    through::calls::<reload::Layer<EnvFilter>, MeasuredStack>();
-    through::calls::<Measuring, RecordedStack>();
-    filters::calls::<MeasuredStack>();
-    measured::calls::<RecordedStack>();
-    stay_fresh::<Stack>();
+    of_stack();
 }
 
 /// A call from outside is one step of what is recorded, and leaves the filters, the measures and the cached interests.
@@ -127,8 +138,7 @@ pub fn asks()
         → Replaced (λ s t. ⟦<Stack as OtelPart>⟧.touches s call t) old new dispatch
         → IsCurrent old → IsCurrent new }
 {
-    through::asks::<reload::Layer<EnvFilter>, MeasuredStack>();
-    through::asks::<Measuring, RecordedStack>();
+    of_stack();
 }
 
 /// No span is known yet under the id of the next one.

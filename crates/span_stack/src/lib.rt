@@ -8,6 +8,7 @@ pub mod interests;
 pub mod laws;
 pub mod measured;
 pub mod measuring;
+mod over;
 pub mod stack;
 pub mod telemetry;
 mod telemetry_hooks;

@@ -1,6 +1,9 @@
 //! How a call of the program ends.
 ghost use Rattle.std.specs.Prelude.{◌≡◌};
+ghost use Rattle.std.specs.Process.{exit_status};
 ghost use Rattle.trace_run.specs.Words.{number_of};
+
+use std::process::ExitCode;
 
 /// How a call ends. Each has its number, which the process ends with.
 #[derive(Clone, Copy, Debug, PartialEq, Eq)]
@@ -35,5 +38,12 @@ impl Status {
             Status::Memory => 5,
             Status::TooLong => 6,
         }
+    }
+
+    /// What the process ends with.
+    pub fn exit_code(self) -> ExitCode
+        ensures { exit_status result ≡ number_of self }
+    {
+        ExitCode::from(self.number())
     }
 }

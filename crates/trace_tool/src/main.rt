@@ -1,10 +1,6 @@
 //! Runs scripts of span calls: it reads a settings line and requests, and writes replies and records, or measures.
 #![tactic(auto)]
 
-ghost use Rattle.std.specs.Prelude.{◌≡◌};
-ghost use Rattle.std.specs.Process.{exit_status};
-ghost use Rattle.trace_run.specs.Words.{number_of};
-
 use std::env;
 use std::io::{self, ErrorKind};
 use std::process::ExitCode;
@@ -21,14 +17,7 @@ fn main(rt: HostRuntime) -> ExitCode {
         Err(error) if error.kind() == ErrorKind::OutOfMemory => Status::Memory,
         Err(_) => Status::Usage,
     };
-    exit_code(status)
-}
-
-// What the process ends with at a status.
-fn exit_code(status: Status) -> ExitCode
-    ensures { exit_status result ≡ number_of status }
-{
-    ExitCode::from(status.number())
+    status.exit_code()
 }
 
 // The arguments after the program's name.

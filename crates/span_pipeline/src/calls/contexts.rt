@@ -6,14 +6,14 @@ ghost use Rattle.otel_base.specs.declared.enter_error.EnterError.TheVariants.{Fu
 ghost use Rattle.span_script.specs.declared.reply.Refusal.TheVariants.{Memory as NoMemory};
 ghost use Rattle.span_script.specs.declared.request.Call.{Call};
 
+use crate::asked::context_of;
 use crate::names::{add, context_at, keep, slot_at, take};
 use crate::pipeline::{MOST, Pipeline};
-use crate::shown::{leaves, starts};
+use crate::shown::leaves;
 use otel_base::context::{Context, SpanContext};
 use otel_base::enter_error::EnterError;
 use otel_base::record::Moment;
 use otel_base::stack::Attached;
-use otel_layer::span_ext::OpenTelemetrySpanExt;
 use span_script::contexts::Attach;
 use span_script::reply::{Refusal, Reply, What};
 use span_stack::laws;
@@ -71,7 +71,6 @@ impl Pipeline {
             → IfErr result (IsRefusal (effect_of_call self.old.setup t at lane (Call.Context handle))) }
         ensures err { OnErr result (self.new ≡ self.old) }
     {
-        starts();
         leaves();
         laws::asks();
         let Some(span) = slot_at(&self.handles, handle) else {
@@ -79,7 +78,7 @@ impl Pipeline {
         };
         let number = self.contexts.made.len() as u64;
         self.contexts.made.reserve(1)?;
-        let context = span.context(&mut self.world, at);
+        let context = context_of(span, &mut self.world, at);
         add(&mut self.contexts.made, context);
         self.moment = at;
         Ok(Reply::Context {

@@ -1,4 +1,4 @@
--- The laws of others; that whole subscribers can start spans is a law of their trait.
+-- The laws of others.
 use Rattle.span_pipeline.proofs.shown.of_any.Goals as goal
 
 pub returns-clause-calls : goal.returns-clause-calls

@@ -3,4 +3,4 @@ use Rattle.span_stack.proofs.Admitting.{admits_by_rule}
 use Rattle.span_stack.proofs.gate.admits.Goals as goal
 
 pub returns : goal.returns
-returns c = admits_by_rule c.args.world.now c.args.dispatch c.args.lane.now.id c.args.site c.admits.result c.admits.ensures c.requires.current (λ s there. (c.requires.whole s there).outer)
+returns c = admits_by_rule c.args.world.now c.args.dispatch c.args.lane.now.id c.args.site c.admits_by.result c.admits_by.ensures c.requires.current (λ s there. (c.requires.whole s there).outer)

@@ -1,5 +1,5 @@
 -- The outer layers have no OpenTelemetry layer, and stay as they are.
-use Rattle.std.proofs.Common.{refl, ap, sym, ◌∙◌, None, [], Option}
+use Rattle.std.proofs.Common.{ap, sym, ◌∙◌, None, [], Option}
 use Rattle.std.specs.Option.{option_map}
 use Rattle.otel_layer.specs.Recording.{RecordsPart, no_recording}
 use Rattle.env_filter.specs.declared.reload.Layer.{Layer}
@@ -16,21 +16,16 @@ use Rattle.span_stack.proofs.laws.asks.Goals as goal
 
 pub returns : goal.returns
 returns c = record {
-  recording = λ old new dispatch call r. (
-      let under = c.asks.ensures.call (λ l. refl) old new dispatch call r in
+  recording = λ old new dispatch call r.
       along_two (λ before later. RecordsPart before call later) (seen_two base_recorded no_recording old dispatch) (seen_two base_recorded no_recording new dispatch)
       (read_two (λ before later. RecordsPart before call later) base_recorded no_recording (λ s t d. base_part (core_of s.layer) call (core_of t.layer) d.0.0) (below (below old)) (below (below new)) dispatch
-      (c.asks-2.ensures.call (λ l. refl) (below old) (below new) dispatch call under)));
-  filter = λ old new dispatch call r. kept_place in_place None (λ s t e. ap (λ (l : Layer Filtering). option_map plain l.inner) e) old new dispatch (c.asks.ensures.outer (λ l. refl) old new dispatch call r);
-  counter = λ old new dispatch call r. (
-      let under = c.asks.ensures.call (λ l. refl) old new dispatch call r in
-      sym (seen_two base_counter None new dispatch)
-      ∙ kept_place base_counter None (λ s t d. ap (λ (o : Option Filtering). plain_counter o) d.0.1) (below (below old)) (below (below new)) dispatch (c.asks-2.ensures.call (λ l. refl) (below old) (below new) dispatch call under)
-      ∙ seen_two base_counter None old dispatch);
-  measures = λ old new dispatch call r. (
-      let under = c.asks.ensures.call (λ l. refl) old new dispatch call r in
-      sym (seen_below waiting [] new dispatch)
-      ∙ kept_place waiting [] (λ s t e. ap (λ (l : Measuring). l.layer.measures) e) (below old) (below new) dispatch (c.asks-2.ensures.outer (λ l. refl) (below old) (below new) dispatch call under)
-      ∙ seen_below waiting [] old dispatch);
-  current = λ old new dispatch call r. fresh_later stack_interest _ (λ s t e. ap (λ (l : Layer Filtering). interest_over l) e) old new dispatch (c.asks.ensures.outer (λ l. refl) old new dispatch call r);
+      (c.of_stack.ensures.asks old new dispatch call r).inner);
+  filter = λ old new dispatch call r. kept_place in_place None (λ s t e. ap (λ (l : Layer Filtering). option_map plain l.inner) e) old new dispatch (c.of_stack.ensures.asks old new dispatch call r).filter;
+  counter = λ old new dispatch call r. sym (seen_two base_counter None new dispatch)
+      ∙ kept_place base_counter None (λ s t d. ap (λ (o : Option Filtering). plain_counter o) d.0.1) (below (below old)) (below (below new)) dispatch (c.of_stack.ensures.asks old new dispatch call r).inner
+      ∙ seen_two base_counter None old dispatch;
+  measures = λ old new dispatch call r. sym (seen_below waiting [] new dispatch)
+      ∙ kept_place waiting [] (λ s t e. ap (λ (l : Measuring). l.layer.measures) e) (below old) (below new) dispatch (c.of_stack.ensures.asks old new dispatch call r).measures
+      ∙ seen_below waiting [] old dispatch;
+  current = λ old new dispatch call r. fresh_later stack_interest _ (λ s t e. ap (λ (l : Layer Filtering). interest_over l) e) old new dispatch (c.of_stack.ensures.asks old new dispatch call r).filter;
 }

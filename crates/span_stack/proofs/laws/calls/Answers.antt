@@ -1,5 +1,5 @@
--- By the laws of what lies below the outer layers, of these, and of the interests.
-use Rattle.std.proofs.Common.{None, List, [], ◌++◌, refl, sym, ap, ◌∙◌}
+-- By what the call is to the registry with its layer, to the filter, to the measures, and to the interests.
+use Rattle.std.proofs.Common.{None, List, [], ◌++◌, sym, ap, ◌∙◌}
 use Rattle.otel_layer.specs.Recording.{no_recording}
 use Rattle.otel_metrics.specs.declared.measure.Measure.{Measure}
 use Rattle.span_handles.specs.Worlds.{no_spans}
@@ -7,25 +7,21 @@ use Rattle.span_stack.specs.Counting.{RecordsCallBy}
 use Rattle.span_stack.specs.Measured.{waiting, measured_by}
 use Rattle.span_stack.specs.Through.{below}
 use Rattle.span_stack.proofs.Counted.{base_spans, base_recorded, base_counter, base_records, counter_kept}
-use Rattle.span_stack.proofs.Nesting.{attaches_none}
 use Rattle.span_stack.proofs.Viewing.{seen_below, seen_two, along_four, read_step, kept_place}
 use Rattle.span_stack.proofs.laws.calls.Goals as goal
 
 pub returns : goal.returns
 returns c = record {
-  recording = λ old new dispatch call r. (
-      let under = c.calls.ensures.call (λ l. attaches_none l.inner) old new dispatch call r in
+  recording = λ old new dispatch call r.
       along_four (λ f x before later. RecordsCallBy f x before call later) (seen_two base_counter None old dispatch) (seen_two base_spans no_spans old dispatch) (seen_two base_recorded no_recording old dispatch) (seen_two base_recorded no_recording new dispatch)
       (read_step (λ f x before later. RecordsCallBy f x before call later) base_counter None base_spans no_spans base_recorded no_recording (λ s t d. base_records s call t d) (below (below old)) (below (below new)) dispatch
-      (c.calls-2.ensures.call (λ l. refl) (below old) (below new) dispatch call under)));
-  filter = c.calls-3.ensures.call;
-  counter = λ old new dispatch call r. (
-      let under = c.calls.ensures.call (λ l. attaches_none l.inner) old new dispatch call r in
-      sym (seen_two base_counter None new dispatch)
-      ∙ kept_place base_counter None (λ s t d. counter_kept s call t d) (below (below old)) (below (below new)) dispatch (c.calls-2.ensures.call (λ l. refl) (below old) (below new) dispatch call under)
-      ∙ seen_two base_counter None old dispatch);
+      (c.of_stack.ensures.calls old new dispatch call r).inner);
+  filter = λ old new dispatch call r. (c.of_stack.ensures.calls old new dispatch call r).filter;
+  counter = λ old new dispatch call r. sym (seen_two base_counter None new dispatch)
+      ∙ kept_place base_counter None (λ s t d. counter_kept s call t d) (below (below old)) (below (below new)) dispatch (c.of_stack.ensures.calls old new dispatch call r).inner
+      ∙ seen_two base_counter None old dispatch;
   measures = λ old new dispatch call r. sym (seen_below waiting [] new dispatch)
-      ∙ c.calls-4.ensures.call (below old) (below new) dispatch call (c.calls.ensures.call (λ l. attaches_none l.inner) old new dispatch call r)
+      ∙ (c.of_stack.ensures.calls old new dispatch call r).measures
       ∙ ap (λ (ms : List Measure). ms ++ measured_by call) (seen_below waiting [] old dispatch);
-  current = c.stay_fresh.ensures.call;
+  current = λ old new dispatch call r. (c.of_stack.ensures.calls old new dispatch call r).fresh;
 }

@@ -1,4 +1,4 @@
--- By the laws of what lies below the outer layers, of these, and of the interests.
+-- By what the chain is to the registry with its layer, to the filter, to the measures, and to the interests.
 use Rattle.std.proofs.Common.{None, Some, [], sym, ◌∙◌}
 use Rattle.otel_layer.specs.Recording.{no_recording, RecordsChain}
 use Rattle.span_handles.specs.Worlds.{no_spans}
@@ -11,16 +11,13 @@ use Rattle.span_stack.proofs.laws.chains.Goals as goal
 
 pub returns : goal.returns
 returns c = record {
-  recording = λ old new dispatch at id r. (
-      let under = c.calls.ensures.chain old new dispatch at id r in
+  recording = λ old new dispatch at id r.
       along_four (λ x y before later. RecordsChain at (Some id) x y before later) (seen_two base_spans no_spans old dispatch) (seen_two base_spans no_spans new dispatch) (seen_two base_recorded no_recording old dispatch) (seen_two base_recorded no_recording new dispatch)
-      (base_chain at (below (below old)) (below (below new)) dispatch id (c.calls-2.ensures.chain (below old) (below new) dispatch at id under)));
-  filter = c.calls-3.ensures.chain;
-  counter = λ old new dispatch at id r. (
-      let under = c.calls.ensures.chain old new dispatch at id r in
-      sym (seen_two base_counter None new dispatch)
-      ∙ kept_place base_counter None (λ s t d. chain_keeps base_spans BaseDoes base_counter counter_kept at (Some id) s t d) (below (below old)) (below (below new)) dispatch (c.calls-2.ensures.chain (below old) (below new) dispatch at id under)
-      ∙ seen_two base_counter None old dispatch);
-  measures = λ old new dispatch at id r. sym (seen_below waiting [] new dispatch) ∙ c.calls-4.ensures.chain (below old) (below new) dispatch at id (c.calls.ensures.chain old new dispatch at id r) ∙ seen_below waiting [] old dispatch;
-  current = c.stay_fresh.ensures.chain;
+      (base_chain at (below (below old)) (below (below new)) dispatch id (c.of_stack.ensures.chains old new dispatch at id r).inner);
+  filter = λ old new dispatch at id r. (c.of_stack.ensures.chains old new dispatch at id r).filter;
+  counter = λ old new dispatch at id r. sym (seen_two base_counter None new dispatch)
+      ∙ kept_place base_counter None (λ s t d. chain_keeps base_spans BaseDoes base_counter counter_kept at (Some id) s t d) (below (below old)) (below (below new)) dispatch (c.of_stack.ensures.chains old new dispatch at id r).inner
+      ∙ seen_two base_counter None old dispatch;
+  measures = λ old new dispatch at id r. sym (seen_below waiting [] new dispatch) ∙ (c.of_stack.ensures.chains old new dispatch at id r).measures ∙ seen_below waiting [] old dispatch;
+  current = λ old new dispatch at id r. (c.of_stack.ensures.chains old new dispatch at id r).fresh;
 }

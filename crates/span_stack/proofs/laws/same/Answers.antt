@@ -1,4 +1,4 @@
--- By the laws of what lies below the outer layers, of these, and of the interests.
+-- By what spare room is to the registry with its layer, to the filter, to the measures, and to the interests.
 use Rattle.std.proofs.Common.{None, [], sym, ◌∙◌}
 use Rattle.otel_layer.specs.Recording.{no_recording}
 use Rattle.span_stack.specs.Measured.{waiting}
@@ -10,12 +10,12 @@ use Rattle.span_stack.proofs.laws.same.Goals as goal
 pub returns : goal.returns
 returns c = record {
   recording = λ old new dispatch r. sym (seen_two base_recorded no_recording new dispatch)
-      ∙ kept_place base_recorded no_recording base_same (below (below old)) (below (below new)) dispatch (c.calls-2.ensures.same (below old) (below new) dispatch (c.calls.ensures.same old new dispatch r))
+      ∙ kept_place base_recorded no_recording base_same (below (below old)) (below (below new)) dispatch (c.of_stack.ensures.same old new dispatch r).inner
       ∙ seen_two base_recorded no_recording old dispatch;
-  filter = c.calls-3.ensures.same;
+  filter = λ old new dispatch r. (c.of_stack.ensures.same old new dispatch r).filter;
   counter = λ old new dispatch r. sym (seen_two base_counter None new dispatch)
-      ∙ kept_place base_counter None counter_same (below (below old)) (below (below new)) dispatch (c.calls-2.ensures.same (below old) (below new) dispatch (c.calls.ensures.same old new dispatch r))
+      ∙ kept_place base_counter None counter_same (below (below old)) (below (below new)) dispatch (c.of_stack.ensures.same old new dispatch r).inner
       ∙ seen_two base_counter None old dispatch;
-  measures = λ old new dispatch r. sym (seen_below waiting [] new dispatch) ∙ c.calls-4.ensures.same (below old) (below new) dispatch (c.calls.ensures.same old new dispatch r) ∙ seen_below waiting [] old dispatch;
-  current = c.stay_fresh.ensures.same;
+  measures = λ old new dispatch r. sym (seen_below waiting [] new dispatch) ∙ (c.of_stack.ensures.same old new dispatch r).measures ∙ seen_below waiting [] old dispatch;
+  current = λ old new dispatch r. (c.of_stack.ensures.same old new dispatch r).fresh;
 }

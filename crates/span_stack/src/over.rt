@@ -1,0 +1,54 @@
+//! What each change of a stack comes to, over any subscriber. Each law is a function that does nothing.
+ghost use Rattle.std.specs.Prelude.{◌≡◌, ◌++◌, ℕ, Some};
+ghost use Rattle.std.specs.Option.{option_map};
+ghost use Rattle.trace_base.specs.Gate.{Worlds};
+ghost use Rattle.trace_base.specs.Calls.{SubscriberCall};
+ghost use Rattle.span_handles.specs.Worlds.{Replaced, Chain, spans_in};
+ghost use Rattle.otel_layer.specs.Parts.{PartCall};
+ghost use Rattle.span_stack.specs.Filtered.{filter_after, FiltersChain};
+ghost use Rattle.span_stack.specs.Measured.{measured_by};
+ghost use Rattle.span_stack.specs.Over.{StepsOver, AsksOver};
+ghost use Rattle.span_stack.specs.Reading.{StackOver};
+
+use crate::interests::stay_fresh;
+use crate::measuring::Measuring;
+use crate::{filters, measured, through};
+use env_filter::filter::EnvFilter;
+use env_filter::reload;
+use otel_layer::part::{OtelPart, OtelSubscriber};
+use span_registry::layered::Layered;
+use trace_base::subscriber::Subscriber;
+
+/// A filter that can be exchanged, over a layer of metrics, over a subscriber.
+pub type Over<S> = Layered<reload::Layer<EnvFilter>, Layered<Measuring, S>>;
+
+/// A call is the same call below the outer layers, and so is a chain of closes; spare room and a call from outside leave
+/// the outer layers as they are.
+pub fn steps<S: OtelSubscriber>()
+    ensures calls { (old new : Worlds (StackOver S)) (dispatch : ℕ) (call : SubscriberCall)
+        → Replaced (λ s t. ⟦<Over<S> as Subscriber>⟧.does s call t) old new dispatch
+        → StepsOver (λ s t. S.does s call t)
+        (λ f g. g ≡ option_map (filter_after (spans_in ⟦<Over<S> as Subscriber>⟧.spans old dispatch) call) f)
+        (λ ms. ms ++ measured_by call) ⟦<Over<S> as Subscriber>⟧.interest old new dispatch }
+    ensures same { (old new : Worlds (StackOver S)) (dispatch : ℕ)
+        → Replaced ⟦<Over<S> as Subscriber>⟧.same old new dispatch
+        → StepsOver S.same (λ f g. g ≡ f) (λ ms. ms) ⟦<Over<S> as Subscriber>⟧.interest old new dispatch }
+    ensures chains { (old new : Worlds (StackOver S)) (dispatch at id : ℕ)
+        → Replaced (λ s t. Chain ⟦<Over<S> as Subscriber>⟧.spans ⟦<Over<S> as Subscriber>⟧.does at (Some id) s t)
+        old new dispatch
+        → StepsOver (λ s t. Chain S.spans S.does at (Some id) s t)
+        (λ f g. FiltersChain (Some id) (spans_in ⟦<Over<S> as Subscriber>⟧.spans old dispatch)
+        (spans_in ⟦<Over<S> as Subscriber>⟧.spans new dispatch) f g)
+        (λ ms. ms) ⟦<Over<S> as Subscriber>⟧.interest old new dispatch }
+    ensures asks { (old new : Worlds (StackOver S)) (dispatch : ℕ) (call : PartCall)
+        → Replaced (λ s t. ⟦<Over<S> as OtelPart>⟧.touches s call t) old new dispatch
+        → AsksOver S.touches call old new dispatch }
+{
+    through::calls::<reload::Layer<EnvFilter>, Layered<Measuring, S>>();
+    through::calls::<Measuring, S>();
+    filters::calls::<Layered<Measuring, S>>();
+    measured::calls::<S>();
+    stay_fresh::<Over<S>>();
+    through::asks::<reload::Layer<EnvFilter>, Layered<Measuring, S>>();
+    through::asks::<Measuring, S>();
+}
