@@ -1,5 +1,6 @@
 //! What directives answer about a callsite or a value.
 use crate::asked::{callsite_of, value_of};
+use crate::explain::push;
 use env_directives::directive::Match;
 use env_directives::{Directive, DirectiveSet, FieldMatch, ParseError, StaticDirective, Targets};
 use otel_base::memory::Memory;
@@ -65,13 +66,29 @@ pub fn answer_targets(
     };
     let mut told = String::new(alloc);
     if let Ok(set) = static_set(alloc, text) {
-        push_caring(alloc, &mut told, &set, &callsite)?;
-        let enabled = set.enabled(&callsite);
-        told.push_str(format!(in alloc; "  enabled: {enabled}\n")?.as_str())?;
+        push_statics(alloc, &mut told, &set, &callsite)?;
     }
     let would = targets.would_enable(callsite.target.as_str(), callsite.level);
-    told.push_str(format!(in alloc; "  target enabled: {would}\n")?.as_str())?;
+    push(&mut told, target_enabled(alloc, would))?;
     Ok(told)
+}
+
+fn target_enabled(alloc: Global, would: bool) -> Result<String, Memory> {
+    Ok(format!(in alloc; "  target enabled: {would}\n")?)
+}
+
+fn push_statics(
+    alloc: Global,
+    told: &mut String,
+    set: &DirectiveSet<StaticDirective>,
+    callsite: &Callsite,
+) -> Result<(), Memory> {
+    push_caring(alloc, told, set, callsite)?;
+    push(told, enabled(alloc, set.enabled(callsite)))
+}
+
+fn enabled(alloc: Global, enabled: bool) -> Result<String, Memory> {
+    Ok(format!(in alloc; "  enabled: {enabled}\n")?)
 }
 
 // The set of a list's pieces.

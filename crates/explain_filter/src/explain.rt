@@ -30,76 +30,140 @@ fn directive(
     asked: Option<&str>,
     patterns: bool,
 ) -> Result<String, Memory> {
-    let directive = match Directive::parse(alloc, text, patterns) {
-        Ok(directive) => directive,
-        Err(fault) => return fault_line(alloc, fault),
-    };
+    match Directive::parse(alloc, text, patterns) {
+        Ok(directive) => parsed(alloc, &directive, asked),
+        Err(fault) => fault_line(alloc, fault),
+    }
+}
+
+fn parsed(alloc: Global, directive: &Directive, asked: Option<&str>) -> Result<String, Memory> {
     let mut told = String::new(alloc);
-    push_directive(alloc, &mut told, &directive)?;
+    push_directive(alloc, &mut told, directive)?;
     if let Some(asked) = asked {
-        told.push_str(answer_value(alloc, &directive, asked)?.as_str())?;
+        push(&mut told, answer_value(alloc, directive, asked))?;
     }
     Ok(told)
 }
 
 // The level that a text reads as, and the filter.
 fn levels(alloc: Global, text: &str) -> Result<String, Memory> {
-    let level = match text.parse::<Level>() {
-        Ok(level) => format!(in alloc; "  {level}")?,
-        Err(fault) => format!(in alloc; "  {fault}")?,
-    };
-    let filter = match text.parse::<LevelFilter>() {
-        Ok(filter) => format!(in alloc; "; {filter}\n")?,
-        Err(fault) => format!(in alloc; "; {fault}\n")?,
-    };
-    let mut told = level;
-    told.push_str(filter.as_str())?;
+    let mut told = level(alloc, text)?;
+    push(&mut told, level_filter(alloc, text))?;
     Ok(told)
+}
+
+fn level(alloc: Global, text: &str) -> Result<String, Memory> {
+    match text.parse::<Level>() {
+        Ok(level) => Ok(format!(in alloc; "  {level}")?),
+        Err(fault) => Ok(format!(in alloc; "  {fault}")?),
+    }
+}
+
+fn level_filter(alloc: Global, text: &str) -> Result<String, Memory> {
+    match text.parse::<LevelFilter>() {
+        Ok(filter) => Ok(format!(in alloc; "; {filter}\n")?),
+        Err(fault) => Ok(format!(in alloc; "; {fault}\n")?),
+    }
 }
 
 // The faults of a list's pieces, each with the piece's number and text, and then the directives of the others in order.
 fn filter(alloc: Global, text: &str, asked: Option<&str>) -> Result<String, Memory> {
     let mut told = String::new(alloc);
-    let mut set = DirectiveSet::new(alloc);
-    let mut number = 0u64;
-    for piece in text.split(',') {
-        number = number.saturating_add(1);
-        if piece.is_empty() {
-            continue;
-        }
-        match Directive::parse(alloc, piece, true) {
-            Ok(directive) => set.add(directive)?,
-            Err(ParseError::Memory) => return Err(Memory),
-            Err(fault) => {
-                let line = format!(in alloc; "  piece {number} `{piece}`: {fault:?}, {fault}\n")?;
-                told.push_str(line.as_str())?;
-            }
-        }
-    }
-    told.push_str(listed(alloc, &set)?.as_str())?;
+    let set = read_pieces(alloc, text, &mut told)?;
+    push(&mut told, listed(alloc, &set))?;
     if let Some(asked) = asked {
-        told.push_str(answer_set(alloc, &set, asked)?.as_str())?;
+        push(&mut told, answer_set(alloc, &set, asked))?;
     }
     Ok(told)
 }
 
+// The set of a list's pieces that are directives; the faults of the others are told.
+fn read_pieces(
+    alloc: Global,
+    text: &str,
+    told: &mut String,
+) -> Result<DirectiveSet<Directive>, Memory> {
+    let mut set = DirectiveSet::new(alloc);
+    let mut number = 0u64;
+    for piece in text.split(',') {
+        number = number.saturating_add(1);
+        read_piece(alloc, number, piece, &mut set, told)?;
+    }
+    Ok(set)
+}
+
+fn read_piece(
+    alloc: Global,
+    number: u64,
+    piece: &str,
+    set: &mut DirectiveSet<Directive>,
+    told: &mut String,
+) -> Result<(), Memory> {
+    if piece.is_empty() {
+        return Ok(());
+    }
+    match Directive::parse(alloc, piece, true) {
+        Ok(directive) => set.add(directive),
+        Err(ParseError::Memory) => Err(Memory),
+        Err(fault) => push(told, piece_fault(alloc, number, piece, fault)),
+    }
+}
+
+fn piece_fault(
+    alloc: Global,
+    number: u64,
+    piece: &str,
+    fault: ParseError,
+) -> Result<String, Memory> {
+    Ok(format!(in alloc; "  piece {number} `{piece}`: {fault:?}, {fault}\n")?)
+}
+
 // The targets with their levels in order, and the level of all others, if there is one.
 fn targets(alloc: Global, text: &str, asked: Option<&str>) -> Result<String, Memory> {
-    let targets = match Targets::from_str(alloc, text) {
-        Ok(targets) => targets,
-        Err(fault) => return fault_line(alloc, fault),
-    };
+    match Targets::from_str(alloc, text) {
+        Ok(targets) => told_targets(alloc, text, &targets, asked),
+        Err(fault) => fault_line(alloc, fault),
+    }
+}
+
+fn told_targets(
+    alloc: Global,
+    text: &str,
+    targets: &Targets,
+    asked: Option<&str>,
+) -> Result<String, Memory> {
     let mut told = format!(in alloc; "  prints {targets}\n")?;
-    for (target, level) in targets.iter() {
-        told.push_str(format!(in alloc; "  target {target} level {level}\n")?.as_str())?;
-    }
-    if let Some(level) = targets.default_level() {
-        told.push_str(format!(in alloc; "  others level {level}\n")?.as_str())?;
-    }
+    push_targets(alloc, &mut told, targets)?;
     if let Some(asked) = asked {
-        told.push_str(answer_targets(alloc, text, &targets, asked)?.as_str())?;
+        push(&mut told, answer_targets(alloc, text, targets, asked))?;
     }
     Ok(told)
+}
+
+fn push_targets(alloc: Global, told: &mut String, targets: &Targets) -> Result<(), Memory> {
+    for (target, level) in targets.iter() {
+        push(told, target_line(alloc, target, level))?;
+    }
+    match targets.default_level() {
+        Some(level) => push(told, others_line(alloc, level)),
+        None => Ok(()),
+    }
+}
+
+fn target_line(alloc: Global, target: &str, level: LevelFilter) -> Result<String, Memory> {
+    Ok(format!(in alloc; "  target {target} level {level}\n")?)
+}
+
+fn others_line(alloc: Global, level: LevelFilter) -> Result<String, Memory> {
+    Ok(format!(in alloc; "  others level {level}\n")?)
+}
+
+/// Lines behind others.
+pub fn push(told: &mut String, more: Result<String, Memory>) -> Result<(), Memory>
+    ensures { OnOk result (IfOk more (λ more. string_bytes told.new ≡ string_bytes told.old ++ string_bytes more)) }
+{
+    told.push_str(more?.as_str())?;
+    Ok(())
 }
 
 // A fault by its name and its text.

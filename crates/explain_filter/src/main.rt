@@ -12,15 +12,26 @@ use std::io::{self, ErrorKind};
 fn main(rt: HostRuntime) -> io::Result<()> {
     let mut reading = Reading::Filter;
     for line in rt.lines(rt.alloc()) {
-        let line = line?;
-        let line = line.as_str();
-        println!(rt; "{line}")?;
-        if let Some(words) = line.strip_prefix('#') {
-            reading = reading.switched(words.trim());
-        } else {
-            let told = explain(rt.alloc(), reading, line).map_err(|_| ErrorKind::OutOfMemory)?;
-            print!(rt; "{told}")?;
-        }
+        reading = explain_read(&rt, reading, line)?;
     }
     Ok(())
+}
+
+fn explain_read(
+    rt: &HostRuntime,
+    reading: Reading,
+    line: io::Result<String>,
+) -> io::Result<Reading> {
+    explain_line(rt, reading, line?.as_str())
+}
+
+// Prints a line, and behind it what it is read as. What the next line is read as comes back.
+fn explain_line(rt: &HostRuntime, reading: Reading, line: &str) -> io::Result<Reading> {
+    println!(rt; "{line}")?;
+    if let Some(words) = line.strip_prefix('#') {
+        return Ok(reading.switched(words.trim()));
+    }
+    let told = explain(rt.alloc(), reading, line).map_err(|_| ErrorKind::OutOfMemory)?;
+    print!(rt; "{told}")?;
+    Ok(reading)
 }
