@@ -69,11 +69,11 @@ pub fn answer_targets(
         push_statics(alloc, &mut told, &set, &callsite)?;
     }
     let would = targets.would_enable(callsite.target.as_str(), callsite.level);
-    push(&mut told, target_enabled(alloc, would))?;
+    push(&mut told, target_enabled_line(alloc, would))?;
     Ok(told)
 }
 
-fn target_enabled(alloc: Global, would: bool) -> Result<String, Memory> {
+fn target_enabled_line(alloc: Global, would: bool) -> Result<String, Memory> {
     Ok(format!(in alloc; "  target enabled: {would}\n")?)
 }
 
@@ -84,10 +84,10 @@ fn push_statics(
     callsite: &Callsite,
 ) -> Result<(), Memory> {
     push_caring(alloc, told, set, callsite)?;
-    push(told, enabled(alloc, set.enabled(callsite)))
+    push(told, enabled_line(alloc, set.enabled(callsite)))
 }
 
-fn enabled(alloc: Global, enabled: bool) -> Result<String, Memory> {
+fn enabled_line(alloc: Global, enabled: bool) -> Result<String, Memory> {
     Ok(format!(in alloc; "  enabled: {enabled}\n")?)
 }
 

@@ -31,12 +31,16 @@ fn directive(
     patterns: bool,
 ) -> Result<String, Memory> {
     match Directive::parse(alloc, text, patterns) {
-        Ok(directive) => parsed(alloc, &directive, asked),
+        Ok(directive) => told_directive(alloc, &directive, asked),
         Err(fault) => fault_line(alloc, fault),
     }
 }
 
-fn parsed(alloc: Global, directive: &Directive, asked: Option<&str>) -> Result<String, Memory> {
+fn told_directive(
+    alloc: Global,
+    directive: &Directive,
+    asked: Option<&str>,
+) -> Result<String, Memory> {
     let mut told = String::new(alloc);
     push_directive(alloc, &mut told, directive)?;
     if let Some(asked) = asked {
