@@ -2,6 +2,7 @@
 ghost use Rattle.std.specs.Prelude.{◌≡◌, ◌++◌, string_bytes, IfOk, OnOk};
 ghost use Rattle.explain_base.specs.Filters.{filter_line};
 
+use crate::lines::push;
 use env_filter::EnvFilter;
 use otel_base::memory::Memory;
 use std::alloc::Global;
@@ -19,7 +20,5 @@ pub fn filter_line(alloc: Global, filter: &EnvFilter) -> Result<String, Memory>
 pub fn push_filter(alloc: Global, told: &mut String, shown: &EnvFilter) -> Result<(), Memory>
     ensures { OnOk result (string_bytes told.new ≡ string_bytes told.old ++ filter_line shown.now) }
 {
-    let line = filter_line(alloc, shown)?;
-    told.push_str(line.as_str())?;
-    Ok(())
+    push(told, filter_line(alloc, shown))
 }

@@ -6,6 +6,8 @@ pub mod directives;
 pub mod filters;
 pub mod gate;
 pub mod levels;
+pub mod lines;
 pub mod reading;
 
+pub use lines::push;
 pub use reading::Reading;

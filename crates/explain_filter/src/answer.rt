@@ -1,8 +1,8 @@
 //! What directives answer about a callsite or a value.
 use crate::asked::{callsite_of, value_of};
-use crate::explain::push;
 use env_directives::directive::Match;
 use env_directives::{Directive, DirectiveSet, FieldMatch, ParseError, StaticDirective, Targets};
+use explain_base::push;
 use otel_base::memory::Memory;
 use std::alloc::Global;
 use std::fmt;

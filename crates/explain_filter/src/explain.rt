@@ -1,8 +1,8 @@
 //! What a text is read as, in lines that are indented.
 use crate::answer::{answer_set, answer_targets, answer_value};
 use env_directives::{Directive, DirectiveSet, ParseError, Targets};
-use explain_base::Reading;
 use explain_base::directives::{listed, push_directive};
+use explain_base::{Reading, push};
 use otel_base::memory::Memory;
 use std::alloc::Global;
 use trace_base::level::{Level, LevelFilter};
@@ -160,14 +160,6 @@ fn target_line(alloc: Global, target: &str, level: LevelFilter) -> Result<String
 
 fn others_line(alloc: Global, level: LevelFilter) -> Result<String, Memory> {
     Ok(format!(in alloc; "  others level {level}\n")?)
-}
-
-/// Lines behind others.
-pub fn push(told: &mut String, more: Result<String, Memory>) -> Result<(), Memory>
-    ensures { OnOk result (IfOk more (λ more. string_bytes told.new ≡ string_bytes told.old ++ string_bytes more)) }
-{
-    told.push_str(more?.as_str())?;
-    Ok(())
 }
 
 // A fault by its name and its text.

@@ -2,6 +2,7 @@
 use env_directives::ParseError;
 use env_filter::{EnvFilter, Ignored};
 use explain_base::gate::passes;
+use explain_base::push;
 use otel_base::memory::Memory;
 use std::alloc::Global;
 use trace_base::callsite::Callsite;
@@ -15,15 +16,9 @@ pub fn unknown(alloc: Global) -> Result<String, Memory> {
 pub fn all_ignored(alloc: Global, pieces: &[Ignored]) -> Result<String, Memory> {
     let mut told = String::new(alloc);
     for piece in pieces {
-        push_ignored(alloc, &mut told, piece)?;
+        push(&mut told, ignored(alloc, piece))?;
     }
     Ok(told)
-}
-
-fn push_ignored(alloc: Global, told: &mut String, piece: &Ignored) -> Result<(), Memory> {
-    let line = ignored(alloc, piece)?;
-    told.push_str(line.as_str())?;
-    Ok(())
 }
 
 fn ignored(alloc: Global, piece: &Ignored) -> Result<String, Memory> {
