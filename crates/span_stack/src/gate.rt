@@ -19,12 +19,7 @@ use trace_base::subscriber::Subscriber;
 use trace_base::world::World;
 
 // The gate of a lane that a subscriber serves.
-fn admits_by<S: Subscriber>(
-    world: &World<S>,
-    dispatch: Dispatch,
-    lane: &Lane,
-    site: SiteId,
-) -> bool
+fn admits_by<S: Subscriber>(world: &World<S>, dispatch: Dispatch, lane: &Lane, site: SiteId) -> bool
     requires site { site < length world.now.sites }
     requires there { dispatch < length world.now.subscribers }
     ensures { Admits S.hint S.enables world.now lane.now.id site (Some dispatch) result }
