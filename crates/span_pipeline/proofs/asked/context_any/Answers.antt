@@ -10,4 +10,4 @@ has_on_both P Q all world None has = has
 has_on_both P Q all world (Some held) has = λ s there. all s (has s there)
 
 pub context-requires-clause-can_start : goal.context-requires-clause-can_start
-context-requires-clause-can_start g c = has_on_both _ _ g.met.S.OtelSubscriber.starts _ _ c.requires.whole
+context-requires-clause-can_start g c = has_on_both _ _ g.met.S.OtelSubscriber.starts c.args.world.now c.args.span.now.held c.requires.whole
