@@ -8,6 +8,11 @@ use trace_base::layer::Layer;
 /// What is in place once a filter was exchanged for another.
 pub fn exchanged(filter: EnvFilter, next: EnvFilter) -> Option<EnvFilter> {
     let mut layer = reload::Layer::new(filter);
+    reloaded(&mut layer, next)
+}
+
+// The filter inside a layer after it was given another.
+fn reloaded(layer: &mut reload::Layer<EnvFilter>, next: EnvFilter) -> Option<EnvFilter> {
     match layer.reload(next) {
         Ok(()) => layer.retire(),
         Err(_) => None,
@@ -23,17 +28,55 @@ pub fn copied(filter: EnvFilter) -> Result<Option<EnvFilter>, Memory> {
 /// to lend a filter, to change it, or is given another.
 pub fn retired(alloc: Global, lane: u64, callsite: &Callsite) -> Result<String, Memory> {
     let mut layer = reload::Layer::new(EnvFilter::new(alloc, "trace")?);
-    let before = lent(&layer, lane, callsite);
-    let off = EnvFilter::new(alloc, "off")?;
-    let changed = layer.modify(|filter| *filter = off).is_ok();
-    let after = lent(&layer, lane, callsite);
-    let inner = layer.retire();
+    let mut told = changed(alloc, &mut layer, lane, callsite)?;
+    push_retired(alloc, &mut told, &mut layer, lane, callsite)?;
+    Ok(told)
+}
+
+// What a layer answers before and after its filter is changed in place for one that lets nothing through.
+fn changed(
+    alloc: Global,
+    layer: &mut reload::Layer<EnvFilter>,
+    lane: u64,
+    callsite: &Callsite,
+) -> Result<String, Memory> {
+    let before = lent(layer, lane, callsite);
+    let changed = changes(layer, EnvFilter::new(alloc, "off")?);
+    let after = lent(layer, lane, callsite);
+    Ok(format!(in alloc; "  enabled {before:?}, changed {changed}, enabled {after:?}")?)
+}
+
+// Whether a layer's filter is changed in place for another.
+fn changes(layer: &mut reload::Layer<EnvFilter>, next: EnvFilter) -> bool {
+    layer.modify(|filter| *filter = next).is_ok()
+}
+
+// What a layer answers once its filter was taken out.
+fn push_retired(
+    alloc: Global,
+    told: &mut String,
+    layer: &mut reload::Layer<EnvFilter>,
+    lane: u64,
+    callsite: &Callsite,
+) -> Result<(), Memory> {
+    let dropped = is_dropped(layer, lane, callsite);
+    let line = retired_line(alloc, layer, lane, callsite, dropped)?;
+    told.push_str(line.as_str())?;
+    Ok(())
+}
+
+fn retired_line(
+    alloc: Global,
+    layer: &reload::Layer<EnvFilter>,
+    lane: u64,
+    callsite: &Callsite,
+    dropped: bool,
+) -> Result<String, Memory> {
     let interest = layer.register_callsite(callsite);
     let enabled = layer.enabled(lane, callsite);
     let hinted = layer.max_level_hint().is_some();
-    let dropped = is_dropped(&mut layer, inner, lane, callsite);
     Ok(format!(in alloc;
-        "  enabled {before:?}, changed {changed}, enabled {after:?}, then {interest:?}, enabled {enabled}, hinted {hinted}, dropped {dropped}\n"
+        ", then {interest:?}, enabled {enabled}, hinted {hinted}, dropped {dropped}\n"
     )?)
 }
 
@@ -44,17 +87,12 @@ fn lent(layer: &reload::Layer<EnvFilter>, lane: u64, callsite: &Callsite) -> Opt
         .ok()
 }
 
-// Whether a layer says that its filter was taken out: where it lends it, where it changes it, and where it gets another.
-fn is_dropped(
-    layer: &mut reload::Layer<EnvFilter>,
-    filter: Option<EnvFilter>,
-    lane: u64,
-    callsite: &Callsite,
-) -> bool {
-    let Some(filter) = filter else {
+// Takes the filter of a layer out, and tells whether the layer says so: where it gets another, where it lends it, and
+// where it changes it.
+fn is_dropped(layer: &mut reload::Layer<EnvFilter>, lane: u64, callsite: &Callsite) -> bool {
+    let Some(filter) = layer.retire() else {
         return false;
     };
-    let lends = lent(layer, lane, callsite).is_some();
-    let changes = layer.modify(|_| ()).is_ok();
-    !lends && !changes && layer.reload(filter).is_err_and(|error| error.is_dropped())
+    let refuses = layer.reload(filter).is_err_and(|error| error.is_dropped());
+    refuses && lent(layer, lane, callsite).is_none() && layer.modify(|_| ()).is_err()
 }

@@ -13,8 +13,13 @@ use std::io::{self, ErrorKind};
 
 fn main(rt: HostRuntime) -> io::Result<()> {
     let mut session = Session::new(rt.alloc());
+    run(&rt, &mut session)
+}
+
+// Answers each line.
+fn run(rt: &HostRuntime, session: &mut Session) -> io::Result<()> {
     for line in rt.lines(rt.alloc()) {
-        answer(&rt, &mut session, line?.as_str())?;
+        answer(rt, session, line?.as_str())?;
     }
     Ok(())
 }

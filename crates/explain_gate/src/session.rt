@@ -1,6 +1,6 @@
 //! A filter, and the calls that are made of it.
 use crate::{answers, exchanging, variables, words};
-use env_directives::Directive;
+use env_directives::{Directive, ParseError};
 use env_filter::{Builder, EnvFilter, Ignored};
 use explain_base::filters::{filter_line, push_filter};
 use explain_base::levels::{level_line, levels_line};
@@ -8,6 +8,7 @@ use otel_base::memory::Memory;
 use std::alloc::Global;
 use std::mem;
 use trace_base::callsite::{Callsite, Kind};
+use trace_base::field::ValueSet;
 use trace_base::layer::Layer;
 use trace_base::level::LevelFilter;
 use trace_base::span::{Id, Parent};
@@ -34,7 +35,7 @@ impl Session {
     pub fn answer(&mut self, line: &str) -> Result<String, Memory> {
         let (call, words) = line.split_once(' ').unwrap_or((line, ""));
         match call {
-            "new" => self.put(EnvFilter::new(self.alloc, words)?),
+            "new" => self.renew(words),
             "lossy" => self.lossy(words),
             "strict" => self.strict(words, true),
             "fixed" => self.strict(words, false),
@@ -76,13 +77,19 @@ impl Session {
         }
     }
 
+    // The filter of the pieces that are directives, and errors where there is none.
+    fn renew(&mut self, text: &str) -> Result<String, Memory> {
+        let filter = EnvFilter::new(self.alloc, text)?;
+        self.put(filter)
+    }
+
     // Puts a filter in place.
     fn put(&mut self, filter: EnvFilter) -> Result<String, Memory> {
         self.filter = filter;
         filter_line(self.alloc, &self.filter)
     }
 
-    // The filter of the pieces that are directives, and errors where there is none; the others are told.
+    // The same, and the other pieces are told.
     fn lossy(&mut self, text: &str) -> Result<String, Memory> {
         let ignored = self.put_lossy(text)?;
         let mut told = answers::all_ignored(self.alloc, ignored.as_slice())?;
@@ -92,17 +99,14 @@ impl Session {
 
     // Puts that filter in place; the pieces that are no directives come back.
     fn put_lossy(&mut self, text: &str) -> Result<Vec<Ignored>, Memory> {
-        let errors = Directive::from_filter(self.alloc, LevelFilter::ERROR);
-        let builder = Builder::default(self.alloc).with_default_directive(errors);
-        let (filter, ignored) = builder.parse_lossy(text)?;
+        let (filter, ignored) = read_lossy(self.alloc, text)?;
         self.filter = filter;
         Ok(ignored)
     }
 
     // The filter of a text, or the first piece that is no directive.
     fn strict(&mut self, text: &str, patterns: bool) -> Result<String, Memory> {
-        let builder = Builder::default(self.alloc).with_regex(patterns);
-        match builder.parse_pieces(text) {
+        match read_strict(self.alloc, text, patterns) {
             Ok(filter) => self.put(filter),
             Err((piece, fault)) => answers::refused(self.alloc, piece, fault),
         }
@@ -175,11 +179,7 @@ impl Session {
             return answers::unknown(self.alloc);
         };
         let values = words::values(self.alloc, callsite, more)?;
-        let lane = words::lane(self.alloc, 0);
-        let prepared = self.filter.prepare_new_span(&lane, callsite, &values)?;
-        let parent = Parent::Current;
-        self.filter
-            .on_new_span(prepared, span, &lane, 0, parent, None, callsite, &values);
+        make_span(self.alloc, &mut self.filter, span, callsite, &values)?;
         level_line(self.alloc, self.filter.level(span))
     }
 
@@ -190,8 +190,7 @@ impl Session {
             return answers::unknown(self.alloc);
         };
         let values = words::values(self.alloc, callsite, more)?;
-        let prepared = self.filter.prepare_record(span, callsite, &values)?;
-        self.filter.on_record(prepared, span, 0, callsite, &values);
+        record_on(&mut self.filter, span, callsite, &values)?;
         level_line(self.alloc, self.filter.level(span))
     }
 
@@ -249,12 +248,63 @@ impl Session {
     }
 }
 
+// The filter of the pieces that are directives, and errors where there is none; and the other pieces.
+fn read_lossy(alloc: Global, text: &str) -> Result<(EnvFilter, Vec<Ignored>), Memory> {
+    let errors = Directive::from_filter(alloc, LevelFilter::ERROR);
+    let builder = Builder::default(alloc).with_default_directive(errors);
+    builder.parse_lossy(text)
+}
+
+// The filter of a text, or the number and the fault of the first piece that is no directive.
+fn read_strict(alloc: Global, text: &str, patterns: bool) -> Result<EnvFilter, (u64, ParseError)> {
+    let builder = Builder::default(alloc).with_regex(patterns);
+    builder.parse_pieces(text)
+}
+
+fn make_span(
+    alloc: Global,
+    filter: &mut EnvFilter,
+    span: Id,
+    callsite: &Callsite,
+    values: &ValueSet,
+) -> Result<(), Memory> {
+    let lane = words::lane(alloc, 0);
+    let prepared = filter.prepare_new_span(&lane, callsite, values)?;
+    filter.on_new_span(
+        prepared,
+        span,
+        &lane,
+        0,
+        Parent::Current,
+        None,
+        callsite,
+        values,
+    );
+    Ok(())
+}
+
+fn record_on(
+    filter: &mut EnvFilter,
+    span: Id,
+    callsite: &Callsite,
+    values: &ValueSet,
+) -> Result<(), Memory> {
+    let prepared = filter.prepare_record(span, callsite, values)?;
+    filter.on_record(prepared, span, 0, callsite, values);
+    Ok(())
+}
+
 // The filter of the empty text, by a copy of a builder that takes no patterns and has a default directive.
 fn defaulted(alloc: Global, directive: Directive) -> Result<EnvFilter, Memory> {
     let builder = Builder::default(alloc)
         .with_regex(false)
         .with_default_directive(directive);
-    empty_text(&builder.clone_builder()?)
+    empty_text_by_copy(&builder)
+}
+
+fn empty_text_by_copy(builder: &Builder) -> Result<EnvFilter, Memory> {
+    let copy = builder.clone_builder()?;
+    empty_text(&copy)
 }
 
 // What a builder makes of the empty text, in which no piece has a fault.

@@ -30,21 +30,32 @@ fn push_required(alloc: Global, told: &mut String, vars: &MemVars) -> Result<(),
 fn pairs(alloc: Global, words: &str) -> Result<Items<(Text, Text)>, Memory> {
     let mut pairs = Items::new(alloc);
     for word in words.split(' ') {
-        if let Some((name, held)) = word.split_once('=') {
-            pairs.push((text(alloc, name)?, text(alloc, held)?))?;
-        }
+        push_pair(alloc, &mut pairs, word)?;
     }
     Ok(pairs)
 }
 
+fn push_pair(alloc: Global, pairs: &mut Items<(Text, Text)>, word: &str) -> Result<(), Memory> {
+    let Some((name, held)) = word.split_once('=') else {
+        return Ok(());
+    };
+    let pair = (text(alloc, name)?, text(alloc, held)?);
+    pairs.push(pair)?;
+    Ok(())
+}
+
 /// What is read of what a variable gave; of none where there is no word.
 pub fn given(alloc: Global, words: &str) -> Result<String, Memory> {
+    let held = held(alloc, words)?;
     let builder = EnvFilter::builder(alloc);
+    read_as(alloc, builder.from_var(held))
+}
+
+fn held(alloc: Global, words: &str) -> Result<Option<String>, Memory> {
     if words.is_empty() {
-        return read_as(alloc, builder.from_var(None));
+        return Ok(None);
     }
-    let held = String::from_str(alloc, words)?;
-    read_as(alloc, builder.from_var(Some(held)))
+    Ok(Some(String::from_str(alloc, words)?))
 }
 
 /// What a reader makes of a variable of the process, of words `READER NAME`.
@@ -84,9 +95,15 @@ fn builder(alloc: Global, name: &str) -> Result<Builder, Memory> {
 fn read_as(alloc: Global, read: Result<EnvFilter, FromEnvError>) -> Result<String, Memory> {
     match read {
         Ok(filter) => filter_line(alloc, &filter),
-        Err(FromEnvError::Memory) => Err(Memory),
-        Err(fault) => Ok(format!(in alloc; "  {fault:?}, {fault}\n")?),
+        Err(fault) => refused(alloc, fault),
     }
+}
+
+fn refused(alloc: Global, fault: FromEnvError) -> Result<String, Memory> {
+    if fault == FromEnvError::Memory {
+        return Err(Memory);
+    }
+    Ok(format!(in alloc; "  {fault:?}, {fault}\n")?)
 }
 
 fn text(alloc: Global, word: &str) -> Result<Text, Memory> {

@@ -42,11 +42,18 @@ pub fn callsite(alloc: Global, kind: Kind, words: &str) -> Result<Option<Callsit
 fn fields(alloc: Global, names: &str) -> Result<Items<Text>, Memory> {
     let mut fields = Items::new(alloc);
     for name in names.split(' ') {
-        if !name.is_empty() {
-            fields.push(text(alloc, name)?)?;
-        }
+        push_name(alloc, &mut fields, name)?;
     }
     Ok(fields)
+}
+
+fn push_name(alloc: Global, fields: &mut Items<Text>, name: &str) -> Result<(), Memory> {
+    if name.is_empty() {
+        return Ok(());
+    }
+    let name = text(alloc, name)?;
+    fields.push(name)?;
+    Ok(())
 }
 
 // The level and the target at the front, and the words behind them.
@@ -60,12 +67,24 @@ fn head(words: &str) -> Option<(Level, &str, &str)> {
 pub fn values(alloc: Global, callsite: &Callsite, words: &str) -> Result<ValueSet, Memory> {
     let mut pairs = Items::new(alloc);
     for word in words.split(' ') {
-        let (name, text) = word.split_once('=').unwrap_or((word, ""));
-        if let Some(place) = callsite.field(name) {
-            pairs.push((place, value(alloc, text)?))?;
-        }
+        push_value(alloc, &mut pairs, callsite, word)?;
     }
     Ok(ValueSet { pairs })
+}
+
+fn push_value(
+    alloc: Global,
+    pairs: &mut Items<(usize, Value)>,
+    callsite: &Callsite,
+    word: &str,
+) -> Result<(), Memory> {
+    let (name, text) = word.split_once('=').unwrap_or((word, ""));
+    let Some(place) = callsite.field(name) else {
+        return Ok(());
+    };
+    let value = value(alloc, text)?;
+    pairs.push((place, value))?;
+    Ok(())
 }
 
 // A truth value, a number, the debug text behind a `?`, or a text.
