@@ -8,7 +8,9 @@ use trace_base::layer::Layer;
 /// What is in place once a filter was exchanged for another.
 pub fn exchanged(filter: EnvFilter, next: EnvFilter) -> Option<EnvFilter> {
     let mut layer = reload::Layer::new(filter);
-    reloaded(&mut layer, next)
+    let inner = reloaded(&mut layer, next);
+    drop(layer);
+    inner
 }
 
 // The filter inside a layer after it was given another.
@@ -28,8 +30,19 @@ pub fn copied(filter: EnvFilter) -> Result<Option<EnvFilter>, Memory> {
 /// to lend a filter, to change it, or is given another.
 pub fn retired(alloc: Global, lane: u64, callsite: &Callsite) -> Result<String, Memory> {
     let mut layer = reload::Layer::new(EnvFilter::new(alloc, "trace")?);
-    let mut told = changed(alloc, &mut layer, lane, callsite)?;
-    push_retired(alloc, &mut told, &mut layer, lane, callsite)?;
+    let told = changed_and_retired(alloc, &mut layer, lane, callsite);
+    drop(layer);
+    told
+}
+
+fn changed_and_retired(
+    alloc: Global,
+    layer: &mut reload::Layer<EnvFilter>,
+    lane: u64,
+    callsite: &Callsite,
+) -> Result<String, Memory> {
+    let mut told = changed(alloc, layer, lane, callsite)?;
+    push_retired(alloc, &mut told, layer, lane, callsite)?;
     Ok(told)
 }
 

@@ -85,8 +85,12 @@ impl Session {
 
     // Puts a filter in place.
     fn put(&mut self, filter: EnvFilter) -> Result<String, Memory> {
-        self.filter = filter;
+        self.set(filter);
         filter_line(self.alloc, &self.filter)
+    }
+
+    fn set(&mut self, filter: EnvFilter) {
+        self.filter = filter;
     }
 
     // The same, and the other pieces are told.
@@ -100,7 +104,7 @@ impl Session {
     // Puts that filter in place; the pieces that are no directives come back.
     fn put_lossy(&mut self, text: &str) -> Result<Vec<Ignored>, Memory> {
         let (filter, ignored) = read_lossy(self.alloc, text)?;
-        self.filter = filter;
+        self.set(filter);
         Ok(ignored)
     }
 
@@ -130,7 +134,7 @@ impl Session {
         match filter.add_directive(directive) {
             Ok(filter) => self.put(filter),
             Err((filter, memory)) => {
-                self.filter = filter;
+                self.set(filter);
                 Err(memory)
             }
         }
@@ -179,7 +183,9 @@ impl Session {
             return answers::unknown(self.alloc);
         };
         let values = words::values(self.alloc, callsite, more)?;
-        make_span(self.alloc, &mut self.filter, span, callsite, &values)?;
+        let made = make_span(self.alloc, &mut self.filter, span, callsite, &values);
+        drop(values);
+        made?;
         level_line(self.alloc, self.filter.level(span))
     }
 
@@ -190,7 +196,9 @@ impl Session {
             return answers::unknown(self.alloc);
         };
         let values = words::values(self.alloc, callsite, more)?;
-        record_on(&mut self.filter, span, callsite, &values)?;
+        let recorded = record_on(&mut self.filter, span, callsite, &values);
+        drop(values);
+        recorded?;
         level_line(self.alloc, self.filter.level(span))
     }
 
