@@ -1,5 +1,6 @@
 //! Filters that are exchanged, and taken out for good.
 use env_filter::{EnvFilter, reload};
+use explain_base::push;
 use otel_base::memory::Memory;
 use std::alloc::Global;
 use trace_base::callsite::Callsite;
@@ -73,9 +74,7 @@ fn push_retired(
     callsite: &Callsite,
 ) -> Result<(), Memory> {
     let dropped = is_dropped(layer, lane, callsite);
-    let line = retired_line(alloc, layer, lane, callsite, dropped)?;
-    told.push_str(line.as_str())?;
-    Ok(())
+    push(told, retired_line(alloc, layer, lane, callsite, dropped))
 }
 
 fn retired_line(
