@@ -65,9 +65,8 @@ pub fn answer_targets(
         return Ok(String::from_str(alloc, NO_QUESTION)?);
     };
     let mut told = String::new(alloc);
-    if let Ok(set) = static_set(alloc, text) {
-        push_statics(alloc, &mut told, &set, &callsite)?;
-    }
+    let set = static_set(alloc, text).map_err(|_| Memory)?;
+    push_statics(alloc, &mut told, &set, &callsite)?;
     let would = targets.would_enable(callsite.target.as_str(), callsite.level);
     push(&mut told, target_enabled_line(alloc, would))?;
     Ok(told)
@@ -91,7 +90,7 @@ fn enabled_line(alloc: Global, enabled: bool) -> Result<String, Memory> {
     Ok(format!(in alloc; "  enabled: {enabled}\n")?)
 }
 
-// The set of a list's pieces.
+// The set of a list's pieces, of which each is known to be a directive.
 fn static_set(alloc: Global, text: &str) -> Result<DirectiveSet<StaticDirective>, ParseError> {
     let mut set = DirectiveSet::new(alloc);
     for piece in text.split(',') {

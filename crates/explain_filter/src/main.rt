@@ -12,17 +12,9 @@ use std::io::{self, ErrorKind};
 fn main(rt: HostRuntime) -> io::Result<()> {
     let mut reading = Reading::Filter;
     for line in rt.lines(rt.alloc()) {
-        reading = explain_read(&rt, reading, line)?;
+        reading = explain_line(&rt, reading, line?.as_str())?;
     }
     Ok(())
-}
-
-fn explain_read(
-    rt: &HostRuntime,
-    reading: Reading,
-    line: io::Result<String>,
-) -> io::Result<Reading> {
-    explain_line(rt, reading, line?.as_str())
 }
 
 // Prints a line, and behind it what it is read as. What the next line is read as comes back.

@@ -158,19 +158,19 @@ impl Row {
     }
 }
 
-// What is written for a run of a table by the command of a word; with a blank in front of each line it has to be the same.
+// What is written for a run of a table by the command of a word. With a blank in front of each line it has to be the same;
+// where it isn't both are told, which is never what is wanted.
 fn both_ways<H: Threads + Wait + Sync + AllocGlobal>(
     rt: &H,
     word: &str,
     row: &Row,
 ) -> Result<String, Fail> {
-    let quick = ran_as(rt, word, row.input.as_bytes(), &[], &[])?;
+    let mut told = ran_as(rt, word, row.input.as_bytes(), &[], &[])?;
     let led = ran_as(rt, word, row.led.as_bytes(), &[], &[])?;
-    if led.as_str() == quick.as_str() {
-        Ok(quick)
-    } else {
-        Ok(led)
+    if led.as_str() != told.as_str() {
+        told.push_str(led.as_str())?;
     }
+    Ok(told)
 }
 
 // What is written for a run of a table that a line ends. None where the line ends none.

@@ -17,7 +17,7 @@ pub mod top;
 pub mod turns;
 pub mod written;
 
-pub use sink::{MemSink, Sink, StdSink};
-pub use source::{MemSource, Source, StdSource};
+pub use sink::{MemSink, Sink, StdSink, SureSink};
+pub use source::{MemSource, Source, StdSource, SureSource};
 pub use status::Status;
 pub use turns::Turn;

@@ -27,7 +27,8 @@ pub enum Command {
     Make { rounds: u64 },
 }
 
-/// Carries a command out. A line that is refused is told before a fault of the source and too long an input.
+/// Carries a command out, which makes at most 50,000 rounds. A line that is refused is told before a fault of the source
+/// and too long an input.
 pub fn run_script<R: Source, W: Sink>(
     alloc: Global,
     command: Command,

@@ -17,13 +17,14 @@ pub trait Sink {
     ghost faults: { Self → ℕ };
 
     /// Writes some of the piece's first bytes, and answers how many. None of a piece that has some is a fault,
-    /// and some is none. `Failed` where the write failed; nothing was written then.
+    /// and some is none, and so is none of an empty piece. `Failed` where the write failed; nothing was written then.
     fn write(&mut self, piece: &[u8]) -> Result<usize, Failed>
         ensures bound { IfOk result (λ n. n ≤ length piece.now) }
         ensures bytes { IfOk result (λ n. Puts (holds self.old) (holds self.new) (take n piece.now)) }
         ensures stuck { IfOk result (λ n. n ≡ 0 → 0 < length piece.now
             → HasFault (faults self.old) (faults self.new)) }
         ensures moved { IfOk result (λ n. 0 < n → faults self.new ≡ faults self.old) }
+        ensures none { IfOk result (λ n. length piece.now ≡ 0 → faults self.new ≡ faults self.old) }
         ensures kept { OnErr result (Puts (holds self.old) (holds self.new) []) }
         ensures count { faults self.old ≤ faults self.new }
         ensures cause { OnErr result (HasFault (faults self.old) (faults self.new)) };
@@ -137,6 +138,7 @@ impl<'a> Sink for MemSink<'a> {
         ensures stuck { IfOk result (λ n. n ≡ 0 → 0 < length piece.now
             → HasFault self.old.faults self.new.faults) }
         ensures moved { IfOk result (λ n. 0 < n → self.new.faults ≡ self.old.faults) }
+        ensures none { IfOk result (λ n. length piece.now ≡ 0 → self.new.faults ≡ self.old.faults) }
         ensures kept { OnErr result
             (Puts (Some self.old.bytes.bytes.items) (Some self.new.bytes.bytes.items) []) }
         ensures count { self.old.faults ≤ self.new.faults }
@@ -192,7 +194,7 @@ impl<W: Write> Sink for StdSink<W> {
     fn write(&mut self, piece: &[u8]) -> Result<usize, Failed> {
         for _ in 0..u64::MAX {
             match self.writer.write(piece) {
-                Ok(0) => break,
+                Ok(0) if !piece.is_empty() => break,
                 Ok(count) => return Ok(count),
                 Err(error) if error.kind() == ErrorKind::Interrupted => {}
                 Err(_) => break,

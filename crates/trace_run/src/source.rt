@@ -16,7 +16,7 @@ pub trait Source {
     /// How many reads failed.
     ghost faults: { Self → ℕ };
 
-    /// How many reads met the end.
+    /// How many reads gave nothing: those that met the end, and those into an empty buffer.
     ghost ends: { Self → ℕ };
 
     /// Reads some bytes to the start of `buf`, and answers how many. None is the end. `Failed` where the read

@@ -48,10 +48,12 @@ fn answered(input: &[u8], size: usize) -> usize {
 }
 
 // The first read of the script, byte by byte, that isn't answered by the lines of the whole lines before it where it fails.
+// The last is the one that would meet the end.
 fn wrong_read<H: Threads + Wait + Sync + AllocGlobal>(rt: &H) -> Result<Option<usize>, Fail> {
     let input = script(rt, FIRST)?;
-    let mut turns = vec![in rt.alloc(); Turn::Moves { most: 1 }; input.len()]?;
-    for at in 0..input.len() {
+    let reads = input.len().saturating_add(1);
+    let mut turns = vec![in rt.alloc(); Turn::Moves { most: 1 }; reads]?;
+    for at in 0..reads {
         turns[at] = Turn::Fails;
         let size = answered(input.as_bytes(), at);
         if !goes(rt, turns.as_slice(), &[], size, Status::ReadFault)? {
@@ -120,5 +122,19 @@ fn tells_a_long_input(rt: HostRuntime) -> Result<(), Fail> {
     let made = script(&rt, "{\"at\":0,\"do\":\"new\",\"lane\":0,\"site\":0}\n")?;
     let over = "{\"enabled\":true,\"handle\":0,\"reply\":2}\n= 6\n";
     assert!(rt; fills(&rt, made.as_str(), MAX_INPUT + 1, over)?);
+    Ok(())
+}
+
+// A lane has room for 65,534 contexts; the entry behind them is refused.
+#[test]
+fn tells_a_full_lane(rt: HostRuntime) -> Result<(), Fail> {
+    let mut input = script(&rt, "{\"at\":0,\"do\":\"new\",\"lane\":0,\"site\":0}\n")?;
+    for _ in 0..65_535 {
+        input.push_str("{\"at\":0,\"do\":\"enter\",\"handle\":0,\"lane\":0}\n")?;
+    }
+    let got = ran(&rt, input.as_bytes(), &[], &[])?;
+    let last =
+        "{\"guard\":65533,\"reply\":65536}\n{\"lane\":0,\"line\":65537,\"refused\":\"Full\"}\n= 2\n";
+    assert!(rt; got.as_str().ends_with(last));
     Ok(())
 }
