@@ -10,7 +10,7 @@ use Rattle.std.specs.Ordering.{match_ordering}
 use Rattle.serde_json.specs.Data.{Data, Members, no_members, member, put}
 use Rattle.serde_json.specs.Find.{get_member}
 use Rattle.trace_pipeline.specs.Forms.{without}
-use Rattle.trace_pipeline.specs.Compact.{plain_data, onto, members_of}
+use Rattle.trace_pipeline.specs.Compact.{plain_data, onto}
 use Rattle.trace_pipeline.specs.Placed.{Finds, FitsIn}
 use Rattle.trace_pipeline.proofs.Plainly.{Entry, onto_push}
 
@@ -117,33 +117,24 @@ drop_remove (suc n) at (e ∷ es) within =
     let next : suc n + at ≡ suc (n + at) = omega arith in
     ap (λ (k : ℕ). drop (suc n) (remove (e ∷ es) k)) next ∙ drop_remove n at es (omega arith)
 
--- the first of those left is taken
-pub takes_first : (name : List ℕ) (es left : List Entry) (taken at : ℕ) → left ≡ drop taken es → at ≡ 0 → Finds name left (Some at)
-    → (taken < length es) × ((d : Entry) → get_member name (members_of (drop taken es)) ≡ Some (plain_data (get_or es taken d).1))
-    × (members_of (drop (taken + 1) es) ≡ without name (members_of (drop taken es)))
-takes_first name es left taken at is first found =
-    let some : at < length (drop taken es) = subst (λ (xs : List Entry). at < length xs) is found.0 in
-    let within : taken < length es = omega (arith, some, length-drop taken es) in (
+-- the first of those left, in the whole list
+pub first_left : (es : List Entry) (taken : ℕ) → 0 < length (drop taken es)
+    → (taken < length es) × ((e : Entry) → get_or es taken e ≡ get_or (drop taken es) 0 e) × (drop (taken + 1) es ≡ drop 1 (drop taken es))
+first_left es taken some =
+    let within : taken < length es = omega (arith, length-drop taken es) in (
       within,
-      λ d. ap (λ (xs : List Entry). get_member name (members_of xs)) (sym is) ∙ found.1 d
-          ∙ ap (λ (xs : List Entry). Some (plain_data (get_or xs at d).1)) is ∙ ap (λ (e : Entry). Some (plain_data e.1)) (get_or-drop taken es at d)
-          ∙ ap (λ (i : ℕ). Some (plain_data (get_or es i d).1)) (omega (arith, first)),
-      ap members_of (drop_one taken es within) ∙ ap (λ (xs : List Entry). members_of (remove xs 0)) (sym is)
-          ∙ ap (λ (i : ℕ). members_of (remove left i)) (sym first) ∙ sym found.2 ∙ ap (λ (xs : List Entry). without name (members_of xs)) is,
+      λ e. ap (λ (i : ℕ). get_or es i e) (omega arith) ∙ sym (get_or-drop taken es 0 e),
+      drop_one taken es within,
     )
 
--- another one of those left is taken
-pub takes_other : (name : List ℕ) (es left : List Entry) (taken at : ℕ) → left ≡ drop taken es → Finds name left (Some at)
-    → (taken + at < length es) × ((d : Entry) → get_member name (members_of (drop taken es)) ≡ Some (plain_data (get_or es (taken + at) d).1))
-    × (members_of (drop taken (remove es (taken + at))) ≡ without name (members_of (drop taken es)))
-takes_other name es left taken at is found =
-    let some : at < length (drop taken es) = subst (λ (xs : List Entry). at < length xs) is found.0 in
-    let within : taken + at < length es = omega (arith, some, length-drop taken es) in (
+-- another one of those left, in the whole list
+pub other_left : (es : List Entry) (taken at : ℕ) → at < length (drop taken es)
+    → (taken + at < length es) × ((e : Entry) → get_or es (taken + at) e ≡ get_or (drop taken es) at e) × (drop taken (remove es (taken + at)) ≡ remove (drop taken es) at)
+other_left es taken at some =
+    let within : taken + at < length es = omega (arith, length-drop taken es) in (
       within,
-      λ d. ap (λ (xs : List Entry). get_member name (members_of xs)) (sym is) ∙ found.1 d
-          ∙ ap (λ (xs : List Entry). Some (plain_data (get_or xs at d).1)) is ∙ ap (λ (e : Entry). Some (plain_data e.1)) (get_or-drop taken es at d),
-      ap members_of (drop_remove taken at es within) ∙ ap (λ (xs : List Entry). members_of (remove xs at)) (sym is)
-          ∙ sym found.2 ∙ ap (λ (xs : List Entry). without name (members_of xs)) is,
+      λ e. sym (get_or-drop taken es at e),
+      drop_remove taken at es within,
     )
 
 -- ---- where a member goes

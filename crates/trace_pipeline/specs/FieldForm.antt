@@ -5,7 +5,7 @@ use Rattle.serde_json.specs.Find.{as_str, as_array, as_i64, as_u64}
 use Rattle.trace_base.specs.declared.field.Value.{Value}
 use Rattle.trace_base.specs.declared.field.Value.TheVariants.{Bool, I64, U64, I128, U128, Str, Debug, Error}
 use Rattle.trace_pipeline.specs.Decimals.{u128_word, i128_word}
-use Rattle.trace_pipeline.specs.Forms.{Form, ◌>>=◌, give, when, text, array as array_member, optional, as_whole, each, pair_with, all_of}
+use Rattle.trace_pipeline.specs.Forms.{Form, ◌>>=◌, give, text, texts, optional, as_whole, each, pair_with, all_of}
 
 -- a signed number where there is one, else a number without a sign
 abbrev pub whole_value : Option ℤ → Option ℕ → Option Value
@@ -30,8 +30,7 @@ debug_of d = option_map Debug (as_str d)
 unfoldable pub error_form : Form Value
 error_form = do
   message ← text (codes "error")
-  sources ← array_member (codes "chain")
-  chain ← when (each as_str sources)
+  chain ← texts (codes "chain")
   give (Error message chain)
 
 -- what a member is, or something else where it isn't there

@@ -123,6 +123,12 @@ array name = do
   d ← member name
   when (as_array d)
 
+-- an array of texts
+abbrev pub texts : List ℕ → Members → Option (List (List ℕ) × Members)
+texts name = do
+  ds ← array name
+  when (each as_str ds)
+
 -- ---- whole objects
 
 -- no member is left

@@ -1,12 +1,13 @@
 -- The form of the settings.
 use Rattle.std.specs.Prelude.{ℕ, ◌-◌, ◌^◌, List, [], ◌∷◌, map, Bool, true, not, ◌&&◌, ◌==◌, Option, codes}
 use Rattle.std.specs.List.{list_any}
-use Rattle.serde_json.specs.Find.{as_str}
 use Rattle.otel_state.specs.Settings.{default_settings}
 use Rattle.otel_state.specs.declared.settings.LayerSettings.{LayerSettings}
 use Rattle.trace_base.specs.declared.callsite.Callsite.{Callsite}
+use Rattle.trace_base.specs.declared.callsite.Kind.{Kind}
+use Rattle.trace_base.specs.declared.level.Level.{Level}
 use Rattle.span_script.specs.declared.settings.Settings.{Settings}
-use Rattle.trace_pipeline.specs.Forms.{Form, ◌>>=◌, give, when, provided, whole_to, text, flag_or, optional, if_absent, optional_text, optional_u32, array, each, object_of}
+use Rattle.trace_pipeline.specs.Forms.{Form, ◌>>=◌, give, when, provided, whole_to, text, flag_or, optional, if_absent, optional_text, optional_u32, array, texts, each, object_of}
 use Rattle.trace_pipeline.specs.Words.{level_word, kind_word}
 
 -- a lane's id and name
@@ -20,27 +21,42 @@ lane_form = do
   name ← optional_text (codes "name")
   give (id, name)
 
+-- a level, by its word
+abbrev pub level_form : Form Level
+level_form = do
+  name ← text (codes "level")
+  when (level_word name)
+
+-- what a callsite makes, by its word
+abbrev pub kind_form : Form Kind
+kind_form = do
+  name ← text (codes "kind")
+  when (kind_word name)
+
+-- a file and a module, each of which may be absent
+abbrev pub source_form : Form (Option (List ℕ) × Option (List ℕ))
+source_form = do
+  file ← optional_text (codes "file")
+  module_path ← optional_text (codes "module")
+  give (file, module_path)
+
 -- a callsite, of which the file, the module and the line may be absent
 unfoldable pub callsite_form : Form Callsite
 callsite_form = do
   name ← text (codes "name")
   target ← text (codes "target")
-  level_name ← text (codes "level")
-  level ← when (level_word level_name)
-  kind_name ← text (codes "kind")
-  kind ← when (kind_word kind_name)
-  field_items ← array (codes "fields")
-  fields ← when (each as_str field_items)
-  file ← optional_text (codes "file")
-  module_path ← optional_text (codes "module")
+  level ← level_form
+  kind ← kind_form
+  fields ← texts (codes "fields")
+  source ← source_form
   line ← optional_u32 (codes "line")
   give (record {
     name = name;
     target = target;
     level = level;
     kind = kind;
-    file = file;
-    module_path = module_path;
+    file = source.0;
+    module_path = source.1;
     line = line;
     fields = fields;
   })
@@ -91,16 +107,32 @@ all_differ (n ∷ ns) = not (list_any (λ m. n == m) ns) && all_differ ns
 abbrev pub ids : List Lane → List ℕ
 ids lanes = map (λ lane. lane.0) lanes
 
--- The filter is any text, and so is that for counting, where there is one; the ids of the lanes differ.
-unfoldable pub settings_form : Form Settings
-settings_form = do
-  callsite_items ← array (codes "callsites")
-  callsites ← when (each (object_of callsite_form) callsite_items)
-  counting ← optional_text (codes "counting")
-  filter ← text (codes "filter")
+-- the callsites
+abbrev pub callsites_form : Form (List Callsite)
+callsites_form = do
+  sites ← array (codes "callsites")
+  when (each (object_of callsite_form) sites)
+
+-- the lanes, whose ids differ
+abbrev pub lanes_form : Form (List Lane)
+lanes_form = do
   lane_items ← array (codes "lanes")
   lanes ← when (each (object_of lane_form) lane_items)
   differ ← when (provided (all_differ (ids lanes)))
-  layer_there ← optional (codes "layer")
-  layer ← when (if_absent default_settings (object_of layer_form) layer_there)
+  give lanes
+
+-- what the layer tells, which is what is usual where nothing is said
+abbrev pub given_layer : Form LayerSettings
+given_layer = do
+  there ← optional (codes "layer")
+  when (if_absent default_settings (object_of layer_form) there)
+
+-- The filter is any text, and so is that for counting, where there is one.
+unfoldable pub settings_form : Form Settings
+settings_form = do
+  callsites ← callsites_form
+  counting ← optional_text (codes "counting")
+  filter ← text (codes "filter")
+  lanes ← lanes_form
+  layer ← given_layer
   give (record { filter = filter; counting = counting; lanes = lanes; callsites = callsites; layer = layer })

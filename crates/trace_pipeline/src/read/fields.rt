@@ -5,7 +5,7 @@ ghost use Rattle.serde_json.specs.Data as json;
 ghost use Rattle.serde_json.specs.Find.{as_str, as_i64};
 ghost use Rattle.serde_json.specs.View.{view, number_view};
 ghost use Rattle.trace_pipeline.specs.Compact.{plain_data};
-ghost use Rattle.trace_pipeline.specs.Forms.{each, pair_with, all_of};
+ghost use Rattle.trace_pipeline.specs.Forms.{each, texts, pair_with, all_of};
 ghost use Rattle.trace_pipeline.specs.FieldForm.{whole_value, u64_of, i128_of, u128_of, debug_of, error_form, typed_form, value_of, field_of, fields_of};
 ghost use Rattle.trace_pipeline.specs.Gives.{Gives};
 ghost use Rattle.trace_pipeline.specs.Left.{value_data, left};
@@ -81,12 +81,23 @@ pub(crate) fn texts(alloc: Global, values: Vec<Value<'_>>) -> Result<Items<Text>
     Ok(texts)
 }
 
+/// Takes an array of texts, to be kept.
+pub(crate) fn taken_texts(
+    alloc: Global,
+    object: &mut Object,
+    name: &str,
+) -> Result<Items<Text>, LineError>
+    ensures { Gives (λ l. (l, left object.new)) result (texts name.now (left object.old)) }
+{
+    texts(alloc, object.array(alloc, name)?)
+}
+
 #[tactic(auto, unfolding(crate::specs::FieldForm::error_form))]
 fn error_members(alloc: Global, object: &mut Object) -> Result<FieldValue, LineError>
     ensures { Gives (λ v. (v, left object.new)) result (error_form (left object.old)) }
 {
     let message = object.text(alloc, "error")?;
-    let chain = texts(alloc, object.array(alloc, "chain")?)?;
+    let chain = taken_texts(alloc, object, "chain")?;
     Ok(FieldValue::Error { message, chain })
 }
 

@@ -1,20 +1,21 @@
 //! The members of a compact object, and the items of a compact array, as lists of plain values. The names are slices
 //! of the text. None says nothing of what the text is.
-ghost use Rattle.std.specs.Prelude.{◌≡◌, [], ◌∷◌, ◌++◌, length, true, Some, IfSome, Decides, option_map};
+ghost use Rattle.std.specs.Prelude.{◌≡◌, List, ℕ, [], ◌∷◌, ◌++◌, length, true, Some, IfSome, Decides, option_map};
 ghost use Rattle.std.specs.Cmp.Lexicographic.{slice_cmp};
 ghost use Rattle.std.specs.Ordering.{nat_cmp};
 ghost use Rattle.std.specs.Str.{IsUtf8};
+ghost use Rattle.json.specs.Print.{quoted};
 ghost use Rattle.serde_json.specs.Data.{array, put};
 ghost use Rattle.serde_json.specs.Find.{get_member};
 ghost use Rattle.trace_pipeline.specs.Forms.{without};
 ghost use Rattle.trace_pipeline.specs.Object.{items};
 ghost use Rattle.trace_pipeline.specs.Spelled.{line_value, line_members};
-ghost use Rattle.trace_pipeline.specs.Compact.{plain_data, members_of};
+ghost use Rattle.trace_pipeline.specs.Compact.{plain_data, members_of, Begins};
 ghost use Rattle.trace_pipeline.specs.Left.{value_data};
 ghost use Rattle.trace_pipeline.specs.Placed.{Finds, FitsIn, InOrder, GoesLast};
 
 use crate::read::plain::Plain;
-use crate::read::scan::{behind, text, value};
+use crate::read::scan::{DEEPEST, behind, text, value};
 use crate::read::value::Value;
 use std::alloc::Global;
 use std::cmp::Ordering;
@@ -35,6 +36,17 @@ fn is_text(bytes: &[u8]) -> bool
     bytes.is_ascii() || str::from_utf8(bytes).is_ok()
 }
 
+// A member, and what stands behind it.
+fn member(bytes: &[u8]) -> Option<((&[u8], Plain<'_>), &[u8])>
+    ensures { IfSome result (λ r. (inner : List ℕ) × (bytes.now ≡ quoted r.0.0.now ++ 58 ∷ inner)
+        × Begins DEEPEST inner (plain_data r.0.1) r.1.now) }
+{
+    let (name, colon) = text(bytes)?;
+    let inner = behind(colon, b':')?;
+    let (plain, after) = value(inner)?;
+    Some(((name, plain), after))
+}
+
 /// The members of the object that a text is, in the order of their names.
 pub(crate) fn members<'a>(alloc: Global, line: &'a [u8]) -> Option<Vec<(&'a [u8], Plain<'a>)>>
     ensures { IfSome result (λ members. line_members line.now ≡ Some (members_of members.items)) }
@@ -45,15 +57,12 @@ pub(crate) fn members<'a>(alloc: Global, line: &'a [u8]) -> Option<Vec<(&'a [u8]
     let mut members = Vec::with_capacity(alloc, USUAL).ok()?;
     let mut rest = behind(line, b'{')?;
     for _ in 0..MOST_MEMBERS {
-        let (name, colon) = text(rest)?;
-        let inner = behind(colon, b':')?;
-        let (plain, after) = value(inner)?;
-        place(&mut members, name, plain)?;
+        let (named, after) = member(rest)?;
+        place(&mut members, named)?;
         match behind(after, b',') {
             Some(more) => rest = more,
             None => {
-                let end = behind(after, b'}')?;
-                ends(end)?;
+                closes(after, b'}')?;
                 return Some(members);
             }
         }
@@ -76,8 +85,7 @@ pub(crate) fn items<'a>(alloc: Global, text: &'a [u8]) -> Option<Vec<Value<'a>>>
         match behind(after, b',') {
             Some(more) => rest = more,
             None => {
-                let end = behind(after, b']')?;
-                ends(end)?;
+                closes(after, b']')?;
                 return Some(values);
             }
         }
@@ -98,6 +106,15 @@ pub(crate) fn ends(rest: &[u8]) -> Option<()>
     ensures { IfSome result (λ _. rest.now ≡ []) }
 {
     if rest.is_empty() { Some(()) } else { None }
+}
+
+/// That a bracket stands there, and nothing behind it.
+pub(crate) fn closes(rest: &[u8], bracket: u8) -> Option<()>
+    ensures { IfSome result (λ _. rest.now ≡ bracket ∷ []) }
+{
+    let end = behind(rest, bracket)?;
+    ends(end)?;
+    Some(())
 }
 
 // How two names compare. Mostly their first bytes tell.
@@ -151,21 +168,17 @@ fn is_last(members: &[(&[u8], Plain<'_>)], name: &[u8]) -> bool
 }
 
 // Puts a member in its place, which mostly is the last. None where its name is there, or there is no memory.
-fn place<'a>(
-    members: &mut Vec<(&'a [u8], Plain<'a>)>,
-    name: &'a [u8],
-    plain: Plain<'a>,
-) -> Option<()>
+fn place<'a>(members: &mut Vec<(&'a [u8], Plain<'a>)>, named: (&'a [u8], Plain<'a>)) -> Option<()>
     requires { InOrder (members_of members.old.items) }
     ensures { IfSome result (λ _.
-        members_of members.new.items ≡ put name.now (plain_data plain.entry) (members_of members.old.items)) }
+        members_of members.new.items ≡ put named.entry.0.now (plain_data named.entry.1) (members_of members.old.items)) }
 {
-    if is_last(members.as_slice(), name) {
-        members.push((name, plain)).ok()?;
+    if is_last(members.as_slice(), named.0) {
+        members.push(named).ok()?;
         return Some(());
     }
-    let at = place_for(members.as_slice(), name)?;
-    members.insert(at, (name, plain)).ok()?;
+    let at = place_for(members.as_slice(), named.0)?;
+    members.insert(at, named).ok()?;
     Some(())
 }
 
@@ -201,7 +214,10 @@ pub(crate) struct FlatMembers<'a> {
 }
 
 impl<'a> FlatMembers<'a> {
+    ghost use Rattle.std.specs.Prelude.{◌<◌, drop, get_or, remove};
+    ghost use Rattle.std.specs.Borrow.{Bor};
     ghost use Rattle.trace_pipeline.specs.Left.{flat_left};
+    ghost use Rattle.trace_pipeline.specs.declared.read.plain.Plain.{Plain as PlainData};
 
     /// Those of a list, of which none is taken.
     pub(crate) fn new(members: Vec<(&'a [u8], Plain<'a>)>) -> FlatMembers<'a>
@@ -225,18 +241,42 @@ impl<'a> FlatMembers<'a> {
         self.left().is_empty()
     }
 
-    /// Takes the member of a name, if it is there. The first is taken with no move of the others.
+    // Takes the first member that is left, with no move of the others.
+    #[inline(always)]
+    #[tactic(auto, using(crate::proofs::Placing::first_left))]
+    fn take_first(&mut self) -> Plain<'a>
+        requires { 0 < length (flat_left self.old) }
+        ensures plain { (e : Bor (List ℕ) × PlainData) → result ≡ (get_or (flat_left self.old) 0 e).1 }
+        ensures left { flat_left self.new ≡ drop 1 (flat_left self.old) }
+    {
+        let plain = self.members[self.taken].1;
+        self.taken += 1;
+        plain
+    }
+
+    // Takes the member at a place among those that are left.
+    #[inline(always)]
+    #[tactic(auto, using(crate::proofs::Placing::other_left))]
+    fn take_at(&mut self, at: usize) -> Plain<'a>
+        requires { at < length (flat_left self.old) }
+        ensures plain { (e : Bor (List ℕ) × PlainData) → result ≡ (get_or (flat_left self.old) at e).1 }
+        ensures left { flat_left self.new ≡ remove (flat_left self.old) at }
+    {
+        if at == 0 {
+            return self.take_first();
+        }
+        self.members.remove(self.taken + at).1
+    }
+
+    /// Takes the member of a name, if it is there.
     #[inline(always)]
     pub(crate) fn take(&mut self, name: &[u8]) -> Option<Plain<'a>>
         ensures found { option_map plain_data result ≡ get_member name.now (members_of (flat_left self.old)) }
         ensures left { members_of (flat_left self.new) ≡ without name.now (members_of (flat_left self.old)) }
     {
-        let at = place_of(self.left(), name)?;
-        if at == 0 {
-            let plain = self.members[self.taken].1;
-            self.taken += 1;
-            return Some(plain);
+        match place_of(self.left(), name) {
+            Some(at) => Some(self.take_at(at)),
+            None => None,
         }
-        Some(self.members.remove(self.taken + at).1)
     }
 }

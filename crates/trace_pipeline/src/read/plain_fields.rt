@@ -6,7 +6,7 @@ ghost use Rattle.trace_pipeline.specs.FieldForm.{value_of, field_of, fields_of};
 ghost use Rattle.trace_pipeline.specs.Spelled.{line_value};
 
 use crate::read::fields::plain_value;
-use crate::read::flat::ends;
+use crate::read::flat::{closes, ends};
 use crate::read::plain::Plain;
 use crate::read::scan::{DEEPEST, behind, text, value};
 use otel_base::list::Items;
@@ -66,8 +66,7 @@ pub(crate) fn plain_fields(alloc: Global, array: &str) -> Option<Items<(Text, Fi
         match behind(after, b',') {
             Some(more) => rest = more,
             None => {
-                let end = behind(after, b']')?;
-                ends(end)?;
+                closes(after, b']')?;
                 return Some(Items::from(fields));
             }
         }

@@ -1,15 +1,14 @@
 //! Reading settings: callsites, the texts of filters, lanes and the layer.
-ghost use Rattle.std.specs.Prelude.{◌≡◌, true, option_map, IfOk};
-ghost use Rattle.otel_state.specs.Settings.{default_settings};
+ghost use Rattle.std.specs.Prelude.{◌≡◌, true, IfOk};
 ghost use Rattle.trace_pipeline.specs.Gives.{Gives};
 ghost use Rattle.trace_pipeline.specs.Left.{value_data, left};
-ghost use Rattle.trace_pipeline.specs.Forms.{each, object_of, if_absent, provided};
+ghost use Rattle.trace_pipeline.specs.Forms.{each, object_of, provided};
 ghost use Rattle.trace_pipeline.specs.Object.{items};
-ghost use Rattle.trace_pipeline.specs.SettingsForm.{Lane, lane_form, callsite_form, error_flags, span_flags, layer_form, settings_form, ids, all_differ};
+ghost use Rattle.trace_pipeline.specs.SettingsForm.{Lane, lane_form, level_form, kind_form, source_form, callsite_form, callsites_form, error_flags, span_flags, layer_form, lanes_form, given_layer, settings_form, ids, all_differ};
 
 use crate::level_words::{kind_of, level_of};
 use crate::read::LineError;
-use crate::read::fields::texts;
+use crate::read::fields::taken_texts;
 use crate::read::object::Object;
 use crate::read::value::Value;
 use otel_base::list::Items;
@@ -18,7 +17,8 @@ use otel_state::settings::LayerSettings;
 use span_script::settings::Settings;
 use std::alloc::Global;
 use std::collections::BTreeSet;
-use trace_base::callsite::Callsite;
+use trace_base::callsite::{Callsite, Kind};
+use trace_base::level::Level;
 
 // The greatest id of a lane.
 const GREATEST_ID: u64 = 9_223_372_036_854_775_807;
@@ -51,17 +51,41 @@ fn lanes(alloc: Global, values: Vec<Value<'_>>) -> Result<Items<(u64, Option<Tex
     Ok(lanes)
 }
 
+// Takes the level of a callsite.
+fn level(object: &mut Object) -> Result<Level, LineError>
+    ensures { Gives (λ l. (l, left object.new)) result (level_form (left object.old)) }
+{
+    let word = object.member("level")?;
+    level_of(word.word()?).ok_or(LineError::BadLine)
+}
+
+// Takes what a callsite makes.
+fn kind(object: &mut Object) -> Result<Kind, LineError>
+    ensures { Gives (λ k. (k, left object.new)) result (kind_form (left object.old)) }
+{
+    let word = object.member("kind")?;
+    kind_of(word.word()?).ok_or(LineError::BadLine)
+}
+
+// Takes the file and the module that a callsite stands in.
+fn source(alloc: Global, object: &mut Object) -> Result<(Option<Text>, Option<Text>), LineError>
+    ensures { Gives (λ s. (s, left object.new)) result (source_form (left object.old)) }
+{
+    let file = object.optional_text(alloc, "file")?;
+    let module_path = object.optional_text(alloc, "module")?;
+    Ok((file, module_path))
+}
+
 #[tactic(auto, unfolding(crate::specs::SettingsForm::callsite_form))]
 fn callsite_members(alloc: Global, object: &mut Object) -> Result<Callsite, LineError>
     ensures { Gives (λ c. (c, left object.new)) result (callsite_form (left object.old)) }
 {
     let name = object.text(alloc, "name")?;
     let target = object.text(alloc, "target")?;
-    let level = level_of(object.member("level")?.word()?).ok_or(LineError::BadLine)?;
-    let kind = kind_of(object.member("kind")?.word()?).ok_or(LineError::BadLine)?;
-    let fields = texts(alloc, object.array(alloc, "fields")?)?;
-    let file = object.optional_text(alloc, "file")?;
-    let module_path = object.optional_text(alloc, "module")?;
+    let level = level(object)?;
+    let kind = kind(object)?;
+    let fields = taken_texts(alloc, object, "fields")?;
+    let (file, module_path) = source(alloc, object)?;
     let line = object.optional_u32("line")?;
     Ok(Callsite {
         name,
@@ -167,16 +191,6 @@ fn layer_of(alloc: Global, value: Value<'_>) -> Result<LayerSettings, LineError>
     Ok(layer)
 }
 
-fn layer(alloc: Global, value: Option<Value<'_>>) -> Result<LayerSettings, LineError>
-    ensures { Gives (λ s. s) result
-        (if_absent default_settings (object_of layer_form) (option_map value_data value.entry)) }
-{
-    match value {
-        Some(value) => layer_of(alloc, value),
-        None => Ok(LayerSettings::default()),
-    }
-}
-
 // Makes sure that no two lanes have the same id.
 fn distinct(alloc: Global, lanes: &[(u64, Option<Text>)]) -> Result<(), LineError>
     ensures { Gives (λ u. u) result (provided (all_differ (ids lanes.now))) }
@@ -190,18 +204,44 @@ fn distinct(alloc: Global, lanes: &[(u64, Option<Text>)]) -> Result<(), LineErro
     Ok(())
 }
 
+// Takes the callsites.
+fn given_callsites(alloc: Global, object: &mut Object) -> Result<Items<Callsite>, LineError>
+    ensures { Gives (λ c. (c, left object.new)) result (callsites_form (left object.old)) }
+{
+    callsites(alloc, object.array(alloc, "callsites")?)
+}
+
+// Takes the lanes, whose ids have to differ.
+fn given_lanes(alloc: Global, object: &mut Object) -> Result<Items<(u64, Option<Text>)>, LineError>
+    ensures form { Gives (λ l. (l, left object.new)) result (lanes_form (left object.old)) }
+    ensures differ { IfOk result (λ l. all_differ (ids l) ≡ true) }
+{
+    let lanes = lanes(alloc, object.array(alloc, "lanes")?)?;
+    distinct(alloc, lanes.as_slice())?;
+    Ok(lanes)
+}
+
+// Takes what the layer tells.
+fn given_layer(alloc: Global, object: &mut Object) -> Result<LayerSettings, LineError>
+    ensures { Gives (λ s. (s, left object.new)) result (given_layer (left object.old)) }
+{
+    match object.optional("layer") {
+        Some(value) => layer_of(alloc, value),
+        None => Ok(LayerSettings::default()),
+    }
+}
+
 /// Takes the members of settings.
 #[tactic(auto, unfolding(crate::specs::SettingsForm::settings_form))]
 pub(crate) fn settings_members(alloc: Global, object: &mut Object) -> Result<Settings, LineError>
     ensures form { Gives (λ s. (s, left object.new)) result (settings_form (left object.old)) }
     ensures differ { IfOk result (λ s. all_differ (ids s.lanes) ≡ true) }
 {
-    let callsites = callsites(alloc, object.array(alloc, "callsites")?)?;
+    let callsites = given_callsites(alloc, object)?;
     let counting = object.optional_text(alloc, "counting")?;
     let filter = object.text(alloc, "filter")?;
-    let lanes = lanes(alloc, object.array(alloc, "lanes")?)?;
-    distinct(alloc, lanes.as_slice())?;
-    let layer = layer(alloc, object.optional("layer"))?;
+    let lanes = given_lanes(alloc, object)?;
+    let layer = given_layer(alloc, object)?;
     Ok(Settings {
         filter,
         counting,

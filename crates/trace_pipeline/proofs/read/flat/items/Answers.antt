@@ -1,13 +1,12 @@
-use Rattle.std.proofs.Common.{◌≡◌, ◌++◌, [], ◌∷◌, Some, false, refl, ap, sym, ◌∙◌, arith, rules}
+use Rattle.std.proofs.Common.{◌≡◌, ◌++◌, [], ◌∷◌, Some, refl, ap, sym, ◌∙◌, arith, rules}
 use Rattle.std.specs.Str.{IsUtf8}
-use Rattle.serde_json.specs.Data.{no_items, array}
-use Rattle.serde_json.specs.Written.{items_text}
+use Rattle.serde_json.specs.Data.{array}
 use Rattle.trace_pipeline.specs.Compact.{plain_data}
 use Rattle.trace_pipeline.specs.Left.{value_data}
 use Rattle.trace_pipeline.specs.Object.{items}
 use Rattle.trace_pipeline.specs.declared.read.scan.TheConstants.{DEEPEST}
 use Rattle.trace_pipeline.specs.declared.read.value.Value.TheVariants.{Plain}
-use Rattle.trace_pipeline.proofs.Plainly.{Pair, AllRead-push, raw_items, items_first, items_on, items_text_end, array_read}
+use Rattle.trace_pipeline.proofs.Plainly.{Pair, AllRead-push, items_first, items_on, items_text_end, array_read}
 use Rattle.trace_pipeline.proofs.Values.{one_more}
 use Rattle.trace_pipeline.proofs.read.flat.items.Goals as goal
 
@@ -22,10 +21,9 @@ returns-in-None c =
     let b = c.in_ok-plain.ensures in
     let p : Pair = (b.0, plain_data c.in_ok-plain.plain) in
     let kept = ap (items value_data) c.in_ok-keep.ensures ∙ one_more c.loop.values.items (Plain c.in_ok-plain.plain) ps p c.loop.invariant.3 refl in
-    let text = items_text_end c.in_ok-rest.rest.now c.loop.rest.now c.in_ok-plain.after.now c.in_ok-end-in-None.end.now ps p c.loop.invariant.2 b.1 c.in_ok-end-in-None.ensures in
+    let text = items_text_end c.in_ok-rest.rest.now c.loop.rest.now c.in_ok-plain.after.now [] ps p c.loop.invariant.2 b.1 c.in_ok-closes-in-None.ensures in
     let utf8 : IsUtf8 c.args.text.now = search rules in
-    array_read DEEPEST c.args.text.now c.in_ok-rest.rest.now (ps ++ p ∷ []) utf8 (omega arith) (AllRead-push DEEPEST ps p c.loop.invariant.1 b.2) c.in_ok-rest.ensures
-    (text ∙ ap (λ l. items_text false (raw_items (ps ++ p ∷ []) no_items) ++ l) c.in_ok-ends-in-None.ensures)
+    array_read DEEPEST c.args.text.now c.in_ok-rest.rest.now (ps ++ p ∷ []) utf8 (omega arith) (AllRead-push DEEPEST ps p c.loop.invariant.1 b.2) c.in_ok-rest.ensures text
     ∙ ap (λ ds. Some (array ds)) (sym kept)
 
 pub loop-preserved : goal.loop-preserved

@@ -10,6 +10,6 @@ is_last-requires c = subst (λ (es : List Entry). InOrder (members_of es)) (sym 
 
 pub returns-then-is_last : goal.returns-then-is_last
 returns-then-is_last c =
-    let e : Entry = (c.args.name, c.args.plain) in
+    let e : Entry = c.args.named in
     let pushed : c.push.new.self.items ≡ c.args.members.now.items ++ e ∷ [] = search rules in
-    ap members_of pushed ∙ put_at_end c.args.name.now c.args.members.now.items e (subst (GoesLast c.args.name.now) c.as_slice.ensures.value (c.is_last.ensures c.if-is_last.true)) refl
+    ap members_of pushed ∙ put_at_end e.0.now c.args.members.now.items e (subst (GoesLast e.0.now) c.as_slice.ensures.value (c.is_last.ensures c.if-is_last.true)) refl
