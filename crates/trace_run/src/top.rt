@@ -18,7 +18,7 @@ use trace_pipeline::generated::MOST_ROUNDS;
 use trace_pipeline::read::u128_of;
 
 /// Carries out what the words ask for, and answers how it ended. Words that ask for nothing touch neither source
-/// nor sink. What may wait is the source and the sink; nothing is asked of the host.
+/// nor sink. Nothing is asked of the host.
 pub fn top<H: Threads + Wait + Sync, R: Source, W: Sink>(
     _rt: &H,
     alloc: Global,
