@@ -8,9 +8,8 @@ ghost use Rattle.explain_stack.specs.Places.{AreHeld};
 use crate::handles::{Handles, Slot};
 use crate::scene::Scene;
 use crate::stack::Stack;
-use crate::{polls, told, words};
+use crate::{on_span, polls, told, words};
 use futures::task;
-use otel_base::context::Context;
 use otel_base::memory::Memory;
 use span_handles::span::Span;
 use std::alloc::Global;
@@ -67,13 +66,14 @@ fn make<S: Stack>(
     let Some(site) = scene.site_at(words::number(site).unwrap_or(0)) else {
         return told::refused(alloc);
     };
-    let values = words::values(alloc, words)?;
     if !scene.admits(alloc, site) {
         handles.put(name, Slot::of(Span::none()));
         return told::done(alloc, false);
     }
-    let made = made(scene, handles, at, parent, site, &values)?;
-    match made {
+    let values = words::values(alloc, words)?;
+    let made = made(scene, handles, at, parent, site, &values);
+    drop(values);
+    match made? {
         Some(span) => {
             handles.put(name, Slot::of(span));
             told::done(alloc, true)
@@ -309,7 +309,7 @@ fn act<S: Stack>(
         "enter" => enter(alloc, scene, slot, at),
         "exit" => exit(alloc, scene, slot, at),
         _ => {
-            let told = tell(alloc, scene, slot.span(), at, call, words);
+            let told = on_span::tell(alloc, scene, slot.span(), at, call, words);
             (slot, told)
         }
     }
@@ -367,88 +367,5 @@ fn exit<S: Stack>(
             (Slot { span, entry, other }, told::done(alloc, exited))
         }
         None => (Slot { span, entry, other }, told::refused(alloc)),
-    }
-}
-
-// A call that leaves entries.
-fn tell<S: Stack>(
-    alloc: Global,
-    scene: &mut Scene<S>,
-    span: &Span,
-    at: u64,
-    call: &str,
-    words: &str,
-) -> Result<String, Memory>
-    requires order { InOrder S.spans S.kept S.is_whole scene.old }
-    requires held { IsHeld S.spans scene.old.sites scene.old.world span.now }
-    ensures order { InOrder S.spans S.kept S.is_whole scene.new }
-    ensures known { KeepsKnown S.spans scene.old.world scene.new.world }
-    ensures sites { scene.new.sites ≡ scene.old.sites }
-{
-    match call {
-        "record" => scene.record(at, span, &words::values(alloc, words)?)?,
-        "event" => event(alloc, scene, span, at, words)?,
-        "link" => scene.link(at, span, words::ids(words))?,
-        "status" => scene.set_status(at, span, words::status(alloc, words)?),
-        _ => return ask(alloc, scene, span, at, call, words),
-    }
-    told::done(alloc, true)
-}
-
-// An event of the words `SITE VALUES`.
-fn event<S: Stack>(
-    alloc: Global,
-    scene: &mut Scene<S>,
-    span: &Span,
-    at: u64,
-    words: &str,
-) -> Result<(), Memory>
-    requires order { InOrder S.spans S.kept S.is_whole scene.old }
-    requires held { IsHeld S.spans scene.old.sites scene.old.world span.now }
-    ensures order { InOrder S.spans S.kept S.is_whole scene.new }
-    ensures known { KeepsKnown S.spans scene.old.world scene.new.world }
-    ensures sites { scene.new.sites ≡ scene.old.sites }
-{
-    let (site, words) = words.split_once(' ').unwrap_or((words, ""));
-    let values = words::values(alloc, words)?;
-    if let Some(site) = scene.site_at(words::number(site).unwrap_or(0)) {
-        if scene.admits(alloc, site) {
-            scene.event(at, span, site, &values)?;
-        }
-    }
-    Ok(())
-}
-
-// A call that answers something.
-fn ask<S: Stack>(
-    alloc: Global,
-    scene: &mut Scene<S>,
-    span: &Span,
-    at: u64,
-    call: &str,
-    words: &str,
-) -> Result<String, Memory>
-    requires order { InOrder S.spans S.kept S.is_whole scene.old }
-    requires held { IsHeld S.spans scene.old.sites scene.old.world span.now }
-    ensures order { InOrder S.spans S.kept S.is_whole scene.new }
-    ensures known { KeepsKnown S.spans scene.old.world scene.new.world }
-    ensures sites { scene.new.sites ≡ scene.old.sites }
-{
-    match call {
-        "context" => {
-            let own = scene.context(at, span).span_context();
-            let (trace, id) = (own.trace, own.span);
-            Ok(format!(in alloc; "  context {trace} {id}\n")?)
-        }
-        "parent" => {
-            let context = Context {
-                span: Some(words::ids(words)),
-            };
-            match scene.set_parent(at, span, context) {
-                Ok(()) => told::done(alloc, true),
-                Err(error) => Ok(format!(in alloc; "  {error}\n")?),
-            }
-        }
-        _ => told::refused(alloc),
     }
 }

@@ -206,16 +206,32 @@ fn has_entry(registry: &Registry, lane: u64, id: Id) -> bool
 fn records<S: Stack>(alloc: Global, stack: &mut S) -> Result<String, Memory> {
     let mut told = String::new(alloc);
     for _ in 0..100 {
-        let Some(record) = stack.take() else {
+        if !add_record(alloc, &mut told, stack)? {
             break;
-        };
-        told::add(&mut told, told::record(alloc, &record)?)?;
+        }
     }
-    if let Some((reserved, finished)) = stack.counts() {
-        told::add(
-            &mut told,
-            format!(in alloc; "  reserved {reserved}, finished {finished}\n")?,
-        )?;
-    }
+    add_counts(alloc, &mut told, stack)?;
     Ok(told)
+}
+
+// Adds the next record, if one is left.
+fn add_record<S: Stack>(alloc: Global, told: &mut String, stack: &mut S) -> Result<bool, Memory> {
+    let Some(record) = stack.take() else {
+        return Ok(false);
+    };
+    let line = told::record(alloc, &record);
+    drop(record);
+    told::add(told, line?)?;
+    Ok(true)
+}
+
+// Adds what the stack's tracer was asked for, where that is counted.
+fn add_counts<S: Stack>(alloc: Global, told: &mut String, stack: &mut S) -> Result<(), Memory> {
+    match stack.counts() {
+        Some((reserved, finished)) => told::add(
+            told,
+            format!(in alloc; "  reserved {reserved}, finished {finished}\n")?,
+        ),
+        None => Ok(()),
+    }
 }

@@ -8,7 +8,7 @@ use crate::handles::Handles;
 use crate::scene::Scene;
 use crate::stack::Stack;
 use crate::tally::Tally;
-use crate::{play, words};
+use crate::{play, told, words};
 use env_filter::filter::EnvFilter;
 use futures::task::Context;
 use otel_base::memory::Memory;
@@ -28,27 +28,32 @@ pub fn run(
 ) -> Result<String, Memory> {
     let (kind, words) = stack.split_once(' ').unwrap_or((stack, ""));
     match kind {
-        "layer" => {
-            let layer = OpenTelemetryLayer::new(alloc, Recorder::new(alloc));
-            run_on(alloc, Registry::new(alloc).with(layer), lines, cx)
-        }
-        "passive" => {
-            let layer = OpenTelemetryLayer::new(
-                alloc,
-                Recorder::new(alloc),
-            ).with_context_activation(false);
-            run_on(alloc, Registry::new(alloc).with(layer), lines, cx)
-        }
-        "counted" => {
-            let layer = OpenTelemetryLayer::new(alloc, Recorder::new(alloc)).with_tracer(Tally::new(
-                alloc,
-            ));
-            run_on(alloc, Registry::new(alloc).with(layer), lines, cx)
-        }
+        "layer" => run_layer(alloc, true, lines, cx),
+        "passive" => run_layer(alloc, false, lines, cx),
+        "counted" => run_counted(alloc, lines, cx),
         "counting" => run_counting(alloc, words, lines, cx),
         "filtered" => run_filtered(alloc, words, lines, cx),
         _ => run_on(alloc, Registry::new(alloc), lines, cx),
     }
+}
+
+// Runs them under the layer, with or without activation.
+fn run_layer(
+    alloc: Global,
+    activation: bool,
+    lines: &[String],
+    cx: &mut Context<'_>,
+) -> Result<String, Memory> {
+    let layer = OpenTelemetryLayer::new(alloc, Recorder::new(alloc));
+    let layer = layer.with_context_activation(activation);
+    run_on(alloc, Registry::new(alloc).with(layer), lines, cx)
+}
+
+// Runs them under the layer over a tracer that counts what it is asked for.
+fn run_counted(alloc: Global, lines: &[String], cx: &mut Context<'_>) -> Result<String, Memory> {
+    let layer = OpenTelemetryLayer::new(alloc, Recorder::new(alloc));
+    let layer = layer.with_tracer(Tally::new(alloc));
+    run_on(alloc, Registry::new(alloc).with(layer), lines, cx)
 }
 
 // Runs them under a layer that counts the events which the filter of some words lets through.
@@ -105,9 +110,16 @@ fn run_on<S: Stack>(
     let mut handles = Handles::new();
     let told = play(alloc, &mut scene, &mut handles, lines, cx);
     handles.discard();
-    let records = scene.end(alloc);
-    let mut told = told?;
-    told.push_str(records?.as_str())?;
+    with_records(told, scene.end(alloc))
+}
+
+// What was told of calls, and behind it the records.
+fn with_records(
+    told: Result<String, Memory>,
+    records: Result<String, Memory>,
+) -> Result<String, Memory> {
+    let (mut told, records) = (told?, records?);
+    told::add(&mut told, records)?;
     Ok(told)
 }
 

@@ -23,17 +23,16 @@ pub fn callsite(alloc: Global, words: &str) -> Result<Option<Callsite>, Memory> 
     let Some((level, rest)) = words.split_once(' ') else {
         return Ok(None);
     };
-    let Ok(level) = level.parse::<Level>() else {
-        return Ok(None);
-    };
-    let (name, names) = rest.split_once(' ').unwrap_or((rest, ""));
-    let mut fields = Items::new(alloc);
-    for field in names.split(' ') {
-        if !field.is_empty() {
-            fields.push(text(alloc, field)?)?;
-        }
+    match level.parse::<Level>() {
+        Ok(level) => Ok(Some(callsite_at(alloc, level, rest)?)),
+        Err(_) => Ok(None),
     }
-    Ok(Some(Callsite {
+}
+
+// The callsite of a level and the words `NAME FIELD ..`.
+fn callsite_at(alloc: Global, level: Level, words: &str) -> Result<Callsite, Memory> {
+    let (name, names) = words.split_once(' ').unwrap_or((words, ""));
+    Ok(Callsite {
         name: text(alloc, name)?,
         target: text(alloc, "app")?,
         level,
@@ -41,20 +40,37 @@ pub fn callsite(alloc: Global, words: &str) -> Result<Option<Callsite>, Memory> 
         file: None,
         module_path: None,
         line: None,
-        fields,
-    }))
+        fields: fields(alloc, names)?,
+    })
+}
+
+// The names of fields.
+fn fields(alloc: Global, names: &str) -> Result<Items<Text>, Memory> {
+    let mut fields = Items::new(alloc);
+    for field in names.split(' ') {
+        if !field.is_empty() {
+            fields.push(text(alloc, field)?)?;
+        }
+    }
+    Ok(fields)
 }
 
 /// The values of words `PLACE=NUMBER` for the fields of a callsite; other words are left out.
 pub fn values(alloc: Global, words: &str) -> Result<ValueSet, Memory> {
     let mut pairs = Items::new(alloc);
     for word in words.split(' ') {
-        let (place, value) = word.split_once('=').unwrap_or((word, ""));
-        if let Some(place) = number(place) {
-            pairs.push((place as usize, Value::Str(text(alloc, value)?)))?;
-        }
+        add_value(alloc, &mut pairs, word)?;
     }
     Ok(ValueSet { pairs })
+}
+
+// Adds the value of a word `PLACE=NUMBER`, if it is such a word.
+fn add_value(alloc: Global, pairs: &mut Items<(usize, Value)>, word: &str) -> Result<(), Memory> {
+    let (place, value) = word.split_once('=').unwrap_or((word, ""));
+    if let Some(place) = number(place) {
+        pairs.push((place as usize, Value::Str(text(alloc, value)?)))?;
+    }
+    Ok(())
 }
 
 /// The ids of the words `TRACE SPAN`, 0 where there are none.
