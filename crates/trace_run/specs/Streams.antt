@@ -43,7 +43,7 @@ StopsWriting faults holds old new = (first : _) × (faults first ≡ faults old)
 
 -- ---- sources and sinks in memory
 
--- the turn of the next call: one with no turn moves all that it can
+-- the turn of the next call: one with no turn may move all that it can
 abbrev pub first_turn : List Turn → Turn
 first_turn [] = Moves (2 ^ 64 - 1)
 first_turn (turn ∷ turns) = turn

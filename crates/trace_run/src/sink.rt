@@ -162,7 +162,7 @@ impl<'a> Sink for MemSink<'a> {
     }
 }
 
-/// A sink over one of std's writers.
+/// A sink over one of std's writers. A write that was interrupted is tried again.
 #[derive(Drop)]
 pub struct StdSink<W> {
     writer: W,

@@ -139,7 +139,7 @@ impl<'a> Source for MemSource<'a> {
     }
 }
 
-/// A source over one of std's readers.
+/// A source over one of std's readers. A read that was interrupted is tried again.
 #[derive(Drop)]
 pub struct StdSource<R> {
     reader: R,

@@ -11,7 +11,7 @@ pub enum Turn {
     Moves { most: usize },
 }
 
-/// The turn of the next call, and those of the calls behind it. A call with no turn moves all that it can.
+/// The turn of the next call, and those of the calls behind it. A call with no turn may move all that it can.
 pub fn next_turn(turns: &[Turn]) -> (Turn, &[Turn])
     ensures first { result.0 ≡ first_turn turns.now }
     ensures later { result.1.now ≡ later_turns turns.now }
