@@ -56,13 +56,13 @@ pub record Leaves {S : Type 0} (spans : S → Spans) (old new : Server S) : Type
   pub rest : new ≡ record old { world = new.world }
 
 -- what the gate answers for a callsite on the server's lane
-abbrev pub answered : {S : Type 0} → (S → Option LevelFilter) → (S → ℕ → Callsite → Bool) → Server S → ℕ → S → Callsite → Bool
-answered hint enables server site s callsite = gate (cached_at server.world.cached server.dispatch site) (hint s) (enables s server.lane.id callsite) callsite.level
+abbrev pub gate_answer : {S : Type 0} → (S → Option LevelFilter) → (S → ℕ → Callsite → Bool) → Server S → ℕ → S → Callsite → Bool
+gate_answer hint enables server site s callsite = gate (cached_at server.world.cached server.dispatch site) (hint s) (enables s server.lane.id callsite) callsite.level
 
 -- what holds where that is the answer
 abbrev pub IfAnswered : {S : Type 0} → (S → Option LevelFilter) → (S → ℕ → Callsite → Bool) → ℕ → Server S → Bool → (Callsite → Type 0) → Type 0
 IfAnswered {S} hint enables site server answer holds = (s : S) (callsite : Callsite) → slice_get server.world.subscribers server.dispatch ≡ Some s → slice_get server.world.sites site ≡ Some callsite
-    → answered hint enables server site s callsite ≡ answer → holds callsite
+    → gate_answer hint enables server site s callsite ≡ answer → holds callsite
 
 -- where it is no, nothing happens, and the call answers so
 abbrev pub IsHeldBack : {S : Type 0} → (S → Option LevelFilter) → (S → ℕ → Callsite → Bool) → ℕ → Server S → Server S → Type 0 → Type 0

@@ -5,13 +5,16 @@ ghost use Rattle.example_calls.specs.Errors.{fault_of};
 
 use otel_base::enter_error::EnterError;
 use otel_base::memory::Memory;
+use thiserror::Error;
 
 /// Why a request isn't served to its end.
-#[derive(Clone, Copy, Debug, PartialEq, Eq)]
+#[derive(Clone, Copy, Debug, PartialEq, Eq, Error)]
 pub enum ServeError {
     /// The lane has as many live contexts as it may have, so its span isn't entered.
+    #[error("as many contexts are live on the lane as may be")]
     Full,
     /// No memory was to be had.
+    #[error("no memory was to be had")]
     Memory,
 }
 
