@@ -34,15 +34,22 @@ made_site name target what fields = record {
   fields = fields;
 }
 
+-- the callsites of a request's span, of the one below it, and of a row's event
+abbrev pub request_site : Callsite
+request_site = made_site (codes "request") (codes "web") kind.Span (codes "otel.kind" ∷ codes "id" ∷ [])
+
+abbrev pub query_site : Callsite
+query_site = made_site (codes "query") (codes "web::db") kind.Span []
+
+abbrev pub row_site : Callsite
+row_site = made_site (codes "row") (codes "web::db") kind.Event (codes "message" ∷ [])
+
 abbrev pub made_settings : Settings
 made_settings = record {
   filter = codes "info";
   counting = None;
   lanes = (1, Some (codes "a")) ∷ (2, Some (codes "b")) ∷ [];
-  callsites =
-      made_site (codes "request") (codes "web") kind.Span (codes "otel.kind" ∷ codes "id" ∷ [])
-      ∷ made_site (codes "query") (codes "web::db") kind.Span []
-      ∷ made_site (codes "row") (codes "web::db") kind.Event (codes "message" ∷ []) ∷ [];
+  callsites = request_site ∷ query_site ∷ row_site ∷ [];
   layer = default_settings;
 }
 

@@ -198,12 +198,17 @@ call_form verb.AddEvent = add_event_form
 call_form verb.Enabled = enabled_form
 call_form verb.Reload = reload_form
 
+-- what is to be done, by its word
+abbrev pub verb_form : Form Verb
+verb_form = do
+  word ← text (codes "do")
+  when (verb_word word)
+
 -- a moment, a lane, and what a word of `do` goes on with
 unfoldable pub request_form : Form Request
 request_form = do
   at ← whole (codes "at")
   lane ← whole (codes "lane")
-  word ← text (codes "do")
-  verb ← when (verb_word word)
+  verb ← verb_form
   call ← call_form verb
   give (record { at = at; lane = lane; call = call })

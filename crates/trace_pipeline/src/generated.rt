@@ -1,6 +1,6 @@
 //! The script that is made for a number of rounds, as settings and requests.
 ghost use Rattle.std.specs.Prelude.{◌≡◌, ◌+◌, ◌<◌, ◌≤◌, IfOk};
-ghost use Rattle.trace_pipeline.specs.Generated.{made_site, made_settings, in_round, root_fields, row_fields, round_with, round};
+ghost use Rattle.trace_pipeline.specs.Generated.{made_site, request_site, row_site, made_settings, in_round, root_fields, row_fields, round_with, round};
 
 pub mod laws;
 
@@ -45,18 +45,32 @@ fn callsite(
     })
 }
 
-fn callsites(alloc: Global) -> Result<Items<Callsite>, Memory>
-    ensures { IfOk result (λ callsites. callsites ≡ made_settings.callsites) }
+// The callsite of a request's span.
+fn request_site(alloc: Global) -> Result<Callsite, Memory>
+    ensures { IfOk result (λ site. site ≡ request_site) }
 {
     let mut fields = Items::new(alloc);
     fields.push(text(alloc, "otel.kind")?)?;
     fields.push(text(alloc, "id")?)?;
-    let mut message = Items::new(alloc);
-    message.push(text(alloc, "message")?)?;
+    callsite(alloc, "request", "web", Kind::Span, fields)
+}
+
+// The callsite of a row's event.
+fn row_site(alloc: Global) -> Result<Callsite, Memory>
+    ensures { IfOk result (λ site. site ≡ row_site) }
+{
+    let mut fields = Items::new(alloc);
+    fields.push(text(alloc, "message")?)?;
+    callsite(alloc, "row", "web::db", Kind::Event, fields)
+}
+
+fn callsites(alloc: Global) -> Result<Items<Callsite>, Memory>
+    ensures { IfOk result (λ callsites. callsites ≡ made_settings.callsites) }
+{
     let mut callsites = Items::new(alloc);
-    callsites.push(callsite(alloc, "request", "web", Kind::Span, fields)?)?;
+    callsites.push(request_site(alloc)?)?;
     callsites.push(callsite(alloc, "query", "web::db", Kind::Span, Items::new(alloc))?)?;
-    callsites.push(callsite(alloc, "row", "web::db", Kind::Event, message)?)?;
+    callsites.push(row_site(alloc)?)?;
     Ok(callsites)
 }
 

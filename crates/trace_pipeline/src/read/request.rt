@@ -2,7 +2,7 @@
 ghost use Rattle.std.specs.Prelude.{◌≡◌};
 ghost use Rattle.trace_pipeline.specs.Gives.{Gives};
 ghost use Rattle.trace_pipeline.specs.Left.{value_data, left};
-ghost use Rattle.trace_pipeline.specs.RequestForm.{verb_word, root_word, place_of, place_form, fields_form, new_form, clone_form, or_current_form, drop_form, enter_form, entered_form, exit_form, record_form, has_field_form, event_form, remote_form, context_form, attach_form, detach_form, call_form, request_form, enabled_form, reload_form};
+ghost use Rattle.trace_pipeline.specs.RequestForm.{verb_word, verb_form, root_word, place_of, place_form, fields_form, new_form, clone_form, or_current_form, drop_form, enter_form, entered_form, exit_form, record_form, has_field_form, event_form, remote_form, context_form, attach_form, detach_form, call_form, request_form, enabled_form, reload_form};
 
 use crate::read::LineError;
 use crate::read::extension::{
@@ -77,6 +77,14 @@ fn verb_of(word: &str) -> Option<Verb>
         "reload" => Some(Verb::Reload),
         _ => None,
     }
+}
+
+// Takes what is to be done.
+fn taken_verb(object: &mut Object) -> Result<Verb, LineError>
+    ensures { Gives (λ v. (v, left object.new)) result (verb_form (left object.old)) }
+{
+    let word = object.member("do")?;
+    verb_of(word.word()?).ok_or(LineError::BadLine)
 }
 
 fn root_of(word: &str) -> Option<Place>
@@ -300,8 +308,7 @@ pub(crate) fn request_members(alloc: Global, object: &mut Object) -> Result<Requ
 {
     let at = object.whole("at")?;
     let lane = object.whole("lane")?;
-    let word = object.member("do")?;
-    let verb = verb_of(word.word()?).ok_or(LineError::BadLine)?;
+    let verb = taken_verb(object)?;
     let call = call(alloc, verb, object)?;
     Ok(Request { at, lane, call })
 }
