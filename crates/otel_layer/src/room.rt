@@ -40,7 +40,7 @@ impl<T: Tracer> OpenTelemetryLayer<T> {
         self.reserve_span()?;
         let state = self.new_state(lane, callsite)?;
         match span_update(self.alloc, callsite, values, &self.settings) {
-            Ok(update) => roomed(state, update),
+            Ok(update) => with_room(state, update),
             Err(memory) => {
                 drop(state);
                 Err(memory)
@@ -175,7 +175,7 @@ impl<T: Tracer> OpenTelemetryLayer<T> {
 }
 
 // The state of a new span, with room for what its fields write.
-fn roomed(mut state: SpanState, update: Update) -> Result<Ready, Memory>
+fn with_room(mut state: SpanState, update: Update) -> Result<Ready, Memory>
     ensures { IfOk result (IsRoomed state.told update) }
 {
     match state.reserve_room(update.attributes.as_slice().len(), 0, 0) {

@@ -21,7 +21,7 @@ use crate::stack::{RecordedStack, Stack};
 use otel_layer::part::OtelPart;
 use trace_base::subscriber::Subscriber;
 
-// What each change of a stack comes to, read at the stack once, for all laws below.
+// What each change of a stack comes to, read at the stack once, for the four laws behind it.
 fn of_stack()
     ensures calls { (old new : StackWorlds) (dispatch : ℕ) (call : SubscriberCall)
         → Replaced (λ s t. ⟦<Stack as Subscriber>⟧.does s call t) old new dispatch
