@@ -1,6 +1,7 @@
 //! Why a conversion ends early.
 ghost use Rattle.std.specs.Prelude.{◌≡◌};
 ghost use Rattle.convert_base.specs.Numbers.{status_of};
+ghost use Rattle.convert_base.specs.declared.fault.Fault.TheVariants as fault;
 
 use std::alloc::{AllocError, AllocFailed};
 use std::io;
@@ -47,18 +48,24 @@ impl Fault {
 }
 
 impl From<AllocError> for Fault {
+    ghost from_gives = { λ _ f. f ≡ fault.Memory };
+
     fn from(_: AllocError) -> Fault {
         Fault::Memory
     }
 }
 
 impl<T: Drop> From<AllocFailed<T>> for Fault {
+    ghost from_gives = { λ _ f. f ≡ fault.Memory };
+
     fn from(_: AllocFailed<T>) -> Fault {
         Fault::Memory
     }
 }
 
 impl From<io::Error> for Fault {
+    ghost from_gives = { λ _ f. f ≡ fault.Io };
+
     fn from(_: io::Error) -> Fault {
         Fault::Io
     }
