@@ -1,5 +1,5 @@
 -- One line more is answered, and the lines end.
-use Rattle.std.proofs.Common.{◌≡◌, ℕ, List, [], ◌∷◌, ◌++◌, length, refl, sym, ap, subst, ◌∙◌, append_assoc, ◌+◌, inl, inr}
+use Rattle.std.proofs.Common.{◌≡◌, ℕ, List, [], ◌∷◌, ◌++◌, refl, sym, ap, subst, ◌∙◌, append_assoc, ◌+◌, inl, inr}
 use Rattle.std.specs.Prelude.{Bool, Result, Ok, Err, IfOk, IsErrOf, true, false}
 use Rattle.std.proofs.lemmas.List.{append-nil}
 use Rattle.std.proofs.lemmas.List.Folds.{list_all-append}
@@ -20,7 +20,7 @@ use Rattle.span_script.specs.Effects.{effect_of, open_spans}
 use Rattle.trace_pipeline.specs.Lines.{is_blank}
 use Rattle.trace_pipeline.specs.Spelled.{settings_spelled, request_spelled}
 use Rattle.trace_pipeline.specs.Texts.{refusal_text}
-use Rattle.span_script.specs.Fits.{State, StandsFor, RecordingFits, Recorded}
+use Rattle.span_script.specs.Fits.{State, StandsFor, Recorded}
 use Rattle.span_script.specs.Admission.{opening_read}
 use Rattle.trace_pipeline.specs.Report.{Report, behind, effect_of_line, effect_of_request, answer_text, answer_count, last_text, report_on, report_from}
 use Rattle.trace_run.specs.declared.answers.Stage.{Stage}

@@ -1,21 +1,21 @@
 -- What serving the made requests comes to.
-use Rattle.std.proofs.Common.{◌≡◌, ℕ, zero, suc, ◌+◌, ◌≤◌, ◌<◌, List, [], ◌∷◌, ◌++◌, length, fold, Option, Some, Ok, refl, sym, ap, subst, ◌∙◌, arith, append_assoc, append-nil, length-append}
-use Rattle.std.specs.List.{sum_by, flat_map, range_with_len}
-use Rattle.std.proofs.lemmas.List.Sums.{sum_by-append, fold-append}
+use Rattle.std.proofs.Common.{◌≡◌, ℕ, zero, suc, ◌+◌, List, [], ◌∷◌, ◌++◌, length, Some, Ok, refl, sym, ap, subst, ◌∙◌, arith, append_assoc, append-nil, length-append}
+use Rattle.std.specs.List.{sum_by}
+use Rattle.std.proofs.lemmas.List.Sums.{sum_by-append}
 use Rattle.otel_base.specs.declared.record.Record.{Record}
 use Rattle.span_script.specs.declared.reply.Reply.{Reply}
 use Rattle.span_script.specs.declared.request.Request.{Request}
 use Rattle.span_script.specs.Effects.{Resolved, effect_of, open_spans}
 use Rattle.span_script.specs.Fits.{State, StandsFor, Recorded}
-use Rattle.span_script.specs.Outcomes.{records, records_from}
-use Rattle.span_script.specs.Setups.{Setup, HasOwnIds, id_at}
-use Rattle.span_script.specs.Tables.{History, Effect, Tables, no_tables, tables, after, records_of}
-use Rattle.trace_pipeline.specs.Generated.{made_settings, made_setup, made_requests, made_script, round, rounds}
-use Rattle.trace_pipeline.specs.Replay.{going_on, replayed, busy_of, events_of, summary_of, summary_text}
+use Rattle.span_script.specs.Outcomes.{records}
+use Rattle.span_script.specs.Setups.{Setup, HasOwnIds}
+use Rattle.span_script.specs.Tables.{History, Tables, no_tables, tables, records_of}
+use Rattle.trace_pipeline.specs.Generated.{made_setup, made_requests, made_script, round, rounds}
+use Rattle.trace_pipeline.specs.Replay.{going_on, replayed, busy_of, events_of, summary_text}
 use Rattle.trace_pipeline.specs.Report.{IsValid}
 use Rattle.trace_pipeline.specs.declared.write.summary.Summary.{Summary}
 use Rattle.trace_run.specs.Answers.{without_taken}
-use Rattle.trace_run.specs.Making.{SumsUp, IsMadeLine, line_if, with_records, of_requests, totals_of, Counts, Serves}
+use Rattle.trace_run.specs.Making.{SumsUp, IsMadeLine, line_if, with_records, of_requests, Counts, Serves}
 use Rattle.trace_run.specs.declared.make.Totals.{Totals}
 use Rattle.trace_run.proofs.AnswersLemmas.{stands_beside}
 use Rattle.span_script.proofs.Running.{records_push}

@@ -2,12 +2,13 @@
 use Rattle.std.specs.Prelude.{◌≡◌, ℕ, ◌≤◌, List, Option, IfSome}
 use Rattle.trace_pipeline.specs.declared.generated.TheConstants.{MOST_ROUNDS}
 use Rattle.trace_pipeline.specs.Report.{output}
-use Rattle.trace_run.specs.Streams.{PutsFront}
+use Rattle.trace_run.specs.Streams.{PutsFront, MeetsEnd}
 use Rattle.trace_run.specs.Ends.{Ends, Completes}
 use Rattle.trace_run.specs.Making.{made_line, LeavesSum, CompletesSum}
 use Rattle.trace_run.specs.declared.script.Command.{Command}
 use Rattle.trace_run.specs.declared.script.Command.TheVariants as command
 use Rattle.trace_run.specs.declared.status.Status.{Status}
+use Rattle.trace_run.specs.declared.status.Status.TheVariants as ends
 
 -- what it leaves at each status
 abbrev pub EndsOf : Command → Status → Option (List ℕ) → Option (List ℕ) → Option (List ℕ) → Option (List ℕ) → Type 0
@@ -24,6 +25,11 @@ abbrev pub CompletesOf : Command → Status → Option (List ℕ) → ℕ → �
 CompletesOf (command.Run signal) status bytes reads reads' writes writes' =
     IfSome bytes (λ bs. Completes status bs reads reads' writes writes')
 CompletesOf (command.Make rounds) status bytes reads reads' writes writes' = CompletesSum status writes writes'
+
+-- a script ends well only where the source's end was met, and what is made reads nothing, by the count of ends met
+abbrev pub MeetsEndOf : Command → Status → ℕ → ℕ → Type 0
+MeetsEndOf (command.Run signal) status met met' = status ≡ ends.Ok → MeetsEnd met met'
+MeetsEndOf (command.Make rounds) status met met' = met' ≡ met
 
 -- so many rounds can be made
 abbrev pub IsPossible : Command → Type 0

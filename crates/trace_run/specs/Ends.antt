@@ -72,6 +72,10 @@ Causes ends.Refused reads reads' writes writes' = Unit {0}
 Causes ends.Memory reads reads' writes writes' = Unit {0}
 Causes ends.TooLong reads reads' writes writes' = Unit {0}
 
+-- Too long an input is told where neither an end nor a fault was met: each read gave a byte at the least.
+abbrev pub IsOver : Status → ℕ → ℕ → ℕ → ℕ → Type 0
+IsOver status met met' faults faults' = status ≡ ends.TooLong → (met' ≡ met) × (faults' ≡ faults)
+
 -- Valid bytes, with no fault, are run whole, or memory wants.
 abbrev pub Completes : Status → List ℕ → ℕ → ℕ → ℕ → ℕ → Type 0
 Completes status bytes reads reads' writes writes' =

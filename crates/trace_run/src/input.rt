@@ -1,7 +1,7 @@
 //! The input of a run, which is read before its first line is handled.
 ghost use Rattle.std.specs.Prelude.{◌≡◌, ◌≢◌, ◌+◌, ◌<◌, ◌≤◌, length, IfOk, vec_len};
 ghost use Rattle.std.specs.Io.KnownBytes.{IsAtEnd};
-ghost use Rattle.trace_run.specs.Streams.{HasFault, Takes, StopsReading};
+ghost use Rattle.trace_run.specs.Streams.{HasFault, MeetsEnd, Takes, StopsReading};
 
 use crate::failed::Failed;
 use crate::source::Source;
@@ -46,6 +46,8 @@ pub fn read_all<R: Source>(alloc: Global, source: &mut R) -> Result<Input, Memor
     ensures sure { IfOk result (λ input. input.end ≢ End.Fault → R.faults source.new ≡ R.faults source.old) }
     ensures stops { IfOk result (λ input. input.end ≡ End.Fault
         → StopsReading R.faults R.remaining source.old source.new) }
+    ensures met { IfOk result (λ input. input.end ≡ End.Whole → MeetsEnd (R.ends source.old) (R.ends source.new)) }
+    ensures over { IfOk result (λ input. input.end ≡ End.TooLong → R.ends source.new ≡ R.ends source.old) }
     ensures end_once { R.ends source.new ≤ R.ends source.old + 1 }
 {
     let mut bytes = Vec::new(alloc);

@@ -17,7 +17,7 @@ pub trait Sink {
     ghost faults: { Self → ℕ };
 
     /// Writes some of the piece's first bytes, and answers how many. To take no byte of a piece that has some is a
-    /// fault; any other answer is none. `Failed` where the write failed; nothing was written then.
+    /// fault; any other number is none. `Failed` where the write failed; nothing was written then.
     fn write(&mut self, piece: &[u8]) -> Result<usize, Failed>
         ensures bound { IfOk result (λ n. n ≤ length piece.now) }
         ensures bytes { IfOk result (λ n. Puts (holds self.old) (holds self.new) (take n piece.now)) }

@@ -19,8 +19,8 @@ pub trait Source {
     /// How many reads gave nothing: those that met the end, and those into an empty buffer.
     ghost ends: { Self → ℕ };
 
-    /// Reads some bytes to the start of `buf`, and answers how many. None is the end. `Failed` where the read
-    /// failed; nothing was taken then.
+    /// Reads some bytes to the start of `buf`, and answers how many. None is the end, where the buffer has
+    /// room. `Failed` where the read failed; nothing was taken then.
     fn read(&mut self, buf: &mut [u8]) -> Result<usize, Failed>
         ensures bound { IfOk result (λ n. n ≤ length buf.new) }
         ensures bytes { IfOk result (λ n. Takes (remaining self.old) (remaining self.new) (take n buf.new)) }

@@ -12,7 +12,7 @@ pub enum Status {
     Ok,
     /// The words ask for nothing that the program does.
     Usage,
-    /// A line was refused.
+    /// A line was refused, or no settings line came.
     Refused,
     /// A read failed.
     ReadFault,

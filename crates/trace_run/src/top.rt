@@ -1,8 +1,8 @@
 //! The entry point of the program, over any source and any sink.
 ghost use Rattle.std.specs.Prelude.{◌≡◌, ◌+◌, ◌≤◌, [], ◌∷◌, map, None, IfSome, option_map, string_bytes};
-ghost use Rattle.trace_run.specs.Commands.{EndsOf, FrontOf, CompletesOf};
+ghost use Rattle.trace_run.specs.Commands.{EndsOf, FrontOf, CompletesOf, MeetsEndOf};
 ghost use Rattle.trace_run.specs.Streams.{StopsReading, StopsWriting};
-ghost use Rattle.trace_run.specs.Ends.{Causes};
+ghost use Rattle.trace_run.specs.Ends.{Causes, IsOver};
 ghost use Rattle.trace_run.specs.declared.script.Command.TheVariants.{Make};
 ghost use Rattle.trace_run.specs.Words.{command_of, rounds_of};
 
@@ -36,6 +36,9 @@ pub fn top<H: Threads + Wait + Sync, R: Source, W: Sink>(
     ensures front { IfSome (command_of (map string_bytes words.now)) (λ command.
         FrontOf command (R.remaining source.old) (W.holds sink.old) (W.holds sink.new)) }
     ensures read_stops { result ≡ Status.ReadFault → StopsReading R.faults R.remaining source.old source.new }
+    ensures met { IfSome (command_of (map string_bytes words.now)) (λ command.
+        MeetsEndOf command result (R.ends source.old) (R.ends source.new)) }
+    ensures over { IsOver result (R.ends source.old) (R.ends source.new) (R.faults source.old) (R.faults source.new) }
     ensures end_once { R.ends source.new ≤ R.ends source.old + 1 }
     ensures write_stops { result ≡ Status.WriteFault → StopsWriting W.faults W.holds sink.old sink.new }
     ensures complete { IfSome (command_of (map string_bytes words.now)) (λ command.
