@@ -14,10 +14,10 @@ use Rattle.trace_run.specs.declared.input.End.TheVariants as end
 use Rattle.trace_pipeline.specs.declared.limits.TheConstants.{MAX_INPUT}
 use Rattle.trace_run.specs.declared.status.Status.{Status}
 use Rattle.trace_run.specs.declared.status.Status.TheVariants as ends
-use Rattle.trace_run.specs.Streams.{Takes, IsFront, Puts, PutsFront}
+use Rattle.trace_run.specs.Streams.{MeetsEnd, Takes, IsFront, Puts, PutsFront}
 use Rattle.trace_run.specs.Breaks.{whole_part, whole_lines, HasRefused, AnswersAll}
 use Rattle.trace_run.specs.Answers.{Stops, Cuts}
-use Rattle.trace_run.specs.Ends.{Leaves, Ends, Causes, Completes, status_of, Tells}
+use Rattle.trace_run.specs.Ends.{Leaves, Ends, Causes, Completes, IsRefusedAt, status_of, Tells}
 use Rattle.trace_run.specs.Making.{LeavesSum, CompletesSum}
 use Rattle.trace_run.specs.Commands.{EndsOf, CompletesOf}
 use Rattle.trace_run.specs.declared.script.Command.{Command}
@@ -222,3 +222,21 @@ fault_of true ending told = cc
 fault_of false end.Whole told = cc
 fault_of false end.Fault told = refl
 fault_of false end.TooLong told = cc
+
+-- ---- where a refusal is told
+
+-- what isn't all of an input and is refused has a refused line
+cut_refused : (signal : Signal) (refused : Bool) (ending : End) (lines : List (List ℕ)) (text : List ℕ) → Cuts signal refused lines text → (ending ≡ end.Whole → ⊥)
+    → status_of refused ending ≡ ends.Refused → HasRefused lines
+cut_refused signal true ending lines text stops part told = record { some = stops.some; refused = accepted_as signal lines text false (stops_end signal lines text stops) }
+cut_refused signal false end.Whole lines text cuts part told = absurd (part refl)
+cut_refused signal false end.Fault lines text cuts part told = absurd cc
+cut_refused signal false end.TooLong lines text cuts part told = absurd cc
+
+pub refused_at : (signal : Signal) (old left : Option (List ℕ)) (met met' : ℕ) (ending : End) (answers : Output) (read : List ℕ) → Takes old left read
+    → (ending ≡ end.Whole → MeetsEnd met met') → Tells signal ending read answers → IsRefusedAt (status_of answers.refused ending) old left met met'
+refused_at signal old left met met' end.Whole answers read took meets tells told = (read, took, inr (meets refl))
+refused_at signal old left met met' end.Fault answers read took meets tells told =
+    (read, took, inl (cut_refused signal answers.refused end.Fault (whole_lines (take MAX_INPUT read)) answers.text.items tells (λ same. cc) told))
+refused_at signal old left met met' end.TooLong answers read took meets tells told =
+    (read, took, inl (cut_refused signal answers.refused end.TooLong (whole_lines (take MAX_INPUT read)) answers.text.items tells (λ same. cc) told))

@@ -1,9 +1,9 @@
 -- What each command leaves, of the source's bytes, those left, and what the sink held before and holds now.
-use Rattle.std.specs.Prelude.{◌≡◌, ℕ, ◌≤◌, List, Option, IfSome}
+use Rattle.std.specs.Prelude.{◌≡◌, ◌≢◌, ℕ, ◌≤◌, List, Option, IfSome}
 use Rattle.trace_pipeline.specs.declared.generated.TheConstants.{MOST_ROUNDS}
 use Rattle.trace_pipeline.specs.Report.{output}
 use Rattle.trace_run.specs.Streams.{PutsFront, MeetsEnd}
-use Rattle.trace_run.specs.Ends.{Ends, Completes}
+use Rattle.trace_run.specs.Ends.{Ends, Completes, IsRefusedAt}
 use Rattle.trace_run.specs.Making.{made_line, LeavesSum, CompletesSum}
 use Rattle.trace_run.specs.declared.script.Command.{Command}
 use Rattle.trace_run.specs.declared.script.Command.TheVariants as command
@@ -30,6 +30,11 @@ CompletesOf (command.Make rounds) status bytes reads reads' writes writes' = Com
 abbrev pub MeetsEndOf : Command → Status → ℕ → ℕ → Type 0
 MeetsEndOf (command.Run signal) status met met' = status ≡ ends.Ok → MeetsEnd met met'
 MeetsEndOf (command.Make rounds) status met met' = met' ≡ met
+
+-- where a script is refused; what is made never is
+abbrev pub RefusesOf : Command → Status → Option (List ℕ) → Option (List ℕ) → ℕ → ℕ → Type 0
+RefusesOf (command.Run signal) status bytes left met met' = IsRefusedAt status bytes left met met'
+RefusesOf (command.Make rounds) status bytes left met met' = status ≢ ends.Refused
 
 -- so many rounds can be made
 abbrev pub IsPossible : Command → Type 0

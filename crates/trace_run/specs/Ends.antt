@@ -4,7 +4,7 @@ use Rattle.std.proofs.Common.{◌⊎◌}
 use Rattle.trace_pipeline.specs.Report.{report, output, IsValid, IsRefused}
 use Rattle.trace_pipeline.specs.declared.limits.TheConstants.{MAX_INPUT}
 use Rattle.trace_pipeline.specs.declared.signal.Signal.{Signal}
-use Rattle.trace_run.specs.Streams.{HasFault, IsQuiet, Takes, Puts, PutsFront}
+use Rattle.trace_run.specs.Streams.{HasFault, MeetsEnd, IsQuiet, Takes, Puts, PutsFront}
 use Rattle.trace_run.specs.Breaks.{whole_lines, HasRefused, AnswersAll}
 use Rattle.trace_run.specs.Answers.{Cuts}
 use Rattle.trace_run.specs.declared.answers.Output.{Output}
@@ -75,6 +75,11 @@ Causes ends.TooLong reads reads' writes writes' = Unit {0}
 -- Too long an input is told where neither an end nor a fault was met: each read gave a byte at the least.
 abbrev pub IsOver : Status → ℕ → ℕ → ℕ → ℕ → Type 0
 IsOver status met met' faults faults' = status ≡ ends.TooLong → (met' ≡ met) × (faults' ≡ faults)
+
+-- A refusal is told at a whole line of what was read, within the longest input, or where the source's end was met.
+abbrev pub IsRefusedAt : Status → Option (List ℕ) → Option (List ℕ) → ℕ → ℕ → Type 0
+IsRefusedAt status bytes left met met' = status ≡ ends.Refused
+    → (read : List ℕ) × Takes bytes left read × (HasRefused (whole_lines (take MAX_INPUT read)) ⊎ MeetsEnd met met')
 
 -- Valid bytes, with no fault, are run whole, or memory wants.
 abbrev pub Completes : Status → List ℕ → ℕ → ℕ → ℕ → ℕ → Type 0

@@ -1,9 +1,9 @@
 //! Running a script: all of its input is read, then answered, and then the answers are written.
 ghost use Rattle.std.specs.Prelude.{◌≡◌, ◌≢◌, ◌+◌, ◌≤◌, [], IfSome, IfOk, OnErr};
 ghost use Rattle.trace_pipeline.specs.Report.{output};
-ghost use Rattle.trace_run.specs.Commands.{EndsOf, FrontOf, CompletesOf, MeetsEndOf, IsPossible};
+ghost use Rattle.trace_run.specs.Commands.{EndsOf, FrontOf, CompletesOf, MeetsEndOf, RefusesOf, IsPossible};
 ghost use Rattle.trace_run.specs.Streams.{MeetsEnd, Puts, PutsFront, StopsReading, StopsWriting};
-ghost use Rattle.trace_run.specs.Ends.{Leaves, Causes, IsOver, status_of, Tells};
+ghost use Rattle.trace_run.specs.Ends.{Leaves, Causes, IsOver, IsRefusedAt, status_of, Tells};
 
 use crate::answers::{Output, answer_lines};
 use crate::failed::Failed;
@@ -45,6 +45,8 @@ pub fn run_script<R: Source, W: Sink>(
         (R.faults source.old) (R.faults source.new) (W.faults sink.old) (W.faults sink.new) }
     ensures read_stops { result ≡ Status.ReadFault → StopsReading R.faults R.remaining source.old source.new }
     ensures write_stops { result ≡ Status.WriteFault → StopsWriting W.faults W.holds sink.old sink.new }
+    ensures refused { RefusesOf command result
+        (R.remaining source.old) (R.remaining source.new) (R.ends source.old) (R.ends source.new) }
     ensures met { MeetsEndOf command result (R.ends source.old) (R.ends source.new) }
     ensures over { IsOver result (R.ends source.old) (R.ends source.new) (R.faults source.old) (R.faults source.new) }
     ensures end_once { R.ends source.new ≤ R.ends source.old + 1 }
@@ -78,6 +80,8 @@ fn run<R: Source, W: Sink>(
         → StopsReading R.faults R.remaining source.old source.new) }
     ensures write_stops { IfOk result (λ status. status ≡ Status.WriteFault
         → StopsWriting W.faults W.holds sink.old sink.new) }
+    ensures refused { IfOk result (λ status. IsRefusedAt status
+        (R.remaining source.old) (R.remaining source.new) (R.ends source.old) (R.ends source.new)) }
     ensures met { IfOk result (λ status. status ≡ Status.Ok → MeetsEnd (R.ends source.old) (R.ends source.new)) }
     ensures over { IfOk result (λ status.
         IsOver status (R.ends source.old) (R.ends source.new) (R.faults source.old) (R.faults source.new)) }

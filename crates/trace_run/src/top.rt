@@ -1,6 +1,6 @@
 //! The entry point of the program, over any source and any sink.
 ghost use Rattle.std.specs.Prelude.{◌≡◌, ◌+◌, ◌≤◌, [], ◌∷◌, map, None, IfSome, option_map, string_bytes};
-ghost use Rattle.trace_run.specs.Commands.{EndsOf, FrontOf, CompletesOf, MeetsEndOf};
+ghost use Rattle.trace_run.specs.Commands.{EndsOf, FrontOf, CompletesOf, MeetsEndOf, RefusesOf};
 ghost use Rattle.trace_run.specs.Streams.{StopsReading, StopsWriting};
 ghost use Rattle.trace_run.specs.Ends.{Causes, IsOver};
 ghost use Rattle.trace_run.specs.declared.script.Command.TheVariants.{Make};
@@ -36,6 +36,8 @@ pub fn top<H: Threads + Wait + Sync, R: Source, W: Sink>(
     ensures front { IfSome (command_of (map string_bytes words.now)) (λ command.
         FrontOf command (R.remaining source.old) (W.holds sink.old) (W.holds sink.new)) }
     ensures read_stops { result ≡ Status.ReadFault → StopsReading R.faults R.remaining source.old source.new }
+    ensures refused { IfSome (command_of (map string_bytes words.now)) (λ command. RefusesOf command result
+        (R.remaining source.old) (R.remaining source.new) (R.ends source.old) (R.ends source.new)) }
     ensures met { IfSome (command_of (map string_bytes words.now)) (λ command.
         MeetsEndOf command result (R.ends source.old) (R.ends source.new)) }
     ensures over { IsOver result (R.ends source.old) (R.ends source.new) (R.faults source.old) (R.faults source.new) }
