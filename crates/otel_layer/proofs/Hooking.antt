@@ -28,19 +28,22 @@ use Rattle.otel_layer.specs.Ready.{retimed}
 use Rattle.otel_layer.specs.Taking.{last_passes, last_counted}
 use Rattle.otel_layer.specs.Keeping.{whole_kin, starts_kin, removed_length}
 
-pub makes : {T : Type 0} (does : T → TracerCall → T → Type 0) (c between d : Core T) (id : ℕ) (lane : Lane) (at : ℕ) (place : Parent) (current : Option ℕ) (callsite : Callsite) (values : ValueSet) (source again : Option ℕ) (active : Bool) (put : Parent) (context : Context) (told : Told)
+pub makes : {T : Type 0} (does : T → TracerCall → T → Type 0) (c between added d : Core T) (id : ℕ) (lane : Lane) (at : ℕ) (place : Parent) (current : Option ℕ) (callsite : Callsite) (values : ValueSet) (source again first : Option ℕ) (active eager : Bool) (put : Parent) (context : Context) (told : Told)
     → active ≡ c.settings.activation → put ≡ place → source ≡ above active put current → again ≡ source → StartsAny does again at c between → context ≡ context_from between.spans (around lane place) source
     → told ≡ made_told callsite lane values context at c.settings c.counting → length c.spans < c.reserved → c.made + 1 < 2 ^ 62
-    → d ≡ record between { spans = with_span id told between.spans; made = between.made + 1 } → MakesSpan does c id lane at place current callsite values d
-makes {T} does c between d id lane at place current callsite values source again active put context told is_active is_put is_source is_again starts is_context is_told spare few rest =
+    → added ≡ record between { spans = with_span id told between.spans; made = between.made + 1 } → eager ≡ c.settings.eager → first ≡ (if eager then Some id else None) → StartsAny does first at added d
+    → MakesSpan does c id lane at place current callsite values d
+makes {T} does c between added d id lane at place current callsite values source again first active eager put context told is_active is_put is_source is_again starts is_context is_told spare few rest is_eager is_first begins =
     let from = is_source ∙ ap (λ (p : Parent). above active p current) is_put ∙ ap (λ (b : Bool). above b place current) is_active in
     record {
       between = between;
       spare = spare;
       few = few;
       starts = subst (λ (o : Option ℕ). StartsAny does o at c between) (is_again ∙ from) starts;
+      added = added;
       rest = rest ∙ ap (λ (t : Told). let x : Core T = record between { spans = with_span id t between.spans; made = between.made + 1 } in x)
           (is_told ∙ ap (λ (x : Context). made_told callsite lane values x at c.settings c.counting) (is_context ∙ ap (λ (o : Option ℕ). context_from between.spans (around lane place) o) from));
+      begins = subst (λ (o : Option ℕ). StartsAny does o at added d) (is_first ∙ ap (λ (b : Bool). if b then Some id else None) is_eager) begins;
     }
 
 -- a span that was just made, by what its fields write

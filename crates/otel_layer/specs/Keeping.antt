@@ -267,7 +267,8 @@ module _ {T : Type 0} (does : T → TracerCall → T → Type 0) (spare started 
       let few = h.few in
       let kr = k.reserved in
       let km = k.made in
-      record { spares = omega (arith, spares, tracer, r); rooms = omega (arith, len, lenb, room, r, kr); budget = omega (arith, budget, begins, one, m); few = omega (arith, few, m, km) }
+      whole_kin h.added d (any_kin (if c.settings.eager then Some id else None) at h.added d h.begins)
+      (record { spares = omega (arith, spares, tracer, r); rooms = omega (arith, len, lenb, room, r, kr); budget = omega (arith, budget, begins, one, m); few = omega (arith, few, m, km) })
 
   closes_whole : (c d : Core T) (id at : ℕ) → ClosesSpan does c id at d → IsWholeCore spare started c → IsWholeCore spare started d
   closes_whole c d id at h w =

@@ -78,16 +78,21 @@ abbrev pub with_starts : Option ℕ → ℕ → Recording → Recording
 with_starts None at r = r
 with_starts (Some id) at r = with_start id at r
 
+-- the span that starts where a setting is on: at an entry with activation, or at its making
+abbrev pub source_of : Bool → ℕ → Option ℕ
+source_of on id = if on then Some id else None
+
 -- a span is made, after the one started that gives its parent's context
 abbrev pub made_under : Option ℕ → ℕ → Lane → ℕ → Parent → Callsite → ValueSet → LayerSettings → Bool → Recording → Recording
 made_under source id lane at place callsite values settings counting r = record r {
   spans = with_span id (made_told callsite lane values (context_from r.spans (around lane place) source) at settings counting) r.spans;
 }
 
+-- and where spans start early it starts at once
 abbrev pub with_made : ℕ → Lane → ℕ → Parent → Option ℕ → Callsite → ValueSet → Recording → Recording
 with_made id lane at place current callsite values r =
     let source = above r.settings.activation place current in
-    made_under source id lane at place callsite values r.settings r.counting (with_starts source at r)
+    with_starts (source_of r.settings.eager id) at (made_under source id lane at place callsite values r.settings r.counting (with_starts source at r))
 
 -- a span is linked to another, which is started
 abbrev pub linked : ℕ → ℕ → ℕ → Recording → Recording
@@ -100,10 +105,6 @@ with_follow id from at r = linked id from at (with_start from at r)
 abbrev pub with_event : Option ℕ → ℕ → Callsite → ValueSet → Recording → Recording
 with_event None at callsite values r = r
 with_event (Some id) at callsite values r = with_applied id at (event_of callsite values r.settings at) r
-
--- the span that an entry starts
-abbrev pub source_of : Bool → ℕ → Option ℕ
-source_of activation id = if activation then Some id else None
 
 -- an entry, which attached a context as that number, or none
 abbrev pub entered : ℕ → ℕ → ℕ → Option ℕ → Recording → Recording

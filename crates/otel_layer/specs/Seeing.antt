@@ -193,9 +193,10 @@ step_sees : {T : Type 0} (does : T → TracerCall → T → Type 0) (events : Ev
 step_sees does events c (OnNewSpan id lane at place current callsite values) d h =
     let b = h.between in
     let q = any_quiet does (above c.settings.activation place current) at c b h.starts in
+    let r = any_quiet does (if c.settings.eager then Some id else None) at h.added d h.begins in
     let new : ℕ × Told = (id, made_told callsite lane values (context_from b.spans (around lane place) (above c.settings.activation place current)) at c.settings c.counting) in
     makes_sees (keys_of c.spans) (keys_of d.spans) c.tokens d.tokens id lane at place current callsite values
-    (ap (λ x. keys_of x.spans) h.rest ∙ map-append (λ (e : ℕ × Told). e.0) b.spans (new ∷ []) ∙ ap (λ (ks : List ℕ). ks ++ id ∷ []) q.keys) (ap (λ x. x.tokens) h.rest ∙ q.tokens)
+    (r.keys ∙ ap (λ x. keys_of x.spans) h.rest ∙ map-append (λ (e : ℕ × Told). e.0) b.spans (new ∷ []) ∙ ap (λ (ks : List ℕ). ks ++ id ∷ []) q.keys) (r.tokens ∙ ap (λ x. x.tokens) h.rest ∙ q.tokens)
 step_sees does events c (OnRecord id at callsite values) d h = quiet_sees c d (OnRecord id at callsite values) (op_quiet c d id at (ops.Update (span_update callsite values c.settings)) h) (λ lane other. (refl, refl))
 step_sees does events c (OnFollows id from at) d h = quiet_sees c d (OnFollows id from at) (follows_quiet does c d id from at h) (λ lane other. (refl, refl))
 step_sees does events c (OnEvent None lane at callsite values) d h = quiet_sees c d (OnEvent None lane at callsite values) (same_quiet c d h) (λ l other. (refl, refl))

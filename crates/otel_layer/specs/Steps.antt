@@ -90,13 +90,15 @@ made_told callsite lane values context at settings counting = changed
 abbrev pub with_new : {T : Type 0} → ℕ → Told → Core T → Core T
 with_new id told c = record c { spans = with_span id told c.spans; made = c.made + 1 }
 
--- the span that gives the parent's context starts, and the new one is added
+-- the span that gives the parent's context starts, the new one is added, and it starts if spans start early
 pub record MakesSpan {T : Type 0} (does : T → TracerCall → T → Type 0) (c : Core T) (id : ℕ) (lane : Lane) (at : ℕ) (place : Parent) (current : Option ℕ) (callsite : Callsite) (values : ValueSet) (d : Core T) : Type 0 where
   pub between : Core T
   pub spare : length c.spans < c.reserved
   pub few : c.made + 1 < 2 ^ 62
   pub starts : StartsAny does (above c.settings.activation place current) at c between
-  pub rest : d ≡ with_new id (made_told callsite lane values (context_from between.spans (around lane place) (above c.settings.activation place current)) at c.settings c.counting) between
+  pub added : Core T
+  pub rest : added ≡ with_new id (made_told callsite lane values (context_from between.spans (around lane place) (above c.settings.activation place current)) at c.settings c.counting) between
+  pub begins : StartsAny does (if c.settings.eager then Some id else None) at added d
 
 -- ---- follows
 

@@ -41,6 +41,7 @@ impl<T: Tracer> OpenTelemetryLayer<T> {
         ensures token_room { self.new.token_room ≡ self.old.token_room }
         ensures made { self.new.core.made ≡ self.old.core.made }
         ensures settings { self.new.core.settings ≡ self.old.core.settings }
+        ensures few { T.started self.new.core.tracer ≤ T.started self.old.core.tracer + 1 }
     {
         if let Some(under) = self.table.waits(id) {
             let own = self.tracer.start(&under);
@@ -57,6 +58,7 @@ impl<T: Tracer> OpenTelemetryLayer<T> {
         ensures token_room { self.new.token_room ≡ self.old.token_room }
         ensures made { self.new.core.made ≡ self.old.core.made }
         ensures settings { self.new.core.settings ≡ self.old.core.settings }
+        ensures few { T.started self.new.core.tracer ≤ T.started self.old.core.tracer + 1 }
     {
         match id {
             Some(id) => self.start(id, at),
@@ -100,7 +102,7 @@ impl<T: Tracer> OpenTelemetryLayer<T> {
         callsite: &Callsite,
         _values: &ValueSet,
     )
-        requires few { T.started self.old.core.tracer < 2 ^ 63 }
+        requires few { T.started self.old.core.tracer + 1 < 2 ^ 63 }
         requires ready { IsReadyState self.old lane.now callsite.now _values.now state update }
         ensures { MakesSpan T.does self.old.core id lane.now at place current callsite.now _values.now
             self.new.core }
@@ -109,6 +111,7 @@ impl<T: Tracer> OpenTelemetryLayer<T> {
         self.start_any(again(&source), at);
         let context = self.context_from(source, around(lane, place));
         self.add(id, begun_state(state, update, context, at));
+        self.start_any(if_on(self.settings.eager, id), at);
     }
 
     // The own context of the span that is named, else the other one.
@@ -177,7 +180,7 @@ impl<T: Tracer> OpenTelemetryLayer<T> {
         requires room { self.old.core.settings.activation ≡ true → IsReady lane.old.contexts }
         ensures { EntersSpan T.does self.old.core id at lane.old lane.new self.new.core }
     {
-        let source = if_active(self.settings.activation, id);
+        let source = if_on(self.settings.activation, id);
         self.start_any(source, at);
         let attached = self.attach(id, lane);
         self.put_op(id, at, Op::Enter);
@@ -295,11 +298,11 @@ fn begun_state(state: SpanState, update: Update, context: Context, at: u64) -> S
     state
 }
 
-// The span that an entry starts.
-fn if_active(activation: bool, id: Id) -> Option<Id>
-    ensures { result ≡ (if activation then Some id else None) }
+// The span that is named where a setting is on: an entry starts it, or its making.
+fn if_on(on: bool, id: Id) -> Option<Id>
+    ensures { result ≡ (if on then Some id else None) }
 {
-    if activation { Some(id) } else { None }
+    if on { Some(id) } else { None }
 }
 
 // The same id once more.

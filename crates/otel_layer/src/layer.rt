@@ -294,6 +294,18 @@ impl<T: Tracer> OpenTelemetryLayer<T> {
         self.set(settings)
     }
 
+    /// Sets whether a span starts at its making.
+    pub fn with_eager_start(self, on: bool) -> OpenTelemetryLayer<T>
+        ensures core { result.core ≡ set_in (λ s. record s { eager = on }) self.core }
+        ensures whole { StaysWhole T.spare T.started self.core result.core }
+    {
+        let settings = LayerSettings {
+            eager: on,
+            ..self.settings
+        };
+        self.set(settings)
+    }
+
     /// Sets whether an entry attaches its span's context to the lane; `OpenTelemetryLayer::with_context_activation`.
     pub fn with_context_activation(self, on: bool) -> OpenTelemetryLayer<T>
         ensures core { result.core ≡ set_in (λ s. record s { activation = on }) self.core }

@@ -38,13 +38,14 @@ pub trait OtelPart {
         ensures { result ≡ has self.now };
 
     /// Applies an op from outside to a span, and answers it; none exactly where there is no layer or the layer doesn't
-    /// know the span.
+    /// know the span. A layer that hears every call of its subscriber knows just the spans that are live (`live` of
+    /// span_laws).
     fn otel_apply(&mut self, id: Id, at: u64, op: Op) -> Option<Result<OpReply, Memory>>
         requires { IsOutside op }
         ensures { touches self.old (Applies id at op result) self.new };
 
     /// Starts a span, and answers its own context; none exactly where there is no layer or the layer doesn't know the
-    /// span.
+    /// span, which of one that hears every call means that the span isn't live (`live` of span_laws).
     fn otel_context(&mut self, id: Id, at: u64) -> Option<Context>
         requires { can_start self.old }
         ensures { touches self.old (Shows id at result) self.new };

@@ -30,8 +30,9 @@ pub trait OpenTelemetrySpanExt {
     /// The span that it is a handle of, if it is enabled.
     ghost held: { Self → Held };
 
-    /// Sets the parent of the span; `SpanDisabled` on a disabled handle, `LayerNotFound` where the stack shows no layer,
-    /// and `AlreadyStarted` once the span has started.
+    /// Sets the parent of the span; `SpanDisabled` on a disabled handle, `LayerNotFound` where the stack shows no layer or
+    /// that doesn't know the span, and `AlreadyStarted` once the span has started. A layer that hears every call knows
+    /// the span of each enabled handle, since a handle's span is live (`live` of span_laws).
     fn set_parent<S: Subscriber + OtelPart>(
         &self,
         world: &mut World<S>,
@@ -250,7 +251,8 @@ fn show<S: Subscriber + OtelPart>(span: &Span, world: &mut World<S>, at: u64) ->
 }
 
 /// Starts a span of a subscriber, and answers its own context; none exactly where the subscriber has no OpenTelemetry
-/// layer, or that doesn't know the span; `tracing_opentelemetry::get_otel_context`.
+/// layer, or that doesn't know the span, as one that hears every call knows just the live ones (`live` of span_laws);
+/// `tracing_opentelemetry::get_otel_context`.
 pub fn get_otel_context<S: Subscriber + OtelPart>(
     id: Id,
     dispatch: Dispatch,

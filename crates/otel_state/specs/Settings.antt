@@ -5,6 +5,7 @@ use Rattle.otel_state.specs.declared.settings.LayerSettings.{LayerSettings}
 abbrev pub default_settings : LayerSettings
 default_settings = record {
   activation = true;
+  eager = false;
   error_events_to_exceptions = true;
   error_events_to_status = true;
   error_fields_to_exceptions = true;

@@ -7,6 +7,8 @@ ghost use Rattle.otel_state.specs.Settings.{default_settings};
 pub struct LayerSettings {
     /// An entry attaches its span's context to the lane; `with_context_activation`.
     pub activation: bool,
+    /// A span starts at its making; `with_eager_start`.
+    pub eager: bool,
     /// The special error of an event makes it an exception; `with_error_events_to_exceptions`.
     pub error_events_to_exceptions: bool,
     /// The special error of an event is an error of its span; `with_error_events_to_status`.
@@ -27,13 +29,14 @@ pub struct LayerSettings {
     pub threads: bool,
 }
 
-/// All is told but the level.
+/// All is told but the level, and a span starts when its ids are asked for.
 impl Default for LayerSettings {
     ghost is_default = { λ s. s ≡ default_settings };
 
     fn default() -> LayerSettings {
         LayerSettings {
             activation: true,
+            eager: false,
             error_events_to_exceptions: true,
             error_events_to_status: true,
             error_fields_to_exceptions: true,

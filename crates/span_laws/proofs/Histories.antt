@@ -1,7 +1,8 @@
 -- What stands of each legal history: its tables, the stories of its open spans, and the records of its closed ones.
-use Rattle.std.proofs.Common.{◌≡◌, ℕ, ◌<◌, ◌≤◌, ◌==◌, ◌&&◌, ◌||◌, List, [], ◌∷◌, ◌++◌, length, Bool, true, false, cond, filter, flat_map, map, fold, not, nat_lt, Option, Some, None, option_map, refl, sym, ap, subst, ◌∙◌, arith, append_assoc}
+use Rattle.std.proofs.Common.{◌≡◌, ℕ, ◌+◌, ◌<◌, ◌≤◌, ◌==◌, ◌&&◌, ◌||◌, List, [], ◌∷◌, ◌++◌, length, Bool, true, false, cond, filter, flat_map, map, fold, not, nat_lt, Option, Some, None, option_map, refl, sym, ap, subst, ◌∙◌, arith, append_assoc}
 use Rattle.std.specs.Prelude.{if◌then◌else◌}
 use Rattle.std.specs.List.{AllByRecursion}
+use Rattle.std.specs.Option.{option_to_list}
 use Rattle.std.proofs.lemmas.List.{append-nil, length_push}
 use Rattle.std.proofs.lemmas.List.Sums.{fold_push, fold-append}
 use Rattle.std.proofs.lemmas.Grind.{flat_map-append}
@@ -16,12 +17,14 @@ use Rattle.otel_layer.specs.Table.{told_at}
 use Rattle.trace_base.specs.Spans.{is_in}
 use Rattle.span_script.specs.Setups.{Setup}
 use Rattle.span_script.specs.Tables.{Scope, Made, Done, Effect, History, Tables, with_new, no_tables, after, tables, no_making, with_made, recorded_by, open_part, records_of, slot_at}
+use Rattle.span_script.specs.Tables as table
 use Rattle.span_script.specs.Effects.{holds, is_open}
+use Rattle.span_script.proofs.Recordings.{starts_fold}
 use Rattle.span_script.proofs.Running.{records_push}
 use Rattle.span_laws.specs.Closes.{is_drop}
 use Rattle.span_laws.specs.Laws.{IsHistory, none, more, occurrences}
 use Rattle.span_laws.specs.Records.{IsRecord, Each, records, start_in, ops_in, ops_from, ops_of, closed_at}
-use Rattle.span_laws.specs.Starts.{with_started, starts_of, started, place_in}
+use Rattle.span_laws.specs.Starts.{with_started, starts_of, at_making, started, place_in}
 use Rattle.span_laws.proofs.Closing.{IsSound, Stands, named, step_stands, none_stands, fit_of}
 use Rattle.span_laws.proofs.Making.{first_of, starts_spare, made_stories}
 use Rattle.span_laws.proofs.Occurrences.{occurs_cons, occurs_append, is_in_counted, get_push_other}
@@ -36,10 +39,11 @@ use Rattle.span_script.proofs.Openness.{any_counted, pick}
 
 -- ---- a history with one effect more
 
-pub started_push : (h : History) (e : Effect) → started (h ++ e ∷ []) ≡ fold with_started (fold with_started (started h) e.starts) e.closes
+pub started_push : (h : History) (e : Effect) → started (h ++ e ∷ []) ≡ fold with_started (fold with_started (fold with_started (started h) e.starts) (option_to_list e.begins)) e.closes
 started_push h e =
     ap (fold with_started []) (flat_map-append starts_of h (e ∷ [])) ∙ fold-append with_started [] (flat_map starts_of h) (starts_of e ++ [])
-    ∙ ap (fold with_started (started h)) (append-nil (starts_of e)) ∙ fold-append with_started (started h) e.starts e.closes
+    ∙ ap (fold with_started (started h)) (append-nil (starts_of e)) ∙ fold-append with_started (started h) (e.starts ++ option_to_list e.begins) e.closes
+    ∙ ap (λ (o : List ℕ). fold with_started o e.closes) (fold-append with_started (started h) e.starts (option_to_list e.begins))
 
 ops_on : (own : SpanContext) (s : ℕ) (order : List ℕ) (h : History) (e : Effect) → ops_from own s order (h ++ e ∷ []) ≡ ops_from own s order h ++ ops_in own s (fold with_started order (flat_map starts_of h)) e
 ops_on own s order [] e = append-nil (ops_in own s order e)
@@ -91,6 +95,15 @@ open_made hs ms cs sound s is =
         let once = (sound.lines n scope there).once s in
         let its = is_in_counted s scope in
         grind (arith, nat_tests, once, its, inside)
+
+all_made : (hs : List (Option Scope)) (ms : List Made) (cs : List ℕ) → IsSound hs ms cs → (ids : List ℕ) → AllByRecursion (λ s. is_open hs s ≡ true) ids → AllByRecursion (λ s. s < length ms) ids
+all_made hs ms cs sound [] held = tt
+all_made hs ms cs sound (id ∷ ids) held = (open_made hs ms cs sound id held.0, all_made hs ms cs sound ids held.1)
+
+-- a span that isn't open isn't among open ones
+not_among : (hs : List (Option Scope)) (ids : List ℕ) → AllByRecursion (λ s. is_open hs s ≡ true) ids → (s : ℕ) → is_open hs s ≡ false → is_in s ids ≡ false
+not_among hs [] held s off = refl
+not_among hs (id ∷ ids) held s off = ap (λ b. b || is_in s ids) (ne_eqb id s (λ e. true≢false (sym held.0 ∙ ap (is_open hs) e ∙ off))) ∙ not_among hs ids held.1 s off
 
 -- ---- records
 
@@ -150,7 +163,7 @@ module _ (setup : Setup) (h : History) (now : IsWhole setup h (tables setup h)) 
       grind (arith, nat_tests, with_handle, in_end, within, parts, its, is)
 
   -- what closes was open, stands once among what closes, and is open no more
-  closing_once : (s : ℕ) → occurrences s e.closes ≤ cond (is_open hs s) 1 0
+  pub closing_once : (s : ℕ) → occurrences s e.closes ≤ cond (is_open hs s) 1 0
   closing_once s =
       let with_handle = named_now.ended s in
       let in_end = later.sound.ended s in
@@ -169,14 +182,10 @@ module _ (setup : Setup) (h : History) (now : IsWhole setup h (tables setup h)) 
 
   -- ---- what is recorded
 
-  abbrev order : List ℕ
-  order = fold with_started (started h) e.starts
+  abbrev order_before : List ℕ
+  order_before = fold with_started (started h) e.starts
 
-  all_open_made : (ids : List ℕ) → AllByRecursion (λ s. is_open t.handles s ≡ true) ids → AllByRecursion (λ s. s < length t.made) ids
-  all_open_made [] held = tt
-  all_open_made (id ∷ ids) held = (open_made t.handles t.made t.closed now.stands.sound id held.0, all_open_made ids held.1)
-
-  moved : AreStories setup (first_of t.made) (started h) (done_in h) (guards_of t.guards) e.at (is_open t.handles) (length t.made) t.recording
+  pub moved : AreStories setup (first_of t.made) (started h) (done_in h) (guards_of t.guards) e.at (is_open t.handles) (length t.made) t.recording
   moved = record {
     each = λ s is. later_story setup (first_of t.made s) (told_at s t.recording.spans) (place_in (started h) s) (done_in h s) (guards_of t.guards s) t.moment (now.stories.each s is) (done_in h s) (guards_of t.guards s) e.at (λ own. refl) (omega arith) timed.later;
     fresh = now.stories.fresh;
@@ -188,16 +197,14 @@ module _ (setup : Setup) (h : History) (now : IsWhole setup h (tables setup h)) 
   abbrev begun_done : ℕ → SpanContext → List Stamped
   begun_done = begun_by e.at (started h) e.starts (done_in h)
 
-  begun : AreStories setup (first_of t.made) order begun_done (guards_of t.guards) e.at (is_open t.handles) (length t.made) (fold (λ r s. with_start s e.at r) t.recording e.starts)
+  begun : AreStories setup (first_of t.made) order_before begun_done (guards_of t.guards) e.at (is_open t.handles) (length t.made) (fold (λ r s. with_start s e.at r) t.recording e.starts)
   begun = starts_stories setup (first_of t.made) e.at timed.most (guards_of t.guards) (is_open t.handles) (length t.made) (started h) (done_in h) t.recording e.starts moved step.starts
 
-  unplaced : place_in order (length t.made) ≡ 0
-  unplaced = starts_spare (started h) e.starts (length t.made) (all_open_made e.starts step.starts) ∙ (now.unborn (length t.made) (omega arith)).0
+  pub starts_made : AllByRecursion (λ s. s < length t.made) e.starts
+  starts_made = all_made t.handles t.made t.closed now.stands.sound e.starts step.starts
 
-  -- a span that isn't open doesn't start
-  not_started : (ids : List ℕ) → AllByRecursion (λ s. is_open t.handles s ≡ true) ids → (s : ℕ) → is_open t.handles s ≡ false → is_in s ids ≡ false
-  not_started [] held s off = refl
-  not_started (id ∷ ids) held s off = ap (λ b. b || is_in s ids) (ne_eqb id s (λ e. true≢false (sym held.0 ∙ ap (is_open t.handles) e ∙ off))) ∙ not_started ids held.1 s off
+  unplaced : place_in order_before (length t.made) ≡ 0
+  unplaced = starts_spare (started h) e.starts (length t.made) starts_made ∙ (now.unborn (length t.made) (omega arith)).0
 
   not_open : (s : ℕ) → length t.made ≤ s → is_open t.handles s ≡ false
   not_open s above = by_open (is_open t.handles s) refl
@@ -207,15 +214,46 @@ module _ (setup : Setup) (h : History) (now : IsWhole setup h (tables setup h)) 
       by_open true b = absurd (let below = open_made t.handles t.made t.closed now.stands.sound s b in omega (arith, below, above))
 
   begun_same : (s : ℕ) (own : SpanContext) → is_open t.handles s ≡ false → begun_done s own ≡ ops_of own h s
-  begun_same s own off = ap (λ (os : List Stamped). ops_of own h s ++ os) (starts_absent own e.at s (started h) e.starts (not_started e.starts step.starts s off)) ∙ append-nil (ops_of own h s)
+  begun_same s own off = ap (λ (os : List Stamped). ops_of own h s ++ os) (starts_absent own e.at s (started h) e.starts (not_among t.handles e.starts step.starts s off)) ∙ append-nil (ops_of own h s)
 
-  made : AreStories setup (first_of ms) order begun_done (guards_of t.guards) e.at (is_open hs) (length ms) (with_made (length t.made) e.made (fold (λ r s. with_start s e.at r) t.recording e.starts))
-  made = made_stories setup order begun_done (guards_of t.guards) e.at timed.most t.made (fold (λ r s. with_start s e.at r) t.recording e.starts) (is_open t.handles) begun unplaced
+  made : AreStories setup (first_of ms) order_before begun_done (guards_of t.guards) e.at (is_open hs) (length ms) (with_made (length t.made) e.made (fold (λ r s. with_start s e.at r) t.recording e.starts))
+  made = made_stories setup order_before begun_done (guards_of t.guards) e.at timed.most t.made (fold (λ r s. with_start s e.at r) t.recording e.starts) (is_open t.handles) begun unplaced
       (λ own. begun_same (length t.made) own (not_open (length t.made) (omega arith)) ∙ (now.unborn (length t.made) (omega arith)).1 own) e.made step.begins (is_open hs)
       (open_made hs ms t.closed named_now) was_open
 
+  -- where spans start early the one that was just made starts
+  abbrev early : List ℕ
+  early = option_to_list e.begins
+
+  new_open : (m : Made) → e.made ≡ Some m → is_open hs (length t.made) ≡ true
+  new_open m is =
+      let more : length ms ≡ length t.made + 1 = ap (λ (o : Option Made). length (with_new t.made o)) is ∙ length_push t.made m in
+      let before = now.stands.sound.ended (length t.made) in
+      let with_handle = named_now.ended (length t.made) in
+      grind (arith, nat_tests, more, before, with_handle)
+
+  early_open : AllByRecursion (λ s. is_open hs s ≡ true) early
+  early_open = subst (λ (o : Option ℕ). AllByRecursion (λ s. is_open hs s ≡ true) (option_to_list o)) (sym step.early) (by_made setup.layer.eager e.made refl)
+    where
+      by_made : (eager : Bool) (o : Option Made) → e.made ≡ o → AllByRecursion (λ s. is_open hs s ≡ true) (option_to_list (at_making eager (length t.made) o))
+      by_made eager None is = tt
+      by_made false (Some m) is = tt
+      by_made true (Some m) is = (new_open m is, tt)
+
+  abbrev order : List ℕ
+  order = fold with_started order_before early
+
+  abbrev early_done : ℕ → SpanContext → List Stamped
+  early_done = begun_by e.at order_before early begun_done
+
+  begun_early : AreStories setup (first_of ms) order early_done (guards_of t.guards) e.at (is_open hs) (length ms) (table.begun_by (length t.made) e t.recording)
+  begun_early =
+      let before : Recording = with_made (length t.made) e.made (fold (λ r s. with_start s e.at r) t.recording e.starts) in
+      subst (AreStories setup (first_of ms) order early_done (guards_of t.guards) e.at (is_open hs) (length ms)) (starts_fold e.begins e.at before)
+      (starts_stories setup (first_of ms) e.at timed.most (guards_of t.guards) (is_open hs) (length ms) order_before begun_done before early made early_open)
+
   abbrev done : ℕ → SpanContext → List Stamped
-  done = fold (λ f d. done_by e.at d f) begun_done e.ops
+  done = fold (λ f d. done_by e.at d f) early_done e.ops
 
   abbrev opened : ℕ → ℕ
   opened = fold (λ f d. turned_by d f) (guards_of t.guards) e.ops
@@ -223,17 +261,32 @@ module _ (setup : Setup) (h : History) (now : IsWhole setup h (tables setup h)) 
   abbrev between : Recording
   between = before_closes (length t.made) e t.recording
 
-  did : AreStories setup (first_of ms) order done opened e.at (is_open hs) (length ms) between
-  did = ops_stories setup (first_of ms) e.at timed.most order (is_open hs) (length ms) begun_done (guards_of t.guards) (with_made (length t.made) e.made (fold (λ r s. with_start s e.at r) t.recording e.starts)) e.ops made (unstarted_all t.handles e.ops step.reached)
+  pub did : AreStories setup (first_of ms) order done opened e.at (is_open hs) (length ms) between
+  did = ops_stories setup (first_of ms) e.at timed.most order (is_open hs) (length ms) early_done (guards_of t.guards) (table.begun_by (length t.made) e t.recording) e.ops begun_early (unstarted_all t.handles e.ops step.reached)
 
   within : (s : ℕ) → opened s ≤ guards_of (after t e).guards s
   within s = turns_within setup.ids t.handles t.guards e.lane e.new_guard e.new_attach e.spent_guard e.entry e.exit step.enters e.ops step.turns s
 
-  shut : (s : ℕ) → 0 < occurrences s e.closes → opened s ≡ 0
+  pub shut : (s : ℕ) → 0 < occurrences s e.closes → opened s ≡ 0
   shut s some =
       let none = guards_shut setup.ids (after t e).handles (after t e).guards (after t e).entries later.guarded s (open_no_more s some) in
       let most = within s in
       omega (arith, none, most)
+
+  -- no entry is open of what closes
+  pub closing_shut : (s : ℕ) → 0 < occurrences s e.closes → (told : Told) → told_at s between.spans ≡ Some told → told.entries ≡ 0
+  closing_shut s some told there =
+      let once = closing_once s in
+      let story = did.each s (by_open (is_open hs s) refl once) in
+      let same : story.told ≡ told = cc (sym story.is ∙ there) in
+      let within = story.within in
+      let none = shut s some in
+      let entries = ap (λ (t : Told). t.entries) same in
+      omega (arith, within, none, entries)
+    where
+      by_open : (b : Bool) → is_open hs s ≡ b → occurrences s e.closes ≤ cond (is_open hs s) 1 0 → is_open hs s ≡ true
+      by_open true b once = b
+      by_open false b once = absurd (grind (arith, nat_tests, once, b, some))
 
   closes : Closes setup (first_of ms) e.at timed.most order done opened (is_open hs) (length ms) between e.closes (recorded_by (length t.made) e t.recording)
   closes = closes_stories setup (first_of ms) e.at timed.most opened (length ms) order done (is_open hs) between e.closes did closing_once shut
@@ -246,11 +299,11 @@ module _ (setup : Setup) (h : History) (now : IsWhole setup h (tables setup h)) 
 
   done_is : (s : ℕ) (own : SpanContext) → begun_by e.at order e.closes done s own ≡ ops_of own h' s
   done_is s own =
-      ap (λ (os : List Stamped). os ++ start_in own e.at s order e.closes) (done_all e.at begun_done e.ops s own)
-      ∙ regroup (ops_of own h s) (start_in own e.at s (started h) e.starts) (map (λ d. stamp e.at d.op) (filter (λ d. d.span == s) e.ops)) (start_in own e.at s order e.closes) ∙ sym (ops_push own h e s)
+      ap (λ (os : List Stamped). os ++ start_in own e.at s order e.closes) (done_all e.at early_done e.ops s own)
+      ∙ regroup (ops_of own h s) (start_in own e.at s (started h) e.starts) (start_in own e.at s order_before early) (map (λ d. stamp e.at d.op) (filter (λ d. d.span == s) e.ops)) (start_in own e.at s order e.closes) ∙ sym (ops_push own h e s)
     where
-      regroup : (a b c d : List Stamped) → ((a ++ b) ++ c) ++ d ≡ a ++ ((b ++ c) ++ d)
-      regroup a b c d = simp append_assoc
+      regroup : (a b x c d : List Stamped) → (((a ++ b) ++ x) ++ c) ++ d ≡ a ++ (((b ++ x) ++ c) ++ d)
+      regroup a b x c d = simp append_assoc
 
   stories_now : AreStories setup (first_of ms) (started h') (done_in h') (guards_of (after t e).guards) e.at (is_open (after t e).handles) (length ms) (open_part (recorded_by (length t.made) e t.recording))
   stories_now = record {
@@ -288,11 +341,15 @@ module _ (setup : Setup) (h : History) (now : IsWhole setup h (tables setup h)) 
       by_open true b = open_made hs ms t.closed named_now s b
       by_open false b = absurd (let once = closing_once s in grind (arith, nat_tests, once, b, some))
 
-  same_ops : (s : ℕ) (own : SpanContext) → is_open t.handles s ≡ false → is_in s e.closes ≡ false → ops_of own h' s ≡ ops_of own h s
-  same_ops s own off kept =
+  pub closing_made : AllByRecursion (λ s. s < length ms) e.closes
+  closing_made = all_below e.closes (length ms) closes_made
+
+  same_ops : (s : ℕ) (own : SpanContext) → is_open t.handles s ≡ false → is_open hs s ≡ false → is_in s e.closes ≡ false → ops_of own h' s ≡ ops_of own h s
+  same_ops s own off still_off kept =
       sym (done_is s own)
       ∙ ap (λ (os : List Stamped). done s own ++ os) (starts_absent own e.at s order e.closes kept) ∙ append-nil (done s own)
-      ∙ done_all e.at begun_done e.ops s own ∙ ap (λ (os : List Stamped). begun_done s own ++ os) (not_reached t.handles e.at e.ops s step.reached off) ∙ append-nil (begun_done s own)
+      ∙ done_all e.at early_done e.ops s own ∙ ap (λ (os : List Stamped). early_done s own ++ os) (not_reached t.handles e.at e.ops s step.reached off) ∙ append-nil (early_done s own)
+      ∙ ap (λ (os : List Stamped). begun_done s own ++ os) (starts_absent own e.at s order_before early (not_among hs early early_open s still_off)) ∙ append-nil (begun_done s own)
       ∙ begun_same s own off
 
   not_closing : (s : ℕ) → length ms ≤ s → is_in s e.closes ≡ false
@@ -302,12 +359,20 @@ module _ (setup : Setup) (h : History) (now : IsWhole setup h (tables setup h)) 
       by_test false b = b
       by_test true b = absurd (let counted = is_in_counted s e.closes in let some : 0 < occurrences s e.closes = grind (arith, nat_tests, counted, b) in let below = closes_made s some in omega (arith, below, above))
 
+  not_opened : (s : ℕ) → length ms ≤ s → is_open hs s ≡ false
+  not_opened s above = by_open (is_open hs s) refl
+    where
+      by_open : (b : Bool) → is_open hs s ≡ b → is_open hs s ≡ false
+      by_open false b = b
+      by_open true b = absurd (let below = open_made hs ms t.closed named_now s b in omega (arith, below, above))
+
   unborn_now : (s : ℕ) → length ms ≤ s → (place_in (started h') s ≡ 0) × ((own : SpanContext) → ops_of own h' s ≡ [])
   unborn_now s above =
       let old : length t.made ≤ s = let longer = as_many in omega (arith, longer, above) in (
-        ap (λ (o : List ℕ). place_in o s) (started_push h e) ∙ starts_spare order e.closes s (all_less e.closes (length ms) s above (all_below e.closes (length ms) closes_made))
-            ∙ starts_spare (started h) e.starts s (all_less e.starts (length t.made) s old (all_open_made e.starts step.starts)) ∙ (now.unborn s old).0,
-        λ own. same_ops s own (not_open s old) (not_closing s above) ∙ (now.unborn s old).1 own,
+        ap (λ (o : List ℕ). place_in o s) (started_push h e) ∙ starts_spare order e.closes s (all_less e.closes (length ms) s above closing_made)
+            ∙ starts_spare order_before early s (all_less early (length ms) s above (all_made hs ms t.closed named_now early early_open))
+            ∙ starts_spare (started h) e.starts s (all_less e.starts (length t.made) s old starts_made) ∙ (now.unborn s old).0,
+        λ own. same_ops s own (not_open s old) (not_opened s above) (not_closing s above) ∙ (now.unborn s old).1 own,
       )
 
   -- ---- records
@@ -332,16 +397,24 @@ module _ (setup : Setup) (h : History) (now : IsWhole setup h (tables setup h)) 
       by_open false b ended = b
       by_open true b ended = absurd (grind (arith, nat_tests, ended, b, some))
 
+  closed_off : (s : ℕ) → 0 < occurrences s t.closed → is_open hs s ≡ false
+  closed_off s some = by_open (is_open hs s) refl (named_now.ended s)
+    where
+      by_open : (b : Bool) → is_open hs s ≡ b → occurrences s t.closed ≡ cond (nat_lt s (length ms) && not (is_open hs s)) 1 0 → is_open hs s ≡ false
+      by_open false b ended = b
+      by_open true b ended = absurd (grind (arith, nat_tests, ended, b, some))
+
   place_kept : (s : ℕ) → 0 < place_in (started h) s → place_in (started h') s ≡ place_in (started h) s
   place_kept s some =
       let starts = places_stay (started h) e.starts s some in
-      ap (λ (o : List ℕ). place_in o s) (started_push h e) ∙ places_stay order e.closes s (subst (λ (p : ℕ). 0 < p) (sym starts) some) ∙ starts
+      let begins = places_stay order_before early s (subst (λ (p : ℕ). 0 < p) (sym starts) some) ∙ starts in
+      ap (λ (o : List ℕ). place_in o s) (started_push h e) ∙ places_stay order e.closes s (subst (λ (p : ℕ). 0 < p) (sym begins) some) ∙ begins
 
   stays_closed : (s : ℕ) (r : Record) → 0 < occurrences s t.closed → IsClosed setup t.made h s r → IsClosed setup ms h' s r
   stays_closed s r some c =
       let old = closed_before s some in
       let at_same = closed_push h e s ∙ cond-false {A = ℕ} (is_in s e.closes) e.at (closed_at h s) old.2 in
-      let kept = same_record setup (first_of t.made s) (done_in h s) (done_in h' s) (place_in (started h) s) (place_in (started h') s) (closed_at h s) r (λ own. sym (same_ops s own old.1 old.2)) (sym (place_kept s c.started)) c in
+      let kept = same_record setup (first_of t.made s) (done_in h s) (done_in h' s) (place_in (started h) s) (place_in (started h') s) (closed_at h s) r (λ own. sym (same_ops s own old.1 (closed_off s some) old.2)) (sym (place_kept s c.started)) c in
       subst (λ (f : Told). IsRecord setup f (done_in h' s) (place_in (started h') s) (closed_at h' s) r) (sym (first_stays e.made s old.0))
       (subst (λ (n : ℕ). IsRecord setup (first_of t.made s) (done_in h' s) (place_in (started h') s) n r) (sym at_same) kept)
 

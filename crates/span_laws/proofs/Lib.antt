@@ -1,4 +1,4 @@
-mod Balance
+pub mod Balance
 mod Chaining
 mod Children
 mod Closing
@@ -6,18 +6,20 @@ mod Counts
 mod Exporting
 mod Guarding
 mod Hearing
-mod Histories
+pub mod Histories
 mod Levels
-mod Legal
+pub mod Legal
 mod Living
 mod Making
 mod Numbering
-mod Occurrences
+pub mod Occurrences
+mod OrderOfMaking
+pub mod Orders
 mod Pairs
 mod Places
 mod Recorded
 mod Starting
-mod Steps
+pub mod Steps
 mod Stories
 mod Telling
 mod Turning

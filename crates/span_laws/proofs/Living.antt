@@ -33,7 +33,7 @@ use Rattle.otel_state.specs.SpanFields.{span_update}
 use Rattle.otel_state.specs.States.{Told, changed}
 use Rattle.otel_layer.specs.Keeping.{update_keys}
 use Rattle.otel_layer.specs.Parts.{PartCall, Applies, Shows, AppliesTo, context_at}
-use Rattle.otel_layer.specs.Recording.{Recording, with_applied, started_under, with_start, with_starts, with_made, with_follow, with_event, source_of, with_entry, with_exit, closed, with_close, Enters, Exits, Stays, RecordsCall, RecordsChain, RecordsPart}
+use Rattle.otel_layer.specs.Recording.{Recording, with_applied, started_under, with_start, with_starts, made_under, with_made, with_follow, with_event, source_of, with_entry, with_exit, closed, with_close, Enters, Exits, Stays, RecordsCall, RecordsChain, RecordsPart}
 use Rattle.otel_layer.specs.Steps.{IfKnown, above, with_link}
 use Rattle.otel_layer.specs.Table.{told_at, knows_span, waits, ids_at, is_id}
 use Rattle.env_filter.specs.Filtering.{Filtered, enables_in}
@@ -135,7 +135,8 @@ starts_keys (Some id) at r = start_keys id at r
 made_keys : (id : ℕ) (lane : Lane) (at : ℕ) (place : Parent) (current : Option ℕ) (callsite : Callsite) (values : ValueSet) (r : Recording) → keys (with_made id lane at place current callsite values r) ≡ keys r ++ id ∷ []
 made_keys id lane at place current callsite values r =
     let source = above r.settings.activation place current in
-    map-append (λ (e : ℕ × Told). e.0) (with_starts source at r).spans _ ∙ ap (λ (ks : List ℕ). ks ++ id ∷ []) (starts_keys source at r)
+    starts_keys (source_of r.settings.eager id) at (made_under source id lane at place callsite values r.settings r.counting (with_starts source at r))
+    ∙ map-append (λ (e : ℕ × Told). e.0) (with_starts source at r).spans _ ∙ ap (λ (ks : List ℕ). ks ++ id ∷ []) (starts_keys source at r)
 
 link_keys : (id at : ℕ) (o : Option SpanContext) (spans : List (ℕ × Told)) → keys_of (with_link id at o spans) ≡ keys_of spans
 link_keys id at None spans = refl

@@ -20,6 +20,11 @@ occurs_append s xs ys = sum_by-append (λ x. cond (x == s) 1 0) xs ys
 pub is_in_counted : (s : ℕ) (xs : List ℕ) → is_in s xs ≡ nat_lt 0 (occurrences s xs)
 is_in_counted s xs = any_counted (λ x. x == s) xs
 
+-- nothing stands in a list where no span does
+pub none_in : (xs : List ℕ) → ((s : ℕ) → occurrences s xs ≡ 0) → xs ≡ []
+none_in [] none = refl
+none_in (x ∷ xs) none = absurd (let here = occurs_cons x x xs in let is = none x in grind (arith, nat_tests, here, is))
+
 -- a filter by a test on spans keeps all of a span's occurrences, or none
 pub occurs_filter : (p : ℕ → Bool) (s : ℕ) (xs : List ℕ) → occurrences s (filter p xs) ≡ cond (p s) (occurrences s xs) 0
 occurs_filter p s [] = elim (cases_Bool (p s)) [ inl passes ↦ rw passes refl | inr fails ↦ rw fails refl ]

@@ -19,11 +19,12 @@ use Rattle.otel_state.specs.Opening.{parent_of}
 use Rattle.otel_state.specs.States.{Told, record_of}
 use Rattle.otel_state.specs.Times.{InOrder, open_by}
 use Rattle.otel_layer.specs.Table.{told_at, waits, waits_by}
-use Rattle.otel_layer.specs.Recording.{Recording, started_under, with_start, with_applied, closed, with_close, told_after}
+use Rattle.otel_layer.specs.Recording.{Recording, started_under, with_start, with_starts, with_applied, closed, with_close, told_after}
 use Rattle.otel_layer.proofs.Finding.{told_at_op, told_at_removed}
 use Rattle.trace_base.specs.Spans.{is_in}
 use Rattle.span_script.specs.Setups.{Setup}
 use Rattle.span_script.specs.Tables.{Made, Done, Effect, with_made}
+use Rattle.span_script.specs.Tables as table
 use Rattle.span_laws.specs.Laws.{occurrences}
 use Rattle.span_laws.specs.Records.{IsRecord, Each, all_ops, start_in}
 use Rattle.span_laws.specs.Starts.{with_started, place_in}
@@ -76,6 +77,10 @@ same_record setup first done same place there at r alike is c =
       started = subst (λ (p : ℕ). 0 < p) is c.started;
       own = c.own ∙ ap (λ (xs : List Stamped). recorder_ids place (ids_of (parent_of c.making.parent xs))) all ∙ ap (λ (p : ℕ). recorder_ids p (ids_of (parent_of c.making.parent (all_ops c.making c.began.update (same r.context))))) is;
     }
+
+start_finished : (under : Option Context) (id at : ℕ) (r : Recording) → (started_under under id at r).finished ≡ r.finished
+start_finished None id at r = refl
+start_finished (Some context) id at r = refl
 
 module _ (setup : Setup) (first : ℕ → Told) (now : ℕ) (most : now ≤ GREATEST) where
   -- ---- fewer spans, and the same told otherwise
@@ -206,10 +211,6 @@ module _ (setup : Setup) (first : ℕ → Told) (now : ℕ) (most : now ≤ GREA
     pub finished : later.finished ≡ r.finished ++ records
     pub each : Each (Closed (fold with_started order spans) (begun_by now order spans done)) spans records
 
-  start_finished : (under : Option Context) (id : ℕ) (r : Recording) → (started_under under id now r).finished ≡ r.finished
-  start_finished None id r = refl
-  start_finished (Some under) id r = refl
-
   both : (a b : Bool) → (a && not b) ≡ true → (a ≡ true) × (b ≡ false)
   both true false is = (refl, refl)
   both true true is = absurd (cc is)
@@ -247,11 +248,11 @@ module _ (setup : Setup) (first : ℕ → Told) (now : ℕ) (most : now ≤ GREA
             settings_are = j.settings_are;
             counting_is = j.counting_is;
           }),
-          ap (λ (t : Recording). t.finished) is ∙ ap (λ (rs : List Record). rs ++ record_of f.told now ∷ []) (start_finished (waits (told_at id r.spans)) id r),
+          ap (λ (t : Recording). t.finished) is ∙ ap (λ (rs : List Record). rs ++ record_of f.told now ∷ []) (start_finished (waits (told_at id r.spans)) id now r),
           record_is setup (first id) (told_at id s.spans) (place_in (with_started order id) id) (begun_by now order (id ∷ []) done id) (opened id) now f none some,
         )
 
-    close_story : (order : List ℕ) (done : ℕ → SpanContext → List Stamped) (is_known : ℕ → Bool) (r : Recording) (id : ℕ) → AreStories setup first order done opened now is_known n r → is_known id ≡ true → opened id ≡ 0 → One order done is_known r id
+    pub close_story : (order : List ℕ) (done : ℕ → SpanContext → List Stamped) (is_known : ℕ → Bool) (r : Recording) (id : ℕ) → AreStories setup first order done opened now is_known n r → is_known id ≡ true → opened id ≡ 0 → One order done is_known r id
     close_story order done is_known r id stories known none =
         let j = start_stories opened is_known n order done r id stories known in close_by order done is_known r id j (j.each id known) none
 
@@ -305,11 +306,11 @@ module _ (setup : Setup) (first : ℕ → Told) (now : ℕ) (most : now ≤ GREA
 
 starts_finished : (at : ℕ) (r : Recording) (ids : List ℕ) → (fold (λ r s. with_start s at r) r ids).finished ≡ r.finished
 starts_finished at r [] = refl
-starts_finished at r (id ∷ ids) = starts_finished at (with_start id at r) ids ∙ by_context (waits (told_at id r.spans))
-  where
-    by_context : (under : Option Context) → (started_under under id at r).finished ≡ r.finished
-    by_context None = refl
-    by_context (Some context) = refl
+starts_finished at r (id ∷ ids) = starts_finished at (with_start id at r) ids ∙ start_finished (waits (told_at id r.spans)) id at r
+
+begins_finished : (o : Option ℕ) (at : ℕ) (r : Recording) → (with_starts o at r).finished ≡ r.finished
+begins_finished None at r = refl
+begins_finished (Some id) at r = start_finished (waits (told_at id r.spans)) id at r
 
 ops_finished : (at : ℕ) (r : Recording) (ds : List Done) → (fold (λ r d. with_applied d.span at d.op r) r ds).finished ≡ r.finished
 ops_finished at r [] = refl
@@ -321,7 +322,9 @@ made_finished n (Some m) r = refl
 
 -- what stands before an effect's closes
 abbrev pub before_closes : ℕ → Effect → Recording → Recording
-before_closes n e r = fold (λ r d. with_applied d.span e.at d.op r) (with_made n e.made (fold (λ r s. with_start s e.at r) r e.starts)) e.ops
+before_closes n e r = table.done_by n e r
 
 pub before_finished : (n : ℕ) (e : Effect) (r : Recording) → (before_closes n e r).finished ≡ r.finished
-before_finished n e r = ops_finished e.at (with_made n e.made (fold (λ r s. with_start s e.at r) r e.starts)) e.ops ∙ made_finished n e.made (fold (λ r s. with_start s e.at r) r e.starts) ∙ starts_finished e.at r e.starts
+before_finished n e r =
+    let started = fold (λ r s. with_start s e.at r) r e.starts in
+    ops_finished e.at (table.begun_by n e r) e.ops ∙ begins_finished e.begins e.at (with_made n e.made started) ∙ made_finished n e.made started ∙ starts_finished e.at r e.starts

@@ -45,10 +45,11 @@ use Rattle.span_script.specs.Admission.{TextRead, text_read}
 use Rattle.span_laws.specs.Closes.{is_drop}
 use Rattle.span_laws.specs.Laws.{occurrences}
 use Rattle.span_laws.specs.Records.{Began}
+use Rattle.span_laws.specs.Starts.{at_making}
 use Rattle.span_laws.proofs.Counts.{each_counted, each_on, each_told}
 use Rattle.span_laws.proofs.Guarding.{Enters, no_entry, skips, enters_by, exits_by}
 use Rattle.span_laws.proofs.Hearing.{Hears, of_making, of_open, heard_entry, heard_exit, heard_record, heard_close}
-use Rattle.span_laws.proofs.Occurrences.{held_push, held_set, is_in_counted, occurs_cons, occurs_filter, slot_push}
+use Rattle.span_laws.proofs.Occurrences.{held_push, held_set, is_in_counted, none_in, occurs_filter, slot_push}
 use Rattle.span_script.proofs.Openness.{any_counted, slot_open}
 
 -- a scope that an unspent handle has, or none
@@ -106,6 +107,7 @@ pub record IsStep (setup : Setup) (t : Tables) (at : ℕ) (is_drop : Bool) (e : 
   pub enters : Enters setup.ids t.handles t.guards e.lane e.new_guard e.new_attach e.spent_guard e.entry e.exit
   pub spends : Spends (with_new t.handles (option_map Some e.new_handle)) (either_after t.guards e.new_guard e.new_attach e.spent_guard) e.spent_handle e.closes
   pub begins : Begins setup e.at e.made
+  pub early : e.begins ≡ at_making setup.layer.eager (length t.made) e.made
   pub starts : AllByRecursion (λ s. is_open t.handles s ≡ true) e.starts
   pub reached : AllByRecursion (IsReached t.handles) e.ops
   pub turns : Turns e.entry e.exit e.ops
@@ -125,11 +127,6 @@ exchange_closes hs k scope there s =
     let its = is_in_counted s scope in
     let of_scope = occurs_filter (λ t. not (is_open (slice_set slots k None) t)) s scope in
     grind (arith, nat_tests, push, set, before, after, its, of_scope)
-
--- nothing stands in a list where no span does
-none_in : (xs : List ℕ) → ((s : ℕ) → occurrences s xs ≡ 0) → xs ≡ []
-none_in [] none = refl
-none_in (x ∷ xs) none = absurd (let here = occurs_cons x x xs in let is = none x in grind (arith, nat_tests, here, is))
 
 -- what the tables of a history have
 pub record IsFit (setup : Setup) (t : Tables) : Type 0 where
@@ -201,7 +198,7 @@ module _ (setup : Setup) (t : Tables) (fit : IsFit setup t) where
   exits_on_own (s ∷ up) = refl
 
   declined : (at lane : ℕ) → Step at false (declines t at lane)
-  declined at lane = record { moment = refl; names = another [] no_scope; enters = no_entry; spends = no_spending; begins = tt; starts = tt; reached = tt; turns = tt; closing = λ no. refl; heard = of_open None [] tt }
+  declined at lane = record { moment = refl; names = another [] no_scope; enters = no_entry; spends = no_spending; begins = tt; early = refl; starts = tt; reached = tt; turns = tt; closing = λ no. refl; heard = of_open None [] tt }
 
   made_span : (at lane site : ℕ) (callsite : Callsite) (values : ValueSet) (under : Place) (up : Scope) → IsKnown t.handles up → Step at false (makes_span setup t at lane site callsite values under up)
   made_span at lane site callsite values under up known =
@@ -213,6 +210,7 @@ module _ (setup : Setup) (t : Tables) (fit : IsFit setup t) where
         enters = no_entry;
         spends = no_spending;
         begins = told_begins setup (with_starts source at t.recording).settings callsite (lane_in setup lane) values _ at (with_starts source at t.recording).counting (keep.0 ∙ fit.settings_are) (keep.1 ∙ fit.counting_is);
+        early = refl;
         starts = source_open setup.layer.activation under up (id_at setup.ids lane) known;
         reached = tt;
         turns = tt;
@@ -221,7 +219,7 @@ module _ (setup : Setup) (t : Tables) (fit : IsFit setup t) where
       }
 
   cloned : (at lane : ℕ) (scope : Scope) → IsKnown t.handles scope → Step at false (clones t at lane scope)
-  cloned at lane scope known = record { moment = refl; names = another scope known; enters = no_entry; spends = no_spending; begins = tt; starts = tt; reached = tt; turns = tt; closing = λ no. refl; heard = of_open None [] tt }
+  cloned at lane scope known = record { moment = refl; names = another scope known; enters = no_entry; spends = no_spending; begins = tt; early = refl; starts = tt; reached = tt; turns = tt; closing = λ no. refl; heard = of_open None [] tt }
 
   dropped : (at lane handle : ℕ) (scope : Scope) → slot_at t.handles handle ≡ Some scope → is_borrowed t.guards handle ≡ false → Step at true (drops t at lane handle scope)
   dropped at lane handle scope there free = record {
@@ -230,6 +228,7 @@ module _ (setup : Setup) (t : Tables) (fit : IsFit setup t) where
     enters = no_entry;
     spends = one_spent handle scope (closed_of (slice_set t.handles handle None) scope) there free refl;
     begins = tt;
+    early = refl;
     starts = tt;
     reached = tt;
     turns = tt;
@@ -244,6 +243,7 @@ module _ (setup : Setup) (t : Tables) (fit : IsFit setup t) where
     enters = no_entry;
     spends = one_spent handle [] [] (slot_push t.handles (Some (current_scope t lane)) handle [] there) free refl;
     begins = tt;
+    early = refl;
     starts = tt;
     reached = tt;
     turns = tt;
@@ -257,6 +257,7 @@ module _ (setup : Setup) (t : Tables) (fit : IsFit setup t) where
     spends = one_spent handle (x ∷ up) [] (slot_push t.handles (Some (x ∷ up)) handle (x ∷ up) there) free
         (sym (none_in (closed_of (slice_set (t.handles ++ Some (x ∷ up) ∷ []) handle None) (x ∷ up)) (λ s. sym (exchange_closes t.handles handle (x ∷ up) there s))));
     begins = tt;
+    early = refl;
     starts = tt;
     reached = tt;
     turns = tt;
@@ -271,6 +272,7 @@ module _ (setup : Setup) (t : Tables) (fit : IsFit setup t) where
     enters = enters_by (record { handle = handle; lane = lane; owns = owns; scope = scope }) there refl;
     spends = no_spending;
     begins = tt;
+    early = refl;
     starts = active_open setup.layer.activation scope (of_handle handle scope there);
     reached = on_reached scope ops.Enter (of_handle handle scope there) refl;
     turns = enters_on scope;
@@ -285,6 +287,7 @@ module _ (setup : Setup) (t : Tables) (fit : IsFit setup t) where
     enters = exits_by guard g there on;
     spends = no_spending;
     begins = tt;
+    early = refl;
     starts = tt;
     reached = on_reached g.scope ops.Exit (of_handle g.handle g.scope (fit.still guard g there)) refl;
     turns = exits_on_own g.scope;
@@ -306,7 +309,7 @@ module _ (setup : Setup) (t : Tables) (fit : IsFit setup t) where
   updates_calm scope fields (Some callsite) = on_calm scope (ops.Update (span_update callsite (values_of callsite fields) setup.layer)) refl refl
 
   told : (at lane : ℕ) (answer : Reply) (done : List Done) → AllByRecursion (IsReached t.handles) done → AllByRecursion IsCalm done → Step at false (tells at lane answer done)
-  told at lane answer done reached calm = record { moment = refl; names = no_name; enters = no_entry; spends = no_spending; begins = tt; starts = tt; reached = reached; turns = calm; closing = λ no. refl; heard = of_open None [] tt }
+  told at lane answer done reached calm = record { moment = refl; names = no_name; enters = no_entry; spends = no_spending; begins = tt; early = refl; starts = tt; reached = reached; turns = calm; closing = λ no. refl; heard = of_open None [] tt }
 
   -- one op on a known scope's own span
   one_told : (at lane : ℕ) (answer : Reply) (scope : Scope) (op : Op) → IsKnown t.handles scope → (deed op).own ≡ None → (deed op).enters ≡ false → (deed op).exits ≡ false → Step at false (tells at lane answer (on scope op))
@@ -322,6 +325,7 @@ module _ (setup : Setup) (t : Tables) (fit : IsFit setup t) where
     enters = no_entry;
     spends = no_spending;
     begins = tt;
+    early = refl;
     starts = (own_open (f ∷ above) other f above refl, tt);
     reached = on_reached (s ∷ up) op known refl;
     turns = on_calm (s ∷ up) op refl refl;
@@ -332,16 +336,16 @@ module _ (setup : Setup) (t : Tables) (fit : IsFit setup t) where
   -- the same, of which a filter hears something, or which puts one in force, and with measures
   beside : (at : ℕ) (e : Effect) (text : Option (List ℕ)) (hooks : List Hook) (added : List Measure) → Hears t.handles (length t.made) e.closes e.made hooks → Step at false e
       → Step at false (record e { filter = text; heard = hooks; measures = added })
-  beside at e text hooks added hears s = record { moment = s.moment; names = s.names; enters = s.enters; spends = s.spends; begins = s.begins; starts = s.starts; reached = s.reached; turns = s.turns; closing = s.closing; heard = hears }
+  beside at e text hooks added hears s = record { moment = s.moment; names = s.names; enters = s.enters; spends = s.spends; begins = s.begins; early = s.early; starts = s.starts; reached = s.reached; turns = s.turns; closing = s.closing; heard = hears }
 
   given : (at lane : ℕ) (starting : Option ℕ) (context : Context) → Open (option_to_list starting) → Step at false (gives t at lane starting context)
-  given at lane starting context held = record { moment = refl; names = no_name; enters = no_entry; spends = no_spending; begins = tt; starts = held; reached = tt; turns = tt; closing = λ no. refl; heard = of_open None [] tt }
+  given at lane starting context held = record { moment = refl; names = no_name; enters = no_entry; spends = no_spending; begins = tt; early = refl; starts = held; reached = tt; turns = tt; closing = λ no. refl; heard = of_open None [] tt }
 
   attached : (at lane : ℕ) (context : Context) → Step at false (attaches setup t at lane context)
-  attached at lane context = record { moment = refl; names = no_name; enters = skips lane; spends = no_spending; begins = tt; starts = tt; reached = tt; turns = tt; closing = λ no. refl; heard = of_open None [] tt }
+  attached at lane context = record { moment = refl; names = no_name; enters = skips lane; spends = no_spending; begins = tt; early = refl; starts = tt; reached = tt; turns = tt; closing = λ no. refl; heard = of_open None [] tt }
 
   detached : (at lane guard : ℕ) → Step at false (detaches at lane guard)
-  detached at lane guard = record { moment = refl; names = no_name; enters = no_entry; spends = no_spending; begins = tt; starts = tt; reached = tt; turns = tt; closing = λ no. refl; heard = of_open None [] tt }
+  detached at lane guard = record { moment = refl; names = no_name; enters = no_entry; spends = no_spending; begins = tt; early = refl; starts = tt; reached = tt; turns = tt; closing = λ no. refl; heard = of_open None [] tt }
 
   if_both : (at : ℕ) (b : Bool) (x y : Effect) → Step at false x → Step at false y → Step at false (cond b x y)
   if_both at true x y one two = one

@@ -1,5 +1,6 @@
 -- The records of a history, and what a span's record tells.
 use Rattle.std.specs.Prelude.{◌≡◌, ℕ, ◌<◌, ◌==◌, ◌&&◌, not, is_some, List, [], ◌∷◌, ◌++◌, fold, filter, map, if◌then◌else◌}
+use Rattle.std.specs.Option.{option_to_list}
 use Rattle.otel_base.specs.declared.context.SpanContext.{SpanContext}
 use Rattle.otel_base.specs.declared.record.Record.{Record}
 use Rattle.otel_base.specs.Ids.{ids_of}
@@ -30,12 +31,15 @@ Each IsOf (s ∷ spans) [] = ⊥
 abbrev pub start_in : SpanContext → ℕ → ℕ → List ℕ → List ℕ → List Stamped
 start_in own at s order ids = if is_in s ids && not (is_in s order) then record { at = at; op = ops.Start own } ∷ [] else []
 
--- what an effect does to a span: it starts it, it does its ops in order, or it starts it at its close
+-- what an effect does to a span: it starts it, before it makes one or as it makes it, it does its ops in order, or it starts it at its close
 abbrev pub ops_in : SpanContext → ℕ → List ℕ → Effect → List Stamped
 ops_in own s order e =
+    let before = fold with_started order e.starts in
+    let begun = fold with_started before (option_to_list e.begins) in
     start_in own e.at s order e.starts
+    ++ start_in own e.at s before (option_to_list e.begins)
     ++ map (λ d. record { at = e.at; op = d.op }) (filter (λ d. d.span == s) e.ops)
-    ++ start_in own e.at s (fold with_started order e.starts) e.closes
+    ++ start_in own e.at s begun e.closes
 
 -- the ops of a span in the effects of a history, some spans having started before
 abbrev pub ops_from : SpanContext → ℕ → List ℕ → History → List Stamped

@@ -1,15 +1,22 @@
 -- The order in which the spans of a history started, which gives them their ids.
-use Rattle.std.specs.Prelude.{ℕ, ◌+◌, ◌==◌, List, [], ◌∷◌, ◌++◌, fold, flat_map, if◌then◌else◌}
+use Rattle.std.specs.Prelude.{ℕ, ◌+◌, ◌==◌, List, [], ◌∷◌, ◌++◌, fold, flat_map, if◌then◌else◌, Option, Some, None, Bool}
+use Rattle.std.specs.Option.{option_to_list}
 use Rattle.trace_base.specs.Spans.{is_in}
-use Rattle.span_script.specs.Tables.{Effect, History}
+use Rattle.otel_layer.specs.Recording.{source_of}
+use Rattle.span_script.specs.Tables.{Made, Effect, History}
 
 -- a span more that started, unless it had
 abbrev pub with_started : List ℕ → ℕ → List ℕ
 with_started order s = if is_in s order then order else order ++ s ∷ []
 
--- the spans that an effect starts, unless they have started: those that it says, and those that it closes
+-- the span that starts as it is made, by its number, where spans start early
+abbrev pub at_making : Bool → ℕ → Option Made → Option ℕ
+at_making eager n None = None
+at_making eager n (Some m) = source_of eager n
+
+-- the spans that an effect starts, unless they have started: those that it says, the one that it starts at its making, and those that it closes
 abbrev pub starts_of : Effect → List ℕ
-starts_of e = e.starts ++ e.closes
+starts_of e = e.starts ++ option_to_list e.begins ++ e.closes
 
 -- the spans in the order in which they started
 abbrev pub started : History → List ℕ

@@ -1,5 +1,5 @@
 //! The ids of spans, by the order in which they started.
-ghost use Rattle.std.specs.Prelude.{◌≡◌, ◌≤◌, ℕ, true, length, map};
+ghost use Rattle.std.specs.Prelude.{◌≡◌, ◌≤◌, ◌<◌, ◌+◌, ℕ, true, length, map};
 ghost use Rattle.std.specs.List.{range_with_len};
 ghost use Rattle.otel_layer.specs.Table.{told_at};
 ghost use Rattle.span_script.specs.Effects.{is_open};
@@ -11,7 +11,8 @@ ghost use Rattle.span_laws.specs.Starts.{place_in, started};
 ghost use Rattle.span_laws.specs.Telling.{id_of, id_told};
 
 /// The spans that started have the ids 1, 2 and so on, in the order of their starts, each a different one. An open span
-/// has the id 0 until it starts, and no record has it.
+/// has the id 0 until it starts, and no record has it. Where spans start early, each has as its id the number of its making,
+/// from 1 on.
 pub fn ids()
     ensures started_once { (h : History) (s : ℕ) → occurrences s (started h) ≤ 1 }
     ensures from_one { (h : History) → map (place_in (started h)) (started h) ≡ range_with_len 1 (length (started h)) }
@@ -24,4 +25,8 @@ pub fn ids()
         → occurrences id (map id_of (records setup h)) ≤ 1 }
     ensures none_zero { (setup : Setup) (h : History) → IsHistory setup h
         → occurrences 0 (map id_of (records setup h)) ≡ 0 }
+    ensures in_order_of_making { (setup : Setup) (h : History) → IsHistory setup h → setup.layer.eager ≡ true
+        → started h ≡ range_with_len 0 (length (tables setup h).made) }
+    ensures early { (setup : Setup) (h : History) (s : ℕ) → IsHistory setup h → setup.layer.eager ≡ true
+        → s < length (tables setup h).made → place_in (started h) s ≡ s + 1 }
 {}

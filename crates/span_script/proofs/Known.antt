@@ -7,7 +7,7 @@ use Rattle.otel_base.specs.declared.context.Context.{Context}
 use Rattle.otel_state.specs.declared.op.Op.{Op}
 use Rattle.otel_state.specs.States.{Told}
 use Rattle.otel_layer.specs.Table.{told_at, knows_span, with_span, waits}
-use Rattle.otel_layer.specs.Recording.{Recording, with_start, with_applied, with_close, closed, told_after, told_started}
+use Rattle.otel_layer.specs.Recording.{Recording, with_start, with_starts, with_applied, with_close, closed, told_after, told_started}
 use Rattle.otel_layer.proofs.Finding.{told_at_op, told_at_start, told_at_removed}
 use Rattle.span_script.specs.Tables.{Made, Done, Effect, with_made, recorded_by}
 
@@ -68,9 +68,13 @@ closes_known at q (s ∷ ss) r out known =
     let parts = or_parts (s == q) (list_any (λ x. x == q) ss) out in
     closes_known at q ss (with_close s at r) parts.1 (close_known s at q r (λ e. true≢false (sym (eq-eqb s q (sym e)) ∙ parts.0)) known)
 
+begins_known : (o : Option ℕ) (at q : ℕ) (r : Recording) → IsKnown q r → IsKnown q (with_starts o at r)
+begins_known None at q r known = known
+begins_known (Some s) at q r known = starts_known at q (s ∷ []) r known
+
 -- what was known and doesn't close, and what is made
 pub recorded_known : (n q : ℕ) (e : Effect) (r : Recording) → list_any (λ x. x == q) e.closes ≡ false → IsKnown q (with_made n e.made (fold (λ r s. with_start s e.at r) r e.starts)) → IsKnown q (recorded_by n e r)
-recorded_known n q e r out known = closes_known e.at q e.closes _ out (ops_known e.at q e.ops _ known)
+recorded_known n q e r out known = closes_known e.at q e.closes _ out (ops_known e.at q e.ops _ (begins_known e.begins e.at q _ known))
 
 pub still_known : (n q : ℕ) (e : Effect) (r : Recording) → list_any (λ x. x == q) e.closes ≡ false → IsKnown q r → IsKnown q (recorded_by n e r)
 still_known n q e r out known = recorded_known n q e r out (made_known n q e.made _ (starts_known e.at q e.starts r known))

@@ -39,7 +39,7 @@ use Rattle.otel_layer.specs.declared.tokens.Token.{Token}
 use Rattle.otel_layer.specs.Steps.{above, around, context_from, made_told}
 use Rattle.otel_layer.specs.Table.{told_at}
 use Rattle.otel_layer.specs.Table.{with_span as add_span}
-use Rattle.otel_layer.specs.Recording.{Recording, no_recording, with_start, with_starts}
+use Rattle.otel_layer.specs.Recording.{Recording, source_of, no_recording, with_start, with_starts}
 use Rattle.trace_base.specs.declared.callsite.Kind.{Kind}
 use Rattle.trace_base.specs.declared.callsite.Kind.TheVariants as kinds
 use Rattle.trace_base.specs.declared.span.Parent.TheVariants as parent
@@ -240,8 +240,9 @@ module _ {S : Type 0} (spans : S → Spans) (views : Views S) (attaches : S → 
             let source_is : source ≡ above r.settings.activation q (current_of (t.entries place_id)) = ap (λ (x : Parent). above r.settings.activation x current) up.parent_is ∙ ap (λ (o : Option ℕ). above r.settings.activation q o) current_is in
             let recalled = recalls old new dispatch _ made_call in
             let rec_is : seen views.recorded no_recording new dispatch ≡ record (recorded_by (length t.made) e r) { tokens = r.tokens } =
-            recalled.0 ∙ ap (λ (n : ℕ). made_record n raw (with_starts source at r)) fits.made.count ∙ ap (λ (x : Told). made_record (length t.made) x (with_starts source at r)) told_is
-            ∙ ap (λ (x : Recording). made_record (length t.made) told x) (sym (starts_fold source at r) ∙ ap (λ (o : Option ℕ). fold (λ r s. with_start s at r) r (option_to_list o)) source_is)
+            recalled.0 ∙ ap (λ (n : ℕ). with_starts (source_of r.settings.eager n) at (made_record n raw (with_starts source at r))) fits.made.count
+            ∙ ap (λ (x : Told). with_starts (source_of r.settings.eager (length t.made)) at (made_record (length t.made) x (with_starts source at r))) told_is
+            ∙ ap (λ (x : Recording). with_starts (source_of r.settings.eager (length t.made)) at (made_record (length t.made) told x)) (sym (starts_fold source at r) ∙ ap (λ (o : Option ℕ). fold (λ r s. with_start s at r) r (option_to_list o)) source_is)
             ∙ ap (λ (ts : List Token). record (recorded_by (length t.made) e r) { tokens = ts }) (recorded_tokens (length t.made) e r) in
             let settings = ap (λ (x : Recording). x.settings) rec_is ∙ recorded_settings (length t.made) e r in
             let sites = ap (λ (w : Worlds S). w.sites) did.made.others in

@@ -45,14 +45,21 @@ module _ (ts : List Token) (fs : List Record) where
   made_apart n None r = refl
   made_apart n (Some m) r = refl
 
+  begins_apart : (o : Option ℕ) (at : ℕ) (r : Recording) → with_starts o at (shifted ts fs r) ≡ shifted ts fs (with_starts o at r)
+  begins_apart None at r = refl
+  begins_apart (Some s) at r = start_apart s at r
+
   recorded_apart : (n : ℕ) (e : Effect) (r : Recording) → recorded_by n e (shifted ts fs r) ≡ shifted ts fs (recorded_by n e r)
   recorded_apart n e r =
       let started = fold (λ r s. with_start s e.at r) r e.starts in
       let made = with_made n e.made started in
-      let done = fold (λ r d. with_applied d.span e.at d.op r) made e.ops in
-      ap (λ (x : Recording). fold (λ r s. with_close s e.at r) (fold (λ r d. with_applied d.span e.at d.op r) (with_made n e.made x) e.ops) e.closes) (starts_apart e.at e.starts r)
-      ∙ ap (λ (x : Recording). fold (λ r s. with_close s e.at r) (fold (λ r d. with_applied d.span e.at d.op r) x e.ops) e.closes) (made_apart n e.made started)
-      ∙ ap (λ (x : Recording). fold (λ r s. with_close s e.at r) x e.closes) (ops_apart e.at e.ops made)
+      let begun = with_starts e.begins e.at made in
+      let done = fold (λ r d. with_applied d.span e.at d.op r) begun e.ops in
+      let rest : Recording → Recording = λ x. fold (λ r s. with_close s e.at r) (fold (λ r d. with_applied d.span e.at d.op r) x e.ops) e.closes in
+      ap (λ (x : Recording). rest (with_starts e.begins e.at (with_made n e.made x))) (starts_apart e.at e.starts r)
+      ∙ ap (λ (x : Recording). rest (with_starts e.begins e.at x)) (made_apart n e.made started)
+      ∙ ap rest (begins_apart e.begins e.at made)
+      ∙ ap (λ (x : Recording). fold (λ r s. with_close s e.at r) x e.closes) (ops_apart e.at e.ops begun)
       ∙ closes_apart e.at e.closes done
 
 -- what is kept is the open part with its entries and records
@@ -109,11 +116,16 @@ made_settings : (n : ℕ) (o : Option Made) (r : Recording) → (with_made n o r
 made_settings n None r = refl
 made_settings n (Some m) r = refl
 
+begins_settings : (o : Option ℕ) (at : ℕ) (r : Recording) → (with_starts o at r).settings ≡ r.settings
+begins_settings None at r = refl
+begins_settings (Some s) at r = start_settings s at r
+
 pub recorded_settings : (n : ℕ) (e : Effect) (r : Recording) → (recorded_by n e r).settings ≡ r.settings
 recorded_settings n e r =
     let started = fold (λ r s. with_start s e.at r) r e.starts in
     let made = with_made n e.made started in
-    closes_settings e.at e.closes (fold (λ r d. with_applied d.span e.at d.op r) made e.ops) ∙ ops_settings e.at e.ops made ∙ made_settings n e.made started ∙ starts_settings e.at e.starts r
+    let begun = with_starts e.begins e.at made in
+    closes_settings e.at e.closes (fold (λ r d. with_applied d.span e.at d.op r) begun e.ops) ∙ ops_settings e.at e.ops begun ∙ begins_settings e.begins e.at made ∙ made_settings n e.made started ∙ starts_settings e.at e.starts r
 
 -- so do open entries
 start_tokens : (s at : ℕ) (r : Recording) → (with_start s at r).tokens ≡ r.tokens
@@ -146,11 +158,16 @@ made_tokens : (n : ℕ) (o : Option Made) (r : Recording) → (with_made n o r).
 made_tokens n None r = refl
 made_tokens n (Some m) r = refl
 
+begins_tokens : (o : Option ℕ) (at : ℕ) (r : Recording) → (with_starts o at r).tokens ≡ r.tokens
+begins_tokens None at r = refl
+begins_tokens (Some s) at r = start_tokens s at r
+
 pub recorded_tokens : (n : ℕ) (e : Effect) (r : Recording) → (recorded_by n e r).tokens ≡ r.tokens
 recorded_tokens n e r =
     let started = fold (λ r s. with_start s e.at r) r e.starts in
     let made = with_made n e.made started in
-    closes_tokens e.at e.closes (fold (λ r d. with_applied d.span e.at d.op r) made e.ops) ∙ ops_tokens e.at e.ops made ∙ made_tokens n e.made started ∙ starts_tokens e.at e.starts r
+    let begun = with_starts e.begins e.at made in
+    closes_tokens e.at e.closes (fold (λ r d. with_applied d.span e.at d.op r) begun e.ops) ∙ ops_tokens e.at e.ops begun ∙ begins_tokens e.begins e.at made ∙ made_tokens n e.made started ∙ starts_tokens e.at e.starts r
 
 -- a start of the open part
 pub start_open : (s at : ℕ) (r x : Recording) → open_part r ≡ x → (with_start s at r).spans ≡ (with_start s at x).spans

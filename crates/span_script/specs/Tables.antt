@@ -6,7 +6,7 @@ use Rattle.otel_state.specs.declared.op.Op.{Op}
 use Rattle.otel_metrics.specs.declared.measure.Measure.{Measure}
 use Rattle.otel_state.specs.States.{Told, begun}
 use Rattle.otel_layer.specs.Table.{with_span}
-use Rattle.otel_layer.specs.Recording.{Recording, no_recording, with_start, with_applied, with_close}
+use Rattle.otel_layer.specs.Recording.{Recording, no_recording, with_start, with_starts, with_applied, with_close}
 use Rattle.trace_base.specs.Spans.{without_last}
 use Rattle.trace_base.specs.Hooks.{Hook}
 use Rattle.span_script.specs.declared.reply.Reply.{Reply}
@@ -77,8 +77,10 @@ pub record Effect : Type 0 where
   pub new_context : Option Context
   -- the span that it made
   pub made : Option Made
-  -- the spans that it starts unless they have started, and what else it does to spans, in order
+  -- the spans that it starts unless they have started, before it makes one; the one that it starts after that; and what else
+  -- it does to spans, in order
   pub starts : List ℕ
+  pub begins : Option ℕ
   pub ops : List Done
   -- what it measured
   pub measures : List Measure
@@ -109,6 +111,7 @@ quiet at lane answer = record {
   new_context = None;
   made = None;
   starts = [];
+  begins = None;
   ops = [];
   measures = [];
   closes = [];
@@ -212,16 +215,19 @@ abbrev pub with_detached : (ℕ → List Attached) → ℕ → Option Owner → 
 with_detached cs lane None = cs
 with_detached cs lane (Some owner) = λ l. if lane == l then without_last (is_by owner) (cs lane) else cs l
 
--- What an effect makes of what was recorded: spans start, one is made, ops are done, and spans close.
+-- What an effect makes of what was recorded: spans start, one is made, and may start, ops are done, and spans close.
 abbrev pub with_made : ℕ → Option Made → Recording → Recording
 with_made s None r = r
 with_made s (Some m) r = record r { spans = with_span s m.told r.spans }
 
+abbrev pub begun_by : ℕ → Effect → Recording → Recording
+begun_by s e r = with_starts e.begins e.at (with_made s e.made (fold (λ r s. with_start s e.at r) r e.starts))
+
+abbrev pub done_by : ℕ → Effect → Recording → Recording
+done_by s e r = fold (λ r d. with_applied d.span e.at d.op r) (begun_by s e r) e.ops
+
 abbrev pub recorded_by : ℕ → Effect → Recording → Recording
-recorded_by s e r =
-    fold (λ r s. with_close s e.at r)
-    (fold (λ r d. with_applied d.span e.at d.op r) (with_made s e.made (fold (λ r s. with_start s e.at r) r e.starts)) e.ops)
-    e.closes
+recorded_by s e r = fold (λ r s. with_close s e.at r) (done_by s e r) e.closes
 
 -- what is recorded but open entries and records
 abbrev pub open_part : Recording → Recording

@@ -40,6 +40,7 @@ fn new_layer(alloc: Global, settings: LayerSettings) -> OpenTelemetryLayer<Recor
 {
     OpenTelemetryLayer::new(alloc, Recorder::new(alloc))
         .with_context_activation(settings.activation)
+        .with_eager_start(settings.eager)
         .with_error_events_to_exceptions(settings.error_events_to_exceptions)
         .with_error_events_to_status(settings.error_events_to_status)
         .with_error_fields_to_exceptions(settings.error_fields_to_exceptions)

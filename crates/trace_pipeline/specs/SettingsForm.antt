@@ -93,10 +93,11 @@ span_flags usual = do
 unfoldable pub layer_form : Form LayerSettings
 layer_form = do
   activation ← flag_or default_settings.activation (codes "activation")
+  eager ← flag_or default_settings.eager (codes "eager")
   inactivity ← flag_or default_settings.inactivity (codes "inactivity")
   errors ← error_flags default_settings
   all ← span_flags errors
-  give (record all { activation = activation; inactivity = inactivity })
+  give (record all { activation = activation; eager = eager; inactivity = inactivity })
 
 -- no two are equal
 abbrev pub all_differ : List ℕ → Bool

@@ -172,11 +172,13 @@ fn layer_members(object: &mut Object) -> Result<LayerSettings, LineError>
 {
     let usual = LayerSettings::default();
     let activation = object.flag_or(usual.activation, "activation")?;
+    let eager = object.flag_or(usual.eager, "eager")?;
     let inactivity = object.flag_or(usual.inactivity, "inactivity")?;
     let errors = error_flags(object, usual)?;
     let all = span_flags(object, errors)?;
     Ok(LayerSettings {
         activation,
+        eager,
         inactivity,
         ..all
     })

@@ -1,4 +1,5 @@
 use Rattle.span_laws.proofs.Numbering.{started_once, from_one, of_open, of_records, no_two_alike, none_zero}
+use Rattle.span_laws.proofs.OrderOfMaking.{order_of_making, by_number}
 use Rattle.span_laws.proofs.ids.ids.Goals as goal
 
 pub returns-clause-started_once : goal.returns-clause-started_once
@@ -18,3 +19,9 @@ returns-clause-no_two_alike c = no_two_alike
 
 pub returns-clause-none_zero : goal.returns-clause-none_zero
 returns-clause-none_zero c = none_zero
+
+pub returns-clause-in_order_of_making : goal.returns-clause-in_order_of_making
+returns-clause-in_order_of_making c = order_of_making
+
+pub returns-clause-early : goal.returns-clause-early
+returns-clause-early c = by_number

@@ -1,0 +1,8 @@
+mod SameSpan
+mod SameSpans
+mod SameRecordings
+mod RenamedTables
+mod SameCalls
+mod LazyHistories
+mod SameScripts
+pub mod SameOutcomes

@@ -1,0 +1,2 @@
+mod AnswersLemmas
+pub mod RenamedLemmas
