@@ -81,28 +81,28 @@ stops_on signal lines more text stops = record {
 }
 
 -- a blank line
-pub blank_on : (signal : Signal) (at : Stage) (lines : List (List ℕ)) (count next : ℕ) (written : Written) (line : List ℕ)
-    → AnswersAt signal at lines count written → next ≡ count + 1 → is_blank line ≡ true → AnswersAt signal at (lines ++ line ∷ []) next written
-blank_on signal stage.Opening lines count next written line a counted is = record {
+pub blank_on : (signal : Signal) (at : Stage) (lines : List (List ℕ)) (count next : ℕ) (text : List ℕ) (tally : ℕ) (line : List ℕ)
+    → AnswersAt signal at lines count text tally → next ≡ count + 1 → is_blank line ≡ true → AnswersAt signal at (lines ++ line ∷ []) next text tally
+blank_on signal stage.Opening lines count next text tally line a counted is = record {
   blank = all_blank lines line a.blank is;
   empty = a.empty;
   none = a.none;
   report_is = λ more. on_line signal lines more line _ (a.report_is (line ∷ more) ∙ rw (is, counted) refl);
 }
-blank_on signal (stage.Running pipeline) lines count next written line a counted is = record {
+blank_on signal (stage.Running pipeline) lines count next text tally line a counted is = record {
   history = a.history;
   some = some_before lines (line ∷ []) a.some;
   stands = a.stands;
   taken = a.taken;
   report_is = λ more. on_line signal lines more line _ (a.report_is (line ∷ more) ∙ rw (is, counted) refl);
 }
-blank_on signal stage.Refused lines count next written line a counted is = stops_on signal lines (line ∷ []) written.text.items a
+blank_on signal stage.Refused lines count next text tally line a counted is = stops_on signal lines (line ∷ []) text a
 
 -- the settings line
-pub opened : (signal : Signal) (lines : List (List ℕ)) (count next : ℕ) (written : Written) (line : List ℕ) (settings : Settings) (kept : State)
-    → Opens signal lines count written → next ≡ count + 1 → is_blank line ≡ false → settings_spelled line ≡ Ok settings
-    → opening_read settings.filter settings.counting ≡ Ok tt → kept.setup ≡ setup_by settings → StandsFor kept (tables (setup_by settings) []) → IsEmptied kept → Runs signal (lines ++ line ∷ []) next kept written
-opened signal lines count next written line settings kept o counted is is_spelled read setup stands taken = record {
+pub opened : (signal : Signal) (lines : List (List ℕ)) (count next : ℕ) (text : List ℕ) (tally : ℕ) (line : List ℕ) (settings : Settings) (kept : State)
+    → Opens signal lines count text tally → next ≡ count + 1 → is_blank line ≡ false → settings_spelled line ≡ Ok settings
+    → opening_read settings.filter settings.counting ≡ Ok tt → kept.setup ≡ setup_by settings → StandsFor kept (tables (setup_by settings) []) → IsEmptied kept → Runs signal (lines ++ line ∷ []) next kept text tally
+opened signal lines count next text tally line settings kept o counted is is_spelled read setup stands taken = record {
   history = [];
   some = one_not_blank lines line o.blank is;
   stands = subst (λ (s : Setup). StandsFor kept (tables s [])) (sym setup) stands;
@@ -111,47 +111,51 @@ opened signal lines count next written line settings kept o counted is is_spelle
 }
 
 -- a settings line that is refused
-pub unopened : (signal : Signal) (lines : List (List ℕ)) (count next : ℕ) (written : Written) (line text : List ℕ) (why : Told)
-    → Opens signal lines count written → next ≡ count + 1 → is_blank line ≡ false → settings_spelled line ≡ Err why
-    → text ≡ written.text.items ++ refusal_text next why → Stops signal (lines ++ line ∷ []) text
-unopened signal lines count next written line text why o counted is is_spelled tells = record {
+pub unopened : (signal : Signal) (lines : List (List ℕ)) (count next : ℕ) (text : List ℕ) (tally : ℕ) (line out : List ℕ) (why : Told)
+    → Opens signal lines count text tally → next ≡ count + 1 → is_blank line ≡ false → settings_spelled line ≡ Err why
+    → out ≡ text ++ refusal_text next why → Stops signal (lines ++ line ∷ []) out
+unopened signal lines count next text tally line out why o counted is is_spelled tells = record {
   some = one_not_blank lines line o.blank is;
   report_is = λ more. on_line signal lines more line _ (o.report_is (line ∷ more) ∙ rw (is, is_spelled, tells, o.empty, counted) refl);
 }
 
 -- settings of which a text isn't read
-pub unfiltered : (signal : Signal) (lines : List (List ℕ)) (count next : ℕ) (written : Written) (line text : List ℕ) (settings : Settings) (counting : Bool) (piece : ℕ)
-    → Opens signal lines count written → next ≡ count + 1 → is_blank line ≡ false → settings_spelled line ≡ Ok settings → opening_read settings.filter settings.counting ≡ Err (counting, piece)
-    → text ≡ written.text.items ++ refusal_text next (told.Directive counting piece) → Stops signal (lines ++ line ∷ []) text
-unfiltered signal lines count next written line text settings counting piece o counted is is_spelled why tells = record {
+pub unfiltered : (signal : Signal) (lines : List (List ℕ)) (count next : ℕ) (text : List ℕ) (tally : ℕ) (line out : List ℕ) (settings : Settings) (counting : Bool) (piece : ℕ)
+    → Opens signal lines count text tally → next ≡ count + 1 → is_blank line ≡ false → settings_spelled line ≡ Ok settings → opening_read settings.filter settings.counting ≡ Err (counting, piece)
+    → out ≡ text ++ refusal_text next (told.Directive counting piece) → Stops signal (lines ++ line ∷ []) out
+unfiltered signal lines count next text tally line out settings counting piece o counted is is_spelled why tells = record {
   some = one_not_blank lines line o.blank is;
   report_is = λ more. on_line signal lines more line _ (o.report_is (line ∷ more) ∙ rw (is, is_spelled, why, tells, o.empty, counted) refl);
 }
 
 -- a request line that is refused
-refused_on : (signal : Signal) (lines : List (List ℕ)) (count next : ℕ) (kept : State) (written : Written) (line text : List ℕ) (why : Told)
-    (r : Runs signal lines count kept written) → next ≡ count + 1 → is_blank line ≡ false → effect_of_line kept.setup (tables kept.setup r.history) line ≡ Err why
-    → text ≡ written.text.items ++ refusal_text next why → Stops signal (lines ++ line ∷ []) text
-refused_on signal lines count next kept written line text why r counted is none tells = record {
+refused_on : (signal : Signal) (lines : List (List ℕ)) (count next : ℕ) (kept : State) (text : List ℕ) (tally : ℕ) (line out : List ℕ) (why : Told)
+    (r : Runs signal lines count kept text tally) → next ≡ count + 1 → is_blank line ≡ false → effect_of_line kept.setup (tables kept.setup r.history) line ≡ Err why
+    → out ≡ text ++ refusal_text next why → Stops signal (lines ++ line ∷ []) out
+refused_on signal lines count next kept text tally line out why r counted is none tells = record {
   some = some_before lines (line ∷ []) r.some;
   report_is = λ more. on_line signal lines more line _ (r.report_is (line ∷ more) ∙ rw (is, none, tells, counted) refl);
 }
 
-pub unread : (signal : Signal) (lines : List (List ℕ)) (count next : ℕ) (kept : State) (written : Written) (line text : List ℕ) (why : Told)
-    → Runs signal lines count kept written → next ≡ count + 1 → is_blank line ≡ false → request_spelled line ≡ Err why
-    → text ≡ written.text.items ++ refusal_text next why → Stops signal (lines ++ line ∷ []) text
-unread signal lines count next kept written line text why r counted is is_spelled tells =
-    refused_on signal lines count next kept written line text why r counted is (unspelled kept.setup (tables kept.setup r.history) line why is_spelled) tells
+pub unread : (signal : Signal) (lines : List (List ℕ)) (count next : ℕ) (kept : State) (text : List ℕ) (tally : ℕ) (line out : List ℕ) (why : Told)
+    → Runs signal lines count kept text tally → next ≡ count + 1 → is_blank line ≡ false → request_spelled line ≡ Err why
+    → out ≡ text ++ refusal_text next why → Stops signal (lines ++ line ∷ []) out
+unread signal lines count next kept text tally line out why r counted is is_spelled tells =
+    refused_on signal lines count next kept text tally line out why r counted is (unspelled kept.setup (tables kept.setup r.history) line why is_spelled) tells
 
-pub unserved : (signal : Signal) (lines : List (List ℕ)) (count next : ℕ) (kept : State) (written : Written) (line text : List ℕ) (request : Request) (refusal : Refusal)
-    (r : Runs signal lines count kept written) → next ≡ count + 1 → is_blank line ≡ false → request_spelled line ≡ Ok request
+pub unserved : (signal : Signal) (lines : List (List ℕ)) (count next : ℕ) (kept : State) (text : List ℕ) (tally : ℕ) (line out : List ℕ) (request : Request) (refusal : Refusal)
+    (r : Runs signal lines count kept text tally) → next ≡ count + 1 → is_blank line ≡ false → request_spelled line ≡ Ok request
     → effect_of kept.setup (tables kept.setup r.history) request ≡ Err refusal
-    → text ≡ written.text.items ++ refusal_text next (told.Step refusal) → Stops signal (lines ++ line ∷ []) text
-unserved signal lines count next kept written line text request refusal r counted is is_spelled none tells =
-    refused_on signal lines count next kept written line text (told.Step refusal) r counted is (unstepped kept.setup (tables kept.setup r.history) line request refusal is_spelled none) tells
+    → out ≡ text ++ refusal_text next (told.Step refusal) → Stops signal (lines ++ line ∷ []) out
+unserved signal lines count next kept text tally line out request refusal r counted is is_spelled none tells =
+    refused_on signal lines count next kept text tally line out (told.Step refusal) r counted is (unstepped kept.setup (tables kept.setup r.history) line request refusal is_spelled none) tells
 
 behind_both : (a b : List ℕ) (r : Report) → behind (a ++ b) r ≡ behind a (behind b r)
 behind_both a b r = ap (λ (text : List ℕ). record { written = text; accepted = r.accepted }) (append_assoc a b r.written)
+
+-- a text behind what was put before
+pub put_behind : (put old more new : List ℕ) → new ≡ old ++ more → put ++ new ≡ (put ++ old) ++ more
+put_behind put old more new is = ap (λ (t : List ℕ). put ++ t) is ∙ sym (append_assoc put old more)
 
 -- records and measures that are to be taken change nothing else
 beside : (k : State) (t : Tables) → StandsFor k t → StandsFor (without_taken k) t
@@ -206,11 +210,11 @@ pub stands_beside : (old new : State) (t : Tables) → without_taken new ≡ wit
 stands_beside old new t same stands = back new t (subst (λ (k : State). StandsFor k t) (sym same) (beside old t stands))
 
 -- a request that is answered
-pub answered : (signal : Signal) (lines : List (List ℕ)) (count next : ℕ) (old mid new : State) (before after : Written) (line : List ℕ) (request : Request) (reply : Reply)
-    (r : Runs signal lines count old before) → next ≡ count + 1 → is_blank line ≡ false → request_spelled line ≡ Ok request
+pub answered : (signal : Signal) (put : List ℕ) (lines : List (List ℕ)) (count next : ℕ) (old mid new : State) (before after : Written) (line : List ℕ) (request : Request) (reply : Reply)
+    (r : Runs signal lines count old (put ++ before.text.items) before.count) → next ≡ count + 1 → is_blank line ≡ false → request_spelled line ≡ Ok request
     → Recorded (effect_of old.setup (tables old.setup r.history) request) r.history old mid reply
-    → IsAnswered signal next reply mid new before after → Runs signal (lines ++ line ∷ []) next new after
-answered signal lines count next old mid new before after line request reply r counted is is_spelled a told =
+    → IsAnswered signal next reply mid new before after → Runs signal (lines ++ line ∷ []) next new (put ++ after.text.items) after.count
+answered signal put lines count next old mid new before after line request reply r counted is is_spelled a told =
     let h : History = r.history in
     let t : Tables = tables old.setup h in
     let records : List Record = records_of t a.effect in
@@ -219,6 +223,8 @@ answered signal lines count next old mid new before after line request reply r c
     let setup : new.setup ≡ old.setup = ap (λ (k : State). k.setup) told.state ∙ a.setup in
     let text : after.text.items ≡ before.text.items ++ answer_text signal next before.count a.effect.reply records a.effect.measures =
     told.text ∙ rw (a.reply_is, finished, measured) refl in
+    let behind_put : put ++ after.text.items ≡ (put ++ before.text.items) ++ answer_text signal next before.count a.effect.reply records a.effect.measures =
+    put_behind put _ _ _ text in
     let all : after.count ≡ before.count + answer_count signal records a.effect.measures = told.count ∙ rw (finished, measured) refl in
     record {
       history = h ++ a.effect ∷ [];
@@ -229,7 +235,7 @@ answered signal lines count next old mid new before after line request reply r c
           let rest : Report = report_on signal old.setup (h ++ a.effect ∷ []) next (before.count + answer_count signal records a.effect.measures) more in
           rw (setup, all) (on_line signal lines more line _ (r.report_is (line ∷ more)
           ∙ rw (is, stepped old.setup t line request a.effect is_spelled a.is, ← counted) refl
-          ∙ sym (ap (λ (x : List ℕ). behind x rest) text ∙ behind_both before.text.items (answer_text signal next before.count a.effect.reply records a.effect.measures) rest)));
+          ∙ sym (ap (λ (x : List ℕ). behind x rest) behind_put ∙ behind_both (put ++ before.text.items) (answer_text signal next before.count a.effect.reply records a.effect.measures) rest)));
     }
 
 -- ---- the end of the lines
@@ -237,25 +243,25 @@ answered signal lines count next old mid new before after line request reply r c
 with_none : (signal : Signal) (lines : List (List ℕ)) → report_from signal 0 lines ≡ report_from signal 0 (lines ++ [])
 with_none signal lines = ap (report_from signal 0) (sym (append-nil lines))
 
-pub opens_end : (signal : Signal) (lines : List (List ℕ)) (count next : ℕ) (written : Written) (text : List ℕ) → Opens signal lines count written → next ≡ count + 1
-    → text ≡ written.text.items ++ refusal_text next told.BadLine → report_from signal 0 lines ≡ record { written = text; accepted = false }
-opens_end signal lines count next written text o counted tells = with_none signal lines ∙ o.report_is [] ∙ sym (rw (tells, o.empty, counted) refl)
+pub opens_end : (signal : Signal) (lines : List (List ℕ)) (count next : ℕ) (text out : List ℕ) (tally : ℕ) → Opens signal lines count text tally → next ≡ count + 1
+    → out ≡ text ++ refusal_text next told.BadLine → report_from signal 0 lines ≡ record { written = out; accepted = false }
+opens_end signal lines count next text out tally o counted tells = with_none signal lines ∙ o.report_is [] ∙ sym (rw (tells, o.empty, counted) refl)
 
-pub runs_end : (signal : Signal) (lines : List (List ℕ)) (count : ℕ) (kept : State) (written : Written) (text : List ℕ) (spans : ℕ) → Runs signal lines count kept written
+pub runs_end : (signal : Signal) (lines : List (List ℕ)) (count : ℕ) (kept : State) (text out : List ℕ) (tally spans : ℕ) → Runs signal lines count kept text tally
     → ((h : History) → StandsFor kept (tables kept.setup h) → spans ≡ open_spans (tables kept.setup h))
-    → text ≡ written.text.items ++ last_text signal spans written.count → report_from signal 0 lines ≡ record { written = text; accepted = true }
-runs_end signal lines count kept written text spans r counts tells =
+    → out ≡ text ++ last_text signal spans tally → report_from signal 0 lines ≡ record { written = out; accepted = true }
+runs_end signal lines count kept text out tally spans r counts tells =
     with_none signal lines ∙ r.report_is [] ∙ sym (rw (tells, counts r.history r.stands) refl)
 
 pub stops_end : (signal : Signal) (lines : List (List ℕ)) (text : List ℕ) → Stops signal lines text → report_from signal 0 lines ≡ record { written = text; accepted = false }
 stops_end signal lines text stops = with_none signal lines ∙ stops.report_is []
 
 -- where the lines break off
-pub cut_at : (signal : Signal) (at : Stage) (lines : List (List ℕ)) (count : ℕ) (written : Written) → AnswersAt signal at lines count written → Cuts signal (is_refused at) lines written.text.items
-cut_at signal stage.Opening lines count written o =
+pub cut_at : (signal : Signal) (at : Stage) (lines : List (List ℕ)) (count : ℕ) (text : List ℕ) (tally : ℕ) → AnswersAt signal at lines count text tally → Cuts signal (is_refused at) lines text
+cut_at signal stage.Opening lines count text tally o =
     (inl (o.blank, o.empty), λ more. ((report_from signal 0 (lines ++ more)).written, rw o.empty refl))
-cut_at signal (stage.Running kept) lines count written r = (
-  inr (open_spans (tables kept.setup r.history), written.count, with_none signal lines ∙ r.report_is []),
-  λ more. ((report_on signal kept.setup r.history count written.count more).written, ap (λ (x : Report). x.written) (r.report_is more)),
+cut_at signal (stage.Running kept) lines count text tally r = (
+  inr (open_spans (tables kept.setup r.history), tally, with_none signal lines ∙ r.report_is []),
+  λ more. ((report_on signal kept.setup r.history count tally more).written, ap (λ (x : Report). x.written) (r.report_is more)),
 )
-cut_at signal stage.Refused lines count written stops = stops
+cut_at signal stage.Refused lines count text tally stops = stops

@@ -1,81 +1,36 @@
 -- What a run leaves, from what was read, answered and written.
-use Rattle.std.proofs.Common.{◌≡◌, ◌≢◌, ℕ, List, [], ◌++◌, refl, sym, ap, subst, ◌∙◌, append_assoc, take, drop, length, ◌<◌, ◌≤◌, ◌+◌, ◌⊎◌, inl, inr, arith}
-use Rattle.std.specs.Prelude.{Bool, true, false, not, min, Option, Some, None, IfSome}
+use Rattle.std.proofs.Common.{◌≡◌, ℕ, List, [], ◌++◌, refl, sym, ap, subst, ◌∙◌, take, drop, length, ◌<◌, ◌≤◌, inl, inr, arith}
+use Rattle.std.specs.Prelude.{Bool, true, false, Option, Some, None, IfSome}
 use Rattle.std.specs.Io.KnownBytes.{IsAtEnd}
-use Rattle.std.proofs.lemmas.Bool.{cases_lt}
-use Rattle.std.proofs.lemmas.List.{append-nil, take-append-drop, take_all, length-append}
+use Rattle.std.proofs.lemmas.List.{append-nil, take_all}
 use Rattle.trace_pipeline.specs.Lines.{lines_of}
 use Rattle.trace_pipeline.specs.declared.signal.Signal.{Signal}
 use Rattle.trace_pipeline.specs.Report.{Report, report_from, report, output, accepts}
 use Rattle.trace_pipeline.proofs.laws.OutputsLaws.{alike}
-use Rattle.trace_run.specs.declared.answers.Output.{Output}
-use Rattle.trace_run.specs.declared.input.End.{End}
-use Rattle.trace_run.specs.declared.input.End.TheVariants as end
 use Rattle.trace_pipeline.specs.declared.limits.TheConstants.{MAX_INPUT}
+use Rattle.trace_run.specs.declared.progress.Progress.{Progress}
 use Rattle.trace_run.specs.declared.status.Status.{Status}
 use Rattle.trace_run.specs.declared.status.Status.TheVariants as ends
-use Rattle.trace_run.specs.Streams.{MeetsEnd, Takes, IsFront, Puts, PutsFront}
-use Rattle.trace_run.specs.Breaks.{whole_part, whole_lines, HasRefused, AnswersAll}
-use Rattle.trace_run.specs.Answers.{Stops, Cuts}
-use Rattle.trace_run.specs.Ends.{Leaves, Ends, Causes, Completes, IsRefusedAt, status_of, Tells}
-use Rattle.trace_run.specs.Making.{LeavesSum, CompletesSum}
-use Rattle.trace_run.specs.Commands.{EndsOf, CompletesOf}
-use Rattle.trace_run.specs.declared.script.Command.{Command}
-use Rattle.trace_run.specs.declared.script.Command.TheVariants as commands
-use Rattle.trace_run.proofs.LinesLemmas.{lines_on}
-use Rattle.trace_run.proofs.AnswersLemmas.{stops_end}
-
--- ---- what is written is a front of the output
-
-same_front : (signal : Signal) (text bytes : List ℕ) (accepted : Bool) → report signal bytes ≡ record { written = text; accepted = accepted } → IsFront text (output signal bytes)
-same_front signal text bytes accepted is = ([], ap (λ (r : Report). r.written) is ∙ sym (append-nil text))
-
--- a whole line is refused, whatever bytes follow
-stops_report : (signal : Signal) (bytes tail text : List ℕ) → Stops signal (whole_lines bytes) text → report signal (bytes ++ tail) ≡ record { written = text; accepted = false }
-stops_report signal bytes tail text stops = let on = lines_on bytes tail in ap (report_from signal 0) on.1 ∙ stops.report_is on.0
-
-cut_front : (signal : Signal) (refused : Bool) (bytes tail text : List ℕ) → Cuts signal refused (whole_lines bytes) text → IsFront text (output signal (bytes ++ tail))
-cut_front signal true bytes tail text stops = same_front signal text (bytes ++ tail) false (stops_report signal bytes tail text stops)
-cut_front signal false bytes tail text cuts =
-    let on = lines_on bytes tail in
-    let front = cuts.1 on.0 in
-    (front.0, ap (λ (ls : List (List ℕ)). (report_from signal 0 ls).written) on.1 ∙ front.1)
-
--- the first bytes of what was read, and what comes behind them
-split_at : (most : ℕ) (read rest : List ℕ) → take most read ++ (drop most read ++ rest) ≡ read ++ rest
-split_at most read rest = sym (append_assoc (take most read) (drop most read) rest) ∙ ap (λ (r : List ℕ). r ++ rest) (take-append-drop most read)
-
-tells_front : (signal : Signal) (ending : End) (read rest : List ℕ) (answers : Output) → Tells signal ending read answers → (ending ≡ end.Whole → rest ≡ [])
-    → IsFront answers.text.items (output signal (read ++ rest))
-tells_front signal end.Whole read rest answers tells none =
-    same_front signal answers.text.items (read ++ rest) _ (ap (report signal) (ap (λ (r : List ℕ). read ++ r) (none refl) ∙ append-nil read) ∙ tells)
-tells_front signal end.Fault read rest answers tells none =
-    subst (λ (b : List ℕ). IsFront answers.text.items (output signal b)) (split_at MAX_INPUT read rest)
-    (cut_front signal answers.refused (take MAX_INPUT read) (drop MAX_INPUT read ++ rest) answers.text.items tells)
-tells_front signal end.TooLong read rest answers tells none =
-    subst (λ (b : List ℕ). IsFront answers.text.items (output signal b)) (split_at MAX_INPUT read rest)
-    (cut_front signal answers.refused (take MAX_INPUT read) (drop MAX_INPUT read ++ rest) answers.text.items tells)
-
-at_end : (left : Option (List ℕ)) (rest : List ℕ) → left ≡ Some rest → IsAtEnd left → rest ≡ []
-at_end left rest is end = subst IsAtEnd is end
-
-front_again : (text part bytes : List ℕ) → IsFront part text → IsFront text bytes → IsFront part bytes
-front_again text part bytes first second =
-    (first.0 ++ second.0, second.1 ∙ ap (λ (t : List ℕ). t ++ second.0) first.1 ∙ append_assoc part first.0 second.0)
-
--- a front of the text is a front of the output
-pub front_ends : (signal : Signal) (old left before now : Option (List ℕ)) (ending : End) (answers : Output) (read : List ℕ)
-    → Takes old left read → (ending ≡ end.Whole → IsAtEnd left) → Tells signal ending read answers → PutsFront before now answers.text.items
-    → IfSome old (λ bytes. PutsFront before now (output signal bytes))
-front_ends signal None left before now ending answers read took none tells put = tt
-front_ends signal (Some bytes) left before now ending answers read took none tells put =
-    let front : IsFront answers.text.items (output signal (read ++ took.0)) = tells_front signal ending read took.0 answers tells (λ whole. at_end left took.0 took.1 (none whole)) in
-    subst (λ (b : List ℕ). PutsFront before now (output signal b)) (sym took.2) (put.0, front_again answers.text.items put.0 _ put.1 front, put.2)
-
-pub puts_whole : (before now : Option (List ℕ)) (text : List ℕ) → Puts before now text → PutsFront before now text
-puts_whole before now text put = (text, ([], sym (append-nil text)), put)
+use Rattle.trace_run.specs.Streams.{Streams, HasFault, Takes, Puts, PutsFront}
+use Rattle.trace_run.specs.Breaks.{whole_lines, AnswersAll}
+use Rattle.trace_run.specs.Answers.{Stops, Cuts, is_refused}
+use Rattle.trace_run.specs.Commands.Run.{answered}
+use Rattle.trace_run.specs.Carries.{Causes, Carries}
+use Rattle.trace_run.specs.Commands.Make.{made_line, LeavesSum, CompletesSum, makes}
+use Rattle.trace_run.specs.Reading.{HasRefused, PutsWhole, PutsSome, Leaves, IsRefusedAt}
+use Rattle.trace_run.specs.Progress.{Keeps, IsMidway, HasFront, Reports, last_status}
+use Rattle.trace_run.proofs.ReadingLemmas.{split_at, all_read, takes_none}
+use Rattle.trace_run.proofs.AnswersLemmas.{stops_end, cut_at}
+use Rattle.trace_run.proofs.ProgressLemmas.{same_front, stops_report}
 
 -- ---- what is left at each status
+
+-- what a run leaves, where the source tells its bytes
+abbrev pub Ends : Signal → Status → Option (List ℕ) → Option (List ℕ) → Option (List ℕ) → Option (List ℕ) → Type 0
+Ends signal status old left before now = IfSome old (λ bytes. Leaves (answered signal) status bytes left before now)
+
+abbrev pub Fronts : Signal → Option (List ℕ) → Option (List ℕ) → Option (List ℕ) → Type 0
+Fronts signal old before now = IfSome old (λ bytes. PutsSome (answered signal) bytes before now)
 
 -- lines are accepted as a report on them says, whatever it tells
 accepted_as : (signal : Signal) (lines : List (List ℕ)) (text : List ℕ) (accepted : Bool) → report_from signal 0 lines ≡ record { written = text; accepted = accepted }
@@ -83,160 +38,183 @@ accepted_as : (signal : Signal) (lines : List (List ℕ)) (text : List ℕ) (acc
 accepted_as signal lines text accepted is = sym (alike signal lines) ∙ ap (λ (r : Report). r.accepted) is
 
 -- the text as a whole was written
-puts_output : (signal : Signal) (before now : Option (List ℕ)) (text bytes : List ℕ) (accepted : Bool) → report signal bytes ≡ record { written = text; accepted = accepted }
-    → Puts before now text → Puts before now (output signal bytes)
-puts_output signal before now text bytes accepted is put = subst (λ (t : List ℕ). Puts before now t) (sym (ap (λ (r : Report). r.written) is)) put
+puts_report : (signal : Signal) (before now : Option (List ℕ)) (text bytes : List ℕ) (accepted : Bool) → report signal bytes ≡ record { written = text; accepted = accepted }
+    → Puts before now text → PutsWhole (answered signal) bytes before now
+puts_report signal before now text bytes accepted is put = (text, sym (ap (λ (r : Report). r.written) is), put)
 
-all_read : (bytes : List ℕ) (left : Option (List ℕ)) (read : List ℕ) → Takes (Some bytes) left read → IsAtEnd left → (left ≡ Some []) × (read ≡ bytes)
-all_read bytes left read took none =
-    let rest : took.0 ≡ [] = at_end left took.0 took.1 none in
-    (took.1 ∙ ap Some rest, sym (took.2 ∙ ap (λ (r : List ℕ). read ++ r) rest ∙ append-nil read))
+-- some of the output was written
+puts_some : (signal : Signal) (before now : Option (List ℕ)) (bytes : List ℕ) → PutsFront before now (output signal bytes) → PutsSome (answered signal) bytes before now
+puts_some signal before now bytes put = inr (output signal bytes, refl, put)
 
-leaves_whole : (signal : Signal) (refused : Bool) (bytes : List ℕ) (left before now : Option (List ℕ)) (text read : List ℕ) → Takes (Some bytes) left read → IsAtEnd left
-    → length bytes ≤ MAX_INPUT → report signal bytes ≡ record { written = text; accepted = not refused } → Puts before now text
-    → Leaves signal (status_of refused end.Whole) bytes left before now
-leaves_whole signal true bytes left before now text read took none short told put = record {
+leaves_whole : (signal : Signal) (accepted : Bool) (bytes : List ℕ) (left before now : Option (List ℕ)) (text read : List ℕ) → Takes (Some bytes) left read → IsAtEnd left
+    → length bytes ≤ MAX_INPUT → report signal bytes ≡ record { written = text; accepted = accepted } → Puts before now text
+    → Leaves (answered signal) (last_status accepted) bytes left before now
+leaves_whole signal false bytes left before now text read took none short told put = record {
   refused = accepted_as signal (lines_of bytes) text false told;
   read = read;
   took = took;
   place = inr ((all_read bytes left read took none).0, short);
-  put = puts_output signal before now text bytes false told put;
+  put = puts_report signal before now text bytes false told put;
 }
-leaves_whole signal false bytes left before now text read took none short told put = (
+leaves_whole signal true bytes left before now text read took none short told put = (
   record { short = short; accepted = accepted_as signal (lines_of bytes) text true told },
   (all_read bytes left read took none).0,
-  puts_output signal before now text bytes true told put,
+  puts_report signal before now text bytes true told put,
 )
 
 -- a whole line is refused
 leaves_refused : (signal : Signal) (most : ℕ) (bytes : List ℕ) (left before now : Option (List ℕ)) (text read : List ℕ) → Takes (Some bytes) left read
     → Stops signal (whole_lines (take most read)) text → Puts before now text
-    → (report signal bytes ≡ record { written = text; accepted = false }) × HasRefused (whole_lines (take most read))
+    → (report signal bytes ≡ record { written = text; accepted = false }) × HasRefused accepts (whole_lines (take most read))
 leaves_refused signal most bytes left before now text read took stops put =
     let is : report signal (read ++ took.0) ≡ record { written = text; accepted = false } =
     subst (λ (b : List ℕ). report signal b ≡ record { written = text; accepted = false }) (split_at most read took.0) (stops_report signal (take most read) (drop most read ++ took.0) text stops) in
     (ap (report signal) took.2 ∙ is, record { some = stops.some; refused = accepted_as signal (whole_lines (take most read)) text false (stops_end signal (whole_lines (take most read)) text stops) })
 
-leaves_broken : (signal : Signal) (refused : Bool) (ending : End) (bytes : List ℕ) (left before now : Option (List ℕ)) (text read : List ℕ) → Takes (Some bytes) left read
-    → (ending ≢ end.TooLong → length read ≤ MAX_INPUT) → (ending ≡ end.TooLong → MAX_INPUT < length read) → (ending ≡ end.Whole → ⊥)
-    → Cuts signal refused (whole_lines (take MAX_INPUT read)) text → Puts before now text → Leaves signal (status_of refused ending) bytes left before now
-leaves_broken signal true ending bytes left before now text read took short long part cuts put =
-    let facts = leaves_refused signal MAX_INPUT bytes left before now text read took cuts put in
+-- nothing was written that isn't a front of the output
+pub front_of : (signal : Signal) (most : ℕ) (old left before now : Option (List ℕ)) (read : List ℕ) → Takes old left read → HasFront signal before now (take most read)
+    → Fronts signal old before now
+front_of signal most None left before now read took front = tt
+front_of signal most (Some bytes) left before now read took front =
+    puts_some signal before now bytes (subst (λ (b : List ℕ). PutsFront before now (output signal b)) (split_at most read took.0 ∙ sym took.2) (front (drop most read ++ took.0)))
+
+-- no byte was left
+pub ends_whole : (signal : Signal) (accepted : Bool) (old left before now : Option (List ℕ)) (read : List ℕ) → Takes old left read → IsAtEnd left → length read ≤ MAX_INPUT
+    → Reports signal accepted before now read → Ends signal (last_status accepted) old left before now
+ends_whole signal accepted None left before now read took none short told = tt
+ends_whole signal accepted (Some bytes) left before now read took none short told =
+    let same : read ≡ bytes = (all_read bytes left read took none).1 in
+    leaves_whole signal accepted bytes left before now told.0 read took none
+    (subst (λ (b : List ℕ). length b ≤ MAX_INPUT) same short)
+    (subst (λ (b : List ℕ). report signal b ≡ record { written = told.0; accepted = accepted }) same told.1) told.2
+
+pub front_whole : (signal : Signal) (old left before now : Option (List ℕ)) (read : List ℕ) → Takes old left read → IsAtEnd left
+    → PutsFront before now (output signal read) → Fronts signal old before now
+front_whole signal None left before now read took none put = tt
+front_whole signal (Some bytes) left before now read took none put =
+    puts_some signal before now bytes (subst (λ (b : List ℕ). PutsFront before now (output signal b)) ((all_read bytes left read took none).1) put)
+
+pub reports_front : (signal : Signal) (accepted : Bool) (before now : Option (List ℕ)) (read : List ℕ) → Reports signal accepted before now read → PutsFront before now (output signal read)
+reports_front signal accepted before now read told = (told.0, same_front signal told.0 read accepted told.1, told.2)
+
+pub ends_met : (signal : Signal) (accepted told : Bool) (old mid left before now : Option (List ℕ)) (read buf : List ℕ) (total count : ℕ) → Takes old mid read → Takes mid left (take count buf) → count ≡ 0
+    → IsAtEnd left → total ≡ length read → total ≤ MAX_INPUT → told ≡ accepted → Reports signal told before now (take MAX_INPUT read) → Ends signal (last_status accepted) old left before now
+ends_met signal accepted told old mid left before now read buf total count first second gone none size within is reports =
+    let short : length read ≤ MAX_INPUT = subst (λ (n : ℕ). n ≤ MAX_INPUT) size within in
+    ends_whole signal accepted old left before now read (takes_none old mid left read buf count first second gone) none short
+    (subst (λ (b : List ℕ). Reports signal accepted before now b) (take_all MAX_INPUT read short)
+    (subst (λ (a : Bool). Reports signal a before now (take MAX_INPUT read)) is reports))
+
+pub front_met : (signal : Signal) (old mid left before now : Option (List ℕ)) (read buf : List ℕ) (total count : ℕ) → Takes old mid read → Takes mid left (take count buf) → count ≡ 0
+    → IsAtEnd left → total ≡ length read → total ≤ MAX_INPUT → PutsFront before now (output signal (take MAX_INPUT read)) → Fronts signal old before now
+front_met signal old mid left before now read buf total count first second gone none size within put =
+    let short : length read ≤ MAX_INPUT = subst (λ (n : ℕ). n ≤ MAX_INPUT) size within in
+    front_whole signal old left before now read (takes_none old mid left read buf count first second gone) none
+    (subst (λ (b : List ℕ). PutsFront before now (output signal b)) (take_all MAX_INPUT read short) put)
+
+-- what the lines that came whole are answered, where none is refused, is all written
+answered_all : (signal : Signal) (put front : List ℕ) (p : Progress) → Keeps signal put front p → p.answers.written.text.items ≡ [] → is_refused p.answers.stage ≡ false
+    → AnswersAll signal (whole_lines front) put
+answered_all signal put front p k empty going =
+    let cuts : Cuts signal (is_refused p.answers.stage) (whole_lines front) (put ++ p.answers.written.text.items) =
+    cut_at signal p.answers.stage (whole_lines front) p.answers.lines (put ++ p.answers.written.text.items) p.answers.written.count k.answered in
+    let text : put ++ p.answers.written.text.items ≡ put = ap (λ (r : List ℕ). put ++ r) empty ∙ append-nil put in
+    (rw (going, text) at cuts).0
+
+-- a read failed
+pub ends_fault : (signal : Signal) (old left before now : Option (List ℕ)) (read : List ℕ) (p : Progress) → Takes old left read → length read ≤ MAX_INPUT
+    → IsMidway signal before now (take MAX_INPUT read) p → p.answers.written.text.items ≡ [] → is_refused p.answers.stage ≡ false
+    → Ends signal ends.ReadFault old left before now
+ends_fault signal None left before now read p took short m empty going = tt
+ends_fault signal (Some bytes) left before now read p took short m empty going = record {
+  read = read;
+  took = took;
+  text = m.put;
+  answered = subst (λ (b : List ℕ). AnswersAll signal (whole_lines b) m.put) (take_all MAX_INPUT read short) (answered_all signal m.put (take MAX_INPUT read) p m.keeps empty going);
+  put = m.puts;
+}
+
+-- too much came
+pub ends_long : (signal : Signal) (old left before now : Option (List ℕ)) (read : List ℕ) (p : Progress) → Takes old left read → MAX_INPUT < length read
+    → IsMidway signal before now (take MAX_INPUT read) p → p.answers.written.text.items ≡ [] → is_refused p.answers.stage ≡ false
+    → Ends signal ends.TooLong old left before now
+ends_long signal None left before now read p took long m empty going = tt
+ends_long signal (Some bytes) left before now read p took long m empty going = record {
+  read = read;
+  took = took;
+  long = long;
+  text = m.put;
+  answered = answered_all signal m.put (take MAX_INPUT read) p m.keeps empty going;
+  put = m.puts;
+}
+
+-- a line was refused
+stopped : (signal : Signal) (put front : List ℕ) (p : Progress) → Keeps signal put front p → p.answers.written.text.items ≡ [] → is_refused p.answers.stage ≡ true
+    → Stops signal (whole_lines front) put
+stopped signal put front p k empty going =
+    let cuts : Cuts signal (is_refused p.answers.stage) (whole_lines front) (put ++ p.answers.written.text.items) =
+    cut_at signal p.answers.stage (whole_lines front) p.answers.lines (put ++ p.answers.written.text.items) p.answers.written.count k.answered in
+    let text : put ++ p.answers.written.text.items ≡ put = ap (λ (r : List ℕ). put ++ r) empty ∙ append-nil put in
+    rw (going, text) at cuts
+
+pub ends_refused : (signal : Signal) (old left before now : Option (List ℕ)) (read : List ℕ) (p : Progress) → Takes old left read
+    → IsMidway signal before now (take MAX_INPUT read) p → p.answers.written.text.items ≡ [] → is_refused p.answers.stage ≡ true
+    → Ends signal ends.Refused old left before now
+ends_refused signal None left before now read p took m empty is = tt
+ends_refused signal (Some bytes) left before now read p took m empty is =
+    let facts = leaves_refused signal MAX_INPUT bytes left before now m.put read took (stopped signal m.put (take MAX_INPUT read) p m.keeps empty is) m.puts in
     record {
-      refused = accepted_as signal (lines_of bytes) text false facts.0;
+      refused = accepted_as signal (lines_of bytes) m.put false facts.0;
       read = read;
       took = took;
       place = inl facts.1;
-      put = puts_output signal before now text bytes false facts.0 put;
+      put = puts_report signal before now m.put bytes false facts.0 m.puts;
     }
-leaves_broken signal false end.Whole bytes left before now text read took short long part cuts put = absurd (part refl)
-leaves_broken signal false end.Fault bytes left before now text read took short long part cuts put = record {
-  read = read;
-  took = took;
-  text = text;
-  answered = subst (λ (b : List ℕ). AnswersAll signal (whole_lines b) text) (take_all MAX_INPUT read (short (λ same. cc))) cuts.0;
-  put = put;
+
+pub refused_at : (signal : Signal) (before now : Streams) (read : List ℕ) (p : Progress) → Takes before.left now.left read
+    → IsMidway signal before.held now.held (take MAX_INPUT read) p → p.answers.written.text.items ≡ [] → is_refused p.answers.stage ≡ true
+    → IsRefusedAt (answered signal) ends.Refused before now
+refused_at signal before now read p took m empty is = λ same.
+    let stops : Stops signal (whole_lines (take MAX_INPUT read)) m.put = stopped signal m.put (take MAX_INPUT read) p m.keeps empty is in (
+      read,
+      took,
+      inl (record {
+        some = stops.some;
+        refused = accepted_as signal (whole_lines (take MAX_INPUT read)) m.put false (stops_end signal (whole_lines (take MAX_INPUT read)) m.put stops);
+      }),
+    )
+
+-- ---- what is made
+
+sum_front : (status : Status) (rounds : ℕ) (before now : Option (List ℕ)) → LeavesSum status rounds before now → PutsFront before now (made_line rounds)
+sum_front ends.Ok rounds before now left = (made_line rounds, ([], sym (append-nil (made_line rounds))), left.1)
+sum_front ends.Usage rounds before now left = absurd left
+sum_front ends.Refused rounds before now left = absurd left
+sum_front ends.ReadFault rounds before now left = absurd left
+sum_front ends.WriteFault rounds before now left = left
+sum_front ends.Memory rounds before now left = ([], (made_line rounds, refl), left)
+sum_front ends.TooLong rounds before now left = absurd left
+
+sum_causes : (status : Status) (rounds : ℕ) (before now : Streams) → LeavesSum status rounds before.held now.held
+    → (status ≡ ends.WriteFault → HasFault before.write_faults now.write_faults) → Causes status before now
+sum_causes ends.Ok rounds before now left fault = tt
+sum_causes ends.Usage rounds before now left fault = absurd left
+sum_causes ends.Refused rounds before now left fault = absurd left
+sum_causes ends.ReadFault rounds before now left fault = absurd left
+sum_causes ends.WriteFault rounds before now left fault = fault refl
+sum_causes ends.Memory rounds before now left fault = tt
+sum_causes ends.TooLong rounds before now left fault = absurd left
+
+-- a summary that was made
+pub carries_made : (rounds : ℕ) (status : Status) (before now : Streams) → LeavesSum status rounds before.held now.held → CompletesSum status before.write_faults now.write_faults
+    → (status ≡ ends.WriteFault → HasFault before.write_faults now.write_faults) → now.ends ≡ before.ends → now.read_faults ≡ before.read_faults
+    → Carries (makes rounds) status before now
+carries_made rounds status before now leaves complete fault met reads = record {
+  does = record { leaves = leaves; front = sum_front status rounds before.held now.held leaves; complete = complete };
+  ended = record {
+    causes = sum_causes status rounds before now leaves fault;
+    over = λ told. (met, reads);
+    end_once = omega (arith, met);
+    usage = λ told. subst (λ (s : Status). LeavesSum s rounds before.held now.held) told leaves;
+  };
 }
-leaves_broken signal false end.TooLong bytes left before now text read took short long part cuts put =
-    record { read = read; took = took; long = long refl; text = text; answered = cuts.0; put = put }
-
--- the text was written whole
-pub written_ends : (signal : Signal) (old left before now : Option (List ℕ)) (ending : End) (answers : Output) (read : List ℕ) → Takes old left read
-    → (ending ≡ end.Whole → IsAtEnd left) → (ending ≢ end.TooLong → length read ≤ MAX_INPUT) → (ending ≡ end.TooLong → MAX_INPUT < length read)
-    → Tells signal ending read answers → Puts before now answers.text.items
-    → IfSome old (λ bytes. Leaves signal (status_of answers.refused ending) bytes left before now)
-written_ends signal None left before now ending answers read took none short long tells put = tt
-written_ends signal (Some bytes) left before now end.Whole answers read took none short long tells put =
-    let same : read ≡ bytes = (all_read bytes left read took (none refl)).1 in
-    leaves_whole signal answers.refused bytes left before now answers.text.items read took (none refl)
-    (subst (λ (b : List ℕ). length b ≤ MAX_INPUT) same (short (λ whole. cc)))
-    (subst (λ (b : List ℕ). report signal b ≡ record { written = answers.text.items; accepted = not answers.refused }) same tells) put
-written_ends signal (Some bytes) left before now end.Fault answers read took none short long tells put =
-    leaves_broken signal answers.refused end.Fault bytes left before now answers.text.items read took short long (λ whole. cc) tells put
-written_ends signal (Some bytes) left before now end.TooLong answers read took none short long tells put =
-    leaves_broken signal answers.refused end.TooLong bytes left before now answers.text.items read took short long (λ whole. cc) tells put
-
--- the first bytes, as many as there are of the longest input
-least_take : (least size most : ℕ) (read : List ℕ) → least ≡ min size most → size ≡ length read → take least read ≡ take most read
-least_take least size most read is all = elim (cases_lt most (length read)) [
-  | inl below ↦ ap (λ (n : ℕ). take n read) (omega (arith, is, all))
-  | inr above ↦ take_all least read (omega (arith, is, all)) ∙ sym (take_all most read above)
-]
-
--- the whole lines of these are the lines that were answered
-pub cut_part : (signal : Signal) (least size : ℕ) (read bytes part : List ℕ) (refused : Bool) (text : List ℕ) → part ≡ whole_part (take least bytes) → bytes ≡ read
-    → least ≡ min size MAX_INPUT → size ≡ length read → Cuts signal refused (lines_of part) text → Cuts signal refused (whole_lines (take MAX_INPUT read)) text
-cut_part signal least size read bytes part refused text parts same is all cuts =
-    let front : part ≡ whole_part (take MAX_INPUT read) =
-    parts ∙ ap (λ (b : List ℕ). whole_part (take least b)) same ∙ ap whole_part (least_take least size MAX_INPUT read is all) in
-    subst (λ (p : List ℕ). Cuts signal refused (lines_of p) text) front cuts
-
-pub cut_tells : (signal : Signal) (ending : End) (read : List ℕ) (answers : Output) → (ending ≡ end.Fault) ⊎ (ending ≡ end.TooLong)
-    → Cuts signal answers.refused (whole_lines (take MAX_INPUT read)) answers.text.items → Tells signal ending read answers
-cut_tells signal ending read answers (inl is) cuts = rw is cuts
-cut_tells signal ending read answers (inr is) cuts = rw is cuts
-
--- ---- valid bytes
-
-completes : (signal : Signal) (status : Status) (old left before now : Option (List ℕ)) (reads reads' writes writes' : ℕ) → Ends signal status old left before now
-    → Causes status reads reads' writes writes' → status ≢ ends.Usage → IfSome old (λ bytes. Completes status bytes reads reads' writes writes')
-completes signal status None left before now reads reads' writes writes' ended causes used = tt
-completes signal ends.Ok (Some bytes) left before now reads reads' writes writes' ended causes used = λ valid quiet still. inl refl
-completes signal ends.Usage (Some bytes) left before now reads reads' writes writes' ended causes used = absurd (used refl)
-completes signal ends.Refused (Some bytes) left before now reads reads' writes writes' ended causes used =
-    λ valid quiet still. let no : true ≡ false = sym valid.accepted ∙ ended.refused in cc
-completes signal ends.ReadFault (Some bytes) left before now reads reads' writes writes' ended causes used =
-    λ valid quiet still. let more : reads < reads' = causes quiet.0 in absurd (omega (arith, quiet.1))
-completes signal ends.WriteFault (Some bytes) left before now reads reads' writes writes' ended causes used =
-    λ valid quiet still. let more : writes < writes' = causes still.0 in absurd (omega (arith, still.1))
-completes signal ends.Memory (Some bytes) left before now reads reads' writes writes' ended causes used = λ valid quiet still. inr refl
-completes signal ends.TooLong (Some bytes) left before now reads reads' writes writes' ended causes used =
-    λ valid quiet still.
-    let size : length bytes ≡ length ended.read + length ended.took.0 = ap length ended.took.2 ∙ length-append ended.read ended.took.0 in
-    absurd (omega (arith, ended.long, valid.short))
-
-completes_sum : (status : Status) (rounds : ℕ) (before now : Option (List ℕ)) (reads reads' writes writes' : ℕ) → LeavesSum status rounds before now
-    → Causes status reads reads' writes writes' → CompletesSum status writes writes'
-completes_sum ends.Ok rounds before now reads reads' writes writes' left causes = λ still. inl refl
-completes_sum ends.Usage rounds before now reads reads' writes writes' left causes = absurd left
-completes_sum ends.Refused rounds before now reads reads' writes writes' left causes = absurd left
-completes_sum ends.ReadFault rounds before now reads reads' writes writes' left causes = absurd left
-completes_sum ends.WriteFault rounds before now reads reads' writes writes' left causes =
-    λ still. let more : writes < writes' = causes still.0 in absurd (omega (arith, still.1))
-completes_sum ends.Memory rounds before now reads reads' writes writes' left causes = λ still. inr refl
-completes_sum ends.TooLong rounds before now reads reads' writes writes' left causes = absurd left
-
--- the same by the command
-pub completes_of : (command : Command) (status : Status) (old left before now : Option (List ℕ)) (reads reads' writes writes' : ℕ) → EndsOf command status old left before now
-    → Causes status reads reads' writes writes' → status ≢ ends.Usage → CompletesOf command status old reads reads' writes writes'
-completes_of (commands.Run signal) status old left before now reads reads' writes writes' ended causes used =
-    completes signal status old left before now reads reads' writes writes' ended causes used
-completes_of (commands.Make rounds) status old left before now reads reads' writes writes' ended causes used =
-    completes_sum status rounds before now reads reads' writes writes' ended.1 causes
-
--- ---- faults
-
--- a fault of the source is told of no other end
-pub fault_of : (refused : Bool) (ending : End) → status_of refused ending ≡ ends.ReadFault → ending ≡ end.Fault
-fault_of true ending told = cc
-fault_of false end.Whole told = cc
-fault_of false end.Fault told = refl
-fault_of false end.TooLong told = cc
-
--- ---- where a refusal is told
-
--- what isn't all of an input and is refused has a refused line
-cut_refused : (signal : Signal) (refused : Bool) (ending : End) (lines : List (List ℕ)) (text : List ℕ) → Cuts signal refused lines text → (ending ≡ end.Whole → ⊥)
-    → status_of refused ending ≡ ends.Refused → HasRefused lines
-cut_refused signal true ending lines text stops part told = record { some = stops.some; refused = accepted_as signal lines text false (stops_end signal lines text stops) }
-cut_refused signal false end.Whole lines text cuts part told = absurd (part refl)
-cut_refused signal false end.Fault lines text cuts part told = absurd cc
-cut_refused signal false end.TooLong lines text cuts part told = absurd cc
-
-pub refused_at : (signal : Signal) (old left : Option (List ℕ)) (met met' : ℕ) (ending : End) (answers : Output) (read : List ℕ) → Takes old left read
-    → (ending ≡ end.Whole → MeetsEnd met met') → Tells signal ending read answers → IsRefusedAt (status_of answers.refused ending) old left met met'
-refused_at signal old left met met' end.Whole answers read took meets tells told = (read, took, inr (meets refl))
-refused_at signal old left met met' end.Fault answers read took meets tells told =
-    (read, took, inl (cut_refused signal answers.refused end.Fault (whole_lines (take MAX_INPUT read)) answers.text.items tells (λ same. cc) told))
-refused_at signal old left met met' end.TooLong answers read took meets tells told =
-    (read, took, inl (cut_refused signal answers.refused end.TooLong (whole_lines (take MAX_INPUT read)) answers.text.items tells (λ same. cc) told))

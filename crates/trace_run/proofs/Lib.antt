@@ -1,5 +1,9 @@
 pub mod StreamsLemmas
 pub mod LinesLemmas
+pub mod ReadingLemmas
+pub mod AllLinesLemmas
 pub mod AnswersLemmas
+pub mod ProgressLemmas
 pub mod EndsLemmas
 pub mod MakingLemmas
+pub mod RenamesLemmas

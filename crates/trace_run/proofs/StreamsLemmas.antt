@@ -2,7 +2,7 @@
 use Rattle.std.proofs.Common.{◌≡◌, ℕ, List, [], ◌++◌, sym, ap, subst, ◌∙◌, append_assoc, take, drop, length, ◌+◌, ◌≤◌, ◌-◌, arith}
 use Rattle.std.specs.Prelude.{Option, Some, None, Result, Ok, Err, OnErr}
 use Rattle.std.proofs.lemmas.List.{append-nil, take-append-drop, drop-take, take-take, take_rest, length-drop}
-use Rattle.trace_run.specs.Streams.{Puts, PutsFront}
+use Rattle.trace_run.specs.Streams.{Takes, Puts, PutsFront}
 
 pub puts_none : (held : Option (List ℕ)) → Puts held held []
 puts_none None = tt
@@ -13,6 +13,17 @@ puts_more None b c x y first second = tt
 puts_more (Some xs) b c x y first second =
     let next : Puts (Some (xs ++ x)) c y = subst (λ (m : Option (List ℕ)). Puts m c y) first second in
     next ∙ ap Some (append_assoc xs x y)
+
+-- some more is taken
+pub takes_more : (a b c : Option (List ℕ)) (x y : List ℕ) → Takes a b x → Takes b c y → Takes a c (x ++ y)
+takes_more None b c x y first second = tt
+takes_more (Some xs) b c x y first second =
+    let next : Takes (Some first.0) c y = subst (λ (m : Option (List ℕ)). Takes m c y) first.1 second in
+    (next.0, next.1, first.2 ∙ ap (λ (r : List ℕ). x ++ r) next.2 ∙ sym (append_assoc x y next.0))
+
+-- nothing more is taken
+pub takes_still : (a b c : Option (List ℕ)) (x : List ℕ) → Takes a b x → Takes b c [] → Takes a c x
+takes_still a b c x first second = subst (λ (r : List ℕ). Takes a c r) (append-nil x) (takes_more a b c x [] first second)
 
 -- the front up to a place, and some of the rest, is the front up to a later place
 take_on : (at n : ℕ) (piece : List ℕ) → take at piece ++ take n (drop at piece) ≡ take (at + n) piece

@@ -22,14 +22,14 @@ pub record IsEmptied (kept : State) : Type 0 where
   pub measures : kept.measures ≡ []
 
 -- Settings came, the pipeline stands for the requests so far, their records and measures are taken, and behind
--- what is written comes the report on the lines that follow.
-pub record Runs (signal : Signal) (lines : List (List ℕ)) (count : ℕ) (kept : State) (written : Written) : Type 0 where
+-- what is written, with so many records or measures, comes the report on the lines that follow.
+pub record Runs (signal : Signal) (lines : List (List ℕ)) (count : ℕ) (kept : State) (text : List ℕ) (tally : ℕ) : Type 0 where
   pub history : History
   pub some : are_blank lines ≡ false
   pub stands : StandsFor kept (tables kept.setup history)
   pub taken : IsEmptied kept
   pub report_is : (more : List (List ℕ)) → report_from signal 0 (lines ++ more)
-      ≡ behind written.text.items (report_on signal kept.setup history count written.count more)
+      ≡ behind text (report_on signal kept.setup history count tally more)
 
 -- what is kept beside the records and the measures that are to be taken
 abbrev pub without_taken : State → State
@@ -45,10 +45,10 @@ pub record IsAnswered (signal : Signal) (line : ℕ) (reply : Reply) (old new : 
   pub state : without_taken new ≡ without_taken old
 
 -- all lines are blank, and nothing is written
-pub record Opens (signal : Signal) (lines : List (List ℕ)) (count : ℕ) (written : Written) : Type 0 where
+pub record Opens (signal : Signal) (lines : List (List ℕ)) (count : ℕ) (text : List ℕ) (tally : ℕ) : Type 0 where
   pub blank : are_blank lines ≡ true
-  pub empty : written.text.items ≡ []
-  pub none : written.count ≡ 0
+  pub empty : text ≡ []
+  pub none : tally ≡ 0
   pub report_is : (more : List (List ℕ)) → report_from signal 0 (lines ++ more) ≡ report_from signal count more
 
 -- a line is refused, and its refusal line is the last of the text
@@ -57,19 +57,20 @@ pub record Stops (signal : Signal) (lines : List (List ℕ)) (text : List ℕ) :
   pub report_is : (more : List (List ℕ))
       → report_from signal 0 (lines ++ more) ≡ record { written = text; accepted = false }
 
-abbrev pub AnswersAt : Signal → Stage → List (List ℕ) → ℕ → Written → Type 0
-AnswersAt signal stage.Opening lines count written = Opens signal lines count written
-AnswersAt signal (stage.Running pipeline) lines count written = Runs signal lines count pipeline written
-AnswersAt signal stage.Refused lines count written = Stops signal lines written.text.items
+abbrev pub AnswersAt : Signal → Stage → List (List ℕ) → ℕ → List ℕ → ℕ → Type 0
+AnswersAt signal stage.Opening lines count text tally = Opens signal lines count text tally
+AnswersAt signal (stage.Running pipeline) lines count text tally = Runs signal lines count pipeline text tally
+AnswersAt signal stage.Refused lines count text tally = Stops signal lines text
 
 -- how a run stands behind a request, by whether it was served
-abbrev pub Goes : Signal → Bool → List (List ℕ) → ℕ → State → Written → Type 0
-Goes signal true lines count kept written = Runs signal lines count kept written
-Goes signal false lines count kept written = Stops signal lines written.text.items
+abbrev pub Goes : Signal → Bool → List (List ℕ) → ℕ → State → List ℕ → ℕ → Type 0
+Goes signal true lines count kept text tally = Runs signal lines count kept text tally
+Goes signal false lines count kept text tally = Stops signal lines text
 
--- the answers to these lines
-abbrev pub AnswersTo : Signal → List (List ℕ) → Answers → Type 0
-AnswersTo signal lines answers = AnswersAt signal answers.stage lines answers.lines answers.written
+-- the answers to these lines, of which this text was put before
+abbrev pub AnswersTo : Signal → List ℕ → List (List ℕ) → Answers → Type 0
+AnswersTo signal put lines answers =
+    AnswersAt signal answers.stage lines answers.lines (put ++ answers.written.text.items) answers.written.count
 
 abbrev pub is_refused : Stage → Bool
 is_refused stage.Opening = false

@@ -1,6 +1,5 @@
--- What a run of the script that is made for a number came to.
-use Rattle.std.specs.Prelude.{◌≡◌, ℕ, ◌+◌, List, [], ◌++◌, length, Option, Some, None}
-use Rattle.std.proofs.Common.{◌⊎◌}
+-- How the run of the script that is made for a number is summed up.
+use Rattle.std.specs.Prelude.{◌≡◌, ℕ, ◌+◌, List, [], ◌++◌, length, Some}
 use Rattle.std.specs.List.{sum_by}
 use Rattle.otel_base.specs.declared.record.Record.{Record}
 use Rattle.span_script.specs.declared.request.Request.{Request}
@@ -8,38 +7,11 @@ use Rattle.span_script.specs.Tables.{History, tables}
 use Rattle.span_script.specs.Fits.{State, StandsFor}
 use Rattle.span_script.specs.Outcomes.{records}
 use Rattle.trace_pipeline.specs.Generated.{made_setup, made_requests, made_script}
-use Rattle.trace_pipeline.specs.Replay.{replayed, busy_of, events_of, summary_of, summary_text}
+use Rattle.trace_pipeline.specs.Replay.{replayed, busy_of, events_of, summary_of}
 use Rattle.trace_pipeline.specs.Report.{IsValid}
 use Rattle.trace_pipeline.specs.declared.write.summary.Summary.{Summary}
-use Rattle.trace_run.specs.Streams.{IsQuiet, Puts, PutsFront}
+use Rattle.trace_run.specs.Commands.Make.{made_line}
 use Rattle.trace_run.specs.declared.make.Totals.{Totals}
-use Rattle.trace_run.specs.declared.status.Status.{Status}
-use Rattle.trace_run.specs.declared.status.Status.TheVariants as ends
-
--- the line of what a history comes to, if it is there
-abbrev pub line_if : Option History → List ℕ
-line_if None = []
-line_if (Some h) = summary_text (summary_of made_setup h)
-
--- the summary of the script of so many rounds
-abbrev pub made_line : ℕ → List ℕ
-made_line rounds = line_if (replayed made_setup [] (made_requests rounds))
-
--- What is left in a sink at each status: the whole line, the script being valid, a front of it, or nothing.
-abbrev pub LeavesSum : Status → ℕ → Option (List ℕ) → Option (List ℕ) → Type 0
-LeavesSum ends.Ok rounds before now = IsValid (made_script rounds) × Puts before now (made_line rounds)
-LeavesSum ends.Usage rounds before now = ⊥
-LeavesSum ends.Refused rounds before now = ⊥
-LeavesSum ends.ReadFault rounds before now = ⊥
-LeavesSum ends.WriteFault rounds before now = PutsFront before now (made_line rounds)
-LeavesSum ends.Memory rounds before now = Puts before now []
-LeavesSum ends.TooLong rounds before now = ⊥
-
--- With no fault of the sink the line is written, unless memory wants.
-abbrev pub CompletesSum : Status → ℕ → ℕ → Type 0
-CompletesSum status writes writes' = IsQuiet writes writes' → (status ≡ ends.Ok) ⊎ (status ≡ ends.Memory)
-
--- ---- inner
 
 -- The script is valid, each of its requests has an effect, and a summary is that of these effects.
 pub record SumsUp (rounds : ℕ) (summary : Summary) : Type 0 where

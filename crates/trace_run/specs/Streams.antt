@@ -41,6 +41,27 @@ StopsReading faults remaining old new = (first : _) × (faults first ≡ faults 
 abbrev pub StopsWriting : {W : Type 0} → (W → ℕ) → (W → Option (List ℕ)) → W → W → Type 0
 StopsWriting faults holds old new = (first : _) × (faults first ≡ faults old) × Puts (holds first) (holds new) []
 
+-- ---- a source and a sink beside each other
+
+-- What is seen of a source and a sink: the bytes left and the bytes held, where they are told, and how many ends were met,
+-- reads failed and writes failed.
+pub record Streams : Type 0 where
+  pub left : Option (List ℕ)
+  pub ends : ℕ
+  pub read_faults : ℕ
+  pub held : Option (List ℕ)
+  pub write_faults : ℕ
+
+-- what is seen of these two, by the ghost members of their types
+abbrev pub seen : {R W : Type 0} → (R → Option (List ℕ)) → (R → ℕ) → (R → ℕ) → (W → Option (List ℕ)) → (W → ℕ) → R → W → Streams
+seen remaining ends faults holds failed source sink = record {
+  left = remaining source;
+  ends = ends source;
+  read_faults = faults source;
+  held = holds sink;
+  write_faults = failed sink;
+}
+
 -- ---- sources and sinks in memory
 
 -- the turn of the next call: one with no turn may move all that it can

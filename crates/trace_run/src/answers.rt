@@ -1,11 +1,11 @@
 //! Answering lines one after another, whichever lines follow them.
-ghost use Rattle.std.specs.Prelude.{◌≡◌, ◌≢◌, ℕ, List, [], ◌∷◌, ◌++◌, ◌+◌, not, false, true, IfOk, IfErr, OnOk, OnErr};
-ghost use Rattle.trace_pipeline.specs.Lines.{lines_of, is_blank};
+ghost use Rattle.std.specs.Prelude.{◌≡◌, ◌≢◌, ℕ, List, [], ◌∷◌, ◌++◌, ◌+◌, false, true, IfOk, IfErr, OnOk, OnErr};
+ghost use Rattle.trace_pipeline.specs.Lines.{is_blank};
 ghost use Rattle.trace_pipeline.specs.Report.{report_from};
 ghost use Rattle.span_script.specs.Fits.{is_room};
-ghost use Rattle.trace_run.specs.Answers.{IsSpelled, Opens, Runs, AnswersAt, Goes, AnswersTo, Cuts, is_refused};
+ghost use Rattle.trace_run.specs.Answers.{IsSpelled, Opens, Runs, AnswersAt, Goes, AnswersTo, is_refused};
 
-use crate::lines::{first_line, is_blank};
+use crate::lines::is_blank;
 use crate::written::Written;
 use otel_base::memory::Memory;
 use span_pipeline::pipeline::Pipeline;
@@ -65,19 +65,12 @@ fn go_on(stage: &mut Stage, next: Stage)
     mem::replace(stage, next).discard();
 }
 
-/// All that is written for an input.
-#[derive(Drop)]
-pub struct Output {
-    /// The lines, each with its line feed.
-    pub text: Vec<u8>,
-    /// Whether the last of them is a refusal line.
-    pub refused: bool,
-}
-
 impl Answers {
     /// The answers to no line, whatever is told.
     pub fn new(alloc: Global) -> Answers
-        ensures { (signal : Signal) → AnswersTo signal [] result }
+        ensures answers { (signal : Signal) → AnswersTo signal [] [] result }
+        ensures text { result.written.text.items ≡ [] }
+        ensures going { is_refused result.stage ≡ false }
     {
         Answers {
             written: Written::new(alloc),
@@ -89,8 +82,8 @@ impl Answers {
     /// Answers one line more. Behind a refused line nothing is written. `Memory` freely; what is left then answers
     /// no lines.
     pub fn line(&mut self, alloc: Global, signal: Signal, line: &[u8]) -> Result<(), Memory>
-        ensures { (lines : List (List ℕ)) → AnswersTo signal lines self.old
-            → OnOk result (AnswersTo signal (lines ++ line.now ∷ []) self.new) }
+        ensures { (put : List ℕ) (lines : List (List ℕ)) → AnswersTo signal put lines self.old
+            → OnOk result (AnswersTo signal put (lines ++ line.now ∷ []) self.new) }
     {
         // No input has so many lines that the sum wraps.
         let number = self.lines.checked_add(1).ok_or(Memory)?;
@@ -125,74 +118,28 @@ impl Answers {
         }
     }
 
-    /// All that is written where no line follows: the end line comes last, or the refusal of an input without
-    /// a settings line. `Memory` freely.
-    pub fn end(self, alloc: Global, signal: Signal) -> Result<Output, Memory>
-        ensures { (lines : List (List ℕ)) → AnswersTo signal lines self
-            → IfOk result (λ output. report_from signal 0 lines
-            ≡ record { written = output.text.items; accepted = not output.refused }) }
+    /// Answers that no line follows: the end line comes last, or the refusal of an input without a settings line.
+    /// Whether the lines are accepted is told. `Memory` freely.
+    pub fn end(&mut self, alloc: Global, signal: Signal) -> Result<bool, Memory>
+        ensures { (put : List ℕ) (lines : List (List ℕ)) → AnswersTo signal put lines self.old
+            → IfOk result (λ accepted. report_from signal 0 lines
+            ≡ record { written = put ++ self.new.written.text.items; accepted = accepted }) }
     {
-        let Answers {
-            mut written,
-            lines,
-            stage,
-        } = self;
-        match stage {
+        match &self.stage {
             Stage::Opening => {
                 // No input has so many lines that the sum wraps.
-                let end = lines.checked_add(1).ok_or(Memory)?;
-                written.refuse(alloc, end, &Told::BadLine)?;
-                let text = written.text;
-                let refused = true;
-                Ok(Output { text, refused })
+                let end = self.lines.checked_add(1).ok_or(Memory)?;
+                self.written.refuse(alloc, end, &Told::BadLine)?;
+                Ok(false)
             }
             Stage::Running { pipeline } => {
                 let spans = pipeline.open_spans();
-                pipeline.discard();
-                let text = written.end(signal, spans)?;
-                let refused = false;
-                Ok(Output { text, refused })
+                self.written.end(alloc, signal, spans)?;
+                Ok(true)
             }
-            Stage::Refused => {
-                let text = written.text;
-                let refused = true;
-                Ok(Output { text, refused })
-            }
+            Stage::Refused => Ok(false),
         }
     }
-
-    /// All that is written where nothing is known of the lines that follow.
-    pub fn cut(self) -> Output
-        ensures { (signal : Signal) (lines : List (List ℕ)) → AnswersTo signal lines self
-            → Cuts signal result.refused lines result.text.items }
-    {
-        let refused = self.is_refused();
-        let Answers {
-            written,
-            lines: _,
-            stage,
-        } = self;
-        stage.discard();
-        let text = written.text;
-        Output { text, refused }
-    }
-}
-
-/// The answers to the lines of some bytes. `Memory` freely.
-pub fn answer_lines(alloc: Global, signal: Signal, bytes: &[u8]) -> Result<Answers, Memory>
-    ensures { IfOk result (λ answers. AnswersTo signal (lines_of bytes.now) answers) }
-{
-    let mut answers = Answers::new(alloc);
-    let mut rest = bytes;
-    while !rest.is_empty() && !answers.is_refused() {
-        let (line, after) = first_line(rest);
-        if answers.line(alloc, signal, line).is_err() {
-            answers.discard();
-            return Err(Memory);
-        }
-        rest = after;
-    }
-    Ok(answers)
 }
 
 /// Opens the run at the first line that isn't blank, and tells where it stands then.
@@ -203,9 +150,11 @@ pub fn open(
     lines: u64,
     line: &[u8],
 ) -> Result<Stage, Memory>
-    ensures { (before : List (List ℕ)) (count : ℕ) → Opens signal before count written.old → lines ≡ count + 1
+    ensures { (put : List ℕ) (before : List (List ℕ)) (count : ℕ)
+        → Opens signal before count (put ++ written.old.text.items) written.old.count → lines ≡ count + 1
         → is_blank line.now ≡ false
-        → IfOk result (λ stage. AnswersAt signal stage (before ++ line.now ∷ []) lines written.new) }
+        → IfOk result (λ stage. AnswersAt signal stage (before ++ line.now ∷ []) lines
+        (put ++ written.new.text.items) written.new.count) }
 {
     let settings = match spelled(read_settings(alloc, line))? {
         Ok(settings) => settings,
@@ -233,9 +182,11 @@ pub fn answer(
     lines: u64,
     line: &[u8],
 ) -> Result<bool, Memory>
-    ensures { (before : List (List ℕ)) (count : ℕ) → Runs signal before count pipeline.old written.old
+    ensures { (put : List ℕ) (before : List (List ℕ)) (count : ℕ)
+        → Runs signal before count pipeline.old (put ++ written.old.text.items) written.old.count
         → lines ≡ count + 1 → is_blank line.now ≡ false
-        → IfOk result (λ served. Goes signal served (before ++ line.now ∷ []) lines pipeline.new written.new) }
+        → IfOk result (λ served. Goes signal served (before ++ line.now ∷ []) lines pipeline.new
+        (put ++ written.new.text.items) written.new.count) }
 {
     let request = match spelled(read_request(alloc, line))? {
         Ok(request) => request,

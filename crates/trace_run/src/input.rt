@@ -1,4 +1,4 @@
-//! The input of a run, which is read before its first line is handled.
+//! Reading an input whole, which a command does that handles no line before the last has come.
 ghost use Rattle.std.specs.Prelude.{◌≡◌, ◌≢◌, ◌+◌, ◌<◌, ◌≤◌, length, IfOk, vec_len};
 ghost use Rattle.std.specs.Io.KnownBytes.{IsAtEnd};
 ghost use Rattle.trace_run.specs.Streams.{HasFault, MeetsEnd, Takes, StopsReading};
@@ -9,8 +9,8 @@ use otel_base::memory::Memory;
 use std::alloc::{AllocError, Global};
 use trace_pipeline::limits::MAX_INPUT;
 
-// How many bytes are asked for at once.
-const BLOCK: usize = 65_536;
+/// How many bytes are asked for at once.
+pub const BLOCK: usize = 65_536;
 
 /// How the reading of an input ended.
 #[derive(Clone, Copy, Debug, PartialEq, Eq)]
@@ -70,8 +70,8 @@ pub fn read_all<R: Source>(alloc: Global, source: &mut R) -> Result<Input, Memor
     Ok(Input { bytes, end })
 }
 
-// So many zeros.
-fn zeros(alloc: Global, size: usize) -> Result<Vec<u8>, AllocError>
+/// So many zeros.
+pub fn zeros(alloc: Global, size: usize) -> Result<Vec<u8>, AllocError>
     ensures { IfOk result (λ room. vec_len room ≡ size) }
 {
     vec![in alloc; 0u8; size]

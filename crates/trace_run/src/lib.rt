@@ -4,11 +4,14 @@
 //! `top` is what the program carries out; sources and sinks in memory stand in for its streams in tests.
 #![tactic(auto)]
 
+pub mod all_lines;
 pub mod answers;
 pub mod failed;
-mod input;
-mod lines;
+pub mod input;
+pub mod lines;
 mod make;
+pub mod progress;
+mod run;
 pub mod script;
 pub mod sink;
 pub mod source;
@@ -17,6 +20,7 @@ pub mod top;
 pub mod turns;
 pub mod written;
 
+pub use all_lines::{AllLines, Answer, answer_all};
 pub use sink::{MemSink, Sink, StdSink, SureSink};
 pub use source::{MemSource, Source, StdSource, SureSource};
 pub use status::Status;

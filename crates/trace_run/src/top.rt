@@ -1,8 +1,9 @@
 //! The entry point of the program, over any source and any sink.
-ghost use Rattle.std.specs.Prelude.{◌≡◌, ◌+◌, ◌≤◌, [], ◌∷◌, map, None, IfSome, option_map, string_bytes};
-ghost use Rattle.trace_run.specs.Commands.{EndsOf, FrontOf, CompletesOf, MeetsEndOf, RefusesOf};
-ghost use Rattle.trace_run.specs.Streams.{StopsReading, StopsWriting};
-ghost use Rattle.trace_run.specs.Ends.{Causes, IsOver};
+ghost use Rattle.std.specs.Prelude.{◌≡◌, ◌↔◌, [], ◌∷◌, map, false, None, IfSome, option_map, string_bytes};
+ghost use Rattle.trace_run.specs.Carries.{Carries};
+ghost use Rattle.trace_run.specs.Commands.{meaning_of};
+ghost use Rattle.trace_run.specs.Renames.{RenamesIds};
+ghost use Rattle.trace_run.specs.Streams.{StopsReading, StopsWriting, seen};
 ghost use Rattle.trace_run.specs.declared.script.Command.TheVariants.{Make};
 ghost use Rattle.trace_run.specs.Words.{command_of, rounds_of};
 
@@ -26,26 +27,19 @@ pub fn top<H: Threads + Wait + Sync, R: Source, W: Sink>(
     source: &mut R,
     sink: &mut W,
 ) -> Status
-    ensures usage { command_of (map string_bytes words.now) ≡ None → result ≡ Status.Usage }
-    ensures only_usage { result ≡ Status.Usage → command_of (map string_bytes words.now) ≡ None }
+    ensures usage { (result ≡ Status.Usage) ↔ (command_of (map string_bytes words.now) ≡ None) }
     ensures usage_leaves { result ≡ Status.Usage → (source.new ≡ source.old) × (sink.new ≡ sink.old) }
-    ensures ends { IfSome (command_of (map string_bytes words.now)) (λ command. EndsOf command result
-        (R.remaining source.old) (R.remaining source.new) (W.holds sink.old) (W.holds sink.new)) }
-    ensures causes { Causes result
-        (R.faults source.old) (R.faults source.new) (W.faults sink.old) (W.faults sink.new) }
-    ensures front { IfSome (command_of (map string_bytes words.now)) (λ command.
-        FrontOf command (R.remaining source.old) (W.holds sink.old) (W.holds sink.new)) }
+    ensures carries { let at = seen R.remaining R.ends R.faults W.holds W.faults in
+        IfSome (command_of (map string_bytes words.now)) (λ command.
+        Carries (meaning_of command) result (at source.old sink.old) (at source.new sink.new)) }
+    ensures renames { let at = seen R.remaining R.ends R.faults W.holds W.faults in
+        IfSome (command_of (map string_bytes words.now)) (λ command.
+        RenamesIds command result (at source.old sink.old) (at source.new sink.new)) }
+    // A command that reads nothing doesn't touch the source, told or not.
+    ensures unread { IfSome (command_of (map string_bytes words.now)) (λ command.
+        (meaning_of command).reads ≡ false → source.new ≡ source.old) }
     ensures read_stops { result ≡ Status.ReadFault → StopsReading R.faults R.remaining source.old source.new }
-    ensures refused { IfSome (command_of (map string_bytes words.now)) (λ command. RefusesOf command result
-        (R.remaining source.old) (R.remaining source.new) (R.ends source.old) (R.ends source.new)) }
-    ensures met { IfSome (command_of (map string_bytes words.now)) (λ command.
-        MeetsEndOf command result (R.ends source.old) (R.ends source.new)) }
-    ensures over { IsOver result (R.ends source.old) (R.ends source.new) (R.faults source.old) (R.faults source.new) }
-    ensures end_once { R.ends source.new ≤ R.ends source.old + 1 }
     ensures write_stops { result ≡ Status.WriteFault → StopsWriting W.faults W.holds sink.old sink.new }
-    ensures complete { IfSome (command_of (map string_bytes words.now)) (λ command.
-        CompletesOf command result (R.remaining source.old)
-        (R.faults source.old) (R.faults source.new) (W.faults sink.old) (W.faults sink.new)) }
 {
     match command_of(words) {
         Some(command) => run_script(alloc, command, source, sink),

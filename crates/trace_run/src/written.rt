@@ -1,9 +1,12 @@
 //! What a run writes, line by line.
-ghost use Rattle.std.specs.Prelude.{◌≡◌, ◌≢◌, ◌++◌, ◌+◌, [], length, IfOk, OnOk};
+ghost use Rattle.std.specs.Prelude.{◌≡◌, ◌≢◌, ◌++◌, ◌+◌, ◌≤◌, [], length, OnOk, OnErr};
 ghost use Rattle.trace_pipeline.specs.Report.{record_lines, measure_lines, last_text};
 ghost use Rattle.trace_pipeline.specs.Texts.{reply_text, refusal_text};
 ghost use Rattle.trace_run.specs.Answers.{IsAnswered, without_taken};
+ghost use Rattle.trace_run.specs.Streams.{HasFault, Puts, PutsFront, StopsWriting};
 
+use crate::failed::Failed;
+use crate::sink::{Sink, write_all};
 use otel_base::memory::Memory;
 use span_pipeline::pipeline::Pipeline;
 use std::alloc::Global;
@@ -123,15 +126,33 @@ impl Written {
         Ok(())
     }
 
-    /// All that is written, with the end line, for a run that leaves so many spans open.
-    pub fn end(self, signal: Signal, spans: u64) -> Result<Vec<u8>, Memory>
-        ensures { IfOk result (λ text. text.items ≡ self.text.items ++ last_text signal spans self.count) }
+    /// Writes the end line, for a run that leaves so many spans open.
+    pub fn end(&mut self, alloc: Global, signal: Signal, spans: u64) -> Result<(), Memory>
+        ensures { OnOk result (
+            self.new.text.items ≡ self.old.text.items ++ last_text signal spans self.old.count) }
     {
-        let Written { text, count } = self;
-        match signal {
-            Signal::Traces => append_end(text, spans, count),
-            Signal::Metrics => append_measures_end(text, count),
-        }
+        let text = mem::replace(&mut self.text, Vec::new(alloc));
+        self.text = match signal {
+            Signal::Traces => append_end(text, spans, self.count)?,
+            Signal::Metrics => append_measures_end(text, self.count)?,
+        };
+        Ok(())
+    }
+
+    /// Hands what is written to the sink, and begins anew behind it. Where that fails, the sink has a front of it.
+    pub fn flush<W: Sink>(&mut self, sink: &mut W) -> Result<(), Failed>
+        ensures ok { OnOk result (Puts (W.holds sink.old) (W.holds sink.new) self.old.text.items) }
+        ensures err { OnErr result (PutsFront (W.holds sink.old) (W.holds sink.new) self.old.text.items) }
+        ensures empty { OnOk result (self.new.text.items ≡ []) }
+        ensures told { self.new.count ≡ self.old.count }
+        ensures sure { OnOk result (W.faults sink.new ≡ W.faults sink.old) }
+        ensures count { W.faults sink.old ≤ W.faults sink.new }
+        ensures cause { OnErr result (HasFault (W.faults sink.old) (W.faults sink.new)) }
+        ensures stops { OnErr result (StopsWriting W.faults W.holds sink.old sink.new) }
+    {
+        write_all(sink, self.text.as_slice())?;
+        self.text.clear();
+        Ok(())
     }
 }
 

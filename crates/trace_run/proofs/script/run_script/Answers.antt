@@ -1,10 +1,22 @@
-use Rattle.std.proofs.Common.{rules}
-use Rattle.trace_run.specs.Commands.{EndsOf}
-use Rattle.trace_run.proofs.EndsLemmas.{completes_of}
+use Rattle.std.proofs.Common.{refl}
+use Rattle.trace_run.specs.Streams.{Streams, seen}
+use Rattle.trace_run.proofs.EndsLemmas.{carries_made}
+use Rattle.trace_run.proofs.RenamesLemmas.{renames_ids}
+use Rattle.trace_run.specs.declared.script.Command.TheVariants as command
 use Rattle.trace_run.proofs.script.run_script.Goals as goal
 
-pub returns-in-Ok-clause-complete : goal.returns-in-Ok-clause-complete
-returns-in-Ok-clause-complete g c =
-    let ended : EndsOf c.args.command c.in-Ok.status (g.R.Source.remaining c.args.source.now) (g.R.Source.remaining c.run.new.source)
-    (g.W.Sink.holds c.args.sink.now) (g.W.Sink.holds c.run.new.sink) = search rules in
-    completes_of c.args.command c.in-Ok.status _ _ _ _ _ _ _ _ ended c.in-Ok.ensures.causes c.in-Ok.ensures.other.0
+pub returns-in-Make-clause-carries : goal.returns-in-Make-clause-carries
+returns-in-Make-clause-carries g c =
+    let before : Streams = seen g.R.Source.remaining g.R.Source.ends g.R.Source.faults g.W.Sink.holds g.W.Sink.faults c.args.source.now c.args.sink.now in
+    let now : Streams = seen g.R.Source.remaining g.R.Source.ends g.R.Source.faults g.W.Sink.holds g.W.Sink.faults c.args.source.now c.make.new.sink in
+    rw c.in-Make.is
+    (carries_made c.in-Make.rounds c.make.result before now c.make.ensures.leaves c.make.ensures.complete c.make.ensures.cause refl refl)
+
+pub returns-in-Run-clause-renames : goal.returns-in-Run-clause-renames
+returns-in-Run-clause-renames g c =
+    let before : Streams = seen g.R.Source.remaining g.R.Source.ends g.R.Source.faults g.W.Sink.holds g.W.Sink.faults c.args.source.now c.args.sink.now in
+    let now : Streams = seen g.R.Source.remaining g.R.Source.ends g.R.Source.faults g.W.Sink.holds g.W.Sink.faults c.run.new.source c.run.new.sink in
+    rw c.in-Run.is (renames_ids (command.Run c.in-Run.signal) c.run.result before now c.run.ensures.carries)
+
+pub returns-in-Make-clause-renames : goal.returns-in-Make-clause-renames
+returns-in-Make-clause-renames g c = rw c.in-Make.is (λ is. absurd (cc is))

@@ -1,0 +1,29 @@
+-- Where spans start early, what `run` writes is the text of the same script without that, with other ids.
+use Rattle.std.proofs.Common.{◌≡◌, ℕ, List, Option, Some, None, sym, subst}
+use Rattle.std.specs.Prelude.{IfSome}
+use Rattle.trace_eager.specs.Renamed.{IsRenamed}
+use Rattle.trace_eager.proofs.RenamedLemmas.{is_renamed}
+use Rattle.trace_pipeline.specs.Lines.{lines_of}
+use Rattle.trace_pipeline.specs.declared.signal.Signal.TheVariants as signal
+use Rattle.trace_run.specs.Carries.{Carries}
+use Rattle.trace_run.specs.Commands.{meaning_of}
+use Rattle.trace_run.specs.Commands.Run.{answered, runs}
+use Rattle.trace_run.specs.Reading.{Leaves}
+use Rattle.trace_run.specs.Renames.{RenamesIds}
+use Rattle.trace_run.specs.Streams.{Streams, Puts}
+use Rattle.trace_run.specs.declared.script.Command.{Command}
+use Rattle.trace_run.specs.declared.status.Status.{Status}
+use Rattle.trace_run.specs.declared.status.Status.TheVariants as ends
+
+by_left : (before now : Streams) (left : Option (List ℕ)) → IfSome left (λ bytes. Leaves (answered signal.Traces) ends.Ok bytes now.left before.held now.held)
+    → IfSome left (λ bytes. (text : List ℕ) × IsRenamed (lines_of bytes) text × Puts before.held now.held text)
+by_left before now None leaves = tt
+by_left before now (Some bytes) leaves =
+    let put = leaves.2 in
+    (put.0, subst (IsRenamed (lines_of bytes)) (sym put.1) (is_renamed (lines_of bytes) leaves.0.accepted), put.2)
+
+pub renames_ids : (asked : Command) (status : Status) (before now : Streams) → Carries (meaning_of asked) status before now → RenamesIds asked status before now
+renames_ids asked status before now carries is ok =
+    let run = subst (λ (a : Command). Carries (meaning_of a) status before now) is carries in
+    let done = subst (λ (s : Status). Carries (runs signal.Traces) s before now) ok run in
+    by_left before now before.left done.does.leaves

@@ -1,0 +1,44 @@
+-- What `make` does: it runs the script that is made for a number, and writes what that came to.
+use Rattle.std.specs.Prelude.{◌≡◌, ℕ, ◌≤◌, List, [], Option, Some, None, false}
+use Rattle.std.proofs.Common.{◌⊎◌}
+use Rattle.span_script.specs.Tables.{History}
+use Rattle.trace_pipeline.specs.declared.generated.TheConstants.{MOST_ROUNDS}
+use Rattle.trace_pipeline.specs.Generated.{made_setup, made_requests, made_script}
+use Rattle.trace_pipeline.specs.Replay.{replayed, summary_of, summary_text}
+use Rattle.trace_pipeline.specs.Report.{IsValid}
+use Rattle.trace_run.specs.Meaning.{Meaning}
+use Rattle.trace_run.specs.Streams.{Streams, IsQuiet, Puts, PutsFront}
+use Rattle.trace_run.specs.declared.status.Status.{Status}
+use Rattle.trace_run.specs.declared.status.Status.TheVariants as ends
+
+-- the line of what a history comes to, if it is there
+abbrev pub line_if : Option History → List ℕ
+line_if None = []
+line_if (Some h) = summary_text (summary_of made_setup h)
+
+-- the summary of the script of so many rounds
+abbrev pub made_line : ℕ → List ℕ
+made_line rounds = line_if (replayed made_setup [] (made_requests rounds))
+
+-- What is left in a sink at each status: the whole line, the script being valid, a front of it, or nothing.
+abbrev pub LeavesSum : Status → ℕ → Option (List ℕ) → Option (List ℕ) → Type 0
+LeavesSum ends.Ok rounds before now = IsValid (made_script rounds) × Puts before now (made_line rounds)
+LeavesSum ends.Usage rounds before now = ⊥
+LeavesSum ends.Refused rounds before now = ⊥
+LeavesSum ends.ReadFault rounds before now = ⊥
+LeavesSum ends.WriteFault rounds before now = PutsFront before now (made_line rounds)
+LeavesSum ends.Memory rounds before now = Puts before now []
+LeavesSum ends.TooLong rounds before now = ⊥
+
+-- With no fault of the sink the line is written, unless memory wants.
+abbrev pub CompletesSum : Status → ℕ → ℕ → Type 0
+CompletesSum status writes writes' = IsQuiet writes writes' → (status ≡ ends.Ok) ⊎ (status ≡ ends.Memory)
+
+-- A summary was made and written, and nothing was read.
+pub record MakesSum (rounds : ℕ) (status : Status) (before now : Streams) : Type 0 where
+  pub leaves : LeavesSum status rounds before.held now.held
+  pub front : PutsFront before.held now.held (made_line rounds)
+  pub complete : CompletesSum status before.write_faults now.write_faults
+
+abbrev pub makes : ℕ → Meaning
+makes rounds = record { IsPossible = rounds ≤ MOST_ROUNDS; reads = false; Does = MakesSum rounds }

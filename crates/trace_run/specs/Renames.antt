@@ -1,0 +1,16 @@
+-- What `run` writes where spans start early.
+use Rattle.std.specs.Prelude.{◌≡◌, ℕ, List, IfSome}
+use Rattle.trace_eager.specs.Renamed.{IsRenamed}
+use Rattle.trace_pipeline.specs.Lines.{lines_of}
+use Rattle.trace_pipeline.specs.declared.signal.Signal.TheVariants as signal
+use Rattle.trace_run.specs.Streams.{Streams, Puts}
+use Rattle.trace_run.specs.declared.script.Command.{Command}
+use Rattle.trace_run.specs.declared.script.Command.TheVariants as command
+use Rattle.trace_run.specs.declared.status.Status.{Status}
+use Rattle.trace_run.specs.declared.status.Status.TheVariants as ends
+
+-- On Ok of `run` the sink gained a text that is, where spans start early and that changes ids alone, the one of the same
+-- script without that, with each id replaced by the number of its span's making.
+abbrev pub RenamesIds : Command → Status → Streams → Streams → Type 0
+RenamesIds asked status before now = asked ≡ command.Run signal.Traces → status ≡ ends.Ok
+    → IfSome before.left (λ bytes. (text : List ℕ) × IsRenamed (lines_of bytes) text × Puts before.held now.held text)
