@@ -1,0 +1,66 @@
+-- The filter of a text, and its gate with a list of levels.
+use Rattle.std.specs.Prelude.{◌≡◌, ℕ, ◌==◌, ◌||◌, ◌&&◌, if◌then◌else◌, Bool, false, List, [], ◌∷◌, flat_map, Result, Ok, Err}
+use Rattle.std.specs.List.{list_any}
+use Rattle.std.specs.Str.{trim}
+use Rattle.trace_base.specs.declared.callsite.Callsite.{Callsite}
+use Rattle.trace_base.specs.declared.level.Level.{Level}
+use Rattle.trace_base.specs.declared.level.LevelFilter.{LevelFilter}
+use Rattle.trace_base.specs.Level.{is_within}
+use Rattle.env_directives.specs.declared.directive.ParseError.{ParseError}
+use Rattle.env_directives.specs.declared.env.directive.Directive.{Directive}
+use Rattle.env_directives.specs.Choice.{admits}
+use Rattle.env_directives.specs.Reading.{Read, reading}
+use Rattle.env_directives.specs.Separators.{comma_pieces}
+use Rattle.env_filter.specs.Building.{filter_by}
+use Rattle.env_filter.specs.Filtering.{Filtered, Filtering, plain, IsNew, is_cared, hint_in}
+use Rattle.env_filter.specs.Pieces.{ReadsText, IsFirstFault}
+use Rattle.env_filter.specs.Printing.{fixed_builder}
+use Rattle.event_gate.specs.declared.error.GateError.{GateError}
+use Rattle.event_gate.specs.declared.error.GateError.TheVariants as error
+use Rattle.event_gate.specs.declared.levels.Levels.{Levels}
+
+-- the directive that was read, if one was
+abbrev pub directive_read : Read → List Directive
+directive_read (Ok d) = d ∷ []
+directive_read (Err fault) = []
+
+-- the directive that a piece of a text is; an empty one is none
+abbrev pub directive_in : List ℕ → List Directive
+directive_in [] = []
+directive_in (b ∷ bs) = directive_read (reading false (trim (b ∷ bs)))
+
+-- the directives of a text are those of its pieces, in order
+abbrev pub directives_of : List ℕ → List Directive
+directives_of text = flat_map directive_in (comma_pieces text)
+
+-- the filter of a text, which takes no patterns and has no span and no level
+abbrev pub text_filter : List ℕ → Filtered
+text_filter text = filter_by fixed_builder (directives_of text)
+
+-- a new filter of this text
+pub record IsTextFilter (text : List ℕ) (f : Filtering) : Type 0 where
+  pub is : plain f ≡ text_filter text
+  pub new : IsNew (plain f)
+
+-- A text gives a filter exactly where each of its pieces that isn't empty is a directive; else the first that is none is
+-- told. Want of memory aside.
+abbrev pub IsRefused : {A : Type 0} → List ℕ → Result A GateError → Type 0
+IsRefused text (Ok r) = (ds : List Directive) × ReadsText false text ds []
+IsRefused text (Err (error.Directive piece)) = (fault : ParseError) × IsFirstFault false text piece fault
+IsRefused text (Err error.Memory) = Unit {0}
+
+abbrev pub no_memory : GateError
+no_memory = error.Memory
+
+-- the level is within some level of a list
+abbrev pub is_within_some : Level → List LevelFilter → Bool
+is_within_some level levels = list_any (λ l. is_within level l) levels
+
+-- The rule of the gate: the static directives admit it; or it is a span, some dynamic one cares for it, and its level is
+-- within the hint; or its level is within some level of the list.
+abbrev pub gate_rule : Filtered → List LevelFilter → Callsite → Bool
+gate_rule f levels c = admits f.statics.directives c || ((is_cared f c && is_within c.level (hint_in f)) || is_within_some c.level levels)
+
+-- the levels that count under a number: the list where it has that number, else none
+abbrev pub levels_under : ℕ → Levels → List LevelFilter
+levels_under number levels = if levels.reload == number then levels.list else []
