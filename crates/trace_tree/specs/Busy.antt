@@ -1,0 +1,28 @@
+-- Busy times.
+use Rattle.std.specs.Prelude.{ℕ, pos, negsuc, Bool, List, [], ◌∷◌, codes, bytes_eq}
+use Rattle.std.specs.List.{filter}
+use Rattle.otel_base.specs.declared.value.KeyValue.{KeyValue}
+use Rattle.otel_base.specs.declared.value.OtelValue.{OtelValue}
+use Rattle.otel_base.specs.declared.value.OtelValue.TheVariants as value
+use Rattle.otel_base.specs.declared.record.Record.{Record}
+
+-- a whole number that isn't negative as it is, and anything else as 0
+abbrev pub nanoseconds_of : OtelValue → ℕ
+nanoseconds_of (value.I64 (pos n)) = n
+nanoseconds_of (value.I64 (negsuc n)) = 0
+nanoseconds_of (value.Bool b) = 0
+nanoseconds_of (value.Str t) = 0
+nanoseconds_of (value.List ts) = 0
+
+-- whether an attribute is named busy_ns
+abbrev pub is_busy : KeyValue → Bool
+is_busy a = bytes_eq a.key (codes "busy_ns")
+
+-- what the last one is worth, or n where there is none
+abbrev pub latest : ℕ → List KeyValue → ℕ
+latest n [] = n
+latest n (a ∷ rest) = latest (nanoseconds_of a.value) rest
+
+-- what the last attribute named busy_ns is worth, 0 where there is none
+abbrev pub busy_of : Record → ℕ
+busy_of r = latest 0 (filter is_busy r.attributes)

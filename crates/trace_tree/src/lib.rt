@@ -1,0 +1,15 @@
+//! Finished spans under their parents: the forest of a list of records, totals of its traces, and busy times. Everything
+//! turns on the path of a record, the span ids from its root down to itself: the forest is the records in the order of
+//! their paths.
+#![tactic(auto)]
+
+mod adjacency;
+pub mod busy;
+pub mod forest;
+pub mod laws;
+pub mod node;
+pub mod totals;
+mod walk;
+
+pub use node::Node;
+pub use totals::TraceTotal;

@@ -1,0 +1,43 @@
+//! A walk over all records with a stack of children.
+ghost use Rattle.std.specs.Prelude.{◌≡◌, ◌<◌, ◌++◌, OnOk, IfOk, List, ℕ, length, map, reverse};
+ghost use Rattle.trace_tree.specs.Paths.{IsForest};
+ghost use Rattle.trace_tree.specs.Walking.{node_at, IsAdjacency};
+
+use crate::adjacency::Adjacency;
+use crate::node::Node;
+use otel_base::memory::Memory;
+use otel_base::record::Record;
+use std::alloc::Global;
+
+// Puts places onto the stack, the first one on top.
+fn push_all(places: &[u64], depth: u64, stack: &mut Vec<Node>) -> Result<(), Memory>
+    ensures { OnOk result (stack.new.items ≡ stack.old.items ++ reverse (map (node_at depth) places.now)) }
+{
+    for i in 0..places.len() {
+        stack.push(Node {
+            place: places[places.len() - 1 - i],
+            depth,
+        })?;
+    }
+    Ok(())
+}
+
+/// All records in the order of their paths.
+pub(crate) fn walk(
+    alloc: Global,
+    records: &[Record],
+    adjacency: &Adjacency,
+) -> Result<Vec<Node>, Memory>
+    requires { IsAdjacency records.now adjacency.now }
+    ensures { IfOk result (λ v. IsForest records.now v.items) }
+{
+    let mut nodes = Vec::new(alloc);
+    let mut stack = Vec::new(alloc);
+    push_all(adjacency.roots.as_slice(), 0, &mut stack)?;
+    while let Some(node) = stack.pop() {
+        nodes.push(node)?;
+        let children = adjacency.children[node.place as usize].as_slice();
+        push_all(children, node.depth + 1, &mut stack)?;
+    }
+    Ok(nodes)
+}
