@@ -1,0 +1,81 @@
+//! Lists of items for tests, and whether a list is a merge of some.
+ghost use Rattle.std.specs.Prelude.{◌≡◌, ◌<◌, ◌+◌, ℕ, [], All, length, get_or, IfOk};
+
+use otel_base::list::Items;
+use otel_base::memory::Memory;
+use std::alloc::Global;
+use trace_batch::{Finished, Item, Sent};
+
+/// Stands for a record: its text is a number.
+#[derive(Drop)]
+pub struct Number {
+    /// The number.
+    pub number: u64,
+}
+
+impl Finished for Number {
+    ghost use Rattle.std.specs.Prelude.{decimal};
+
+    ghost text = { λ finished lane place. decimal finished.number };
+
+    fn make_text(&self, alloc: Global, _lane: u64, _place: u64) -> Result<Items<u8>, Memory> {
+        Ok(Items::from(format!(in alloc; "{}", self.number)?.into_bytes()))
+    }
+}
+
+// The number of an item.
+fn number_of(lane: u64, place: u64) -> u64 {
+    place % 1000 + lane % 1000
+}
+
+// So many items of a lane.
+fn list(alloc: Global, lane: u64, count: u64) -> Result<Items<Item<Number>>, Memory>
+    ensures { IfOk result (λ items. All (λ i. i.lane ≡ lane) items) }
+{
+    let mut items = Items::new(alloc);
+    for place in 0..count {
+        let number = number_of(lane, place);
+        items.push(Item {
+            lane,
+            place,
+            finished: Number { number },
+        })?;
+    }
+    Ok(items)
+}
+
+/// Lists of so many items for the lanes from 0 on.
+pub fn lists(alloc: Global, counts: &[u64]) -> Result<Vec<Items<Item<Number>>>, Memory>
+    ensures len { IfOk result (λ v. length v.items ≡ length counts.now) }
+    ensures own { IfOk result (λ v. (l : ℕ) → l < length v.items → All (λ i. i.lane ≡ l) (get_or v.items l [])) }
+{
+    let mut all = Vec::new(alloc);
+    for count in counts {
+        let lane = all.len() as u64;
+        all.push(list(alloc, lane, *count)?)?;
+    }
+    Ok(all)
+}
+
+/// Whether a list has of each lane so many items in order, with their texts, and no others.
+pub fn is_merge(alloc: Global, sent: &[Sent], counts: &[u64]) -> Result<bool, Memory> {
+    let mut next = Vec::from_elem(alloc, 0u64, counts.len())?;
+    let next = next.as_mut_slice();
+    for one in sent {
+        let lane = usize::try_from(one.lane).unwrap_or(usize::MAX);
+        if lane >= next.len() || next[lane] != one.place {
+            return Ok(false);
+        }
+        let text = format!(in alloc; "{}", number_of(one.lane, one.place))?;
+        if one.text.as_slice() != text.as_bytes() {
+            return Ok(false);
+        }
+        next[lane] = next[lane].saturating_add(1);
+    }
+    for lane in 0..counts.len().min(next.len()) {
+        if next[lane] != counts[lane] {
+            return Ok(false);
+        }
+    }
+    Ok(true)
+}

@@ -1,0 +1,71 @@
+-- What the writer has of the lanes, after each of its steps.
+use Rattle.std.proofs.Common.{◌≡◌, ◌≢◌, ℕ, zero, suc, ◌+◌, ◌-◌, ◌≤◌, List, [], ◌∷◌, ◌++◌, map, take, drop, length, get_or, refl, ap, sym, ◌∙◌, arith}
+use Rattle.std.proofs.lemmas.List.{append-nil, get_or_past}
+use Rattle.trace_batch.specs.declared.item.Item.{Item}
+use Rattle.trace_batch.specs.declared.item.Sent.{Sent}
+use Rattle.trace_batch.specs.declared.writer.Writer.{Writer}
+use Rattle.trace_batch.specs.Merges.{sent_of, of_lane, texts, IsMerge}
+use Rattle.trace_batch.specs.Rule.{writer, known_at, Told}
+use Rattle.trace_batch.specs.Serving.{Kept}
+use Rattle.trace_batch.proofs.Lanes.{of_append}
+use Rattle.trace_batch.proofs.Texts.{sent_all, AllOf, of_own_texts, of_other_texts, all_drop}
+
+module _ {F : Type 0} (text : F → ℕ → ℕ → List ℕ) where
+  -- before anything was taken, where no lane is left
+  pub kept_none : (lists : List (List (Item F))) (lane : ℕ) (w : Writer) → length lists ≤ lane → w.taken ≡ [] → w.late ≡ [] → Kept text lists lane [] [] w
+  kept_none lists lane w all taken late = record {
+    taken = taken;
+    late = λ l past. ap (of_lane l) late ∙ sym (ap (map (sent_of text)) (get_or_past lists l [] (omega arith)));
+    others = λ l less. ap (of_lane l) late;
+  }
+
+  pub kept_more : (lists : List (List (Item F))) (lane : ℕ) (known : List (List Sent)) (got : List Sent) (x : Sent) (w v : Writer)
+      → Kept text lists lane known got w → v.taken ≡ w.taken ++ x ∷ [] → v.late ≡ w.late → Kept text lists lane known (got ++ x ∷ []) v
+  kept_more lists lane known got x w v k taken late = record {
+    taken = taken ∙ ap (λ (l : List Sent). l ++ x ∷ []) k.taken;
+    late = λ l past. ap (λ (ys : List Sent). known_at lane known l ++ of_lane l ys) late ∙ k.late l past;
+    others = λ l less. ap (of_lane l) late ∙ k.others l less;
+  }
+
+  module _ (lists : List (List (Item F))) (lane sent : ℕ) (list : List (Item F)) (known : List (List Sent)) (got : List Sent) (w v : Writer) (is : list ≡ get_or lists lane []) (own : AllOf lane list)
+      (k : Kept text lists (lane + 1) known got w) (taken : v.taken ≡ w.taken) (late : v.late ≡ w.late ++ map (sent_of text) (drop sent list)) where
+    late_of : (l : ℕ) → of_lane l v.late ≡ of_lane l w.late ++ of_lane l (map (sent_of text) (drop sent list))
+    late_of l = ap (of_lane l) late ∙ of_append l w.late (map (sent_of text) (drop sent list))
+
+    late_own : of_lane lane v.late ≡ map (sent_of text) (drop sent list)
+    late_own =
+        late_of lane ∙ ap (λ (ys : List Sent). ys ++ of_lane lane (map (sent_of text) (drop sent list))) (k.others lane (omega arith))
+        ∙ of_own_texts text lane (drop sent list) (all_drop lane sent list own)
+
+    late_other : (l : ℕ) → lane ≢ l → of_lane l v.late ≡ of_lane l w.late
+    late_other l n =
+        late_of l ∙ ap (λ (ys : List Sent). of_lane l w.late ++ ys) (of_other_texts text lane l (drop sent list) n (all_drop lane sent list own)) ∙ append-nil (of_lane l w.late)
+
+    late_at : (d l : ℕ) → l - lane ≡ d → lane ≤ l → get_or (map (sent_of text) (take sent list) ∷ known) d [] ++ of_lane l v.late ≡ texts text lists l
+    late_at zero l e h =
+        let same : l ≡ lane = omega arith in
+        ap (λ (m : ℕ). map (sent_of text) (take sent list) ++ of_lane m v.late) same
+        ∙ ap (λ (ys : List Sent). map (sent_of text) (take sent list) ++ ys) late_own
+        ∙ sent_all text list sent
+        ∙ ap (map (sent_of text)) (is ∙ ap (λ (m : ℕ). get_or lists m []) (sym same))
+    late_at (suc d) l e h =
+        let n : lane ≢ l = λ q. omega arith in
+        let at : d ≡ l - (lane + 1) = omega arith in
+        ap (λ (ys : List Sent). get_or known d [] ++ ys) (late_other l n)
+        ∙ ap (λ (m : ℕ). get_or known m [] ++ of_lane l w.late) at
+        ∙ k.late l (omega arith)
+
+    pub kept_settled : Kept text lists lane (map (sent_of text) (take sent list) ∷ known) got v
+    kept_settled = record {
+      taken = taken ∙ k.taken;
+      late = λ l past. late_at (l - lane) l refl past;
+      others = λ l less. late_other l (λ e. omega arith) ∙ k.others l (omega arith);
+    }
+
+  pub merged : (lists : List (List (Item F))) (known : List (List Sent)) (got out : List Sent) (w : Writer) → Kept text lists 0 known got w → Told (writer 0 known got) [] → out ≡ w.taken ++ w.late
+      → IsMerge text lists out
+  merged lists known got out w k told is l =
+      ap (of_lane l) is ∙ of_append l w.taken w.late
+      ∙ ap (λ (ys : List Sent). of_lane l ys ++ of_lane l w.late) (k.taken ∙ sym (append-nil got))
+      ∙ ap (λ (ys : List Sent). ys ++ of_lane l w.late) (told l (omega arith))
+      ∙ k.late l (omega arith)

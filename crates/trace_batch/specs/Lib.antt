@@ -1,0 +1,5 @@
+pub mod Merges
+pub mod Rule
+pub mod Sending
+pub mod Serving
+pub mod Cuts

@@ -1,0 +1,75 @@
+-- The rule over the queue, and what each step tells.
+use Rattle.std.specs.Prelude.{◌≡◌, ℕ, ◌+◌, ◌-◌, ◌<◌, ◌≤◌, List, [], ◌∷◌, ◌++◌, get_or}
+use mathlib.Core.Option.{some}
+use lib.ListN.{get_elem?}
+use Rattle.trace_batch.specs.declared.item.Sent.{Sent}
+use Rattle.trace_batch.specs.declared.queue.View.{View}
+use Rattle.trace_batch.specs.declared.queue.View.TheVariants.{Nobody, Sender, Writer}
+use Rattle.trace_batch.specs.Merges.{of_lane}
+
+abbrev pub sender : ℕ → List Sent → View
+sender lane put = Sender lane put
+
+abbrev pub writer : ℕ → List (List Sent) → List Sent → View
+writer lanes known got = Writer lanes known got
+
+-- what is known of a lane that has no sender any more, or never had one
+abbrev pub known_at : ℕ → List (List Sent) → ℕ → List Sent
+known_at lanes known l = get_or known (l - lanes) []
+
+-- reader: the writer's pass. pass: the pass of each lane's sender, of the lanes that have one
+abbrev pub Fits : List Sent → ℕ → (ℕ → ℕ) → ℕ → List (List Sent) → List Sent → ℕ → View → Type 0
+Fits items reader pass lanes known got port Nobody = Unit {0}
+Fits items reader pass lanes known got port (Sender l p) = (l < lanes) × (pass l ≡ port) × (p ≡ of_lane l (got ++ items))
+Fits items reader pass lanes known got port (Writer n k g) = (port ≡ reader) × (n ≡ lanes) × (k ≡ known) × (g ≡ got)
+
+pub record Ruled (items : List Sent) (views : List View) : Type 0 where
+  pub reader : ℕ
+  pub pass : ℕ → ℕ
+  pub lanes : ℕ
+  pub known : List (List Sent)
+  pub got : List Sent
+  pub ended : (l : ℕ) → lanes ≤ l → of_lane l (got ++ items) ≡ known_at lanes known l
+  pub each : (port : ℕ) (v : View) → get_elem? views port ≡ some v → Fits items reader pass lanes known got port v
+
+abbrev pub one_more : View → View
+one_more (Writer n k g) = Writer (n + 1) k g
+one_more (Sender l p) = Sender l p
+one_more Nobody = Nobody
+
+abbrev pub next_sender : View → View
+next_sender (Writer n k g) = Sender n []
+next_sender (Sender l p) = Nobody
+next_sender Nobody = Nobody
+
+abbrev pub one_fewer : View → View → View
+one_fewer (Writer n k g) (Sender l p) = Writer l (p ∷ k) g
+one_fewer (Writer n k g) (Writer m j h) = Writer n k g
+one_fewer (Writer n k g) Nobody = Writer n k g
+one_fewer (Sender l p) w = Sender l p
+one_fewer Nobody w = Nobody
+
+abbrev pub put_into : View → Sent → View
+put_into (Sender l p) x = Sender l (p ++ x ∷ [])
+put_into (Writer n k g) x = Writer n k g
+put_into Nobody x = Nobody
+
+abbrev pub took_out : View → Sent → View
+took_out (Writer n k g) x = Writer n k (g ++ x ∷ [])
+took_out (Sender l p) x = Sender l p
+took_out Nobody x = Nobody
+
+-- what the writer learns of the lanes that have no sender any more
+abbrev pub Told : View → List Sent → Type 0
+Told (Writer n k g) items = (l : ℕ) → n ≤ l → of_lane l (g ++ items) ≡ known_at n k l
+Told (Sender l p) items = Unit {0}
+Told Nobody items = Unit {0}
+
+-- it is the view of this lane's sender
+abbrev pub IsSenderOf : ℕ → View → Type 0
+IsSenderOf l v = (p : List Sent) × (v ≡ sender l p)
+
+abbrev pub lanes_of : View → ℕ
+lanes_of (Writer n k g) = n
+lanes_of (Sender l p) = 0
+lanes_of Nobody = 0
