@@ -25,6 +25,10 @@ IsWaiting m t = (m.0.stage ≡ Waits t) × (m.0.live ≡ true) × (m.1 ≡ [])
 abbrev pub IsIdle : Mine → Type 0
 IsIdle m = (m.1 ≡ []) × (m.0.stage ≡ Idle) × (m.0.live ≡ true)
 
+-- a seat that has no number
+abbrev pub IsBare : Mine → Type 0
+IsBare m = (m.0.number ≡ None) × (m.0.other ≡ None)
+
 -- and it has the number of its handle, all whose entries it has seen
 abbrev pub IsAtRest : Mine → ℕ → Type 0
 IsAtRest m k =
@@ -59,7 +63,7 @@ pub record Called (v w : View) (k at : ℕ) (op : Op) (place : ℕ) (reply : OpR
   pub at_place : place ≡ length (entries (v.seen ++ made.between))
   pub replied : reply ≡ reply_at v.origin (entries (v.seen ++ made.between)) op
 
--- for want of memory the turn is passed on empty, and the handle's entries stay as they were
+-- no entry more: where for want of memory the turn is passed on empty, and where a handle learns what others have seen
 pub record LeftAsIs (v w : View) (k : ℕ) : Type 0 where
   pub begins : IsPrefix v.seen w.seen
   pub mine : w.mine ≡ v.mine

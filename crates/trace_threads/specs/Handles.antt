@@ -1,5 +1,6 @@
 -- What contracts see of a handle, and of what it leaves.
-use Rattle.std.specs.Prelude.{◌≡◌, ℕ, List, Option, Some, None, true, false}
+use Rattle.std.specs.Prelude.{◌≡◌, ◌⊎◌, ℕ, List, Option, Some, None, true, false}
+use mathlib.Core.List.{IsPrefix}
 use Rattle.atomic_table.specs.Seated.{TableId}
 use Rattle.otel_base.specs.declared.record.Record.{Record}
 use Rattle.trace_threads.specs.declared.making.Making.{Making}
@@ -10,8 +11,8 @@ use Rattle.otel_state.specs.declared.op.OpReply.{OpReply}
 use Rattle.trace_threads.specs.declared.turns.View.{View}
 use Rattle.trace_threads.specs.History.{IsLegal, is_closed, opens}
 use Rattle.trace_threads.specs.Shared.{content_of}
-use Rattle.trace_threads.specs.Turns.{Mine, IsSized, entries}
-use Rattle.trace_threads.specs.Calls.{IsIdle, IsAtRest, Made, Called, LeftAsIs}
+use Rattle.trace_threads.specs.Turns.{Turn, Mine, IsSized, entries}
+use Rattle.trace_threads.specs.Calls.{IsIdle, IsBare, IsAtRest, Made, Called, LeftAsIs}
 
 -- a handle: of which span it is, its number, and what it knows
 pub record Held : Type 0 where
@@ -36,12 +37,13 @@ pub record IsPass (table seat : TableId) (me : Mine) : Type 0 where
   pub sized : IsSized table
   pub of_table : seat ≡ table
   pub idle : IsIdle me
+  pub bare : IsBare me
 
 -- how many entries of a handle are open
 abbrev pub open_of : Held → ℕ
 open_of h = opens h.view.mine
 
--- what a turn of a handle leaves: an entry more, a call's entry more, or, after Memory, none
+-- what a turn of a handle leaves: an entry more, a call's entry more, or none, after Memory or where the handle learns
 abbrev pub Enters : Held → Held → ℕ → What → Type 0
 Enters h g at what = Made h.view g.view h.number at what
 
@@ -51,6 +53,10 @@ Calls h g at op place reply = Called h.view g.view h.number at op place reply
 abbrev pub Leaves : Held → Held → Type 0
 Leaves h g = LeftAsIs h.view g.view h.number
 
+-- the same was seen of the same span, and the same entries were made
+abbrev pub IsSameSight : View → View → Type 0
+IsSameSight v w = (w.seen ≡ v.seen) × (w.origin ≡ v.origin) × (w.mine ≡ v.mine)
+
 abbrev pub IsSameHandle : Held → Held → Type 0
 IsSameHandle h g = (g.span ≡ h.span) × (g.number ≡ h.number)
 
@@ -59,3 +65,9 @@ abbrev pub ClosedAs : Making → List Entry → Option (List Entry × Record) �
 ClosedAs making log None = is_closed making.made log ≡ false
 ClosedAs making log (Some last) =
     (last.0 ≡ log) × (last.1 ≡ content_of making log) × (is_closed making.made log ≡ true)
+
+-- of two lists of turns that begin one list, one begins the other, and so do their entries
+abbrev pub OneBeginsTheOther : Type 0
+OneBeginsTheOther =
+    (xs ys turns : List Turn) → IsPrefix xs turns → IsPrefix ys turns
+    → (IsPrefix xs ys × IsPrefix (entries xs) (entries ys)) ⊎ (IsPrefix ys xs × IsPrefix (entries ys) (entries xs))

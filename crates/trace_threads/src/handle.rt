@@ -7,10 +7,10 @@ ghost use Rattle.trace_threads.specs.declared.history.What.TheVariants.{Clone, J
 ghost use Rattle.trace_threads.specs.Moves.{move_of, opens_after};
 ghost use Rattle.trace_threads.specs.History.{entries_by, opens};
 ghost use Rattle.trace_threads.specs.Turns.{entries, first_view};
-ghost use Rattle.trace_threads.specs.Calls.{Made, IsCloneOf};
-ghost use Rattle.trace_threads.specs.Handles.{open_of, Enters, Calls, Leaves, IsSameHandle, ClosedAs};
+ghost use Rattle.trace_threads.specs.Calls.{Made, IsBare, IsCloneOf, IsIdle};
+ghost use Rattle.trace_threads.specs.Handles.{open_of, Enters, Calls, Leaves, IsSameHandle, IsSameSight, ClosedAs};
 
-use crate::cell::{call_once, clone_once, join_once, release_once};
+use crate::cell::{call_once, clone_once, cut_off, join_once, release_once, see_all, take_in};
 use crate::history::History;
 use crate::making::Making;
 use crate::moves::{opened, shift};
@@ -177,6 +177,71 @@ impl Handle {
             inside: _,
         } = self;
         join_once(rt, &turns.shared, seat, theirs, *number, ended, at);
+    }
+
+    /// Takes in what a pass of the same span has seen, and sees the turns so far. It takes no turn and no memory, and
+    /// never waits. Both had seen a beginning of what is seen then, which has the entries that the handle made and no
+    /// others of it.
+    pub fn learn(&mut self, pass: &mut Pass)
+        requires span { pass.old.span ≡ self.old.span }
+        ensures same { IsSameHandle self.old self.new }
+        ensures sees { Leaves self.old self.new }
+        ensures theirs { IsPrefix pass.old.view.seen self.new.view.seen }
+        ensures origin { pass.old.view.origin ≡ self.old.view.origin }
+        ensures pass { (pass.new.span ≡ pass.old.span) × IsSameSight pass.old.view pass.new.view }
+    {
+        let note = pass.note();
+        self.take_note(note);
+    }
+
+    /// Takes in what another handle of the same span has seen, as `learn` does of a pass. So what two handles have seen
+    /// begins one list of turns, before they are joined too.
+    pub fn learn_from(&mut self, other: &mut Handle)
+        requires span { other.old.span ≡ self.old.span }
+        ensures same { IsSameHandle self.old self.new }
+        ensures sees { Leaves self.old self.new }
+        ensures theirs { IsPrefix other.old.view.seen self.new.view.seen }
+        ensures origin { other.old.view.origin ≡ self.old.view.origin }
+        ensures other { IsSameHandle other.old other.new × IsSameSight other.old.view other.new.view }
+        ensures entered { open_of other.new ≡ open_of other.old }
+    {
+        let note = other.note();
+        self.take_note(note);
+    }
+
+    // A seat without a number, which has seen as much.
+    fn note(&mut self) -> TurnSeat
+        ensures same { IsSameHandle self.old self.new × IsSameSight self.old.view self.new.view }
+        ensures table { result.table_id ≡ self.old.span }
+        ensures note { IsIdle result.me × IsBare result.me }
+        ensures seen { (result.me.0.seen ≡ self.old.view.seen) × (result.me.0.origin ≡ self.old.view.origin) }
+    {
+        let Handle {
+            turns,
+            seat,
+            number: _,
+            inside: _,
+        } = self;
+        cut_off(&turns.shared, seat)
+    }
+
+    // Takes in what a seat without a number has seen.
+    fn take_note(&mut self, note: TurnSeat)
+        requires span { note.table_id ≡ self.old.span }
+        requires note { IsIdle note.me × IsBare note.me }
+        ensures same { IsSameHandle self.old self.new }
+        ensures sees { Leaves self.old self.new }
+        ensures theirs { IsPrefix note.me.0.seen self.new.view.seen }
+        ensures origin { note.me.0.origin ≡ self.old.view.origin }
+    {
+        let Handle {
+            turns,
+            seat,
+            number: _,
+            inside: _,
+        } = self;
+        take_in(&turns.shared, seat, note);
+        see_all(&turns.shared, seat);
     }
 
     /// Ends the handle in one turn, for which it may wait. The history and the record come back exactly if no

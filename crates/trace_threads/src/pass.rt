@@ -4,9 +4,10 @@ ghost use Rattle.std.specs.Arc.{arc_value};
 ghost use mathlib.Core.List.{IsPrefix};
 ghost use Rattle.trace_threads.specs.History.{IsLegal};
 ghost use Rattle.trace_threads.specs.Turns.{IsSeatOf, entries};
-ghost use Rattle.trace_threads.specs.Calls.{IsIdle};
+ghost use Rattle.trace_threads.specs.Calls.{IsBare, IsIdle};
+ghost use Rattle.trace_threads.specs.Handles.{IsSameSight};
 
-use crate::cell::{see_all, take_in};
+use crate::cell::{cut_off, see_all, take_in};
 use crate::turns::{TurnSeat, Turns};
 use std::alloc::Global;
 use std::marker::Model;
@@ -34,10 +35,21 @@ impl Pass {
     // The pass of a seat that is idle.
     pub(crate) fn of(turns: Arc<Turns, Global>, seat: TurnSeat) -> Pass
         requires table { IsSeatOf (arc_value turns).shared.table_id seat.table_id }
-        requires idle { IsIdle seat.me }
+        requires idle { IsIdle seat.me × IsBare seat.me }
         ensures { (result.span ≡ seat.table_id) × (result.view ≡ seat.me.0) }
     {
         Pass { turns, seat }
+    }
+
+    // A seat that has seen as much, to be taken in by a handle.
+    pub(crate) fn note(&mut self) -> TurnSeat
+        ensures same { (self.new.span ≡ self.old.span) × IsSameSight self.old.view self.new.view }
+        ensures table { result.table_id ≡ self.old.span }
+        ensures note { IsIdle result.me × IsBare result.me }
+        ensures seen { (result.me.0.seen ≡ self.old.view.seen) × (result.me.0.origin ≡ self.old.view.origin) }
+    {
+        let Pass { turns, seat } = self;
+        cut_off(&turns.shared, seat)
     }
 
     /// Takes in another pass of the same span: what it has seen afterwards begins with what either had seen, and is a

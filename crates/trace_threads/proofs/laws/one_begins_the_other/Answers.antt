@@ -1,0 +1,5 @@
+use Rattle.trace_threads.proofs.Beginnings.{one_begins_the_other}
+use Rattle.trace_threads.proofs.laws.one_begins_the_other.Goals as goal
+
+pub returns : goal.returns
+returns c = one_begins_the_other
