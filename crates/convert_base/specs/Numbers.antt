@@ -20,7 +20,9 @@ kind_number kind.Consumer = 5
 abbrev pub format_of : List ℕ → Option Format
 format_of word =
     if bytes_eq word (codes "otlp") then Some format.Otlp else
-    (if bytes_eq word (codes "chrome") then Some format.Chrome else None)
+    (if bytes_eq word (codes "chrome") then Some format.Chrome else
+    (if bytes_eq word (codes "text") then Some format.Text else
+    (if bytes_eq word (codes "html") then Some format.Html else None)))
 
 -- what the process ends with at a fault
 abbrev pub status_of : Fault → ℕ

@@ -10,8 +10,8 @@ use thiserror::Error;
 /// Why a conversion ended early. What was written before it stands.
 #[derive(Debug, Drop, Error)]
 pub enum Fault {
-    /// The words aren't one name of a format.
-    #[error("the only words are otlp and chrome, one of them")]
+    /// The words aren't the name of a format, with what it takes.
+    #[error("the words are otlp [SERVICE], chrome, text [COLUMNS] or html")]
     Usage,
     /// A line is no JSON.
     #[error("line {line} is no JSON")]

@@ -1,5 +1,5 @@
 //! The program's words.
-ghost use Rattle.std.specs.Prelude.{◌≡◌};
+ghost use Rattle.std.specs.Prelude.{◌≡◌, ◌≤◌, IfSome};
 ghost use Rattle.convert_base.specs.Numbers.{format_of};
 
 /// What the records are converted to.
@@ -9,6 +9,10 @@ pub enum Format {
     Otlp,
     /// The trace event format of Perfetto and `chrome://tracing`.
     Chrome,
+    /// A waterfall for a terminal.
+    Text,
+    /// A page with a waterfall of each trace.
+    Html,
 }
 
 impl Format {
@@ -19,7 +23,25 @@ impl Format {
         match word {
             "otlp" => Some(Format::Otlp),
             "chrome" => Some(Format::Chrome),
+            "text" => Some(Format::Text),
+            "html" => Some(Format::Html),
             _ => None,
         }
     }
+}
+
+/// The fewest columns of a line of text.
+pub const MIN_WIDTH: usize = 40;
+/// The most columns of a line of text.
+pub const MAX_WIDTH: usize = 1_000;
+
+/// The columns that a word asks for, if it is a decimal from `MIN_WIDTH` to `MAX_WIDTH`.
+pub fn width_of(word: &str) -> Option<usize>
+    ensures { IfSome result (λ width. (40 ≤ width) × (width ≤ 1000)) }
+{
+    let width = word.parse::<usize>().ok()?;
+    if width < MIN_WIDTH || width > MAX_WIDTH {
+        return None;
+    }
+    Some(width)
 }

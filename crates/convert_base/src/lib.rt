@@ -7,8 +7,10 @@ pub mod fault;
 pub mod format;
 pub mod ids;
 pub mod kind;
+pub mod markup;
 
 pub use fault::Fault;
-pub use format::Format;
+pub use format::{Format, width_of};
 pub use ids::is_zero;
 pub use kind::Kind;
+pub use markup::escape;

@@ -1,5 +1,6 @@
-//! The trace event format: a row for each trace, times in microseconds with three decimals.
+//! The trace event format: times in microseconds with three decimals, and in each row spans that nest or lie apart.
 use crate::record::{Event, Link, Plain, Record, Status};
+use crate::traces::Trace;
 use convert_base::{Fault, Kind};
 use serde::Serialize;
 use std::alloc::Global;
@@ -32,60 +33,94 @@ struct RowDetails {
     name: String,
 }
 
-/// The rows of the traces that were met, numbered from 1 in the order in which they were.
-#[derive(Drop)]
+/// The lines of traces, each but the first of all behind a comma. Rows are numbered from 1.
+#[derive(Clone, Copy, Default)]
 pub struct Rows {
-    numbers: BTreeMap<String, u64>,
+    given: u64,
+}
+
+// The rows of one trace: its spans that haven't ended where the last one of the row began, by their ends.
+#[derive(Drop)]
+struct TraceRows {
+    first: u64,
+    open: Vec<Vec<u64>>,
 }
 
 impl Rows {
-    /// No rows.
-    pub fn new(alloc: Global) -> Rows {
-        Rows {
-            numbers: BTreeMap::new(alloc),
-        }
-    }
-
-    /// The lines of a record, each but the first of all behind a comma: its row's name, where the row is new, its span and
-    /// its events.
-    pub fn lines(&mut self, alloc: Global, record: Record) -> Result<String, Fault> {
+    /// The lines of a trace whose spans come in the order of their starts, the longer one first: each span, with its
+    /// events, in the first row of the trace in which it nests. A new row begins with its name.
+    pub fn lines(&mut self, alloc: Global, trace: Trace) -> Result<String, Fault> {
         let mut lines = String::new(alloc);
-        let row = self.row(alloc, &mut lines, record.trace.as_str())?;
-        let name = json(alloc, &record.name)?;
-        let kind = kind_name(record.kind);
-        let start = micros(alloc, record.start)?;
-        let lasts = micros(alloc, record.end.saturating_sub(record.start))?;
-        let details = SpanDetails {
-            span: record.span,
-            parent: record.parent,
-            status: status_text(alloc, record.status)?,
-            attributes: members_of(alloc, record.attributes)?,
-            links: links_of(alloc, record.links)?,
+        let mut rows = TraceRows {
+            first: self.given.saturating_add(1),
+            open: Vec::new(alloc),
         };
-        let args = json(alloc, &details)?;
-        let span = format!(in alloc;
-            ",\n{{\"name\":{name},\"cat\":\"{kind}\",\"ph\":\"X\",\"ts\":{start},\"dur\":{lasts},\"pid\":1,\"tid\":{row},\"args\":{args}}}"
-        )?;
-        lines.push_str(span.as_str())?;
-        for event in record.events {
-            lines.push_str(event_line(alloc, row, event)?.as_str())?;
+        for record in trace.records {
+            let (row, is_new) = rows.row(alloc, record.start, record.end)?;
+            if is_new {
+                self.given = self.given.saturating_add(1);
+                if self.given > 1 {
+                    lines.push_str(",\n")?;
+                }
+                lines.push_str(row_line(alloc, row, trace.id.as_str())?.as_str())?;
+            }
+            lines.push_str(span_lines(alloc, row, record)?.as_str())?;
         }
         Ok(lines)
     }
+}
 
-    // The number of a trace's row, which is named where it is new.
-    fn row(&mut self, alloc: Global, lines: &mut String, trace: &str) -> Result<u64, Fault> {
-        if let Some(number) = self.numbers.get(trace) {
-            return Ok(*number);
+impl TraceRows {
+    // The number of the row of a span, and whether it is a new one.
+    fn row(&mut self, alloc: Global, start: u64, end: u64) -> Result<(u64, bool), Fault> {
+        let mut number = self.first;
+        for open in self.open.iter_mut() {
+            if takes(open, start, end)? {
+                return Ok((number, false));
+            }
+            number = number.saturating_add(1);
         }
-        let number = (self.numbers.len() as u64).saturating_add(1);
-        if number > 1 {
-            lines.push_str(",\n")?;
-        }
-        lines.push_str(row_line(alloc, number, trace)?.as_str())?;
-        self.numbers.insert(trace.to_string(alloc)?, number)?;
-        Ok(number)
+        self.open.push(vec![in alloc; end]?)?;
+        Ok((number, true))
     }
+}
+
+// Whether a span that starts now nests in a row: those that have ended are left out, and it ends within the last other.
+fn takes(open: &mut Vec<u64>, start: u64, end: u64) -> Result<bool, Fault> {
+    for _ in 0..open.len() {
+        match open.last() {
+            Some(last) if *last <= start => open.pop(),
+            _ => break,
+        };
+    }
+    let fits = open.last().is_none_or(|last| end <= *last);
+    if fits {
+        open.push(end)?;
+    }
+    Ok(fits)
+}
+
+// The lines of a span and its events.
+fn span_lines(alloc: Global, row: u64, record: Record) -> Result<String, Fault> {
+    let name = json(alloc, &record.name)?;
+    let kind = kind_name(record.kind);
+    let start = micros(alloc, record.start)?;
+    let lasts = micros(alloc, record.end.saturating_sub(record.start))?;
+    let details = SpanDetails {
+        span: record.span,
+        parent: record.parent,
+        status: status_text(alloc, record.status)?,
+        attributes: members_of(alloc, record.attributes)?,
+        links: links_of(alloc, record.links)?,
+    };
+    let args = json(alloc, &details)?;
+    let mut lines = format!(in alloc;
+        ",\n{{\"name\":{name},\"cat\":\"{kind}\",\"ph\":\"X\",\"ts\":{start},\"dur\":{lasts},\"pid\":1,\"tid\":{row},\"args\":{args}}}"
+    )?;
+    for event in record.events {
+        lines.push_str(event_line(alloc, row, event)?.as_str())?;
+    }
+    Ok(lines)
 }
 
 fn row_line(alloc: Global, row: u64, trace: &str) -> Result<String, Fault> {

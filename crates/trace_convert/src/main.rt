@@ -2,12 +2,19 @@
 #![tactic(auto)]
 
 mod chrome;
+mod duration;
+mod html;
 mod otlp;
 mod record;
+mod scale;
+mod text;
+mod traces;
 
 use crate::chrome::Rows;
-use crate::record::{Record, record_of};
-use convert_base::{Fault, Format};
+use crate::otlp::Batch;
+use crate::record::record_of;
+use crate::traces::{Trace, Traces};
+use convert_base::{Fault, Format, width_of};
 use std::env;
 use std::process::ExitCode;
 
@@ -22,49 +29,106 @@ fn main(rt: HostRuntime) -> ExitCode {
     }
 }
 
-// Converts the whole standard input by the format that the arguments name.
+// Converts the whole standard input by the words that are given.
 fn convert(rt: &HostRuntime) -> Result<(), Fault> {
-    match format_of(rt)? {
-        Format::Otlp => write_otlp(rt),
-        Format::Chrome => write_chrome(rt),
-    }
-}
-
-fn format_of(rt: &HostRuntime) -> Result<Format, Fault> {
-    let mut args = env::args(rt)?;
-    args.next();
-    let word = args.next().ok_or(Fault::Usage)?;
-    if args.next().is_some() {
+    let mut words = env::args(rt)?;
+    words.next();
+    let word = words.next().ok_or(Fault::Usage)?;
+    let format = Format::of(word.as_str()).ok_or(Fault::Usage)?;
+    let option = words.next();
+    if words.next().is_some() {
         return Err(Fault::Usage);
     }
-    Format::of(word.as_str()).ok_or(Fault::Usage)
+    match (format, option) {
+        (Format::Otlp, Some(service)) => write_otlp(rt, service.as_str()),
+        (Format::Otlp, None) => write_otlp(rt, NO_SERVICE),
+        (Format::Text, Some(width)) => {
+            let width = width_of(width.as_str()).ok_or(Fault::Usage)?;
+            write_text(rt, width)
+        }
+        (Format::Text, None) => write_text(rt, WIDTH),
+        (Format::Chrome, None) => write_chrome(rt),
+        (Format::Html, None) => write_html(rt),
+        (Format::Chrome | Format::Html, Some(_)) => Err(Fault::Usage),
+    }
 }
 
-// A line for each record.
-fn write_otlp(rt: &HostRuntime) -> Result<(), Fault> {
+// The service's name where none is given, by the conventions of OpenTelemetry.
+const NO_SERVICE: &str = "unknown_service";
+// The columns of a line where no number is given.
+const WIDTH: usize = 100;
+
+// A line for each batch of records.
+fn write_otlp(rt: &HostRuntime, service: &str) -> Result<(), Fault> {
+    let mut batch = Batch::new(rt.alloc());
     let mut number = 0u64;
     for line in rt.lines(rt.alloc()) {
         number = number.saturating_add(1);
         if let Some(record) = record_of(rt.alloc(), line?.as_str(), number)? {
-            let export = otlp::line(rt.alloc(), record)?;
-            println!(rt; "{export}")?;
+            if batch.add(rt.alloc(), record)? {
+                write_batch(rt, batch, service)?;
+                batch = Batch::new(rt.alloc());
+            }
         }
+    }
+    write_batch(rt, batch, service)
+}
+
+fn write_batch(rt: &HostRuntime, batch: Batch, service: &str) -> Result<(), Fault> {
+    if let Some(line) = batch.line(rt.alloc(), service)? {
+        println!(rt; "{line}")?;
     }
     Ok(())
 }
 
 // One array, an event a line.
 fn write_chrome(rt: &HostRuntime) -> Result<(), Fault> {
-    let mut rows = Rows::new(rt.alloc());
-    let mut number = 0u64;
+    let traces = read_traces(rt)?;
+    let mut rows = Rows::default();
     println!(rt; "[")?;
-    for line in rt.lines(rt.alloc()) {
-        number = number.saturating_add(1);
-        if let Some(record) = record_of(rt.alloc(), line?.as_str(), number)? {
-            let events = rows.lines(rt.alloc(), record)?;
-            print!(rt; "{events}")?;
-        }
+    for trace in traces {
+        let lines = rows.lines(rt.alloc(), trace)?;
+        print!(rt; "{lines}")?;
     }
     println!(rt; "\n]")?;
     Ok(())
+}
+
+// A waterfall for a terminal, a blank line between the traces.
+fn write_text(rt: &HostRuntime, width: usize) -> Result<(), Fault> {
+    let mut is_first = true;
+    for trace in read_traces(rt)? {
+        if !is_first {
+            println!(rt; "")?;
+        }
+        is_first = false;
+        let lines = text::lines(rt.alloc(), &trace, width)?;
+        print!(rt; "{lines}")?;
+    }
+    Ok(())
+}
+
+// One page.
+fn write_html(rt: &HostRuntime) -> Result<(), Fault> {
+    let traces = read_traces(rt)?;
+    print!(rt; "{}", html::HEAD)?;
+    for trace in traces {
+        let section = html::section(rt.alloc(), &trace)?;
+        print!(rt; "{section}")?;
+    }
+    print!(rt; "{}", html::FOOT)?;
+    Ok(())
+}
+
+// All records of the input, by their traces.
+fn read_traces(rt: &HostRuntime) -> Result<Vec<Trace>, Fault> {
+    let mut traces = Traces::new(rt.alloc());
+    let mut number = 0u64;
+    for line in rt.lines(rt.alloc()) {
+        number = number.saturating_add(1);
+        if let Some(record) = record_of(rt.alloc(), line?.as_str(), number)? {
+            traces.add(rt.alloc(), record)?;
+        }
+    }
+    traces.sorted()
 }

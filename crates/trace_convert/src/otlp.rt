@@ -1,4 +1,4 @@
-//! OTLP JSON, one export request a line.
+//! OTLP JSON, one export request a line, with the spans of up to 1,000 records.
 
 use crate::record::{self, Plain, Record};
 use convert_base::{Fault, is_zero};
@@ -14,19 +14,27 @@ struct Export {
 #[derive(Drop, Serialize)]
 #[serde(rename_all = "camelCase")]
 struct ResourceSpans {
-    resource: Nothing,
+    resource: Resource,
     scope_spans: Vec<ScopeSpans>,
 }
 
 #[derive(Drop, Serialize)]
 struct ScopeSpans {
-    scope: Nothing,
+    scope: Scope,
     spans: Vec<Span>,
 }
 
-// Neither a resource nor a scope stands in a record.
+// What the spans are of: by convention the name of the service.
 #[derive(Drop, Serialize)]
-struct Nothing {}
+struct Resource {
+    attributes: Vec<KeyValue>,
+}
+
+// What recorded the spans.
+#[derive(Drop, Serialize)]
+struct Scope {
+    name: String,
+}
 
 #[derive(Drop, Serialize)]
 #[serde(rename_all = "camelCase")]
@@ -95,22 +103,64 @@ struct Status {
     code: u8,
 }
 
-/// The line of a record's export request.
-pub fn line(alloc: Global, record: Record) -> Result<String, Fault> {
-    let spans = vec![in alloc; span_of(alloc, record)?]?;
-    let scope_spans = vec![in alloc;
-        ScopeSpans {
-            scope: Nothing {},
-            spans
-        },
-    ]?;
-    let resource_spans = vec![in alloc;
-        ResourceSpans {
-            resource: Nothing {},
-            scope_spans
-        },
-    ]?;
-    serde_json::to_string(alloc, &Export { resource_spans }).map_err(|_| Fault::Memory)
+/// How many records one request has at most.
+pub const MAX_SPANS: usize = 1_000;
+
+/// The records of a request that isn't written yet.
+#[derive(Drop)]
+pub struct Batch {
+    spans: Vec<Span>,
+}
+
+impl Batch {
+    /// No records.
+    pub fn new(alloc: Global) -> Batch {
+        Batch {
+            spans: Vec::new(alloc),
+        }
+    }
+
+    /// Adds a record, and answers whether the batch is full.
+    pub fn add(&mut self, alloc: Global, record: Record) -> Result<bool, Fault> {
+        self.spans.push(span_of(alloc, record)?)?;
+        Ok(self.spans.len() >= MAX_SPANS)
+    }
+
+    /// The line of the request of a service, none where there is no record.
+    pub fn line(self, alloc: Global, service: &str) -> Result<Option<String>, Fault> {
+        if self.spans.is_empty() {
+            return Ok(None);
+        }
+        let name = SCOPE.to_string(alloc)?;
+        let scope_spans = vec![in alloc;
+            ScopeSpans {
+                scope: Scope { name },
+                spans: self.spans
+            },
+        ]?;
+        let resource = Resource {
+            attributes: vec![in alloc; service_name(alloc, service)?]?,
+        };
+        let resource_spans = vec![in alloc;
+            ResourceSpans {
+                resource,
+                scope_spans
+            },
+        ]?;
+        let line = serde_json::to_string(alloc, &Export { resource_spans }).map_err(
+            |_| Fault::Memory,
+        )?;
+        Ok(Some(line))
+    }
+}
+
+const SCOPE: &str = "weryndo";
+
+fn service_name(alloc: Global, service: &str) -> Result<KeyValue, Fault> {
+    Ok(KeyValue {
+        key: "service.name".to_string(alloc)?,
+        value: AnyValue::StringValue(service.to_string(alloc)?),
+    })
 }
 
 fn span_of(alloc: Global, record: Record) -> Result<Span, Fault> {
