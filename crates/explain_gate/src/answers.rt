@@ -36,6 +36,14 @@ pub fn refused(alloc: Global, piece: u64, fault: ParseError) -> Result<String, M
     Ok(format!(in alloc; "  piece {piece}: {fault:?}, {fault}\n")?)
 }
 
+/// A text that has a piece that is no directive.
+pub fn faulty(alloc: Global, fault: ParseError) -> Result<String, Memory> {
+    if fault == ParseError::Memory {
+        return Err(Memory);
+    }
+    Ok(format!(in alloc; "  {fault:?}, {fault}\n")?)
+}
+
 /// Whether a filter lets a callsite through on a lane, and what `enabled` answers, which the gate alone may differ from.
 pub fn gate(
     alloc: Global,

@@ -99,12 +99,14 @@ fn lent(layer: &reload::Layer<EnvFilter>, lane: u64, callsite: &Callsite) -> Opt
         .ok()
 }
 
-// Takes the filter of a layer out, and tells whether the layer says so: where it gets another, where it lends it, and
-// where it changes it.
+// Takes the filter of a layer out, and tells whether the layer says so, and not that it is poisoned: where it gets
+// another, where it lends it, and where it changes it.
 fn is_dropped(layer: &mut reload::Layer<EnvFilter>, lane: u64, callsite: &Callsite) -> bool {
     let Some(filter) = layer.retire() else {
         return false;
     };
-    let refuses = layer.reload(filter).is_err_and(|error| error.is_dropped());
+    let refuses = layer
+        .reload(filter)
+        .is_err_and(|error| error.is_dropped() && !error.is_poisoned());
     refuses && lent(layer, lane, callsite).is_none() && layer.modify(|_| ()).is_err()
 }

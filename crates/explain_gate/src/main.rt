@@ -4,6 +4,7 @@
 mod answers;
 mod exchanging;
 mod session;
+mod targets;
 mod variables;
 mod words;
 

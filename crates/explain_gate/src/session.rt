@@ -1,5 +1,5 @@
 //! A filter, and the calls that are made of it.
-use crate::{answers, exchanging, variables, words};
+use crate::{answers, exchanging, targets, variables, words};
 use env_directives::{Directive, ParseError};
 use env_filter::{Builder, EnvFilter, Ignored};
 use explain_base::filters::{filter_line, push_filter};
@@ -53,7 +53,10 @@ impl Session {
             "clone" => self.copy(),
             "current" => self.copy_current(),
             "reload" => self.exchange(words),
+            "try_new" => self.put_read(EnvFilter::try_new(self.alloc, words)),
+            "from_str" => self.put_read(EnvFilter::from_str(self.alloc, words)),
             "vars" => variables::in_memory(self.alloc, words),
+            "vars_lossy" => variables::in_part(self.alloc, words),
             "var" => variables::given(self.alloc, words),
             _ => self.answer_on(call, words),
         }
@@ -73,6 +76,7 @@ impl Session {
             "close" => self.close(Id::at(number)),
             "ask" => self.ask(number, more),
             "retired" => self.retired(number, more),
+            "targets" => self.by_targets(number, more),
             _ => answers::unknown(self.alloc),
         }
     }
@@ -113,6 +117,14 @@ impl Session {
         match read_strict(self.alloc, text, patterns) {
             Ok(filter) => self.put(filter),
             Err((piece, fault)) => answers::refused(self.alloc, piece, fault),
+        }
+    }
+
+    // Puts a filter in place, if one was read.
+    fn put_read(&mut self, read: Result<EnvFilter, ParseError>) -> Result<String, Memory> {
+        match read {
+            Ok(filter) => self.put(filter),
+            Err(fault) => answers::faulty(self.alloc, fault),
         }
     }
 
@@ -251,6 +263,17 @@ impl Session {
         };
         match self.callsites.get(callsite as usize) {
             Some(callsite) => exchanging::retired(self.alloc, lane, callsite),
+            None => answers::unknown(self.alloc),
+        }
+    }
+
+    // What targets answer of a callsite.
+    fn by_targets(&self, callsite: u64, words: &str) -> Result<String, Memory> {
+        let Some(callsite) = self.callsites.get(callsite as usize) else {
+            return answers::unknown(self.alloc);
+        };
+        match targets::answered(self.alloc, callsite, words)? {
+            Some(told) => Ok(told),
             None => answers::unknown(self.alloc),
         }
     }

@@ -1,7 +1,7 @@
 //! Filters from variables.
 use crate::answers;
 use env_filter::{Builder, EnvFilter, FromEnvError, MemVars, SysVars, Vars};
-use explain_base::filters::filter_line;
+use explain_base::filters::{filter_line, push_filter};
 use otel_base::list::Items;
 use otel_base::memory::Memory;
 use otel_base::text::Text;
@@ -25,6 +25,15 @@ fn push_required(alloc: Global, told: &mut String, vars: &MemVars) -> Result<(),
     let line = read_as(alloc, EnvFilter::try_from_default_env(alloc, vars))?;
     told.push_str(line.as_str())?;
     Ok(())
+}
+
+/// What is read of them leniently and without a default, with the pieces that were left out.
+pub fn in_part(alloc: Global, words: &str) -> Result<String, Memory> {
+    let vars = MemVars::new(alloc, pairs(alloc, words)?);
+    let (filter, ignored) = EnvFilter::builder(alloc).from_env_lossy(&vars)?;
+    let mut told = answers::all_ignored(alloc, ignored.as_slice())?;
+    push_filter(alloc, &mut told, &filter)?;
+    Ok(told)
 }
 
 fn pairs(alloc: Global, words: &str) -> Result<Items<(Text, Text)>, Memory> {

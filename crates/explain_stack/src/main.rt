@@ -5,6 +5,7 @@
 mod asks;
 mod calls;
 mod handles;
+mod inside;
 mod on_span;
 mod play;
 mod polls;

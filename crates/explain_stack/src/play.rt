@@ -8,7 +8,7 @@ ghost use Rattle.explain_stack.specs.Places.{AreHeld};
 use crate::handles::{Handles, Slot};
 use crate::scene::Scene;
 use crate::stack::Stack;
-use crate::{on_span, polls, told, words};
+use crate::{inside, on_span, polls, told, words};
 use futures::task;
 use otel_base::memory::Memory;
 use span_handles::span::Span;
@@ -42,6 +42,7 @@ pub fn answer<S: Stack>(
         "admits" => admits(alloc, scene, name, words),
         "lane" => turn(alloc, scene, handles, name),
         "fill" => polls::filled(alloc, scene),
+        "inside" => inside::told(alloc, scene.dispatch),
         "poll" => polls::polled(alloc, scene, handles, at, name, words, cx),
         _ => one(alloc, scene, handles, at, call, name, words),
     }

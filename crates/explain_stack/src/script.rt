@@ -9,6 +9,7 @@ use crate::scene::Scene;
 use crate::stack::Stack;
 use crate::tally::Tally;
 use crate::{play, told, words};
+use env_directives::targets::Targets;
 use env_filter::filter::EnvFilter;
 use futures::task::Context;
 use otel_base::memory::Memory;
@@ -17,6 +18,7 @@ use otel_layer::layer::OpenTelemetryLayer;
 use span_registry::registry::Registry;
 use std::alloc::Global;
 use trace_base::discard::Discard;
+use trace_base::filter::Filter;
 use trace_base::world::World;
 
 /// Runs the lines of a script on the stack of some words, and tells each line and what came of it.
@@ -31,7 +33,11 @@ pub fn run(
         "layer" => run_layer(alloc, true, lines, cx),
         "passive" => run_layer(alloc, false, lines, cx),
         "counted" => run_counted(alloc, lines, cx),
-        "counting" => run_counting(alloc, words, lines, cx),
+        "counting" => run_counting(alloc, EnvFilter::new(alloc, words)?, lines, cx),
+        "targets" => match Targets::from_str(alloc, words) {
+            Ok(targets) => run_counting(alloc, targets, lines, cx),
+            Err(_) => told::refused(alloc),
+        },
         "filtered" => run_filtered(alloc, words, lines, cx),
         _ => run_on(alloc, Registry::new(alloc), lines, cx),
     }
@@ -56,14 +62,13 @@ fn run_counted(alloc: Global, lines: &[String], cx: &mut Context<'_>) -> Result<
     run_on(alloc, Registry::new(alloc).with(layer), lines, cx)
 }
 
-// Runs them under a layer that counts the events which the filter of some words lets through.
-fn run_counting(
+// Runs them under a layer that counts events, and tells those that a filter lets through.
+fn run_counting<F: Filter + Drop>(
     alloc: Global,
-    words: &str,
+    filter: F,
     lines: &[String],
     cx: &mut Context<'_>,
 ) -> Result<String, Memory> {
-    let filter = EnvFilter::new(alloc, words)?;
     let layer = OpenTelemetryLayer::new(alloc, Recorder::new(alloc));
     let layer = layer.with_counting_event_filter(filter);
     run_on(alloc, Registry::new(alloc).with(layer), lines, cx)
