@@ -10,6 +10,7 @@ use crate::targets::Targets;
 use otel_base::enter_error::EnterError;
 use otel_base::memory::Memory;
 use trace_base::callsite::Callsite;
+use trace_base::discard::Discard;
 use trace_base::field::ValueSet;
 use trace_base::filter::Filter;
 use trace_base::lane::Lane;
@@ -33,6 +34,11 @@ impl Targets {
             Interest::Never
         }
     }
+}
+
+/// Nothing of theirs has to be spent.
+impl Discard for Targets {
+    fn discard(self) {}
 }
 
 /// It lets a callsite through where the directive that decides for it does, on each lane and at each moment.
