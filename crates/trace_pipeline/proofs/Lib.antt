@@ -9,6 +9,7 @@ pub mod HexRead
 pub mod Written
 pub mod Digits
 pub mod Plainly
+pub mod QuickLines
 pub mod Placing
 pub mod Ordered
 pub mod Values

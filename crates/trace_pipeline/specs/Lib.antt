@@ -24,3 +24,4 @@ pub mod Report
 pub mod Laws
 pub mod Generated
 pub mod Replay
+pub mod QuickLines

@@ -1,5 +1,5 @@
 -- The JSON of a record.
-use Rattle.std.specs.Prelude.{ℕ, List, [], ◌∷◌, codes}
+use Rattle.std.specs.Prelude.{ℕ, List, [], ◌∷◌, ◌++◌, codes, decimal, Option, Some, None}
 use Rattle.serde_json.specs.Data.{Data, boolean, number, string, array, object, no_items, item}
 use Rattle.serde_json.specs.Find.{of_integer}
 use Rattle.otel_base.specs.declared.record.Record.{Record}
@@ -59,9 +59,19 @@ status_data status.Unset = string (codes "unset")
 status_data (status.Error description) = object (by_name ((codes "error", string description) ∷ []))
 status_data status.Ok = string (codes "ok")
 
--- the record with a number
-unfoldable pub record_data : ℕ → Record → Data
-record_data n finished = object (by_name (
+-- the lane that is told, if one is
+abbrev pub lane_members : Option ℕ → List (List ℕ × Data)
+lane_members None = []
+lane_members (Some lane) = (codes "lane", whole_number lane) ∷ []
+
+-- its text behind other members
+abbrev pub lane_text : Option ℕ → List ℕ
+lane_text None = []
+lane_text (Some lane) = codes ",\"lane\":" ++ decimal lane
+
+-- the record with a number, and the lane on which its span closed, if that is told
+unfoldable pub record_object : Option ℕ → ℕ → Record → Data
+record_object lane n finished = object (by_name (lane_members lane ++
     (codes "record", whole_number n)
     ∷ (codes "name", string finished.name)
     ∷ (codes "kind", string (kind_name finished.kind))
@@ -74,3 +84,7 @@ record_data n finished = object (by_name (
     ∷ (codes "events", array_of event_data finished.events)
     ∷ (codes "links", array_of link_data finished.links)
     ∷ (codes "status", status_data finished.status) ∷ []))
+
+-- the record with a number
+abbrev pub record_data : ℕ → Record → Data
+record_data n finished = record_object None n finished

@@ -103,6 +103,7 @@ step_members refusal.Memory = refused_as (codes "Memory") ∷ []
 abbrev pub told_members : Told → List (List ℕ × Data)
 told_members told.BadLine = refused_as (codes "BadLine") ∷ []
 told_members (told.Directive counting piece) = directive_members (text_name counting) piece
+told_members told.Lanes = refused_as (codes "Lanes") ∷ []
 told_members (told.Step why) = step_members why
 
 -- a refusal of which the name alone is told, with the number of its line

@@ -19,6 +19,7 @@ pub mod laws;
 mod object;
 mod plain;
 mod plain_fields;
+mod quick;
 mod request;
 mod scan;
 mod settings;
@@ -101,5 +102,8 @@ pub fn read_request(alloc: Global, line: &[u8]) -> Result<Request, LineError>
     ensures ok { IfOk result (λ request. request_spelled line.now ≡ Ok request) }
     ensures bad_line { IsErrOf result LineError.BadLine → request_spelled line.now ≡ Err Told.BadLine }
 {
+    if let Some(request) = quick::quick_request(alloc, line) {
+        return Ok(request);
+    }
     request_of(alloc, line)
 }

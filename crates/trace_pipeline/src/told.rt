@@ -9,6 +9,8 @@ pub enum Told {
     /// A piece of the settings' filter, or of their text for counting, is no directive, which is told by its number, from 1;
     /// empty pieces count.
     Directive { counting: bool, piece: u64 },
+    /// The settings have more lanes than the command takes.
+    Lanes,
     /// The line's request is refused.
     Step { refusal: Refusal },
 }

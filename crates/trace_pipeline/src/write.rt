@@ -10,10 +10,10 @@ ghost use Rattle.span_script.specs.declared.reply.Refusal.{Refusal};
 mod attribute;
 mod end;
 pub(crate) mod escape;
-mod hex;
+pub mod hex;
 mod measure;
-mod pieces;
-mod record;
+pub mod pieces;
+pub mod record;
 mod refusal;
 mod reply;
 pub mod summary;
@@ -50,7 +50,7 @@ fn add_reply_line(out: &mut Vec<u8>, line: u64, reply: &Reply) -> Result<(), All
 fn add_record_line(out: &mut Vec<u8>, number: u64, finished: &Record) -> Result<(), AllocError>
     ensures { Writes result out.old out.new (record_text number finished.now) }
 {
-    add_record(out, number, finished)?;
+    add_record(out, number, None, finished)?;
     add(out, "\n")?;
     Ok(())
 }

@@ -29,8 +29,8 @@ const MOST_MEMBERS: u32 = 32;
 // The most items of an array.
 const MOST_ITEMS: u32 = 65_536;
 
-// Whether bytes are known to be UTF-8.
-fn is_text(bytes: &[u8]) -> bool
+/// Whether bytes are known to be UTF-8.
+pub(crate) fn is_text(bytes: &[u8]) -> bool
     ensures { result ≡ true → IsUtf8 bytes.now }
 {
     bytes.is_ascii() || str::from_utf8(bytes).is_ok()

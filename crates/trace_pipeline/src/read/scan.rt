@@ -27,10 +27,10 @@ pub(crate) fn behind(text: &[u8], byte: u8) -> Option<&[u8]>
     Some(&text[1..])
 }
 
-// A whole number as it is written, and what stands behind it.
+/// A whole number as it is written, and what stands behind it.
 #[inline(always)]
 #[tactic(auto, using(crate::proofs::Digits::begun, crate::proofs::Digits::more))]
-fn number(text: &[u8]) -> Option<(u64, &[u8])>
+pub(crate) fn number(text: &[u8]) -> Option<(u64, &[u8])>
     ensures text { IfSome result (λ r. text.now ≡ decimal r.0 ++ r.1.now) }
     ensures fits { IfSome result (λ r. r.0 < 2 ^ 64) }
 {
@@ -111,8 +111,9 @@ fn flag_value(bytes: &[u8]) -> Option<(Plain<'_>, &[u8])>
     Some((Plain::Flag(false), rest))
 }
 
-// What stands behind a word.
-fn word<'a>(text: &'a [u8], word: &[u8]) -> Option<&'a [u8]>
+/// What stands behind a word.
+#[inline(always)]
+pub(crate) fn word<'a>(text: &'a [u8], word: &[u8]) -> Option<&'a [u8]>
     ensures { IfSome result (λ rest. text.now ≡ word.now ++ rest.now) }
 {
     text.strip_prefix(word)

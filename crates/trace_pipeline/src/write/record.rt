@@ -2,7 +2,7 @@
 ghost use Rattle.std.specs.Prelude.{◌≡◌, ◌++◌};
 ghost use Rattle.serde_json.specs.Written.{compact_text};
 ghost use Rattle.trace_pipeline.specs.Object.{array_of};
-ghost use Rattle.trace_pipeline.specs.RecordData.{event_data, link_data, kind_name, status_data, record_data};
+ghost use Rattle.trace_pipeline.specs.RecordData.{event_data, link_data, kind_name, status_data, lane_text, record_object};
 ghost use Rattle.trace_pipeline.specs.Writes.{Writes};
 
 use super::attribute::add_attributes;
@@ -12,15 +12,21 @@ use otel_base::record::{Link, OtelEvent, Record, SpanKind};
 use otel_base::status::Status;
 use std::alloc::AllocError;
 
-/// Adds the record with a number.
-#[tactic(auto, unfolding(crate::specs::RecordData::record_data))]
-pub fn add_record(out: &mut Vec<u8>, number: u64, finished: &Record) -> Result<(), AllocError>
-    ensures { Writes result out.old out.new (compact_text (record_data number finished.now)) }
+/// Adds the record with a number, and its lane, if that is told.
+#[tactic(auto, unfolding(crate::specs::RecordData::record_object))]
+pub fn add_record(
+    out: &mut Vec<u8>,
+    number: u64,
+    lane: Option<u64>,
+    finished: &Record,
+) -> Result<(), AllocError>
+    ensures { Writes result out.old out.new (compact_text (record_object lane number finished.now)) }
 {
     add_attributes(out, "{\"attributes\":", finished.attributes.as_slice())?;
     add_number(out, ",\"end\":", finished.end)?;
     add_events(out, ",\"events\":", finished.events.as_slice())?;
     add_text(out, ",\"kind\":", name_of(finished.kind))?;
+    add_lane(out, lane)?;
     add_links(out, ",\"links\":", finished.links.as_slice())?;
     add_text(out, ",\"name\":", finished.name.as_str())?;
     add_id(out, ",\"parent\":", finished.parent)?;
@@ -31,6 +37,15 @@ pub fn add_record(out: &mut Vec<u8>, number: u64, finished: &Record) -> Result<(
     add_long_id(out, ",\"trace\":", finished.context.trace)?;
     add(out, "}")?;
     Ok(())
+}
+
+fn add_lane(out: &mut Vec<u8>, lane: Option<u64>) -> Result<(), AllocError>
+    ensures { Writes result out.old out.new (lane_text lane) }
+{
+    match lane {
+        Some(lane) => add_number(out, ",\"lane\":", lane),
+        None => Ok(()),
+    }
 }
 
 fn name_of(kind: SpanKind) -> &'static str

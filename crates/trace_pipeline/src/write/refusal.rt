@@ -21,6 +21,7 @@ pub fn add_refusal(out: &mut Vec<u8>, line: u64, told: &Told) -> Result<(), Allo
             *piece,
             text_name(*counting),
         ),
+        Told::Lanes => add_named(out, line, "Lanes"),
         Told::Step { refusal } => add_step(out, line, *refusal),
     }
 }

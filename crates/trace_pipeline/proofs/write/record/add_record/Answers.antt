@@ -1,16 +1,39 @@
 -- The pieces, one after another, are the record's text.
-use Rattle.std.proofs.Common.{ℕ, List, ◌++◌, codes, decimal, refl}
+use Rattle.std.proofs.Common.{◌≡◌, ℕ, List, ◌++◌, codes, decimal, refl, Option, Some, None}
+use Rattle.otel_base.specs.declared.record.Record.{Record}
 use Rattle.json.specs.Print.{escape_byte, quoted}
 use Rattle.serde_json.specs.Written.{compact_text}
 use Rattle.trace_pipeline.specs.Hex.{hex16, hex32}
 use Rattle.trace_pipeline.specs.Object.{array_of}
-use Rattle.trace_pipeline.specs.RecordData.{attributes_data, event_data, link_data, status_data, record_data}
+use Rattle.trace_pipeline.specs.RecordData.{attributes_data, event_data, kind_name, link_data, status_data, lane_text, record_object}
 use Rattle.trace_pipeline.specs.Writes.{Adds}
 use Rattle.trace_pipeline.proofs.Adding.{then, retold}
 use Rattle.trace_pipeline.proofs.write.record.add_record.Goals as goal
 
+-- the pieces of a record, whose parts are told by their texts
+abbrev pieces : Option ℕ → ℕ → Record → List ℕ
+pieces lane number finished =
+    (codes "{\"attributes\":" ++ compact_text (attributes_data finished.attributes))
+    ++ ((codes ",\"end\":" ++ decimal finished.end)
+    ++ ((codes ",\"events\":" ++ compact_text (array_of event_data finished.events))
+    ++ ((codes ",\"kind\":" ++ quoted (kind_name finished.kind))
+    ++ (lane_text lane
+    ++ ((codes ",\"links\":" ++ compact_text (array_of link_data finished.links))
+    ++ ((codes ",\"name\":" ++ quoted finished.name)
+    ++ ((codes ",\"parent\":" ++ quoted (hex16 finished.parent))
+    ++ ((codes ",\"record\":" ++ decimal number)
+    ++ ((codes ",\"span\":" ++ quoted (hex16 finished.context.span))
+    ++ ((codes ",\"start\":" ++ decimal finished.start)
+    ++ ((codes ",\"status\":" ++ compact_text (status_data finished.status))
+    ++ ((codes ",\"trace\":" ++ quoted (hex32 finished.context.trace))
+    ++ codes "}"))))))))))))
+
+whole : (lane : Option ℕ) (number : ℕ) (finished : Record) → pieces lane number finished ≡ compact_text (record_object lane number finished)
+unfolding escape_byte record_object
+whole None number finished = refl
+whole (Some lane) number finished = refl
+
 pub returns : goal.returns
-unfolding escape_byte record_data
 returns c =
     let finished = c.args.finished.now in
     let new = c.add.new.out.items in
@@ -18,6 +41,7 @@ returns c =
     let s2 : List ℕ = codes ",\"end\":" ++ decimal finished.end in
     let s3 : List ℕ = codes ",\"events\":" ++ compact_text (array_of event_data c.as_slice-2.result.now) in
     let s4 : List ℕ = codes ",\"kind\":" ++ quoted c.name_of.result.now in
+    let s : List ℕ = lane_text c.args.lane in
     let s5 : List ℕ = codes ",\"links\":" ++ compact_text (array_of link_data c.as_slice-3.result.now) in
     let s6 : List ℕ = codes ",\"name\":" ++ quoted c.as_str.result.now in
     let s7 : List ℕ = codes ",\"parent\":" ++ quoted (hex16 finished.parent) in
@@ -43,14 +67,16 @@ returns c =
     let t6 : List ℕ = s6 ++ t7 in
     let x6 : Adds c.add_links.new.out.items new t6 = then c.add_links.new.out.items c.add_text-2.new.out.items new s6 t7 c.in_ok-add_text-2.ensures x7 in
     let t5 : List ℕ = s5 ++ t6 in
-    let x5 : Adds c.add_text.new.out.items new t5 = then c.add_text.new.out.items c.add_links.new.out.items new s5 t6 c.in_ok-add_links.ensures x6 in
-    let t4 : List ℕ = s4 ++ t5 in
-    let x4 : Adds c.add_events.new.out.items new t4 = then c.add_events.new.out.items c.add_text.new.out.items new s4 t5 c.in_ok-add_text.ensures x5 in
+    let x5 : Adds c.add_lane.new.out.items new t5 = then c.add_lane.new.out.items c.add_links.new.out.items new s5 t6 c.in_ok-add_links.ensures x6 in
+    let t : List ℕ = s ++ t5 in
+    let x : Adds c.add_text.new.out.items new t = then c.add_text.new.out.items c.add_lane.new.out.items new s t5 c.in_ok-add_lane.ensures x5 in
+    let t4 : List ℕ = s4 ++ t in
+    let x4 : Adds c.add_events.new.out.items new t4 = then c.add_events.new.out.items c.add_text.new.out.items new s4 t c.in_ok-add_text.ensures x in
     let t3 : List ℕ = s3 ++ t4 in
     let x3 : Adds c.add_number.new.out.items new t3 = then c.add_number.new.out.items c.add_events.new.out.items new s3 t4 c.in_ok-add_events.ensures x4 in
     let t2 : List ℕ = s2 ++ t3 in
     let x2 : Adds c.add_attributes.new.out.items new t2 = then c.add_attributes.new.out.items c.add_number.new.out.items new s2 t3 c.in_ok-add_number.ensures x3 in
     let t1 : List ℕ = s1 ++ t2 in
     let x1 : Adds c.args.out.now.items new t1 = then c.args.out.now.items c.add_attributes.new.out.items new s1 t2 c.in_ok-add_attributes.ensures x2 in
-    retold c.args.out.now.items new t1 (compact_text (record_data c.args.number finished)) x1
-    (rw (c.as_slice.ensures, c.as_slice-2.ensures, c.name_of.ensures, c.as_slice-3.ensures, c.as_str.ensures) refl)
+    retold c.args.out.now.items new t1 (compact_text (record_object c.args.lane c.args.number finished)) x1
+    (rw (c.as_slice.ensures, c.as_slice-2.ensures, c.name_of.ensures, c.as_slice-3.ensures, c.as_str.ensures) (whole c.args.lane c.args.number finished))
