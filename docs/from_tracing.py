@@ -16,11 +16,13 @@ CRATES = {
     "span_registry": "The registry and layered subscribers: `tracing_subscriber::registry`, `layer`",
     "env_directives": "Directives and `Targets`: `tracing_subscriber::filter`",
     "env_filter": "`EnvFilter` and `reload`: `tracing_subscriber::filter`, `reload`",
+    "reload_handle": "A lock over a layer: `tracing_subscriber::reload`",
     "shared_gate": "A filter that threads share",
     "otel_base": "Contexts, attributes, statuses, tracers: `opentelemetry`, `opentelemetry_sdk`",
     "otel_state": "What becomes of a span: `tracing_opentelemetry`, `opentelemetry_sdk`",
     "otel_layer": "The layer and its extension of spans: `tracing_opentelemetry`",
     "otel_metrics": "Metrics: `tracing_opentelemetry::metrics`",
+    "span_script": "Requests of a script, each of which stands for a call",
 }
 HEAD = """# From tracing
 
@@ -29,6 +31,7 @@ Who knows the Rust crates finds here which item stands for which of theirs, wher
 The macros have no item: a callsite is a value (`Callsite` of `trace_base`), and what `span!` and `event!` do is two calls, as `USING.md` shows.
 """
 ITEM = re.compile(r"\s*(?:pub )?(?:unsafe )?(fn|struct|enum|trait|const|type)\s+(\w+)")
+CALL = re.compile(r"    ([A-Z]\w+)")
 OWNER = re.compile(r"^(?:impl|pub trait|trait)\b(.*)$")
 CLAUSE = re.compile(r"^\s*ensures(?:\s+(\w+))?\s*\{")
 NAMED = re.compile(r"(?:; |stands? for (?:the |what )?)([^.;`]*`[^`]+`[^.;`]*)")
@@ -46,6 +49,8 @@ def rows_of(file):
     for at, line in enumerate(lines):
         if OWNER.match(line):
             owner = owner_of(line)
+        if line.startswith("pub enum Call "):
+            owner = "Call"
         if line.startswith("}"):
             owner = ""
         if line.strip().startswith("///"):
@@ -53,9 +58,12 @@ def rows_of(file):
             continue
         if comment and line.strip().startswith("#["):
             continue
-        item = ITEM.match(line)
+        item, call = ITEM.match(line), CALL.match(line) if owner == "Call" else None
+        told = " ".join(comment)
+        named = NAMED.search(told)
+        if call and "; " in told:
+            yield told.rsplit("; ", 1)[1].rstrip("."), f"Call::{call.group(1)}", ""
         if comment and item:
-            named = NAMED.search(" ".join(comment))
             if named and is_rust(named.group(1)):
                 here = f"{owner}::{item.group(2)}" if owner and item.group(1) in ("fn", "const") else item.group(2)
                 yield tidy(named.group(1)), here, clauses(lines, at) if item.group(1) == "fn" else ""
