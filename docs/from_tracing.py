@@ -34,7 +34,11 @@ ITEM = re.compile(r"\s*(?:pub )?(?:unsafe )?(fn|struct|enum|trait|const|type)\s+
 CALL = re.compile(r"    ([A-Z]\w+)")
 OWNER = re.compile(r"^(?:impl|pub trait|trait)\b(.*)$")
 CLAUSE = re.compile(r"^\s*ensures(?:\s+(\w+))?\s*\{")
-NAMED = re.compile(r"(?:; |stands? for (?:the |what )?)([^.;`]*`[^`]+`[^.;`]*)")
+NAMED = re.compile(r"(?:; |stands? for )((?:[^.;`]|`[^`]*`)*`[^`]+`(?:[^.;`]|`[^`]*`)*)")
+# Items whose comments name their counterpart in another way.
+OTHERS = {
+    "OpenTelemetrySpanExt::set_parent": "`OpenTelemetrySpanExt::set_parent`",
+}
 
 
 def owner_of(line):
@@ -60,13 +64,14 @@ def rows_of(file):
             continue
         item, call = ITEM.match(line), CALL.match(line) if owner == "Call" else None
         told = " ".join(comment)
-        named = NAMED.search(told)
         if call and "; " in told:
             yield told.rsplit("; ", 1)[1].rstrip("."), f"Call::{call.group(1)}", ""
         if comment and item:
-            if named and is_rust(named.group(1)):
-                here = f"{owner}::{item.group(2)}" if owner and item.group(1) in ("fn", "const") else item.group(2)
-                yield tidy(named.group(1)), here, clauses(lines, at) if item.group(1) == "fn" else ""
+            here = f"{owner}::{item.group(2)}" if owner and item.group(1) in ("fn", "const") else item.group(2)
+            named = [tidy(name) for name in NAMED.findall(told) if is_rust(name)]
+            named = [OTHERS[here]] if here in OTHERS else named[-1:]
+            for name in named:
+                yield name, here, clauses(lines, at) if item.group(1) == "fn" else ""
         comment = []
 
 
