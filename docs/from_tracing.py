@@ -33,7 +33,7 @@ The macros have no item: a callsite is a value (`Callsite` of `trace_base`), and
 ITEM = re.compile(r"\s*(?:pub )?(?:unsafe )?(fn|struct|enum|trait|const|type)\s+(\w+)")
 CALL = re.compile(r"    ([A-Z]\w+)")
 OWNER = re.compile(r"^(?:impl|pub trait|trait)\b(.*)$")
-CLAUSE = re.compile(r"^\s*ensures(?:\s+(\w+))?\s*\{")
+CLAUSE = re.compile(r"^\s*ensures\*?(?:\s+(\w+))?\s*\{")
 NAMED = re.compile(r"(?:; |stands? for )((?:[^.;`]|`[^`]*`)*`[^`]+`(?:[^.;`]|`[^`]*`)*)")
 # Items whose comments name their counterpart in another way.
 OTHERS = {
