@@ -7,7 +7,7 @@ use Rattle.trace_base.specs.declared.level.LevelFilter.{LevelFilter}
 use Rattle.trace_base.specs.declared.level.LevelFilter.TheVariants.{TRACE}
 use Rattle.env_directives.specs.Cuts.{is_among}
 use Rattle.env_directives.specs.Faults.{HasNoLevel, HasEmptyField, IsEnd}
-use Rattle.env_directives.specs.Forms.{begins, unless_empty, target_at, opened, Front, bare, spanned, fielded, Form, alone, head_comma, leveled, leveled_comma, front_text, form_text, IsHead, IsSpan, IsField, IsOpened, IsFront, IsForm, IsLevelText, each_with_comma, directive_at, directive_alone, head_alone, level_behind, meaning, IsDirective}
+use Rattle.env_directives.specs.Forms.{begins, unless_empty, target_at, opened, Front, bare, spanned, fielded, Form, alone, head_comma, leveled, leveled_comma, front_text, form_text, IsHead, IsSpan, IsField, IsOpened, IsFront, IsForm, IsLevelText, each_with_comma, directive_at, directive_alone, head_alone, level_behind, meaning, HasForm}
 use Rattle.env_directives.specs.Reading.{at_level, read_last, read_level, read_end, read_close, more_fields, field_ends, read_fields, read_fielded, read_bracket, reading}
 use Rattle.env_directives.specs.Values.{field_of}
 use Rattle.env_directives.specs.declared.directive.ParseError.TheVariants.{Level, Field}
@@ -145,7 +145,7 @@ form_reads patterns (leveled_comma front level) d start parts means = by_level (
         front_then patterns front (level ++ codes ",") start parts.0 ∙ level_ended (directive_at patterns front TRACE) level found parts.1 e
         ∙ ap Ok (at_front patterns front found) ∙ cc
 
-pub directive_reads : (patterns : Bool) (text : List ℕ) (d : Directive) → IsDirective patterns text d → reading patterns text ≡ Ok d
+pub directive_reads : (patterns : Bool) (text : List ℕ) (d : Directive) → HasForm patterns text d → reading patterns text ≡ Ok d
 directive_reads patterns text d is =
     ap (reading patterns) is.whole ∙ form_reads patterns is.form d (subst (λ (t : List ℕ). begins t ≡ true) is.whole is.start) is.parts is.means
 

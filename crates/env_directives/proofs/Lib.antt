@@ -10,6 +10,7 @@ pub mod Finding
 pub mod Grammar
 pub mod Matching
 pub mod Numbers
+pub mod Patterned
 pub mod Pieces
 pub mod Placed
 pub mod Prefixes

@@ -9,7 +9,7 @@ use Rattle.trace_base.specs.declared.level.LevelFilter.TheVariants as filter
 use Rattle.trace_base.specs.Level.{filter_text}
 use Rattle.trace_base.specs.LevelWords.{filter_of, filter_of_word, named_filter}
 use Rattle.ucd_derived.proofs.Computing.{ucd_derived}
-use Rattle.env_directives.specs.Forms.{begins, unless_empty, target_at, Front, bare, spanned, fielded, Form, alone, head_comma, leveled, leveled_comma, front_text, form_text, IsHead, IsSpan, IsField, IsOpened, IsFront, IsForm, each_with_comma, directive_at, head_alone, level_or_target, level_behind, IsLevelText, meaning, IsDirective}
+use Rattle.env_directives.specs.Forms.{begins, unless_empty, target_at, Front, bare, spanned, fielded, Form, alone, head_comma, leveled, leveled_comma, front_text, form_text, IsHead, IsSpan, IsField, IsOpened, IsFront, IsForm, each_with_comma, directive_at, head_alone, level_or_target, level_behind, IsLevelText, meaning, HasForm}
 use Rattle.env_directives.specs.Printed.{directive_text, text_if_any, fields_text, HasNoMinusZero}
 use Rattle.env_directives.specs.Values.{field_of}
 use Rattle.env_directives.specs.declared.env.directive.Directive.{Directive}
@@ -36,7 +36,7 @@ level_lacks filter.DEBUG = refl
 level_lacks filter.TRACE = refl
 
 -- a level alone
-alone_again : (level : LevelFilter) → IsDirective false (directive_text (target_at [] level)) (target_at [] level)
+alone_again : (level : LevelFilter) → HasForm false (directive_text (target_at [] level)) (target_at [] level)
 unfolding named_filter filter_of_word chars ucd_derived
 alone_again filter.OFF = record { start = refl; form = alone (bare (codes "off")); parts = refl; whole = refl; means = refl }
 alone_again filter.ERROR = record { start = refl; form = alone (bare (codes "error")); parts = refl; whole = refl; means = refl }
@@ -81,7 +81,7 @@ goes_on_more text head rest on seam = record {
 
 -- the text of a front and a level
 leveled_again : (front : Front) (level : LevelFilter) (printed : List ℕ) → begins printed ≡ true → IsFront front → printed ≡ front_text front ++ (codes "=" ++ filter_text level) →
-    IsDirective false printed (directive_at false front level)
+    HasForm false printed (directive_at false front level)
 leveled_again front level printed start part whole = record {
   start = start;
   form = leveled front (filter_text level);
@@ -98,7 +98,7 @@ assembled head span earlier last more = simp append_assoc refl
 
 -- a text that a front begins, whose text prints with a level
 module _ (text : List ℕ) (utf8 : IsUtf8 text) (start : begins text ≡ true) where
-  bare_again : (head : List ℕ) (level : LevelFilter) → IsHead head → GoesOn text head → IsDirective false (directive_text (target_at head level)) (target_at head level)
+  bare_again : (head : List ℕ) (level : LevelFilter) → IsHead head → GoesOn text head → HasForm false (directive_text (target_at head level)) (target_at head level)
   bare_again [] level part on = alone_again level
   bare_again (b ∷ bs) level part on =
       let begun : begins ((b ∷ bs) ++ (codes "=" ++ filter_text level)) ≡ true =
@@ -115,7 +115,7 @@ module _ (text : List ℕ) (utf8 : IsUtf8 text) (start : begins text ≡ true) w
   spanned_text (b ∷ bs) span level = simp append_assoc refl
 
   spanned_again : (head span : List ℕ) (level : LevelFilter) → IsHead head → IsSpan span → GoesOn text head →
-      IsDirective false (directive_text (directive_at false (spanned head span) level)) (directive_at false (spanned head span) level)
+      HasForm false (directive_text (directive_at false (spanned head span) level)) (directive_at false (spanned head span) level)
   spanned_again head span level head_part span_part on =
       let so = spanned_text head span level in
       let begun : begins (directive_text (directive_at false (spanned head span) level)) ≡ true =
@@ -154,7 +154,7 @@ module _ (text : List ℕ) (utf8 : IsUtf8 text) (start : begins text ≡ true) w
 
   fielded_again : (head span : List ℕ) (earlier : List (List ℕ)) (last : List ℕ) (level : LevelFilter) → IsOpened head span earlier → IsField last →
       HasNoMinusZero (map (field_of false) (earlier ++ last ∷ [])) → GoesOn text head →
-      IsDirective false (directive_text (directive_at false (fielded head span earlier last) level)) (directive_at false (fielded head span earlier last) level)
+      HasForm false (directive_text (directive_at false (fielded head span earlier last) level)) (directive_at false (fielded head span earlier last) level)
   fielded_again head span earlier last level parts part no_zero on =
       let all = fields_again (earlier ++ last ∷ []) (all_with earlier parts.2) no_zero in
       let anew = parted earlier all.0 in
@@ -166,7 +166,7 @@ module _ (text : List ℕ) (utf8 : IsUtf8 text) (start : begins text ≡ true) w
       ∙ bracket_start head ((span ++ (codes "{" ++ (each_with_comma (map again earlier) ++ (again last ++ codes "}]")))) ++ (codes "=" ++ filter_text level)) on in
       let same : directive_at false front level ≡ directive_at false (fielded head span earlier last) level =
       ap (λ (fs : List Match). record { in_span = unless_empty span; fields = fs; target = unless_empty head; level = level }) (ap (map (field_of false)) (sym (map_both earlier)) ∙ all.1) in
-      subst (IsDirective false printed) same (leveled_again front level printed begun ((parts.0, parts.1, anew.0), anew.1) so)
+      subst (HasForm false printed) same (leveled_again front level printed begun ((parts.0, parts.1, anew.0), anew.1) so)
     where
       all_with : (es : List (List ℕ)) → AllByRecursion IsField es → AllByRecursion IsField (es ++ last ∷ [])
       all_with [] all = (part, tt)
@@ -181,56 +181,56 @@ module _ (text : List ℕ) (utf8 : IsUtf8 text) (start : begins text ≡ true) w
       map_both (e ∷ es) = ap (λ (ts : List (List ℕ)). again e ∷ ts) (map_both es)
 
   front_again : (front : Front) (level : LevelFilter) → IsFront front → HasNoMinusZero (directive_at false front level).fields → GoesOn text (front_head front) →
-      IsDirective false (directive_text (directive_at false front level)) (directive_at false front level)
+      HasForm false (directive_text (directive_at false front level)) (directive_at false front level)
   front_again (bare head) level part no_zero on = bare_again head level part on
   front_again (spanned head span) level part no_zero on = spanned_again head span level part.0 part.1 on
   front_again (fielded head span earlier last) level part no_zero on = fielded_again head span earlier last level part.0 part.1 no_zero on
 
-  head_again : (head : List ℕ) → IsHead head → GoesOn text head → IsDirective false (directive_text (head_alone head)) (head_alone head)
+  head_again : (head : List ℕ) → IsHead head → GoesOn text head → HasForm false (directive_text (head_alone head)) (head_alone head)
   head_again head part on = by_level (filter_of head)
     where
-      by_level : (found : Option LevelFilter) → IsDirective false (directive_text (level_or_target head found)) (level_or_target head found)
+      by_level : (found : Option LevelFilter) → HasForm false (directive_text (level_or_target head found)) (level_or_target head found)
       by_level (Some level) = alone_again level
       by_level None = bare_again head filter.TRACE part on
 
-  form_again : (form : Form) (d : Directive) → IsForm form → text ≡ form_text form → meaning false form ≡ Some d → HasNoMinusZero d.fields → IsDirective false (directive_text d) d
+  form_again : (form : Form) (d : Directive) → IsForm form → text ≡ form_text form → meaning false form ≡ Some d → HasNoMinusZero d.fields → HasForm false (directive_text d) d
   form_again (alone (bare head)) d parts whole means no_zero =
       let is : head_alone head ≡ d = cc in
-      subst (λ (e : Directive). IsDirective false (directive_text e) e) is (head_again head parts (moved (bare head) whole))
+      subst (λ (e : Directive). HasForm false (directive_text e) e) is (head_again head parts (moved (bare head) whole))
     where
       moved : (front : Front) → text ≡ front_text front → GoesOn text (front_head front)
       moved front whole = let on = front_goes_on front in record { more = on.more; seam = on.seam; whole = whole ∙ on.whole }
   form_again (alone (spanned head span)) d parts whole means no_zero =
       let is : directive_at false (spanned head span) filter.TRACE ≡ d = cc in
       let on = front_goes_on (spanned head span) in
-      subst (λ (e : Directive). IsDirective false (directive_text e) e) is
+      subst (λ (e : Directive). HasForm false (directive_text e) e) is
       (spanned_again head span filter.TRACE parts.0 parts.1 (record { more = on.more; seam = on.seam; whole = whole ∙ on.whole }))
   form_again (alone (fielded head span earlier last)) d parts whole means no_zero =
       let is : directive_at false (fielded head span earlier last) filter.TRACE ≡ d = cc in
       let on = front_goes_on (fielded head span earlier last) in
-      subst (λ (e : Directive). IsDirective false (directive_text e) e) is
+      subst (λ (e : Directive). HasForm false (directive_text e) e) is
       (fielded_again head span earlier last filter.TRACE parts.0 parts.1 (subst (λ (e : Directive). HasNoMinusZero e.fields) (sym is) no_zero) (record { more = on.more; seam = on.seam; whole = whole ∙ on.whole }))
   form_again (head_comma head) d parts whole means no_zero =
       let is : head_alone head ≡ d = cc in
-      subst (λ (e : Directive). IsDirective false (directive_text e) e) is (head_again head parts (record { more = codes ","; seam = lit< tt; whole = whole }))
+      subst (λ (e : Directive). HasForm false (directive_text e) e) is (head_again head parts (record { more = codes ","; seam = lit< tt; whole = whole }))
   form_again (leveled front level) d parts whole means no_zero = by_level (level_behind level) refl means
     where
-      by_level : (found : Option LevelFilter) → level_behind level ≡ found → option_map (directive_at false front) found ≡ Some d → IsDirective false (directive_text d) d
+      by_level : (found : Option LevelFilter) → level_behind level ≡ found → option_map (directive_at false front) found ≡ Some d → HasForm false (directive_text d) d
       by_level None e means = absurd (cc)
       by_level (Some found) e means =
           let is : directive_at false front found ≡ d = cc in
           let on = goes_on_more (front_text front) (front_head front) (codes "=" ++ level) (front_goes_on front) (lit< tt) in
-          subst (λ (e : Directive). IsDirective false (directive_text e) e) is
+          subst (λ (e : Directive). HasForm false (directive_text e) e) is
           (front_again front found parts.0 (subst (λ (e : Directive). HasNoMinusZero e.fields) (sym is) no_zero) (record { more = on.more; seam = on.seam; whole = whole ∙ on.whole }))
   form_again (leveled_comma front level) d parts whole means no_zero = by_level (level_behind level) refl means
     where
-      by_level : (found : Option LevelFilter) → level_behind level ≡ found → option_map (directive_at false front) found ≡ Some d → IsDirective false (directive_text d) d
+      by_level : (found : Option LevelFilter) → level_behind level ≡ found → option_map (directive_at false front) found ≡ Some d → HasForm false (directive_text d) d
       by_level None e means = absurd (cc)
       by_level (Some found) e means =
           let is : directive_at false front found ≡ d = cc in
           let on = goes_on_more (front_text front) (front_head front) (codes "=" ++ (level ++ codes ",")) (front_goes_on front) (lit< tt) in
-          subst (λ (e : Directive). IsDirective false (directive_text e) e) is
+          subst (λ (e : Directive). HasForm false (directive_text e) e) is
           (front_again front found parts.0 (subst (λ (e : Directive). HasNoMinusZero e.fields) (sym is) no_zero) (record { more = on.more; seam = on.seam; whole = whole ∙ on.whole }))
 
-pub printed_again : (text : List ℕ) (d : Directive) → IsUtf8 text → IsDirective false text d → HasNoMinusZero d.fields → IsDirective false (directive_text d) d
+pub printed_again : (text : List ℕ) (d : Directive) → IsUtf8 text → HasForm false text d → HasNoMinusZero d.fields → HasForm false (directive_text d) d
 printed_again text d utf8 is no_zero = form_again text utf8 is.start is.form d is.parts is.whole is.means no_zero

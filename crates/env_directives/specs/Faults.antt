@@ -1,8 +1,8 @@
 -- Why a text is no directive. Without patterns it has one fault, the first from the left; where patterns are wanted, a text
--- with a refused value may also have another fault further right, or the form of a directive, and either may be told.
+-- with a refused value may also have another fault further right, and either may be told.
 use Rattle.std.specs.Prelude.{◌≡◌, ℕ, List, [], ◌∷◌, ◌++◌, Bool, true, None, codes}
 use Rattle.env_directives.specs.Cuts.{is_among}
-use Rattle.env_directives.specs.Forms.{begins, Front, front_text, IsFront, IsLevelText, level_behind, opened, IsOpened, IsField, IsDirective}
+use Rattle.env_directives.specs.Forms.{begins, Front, front_text, IsFront, IsLevelText, level_behind, opened, IsOpened, IsField, HasForm}
 use Rattle.env_directives.specs.Values.{IsNoPatternField}
 use Rattle.env_directives.specs.declared.directive.ParseError.{ParseError}
 use Rattle.env_directives.specs.declared.directive.ParseError.TheVariants.{Shape, Level, Field, Pattern, Equals, Fields, Memory}
@@ -52,9 +52,9 @@ pub record HasNoPattern (text : List ℕ) : Type 0 where
   pub whole : text ≡ opened head span earlier (field ++ stop ∷ more)
   pub value : IsNoPatternField field
 
--- what each fault says of a text; `Shape` is told where the text is no directive and has no other fault
+-- what each fault says of a text; `Shape` is told where the text has no form and no other fault
 abbrev pub HasFault : Bool → List ℕ → ParseError → Type 0
-HasFault patterns text Shape = ((directive : Directive) → ¬ IsDirective patterns text directive) × ¬ HasNoLevel text × ¬ HasEmptyField text
+HasFault patterns text Shape = ((directive : Directive) → ¬ HasForm patterns text directive) × ¬ HasNoLevel text × ¬ HasEmptyField text
 HasFault patterns text Level = HasNoLevel text
 HasFault patterns text Field = HasEmptyField text
 HasFault patterns text Pattern = (patterns ≡ true) × HasNoPattern text

@@ -10,7 +10,7 @@ use Rattle.ucd_category.specs.GeneralCategory.{general_category}
 use Rattle.ucd_category.specs.GeneralCategoryGroup.{in_group}
 use Rattle.ucd_category.specs.declared.GeneralCategoryGroup.TheVariants.{Number}
 use Rattle.env_directives.specs.Cuts.{lacks}
-use Rattle.env_directives.specs.Values.{field_of}
+use Rattle.env_directives.specs.Values.{field_of, HavePatterns}
 use Rattle.env_directives.specs.declared.env.directive.Directive.{Directive}
 
 -- whether a directive may begin with a character: an opening bracket, `-`, `:`, `_`, or one that is alphabetic or numeric
@@ -131,10 +131,15 @@ meaning patterns (head_comma head) = Some (head_alone head)
 meaning patterns (leveled front level) = option_map (directive_at patterns front) (level_behind level)
 meaning patterns (leveled_comma front level) = option_map (directive_at patterns front) (level_behind level)
 
--- The grammar: a text is that of a directive if it begins as one may, has one of the forms, and that form means the directive.
-pub record IsDirective (patterns : Bool) (text : List ℕ) (directive : Directive) : Type 0 where
+-- A text has a form for a directive if it begins as one may, and looks like a form that means the directive.
+pub record HasForm (patterns : Bool) (text : List ℕ) (directive : Directive) : Type 0 where
   pub start : begins text ≡ true
   pub form : Form
   pub parts : IsForm form
   pub whole : text ≡ form_text form
   pub means : meaning patterns form ≡ Some directive
+
+-- The grammar: a text is that of a directive if it has a form for it; where patterns are wanted, each of these has to be one too.
+abbrev pub IsDirective : Bool → List ℕ → Directive → Type 0
+IsDirective false text directive = HasForm false text directive
+IsDirective true text directive = HasForm true text directive × HavePatterns directive.fields

@@ -20,6 +20,17 @@ pub record IsCompiled (pattern : List ℕ) (regex : Regex) : Type 0 where
   pub config : regex_config regex ≡ default_config
   pub read : IsReadFromSource regex
 
+-- `regex` reads a pattern
+pub record IsReadable (pattern : List ℕ) : Type 0 where
+  pub regex : Regex
+  pub source : regex_source regex ≡ pattern
+  pub config : regex_config regex ≡ default_config
+  pub read : IsReadFromSource regex
+
+-- a text is a pattern, by itself and between the start and the end of a text
+abbrev pub IsPattern : List ℕ → Type 0
+IsPattern text = IsReadable text × IsReadable (whole text)
+
 -- `regex` refuses a pattern, for another cause than want of memory
 abbrev pub IsRefused : List ℕ → Type 0
 IsRefused pattern = (why : Error) × (why ≢ OutOfMemory) × IsRefusal default_config pattern why × IsRightKind default_config pattern why

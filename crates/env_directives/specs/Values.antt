@@ -1,10 +1,11 @@
 -- What the text of a field asks for: a name, and a value that it has to have.
-use Rattle.std.specs.Prelude.{ℕ, ℤ, pos, negsuc, List, ◌^◌, Bool, true, false, if◌then◌else◌, Option, None, Some, codes, nat_lt, bytes_eq, unwrap_or, ◌≡◌, IsSome}
+use Rattle.std.specs.Prelude.{ℕ, ℤ, pos, negsuc, List, ◌^◌, Bool, true, false, if◌then◌else◌, Option, None, Some, codes, nat_lt, bytes_eq, unwrap_or, ◌≡◌, IsSome, IfSome}
+use Rattle.std.specs.List.{AllByRecursion}
 use Rattle.std.specs.Option.{option_and_then, option_map, option_or}
 use Rattle.std.specs.Str.Parse.{without_leading_sign, signed_digits_value}
 use Rattle.trace_base.specs.LevelWords.{digits_number, decimal_value}
 use Rattle.env_directives.specs.Cuts.{cut}
-use Rattle.env_directives.specs.Patterns.{IsNoPattern}
+use Rattle.env_directives.specs.Patterns.{IsPattern, IsNoPattern}
 use Rattle.env_directives.specs.declared.directive.ParseError.{ParseError}
 use Rattle.env_directives.specs.declared.directive.ParseError.TheVariants.{Shape, Level, Field, Pattern, Equals, Fields, Memory}
 use Rattle.env_directives.specs.declared.env.field.Match.{Match}
@@ -46,6 +47,18 @@ value_of patterns text = unwrap_or (plain_value text) (text_value patterns text)
 unfoldable pub field_of : Bool → List ℕ → Match
 field_of patterns text = let pieces = cut (codes "=") text in
     record { name = pieces.front; value = option_map (λ _. value_of patterns (cut (codes "=") pieces.rest).front) pieces.stop }
+
+-- a value is a pattern only if its text is one
+abbrev pub IsPatternIfAny : ValueMatch → Type 0
+IsPatternIfAny (Pat text) = IsPattern text
+IsPatternIfAny (Debug text) = Unit {0}
+IsPatternIfAny (Truth truth) = Unit {0}
+IsPatternIfAny (U64 number) = Unit {0}
+IsPatternIfAny (I64 number) = Unit {0}
+
+-- the patterns that fields ask for are patterns
+abbrev pub HavePatterns : List Match → Type 0
+HavePatterns fields = AllByRecursion (λ (field : Match). IfSome field.value IsPatternIfAny) fields
 
 -- a text is no truth value and no number, and is refused as a pattern
 abbrev pub IsNoPatternValue : List ℕ → Type 0

@@ -1,16 +1,19 @@
 //! What holds of every text of a directive, and of whole lists of directives, whatever the sets do step by step. Each
 //! law is a function that does nothing.
-ghost use Rattle.std.specs.Prelude.{◌≡◌, Bool, List, ℕ, false, ◌↔◌};
+ghost use Rattle.std.specs.Prelude.{◌≡◌, ◌≢◌, Bool, List, ℕ, Ok, Err, false, ◌↔◌};
 ghost use Rattle.std.specs.Str.{IsUtf8, trim};
 ghost use Rattle.std.specs.declared.cmp.Ordering.TheVariants.{Equal};
 ghost use Rattle.env_directives.specs.Choice.{admits_target, lets_through, longest_prefix};
 ghost use Rattle.env_directives.specs.DirectiveOrder.{directive_cmp, SameButLevel};
-ghost use Rattle.env_directives.specs.Faults.{HasNoLevel, HasEmptyField};
+ghost use Rattle.env_directives.specs.Faults.{HasNoLevel, HasEmptyField, HasFault};
 ghost use Rattle.env_directives.specs.Forms.{IsDirective};
 ghost use Rattle.env_directives.specs.Printed.{directive_text, HasNoMinusZero};
+ghost use Rattle.env_directives.specs.Reading.{reading};
 ghost use Rattle.env_directives.specs.Table.{Table, IsTableOf, empty_table, with_all_added};
 ghost use Rattle.env_directives.specs.Targets.{all_added};
 ghost use Rattle.env_directives.specs.declared.directive.StaticDirective.{StaticDirective};
+ghost use Rattle.env_directives.specs.declared.directive.ParseError.{ParseError};
+ghost use Rattle.env_directives.specs.declared.directive.ParseError.TheVariants.{Memory as OutOfMemory};
 ghost use Rattle.env_directives.specs.declared.env.directive.Directive.{Directive};
 ghost use Rattle.trace_base.specs.declared.level.Level.{Level};
 
@@ -23,6 +26,14 @@ pub fn readings()
     ensures level { (patterns : Bool) (text : List ℕ) (d : Directive) → IsDirective patterns text d → HasNoLevel text → ⊥ }
     ensures field { (patterns : Bool) (text : List ℕ) (d : Directive) → IsDirective patterns text d → HasEmptyField text → ⊥ }
     ensures fault { (text : List ℕ) → HasNoLevel text → HasEmptyField text → ⊥ }
+{}
+
+/// Without patterns a text is read as a directive exactly where it is that directive's by the grammar of forms, and as a
+/// fault exactly where that is its fault, the first from the left.
+pub fn grammar()
+    ensures directive { (text : List ℕ) (d : Directive) → reading false text ≡ Ok d ↔ IsDirective false text d }
+    ensures fault { (text : List ℕ) (fault : ParseError) → (fault ≢ OutOfMemory)
+        → reading false text ≡ Err fault ↔ HasFault false text fault }
 {}
 
 /// What a directive prints that was read without patterns is read as that directive again, its level included, unless

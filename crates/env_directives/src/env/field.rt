@@ -1,5 +1,5 @@
 //! What a directive asks of a span's fields: that they are there, or that they have a value.
-ghost use Rattle.std.specs.Prelude.{◌≡◌, ◌++◌, IfOk, IfErr, Some, None, codes, bytes_eq};
+ghost use Rattle.std.specs.Prelude.{◌≡◌, ◌++◌, IfOk, IfErr, IfSome, Some, None, codes, bytes_eq};
 ghost use Rattle.std.proofs.Common.{rules};
 ghost use Rattle.std.specs.Cmp.Rules.{comparing};
 ghost use Rattle.std.specs.Ordering.{nat_cmp, as_partial_cmp};
@@ -7,7 +7,7 @@ ghost use Rattle.std.specs.Cmp.{partial_order_from_own_ties};
 ghost use Rattle.std.specs.Cmp.Lexicographic.{slice_cmp};
 ghost use Rattle.env_directives.specs.Meeting.{meets, meets_truth, meets_u64, meets_i64, is_text, debug_text};
 ghost use Rattle.env_directives.specs.Printed.{match_text, value_text};
-ghost use Rattle.env_directives.specs.Values.{IsNoPatternField, IsNoPatternValue, field_of, value_of, plain_value, truth_of, u64_of, i64_of, MayFail};
+ghost use Rattle.env_directives.specs.Values.{IsNoPatternField, IsNoPatternValue, field_of, value_of, plain_value, truth_of, u64_of, i64_of, IsPatternIfAny, MayFail};
 
 use crate::directive::ParseError;
 use crate::env::cut::cut;
@@ -37,6 +37,7 @@ impl Match {
     #[tactic(auto, unfolding(crate::specs::Values::field_of))]
     pub(crate) fn parse(alloc: Global, text: &str, patterns: bool) -> Result<Match, ParseError>
         ensures ok { IfOk result (λ m. m ≡ field_of patterns text.now) }
+        ensures pattern { IfOk result (λ m. IfSome m.value IsPatternIfAny) }
         ensures err { IfErr result (MayFail patterns (IsNoPatternField text.now)) }
     {
         let pieces = cut(text, b"=");
@@ -116,6 +117,7 @@ impl ValueMatch {
     // Reads a truth value, a number, or else a text: a pattern where those are wanted.
     fn parse(alloc: Global, text: &str, patterns: bool) -> Result<ValueMatch, ParseError>
         ensures ok { IfOk result (λ v. v ≡ value_of patterns text.now) }
+        ensures pattern { IfOk result IsPatternIfAny }
         ensures err { IfErr result (MayFail patterns (IsNoPatternValue text.now)) }
     {
         if let Some(value) = plain_value(text) {

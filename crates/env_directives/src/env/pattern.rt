@@ -9,7 +9,7 @@ ghost use Rattle.std.specs.Cmp.{partial_order_from_own_ties};
 ghost use Rattle.std.specs.Cmp.Lexicographic.{slice_cmp};
 ghost use Rattle.env_directives.specs.Values.{MayFail};
 ghost use Rattle.env_directives.specs.Meeting.{is_matched_if_any, plain_text};
-ghost use Rattle.env_directives.specs.Patterns.{whole, is_matched, IsCompiled, IsRefused, IsNoPattern};
+ghost use Rattle.env_directives.specs.Patterns.{whole, is_matched, IsCompiled, IsPattern, IsRefused, IsNoPattern};
 
 use crate::directive::ParseError;
 use crate::env::field::{MatchDebug, text_of};
@@ -47,6 +47,7 @@ impl MatchPattern {
     // Compiles a pattern for whole texts. It has to be one by itself too: `a)(b` becomes one in brackets.
     pub(crate) fn new(alloc: Global, text: &str) -> Result<MatchPattern, ParseError>
         ensures ok { IfOk result (λ m. m ≡ text.now) }
+        ensures pattern { IfOk result (λ m. IsPattern text.now) }
         ensures err { IfErr result (MayFail true (IsNoPattern text.now)) }
     {
         compile(alloc, text)?;

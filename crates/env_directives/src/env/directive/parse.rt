@@ -4,6 +4,7 @@ ghost use Rattle.env_directives.specs.Forms.{begins, may_begin, head_alone, targ
 ghost use Rattle.env_directives.specs.Reading.{Answers, read_last, read_level, LeadsToNoPattern, SpanLeadsToNoPattern, read_end, read_close, read_fields, read_fielded, read_bracket, reading};
 ghost use Rattle.trace_base.specs.declared.level.LevelFilter.TheVariants.{TRACE};
 ghost use Rattle.env_directives.specs.Faults.{HasNoPattern};
+ghost use Rattle.env_directives.specs.Values.{HavePatterns};
 
 use crate::directive::ParseError;
 use crate::env::cut::cut;
@@ -19,7 +20,8 @@ use unicode::properties::{GeneralCategory, GeneralCategoryGroup, is_alphabetic};
 // Reads a text without white space at its ends.
 #[tactic(auto, unfolding(crate::specs::Reading::reading))]
 pub(super) fn read(alloc: Global, text: &str, patterns: bool) -> Result<Directive, ParseError>
-    ensures { Answers (λ d. d) patterns (HasNoPattern text.now) result (reading patterns text.now) }
+    ensures is { Answers (λ d. d) patterns (HasNoPattern text.now) result (reading patterns text.now) }
+    ensures patterns { IfOk result (λ d. HavePatterns d.fields) }
 {
     if !begins(text) {
         return Err(ParseError::Shape);
@@ -162,7 +164,8 @@ fn read_bracket(
     text: &str,
     patterns: bool,
 ) -> Result<Directive, ParseError>
-    ensures { Answers (λ d. d) patterns (SpanLeadsToNoPattern text.now) result (read_bracket patterns directive text.now) }
+    ensures is { Answers (λ d. d) patterns (SpanLeadsToNoPattern text.now) result (read_bracket patterns directive text.now) }
+    ensures patterns { HavePatterns directive.fields → IfOk result (λ d. HavePatterns d.fields) }
 {
     let pieces = cut(text, b"]{");
     match pieces.stop {
@@ -199,7 +202,8 @@ fn read_fielded(
     rest: &str,
     patterns: bool,
 ) -> Result<Directive, ParseError>
-    ensures { Answers (λ d. d) patterns (LeadsToNoPattern rest.now) result (read_fielded (record directive { in_span = unless_empty span.now }) (read_fields patterns [] rest.now)) }
+    ensures is { Answers (λ d. d) patterns (LeadsToNoPattern rest.now) result (read_fielded (record directive { in_span = unless_empty span.now }) (read_fields patterns [] rest.now)) }
+    ensures patterns { IfOk result (λ d. HavePatterns d.fields) }
 {
     let in_span = unless_empty(alloc, span)?;
     let (fields, rest) = read_fields(alloc, rest, patterns)?;
@@ -219,7 +223,8 @@ fn read_fields<'t>(
     text: &'t str,
     patterns: bool,
 ) -> Result<(Items<Match>, &'t str), ParseError>
-    ensures { Answers (λ r. (r.0, r.1.now)) patterns (LeadsToNoPattern text.now) result (read_fields patterns [] text.now) }
+    ensures is { Answers (λ r. (r.0, r.1.now)) patterns (LeadsToNoPattern text.now) result (read_fields patterns [] text.now) }
+    ensures patterns { IfOk result (λ r. HavePatterns r.0) }
 {
     let mut fields = Items::new(alloc);
     let mut text = text;

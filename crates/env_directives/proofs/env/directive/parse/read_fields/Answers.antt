@@ -3,21 +3,22 @@ use Rattle.std.proofs.lemmas.Result.{err_from_is_err_and}
 use Rattle.env_directives.specs.Cuts.{cut}
 use Rattle.env_directives.specs.Values.{IsNoPatternField}
 use Rattle.env_directives.proofs.FieldsCut.{shape_left, empty_left, text_left, last_left, more_left, earlier_more, text_shorter, answers_fault}
+use Rattle.env_directives.proofs.Patterned.{with_patterned}
 use Rattle.env_directives.specs.declared.env.field.Match.{Match}
 use Rattle.env_directives.proofs.env.directive.parse.read_fields.Goals as goal
 
-pub returns-in_default : goal.returns-in_default
-returns-in_default c =
+pub returns-in_default-clause-is : goal.returns-in_default-clause-is
+returns-in_default-clause-is c =
     shape_left c.args.patterns c.args.text.now c.fields.text.now _ _ c.fields.fields c.fields.invariant.same c.cut-pieces.ensures.front
     c.cut-pieces.ensures.rest (sym c.in_default.is ∙ c.cut-pieces.ensures.stop)
 
-pub returns-then-is_empty : goal.returns-then-is_empty
-returns-then-is_empty c =
+pub returns-then-is_empty-clause-is : goal.returns-then-is_empty-clause-is
+returns-then-is_empty-clause-is c =
     empty_left c.args.patterns c.args.text.now c.fields.text.now _ _ c.fields.fields c.fields.invariant.same c.cut-pieces.ensures.front
     c.cut-pieces.ensures.rest c.in-Some.stop (sym c.in-Some.is ∙ c.cut-pieces.ensures.stop) (sym c.if-is_empty.true ∙ c.is_empty.ensures)
 
-pub returns-in_err-parse : goal.returns-in_err-parse
-returns-in_err-parse c =
+pub returns-in_err-parse-clause-is : goal.returns-in_err-parse-clause-is
+returns-in_err-parse-clause-is c =
     let p = err_from_is_err_and c.from_residual.result c.from_residual.ensures.1 in
     let stopped : Some c.in-Some.stop ≡ (cut (codes ",}") c.fields.text.now).stop = sym c.in-Some.is ∙ c.cut-pieces.ensures.stop in
     let parts = c.fields.invariant.earlier in
@@ -26,11 +27,15 @@ returns-in_err-parse c =
     (text_left c.args.patterns c.args.text.now c.fields.text.now _ _ c.fields.fields c.fields.invariant.same c.cut-pieces.ensures.front
     c.cut-pieces.ensures.rest c.in-Some.stop stopped (sym c.if-is_empty.false ∙ c.is_empty.ensures) parts.0 parts.1 parts.2))
 
-pub returns-then-stop-eq125 : goal.returns-then-stop-eq125
-returns-then-stop-eq125 c =
+pub returns-then-stop-eq125-clause-is : goal.returns-then-stop-eq125-clause-is
+returns-then-stop-eq125-clause-is c =
     rw c.in_ok-push.ensures.ok (last_left c.args.patterns c.args.text.now c.fields.text.now _ _ c.fields.fields c.fields.invariant.same c.cut-pieces.ensures.front
     c.cut-pieces.ensures.rest c.in-Some.stop (sym c.in-Some.is ∙ c.cut-pieces.ensures.stop) (sym c.if-is_empty.false ∙ c.is_empty.ensures)
     c.in_ok-parse.field-0 c.in_ok-parse.ensures.ok c.if-stop-eq125.true)
+
+pub returns-then-stop-eq125-clause-patterns : goal.returns-then-stop-eq125-clause-patterns
+returns-then-stop-eq125-clause-patterns c =
+    rw c.in_ok-push.ensures.ok (with_patterned c.fields.fields c.in_ok-parse.field-0 c.fields.invariant.patterns c.in_ok-parse.ensures.pattern)
 
 pub fields-smaller : goal.fields-smaller
 fields-smaller c =
@@ -48,4 +53,5 @@ fields-preserved c = record {
       earlier_more c.args.patterns c.args.text.now c.fields.text.now _ _ c.fields.fields c.fields.invariant.same c.cut-pieces.ensures.front
       c.cut-pieces.ensures.rest c.in-Some.stop (sym c.in-Some.is ∙ c.cut-pieces.ensures.stop) (sym c.if-is_empty.false ∙ c.is_empty.ensures)
       c.if-stop-eq125.false c.fields.invariant.earlier;
+  patterns = rw c.in_ok-push.ensures.ok (with_patterned c.fields.fields c.in_ok-parse.field-0 c.fields.invariant.patterns c.in_ok-parse.ensures.pattern);
 }

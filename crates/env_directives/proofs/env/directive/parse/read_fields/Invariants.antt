@@ -4,6 +4,7 @@ use denote.Text.{Utf8}
 use denote.Shadow.{shadow}
 use Rattle.env_directives.specs.Forms.{each_with_comma, IsField}
 use Rattle.env_directives.specs.Reading.{read_fields}
+use Rattle.env_directives.specs.Values.{HavePatterns}
 use Rattle.env_directives.proofs.FieldsCut.{after_fields}
 use Rattle.env_directives.proofs.env.directive.parse.read_fields.Given as goal
 
@@ -12,6 +13,7 @@ invariant-fields l = record {
   is_text : shadow (Utf8 l.text);
   same : read_fields l.patterns [] l.fn.text ≡ after_fields l.fields (read_fields l.patterns [] l.text);
   earlier : (done : List (List ℕ)) × AllByRecursion IsField done × (l.fn.text ≡ each_with_comma done ++ l.text);
+  patterns : HavePatterns l.fields;
 }
 
 abbrev pub decreases-fields : goal.decreases-fields
