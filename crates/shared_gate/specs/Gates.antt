@@ -1,5 +1,5 @@
 -- What contracts see of gates, of their writer and of its notes.
-use Rattle.std.specs.Prelude.{◌≡◌, ◌⊎◌, ℕ, ◌<◌, List, [], ◌∷◌, ◌++◌, slice_get, Option, Some, None}
+use Rattle.std.specs.Prelude.{◌≡◌, ◌⊎◌, ℕ, ◌<◌, ◌≤◌, List, [], ◌∷◌, ◌++◌, slice_get, Option, Some, None}
 use mathlib.Core.List.{IsPrefix}
 use Rattle.atomic_table.specs.Seated.{TableId}
 use Rattle.trace_base.specs.declared.callsite.Callsite.{Callsite}
@@ -32,6 +32,16 @@ pub record Answers (texts : Texts) (answer : Admission) (c : Callsite) (levels :
 -- a new gate of this writer, which has seen the opening text
 abbrev pub IsOpening : TableId → List ℕ → Gated → Type 0
 IsOpening table text g = (g.table ≡ table) × (g.texts ≡ text ∷ []) × (g.number ≡ 0)
+
+-- from now on a gate answers by texts from a number on, and under that number by this text
+pub record IsFrom (number : ℕ) (text : List ℕ) (g : Gated) : Type 0 where
+  pub later : number ≤ g.number
+  pub same : g.number ≡ number → slice_get g.texts number ≡ Some text
+
+-- an answer by a text from a number on, and under that number by this text
+pub record AnswersFrom (number : ℕ) (text : List ℕ) (answer : Admission) (c : Callsite) (levels : Levels) : Type 0 where
+  pub later : number ≤ answer.reload
+  pub same : answer.reload ≡ number → answer.yes ≡ gate_rule (text_filter text) (levels_under number levels) c
 
 -- ---- inside
 

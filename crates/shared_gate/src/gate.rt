@@ -1,10 +1,11 @@
 //! Gates that are asked while their writer puts other texts in force.
-ghost use Rattle.std.specs.Prelude.{◌≡◌, ◌+◌, ◌<◌, ◌≤◌, [], ◌∷◌, length, vec_len, vec_capacity, All, IfOk, OnOk, OnErr};
+ghost use Rattle.std.specs.Prelude.{◌≡◌, ◌+◌, ◌<◌, ◌≤◌, [], ◌∷◌, length, vec_len, vec_capacity, All, IsOk, IfOk};
 ghost use mathlib.Core.List.{IsPrefix};
 ghost use Rattle.std.specs.Arc.{arc_value};
 ghost use Rattle.event_gate.specs.Rules.{IsRefused, levels_under};
 ghost use Rattle.shared_gate.specs.Order.{opening_of};
 ghost use Rattle.shared_gate.specs.Gates.{Answers, IsOpening};
+ghost use Rattle.shared_gate.specs.declared.writer.TheConstants.{MOST_GATES};
 
 use crate::in_force::{InForce, copies_of, numbered};
 use crate::note::GateNote;
@@ -50,7 +51,7 @@ impl SharedGate {
         text: &str,
         readers: u64,
     ) -> Result<(GateWriter, Vec<SharedGate>), GateError>
-        requires { (0 < readers) × (readers ≤ 64) }
+        requires { (0 < readers) × (readers ≤ MOST_GATES) }
         ensures opening { IfOk result (λ r. r.0.texts ≡ text.now ∷ []) }
         ensures count { IfOk result (λ r. vec_len r.1 ≡ readers) }
         ensures gates { IfOk result (λ r. All (IsOpening r.0.table text.now) r.1.items) }
@@ -114,15 +115,15 @@ impl SharedGate {
     }
 
     /// Takes in what the gate's own writer told. From now on it names no older text than the note's; and where it named
-    /// none past the note's, what it has seen begins with all texts of the note.
+    /// none past the note's, what it has seen is then what the writer had put in force. It takes no memory, so it is
+    /// always Ok.
     pub fn learn(&mut self, note: GateNote) -> Result<(), Memory>
         requires { note.table ≡ self.old.table }
+        ensures ok { IsOk result }
         ensures table { self.new.table ≡ self.old.table }
-        ensures later { OnOk result ((self.old.number ≤ self.new.number)
-            × (length note.texts ≤ self.new.number + 1)) }
-        ensures begins { OnOk result (self.old.number < length note.texts → self.new.texts ≡ note.texts) }
-        ensures stays { OnOk result (length note.texts ≤ self.old.number → self.new ≡ self.old) }
-        ensures memory_leaves { OnErr result (self.new ≡ self.old) }
+        ensures later { (self.old.number ≤ self.new.number) × (length note.texts ≤ self.new.number + 1) }
+        ensures begins { self.old.number < length note.texts → self.new.texts ≡ note.texts }
+        ensures stays { length note.texts ≤ self.old.number → self.new ≡ self.old }
     {
         let GateNote {
             home: _,

@@ -5,6 +5,7 @@
 
 pub mod gate;
 mod in_force;
+pub mod laws;
 pub mod note;
 mod order;
 mod reader;

@@ -1,10 +1,11 @@
 //! The writer, which puts texts in force.
-ghost use Rattle.std.specs.Prelude.{◌≡◌, ◌+◌, ◌^◌, ◌<◌, ◌≤◌, ◌++◌, [], ◌∷◌, length, IfOk, OnOk, OnErr};
+ghost use Rattle.std.specs.Prelude.{◌≡◌, ◌+◌, ◌<◌, ◌≤◌, ◌++◌, [], ◌∷◌, length, IfOk, OnOk, OnErr};
 ghost use Rattle.std.specs.Arc.{arc_value};
 ghost use Rattle.left_right.specs.Sides.{view};
 ghost use Rattle.event_gate.specs.Rules.{IsRefused};
 ghost use Rattle.shared_gate.specs.Order.{in_force};
 ghost use Rattle.shared_gate.specs.Gates.{IsWriter, IsPut, IsLeft};
+ghost use Rattle.shared_gate.specs.declared.writer.TheConstants.{MOST_GATES};
 
 use crate::in_force::{InForce, Shown, numbered};
 use crate::note::GateNote;
@@ -18,6 +19,9 @@ use std::alloc::{AllocError, Global};
 use std::marker::Model;
 use std::snapshot::Snapshot;
 use std::sync::{Arc, Wait};
+
+/// How many gates a writer may have.
+pub const MOST_GATES: u64 = 64;
 
 /// How many notes may be there at once.
 pub const NOTES: u64 = 64;
@@ -43,16 +47,17 @@ impl Model for GateWriter {
 
 impl GateWriter {
     /// Puts a text in force behind all others, and answers its number. `Directive` exactly at the first piece that is no
-    /// directive. After an error all is as before. It waits for gates that are being asked.
+    /// directive; `Memory` too behind the number 2^64 - 1. After an error all is as before. It waits for gates that are
+    /// being asked.
     pub fn reload<R: Wait>(&mut self, rt: &R, text: &str) -> Result<u64, GateError>
-        requires { length self.old.texts < 2 ^ 63 }
         ensures table { self.new.table ≡ self.old.table }
         ensures put { IfOk result (λ n. (n ≡ length self.old.texts)
             × (self.new.texts ≡ self.old.texts ++ text.now ∷ [])) }
         ensures refused { IsRefused text.now result }
         ensures leaves { OnErr result (self.new ≡ self.old) }
     {
-        let number = self.writer.published().tables.number + 1;
+        let last = self.writer.published().tables.number;
+        let number = last.checked_add(1).ok_or(GateError::Memory)?;
         let tables = numbered(self.alloc, text, number)?;
         let put = replace_with(
             &mut self.writer,
@@ -102,7 +107,7 @@ pub(crate) fn writer_of(
     readers: u64,
 ) -> Result<TextWriter, AllocError>
     requires number { (arc_value opening.now).number ≡ 0 }
-    requires readers { (0 < readers) × (readers ≤ 64) }
+    requires readers { (0 < readers) × (readers ≤ MOST_GATES) }
     ensures { IfOk result (λ w. (in_force w.desk.shown.value ≡ arc_value opening.now)
         × ((view w.desk.place).seen ≡ [])) }
 {
