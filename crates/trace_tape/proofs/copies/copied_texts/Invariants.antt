@@ -1,0 +1,6 @@
+-- The texts that were passed.
+use Rattle.std.proofs.Common.{◌≡◌, take}
+use Rattle.trace_tape.proofs.copies.copied_texts.Given as goal
+
+abbrev pub invariant-loop-text : goal.invariant-loop-text
+invariant-loop-text l = l.copy ≡ take l.text-index l.texts
