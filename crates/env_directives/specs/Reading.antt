@@ -1,4 +1,4 @@
--- How a text is read, one cut after the other: what the code does, for inner clauses. The promise is in Forms and Faults.
+-- How a text is read, one cut after the other, as the code does it. `laws::grammar` says that this is what Forms and Faults say.
 use Rattle.std.specs.List.{AllByRecursion}
 use Rattle.std.specs.Prelude.{◌≡◌, ℕ, List, [], ◌∷◌, ◌++◌, ◌==◌, Bool, true, if◌then◌else◌, Option, None, Some, Result, Ok, Err, codes}
 use Rattle.trace_base.specs.declared.level.LevelFilter.{LevelFilter}

@@ -64,7 +64,7 @@ one_refused n (b ∷ bs) (d ∷ []) i is r rest = absurd r
 one_refused n (b ∷ bs) (d ∷ c ∷ ds) i is r rest = absurd r
 
 -- all pieces
-all_read : (n : ℕ) (pieces : List (List ℕ)) (ds : List Directive) → ReadsAll false n pieces ds [] → pieces_read n pieces ≡ Ok ds
+pub all_read : (n : ℕ) (pieces : List (List ℕ)) (ds : List Directive) → ReadsAll false n pieces ds [] → pieces_read n pieces ≡ Ok ds
 all_read n [] ds r = ap Ok (sym r.0)
 all_read n (piece ∷ pieces) ds r = by_ignored (λ behind. all_read (n + 1) pieces r.later behind) r.ignored r.later_ignored r.all_ignored r.reads r.behind
   where
@@ -76,7 +76,7 @@ all_read n (piece ∷ pieces) ds r = by_ignored (λ behind. all_read (n + 1) pie
 first_of : (i j : Ignored) (is js : List Ignored) → i ∷ is ≡ j ∷ js → i ≡ j
 first_of i j is js e = cc e
 
-all_refused : (n : ℕ) (pieces : List (List ℕ)) (ds : List Directive) (first : Ignored) (others : List Ignored) → ReadsAll false n pieces ds (first ∷ others) → pieces_read n pieces ≡ Err first.piece
+pub all_refused : (n : ℕ) (pieces : List (List ℕ)) (ds : List Directive) (first : Ignored) (others : List Ignored) → ReadsAll false n pieces ds (first ∷ others) → pieces_read n pieces ≡ Err first.piece
 all_refused n [] ds first others r = absurd (let no = r.1 in cc no)
 all_refused n (piece ∷ pieces) ds first others r = by_ignored (λ behind. all_refused (n + 1) pieces r.later first others behind) r.ignored r.later_ignored r.all_ignored r.reads r.behind
   where

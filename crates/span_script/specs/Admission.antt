@@ -1,4 +1,4 @@
--- What the texts of filters are read as.
+-- What the texts of filters are read as. That this is what the forms of directives say, piece by piece, says `texts` of span_laws.
 use Rattle.std.specs.Prelude.{◌≡◌, ℕ, ◌+◌, List, [], ◌∷◌, if◌then◌else◌, Bool, true, false, Option, None, Some, Result, Ok, Err, IfSome, option_map}
 use Rattle.std.specs.Str.{trim}
 use Rattle.env_directives.specs.Reading.{Read, reading}
