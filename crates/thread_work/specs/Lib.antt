@@ -1,0 +1,9 @@
+pub mod Asks
+pub mod Plans
+pub mod Works
+pub mod Shares
+pub mod Gathers
+pub mod Jobs
+pub mod Spans
+pub mod Tests
+pub mod Preparing

@@ -1,0 +1,122 @@
+-- Several shared spans: what the workers' handles left, span by span.
+use Rattle.std.specs.Prelude.{◌≡◌, ℕ, ◌+◌, ◌<◌, ◌≤◌, List, [], ◌∷◌, ◌++◌, length, true, Some, None, slice_index_or, drop, vec_len, vec_capacity}
+use Rattle.atomic_table.specs.Seated.{TableId}
+use Rattle.otel_state.specs.declared.times.TheConstants.{GREATEST}
+use Rattle.trace_threads.specs.declared.handle.Released.{Released}
+use Rattle.trace_threads.specs.Handles.{Held}
+use Rattle.thread_work.specs.declared.gather.Ended.{Ended}
+use Rattle.thread_work.specs.declared.plan.Plan.{Plan}
+use Rattle.thread_work.specs.declared.script.SharedLine.{SharedLine}
+use Rattle.thread_work.specs.declared.script.WorkerOp.{WorkerOp}
+use Rattle.thread_work.specs.declared.job.Job.{Job}
+use Rattle.thread_work.specs.Asks.{balanced}
+use Rattle.thread_work.specs.Plans.{AreTimed, last_at, parts_on}
+use Rattle.thread_work.specs.Works.{part_of}
+use Rattle.thread_work.specs.Shares.{IsFirst, IsFresh, IsShared}
+use Rattle.thread_work.specs.Gathers.{IsEnded, MetAll}
+
+-- what the workers' handles of the span s left
+abbrev pub column : {G : Type 0} → Released → ℕ → List (Job G) → List Released
+column e s [] = []
+column e s (job ∷ jobs) = slice_index_or job.left.items s e ∷ column e s jobs
+
+-- each worker left a release of this span at this place
+abbrev pub HaveLeft : {G : Type 0} → TableId → ℕ → List (Job G) → Type 0
+HaveLeft {G} t s jobs =
+    (w : ℕ) (d : Job G) → w < length jobs
+    → (s < length (slice_index_or jobs w d).left.items) × ((e : Released) → (slice_index_or (slice_index_or jobs w d).left.items s e).pass.span ≡ t)
+
+-- so many releases of each worker were taken
+abbrev pub WereTaken : {G : Type 0} → ℕ → List (Job G) → List (Job G) → Type 0
+WereTaken {G} n jobs news = (w : ℕ) (d : Job G) → w < length jobs → (slice_index_or news w d).left.items ≡ drop n (slice_index_or jobs w d).left.items
+
+-- what the handles of the span s left comes to a closed span
+pub record IsWhole {G : Type 0} (r : Released) (s : ℕ) (jobs : List (Job G)) : Type 0 where
+  pub left : HaveLeft r.pass.span s jobs
+  pub closes : (u : Released) → MetAll r (column r s jobs) u → u.closed ≡ None → ⊥
+
+abbrev pub AreWhole : {G : Type 0} → List Released → List (Job G) → Type 0
+AreWhole firsts jobs = (s : ℕ) (d : Released) → s < length firsts → IsWhole (slice_index_or firsts s d) s jobs
+
+-- what is answered of the span s
+pub record IsJoined {G : Type 0} (r : Released) (s : ℕ) (jobs : List (Job G)) (e : Ended) : Type 0 where
+  pub whole : Released
+  pub met : MetAll r (column r s jobs) whole
+  pub pass : e.pass ≡ whole.pass
+  pub closed : whole.closed ≡ Some (e.history, e.finished)
+
+abbrev pub AreJoined : {G : Type 0} → List Released → List (Job G) → List Ended → Type 0
+AreJoined firsts jobs es = (s : ℕ) (d : Released) (x : Ended) → s < length firsts → IsJoined (slice_index_or firsts s d) s jobs (slice_index_or es s x)
+
+-- ---- before the threads
+
+-- the first handles of the shared spans of the plan
+abbrev pub AreFirsts : Plan → List Held → Type 0
+AreFirsts plan spans =
+    (length plan.shared ≡ length spans)
+    × ((s : ℕ) (d : Held) (l : SharedLine) → s < length spans → IsFirst (slice_index_or spans s d) (slice_index_or plan.shared s l).at × ((slice_index_or plan.shared s l).at ≤ GREATEST))
+
+-- a worker got one handle more
+pub record GotOne {G : Type 0} (h : Held) (job new : Job G) : Type 0 where
+  pub ops : new.ops ≡ job.ops
+  pub last : new.last ≡ job.last
+  pub gate : new.gate ≡ job.gate
+  pub left : new.left ≡ job.left
+  pub handles : new.handles.items ≡ job.handles.items ++ h ∷ []
+  pub room : vec_capacity new.handles ≡ vec_capacity job.handles
+
+abbrev pub GotNext : {G : Type 0} → List Held → List (Job G) → List (Job G) → Type 0
+GotNext {G} hs jobs news = (w : ℕ) (d : Job G) (x : Held) → w < length jobs → GotOne (slice_index_or hs w x) (slice_index_or jobs w d) (slice_index_or news w d)
+
+abbrev pub HaveMore : {G : Type 0} → List (Job G) → Type 0
+HaveMore {G} jobs = (w : ℕ) (d : Job G) → w < length jobs → vec_len (slice_index_or jobs w d).handles < vec_capacity (slice_index_or jobs w d).handles
+
+-- a worker that has no handle yet, and room for so many
+pub record HasRoomFor {G : Type 0} (n : ℕ) (job : Job G) : Type 0 where
+  pub none : vec_len job.handles ≡ 0
+  pub empty : job.handles.items ≡ []
+  pub room : n ≤ vec_capacity job.handles
+  pub left_room : n ≤ vec_capacity job.left
+  pub left : job.left.items ≡ []
+
+abbrev pub HaveRoomFor : {G : Type 0} → ℕ → List (Job G) → Type 0
+HaveRoomFor {G} n jobs = (w : ℕ) (d : Job G) → w < length jobs → HasRoomFor n (slice_index_or jobs w d)
+
+-- a worker got so many handles
+pub record HasGot {G : Type 0} (n : ℕ) (job new : Job G) : Type 0 where
+  pub ops : new.ops ≡ job.ops
+  pub last : new.last ≡ job.last
+  pub gate : new.gate ≡ job.gate
+  pub left : new.left ≡ job.left
+  pub count : length new.handles.items ≡ n
+  pub room : vec_capacity new.handles ≡ vec_capacity job.handles
+
+-- the first handle of a span made so many handles and was released
+pub record WasShared (h : Held) (count : ℕ) (r : Released) : Type 0 where
+  pub handles : List Held
+  pub len : length handles ≡ count
+  pub shared : IsShared h handles r
+
+-- so many spans were shared
+pub record WereShared {G : Type 0} (n : ℕ) (spans : List Held) (jobs news : List (Job G)) (rs : List Released) : Type 0 where
+  pub got : (w : ℕ) (d : Job G) → w < length jobs → HasGot n (slice_index_or jobs w d) (slice_index_or news w d)
+  pub fresh : (s w : ℕ) (x : Held) (d : Job G) → s < n → w < length jobs → IsFresh (slice_index_or spans s x) (w + 1) (slice_index_or (slice_index_or news w d).handles.items s x)
+  pub shared : (s : ℕ) (x : Held) (e : Released) → s < n → WasShared (slice_index_or spans s x) (length jobs) (slice_index_or rs s e)
+
+-- worker w may get its handles of these spans
+pub record IsPreparedFor {G : Type 0} (opening : G → List ℕ) (plan : Plan) (spans : List Held) (job : Job G) : Type 0 where
+  pub timed : AreTimed job.ops.items
+  pub last : job.last ≡ last_at job.ops.items
+  pub gate : opening job.gate ≡ plan.filter
+  pub balanced : (s : ℕ) (x : Held) → s < length spans → balanced (part_of plan (last_at job.ops.items) s (slice_index_or spans s x) job.ops.items) 0 ≡ true
+  pub room : HasRoomFor (length spans) job
+
+abbrev pub ArePreparedFor : {G : Type 0} → (G → List ℕ) → Plan → List Held → List (Job G) → Type 0
+ArePreparedFor {G} opening plan spans jobs = (w : ℕ) (d : Job G) → w < length jobs → IsPreparedFor opening plan spans (slice_index_or jobs w d)
+
+-- what is answered of all spans, in their order
+abbrev pub AllEnded : Plan → List Held → List (List WorkerOp) → List Ended → Type 0
+AllEnded plan spans workers es =
+    (s : ℕ) (x : Held) (e : Ended) → s < length spans
+    → IsEnded (slice_index_or spans s x).span (slice_index_or spans s x).view.origin (length workers)
+    (parts_on plan s (slice_index_or spans s x).view.origin.made workers) (slice_index_or es s e)
