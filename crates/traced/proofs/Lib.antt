@@ -1,0 +1,7 @@
+pub mod Begins
+pub mod Counts
+pub mod Elsewhere
+pub mod Gated
+pub mod Moves
+pub mod Restored
+pub mod Rules

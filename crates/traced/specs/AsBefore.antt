@@ -1,0 +1,64 @@
+-- What is made is closed, and what is entered is exited.
+use Rattle.std.specs.Prelude.{◌≡◌, ◌<◌, ℕ, length, Option, Some, None}
+use Rattle.trace_base.specs.declared.subscriber.Subscriber.{Ghosts}
+use Rattle.trace_base.specs.Gate.{Worlds}
+use Rattle.trace_base.specs.Spans.{Spans, span_at, entries_on}
+use Rattle.trace_base.specs.Calls.{with_span, entered}
+use Rattle.span_handles.specs.Worlds.{spans_in}
+use Rattle.span_handles.specs.Handles.{Held, Handle, IsKnown}
+use Rattle.span_handles.specs.Knowing.{KeepsKnown}
+use Rattle.span_handles.specs.Entries.{Opened}
+use Rattle.traced.specs.Standing.{IsHeld}
+
+-- Each span is as it was: one with a hold more has given it back, and a new one has closed. Each lane's entries are those
+-- that were open: one that was made since has been exited.
+pub record AreAsBefore (x y : Spans) : Type 0 where
+  pub spans : (id : ℕ) → span_at y.made id ≡ span_at x.made id
+  pub entries : (lane : ℕ) → entries_on lane y.lanes ≡ entries_on lane x.lanes
+
+-- the same of a world's subscriber, and all handles that were known are
+pub record IsAsBefore {S : Type 0} (sub : Ghosts S) (dispatch : ℕ) (old new : Worlds S) : Type 0 where
+  pub known : KeepsKnown sub.spans old new
+  pub as_before : AreAsBefore (spans_in sub.spans old dispatch) (spans_in sub.spans new dispatch)
+
+-- of spans that are as they were but for one, the newest, which has one hold
+pub record IsNewest (x y : Spans) (id : ℕ) : Type 0 where
+  pub above : Option ℕ
+  pub site : ℕ
+  pub is : id ≡ length x.made
+  pub live : (p : ℕ) → above ≡ Some p → 0 < (span_at x.made p).holds
+  pub made : AreAsBefore (with_span x above site) y
+
+-- a handle is of the newest span, and nothing was made where it is disabled
+abbrev pub IsOfNewest : Spans → Spans → Held → Type 0
+IsOfNewest x y None = AreAsBefore x y
+IsOfNewest x y (Some held) = IsNewest x y held.1
+
+-- nobody had a handle of the span before
+abbrev pub IsNew : {S : Type 0} → Ghosts S → Worlds S → Held → Type 0
+IsNew sub old None = Unit {0}
+IsNew sub old (Some held) = IsKnown sub.spans old (Some held) → ⊥
+
+-- a span was made, of which there is this handle, and else all is as before
+pub record HasMade {S : Type 0} (sub : Ghosts S) (dispatch : ℕ) (old new : Worlds S) (handle : Handle) : Type 0 where
+  pub known : KeepsKnown sub.spans old new
+  pub held : IsHeld sub dispatch new handle
+  pub is_new : IsNew sub old handle.held
+  pub newest : IsOfNewest (spans_in sub.spans old dispatch) (spans_in sub.spans new dispatch) handle.held
+
+-- the span has a hold
+abbrev pub IsLiveOn : Held → Spans → Type 0
+IsLiveOn None x = Unit {0}
+IsLiveOn (Some held) x = 0 < (span_at x.made held.1).holds
+
+-- spans are as they were but for one entry more
+abbrev pub IsEntered : Held → ℕ → Spans → Spans → Type 0
+IsEntered None lane x y = AreAsBefore x y
+IsEntered (Some held) lane x y = AreAsBefore (entered x held.1 lane) y
+
+-- a span was entered, of which there is this guard, and else all is as before
+pub record HasEntered {S : Type 0} (sub : Ghosts S) (dispatch : ℕ) (old new : Worlds S) (guard : Opened) : Type 0 where
+  pub known : KeepsKnown sub.spans old new
+  pub held : IsHeld sub dispatch new guard.span
+  pub live : IsLiveOn guard.span.held (spans_in sub.spans old dispatch)
+  pub entered_once : IsEntered guard.span.held guard.lane (spans_in sub.spans old dispatch) (spans_in sub.spans new dispatch)

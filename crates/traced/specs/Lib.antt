@@ -1,0 +1,6 @@
+pub mod AsBefore
+pub mod Gating
+pub mod Laws
+pub mod Making
+pub mod Standing
+pub mod Staying

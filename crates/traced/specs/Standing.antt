@@ -1,0 +1,82 @@
+-- A world whose calls can be made: what stands between any two calls of a program that is traced.
+use Rattle.std.specs.Prelude.{◌≡◌, ◌<◌, ◌≤◌, ℕ, List, [], ◌∷◌, length, Option, Some}
+use Rattle.trace_base.specs.declared.lane.Lane.{Lane}
+use Rattle.trace_base.specs.declared.span.Parent.{Parent}
+use Rattle.trace_base.specs.declared.subscriber.Subscriber.{Ghosts}
+use Rattle.trace_base.specs.Conditions.{HasFewHolds, MayExit}
+use Rattle.trace_base.specs.Contexts.{AreAttached}
+use Rattle.trace_base.specs.Gate.{Worlds, IsOwn, dispatch_on}
+use Rattle.trace_base.specs.Spans.{Spans, span_at}
+use Rattle.span_handles.specs.Worlds.{Has, spans_in, kept_in}
+use Rattle.span_handles.specs.Handles.{Handle, IsKnown, HasOn, HasIf, IsOf, MayMakeIf}
+use Rattle.span_handles.specs.Entries.{Opened, IsThere, IsStillOn}
+
+-- at most so many spans, and so many holds of each
+pub record AreAtMost (most : ℕ) (x : Spans) : Type 0 where
+  pub spans : length x.made ≤ most
+  pub holds : (id : ℕ) → (span_at x.made id).holds ≤ most
+
+-- the subscriber serves a lane, and what it keeps attached to the lane still is
+pub record IsServed (global : Option ℕ) (kept : ℕ → ℕ → ℕ) (dispatch : ℕ) (lane : Lane) : Type 0 where
+  pub serves : dispatch_on lane.default global ≡ Some dispatch
+  pub attached : AreAttached kept lane
+
+-- the lane's id is none of theirs
+abbrev pub IsApart : Lane → List Lane → Type 0
+IsApart lane [] = Unit {0}
+IsApart lane (other ∷ others) = (other.id ≡ lane.id → ⊥) × IsApart lane others
+
+-- the subscriber serves some lanes, all with ids of their own
+abbrev pub AreServed : Option ℕ → (ℕ → ℕ → ℕ) → ℕ → List Lane → Type 0
+AreServed global kept dispatch [] = Unit {0}
+AreServed global kept dispatch (lane ∷ lanes) = IsServed global kept dispatch lane × IsApart lane lanes × AreServed global kept dispatch lanes
+
+-- A subscriber is there and whole and serves these lanes; it has at most so many spans, and holds of each, and there are at
+-- least so many callsites.
+pub record Stands {S : Type 0} (sub : Ghosts S) (most dispatch sites : ℕ) (world : Worlds S) (lanes : List Lane) : Type 0 where
+  pub there : dispatch < length world.subscribers
+  pub whole : Has sub.is_whole world dispatch
+  pub few : AreAtMost most (spans_in sub.spans world dispatch)
+  pub declared : sites ≤ length world.sites
+  pub served : AreServed world.global (kept_in sub.kept world dispatch) dispatch lanes
+
+-- a handle of the subscriber, which knows it
+pub record IsHeld {S : Type 0} (sub : Ghosts S) (dispatch : ℕ) (world : Worlds S) (handle : Handle) : Type 0 where
+  pub known : IsKnown sub.spans world handle.held
+  pub own : IsOf handle.held dispatch
+
+-- the subscriber of a lane may be asked for a span at a place
+pub record CanMake {S : Type 0} (sub : Ghosts S) (world : Worlds S) (lane : Lane) (place : Parent) (site : ℕ) : Type 0 where
+  pub own : IsOwn world lane.default
+  pub site_there : site < length world.sites
+  pub may : MayMakeIf sub.spans sub.is_whole world lane.id place (dispatch_on lane.default world.global)
+
+-- the subscriber of a handle, if it is enabled, may be asked to close it, and to enter its span
+pub record CanClose {S : Type 0} (sub : Ghosts S) (world : Worlds S) (handle : Handle) : Type 0 where
+  pub known : IsKnown sub.spans world handle.held
+  pub whole : HasOn (λ s id. sub.is_whole s) world handle.held
+
+pub record CanEnter {S : Type 0} (sub : Ghosts S) (world : Worlds S) (handle : Handle) : Type 0 where
+  pub known : IsKnown sub.spans world handle.held
+  pub whole : HasOn (λ s id. sub.is_whole s) world handle.held
+  pub few_holds : HasOn (λ s id. HasFewHolds (sub.spans s).made id) world handle.held
+
+-- the subscriber of a lane may be told of an event
+pub record CanTell {S : Type 0} (sub : Ghosts S) (world : Worlds S) (lane : Lane) (site : ℕ) : Type 0 where
+  pub own : IsOwn world lane.default
+  pub there : IsOwn world (dispatch_on lane.default world.global)
+  pub site_there : site < length world.sites
+  pub whole : HasIf sub.is_whole world (dispatch_on lane.default world.global)
+
+-- the lane is the one of a guard, and the guard's entry may be exited on it
+pub record CanExit {S : Type 0} (sub : Ghosts S) (world : Worlds S) (lane : Lane) (guard : Opened) : Type 0 where
+  pub on : lane.id ≡ guard.lane
+  pub there : IsThere world guard.span.held
+  pub whole : HasOn (λ s id. sub.is_whole s) world guard.span.held
+  pub may : HasOn (λ s id. MayExit (sub.spans s) id lane.id) world guard.span.held
+  pub still : IsStillOn sub.kept lane world guard.span.held
+
+-- some lanes have this subscriber, and ids of their own
+abbrev pub AreAssigned : Option ℕ → ℕ → List Lane → Type 0
+AreAssigned global dispatch [] = Unit {0}
+AreAssigned global dispatch (lane ∷ lanes) = (dispatch_on lane.default global ≡ Some dispatch) × IsApart lane lanes × AreAssigned global dispatch lanes

@@ -1,0 +1,32 @@
+//! Handles that are closed.
+ghost use Rattle.std.specs.Prelude.{ℕ, List, Some};
+ghost use Rattle.trace_base.specs.declared.lane.Lane.{Lane};
+ghost use Rattle.trace_base.specs.Gate.{Worlds};
+ghost use Rattle.span_handles.specs.Worlds.{Chain};
+ghost use Rattle.span_handles.specs.Handles.{ReplacedOn, ClosesOn};
+ghost use Rattle.span_handles.specs.Knowing.{KeepsOthers, LosesOne};
+ghost use Rattle.traced.specs.Standing.{Stands, CanClose};
+ghost use Rattle.traced.specs.AsBefore.{IsAsBefore, HasMade};
+
+use crate::laws::lawful;
+use span_handles::span::Span;
+use trace_base::subscriber::Subscriber;
+use trace_base::world::World;
+
+/// Closes a handle, as `Span::close` does. A span that was made since some earlier moment, and nothing else but what was
+/// closed and exited again, leaves all as it was then.
+pub fn close<S: Subscriber>(span: Span, world: &mut World<S>, at: u64) -> bool
+    requires { CanClose S.Subscriber world.old span }
+    ensures value { ClosesOn S.spans world.old span.held result }
+    ensures did { ReplacedOn (λ id s t. Chain S.spans S.does at (Some id) s t) world.old world.new span.held }
+    ensures keeps { KeepsOthers S.spans world.old world.new span.held }
+    ensures fewer { LosesOne S.spans world.old world.new span.held }
+    ensures stands { (most dispatch sites : ℕ) (lanes : List Lane)
+        → Stands S.Subscriber most dispatch sites world.old lanes
+        → Stands S.Subscriber most dispatch sites world.new lanes }
+    ensures as_before { (dispatch : ℕ) (before : Worlds S) → HasMade S.Subscriber dispatch before world.old span
+        → IsAsBefore S.Subscriber dispatch before world.new }
+{
+    lawful::<S>();
+    span.close(world, at)
+}
