@@ -1,9 +1,9 @@
 pub mod Balance
 mod Chaining
-mod Children
+pub mod Children
 mod Closing
 mod Counts
-mod Exporting
+pub mod Exporting
 mod Guarding
 mod Hearing
 pub mod Histories
@@ -11,6 +11,7 @@ mod Levels
 pub mod Legal
 mod Living
 mod Making
+pub mod MakingLemmas
 mod Numbering
 pub mod Occurrences
 mod OrderOfMaking
@@ -22,4 +23,5 @@ mod Starting
 pub mod Steps
 mod Stories
 mod Telling
+mod TextLemmas
 mod Turning

@@ -32,7 +32,7 @@ begins setup told done opened at making b undone most = record {
   told = told;
   is = refl;
   making = making;
-  began = record { update = b.update; is = at_making; made = refl; tracked = b.tracked; counting_is = b.counting_is };
+  began = record { update = b.update; is = at_making ∙ ap (λ n. changed (begun making) n (ops.Update b.update)) (sym moment); made = sym moment; tracked = b.tracked; counting_is = b.counting_is };
   later = [];
   stands = at_making;
   in_order = (omega arith, let same = b.made in omega (arith, same, most));
@@ -42,6 +42,9 @@ begins setup told done opened at making b undone most = record {
   within = subst (λ (t : Told). t.entries ≤ opened) (sym b.is) (omega arith);
 }
   where
+    moment : told.made ≡ making.made
+    moment = ap (λ (t : Told). t.made) b.is
+
     at_making : told ≡ changed (begun making) making.made (ops.Update b.update)
     at_making = b.is ∙ ap (λ n. changed (begun making) n (ops.Update b.update)) (sym b.made)
 

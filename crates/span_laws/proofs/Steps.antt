@@ -137,7 +137,7 @@ pub record IsFit (setup : Setup) (t : Tables) : Type 0 where
   pub counting_is : t.recording.counting ≡ is_some setup.counting
 
 -- settings stay with starts
-starts_keep : (o : Option ℕ) (at : ℕ) (r : Recording) → ((with_starts o at r).settings ≡ r.settings) × ((with_starts o at r).counting ≡ r.counting)
+pub starts_keep : (o : Option ℕ) (at : ℕ) (r : Recording) → ((with_starts o at r).settings ≡ r.settings) × ((with_starts o at r).counting ≡ r.counting)
 starts_keep None at r = (refl, refl)
 starts_keep (Some id) at r = by_context (waits (told_at id r.spans))
   where
@@ -352,21 +352,21 @@ module _ (setup : Setup) (t : Tables) (fit : IsFit setup t) where
   if_both at false x y one two = two
 
   -- an effect comes from no refusal
-  unrefused : (b : Bool) (why : Refusal) (rest : Resolved) (e : Effect) → cond b (Err why) rest ≡ Ok e → (b ≡ false) × (rest ≡ Ok e)
+  pub unrefused : (b : Bool) (why : Refusal) (rest : Resolved) (e : Effect) → cond b (Err why) rest ≡ Ok e → (b ≡ false) × (rest ≡ Ok e)
   unrefused true why rest e is = absurd (cc is)
   unrefused false why rest e is = (refl, is)
 
   -- nor where a test has to pass
-  allowed : (b : Bool) (why : Refusal) (rest : Resolved) (e : Effect) → cond b rest (Err why) ≡ Ok e → (b ≡ true) × (rest ≡ Ok e)
+  pub allowed : (b : Bool) (why : Refusal) (rest : Resolved) (e : Effect) → cond b rest (Err why) ≡ Ok e → (b ≡ true) × (rest ≡ Ok e)
   allowed true why rest e is = (refl, is)
   allowed false why rest e is = absurd (cc is)
 
   -- nor from a name that names nothing
-  found : {A : Type 0} (unknown : What) (o : Option A) (go : A → Resolved) (e : Effect) → named unknown o go ≡ Ok e → (x : A) × (o ≡ Some x) × (go x ≡ Ok e)
+  pub found : {A : Type 0} (unknown : What) (o : Option A) (go : A → Resolved) (e : Effect) → named unknown o go ≡ Ok e → (x : A) × (o ≡ Some x) × (go x ≡ Ok e)
   found unknown None go e is = absurd (cc is)
   found unknown (Some x) go e is = (x, refl, is)
 
-  the_effect : (a e : Effect) → ◌≡◌ {A = Resolved} (Ok a) (Ok e) → a ≡ e
+  pub the_effect : (a e : Effect) → ◌≡◌ {A = Resolved} (Ok a) (Ok e) → a ≡ e
   the_effect a e is = cc is
 
   -- where a span is put is known

@@ -44,7 +44,7 @@ pub record IsStory (setup : Setup) (o : Option Told) (first : Told) (place : ℕ
   pub told : Told
   pub is : o ≡ Some told
   pub making : Making
-  pub began : Began setup making.made first making
+  pub began : Began setup first.made first making
   pub later : List Stamped
   pub stands : Stands making (all_ops making began.update later) told
   pub in_order : InOrder making.made (all_ops making began.update later)

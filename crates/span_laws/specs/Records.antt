@@ -69,7 +69,7 @@ all_ops making update done = record { at = making.made; op = ops.Update update }
 -- those of a recorder for its place among the starts, under its parent.
 pub record IsRecord (setup : Setup) (first : Told) (done : SpanContext → List Stamped) (place at : ℕ) (r : Record) : Type 0 where
   pub making : Making
-  pub began : Began setup making.made first making
+  pub began : Began setup first.made first making
   pub in_order : InOrder making.made (all_ops making began.update (done r.context))
   pub shut : open_by 0 (all_ops making began.update (done r.context)) ≡ 0
   pub is : r ≡ content making (all_ops making began.update (done r.context)) at

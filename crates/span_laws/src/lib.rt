@@ -8,5 +8,7 @@ pub mod filters;
 pub mod ids;
 pub mod laws;
 pub mod live;
+pub mod makings;
 pub mod scripts;
+pub mod texts;
 pub mod times;

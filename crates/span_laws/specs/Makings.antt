@@ -1,0 +1,63 @@
+-- What a span is made with, by the request that makes it.
+use Rattle.std.specs.Prelude.{◌≡◌, ℕ, ◌∷◌, length, if◌then◌else◌, Bool, false, Option, Some, None}
+use Rattle.std.specs.Option.{option_map_or}
+use Rattle.otel_base.specs.declared.context.Context.{Context}
+use Rattle.otel_base.specs.Stack.{empty_context}
+use Rattle.otel_layer.specs.Recording.{with_start}
+use Rattle.otel_layer.specs.Table.{own_or, told_at}
+use Rattle.otel_state.specs.Content.{Making}
+use Rattle.otel_state.specs.FirstAttributes.{first_attributes}
+use Rattle.otel_state.specs.SpanFields.{span_update}
+use Rattle.trace_base.specs.declared.callsite.Callsite.{Callsite}
+use Rattle.trace_base.specs.declared.field.ValueSet.{ValueSet}
+use Rattle.trace_base.specs.Spans.{current_of}
+use Rattle.span_script.specs.declared.request.Call.{Call}
+use Rattle.span_script.specs.declared.request.Call.TheVariants as call
+use Rattle.span_script.specs.declared.request.Place.{Place}
+use Rattle.span_script.specs.declared.request.Place.TheVariants as place
+use Rattle.span_script.specs.declared.request.Request.{Request}
+use Rattle.span_script.specs.Effects.{admitted, lane_in, last_attached, own_context, scope_at}
+use Rattle.span_script.specs.Fields.{Fields, all_values}
+use Rattle.span_script.specs.Setups.{Setup, id_at, span_site}
+use Rattle.span_script.specs.Tables.{Made, Scope, Tables}
+use Rattle.span_laws.specs.Records.{Began}
+
+-- a call asks for a span of a callsite that the directives in force admit, on the lane of an id
+abbrev pub asks_admitted : Setup → Tables → ℕ → Call → Bool
+asks_admitted setup t id (call.New site under fields) = option_map_or (admitted setup t id) (span_site setup.sites site) false
+asks_admitted setup t id _ = false
+
+-- so does a request
+abbrev pub is_making : Setup → Tables → Request → Bool
+is_making setup t request = asks_admitted setup t (id_at setup.ids request.lane) request.call
+
+-- the own context of a span, which has started by then, if one is named; else the one that was attached last to the lane of an id
+abbrev pub context_of_lane : Tables → ℕ → ℕ → Option ℕ → Context
+context_of_lane t at id None = last_attached empty_context (t.contexts id)
+context_of_lane t at id (Some s) = own_or (last_attached empty_context (t.contexts id)) (told_at s (with_start s at t.recording).spans)
+
+-- The context that a new span is put under: none's for a root, the own one of an explicit parent, and for a contextual span that
+-- of the lane: with activation the one that was attached last, without it that of the current span.
+abbrev pub parent_context : Setup → Tables → ℕ → ℕ → Place → Scope → Context
+parent_context setup t at id place.Root up = empty_context
+parent_context setup t at id (place.Under handle) up = own_context t.recording at up
+parent_context setup t at id place.Contextual up = context_of_lane t at id (if setup.layer.activation then None else current_of (t.entries id))
+
+-- A span was made as a request says: of its callsite, under its place, at its moment, with the values of its fields.
+pub record IsMadeBy (setup : Setup) (t : Tables) (at lane : ℕ) (what_for : Call) (m : Made) : Type 0 where
+  pub under : Place
+  pub fields : Fields
+  pub up : Scope
+  pub callsite : Callsite
+  pub values : ValueSet
+  pub asked : what_for ≡ call.New m.site under fields
+  pub site : span_site setup.sites m.site ≡ Some callsite
+  pub parent : scope_at t (id_at setup.ids lane) under ≡ Some up
+  pub given : all_values callsite fields ≡ Some values
+  pub scope : m.scope ≡ length t.made ∷ up
+  pub making : Making
+  pub name : making.name ≡ callsite.name
+  pub context : making.parent ≡ parent_context setup t at (id_at setup.ids lane) under up
+  pub first : making.first ≡ first_attributes callsite (lane_in setup lane) setup.layer
+  pub began : Began setup at m.told making
+  pub written : began.update ≡ span_update callsite values setup.layer

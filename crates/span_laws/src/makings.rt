@@ -1,0 +1,19 @@
+//! What spans are made with.
+ghost use Rattle.std.specs.Prelude.{◌≡◌, is_some, Ok, Some};
+ghost use Rattle.span_script.specs.declared.request.Request.{Request};
+ghost use Rattle.span_script.specs.Effects.{effect_of};
+ghost use Rattle.span_script.specs.Setups.{Setup};
+ghost use Rattle.span_script.specs.Tables.{Effect, History, Made, tables};
+ghost use Rattle.span_laws.specs.Laws.{IsHistory};
+ghost use Rattle.span_laws.specs.Makings.{IsMadeBy, is_making};
+
+/// A request makes a span exactly where it asks for one of a callsite that the directives in force admit. What the span is
+/// made with is what the request says: the callsite's name and first attributes, the context of an explicit parent, of the
+/// lane or of its current span, the request's moment, and the values of the fields.
+pub fn makings()
+    ensures admitted { (setup : Setup) (h : History) (request : Request) (e : Effect) → IsHistory setup h
+        → effect_of setup (tables setup h) request ≡ Ok e → is_some e.made ≡ is_making setup (tables setup h) request }
+    ensures told { (setup : Setup) (h : History) (request : Request) (e : Effect) (m : Made) → IsHistory setup h
+        → effect_of setup (tables setup h) request ≡ Ok e → e.made ≡ Some m
+        → IsMadeBy setup (tables setup h) request.at request.lane request.call m }
+{}
