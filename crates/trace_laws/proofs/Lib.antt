@@ -1,0 +1,6 @@
+mod AnswersLemmas
+pub mod OutputLemmas
+mod FrontsLemmas
+pub mod HeadlineLemmas
+mod FeedsLemmas
+pub mod SumsLemmas

@@ -1,0 +1,154 @@
+-- The summary of a made script counts what is written of it.
+use Rattle.std.proofs.Common.{◌≡◌, ℕ, ◌+◌, ◌≤◌, List, [], ◌∷◌, ◌++◌, length, map, Bool, true, Option, Some, None, Ok, Err, refl, sym, ap, ap₂, subst, ◌∙◌, arith, append-nil}
+use Rattle.std.specs.Prelude.{option_and_then, if◌then◌else◌}
+use Rattle.std.specs.List.{sum_by}
+use Rattle.std.proofs.lemmas.List.{length-append}
+use Rattle.std.proofs.lemmas.Option.{slice_get_past}
+use Rattle.otel_base.specs.declared.record.Record.{Record}
+use Rattle.span_script.specs.declared.reply.Refusal.{Refusal}
+use Rattle.span_script.specs.declared.reply.Reply.{Reply}
+use Rattle.span_script.specs.declared.request.Request.{Request}
+use Rattle.span_script.specs.Admission.{OpeningRead, opening_read}
+use Rattle.span_script.specs.Effects.{Resolved, effect_of, open_spans}
+use Rattle.span_script.specs.Outcomes.{history_from, history_of, outcome_of, records, refusal_at, refused_behind}
+use Rattle.span_script.specs.Setups.{Setup}
+use Rattle.span_script.specs.Tables.{Effect, History, Tables, after, no_tables, tables}
+use Rattle.span_script.proofs.Running.{goes_on_with}
+use Rattle.span_eager.specs.Early.{answers, answers_from}
+use Rattle.trace_eager.specs.Renamed.{Script, script_from}
+use Rattle.trace_eager.specs.Written.{numbers_of, requests_of}
+use Rattle.trace_pipeline.specs.declared.signal.Signal.TheVariants as signal
+use Rattle.trace_pipeline.specs.declared.told.Told.{Told}
+use Rattle.trace_pipeline.specs.Generated.{made_lines, made_requests, made_script, made_settings, made_setup, request_line}
+use Rattle.trace_pipeline.specs.Lines.{lines_of}
+use Rattle.trace_pipeline.specs.Replay.{busy_of, events_of, going_on, replayed, summary_of}
+use Rattle.trace_pipeline.specs.Report.{IsValid, Report, accepts, opened, output, report_on}
+use Rattle.trace_pipeline.specs.Texts.{end_text}
+use Rattle.trace_pipeline.proofs.MadeLines.{Each, HasLine, made_each, script_lines, settings_read}
+use Rattle.trace_laws.specs.Sums.{Counts, records_in}
+use Rattle.trace_laws.specs.Written.{IsOutput, answer_lines, last_line, opened_text, outcome_text, unread_from}
+use Rattle.trace_laws.proofs.FeedsLemmas.{all_lines, end_line}
+use Rattle.trace_laws.proofs.FrontsLemmas.{records_are}
+use Rattle.trace_laws.proofs.OutputLemmas.{is_output}
+
+-- ---- the requests of the lines
+
+requests_back : (requests : List Request) → Each HasLine requests → requests_of (map request_line requests) ≡ requests
+requests_back [] all = refl
+requests_back (r ∷ requests) all = rw (all.0.shown, all.0.spells, requests_back requests all.1) refl
+
+all_spelled : (n : ℕ) (requests : List Request) → Each HasLine requests → unread_from n (map request_line requests) ≡ None
+all_spelled n [] all = refl
+all_spelled n (r ∷ requests) all = rw (all.0.shown, all.0.spells) (all_spelled (n + 1) requests all.1)
+
+numbers_back : (n : ℕ) (requests : List Request) → Each HasLine requests → length (numbers_of n (map request_line requests)) ≡ length requests
+numbers_back n [] all = refl
+numbers_back n (r ∷ requests) all =
+    let behind = numbers_of (n + 1) (map request_line requests) in
+    let rest = numbers_back (n + 1) requests all.1 in
+    ap (λ (b : Bool). length (if b then behind else (n + 1) ∷ behind)) all.0.shown ∙ omega (arith, rest)
+
+made_from : (n : ℕ) → n ≤ 50000 → script_from 0 (lines_of (made_script n)) ≡ Some (record { settings = made_settings; number = 1; lines = map request_line (made_requests n) })
+made_from n few = ap (script_from 0) (script_lines n few) ∙ rw settings_read refl
+
+-- ---- the history of requests that are all served
+
+going : (r : Resolved) (next : Effect → Option History) (h : History) → going_on r next ≡ Some h → (e : Effect) × (r ≡ Ok e) × (next e ≡ Some h)
+going (Ok e) next h is = (e, refl, is)
+going (Err why) next h is = absurd (cc is)
+
+module _ (setup : Setup) where
+  replayed_is : (requests : List Request) (h all : History) → replayed setup h requests ≡ Some all → all ≡ h ++ history_from setup (tables setup h) requests
+  replayed_is [] h all is = (let same : h ≡ all = cc is in sym same ∙ sym (append-nil h))
+  replayed_is (r ∷ requests) h all is =
+      let on = going (effect_of setup (tables setup h) r) (λ e. replayed setup (h ++ e ∷ []) requests) all is in
+      replayed_is requests (h ++ on.0 ∷ []) all on.2 ∙ sym (goes_on_with setup h r requests on.0 on.1)
+
+  replayed_many : (requests : List Request) (h all : History) → replayed setup h requests ≡ Some all → length all ≡ length h + length requests
+  replayed_many [] h all is = (let same : h ≡ all = cc is in let many = ap (λ (x : History). length x) same in omega (arith, many))
+  replayed_many (r ∷ requests) h all is =
+      let on = going (effect_of setup (tables setup h) r) (λ e. replayed setup (h ++ e ∷ []) requests) all is in
+      let rest = replayed_many requests (h ++ on.0 ∷ []) all on.2 in
+      let one = length-append h (on.0 ∷ []) in
+      omega (arith, rest, one)
+
+  none_refused : (requests : List Request) (h : History) → length requests ≤ length h → refused_behind setup requests h ≡ None
+  none_refused requests h all = ap (option_and_then (λ request. refusal_at (length h) (effect_of setup (tables setup h) request))) (slice_get_past requests (length h) all)
+
+answers_many : (setup : Setup) (requests : List Request) → length (answers setup requests) ≡ length (history_of setup requests)
+answers_many setup requests = by_history (history_of setup requests) (no_tables setup)
+  where
+    by_history : (h : History) (t : Tables) → length (answers_from t h) ≡ length h
+    by_history [] t = refl
+    by_history (e ∷ h) t = let rest = by_history h (after t e) in omega (arith, rest)
+
+-- ---- the summary
+
+is_opened : (read : OpeningRead) (report : Report) (line : ℕ) → (opened read report line).accepted ≡ true → read ≡ Ok tt
+is_opened (Ok read) report line accepted = refl
+is_opened (Err unread) report line accepted = absurd (cc accepted)
+
+module _ (n : ℕ) (few : n ≤ 50000) (valid : IsValid (made_script n)) (h : History) (is : replayed made_setup [] (made_requests n) ≡ Some h) where
+  abbrev requests : List Request
+  requests = made_requests n
+
+  abbrev lines : List (List ℕ)
+  lines = map request_line requests
+
+  abbrev script : Script
+  script = record { settings = made_settings; number = 1; lines = lines }
+
+  abbrev all : List (Reply × List Record)
+  all = answers made_setup requests
+
+  abbrev done : History
+  done = history_of made_setup requests
+
+  each : Each HasLine requests
+  each = made_each n few
+
+  same : h ≡ done
+  same = replayed_is made_setup requests [] h is
+
+  many : length done ≡ length requests
+  many = let count = replayed_many made_setup requests [] h is in let alike = ap (λ (x : History). length x) same in omega (arith, count, alike)
+
+  opening_is : accepts (made_lines n) ≡ (opened (opening_read made_settings.filter made_settings.counting) (report_on signal.Traces made_setup [] 1 0 lines) 1).accepted
+  opening_is = rw (accepts, settings_read) refl
+
+  read : opening_read made_settings.filter made_settings.counting ≡ Ok tt
+  read = is_opened (opening_read made_settings.filter made_settings.counting) (report_on signal.Traces made_setup [] 1 0 lines) 1
+      (sym opening_is ∙ sym (ap (λ ls. accepts ls) (script_lines n few)) ∙ valid.accepted)
+
+  written : output signal.Traces (made_script n) ≡ answer_lines 0 (numbers_of 1 lines) all ++ end_text (open_spans (tables made_setup done)) (length (records made_setup done))
+  written =
+      subst (λ (o : Option Script). IsOutput o (output signal.Traces (made_script n))) (made_from n few) (is_output (made_script n))
+      ∙ ap (λ (r : OpeningRead). opened_text r script) read
+      ∙ ap (λ (rs : List Request). outcome_text (numbers_of 1 lines) (unread_from 1 lines) (answers made_setup rs) (outcome_of made_setup rs)) (requests_back requests each)
+      ∙ ap₂ (λ (refused : Option (ℕ × Refusal)) (unread : Option (ℕ × Told)). answer_lines 0 (numbers_of 1 lines) all ++ last_line (numbers_of 1 lines) refused unread (open_spans (tables made_setup done)) (length (records made_setup done)))
+      (none_refused made_setup requests done (omega (arith, many))) (all_spelled 1 requests each)
+
+  counted : Counts (output signal.Traces (made_script n)) (summary_of made_setup done)
+  counted =
+      let found : records_in all ≡ records made_setup done = records_are (no_tables made_setup) done in
+      let answered = answers_many made_setup requests in
+      let numbered = numbers_back 1 requests each in
+      let recorded = ap (λ (rs : List Record). length rs) found in
+      record {
+        numbers = numbers_of 1 lines;
+        all = all;
+        is = written;
+        one_each = omega (arith, numbered, answered, many);
+        requests = sym answered;
+        records = sym recorded;
+        events = ap (λ (rs : List Record). sum_by events_of rs) (sym found);
+        busy = ap (λ (rs : List Record). sum_by busy_of rs) (sym found);
+        lines =
+            let apart = all_lines 0 (numbers_of 1 lines) all (end_text (open_spans (tables made_setup done)) (length (records made_setup done))) (omega (arith, numbered, answered, many)) in
+            let last = end_line (open_spans (tables made_setup done)) (length (records made_setup done)) in
+            let whole = ap (λ (text : List ℕ). length (lines_of text)) written in
+            omega (arith, answered, recorded, apart, last, whole);
+      }
+
+  pub made_counts : Counts (output signal.Traces (made_script n)) (summary_of made_setup h)
+  made_counts = subst (λ (x : History). Counts (output signal.Traces (made_script n)) (summary_of made_setup x)) (sym same) counted

@@ -1,0 +1,64 @@
+-- What is written of a script tells of its spans.
+use Rattle.std.specs.Prelude.{◌≡◌, ℕ, ◌≤◌, List, [], ◌∷◌, ◌++◌, map, flat_map, length, nat_lt, ◌&&◌, not, is_some, slice_get, true, Some, Ok}
+use Rattle.otel_base.specs.declared.record.Record.{Record}
+use Rattle.span_script.specs.declared.reply.Reply.{Reply}
+use Rattle.span_script.specs.declared.request.Request.{Request}
+use Rattle.span_script.specs.Effects.{effect_of, is_open}
+use Rattle.span_script.specs.Outcomes.{history_of, outcome_of}
+use Rattle.span_script.specs.Setups.{Setup, setup_by}
+use Rattle.span_script.specs.Tables.{Effect, History, made_of, tables}
+use Rattle.span_eager.specs.Early.{answers}
+use Rattle.span_laws.specs.Laws.{IsHistory, occurrences}
+use Rattle.span_laws.specs.Makings.{is_making}
+use Rattle.span_laws.specs.Records.{Each, IsRecord, closed_at, ops_of}
+use Rattle.span_laws.specs.Starts.{place_in, started}
+use Rattle.trace_base.specs.Spans.{is_in}
+use Rattle.trace_eager.specs.Renamed.{Script}
+use Rattle.trace_eager.specs.Written.{requests_of}
+use Rattle.trace_laws.specs.Written.{script_text}
+
+-- the spans that the requests of a history closed, in order
+abbrev pub closed_by : History → List ℕ
+closed_by h = flat_map (λ e. e.closes) h
+
+-- the record of a span holds exactly that span's calls, in order
+abbrev pub HoldsCalls : Setup → History → ℕ → Record → Type 0
+HoldsCalls setup h s r = IsRecord setup (made_of (tables setup h).made s).told (λ own. ops_of own h s) (place_in (started h) s) (closed_at h s) r
+
+-- each answer is the reply to its request and the records of the spans that the request closed
+abbrev pub AnswersEach : (ℕ → Record → Type 0) → History → List (Reply × List Record) → Type 0
+AnswersEach IsOf [] [] = Unit {0}
+AnswersEach IsOf (e ∷ h) (answer ∷ all) = (answer.0 ≡ e.reply) × Each IsOf e.closes answer.1 × AnswersEach IsOf h all
+AnswersEach IsOf [] (answer ∷ all) = ⊥
+AnswersEach IsOf (e ∷ h) [] = ⊥
+
+-- an effect behind a history is that of the request at its place, which made a span exactly if it asked for one that the
+-- directives in force then admit
+pub record MakesIfAdmitted (setup : Setup) (requests : List Request) (h : History) (e : Effect) : Type 0 where
+  pub request : Request
+  pub place : slice_get requests (length h) ≡ Some request
+  pub effect : effect_of setup (tables setup h) request ≡ Ok e
+  pub made : is_some e.made ≡ is_making setup (tables setup h) request
+
+-- what answers tell of the spans of a history that requests give
+pub record TellsSpans (setup : Setup) (requests : List Request) (h : History) (all : List (Reply × List Record)) : Type 0 where
+  pub legal : IsHistory setup h
+  pub admitted : (fore rest : History) (e : Effect) → h ≡ fore ++ e ∷ rest → MakesIfAdmitted setup requests fore e
+  pub answered : AnswersEach (HoldsCalls setup h) h all
+  pub once : (s : ℕ) → occurrences s (closed_by h) ≤ 1
+  -- so far those are closed that were made and that no unspent handle holds, theirs or a descendant's
+  pub when_ended : (fore rest : History) (s : ℕ) → h ≡ fore ++ rest
+      → is_in s (closed_by fore) ≡ (nat_lt s (length (tables setup fore).made) && not (is_open (tables setup fore).handles s))
+  pub child_first : (s p : ℕ) (up fore rest : List ℕ) → (made_of (tables setup h).made s).scope ≡ s ∷ p ∷ up
+      → closed_by h ≡ fore ++ p ∷ rest → is_in s fore ≡ true
+
+-- the answers are those of the outcome, parted by requests
+pub record AreAnswers (setup : Setup) (requests : List Request) (all : List (Reply × List Record)) : Type 0 where
+  pub replies : map (λ answer. answer.0) all ≡ (outcome_of setup requests).replies
+  pub records : flat_map (λ answer. answer.1) all ≡ (outcome_of setup requests).records
+
+-- a text is what is written of a script, and what its answers tell
+pub record TellsScript (script : Script) (text : List ℕ) : Type 0 where
+  pub written : text ≡ script_text script
+  pub outcome : AreAnswers (setup_by script.settings) (requests_of script.lines) (answers (setup_by script.settings) (requests_of script.lines))
+  pub spans : TellsSpans (setup_by script.settings) (requests_of script.lines) (history_of (setup_by script.settings) (requests_of script.lines)) (answers (setup_by script.settings) (requests_of script.lines))
