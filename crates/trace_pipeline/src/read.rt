@@ -1,11 +1,12 @@
 //! Reading lines: what a settings line and a request line spell.
 ghost use Rattle.std.specs.Prelude.{◌≡◌, map, true, Ok, Err, IfOk, IsErrOf, option_and_then};
+ghost use Rattle.serde_json.specs.View.{view};
 ghost use Rattle.span_script.specs.Setups.{HasOwnIds};
 ghost use Rattle.trace_pipeline.specs.Forms.{all_of};
 ghost use Rattle.trace_pipeline.specs.Gives.{Gives};
 ghost use Rattle.trace_pipeline.specs.RequestForm.{request_form};
 ghost use Rattle.trace_pipeline.specs.SettingsForm.{settings_form, ids, all_differ};
-ghost use Rattle.trace_pipeline.specs.Spelled.{line_members, settings_spelled, request_spelled};
+ghost use Rattle.trace_pipeline.specs.Spelled.{line_value, line_members, settings_spelled, request_spelled};
 ghost use Rattle.trace_pipeline.specs.declared.told.Told.{Told};
 ghost use Rattle.trace_pipeline.specs.declared.read.LineError.TheVariants.{Memory};
 
@@ -26,10 +27,13 @@ mod settings;
 mod tree;
 mod value;
 
+pub use attributes::{read_attribute_value, read_attributes, read_status};
 pub use decimal::u128_of;
 pub use fields::read_fields;
+pub use hex::{read_span_id, read_trace_id};
 use object::Object;
 use otel_base::memory;
+use serde_json::Value as Json;
 use span_script::request::Request;
 use span_script::settings::Settings;
 use std::alloc::{AllocError, AllocFailed, Global};
@@ -106,4 +110,11 @@ pub fn read_request(alloc: Global, line: &[u8]) -> Result<Request, LineError>
         return Ok(request);
     }
     request_of(alloc, line)
+}
+
+/// Reads a line as a JSON value, for readers of other lines. `BadLine` where it is no JSON, `Memory` freely.
+pub fn read_value(alloc: Global, line: &[u8]) -> Result<Json, LineError>
+    ensures { Gives view result (line_value line.now) }
+{
+    tree::value_of(alloc, line)
 }

@@ -156,3 +156,27 @@ pub(crate) fn status_of(alloc: Global, value: Value<'_>) -> Result<Status, LineE
     }
     error_status(alloc, value)
 }
+
+/// The attributes that a JSON value spells, for readers of other lines. `BadLine` where it spells none, `Memory` freely.
+pub fn read_attributes(alloc: Global, value: &Json) -> Result<Items<KeyValue>, LineError>
+    ensures { Gives (λ l. l) result (attributes_of (view value.now)) }
+{
+    let tree = value.clone()?;
+    attributes(alloc, Value::Tree(tree).into_array(alloc)?)
+}
+
+/// The value of an attribute that a JSON value spells. `BadLine` where it spells none, `Memory` freely.
+pub fn read_attribute_value(alloc: Global, value: &Json) -> Result<OtelValue, LineError>
+    ensures { Gives (λ v. v) result (otel_value_of (view value.now)) }
+{
+    let tree = value.clone()?;
+    otel_value_of(alloc, Value::Tree(tree))
+}
+
+/// The status that a JSON value spells. `BadLine` where it spells none, `Memory` freely.
+pub fn read_status(alloc: Global, value: &Json) -> Result<Status, LineError>
+    ensures { Gives (λ s. s) result (status_of (view value.now)) }
+{
+    let tree = value.clone()?;
+    status_of(alloc, Value::Tree(tree))
+}

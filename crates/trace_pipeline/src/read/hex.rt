@@ -1,6 +1,12 @@
 //! Ids that are read from their hexadecimal digits.
-ghost use Rattle.std.specs.Prelude.{◌≡◌, ◌≤◌, ◌<◌, ◌^◌, IfSome, length};
+ghost use Rattle.std.specs.Prelude.{◌≡◌, ◌≤◌, ◌<◌, ◌^◌, IfSome, length, option_and_then};
+ghost use Rattle.serde_json.specs.Find.{as_str};
+ghost use Rattle.serde_json.specs.View.{view};
+ghost use Rattle.trace_pipeline.specs.Gives.{Gives};
 ghost use Rattle.trace_pipeline.specs.Hex.{digit_value, hex_word, id_word, long_id_word};
+
+use crate::read::LineError;
+use serde_json::Value as Json;
 
 // The value of a lower case digit.
 fn digit_value(byte: u8) -> Option<u8>
@@ -47,4 +53,25 @@ pub(crate) fn long_id_of(word: &str) -> Option<u128>
     ensures { result ≡ long_id_word word.now }
 {
     number_of(32, word.as_bytes())
+}
+
+// The text that a JSON value is.
+fn word_of(value: &Json) -> Result<&str, LineError>
+    ensures { Gives (λ word. word.now) result (as_str (view value.now)) }
+{
+    value.as_str().ok_or(LineError::BadLine)
+}
+
+/// The id of a trace that a JSON value spells, in 32 lower case digits. `BadLine` where it spells none.
+pub fn read_trace_id(value: &Json) -> Result<u128, LineError>
+    ensures { Gives (λ id. id) result (option_and_then long_id_word (as_str (view value.now))) }
+{
+    long_id_of(word_of(value)?).ok_or(LineError::BadLine)
+}
+
+/// The id of a span that a JSON value spells, in 16 lower case digits. `BadLine` where it spells none.
+pub fn read_span_id(value: &Json) -> Result<u64, LineError>
+    ensures { Gives (λ id. id) result (option_and_then id_word (as_str (view value.now))) }
+{
+    id_of(word_of(value)?).ok_or(LineError::BadLine)
 }
