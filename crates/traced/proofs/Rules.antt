@@ -15,7 +15,7 @@ use Rattle.trace_base.proofs.Holding.{first_if_in}
 use Rattle.span_handles.specs.Worlds.{Has, Alike, spans_in}
 use Rattle.span_handles.specs.Handles.{Held, Handle, IsKnown, HasOn, IsOf, MayMakeIf, HasIf, place_under}
 use Rattle.span_handles.specs.Entries.{Opened, IsThere}
-use Rattle.traced.specs.Standing.{AreAtMost, Stands, IsHeld, CanMake, CanTell, CanClose, CanEnter, CanExit}
+use Rattle.traced.specs.Standing.{AreAtMost, Stands, IsHeld, CanMake, CanTell, CanAsk, CanClose, CanEnter, CanExit}
 use Rattle.traced.specs.AsBefore.{IsAsBefore, IsLiveOn, HasMade, HasEntered}
 use Rattle.traced.proofs.Restored.{on, stays_newest, stays_entered, opened, IsOpen}
 use Rattle.traced.proofs.Elsewhere.{stands_after}
@@ -116,6 +116,9 @@ there_on : {S : Type 0} (sub : Ghosts S) (world : Worlds S) (held : Held) → Is
 there_on sub world None known = tt
 there_on sub world (Some h) known = known.0
 
+pub can_ask : {S : Type 0} (sub : Ghosts S) (dispatch : ℕ) (world : Worlds S) (handle : Handle) → IsHeld sub dispatch world handle → CanAsk world handle
+can_ask sub dispatch world handle held = record { there = there_on sub world handle.held held.known }
+
 may_exit : {S : Type 0} (sub : Ghosts S) (dispatch : ℕ) (world : Worlds S) (lane : ℕ) (held : Held) → IsKnown sub.spans world held → IsOf held dispatch → IsOpen held lane (spans_in sub.spans world dispatch) → HasOn (λ s id. MayExit (sub.spans s) id lane) world held
 may_exit sub dispatch world lane None known own entered = tt
 may_exit {S} sub dispatch world lane (Some h) known own entered = λ s there. (
@@ -172,4 +175,4 @@ pub alike_stands : {S : Type 0} (sub : Ghosts S) (n dispatch sites : ℕ) (old n
 alike_stands sub n dispatch sites old new lanes alike same global stands =
     stands_after sub n n dispatch sites old new lanes alike.count same global alike.whole (λ few. subst (AreAtMost n) (sym alike.spans_same) few) alike.kept_same stands
 
-pub ruleset standing = (later, alike_stands, stays_stands, stays_as_before, turned, serves, can_make, can_make_root, can_make_under, of_lane, can_tell, can_close, can_enter, can_exit, again, held_after, made_after, entered_after, held_if_made, held_if_entered)
+pub ruleset standing = (later, alike_stands, stays_stands, stays_as_before, turned, serves, can_make, can_make_root, can_make_under, of_lane, can_tell, can_ask, can_close, can_enter, can_exit, again, held_after, made_after, entered_after, held_if_made, held_if_entered)

@@ -68,6 +68,10 @@ pub record CanTell {S : Type 0} (sub : Ghosts S) (world : Worlds S) (lane : Lane
   pub site_there : site < length world.sites
   pub whole : HasIf sub.is_whole world (dispatch_on lane.default world.global)
 
+-- the subscriber of a handle, if it is enabled, is there to be asked
+pub record CanAsk {S : Type 0} (world : Worlds S) (handle : Handle) : Type 0 where
+  pub there : IsThere world handle.held
+
 -- the lane is the one of a guard, and the guard's entry may be exited on it
 pub record CanExit {S : Type 0} (sub : Ghosts S) (world : Worlds S) (lane : Lane) (guard : Opened) : Type 0 where
   pub on : lane.id ≡ guard.lane
