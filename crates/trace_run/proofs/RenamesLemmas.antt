@@ -6,12 +6,12 @@ use Rattle.trace_eager.proofs.RenamedLemmas.{is_renamed}
 use Rattle.trace_pipeline.specs.Lines.{lines_of}
 use Rattle.trace_pipeline.specs.declared.signal.Signal.TheVariants as signal
 use Rattle.trace_run.specs.Carries.{Carries}
-use Rattle.trace_run.specs.Commands.{meaning_of}
+use Rattle.trace_run.specs.Commands.{meaning_by}
 use Rattle.trace_run.specs.Commands.Run.{answered, runs}
 use Rattle.trace_run.specs.Reading.{Leaves}
 use Rattle.trace_run.specs.Renames.{RenamesIds}
 use Rattle.trace_run.specs.Streams.{Streams, Puts}
-use Rattle.trace_run.specs.declared.script.Command.{Command}
+use Rattle.trace_run.specs.declared.invocation.Invocation.{Invocation}
 use Rattle.trace_run.specs.declared.status.Status.{Status}
 use Rattle.trace_run.specs.declared.status.Status.TheVariants as ends
 
@@ -22,8 +22,8 @@ by_left before now (Some bytes) leaves =
     let put = leaves.2 in
     (put.0, subst (IsRenamed (lines_of bytes)) (sym put.1) (is_renamed (lines_of bytes) leaves.0.accepted), put.2)
 
-pub renames_ids : (asked : Command) (status : Status) (before now : Streams) → Carries (meaning_of asked) status before now → RenamesIds asked status before now
+pub renames_ids : (asked : Invocation) (status : Status) (before now : Streams) → Carries (meaning_by asked) status before now → RenamesIds asked status before now
 renames_ids asked status before now carries is ok =
-    let run = subst (λ (a : Command). Carries (meaning_of a) status before now) is carries in
+    let run = subst (λ (a : Invocation). Carries (meaning_by a) status before now) is carries in
     let done = subst (λ (s : Status). Carries (runs signal.Traces) s before now) ok run in
     by_left before now before.left done.does.leaves

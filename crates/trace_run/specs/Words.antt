@@ -1,6 +1,8 @@
--- What the words of a call ask for, and the numbers that calls end with.
+-- What the words of an invocation ask for, and the numbers that it ends with.
 use Rattle.std.specs.Prelude.{ℕ, List, [], ◌∷◌, if◌then◌else◌, Option, Some, None, option_map, option_and_then, ◌&&◌, nat_le, codes, bytes_eq}
-use Rattle.trace_run.specs.declared.script.Command.{Command}
+use Rattle.trace_run.specs.declared.batch.TheConstants.{MOST_ITEMS}
+use Rattle.trace_run.specs.declared.invocation.Invocation.{Invocation}
+use Rattle.trace_run.specs.declared.invocation.Invocation.TheVariants.{Script, Batch}
 use Rattle.trace_run.specs.declared.script.Command.TheVariants.{Run, Make, Tree}
 use Rattle.trace_pipeline.specs.declared.generated.TheConstants.{MOST_ROUNDS}
 use Rattle.trace_pipeline.specs.Decimals.{u128_word}
@@ -8,19 +10,28 @@ use Rattle.trace_pipeline.specs.declared.signal.Signal.TheVariants.{Traces, Metr
 use Rattle.trace_run.specs.declared.status.Status.{Status}
 use Rattle.trace_run.specs.declared.status.Status.TheVariants as ends
 
--- a number of rounds, by its decimal
-abbrev pub rounds_of : List ℕ → Option ℕ
-rounds_of word = option_and_then (λ n. if nat_le 1 n && nat_le n MOST_ROUNDS then Some n else None) (u128_word word)
+-- a number from 1 to a greatest one, by its decimal
+abbrev pub number_up_to : ℕ → List ℕ → Option ℕ
+number_up_to most word = option_and_then (λ n. if nat_le 1 n && nat_le n most then Some n else None) (u128_word word)
 
--- one word, `run`, `metrics` or `tree`, or `make` and a number of rounds
-abbrev pub command_of : List (List ℕ) → Option Command
-command_of [] = None
-command_of (word ∷ []) =
-    if bytes_eq word (codes "run") then Some (Run Traces) else
-    (if bytes_eq word (codes "metrics") then Some (Run Metrics) else
-    (if bytes_eq word (codes "tree") then Some Tree else None))
-command_of (word ∷ number ∷ []) = if bytes_eq word (codes "make") then option_map Make (rounds_of number) else None
-command_of (word ∷ number ∷ other ∷ more) = None
+-- a word alone
+abbrev pub invocation_by : List ℕ → Option Invocation
+invocation_by word =
+    if bytes_eq word (codes "run") then Some (Script (Run Traces)) else
+    (if bytes_eq word (codes "metrics") then Some (Script (Run Metrics)) else
+    (if bytes_eq word (codes "tree") then Some (Script Tree) else None))
+
+-- a word with a number
+abbrev pub invocation_with : List ℕ → List ℕ → Option Invocation
+invocation_with word number =
+    if bytes_eq word (codes "make") then option_map (λ n. Script (Make n)) (number_up_to MOST_ROUNDS number) else
+    (if bytes_eq word (codes "batch") then option_map Batch (number_up_to MOST_ITEMS number) else None)
+
+abbrev pub invocation_of : List (List ℕ) → Option Invocation
+invocation_of [] = None
+invocation_of (word ∷ []) = invocation_by word
+invocation_of (word ∷ number ∷ []) = invocation_with word number
+invocation_of (word ∷ number ∷ other ∷ more) = None
 
 -- the number of a status
 abbrev pub number_of : Status → ℕ

@@ -99,7 +99,7 @@ fn answer_cut<C: AllLines>(alloc: Global, command: &mut C, part: &[u8]) -> Resul
 }
 
 // The status of a command whose text is written.
-fn status_of(refused: bool, end: End) -> Status
+pub(crate) fn status_of(refused: bool, end: End) -> Status
     ensures { result ≡ status_of refused end }
 {
     if refused {

@@ -6,8 +6,10 @@
 
 pub mod all_lines;
 pub mod answers;
+pub mod batch;
 pub mod failed;
 pub mod input;
+pub mod invocation;
 pub mod lines;
 mod make;
 pub mod progress;

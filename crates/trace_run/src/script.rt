@@ -4,6 +4,7 @@ ghost use Rattle.trace_run.specs.Carries.{Carries};
 ghost use Rattle.trace_run.specs.Commands.{meaning_of};
 ghost use Rattle.trace_run.specs.Renames.{RenamesIds};
 ghost use Rattle.trace_run.specs.Streams.{StopsReading, StopsWriting, seen};
+ghost use Rattle.trace_run.specs.declared.invocation.Invocation.TheVariants.{Script};
 
 use crate::all_lines::answer_all;
 use crate::make::make;
@@ -15,7 +16,7 @@ use crate::tree::Tree;
 use std::alloc::Global;
 use trace_pipeline::Signal;
 
-/// What a call of the program asks for.
+/// What the program does without threads.
 #[derive(Clone, Copy, Debug, PartialEq, Eq)]
 pub enum Command {
     /// To run a script, and to tell this of it.
@@ -38,7 +39,7 @@ pub fn run_script<R: Source, W: Sink>(
     ensures carries { let at = seen R.remaining R.ends R.faults W.holds W.faults in
         Carries (meaning_of command) result (at source.old sink.old) (at source.new sink.new) }
     ensures renames { let at = seen R.remaining R.ends R.faults W.holds W.faults in
-        RenamesIds command result (at source.old sink.old) (at source.new sink.new) }
+        RenamesIds (Script command) result (at source.old sink.old) (at source.new sink.new) }
     // A command that reads nothing doesn't touch the source, told or not.
     ensures unread { (meaning_of command).reads ≡ false → source.new ≡ source.old }
     ensures read_stops { result ≡ Status.ReadFault → StopsReading R.faults R.remaining source.old source.new }

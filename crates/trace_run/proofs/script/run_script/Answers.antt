@@ -2,6 +2,7 @@ use Rattle.std.proofs.Common.{refl}
 use Rattle.trace_run.specs.Streams.{Streams, seen}
 use Rattle.trace_run.proofs.EndsLemmas.{carries_made}
 use Rattle.trace_run.proofs.RenamesLemmas.{renames_ids}
+use Rattle.trace_run.specs.declared.invocation.Invocation.TheVariants as invocation
 use Rattle.trace_run.specs.declared.script.Command.TheVariants as command
 use Rattle.trace_run.proofs.script.run_script.Goals as goal
 
@@ -16,7 +17,7 @@ pub returns-in-Run-clause-renames : goal.returns-in-Run-clause-renames
 returns-in-Run-clause-renames g c =
     let before : Streams = seen g.R.Source.remaining g.R.Source.ends g.R.Source.faults g.W.Sink.holds g.W.Sink.faults c.args.source.now c.args.sink.now in
     let now : Streams = seen g.R.Source.remaining g.R.Source.ends g.R.Source.faults g.W.Sink.holds g.W.Sink.faults c.run.new.source c.run.new.sink in
-    rw c.in-Run.is (renames_ids (command.Run c.in-Run.signal) c.run.result before now c.run.ensures.carries)
+    rw c.in-Run.is (renames_ids (invocation.Script (command.Run c.in-Run.signal)) c.run.result before now c.run.ensures.carries)
 
 pub returns-in-Make-clause-renames : goal.returns-in-Make-clause-renames
 returns-in-Make-clause-renames g c = rw c.in-Make.is (λ is. absurd (cc is))
