@@ -6,14 +6,15 @@ use Rattle.std.proofs.lemmas.Bool.{cases_lt}
 use Rattle.std.proofs.lemmas.List.{append-nil, take_all}
 use Rattle.trace_pipeline.specs.Lines.{lines_of}
 use Rattle.trace_pipeline.specs.declared.limits.TheConstants.{MAX_INPUT}
-use Rattle.trace_run.specs.declared.all_lines.Answer.{Answer}
+use Rattle.trace_records.specs.declared.answer.Answer.{Answer}
 use Rattle.trace_run.specs.declared.input.End.{End}
 use Rattle.trace_run.specs.declared.input.End.TheVariants as end
 use Rattle.trace_run.specs.declared.status.Status.TheVariants as ends
-use Rattle.trace_run.specs.AllLines.{writes_last, all_lines, Refuses, AnswersCut, Tells, status_of}
+use Rattle.trace_records.specs.Inputs.{Refuses, NoneRefused}
+use Rattle.trace_run.specs.AllLines.{writes_last, all_lines, AnswersCut, Tells, status_of}
 use Rattle.trace_run.specs.Breaks.{whole_part, whole_lines}
 use Rattle.trace_run.specs.Carries.{Causes, Carries}
-use Rattle.trace_run.specs.Reading.{HasRefused, NoneRefused, PutsSome, Leaves, IsRefusedAt}
+use Rattle.trace_run.specs.Reading.{HasRefused, PutsSome, Leaves, IsRefusedAt}
 use Rattle.trace_run.specs.Streams.{Streams, HasFault, MeetsEnd, Takes, Puts, PutsFront}
 use Rattle.trace_run.proofs.LinesLemmas.{lines_on}
 use Rattle.trace_run.proofs.ReadingLemmas.{split_at, all_read, reads_lines}

@@ -1,77 +1,59 @@
 -- One line more is answered, and the lines end.
 use Rattle.std.proofs.Common.{◌≡◌, ℕ, List, [], ◌∷◌, ◌++◌, refl, sym, ap, subst, ◌∙◌, append_assoc, ◌+◌, inl, inr}
-use Rattle.std.specs.Prelude.{Bool, Result, Ok, Err, IfOk, IsErrOf, true, false}
+use Rattle.std.specs.Prelude.{None, Result, Ok, Err, true, false}
 use Rattle.std.proofs.lemmas.List.{append-nil}
-use Rattle.std.proofs.lemmas.List.Folds.{list_all-append}
 use Rattle.otel_base.specs.declared.record.Record.{Record}
 use Rattle.otel_metrics.specs.declared.measure.Measure.{Measure}
 use Rattle.span_script.specs.declared.settings.Settings.{Settings}
 use Rattle.span_script.specs.Setups.{Setup, setup_by}
-use Rattle.span_script.specs.declared.request.Request.{Request}
-use Rattle.trace_pipeline.specs.declared.read.LineError.{LineError}
-use Rattle.trace_pipeline.specs.declared.read.LineError.TheVariants as error
-use Rattle.span_script.specs.declared.reply.Reply.{Reply}
-use Rattle.span_script.specs.declared.reply.Refusal.{Refusal}
+use Rattle.span_script.specs.Tables.{History, Tables, tables, records_of}
+use Rattle.span_script.specs.Effects.{open_spans}
+use Rattle.span_script.specs.Fits.{State, StandsFor}
+use Rattle.span_script.specs.Admission.{OpeningRead, opening_read}
 use Rattle.trace_pipeline.specs.declared.signal.Signal.{Signal}
 use Rattle.trace_pipeline.specs.declared.told.Told.{Told}
 use Rattle.trace_pipeline.specs.declared.told.Told.TheVariants as told
-use Rattle.span_script.specs.Tables.{History, Effect, Tables, tables, records_of}
-use Rattle.span_script.specs.Effects.{effect_of, open_spans}
 use Rattle.trace_pipeline.specs.Lines.{is_blank}
-use Rattle.trace_pipeline.specs.Spelled.{settings_spelled, request_spelled}
+use Rattle.trace_pipeline.specs.Spelled.{settings_spelled}
 use Rattle.trace_pipeline.specs.Texts.{refusal_text}
-use Rattle.span_script.specs.Fits.{State, StandsFor, Recorded}
-use Rattle.span_script.specs.Admission.{opening_read}
-use Rattle.trace_pipeline.specs.Report.{Report, behind, effect_of_line, effect_of_request, answer_text, answer_count, last_text, report_on, report_from}
+use Rattle.trace_pipeline.specs.Report as report
+use Rattle.trace_pipeline.specs.Report.{Report, behind, refused, effect_of_line, answer_text, answer_count, last_text, report_on, report_from}
+use Rattle.trace_records.specs.declared.line.Opened.{Opened}
+use Rattle.trace_records.specs.declared.line.Answered.{Answered}
+use Rattle.trace_records.specs.Scripts.{setup_read, setup_of, setup_of_line}
+use Rattle.trace_records.specs.Lines.{OpensLine, AnswersLine}
+use Rattle.trace_records.specs.Following.{are_blank}
+use Rattle.trace_records.proofs.FollowingLemmas.{some_before, all_blank, one_not_blank, stands_beside}
 use Rattle.trace_run.specs.declared.answers.Stage.{Stage}
 use Rattle.trace_run.specs.declared.answers.Stage.TheVariants as stage
 use Rattle.trace_run.specs.declared.written.Written.{Written}
-use Rattle.trace_run.specs.Breaks.{are_blank}
-use Rattle.trace_run.specs.Answers.{IsEmptied, without_taken, IsAnswered, IsSpelled, Opens, Runs, Stops, AnswersAt, is_refused, Cuts}
+use Rattle.trace_run.specs.Answers.{IsAnswered, Opens, Runs, Stops, AnswersAt, is_refused, Cuts}
 
--- ---- what a line spells
+-- ---- what a settings line opens
 
-pub spelled_as : {A : Type 0} (read : Result A LineError) (spelled is : Result A Told) → IsSpelled read spelled → IfOk read (λ value. is ≡ Ok value)
-    → (IsErrOf read error.BadLine → is ≡ Err told.BadLine) → is ≡ spelled
-spelled_as (Ok value) spelled is same ok bad = ok ∙ sym same
-spelled_as (Err error.BadLine) spelled is same ok bad = bad refl ∙ sym same
-spelled_as (Err error.Memory) spelled is same ok bad = absurd same
+-- the report that goes on by what the settings fix, or is that of a refused line
+abbrev report_by : Result Setup Told → (Setup → Report) → ℕ → Report
+report_by (Ok setup) go line = go setup
+report_by (Err why) go line = refused line why
 
--- what holds of a value that was read holds of what is spelled
-pub spelled_keeps : {A : Type 0} (P : A → Type 0) (read : Result A LineError) (spelled : Result A Told) (value : A) → IsSpelled read spelled → spelled ≡ Ok value → IfOk read P → P value
-spelled_keeps P (Ok x) spelled value same is holds = subst P (cc (sym same ∙ is)) holds
-spelled_keeps P (Err error.BadLine) spelled value same is holds = absurd (cc (sym same ∙ is))
-spelled_keeps P (Err error.Memory) spelled value same is holds = absurd same
+read_by : (read : OpeningRead) (setup : Setup) (go : Setup → Report) (line : ℕ) → report.opened read (go setup) line ≡ report_by (setup_read read true setup) go line
+read_by (Ok read) setup go line = refl
+read_by (Err unread) setup go line = refl
 
-unspelled : (setup : Setup) (t : Tables) (text : List ℕ) (why : Told) → request_spelled text ≡ Err why → effect_of_line setup t text ≡ Err why
-unfolding effect_of_line
-unspelled setup t text why is = ap (effect_of_request setup t) is
+opens_by : (spelled : Result Settings Told) (go : Setup → Report) (line : ℕ) → report.opening spelled (λ settings. go (setup_by settings)) line ≡ report_by (setup_of None spelled) go line
+opens_by (Ok settings) go line = read_by (opening_read settings.filter settings.counting) (setup_by settings) go line
+opens_by (Err why) go line = refl
 
-unstepped : (setup : Setup) (t : Tables) (text : List ℕ) (request : Request) (refusal : Refusal) → request_spelled text ≡ Ok request
-    → effect_of setup t request ≡ Err refusal → effect_of_line setup t text ≡ Err (told.Step refusal)
-unfolding effect_of_line
-unstepped setup t text request refusal is none = rw (is, none) refl
-
-stepped : (setup : Setup) (t : Tables) (text : List ℕ) (request : Request) (effect : Effect) → request_spelled text ≡ Ok request
-    → effect_of setup t request ≡ Ok effect → effect_of_line setup t text ≡ Ok effect
-unfolding effect_of_line
-stepped setup t text request effect is does = rw (is, does) refl
+opened_by : (text : List ℕ) (go : Setup → Report) (line : ℕ) (setup : Result Setup Told) → setup_of_line None text ≡ setup
+    → report.opening (settings_spelled text) (λ settings. go (setup_by settings)) line ≡ report_by setup go line
+unfolding setup_of_line
+opened_by text go line setup is = opens_by (settings_spelled text) go line ∙ ap (λ (s : Result Setup Told). report_by s go line) is
 
 -- ---- one line more
 
 -- the report goes on behind one line more
 on_line : (signal : Signal) (lines more : List (List ℕ)) (line : List ℕ) (r : Report) → report_from signal 0 (lines ++ line ∷ more) ≡ r → report_from signal 0 ((lines ++ line ∷ []) ++ more) ≡ r
 on_line signal lines more line r is = ap (report_from signal 0) (append_assoc lines (line ∷ []) more) ∙ is
-
--- lines are not all blank where one isn't
-some_before : (lines more : List (List ℕ)) → are_blank lines ≡ false → are_blank (lines ++ more) ≡ false
-some_before lines more some = list_all-append is_blank lines more ∙ rw some refl
-
-all_blank : (lines : List (List ℕ)) (line : List ℕ) → are_blank lines ≡ true → is_blank line ≡ true → are_blank (lines ++ line ∷ []) ≡ true
-all_blank lines line blank is = list_all-append is_blank lines (line ∷ []) ∙ rw (blank, is) refl
-
-one_not_blank : (lines : List (List ℕ)) (line : List ℕ) → are_blank lines ≡ true → is_blank line ≡ false → are_blank (lines ++ line ∷ []) ≡ false
-one_not_blank lines line blank is = list_all-append is_blank lines (line ∷ []) ∙ rw (blank, is) refl
 
 -- no line changes what is written behind a refused line
 pub stops_on : (signal : Signal) (lines more : List (List ℕ)) (text : List ℕ) → Stops signal lines text → Stops signal (lines ++ more) text
@@ -99,56 +81,35 @@ blank_on signal (stage.Running pipeline) lines count next text tally line a coun
 blank_on signal stage.Refused lines count next text tally line a counted is = stops_on signal lines (line ∷ []) text a
 
 -- the settings line
-pub opened : (signal : Signal) (lines : List (List ℕ)) (count next : ℕ) (text : List ℕ) (tally : ℕ) (line : List ℕ) (settings : Settings) (kept : State)
-    → Opens signal lines count text tally → next ≡ count + 1 → is_blank line ≡ false → settings_spelled line ≡ Ok settings
-    → opening_read settings.filter settings.counting ≡ Ok tt → kept.setup ≡ setup_by settings → StandsFor kept (tables (setup_by settings) []) → IsEmptied kept → Runs signal (lines ++ line ∷ []) next kept text tally
-opened signal lines count next text tally line settings kept o counted is is_spelled read setup stands taken = record {
+pub opened : (signal : Signal) (lines : List (List ℕ)) (count next : ℕ) (text : List ℕ) (tally : ℕ) (line : List ℕ) (came : Opened)
+    → Opens signal lines count text tally → next ≡ count + 1 → is_blank line ≡ false → OpensLine None line (Ok came) → Runs signal (lines ++ line ∷ []) next came.pipeline text tally
+opened signal lines count next text tally line came o counted is a = record {
   history = [];
   some = one_not_blank lines line o.blank is;
-  stands = subst (λ (s : Setup). StandsFor kept (tables s [])) (sym setup) stands;
-  taken = taken;
-  report_is = λ more. on_line signal lines more line _ (o.report_is (line ∷ more) ∙ rw (is, is_spelled, read, counted, o.empty, o.none, setup) refl);
+  stands = a.stands;
+  taken = record { records = a.records; measures = a.measures };
+  report_is = λ more. on_line signal lines more line _ (o.report_is (line ∷ more) ∙ rw (is, counted, o.empty, o.none)
+      (opened_by line (λ setup. report_on signal setup [] (count + 1) 0 more) (count + 1) (Ok came.pipeline.setup) a.setup));
 }
 
 -- a settings line that is refused
 pub unopened : (signal : Signal) (lines : List (List ℕ)) (count next : ℕ) (text : List ℕ) (tally : ℕ) (line out : List ℕ) (why : Told)
-    → Opens signal lines count text tally → next ≡ count + 1 → is_blank line ≡ false → settings_spelled line ≡ Err why
+    → Opens signal lines count text tally → next ≡ count + 1 → is_blank line ≡ false → setup_of_line None line ≡ Err why
     → out ≡ text ++ refusal_text next why → Stops signal (lines ++ line ∷ []) out
-unopened signal lines count next text tally line out why o counted is is_spelled tells = record {
+unopened signal lines count next text tally line out why o counted is refuses tells = record {
   some = one_not_blank lines line o.blank is;
-  report_is = λ more. on_line signal lines more line _ (o.report_is (line ∷ more) ∙ rw (is, is_spelled, tells, o.empty, counted) refl);
-}
-
--- settings of which a text isn't read
-pub unfiltered : (signal : Signal) (lines : List (List ℕ)) (count next : ℕ) (text : List ℕ) (tally : ℕ) (line out : List ℕ) (settings : Settings) (counting : Bool) (piece : ℕ)
-    → Opens signal lines count text tally → next ≡ count + 1 → is_blank line ≡ false → settings_spelled line ≡ Ok settings → opening_read settings.filter settings.counting ≡ Err (counting, piece)
-    → out ≡ text ++ refusal_text next (told.Directive counting piece) → Stops signal (lines ++ line ∷ []) out
-unfiltered signal lines count next text tally line out settings counting piece o counted is is_spelled why tells = record {
-  some = one_not_blank lines line o.blank is;
-  report_is = λ more. on_line signal lines more line _ (o.report_is (line ∷ more) ∙ rw (is, is_spelled, why, tells, o.empty, counted) refl);
+  report_is = λ more. on_line signal lines more line _ (o.report_is (line ∷ more) ∙ rw (is, tells, o.empty, counted)
+      (opened_by line (λ setup. report_on signal setup [] (count + 1) 0 more) (count + 1) (Err why) refuses));
 }
 
 -- a request line that is refused
-refused_on : (signal : Signal) (lines : List (List ℕ)) (count next : ℕ) (kept : State) (text : List ℕ) (tally : ℕ) (line out : List ℕ) (why : Told)
+pub unserved : (signal : Signal) (lines : List (List ℕ)) (count next : ℕ) (kept : State) (text : List ℕ) (tally : ℕ) (line out : List ℕ) (why : Told)
     (r : Runs signal lines count kept text tally) → next ≡ count + 1 → is_blank line ≡ false → effect_of_line kept.setup (tables kept.setup r.history) line ≡ Err why
     → out ≡ text ++ refusal_text next why → Stops signal (lines ++ line ∷ []) out
-refused_on signal lines count next kept text tally line out why r counted is none tells = record {
+unserved signal lines count next kept text tally line out why r counted is none tells = record {
   some = some_before lines (line ∷ []) r.some;
   report_is = λ more. on_line signal lines more line _ (r.report_is (line ∷ more) ∙ rw (is, none, tells, counted) refl);
 }
-
-pub unread : (signal : Signal) (lines : List (List ℕ)) (count next : ℕ) (kept : State) (text : List ℕ) (tally : ℕ) (line out : List ℕ) (why : Told)
-    → Runs signal lines count kept text tally → next ≡ count + 1 → is_blank line ≡ false → request_spelled line ≡ Err why
-    → out ≡ text ++ refusal_text next why → Stops signal (lines ++ line ∷ []) out
-unread signal lines count next kept text tally line out why r counted is is_spelled tells =
-    refused_on signal lines count next kept text tally line out why r counted is (unspelled kept.setup (tables kept.setup r.history) line why is_spelled) tells
-
-pub unserved : (signal : Signal) (lines : List (List ℕ)) (count next : ℕ) (kept : State) (text : List ℕ) (tally : ℕ) (line out : List ℕ) (request : Request) (refusal : Refusal)
-    (r : Runs signal lines count kept text tally) → next ≡ count + 1 → is_blank line ≡ false → request_spelled line ≡ Ok request
-    → effect_of kept.setup (tables kept.setup r.history) request ≡ Err refusal
-    → out ≡ text ++ refusal_text next (told.Step refusal) → Stops signal (lines ++ line ∷ []) out
-unserved signal lines count next kept text tally line out request refusal r counted is is_spelled none tells =
-    refused_on signal lines count next kept text tally line out (told.Step refusal) r counted is (unstepped kept.setup (tables kept.setup r.history) line request refusal is_spelled none) tells
 
 behind_both : (a b : List ℕ) (r : Report) → behind (a ++ b) r ≡ behind a (behind b r)
 behind_both a b r = ap (λ (text : List ℕ). record { written = text; accepted = r.accepted }) (append_assoc a b r.written)
@@ -157,64 +118,11 @@ behind_both a b r = ap (λ (text : List ℕ). record { written = text; accepted 
 pub put_behind : (put old more new : List ℕ) → new ≡ old ++ more → put ++ new ≡ (put ++ old) ++ more
 put_behind put old more new is = ap (λ (t : List ℕ). put ++ t) is ∙ sym (append_assoc put old more)
 
--- records and measures that are to be taken change nothing else
-beside : (k : State) (t : Tables) → StandsFor k t → StandsFor (without_taken k) t
-beside k t s = record {
-  fits = record {
-    handle_slots = s.fits.handle_slots;
-    site_slots = s.fits.site_slots;
-    guard_slots = s.fits.guard_slots;
-    attach_slots = s.fits.attach_slots;
-    paired = s.fits.paired;
-    named = s.fits.named;
-    latest = s.fits.latest;
-    balanced = s.fits.balanced;
-    made = s.fits.made;
-    one_lane = s.fits.one_lane;
-    scopes = s.fits.scopes;
-    still = s.fits.still;
-    own_scopes = s.fits.own_scopes;
-    sited = s.fits.sited;
-    few = s.fits.few;
-    few_holds = s.fits.few_holds;
-  };
-  recording = record { recorded = s.recording.recorded; known = s.recording.known; attached = s.recording.attached };
-  filtering = record { in_place = s.filtering.in_place; fresh = s.filtering.fresh; counter = s.filtering.counter; new = s.filtering.new };
-}
-
-back : (k : State) (t : Tables) → StandsFor (without_taken k) t → StandsFor k t
-back k t s = record {
-  fits = record {
-    handle_slots = s.fits.handle_slots;
-    site_slots = s.fits.site_slots;
-    guard_slots = s.fits.guard_slots;
-    attach_slots = s.fits.attach_slots;
-    paired = s.fits.paired;
-    named = s.fits.named;
-    latest = s.fits.latest;
-    balanced = s.fits.balanced;
-    made = s.fits.made;
-    one_lane = s.fits.one_lane;
-    scopes = s.fits.scopes;
-    still = s.fits.still;
-    own_scopes = s.fits.own_scopes;
-    sited = s.fits.sited;
-    few = s.fits.few;
-    few_holds = s.fits.few_holds;
-  };
-  recording = record { recorded = s.recording.recorded; known = s.recording.known; attached = s.recording.attached };
-  filtering = record { in_place = s.filtering.in_place; fresh = s.filtering.fresh; counter = s.filtering.counter; new = s.filtering.new };
-}
-
-pub stands_beside : (old new : State) (t : Tables) → without_taken new ≡ without_taken old → StandsFor old t → StandsFor new t
-stands_beside old new t same stands = back new t (subst (λ (k : State). StandsFor k t) (sym same) (beside old t stands))
-
 -- a request that is answered
-pub answered : (signal : Signal) (put : List ℕ) (lines : List (List ℕ)) (count next : ℕ) (old mid new : State) (before after : Written) (line : List ℕ) (request : Request) (reply : Reply)
-    (r : Runs signal lines count old (put ++ before.text.items) before.count) → next ≡ count + 1 → is_blank line ≡ false → request_spelled line ≡ Ok request
-    → Recorded (effect_of old.setup (tables old.setup r.history) request) r.history old mid reply
-    → IsAnswered signal next reply mid new before after → Runs signal (lines ++ line ∷ []) next new (put ++ after.text.items) after.count
-answered signal put lines count next old mid new before after line request reply r counted is is_spelled a told =
+pub answered : (signal : Signal) (put : List ℕ) (lines : List (List ℕ)) (count next : ℕ) (old mid new : State) (before after : Written) (line : List ℕ) (did : Answered)
+    (r : Runs signal lines count old (put ++ before.text.items) before.count) → next ≡ count + 1 → is_blank line ≡ false → AnswersLine line r.history old mid (Ok did)
+    → IsAnswered signal next did.reply mid new before after → Runs signal (lines ++ line ∷ []) next new (put ++ after.text.items) after.count
+answered signal put lines count next old mid new before after line did r counted is a told =
     let h : History = r.history in
     let t : Tables = tables old.setup h in
     let records : List Record = records_of t a.effect in
@@ -234,7 +142,7 @@ answered signal put lines count next old mid new before after line request reply
       report_is = λ more.
           let rest : Report = report_on signal old.setup (h ++ a.effect ∷ []) next (before.count + answer_count signal records a.effect.measures) more in
           rw (setup, all) (on_line signal lines more line _ (r.report_is (line ∷ more)
-          ∙ rw (is, stepped old.setup t line request a.effect is_spelled a.is, ← counted) refl
+          ∙ rw (is, a.is, ← counted) refl
           ∙ sym (ap (λ (x : List ℕ). behind x rest) behind_put ∙ behind_both (put ++ before.text.items) (answer_text signal next before.count a.effect.reply records a.effect.measures) rest)));
     }
 

@@ -14,11 +14,11 @@ use Rattle.trace_pipeline.specs.Generated.{made_setup, made_requests, made_scrip
 use Rattle.trace_pipeline.specs.Replay.{going_on, replayed, busy_of, events_of, summary_text}
 use Rattle.trace_pipeline.specs.Report.{IsValid}
 use Rattle.trace_pipeline.specs.declared.write.summary.Summary.{Summary}
-use Rattle.trace_run.specs.Answers.{without_taken}
+use Rattle.trace_records.specs.Following.{without_taken}
 use Rattle.trace_run.specs.Making.{SumsUp, IsMadeLine, with_records, of_requests, Counts, Serves}
 use Rattle.trace_run.specs.Commands.Make.{line_if}
 use Rattle.trace_run.specs.declared.make.Totals.{Totals}
-use Rattle.trace_run.proofs.AnswersLemmas.{stands_beside}
+use Rattle.trace_records.proofs.FollowingLemmas.{stands_beside}
 use Rattle.span_script.proofs.Running.{records_push}
 
 -- ---- totals

@@ -13,7 +13,8 @@ use Rattle.trace_run.specs.Progress.{Keeps, IsMidway, HasFront, Reports}
 use Rattle.trace_run.specs.declared.answers.Answers.{Answers}
 use Rattle.trace_run.specs.declared.progress.Progress.{Progress}
 use Rattle.trace_run.proofs.StreamsLemmas.{puts_more}
-use Rattle.trace_run.proofs.LinesLemmas.{lines_on, lines_ended, lines_last, only_line, feedless, part_ended, part_still, kept_still, rest_still}
+use Rattle.trace_records.proofs.FirstLineLemmas.{only_line}
+use Rattle.trace_run.proofs.LinesLemmas.{lines_on, lines_ended, lines_last, feedless, part_ended, part_still, kept_still, rest_still}
 use Rattle.trace_run.proofs.AnswersLemmas.{cut_at}
 
 -- ---- what is kept

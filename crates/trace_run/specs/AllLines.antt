@@ -1,11 +1,12 @@
 -- What a command does that reads all lines before it writes.
-use Rattle.std.specs.Prelude.{◌≡◌, ℕ, List, [], ◌++◌, take, Bool, true, false, not}
+use Rattle.std.specs.Prelude.{◌≡◌, ℕ, List, [], take, Bool, true, false, not}
 use Rattle.trace_pipeline.specs.Lines.{lines_of}
 use Rattle.trace_pipeline.specs.declared.limits.TheConstants.{MAX_INPUT}
-use Rattle.trace_run.specs.Breaks.{are_blank, whole_lines}
+use Rattle.trace_records.specs.declared.answer.Answer.{Answer}
+use Rattle.trace_records.specs.Inputs.{Refuses, NoneRefused}
+use Rattle.trace_run.specs.Breaks.{whole_lines}
 use Rattle.trace_run.specs.Meaning.{Meaning}
-use Rattle.trace_run.specs.Reading.{Answering, NoneRefused, reading}
-use Rattle.trace_run.specs.declared.all_lines.Answer.{Answer}
+use Rattle.trace_run.specs.Reading.{Answering, reading}
 use Rattle.trace_run.specs.declared.input.End.{End}
 use Rattle.trace_run.specs.declared.input.End.TheVariants as end
 use Rattle.trace_run.specs.declared.status.Status.{Status}
@@ -23,12 +24,6 @@ writes_last accepts Whole = record {
 -- the refusal line alone where one is refused.
 abbrev pub all_lines : (List (List ℕ) → Bool) → (List (List ℕ) → List ℕ → Type 0) → Meaning
 all_lines accepts Whole = reading (writes_last accepts Whole)
-
--- A line is refused, and the text is all that is written, whatever lines follow.
-pub record Refuses (accepts : List (List ℕ) → Bool) (Whole : List (List ℕ) → List ℕ → Type 0) (lines : List (List ℕ)) (text : List ℕ) : Type 0 where
-  pub some : are_blank lines ≡ false
-  pub refused : (more : List (List ℕ)) → accepts (lines ++ more) ≡ false
-  pub whole : (more : List (List ℕ)) → Whole (lines ++ more) text
 
 -- ---- inner
 

@@ -1,16 +1,13 @@
 -- What lines are answered, whichever lines follow them.
 use Rattle.std.specs.Prelude.{◌≡◌, ℕ, List, [], ◌++◌, ◌+◌, Bool, true, false, Result, Ok, Err}
-use Rattle.trace_pipeline.specs.declared.read.LineError.{LineError}
-use Rattle.trace_pipeline.specs.declared.read.LineError.TheVariants as error
 use Rattle.trace_pipeline.specs.declared.signal.Signal.{Signal}
-use Rattle.trace_pipeline.specs.declared.told.Told.{Told}
-use Rattle.trace_pipeline.specs.declared.told.Told.TheVariants as told
 use Rattle.span_script.specs.declared.reply.Reply.{Reply}
 use Rattle.span_script.specs.Tables.{History, tables}
 use Rattle.span_script.specs.Fits.{State, StandsFor}
 use Rattle.trace_pipeline.specs.Report.{behind, answer_text, answer_count, report_on, report_from}
+use Rattle.trace_records.specs.Following.{without_taken, are_blank}
 use Rattle.trace_run.specs.Streams.{IsFront}
-use Rattle.trace_run.specs.Breaks.{are_blank, AnswersAll}
+use Rattle.trace_run.specs.Breaks.{AnswersAll}
 use Rattle.trace_run.specs.declared.answers.Answers.{Answers}
 use Rattle.trace_run.specs.declared.answers.Stage.{Stage}
 use Rattle.trace_run.specs.declared.answers.Stage.TheVariants as stage
@@ -30,10 +27,6 @@ pub record Runs (signal : Signal) (lines : List (List ℕ)) (count : ℕ) (kept 
   pub taken : IsEmptied kept
   pub report_is : (more : List (List ℕ)) → report_from signal 0 (lines ++ more)
       ≡ behind text (report_on signal kept.setup history count tally more)
-
--- what is kept beside the records and the measures that are to be taken
-abbrev pub without_taken : State → State
-without_taken kept = record kept { recording = record kept.recording { finished = [] }; measures = [] }
 
 -- A request on a line that was served is answered: what is told of it stands behind what was written before, and no record
 -- and no measure waits any more.
@@ -82,11 +75,3 @@ abbrev pub Cuts : Signal → Bool → List (List ℕ) → List ℕ → Type 0
 Cuts signal true lines text = Stops signal lines text
 Cuts signal false lines text = AnswersAll signal lines text
     × ((more : List (List ℕ)) → IsFront text (report_from signal 0 (lines ++ more)).written)
-
--- ---- reading
-
--- what was read of a line, where memory didn't want
-abbrev pub IsSpelled : {A : Type 0} → Result A LineError → Result A Told → Type 0
-IsSpelled (Ok value) spelled = spelled ≡ Ok value
-IsSpelled (Err error.BadLine) spelled = spelled ≡ Err told.BadLine
-IsSpelled (Err error.Memory) spelled = ⊥

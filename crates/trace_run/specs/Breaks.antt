@@ -1,10 +1,11 @@
 -- What is known of an input that breaks off: its whole lines, and what they are answered.
 use Rattle.std.specs.Prelude.{◌≡◌, ℕ, List, [], ◌∷◌, ◌++◌, Bool, true, ◌==◌, if◌then◌else◌}
-use Rattle.std.specs.List.{list_all, list_any}
+use Rattle.std.specs.List.{list_any}
 use Rattle.std.proofs.Common.{◌⊎◌}
-use Rattle.trace_pipeline.specs.Lines.{lines_of, is_blank}
+use Rattle.trace_pipeline.specs.Lines.{lines_of}
 use Rattle.trace_pipeline.specs.declared.signal.Signal.{Signal}
 use Rattle.trace_pipeline.specs.Report.{last_text, report_from}
+use Rattle.trace_records.specs.Following.{are_blank}
 
 -- whether a line feed is among the bytes
 abbrev pub has_feed : List ℕ → Bool
@@ -18,10 +19,6 @@ whole_part (b ∷ bs) = if has_feed (b ∷ bs) then b ∷ whole_part bs else []
 -- the lines that are whole whatever bytes follow
 abbrev pub whole_lines : List ℕ → List (List ℕ)
 whole_lines bytes = lines_of (whole_part bytes)
-
--- no settings line is among the lines
-abbrev pub are_blank : List (List ℕ) → Bool
-are_blank lines = list_all is_blank lines
 
 -- No line is refused, and the text is what they are answered with no end line: nothing where all are blank.
 abbrev pub AnswersAll : Signal → List (List ℕ) → List ℕ → Type 0

@@ -3,9 +3,10 @@ use Rattle.std.specs.Prelude.{◌≡◌, ℕ, ◌<◌, ◌≤◌, List, [], leng
 use Rattle.std.proofs.Common.{◌⊎◌}
 use Rattle.trace_pipeline.specs.Lines.{lines_of}
 use Rattle.trace_pipeline.specs.declared.limits.TheConstants.{MAX_INPUT}
+use Rattle.trace_records.specs.Following.{are_blank}
 use Rattle.trace_run.specs.Meaning.{Meaning}
 use Rattle.trace_run.specs.Streams.{Streams, MeetsEnd, IsQuiet, Takes, Puts, PutsFront}
-use Rattle.trace_run.specs.Breaks.{are_blank, whole_lines}
+use Rattle.trace_run.specs.Breaks.{whole_lines}
 use Rattle.trace_run.specs.declared.status.Status.{Status}
 use Rattle.trace_run.specs.declared.status.Status.TheVariants as ends
 
@@ -25,10 +26,6 @@ pub record AreValid (answers : Answering) (bytes : List ℕ) : Type 0 where
 pub record HasRefused (accepts : List (List ℕ) → Bool) (lines : List (List ℕ)) : Type 0 where
   pub some : are_blank lines ≡ false
   pub refused : accepts lines ≡ false
-
--- none of these lines is refused, whatever lines follow
-abbrev pub NoneRefused : (List (List ℕ) → Bool) → List (List ℕ) → Type 0
-NoneRefused accepts lines = (are_blank lines ≡ true) ⊎ (accepts lines ≡ true)
 
 -- the sink gained a whole text for these bytes
 abbrev pub PutsWhole : Answering → List ℕ → Option (List ℕ) → Option (List ℕ) → Type 0

@@ -1,9 +1,9 @@
 //! Commands that read all lines before they write.
 ghost use Rattle.std.specs.Prelude.{◌≡◌, ℕ, List, Bool, not, None, IfSome, IfOk};
 ghost use Rattle.trace_pipeline.specs.Lines.{lines_of};
-ghost use Rattle.trace_run.specs.AllLines.{all_lines, Refuses, AnswersCut, Tells, status_of};
+ghost use Rattle.trace_records.specs.Inputs.{Refuses, NoneRefused};
+ghost use Rattle.trace_run.specs.AllLines.{all_lines, AnswersCut, Tells, status_of};
 ghost use Rattle.trace_run.specs.Carries.{Carries};
-ghost use Rattle.trace_run.specs.Reading.{NoneRefused};
 ghost use Rattle.trace_run.specs.Streams.{StopsReading, StopsWriting, seen};
 
 use crate::failed::Failed;
@@ -15,15 +15,7 @@ use crate::status::Status;
 use otel_base::memory::Memory;
 use std::alloc::Global;
 use trace_pipeline::limits::MAX_INPUT;
-
-/// All that is written for an input.
-#[derive(Drop)]
-pub struct Answer {
-    /// The lines, each with its line feed.
-    pub text: Vec<u8>,
-    /// Whether a line is refused; the text is its refusal line then.
-    pub refused: bool,
-}
+use trace_records::Answer;
 
 /// A command that reads all lines before it writes.
 pub trait AllLines {

@@ -1,20 +1,18 @@
 //! Answering lines one after another, whichever lines follow them.
-ghost use Rattle.std.specs.Prelude.{◌≡◌, ◌≢◌, ℕ, List, [], ◌∷◌, ◌++◌, ◌+◌, false, true, IfOk, IfErr, OnOk, OnErr};
+ghost use Rattle.std.specs.Prelude.{◌≡◌, ℕ, List, [], ◌∷◌, ◌++◌, ◌+◌, false, true, IfOk, OnOk};
 ghost use Rattle.trace_pipeline.specs.Lines.{is_blank};
 ghost use Rattle.trace_pipeline.specs.Report.{report_from};
-ghost use Rattle.span_script.specs.Fits.{is_room};
-ghost use Rattle.trace_run.specs.Answers.{IsSpelled, Opens, Runs, AnswersAt, Goes, AnswersTo, is_refused};
+ghost use Rattle.trace_run.specs.Answers.{Opens, Runs, AnswersAt, Goes, AnswersTo, is_refused};
 
-use crate::lines::is_blank;
 use crate::written::Written;
 use otel_base::memory::Memory;
 use span_pipeline::pipeline::Pipeline;
-use span_script::open_error::OpenError;
 use std::alloc::Global;
 use std::mem;
 use trace_base::discard::Discard;
-use trace_pipeline::read::{LineError, read_request, read_settings};
-use trace_pipeline::{Refusal, Signal, Told};
+use trace_pipeline::{Signal, Told};
+use trace_records::line::{Opened, answer_line, open_line};
+use trace_records::lines::is_blank;
 
 /// Where a run stands between two lines.
 pub enum Stage {
@@ -156,20 +154,18 @@ pub fn open(
         → IfOk result (λ stage. AnswersAt signal stage (before ++ line.now ∷ []) lines
         (put ++ written.new.text.items) written.new.count) }
 {
-    let settings = match spelled(read_settings(alloc, line))? {
-        Ok(settings) => settings,
+    match open_line(alloc, None, line)? {
+        Ok(opened) => {
+            let Opened {
+                pipeline,
+                lane_count: _,
+            } = opened;
+            Ok(Stage::Running { pipeline })
+        }
         Err(told) => {
             written.refuse(alloc, lines, &told)?;
-            return Ok(Stage::Refused);
-        }
-    };
-    match Pipeline::open(alloc, settings) {
-        Ok(pipeline) => Ok(Stage::Running { pipeline }),
-        Err(OpenError::Directive { counting, piece }) => {
-            written.refuse(alloc, lines, &Told::Directive { counting, piece })?;
             Ok(Stage::Refused)
         }
-        Err(OpenError::Memory) => Err(Memory),
     }
 }
 
@@ -188,51 +184,14 @@ pub fn answer(
         → IfOk result (λ served. Goes signal served (before ++ line.now ∷ []) lines pipeline.new
         (put ++ written.new.text.items) written.new.count) }
 {
-    let request = match spelled(read_request(alloc, line))? {
-        Ok(request) => request,
-        Err(told) => {
-            written.refuse(alloc, lines, &told)?;
-            return Ok(false);
-        }
-    };
-    match pipeline.step(request) {
-        Ok(reply) => {
-            written.answer(alloc, signal, lines, &reply, pipeline)?;
+    match answer_line(alloc, pipeline, line)? {
+        Ok(answered) => {
+            written.answer(alloc, signal, lines, &answered.reply, pipeline)?;
             Ok(true)
         }
-        Err(refusal) => {
-            let told = told_of(refusal)?;
+        Err(told) => {
             written.refuse(alloc, lines, &told)?;
             Ok(false)
         }
-    }
-}
-
-// What a refusal line tells of a refusal. Want of memory has no such line.
-fn told_of(refusal: Refusal) -> Result<Told, Memory>
-    ensures same { IfOk result (λ told. told ≡ Told.Step refusal) }
-    ensures other { OnOk result (is_room refusal ≡ false) }
-    ensures memory { OnErr result (is_room refusal ≡ true) }
-{
-    match refusal {
-        Refusal::Memory => Err(Memory),
-        Refusal::BadMoment { .. }
-        | Refusal::UnknownName { .. }
-        | Refusal::InUse
-        | Refusal::WrongLane { .. }
-        | Refusal::Full { .. }
-        | Refusal::Directive { .. } => Ok(Told::Step { refusal }),
-    }
-}
-
-// What a line spells, or what its refusal line tells. Want of memory has no such line.
-fn spelled<T: Drop>(read: Result<T, LineError>) -> Result<Result<T, Told>, Memory>
-    ensures same { IfOk result (λ spelled. IsSpelled read spelled) }
-    ensures told { IfOk result (λ spelled. IfErr spelled (λ why. why ≢ Told.Step Refusal.Memory)) }
-{
-    match read {
-        Ok(value) => Ok(Ok(value)),
-        Err(LineError::BadLine) => Ok(Err(Told::BadLine)),
-        Err(LineError::Memory) => Err(Memory),
     }
 }

@@ -17,10 +17,11 @@ pub mod sink;
 pub mod source;
 pub mod status;
 pub mod top;
+pub mod tree;
 pub mod turns;
 pub mod written;
 
-pub use all_lines::{AllLines, Answer, answer_all};
+pub use all_lines::{AllLines, answer_all};
 pub use sink::{MemSink, Sink, StdSink, SureSink};
 pub use source::{MemSource, Source, StdSource, SureSource};
 pub use status::Status;

@@ -3,7 +3,7 @@ ghost use Rattle.std.specs.Prelude.{◌≡◌, ◌∷◌, ◌≤◌, ◌<◌, �
 ghost use Rattle.span_script.specs.Tables.{History};
 ghost use Rattle.trace_pipeline.specs.Generated.{made_requests};
 ghost use Rattle.trace_pipeline.specs.Replay.{busy_in, busy_of};
-ghost use Rattle.trace_run.specs.Answers.{without_taken};
+ghost use Rattle.trace_records.specs.Following.{without_taken};
 ghost use Rattle.trace_run.specs.Commands.Make.{LeavesSum, CompletesSum};
 ghost use Rattle.trace_run.specs.Making.{SumsUp, IsMadeLine, with_records, Counts, Serves};
 ghost use Rattle.trace_run.specs.Streams.{HasFault, StopsWriting};

@@ -5,11 +5,13 @@ ghost use Rattle.trace_run.specs.Commands.{meaning_of};
 ghost use Rattle.trace_run.specs.Renames.{RenamesIds};
 ghost use Rattle.trace_run.specs.Streams.{StopsReading, StopsWriting, seen};
 
+use crate::all_lines::answer_all;
 use crate::make::make;
 use crate::run::run;
 use crate::sink::Sink;
 use crate::source::Source;
 use crate::status::Status;
+use crate::tree::Tree;
 use std::alloc::Global;
 use trace_pipeline::Signal;
 
@@ -20,6 +22,8 @@ pub enum Command {
     Run { signal: Signal },
     /// To make the script of so many rounds, run it, and tell what it came to.
     Make { rounds: u64 },
+    /// To run a script, and to tell its finished spans as trees.
+    Tree,
 }
 
 /// Carries a command out, which makes at most 50,000 rounds. A line that is refused is told before a fault of the source
@@ -43,5 +47,6 @@ pub fn run_script<R: Source, W: Sink>(
     match command {
         Command::Run { signal } => run(alloc, signal, source, sink),
         Command::Make { rounds } => make(alloc, rounds, sink),
+        Command::Tree => answer_all(alloc, &mut Tree, source, sink),
     }
 }

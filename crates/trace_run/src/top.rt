@@ -85,6 +85,7 @@ fn command_by(word: &str) -> Option<Command>
     let signal = match word {
         "run" => Signal::Traces,
         "metrics" => Signal::Metrics,
+        "tree" => return Some(Command::Tree),
         _ => return None,
     };
     Some(Command::Run { signal })

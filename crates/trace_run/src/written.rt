@@ -2,7 +2,8 @@
 ghost use Rattle.std.specs.Prelude.{◌≡◌, ◌≢◌, ◌++◌, ◌+◌, ◌≤◌, [], length, OnOk, OnErr};
 ghost use Rattle.trace_pipeline.specs.Report.{record_lines, measure_lines, last_text};
 ghost use Rattle.trace_pipeline.specs.Texts.{reply_text, refusal_text};
-ghost use Rattle.trace_run.specs.Answers.{IsAnswered, without_taken};
+ghost use Rattle.trace_records.specs.Following.{without_taken};
+ghost use Rattle.trace_run.specs.Answers.{IsAnswered};
 ghost use Rattle.trace_run.specs.Streams.{HasFault, Puts, PutsFront, StopsWriting};
 
 use crate::failed::Failed;
@@ -15,6 +16,7 @@ use trace_pipeline::write::{
     append_end, append_measure, append_measures_end, append_record, append_refusal, append_reply,
 };
 use trace_pipeline::{Refusal, Reply, Signal, Told};
+use trace_records::finished::drop_measures;
 
 /// What is written so far.
 #[derive(Drop)]
@@ -163,13 +165,4 @@ fn drop_records(pipeline: &mut Pipeline)
     ensures state { without_taken pipeline.new ≡ without_taken pipeline.old }
 {
     while pipeline.take_record().is_some() {}
-}
-
-// Takes the measures, and drops them.
-fn drop_measures(pipeline: &mut Pipeline)
-    ensures taken { pipeline.new.measures ≡ [] }
-    ensures records { pipeline.new.recording.finished ≡ pipeline.old.recording.finished }
-    ensures state { without_taken pipeline.new ≡ without_taken pipeline.old }
-{
-    while pipeline.take_measure().is_some() {}
 }

@@ -1,5 +1,5 @@
 //! Reads and writes that fail, one after another, and inputs that are too long.
-use crate::tests::{ANSWERS, FIRST, SETTINGS, ended, ran, script};
+use crate::tests::{ANSWERS, FIRST, SETTINGS, ended, ran, ran_as, script};
 use std::sync::Wait;
 use std::test::Fail;
 use std::thread::Threads;
@@ -97,6 +97,23 @@ fn breaks_off(rt: HostRuntime) -> Result<(), Fail> {
     assert!(rt; goes(&rt, &whole, &[], answers, Status::ReadFault)?);
     assert!(rt; goes(&rt, &cut, &[], 0, Status::ReadFault)?);
     assert!(rt; goes(&rt, &[], &full, 30, Status::WriteFault)?);
+    Ok(())
+}
+
+// What `tree` writes of a script behind whose second line the reading fails.
+fn broken_tree<H: Threads + Wait + Sync + AllocGlobal>(rt: &H, rest: &str) -> Result<String, Fail> {
+    let input = script(rt, rest)?;
+    let most = size_of_lines(input.as_str(), 2);
+    let reads = [Turn::Moves { most }, Turn::Fails];
+    ran_as(rt, "tree", input.as_bytes(), &reads, &[])
+}
+
+// A command that reads all lines before it writes leaves nothing of an input that breaks off, but for a refused line.
+#[test]
+fn writes_no_tree_of_a_broken_input(rt: HostRuntime) -> Result<(), Fail> {
+    assert_eq!(rt; broken_tree(&rt, FIRST)?.as_str(), "= 3\n");
+    let refused = "{\"line\":2,\"refused\":\"BadLine\"}\n= 2\n";
+    assert_eq!(rt; broken_tree(&rt, "7\n8\n")?.as_str(), refused);
     Ok(())
 }
 

@@ -9,7 +9,7 @@ use trace_run::top::top;
 
 // Words that ask for nothing, with a stroke between them.
 const UNKNOWN: &str =
-    "make|0\nmake|50001\nmake|+1\nmake|01\nmake|\nmake|1 \nmake\nmake|1|1\nRun\nmetric\n";
+    "make|0\nmake|50001\nmake|+1\nmake|01\nmake|\nmake|1 \nmake\nmake|1|1\ntree|1\nTree\nRun\nmetric\n";
 
 // What is written for words, and behind it the number of the status.
 fn told<H: Threads + Wait + Sync + AllocGlobal>(rt: &H, words: &str) -> Result<String, Fail> {

@@ -1,6 +1,7 @@
 use Rattle.std.proofs.Common.{arith}
 use Rattle.std.proofs.lemmas.Bool.{eqb-true}
-use Rattle.trace_run.proofs.LinesLemmas.{fed_at, no_feed, feedless_before, feedless_from}
+use Rattle.trace_records.proofs.FirstLineLemmas.{feedless_before, feedless_from}
+use Rattle.trace_run.proofs.LinesLemmas.{fed_at, no_feed}
 use Rattle.trace_run.proofs.lines.cut_line.Goals as goal
 
 pub returns-in-Some-clause-line : goal.returns-in-Some-clause-line

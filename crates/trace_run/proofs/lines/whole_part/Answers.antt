@@ -1,6 +1,7 @@
 use Rattle.std.proofs.Common.{sym, ◌+◌}
 use Rattle.std.proofs.lemmas.Bool.{eqb-true}
-use Rattle.trace_run.proofs.LinesLemmas.{part_at, part_none, feedless_from}
+use Rattle.trace_records.proofs.FirstLineLemmas.{feedless_from}
+use Rattle.trace_run.proofs.LinesLemmas.{part_at, part_none}
 use Rattle.trace_run.proofs.lines.whole_part.Goals as goal
 
 pub returns-in-Some : goal.returns-in-Some

@@ -20,3 +20,6 @@ returns-in-Run-clause-renames g c =
 
 pub returns-in-Make-clause-renames : goal.returns-in-Make-clause-renames
 returns-in-Make-clause-renames g c = rw c.in-Make.is (λ is. absurd (cc is))
+
+pub returns-in-Tree-clause-renames : goal.returns-in-Tree-clause-renames
+returns-in-Tree-clause-renames g c = rw c.in-Tree.is (λ is. absurd (cc is))

@@ -1,6 +1,6 @@
 use Rattle.std.proofs.Common.{◌≡◌, ◌+◌, ◌++◌, length}
 use Rattle.trace_pipeline.specs.Report.{record_lines}
-use Rattle.trace_run.specs.Answers.{without_taken}
+use Rattle.trace_records.specs.Following.{without_taken}
 use Rattle.trace_run.proofs.written.Written.write_records.Given as goal
 
 abbrev pub invariant-loop-finished : goal.invariant-loop-finished

@@ -1,0 +1,31 @@
+//! Records as items of batches.
+ghost use Rattle.std.specs.Prelude.{◌≡◌};
+
+use otel_base::list::Items;
+use otel_base::memory::Memory;
+use otel_base::record::Record;
+use std::alloc::Global;
+use trace_batch::Finished;
+use trace_pipeline::write::record::add_record;
+
+// The bytes that most records need.
+const LONG: usize = 512;
+
+/// A span that has closed. Its text is the object of its record's line, with its lane.
+#[derive(Drop)]
+pub struct FinishedSpan {
+    /// Its record.
+    pub content: Record,
+}
+
+impl Finished for FinishedSpan {
+    ghost use Rattle.batch_lines.specs.Items.{object_text};
+
+    ghost text = { object_text };
+
+    fn make_text(&self, alloc: Global, lane: u64, place: u64) -> Result<Items<u8>, Memory> {
+        let mut out = Vec::with_capacity(alloc, LONG)?;
+        add_record(&mut out, place, Some(lane), &self.content)?;
+        Ok(Items::from(out))
+    }
+}

@@ -1,0 +1,223 @@
+-- One line more is followed, and the lines end.
+use Rattle.std.proofs.Common.{◌≡◌, ℕ, List, [], ◌∷◌, ◌++◌, refl, sym, ap, subst, ◌∙◌, append_assoc, ◌+◌, length, map, inl, inr}
+use Rattle.std.specs.Prelude.{Bool, Option, Some, None, Result, Ok, Err, OnOk, true, false}
+use Rattle.std.proofs.lemmas.List.{append-nil}
+use Rattle.std.proofs.lemmas.List.Folds.{list_all-append}
+use Rattle.otel_base.specs.declared.record.Record.{Record}
+use Rattle.span_script.specs.Setups.{Setup}
+use Rattle.span_script.specs.Tables.{History, Effect, Tables, no_tables, tables, records_of}
+use Rattle.span_script.specs.Effects.{open_spans}
+use Rattle.span_script.specs.Outcomes.{records}
+use Rattle.span_script.specs.Fits.{State, StandsFor}
+use Rattle.span_script.proofs.Running.{records_push}
+use Rattle.trace_pipeline.specs.declared.told.Told.{Told}
+use Rattle.trace_pipeline.specs.declared.told.Told.TheVariants as told
+use Rattle.trace_pipeline.specs.Lines.{is_blank}
+use Rattle.trace_pipeline.specs.Spelled.{request_spelled}
+use Rattle.trace_pipeline.specs.Report.{effect_of_line}
+use Rattle.trace_records.specs.declared.finished.FinishedSpans.{FinishedSpans}
+use Rattle.trace_records.specs.declared.finished.RefusedLine.{RefusedLine}
+use Rattle.trace_records.specs.declared.line.Opened.{Opened}
+use Rattle.trace_records.specs.declared.line.Answered.{Answered}
+use Rattle.trace_records.specs.declared.script.Stage.{Stage}
+use Rattle.trace_records.specs.declared.script.Stage.TheVariants as stage
+use Rattle.trace_records.specs.Scripts.{Script, Run, setup_of_line, lane_in, lanes_on, script_on, script_from, script_of}
+use Rattle.trace_records.specs.Lines.{IsTold, Opens, Answers}
+use Rattle.trace_records.specs.Following.{without_taken, are_blank, IsOpening, IsRunning, IsStopped, StandsAt, AreOf, EndsAs, IsRefusedBy}
+
+-- ---- one line more
+
+-- what holds behind one line more
+on_line : (most : Option ℕ) (lines more : List (List ℕ)) (line : List ℕ) (r : Run) → script_of most (lines ++ line ∷ more) ≡ r → script_of most ((lines ++ line ∷ []) ++ more) ≡ r
+on_line most lines more line r is = ap (script_of most) (append_assoc lines (line ∷ []) more) ∙ is
+
+-- lines are not all blank where one isn't
+pub some_before : (lines more : List (List ℕ)) → are_blank lines ≡ false → are_blank (lines ++ more) ≡ false
+some_before lines more some = list_all-append is_blank lines more ∙ rw some refl
+
+pub all_blank : (lines : List (List ℕ)) (line : List ℕ) → are_blank lines ≡ true → is_blank line ≡ true → are_blank (lines ++ line ∷ []) ≡ true
+all_blank lines line blank is = list_all-append is_blank lines (line ∷ []) ∙ rw (blank, is) refl
+
+pub one_not_blank : (lines : List (List ℕ)) (line : List ℕ) → are_blank lines ≡ true → is_blank line ≡ false → are_blank (lines ++ line ∷ []) ≡ false
+one_not_blank lines line blank is = list_all-append is_blank lines (line ∷ []) ∙ rw (blank, is) refl
+
+-- no line changes what came of a refused line
+pub stays_stopped : (most : Option ℕ) (lines more : List (List ℕ)) (refused : RefusedLine) → IsStopped most lines refused → IsStopped most (lines ++ more) refused
+stays_stopped most lines more refused s = record {
+  some = some_before lines more s.some;
+  is_told = s.is_told;
+  script_is = λ later. ap (script_of most) (append_assoc lines more later) ∙ s.script_is (more ++ later);
+}
+
+-- a blank line
+pub blank_on : (most : Option ℕ) (at : Stage) (lines : List (List ℕ)) (count next : ℕ) (finished : FinishedSpans) (line : List ℕ)
+    → StandsAt most at lines count finished → next ≡ count + 1 → is_blank line ≡ true → StandsAt most at (lines ++ line ∷ []) next finished
+blank_on most stage.Opening lines count next finished line a counted is = record {
+  blank = all_blank lines line a.blank is;
+  no_records = a.no_records;
+  no_lanes = a.no_lanes;
+  script_is = λ more. on_line most lines more line _ (a.script_is (line ∷ more) ∙ rw (is, counted) refl);
+}
+blank_on most (stage.Running pipeline) lines count next finished line a counted is = record {
+  history = a.history;
+  some = some_before lines (line ∷ []) a.some;
+  stands = a.stands;
+  taken = a.taken;
+  records_are = a.records_are;
+  lanes_are = a.lanes_are;
+  script_is = λ more. on_line most lines more line _ (a.script_is (line ∷ more) ∙ rw (is, counted) refl);
+}
+blank_on most (stage.Refused refused) lines count next finished line a counted is = stays_stopped most lines (line ∷ []) refused a
+
+-- the settings line
+pub opened_on : (most : Option ℕ) (lines : List (List ℕ)) (count next : ℕ) (old new : FinishedSpans) (line : List ℕ) (opened : Opened)
+    → IsOpening most lines count old → next ≡ count + 1 → is_blank line ≡ false → Opens most line opened
+    → new.records.items ≡ old.records.items → new.lanes.items ≡ old.lanes.items → new.lane_count ≡ opened.lane_count
+    → IsRunning most (lines ++ line ∷ []) next opened.pipeline new
+opened_on most lines count next old new line opened o counted is opens records lanes number = record {
+  history = [];
+  some = one_not_blank lines line o.blank is;
+  stands = opens.stands;
+  taken = opens.records;
+  records_are = records ∙ o.no_records;
+  lanes_are = number ∙ opens.lanes;
+  script_is = λ more. on_line most lines more line _ (o.script_is (line ∷ more) ∙ rw (is, opens.setup, counted, lanes, o.no_lanes) refl);
+}
+
+-- a settings line that is refused
+pub unopened_on : (most : Option ℕ) (lines : List (List ℕ)) (count next : ℕ) (finished : FinishedSpans) (line : List ℕ) (why : Told)
+    → IsOpening most lines count finished → next ≡ count + 1 → is_blank line ≡ false → setup_of_line most line ≡ Err why → IsTold why
+    → IsStopped most (lines ++ line ∷ []) (record { line = next; told = why })
+unopened_on most lines count next finished line why o counted is refused told = record {
+  some = one_not_blank lines line o.blank is;
+  is_told = told;
+  script_is = λ more. on_line most lines more line _ (o.script_is (line ∷ more) ∙ rw (is, refused, counted) refl);
+}
+
+-- a request line that is refused
+pub refused_on : (most : Option ℕ) (lines : List (List ℕ)) (count next : ℕ) (kept : State) (finished : FinishedSpans) (line : List ℕ) (why : Told)
+    (r : IsRunning most lines count kept finished) → next ≡ count + 1 → is_blank line ≡ false → effect_of_line kept.setup (tables kept.setup r.history) line ≡ Err why → IsTold why
+    → IsStopped most (lines ++ line ∷ []) (record { line = next; told = why })
+refused_on most lines count next kept finished line why r counted is none told = record {
+  some = some_before lines (line ∷ []) r.some;
+  is_told = told;
+  script_is = λ more. on_line most lines more line _ (r.script_is (line ∷ more) ∙ rw (is, none, counted) refl);
+}
+
+-- records and measures that are to be taken change nothing else
+beside : (k : State) (t : Tables) → StandsFor k t → StandsFor (without_taken k) t
+beside k t s = record {
+  fits = record {
+    handle_slots = s.fits.handle_slots;
+    site_slots = s.fits.site_slots;
+    guard_slots = s.fits.guard_slots;
+    attach_slots = s.fits.attach_slots;
+    paired = s.fits.paired;
+    named = s.fits.named;
+    latest = s.fits.latest;
+    balanced = s.fits.balanced;
+    made = s.fits.made;
+    one_lane = s.fits.one_lane;
+    scopes = s.fits.scopes;
+    still = s.fits.still;
+    own_scopes = s.fits.own_scopes;
+    sited = s.fits.sited;
+    few = s.fits.few;
+    few_holds = s.fits.few_holds;
+  };
+  recording = record { recorded = s.recording.recorded; known = s.recording.known; attached = s.recording.attached };
+  filtering = record { in_place = s.filtering.in_place; fresh = s.filtering.fresh; counter = s.filtering.counter; new = s.filtering.new };
+}
+
+back : (k : State) (t : Tables) → StandsFor (without_taken k) t → StandsFor k t
+back k t s = record {
+  fits = record {
+    handle_slots = s.fits.handle_slots;
+    site_slots = s.fits.site_slots;
+    guard_slots = s.fits.guard_slots;
+    attach_slots = s.fits.attach_slots;
+    paired = s.fits.paired;
+    named = s.fits.named;
+    latest = s.fits.latest;
+    balanced = s.fits.balanced;
+    made = s.fits.made;
+    one_lane = s.fits.one_lane;
+    scopes = s.fits.scopes;
+    still = s.fits.still;
+    own_scopes = s.fits.own_scopes;
+    sited = s.fits.sited;
+    few = s.fits.few;
+    few_holds = s.fits.few_holds;
+  };
+  recording = record { recorded = s.recording.recorded; known = s.recording.known; attached = s.recording.attached };
+  filtering = record { in_place = s.filtering.in_place; fresh = s.filtering.fresh; counter = s.filtering.counter; new = s.filtering.new };
+}
+
+pub stands_beside : (old new : State) (t : Tables) → without_taken new ≡ without_taken old → StandsFor old t → StandsFor new t
+stands_beside old new t same stands = back new t (subst (λ (k : State). StandsFor k t) (sym same) (beside old t stands))
+
+-- a request that is answered
+pub answered_on : (most : Option ℕ) (lines : List (List ℕ)) (count next : ℕ) (old mid new : State) (before after : FinishedSpans) (line : List ℕ) (answered : Answered)
+    (r : IsRunning most lines count old before) → next ≡ count + 1 → is_blank line ≡ false → Answers line r.history old mid answered
+    → without_taken new ≡ without_taken mid → new.recording.finished ≡ []
+    → after.records.items ≡ before.records.items ++ mid.recording.finished → after.lanes.items ≡ before.lanes.items ++ map (λ (x : Record). answered.lane) mid.recording.finished
+    → after.lane_count ≡ before.lane_count → IsRunning most (lines ++ line ∷ []) next new after
+answered_on most lines count next old mid new before after line answered r counted is a same taken records_are lanes_are number =
+    let h : History = r.history in
+    let t : Tables = tables old.setup h in
+    let more : List Record = records_of t a.effect in
+    let finished : mid.recording.finished ≡ more = a.records ∙ ap (λ (f : List Record). f ++ more) r.taken in
+    let setup : new.setup ≡ old.setup = ap (λ (k : State). k.setup) same ∙ a.setup in
+    let lanes : after.lanes.items ≡ before.lanes.items ++ lanes_on line more = lanes_are ∙ rw (a.lane, finished) refl in
+    let all : after.records.items ≡ records old.setup (h ++ a.effect ∷ []) =
+    records_are ∙ rw (r.records_are, finished) refl ∙ sym (records_push (no_tables old.setup) h a.effect) in
+    record {
+      history = h ++ a.effect ∷ [];
+      some = some_before lines (line ∷ []) r.some;
+      stands = subst (λ (s : Setup). StandsFor new (tables s (h ++ a.effect ∷ []))) (sym setup) (stands_beside mid new (tables old.setup (h ++ a.effect ∷ [])) same a.stands);
+      taken = taken;
+      records_are = all ∙ ap (λ (s : Setup). records s (h ++ a.effect ∷ [])) (sym setup);
+      lanes_are = number ∙ r.lanes_are ∙ ap (λ (s : Setup). length s.ids) (sym setup);
+      script_is = λ later. on_line most lines later line _ (r.script_is (line ∷ later) ∙ rw (is, a.is, counted, lanes, setup) refl);
+    }
+
+-- three facts of a call that succeeds give another
+pub on_ok : {A E : Type 0} (r : Result A E) (P Q R S : Type 0) → (P → Q → R → S) → OnOk r P → OnOk r Q → OnOk r R → OnOk r S
+on_ok (Ok x) P Q R S give p q r = give p q r
+on_ok (Err e) P Q R S give p q r = tt
+
+-- ---- the end of the lines
+
+-- the line that was refused, if one was
+abbrev pub refused_at : Stage → Option RefusedLine
+refused_at stage.Opening = None
+refused_at (stage.Running pipeline) = None
+refused_at (stage.Refused refused) = Some refused
+
+with_none : (most : Option ℕ) (lines : List (List ℕ)) → script_of most lines ≡ script_of most (lines ++ [])
+with_none most lines = ap (script_of most) (sym (append-nil lines))
+
+pub opening_end : (most : Option ℕ) (lines : List (List ℕ)) (count next : ℕ) (finished : FinishedSpans) → IsOpening most lines count finished → next ≡ count + 1
+    → EndsAs most lines (Err (record { line = next; told = told.BadLine }))
+opening_end most lines count next finished o counted = (with_none most lines ∙ o.script_is [] ∙ rw counted refl, λ is. cc)
+
+pub running_end : (most : Option ℕ) (lines : List (List ℕ)) (count : ℕ) (kept : State) (before after : FinishedSpans) → IsRunning most lines count kept before
+    → after.records.items ≡ before.records.items → after.lanes.items ≡ before.lanes.items → after.lane_count ≡ before.lane_count
+    → ((h : History) → StandsFor kept (tables kept.setup h) → after.open_spans ≡ open_spans (tables kept.setup h))
+    → EndsAs most lines (Ok after)
+running_end most lines count kept before after r records_are lanes_are number counts = (
+  record { setup = kept.setup; history = r.history; lanes = before.lanes.items },
+  with_none most lines ∙ r.script_is [],
+  record { records_are = records_are ∙ r.records_are; lanes_are = lanes_are; lane_count = number ∙ r.lanes_are; left_open = counts r.history r.stands },
+)
+
+pub running_refuses_none : (most : Option ℕ) (lines : List (List ℕ)) (count : ℕ) (kept : State) (finished : FinishedSpans) → IsRunning most lines count kept finished → IsRefusedBy most lines None
+running_refuses_none most lines count kept finished r = inr (record { setup = kept.setup; history = r.history; lanes = finished.lanes.items }, with_none most lines ∙ r.script_is [])
+
+pub refused_by : (most : Option ℕ) (at : Stage) (lines : List (List ℕ)) (count : ℕ) (finished : FinishedSpans) → StandsAt most at lines count finished → IsRefusedBy most lines (refused_at at)
+refused_by most stage.Opening lines count finished o = inl o.blank
+refused_by most (stage.Running kept) lines count finished r = running_refuses_none most lines count kept finished r
+refused_by most (stage.Refused refused) lines count finished s = s
+
+pub stopped_end : (most : Option ℕ) (lines : List (List ℕ)) (refused : RefusedLine) → IsStopped most lines refused → EndsAs most lines (Err refused)
+stopped_end most lines refused s = (with_none most lines ∙ s.script_is [], s.is_told)

@@ -1,0 +1,20 @@
+-- What is written where a line is refused.
+use Rattle.std.proofs.Common.{◌≡◌, ℕ, List, [], ◌∷◌, ◌++◌, refl, sym, ap, ◌∙◌, append_assoc, inl, inr}
+use Rattle.std.specs.Prelude.{Bool, true, Option, Some, None, Ok, is_ok}
+use Rattle.trace_records.specs.declared.finished.RefusedLine.{RefusedLine}
+use Rattle.trace_records.specs.Scripts.{Script, script_of}
+use Rattle.trace_records.specs.Following.{are_blank, IsStopped, IsRefusedBy}
+use Rattle.trace_records.specs.Inputs.{Refuses, NoneRefused, accepts_within, TellsRun, AreRefused}
+
+-- whatever is told of a script, the refusal line alone is written
+pub refuses : (most : Option ℕ) (Tells : Script → List ℕ → Type 0) (lines : List (List ℕ)) (text : List ℕ) → AreRefused most lines text
+    → Refuses (accepts_within most) (λ ls. TellsRun Tells (script_of most ls)) lines text
+refuses most Tells lines text a = record {
+  some = a.1.some;
+  refused = λ more. ap is_ok (a.1.script_is more);
+  whole = λ more. rw (a.1.script_is more) a.2;
+}
+
+pub none_refused : (most : Option ℕ) (lines : List (List ℕ)) → IsRefusedBy most lines None → NoneRefused (accepts_within most) lines
+none_refused most lines (inl blank) = inl blank
+none_refused most lines (inr script) = inr (ap is_ok script.1)

@@ -1,0 +1,7 @@
+pub mod LinesLemmas
+pub mod FirstLineLemmas
+pub mod FollowingLemmas
+pub mod InputsLemmas
+pub mod ScriptsLaws
+pub mod LanesLaws
+pub mod EndsLaws

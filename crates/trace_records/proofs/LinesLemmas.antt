@@ -1,0 +1,107 @@
+-- What a line spells decides what it does.
+use Rattle.std.proofs.Common.{◌≡◌, ℕ, List, [], ◌∷◌, ◌++◌, refl, sym, ap, subst, ◌∙◌, length, map}
+use Rattle.std.proofs.lemmas.List.{length-map}
+use Rattle.std.specs.Prelude.{Bool, true, false, Option, Result, Ok, Err, IfOk, IfErr, IsErrOf}
+use Rattle.std.proofs.lemmas.Bool.{true≢false}
+use Rattle.span_script.specs.declared.settings.Settings.{Settings}
+use Rattle.span_script.specs.Setups.{Setup, setup_by}
+use Rattle.span_script.specs.declared.request.Request.{Request}
+use Rattle.span_script.specs.declared.reply.Reply.{Reply}
+use Rattle.span_script.specs.declared.reply.Refusal.{Refusal}
+use Rattle.span_script.specs.declared.reply.Refusal.TheVariants as refusal
+use Rattle.span_script.specs.Tables.{History, Effect, Tables, tables, records_of}
+use Rattle.span_script.specs.Effects.{effect_of}
+use Rattle.span_script.specs.Fits.{State, StandsFor, Recorded, is_room}
+use Rattle.span_script.specs.Admission.{opening_read}
+use Rattle.trace_pipeline.specs.declared.read.LineError.{LineError}
+use Rattle.trace_pipeline.specs.declared.read.LineError.TheVariants as error
+use Rattle.trace_pipeline.specs.declared.told.Told.{Told}
+use Rattle.trace_pipeline.specs.declared.told.Told.TheVariants as told
+use Rattle.trace_pipeline.specs.Spelled.{settings_spelled, request_spelled}
+use Rattle.trace_pipeline.specs.Report.{effect_of_line, effect_of_request}
+use Rattle.trace_records.specs.declared.line.Opened.{Opened}
+use Rattle.trace_records.specs.declared.line.Answered.{Answered}
+use Rattle.trace_records.specs.Scripts.{takes, setup_of, setup_of_line, lane_in}
+use Rattle.trace_records.specs.Lines.{IsSpelled, IsTold, Opens, Answers}
+
+pub spelled_as : {A : Type 0} (read : Result A LineError) (spelled is : Result A Told) → IsSpelled read spelled → IfOk read (λ value. is ≡ Ok value)
+    → (IsErrOf read error.BadLine → is ≡ Err told.BadLine) → is ≡ spelled
+spelled_as (Ok value) spelled is same ok bad = ok ∙ sym same
+spelled_as (Err error.BadLine) spelled is same ok bad = bad refl ∙ sym same
+spelled_as (Err error.Memory) spelled is same ok bad = absurd same
+
+-- what holds of a value that was read holds of what is spelled
+pub spelled_keeps : {A : Type 0} (P : A → Type 0) (read : Result A LineError) (spelled : Result A Told) (value : A) → IsSpelled read spelled → spelled ≡ Ok value → IfOk read P → P value
+spelled_keeps P (Ok x) spelled value same is holds = subst P (cc (sym same ∙ is)) holds
+spelled_keeps P (Err error.BadLine) spelled value same is holds = absurd (cc (sym same ∙ is))
+spelled_keeps P (Err error.Memory) spelled value same is holds = absurd same
+
+-- a refusal that was read has a line, and so has that of a step but for want of memory
+pub is_told : {A : Type 0} (spelled : Result A Told) (why : Told) → spelled ≡ Err why → IfErr spelled IsTold → IsTold why
+is_told (Ok value) why is told = absurd (cc is)
+is_told (Err reason) why is told = let same : reason ≡ why = cc in subst IsTold same told
+
+pub told_step : (why : Refusal) → is_room why ≡ false → IsTold (told.Step why)
+told_step why other is = let same : why ≡ refusal.Memory = cc in true≢false (sym (ap is_room same) ∙ other)
+
+-- ---- the settings line
+
+pub not_settings : (most : Option ℕ) (text : List ℕ) (why : Told) → settings_spelled text ≡ Err why → setup_of_line most text ≡ Err why
+unfolding setup_of_line
+not_settings most text why is = ap (setup_of most) is
+
+pub not_read : (most : Option ℕ) (text : List ℕ) (settings : Settings) (counting : Bool) (piece : ℕ) → settings_spelled text ≡ Ok settings
+    → opening_read settings.filter settings.counting ≡ Err (counting, piece) → setup_of_line most text ≡ Err (told.Directive counting piece)
+unfolding setup_of_line
+not_read most text settings counting piece is why = rw (is, why) refl
+
+pub too_many : (most : Option ℕ) (text : List ℕ) (settings : Settings) → settings_spelled text ≡ Ok settings
+    → opening_read settings.filter settings.counting ≡ Ok tt → takes most (length settings.lanes) ≡ false → setup_of_line most text ≡ Err told.Lanes
+unfolding setup_of_line
+too_many most text settings is read many = rw (is, read, many) refl
+
+pub read_whole : (most : Option ℕ) (text : List ℕ) (settings : Settings) → settings_spelled text ≡ Ok settings
+    → opening_read settings.filter settings.counting ≡ Ok tt → takes most (length settings.lanes) ≡ true → setup_of_line most text ≡ Ok (setup_by settings)
+unfolding setup_of_line
+read_whole most text settings is read few = rw (is, read, few) refl
+
+pub opens : (most : Option ℕ) (text : List ℕ) (settings : Settings) (opened : Opened) → settings_spelled text ≡ Ok settings
+    → opening_read settings.filter settings.counting ≡ Ok tt → takes most opened.lane_count ≡ true → opened.lane_count ≡ length settings.lanes
+    → opened.pipeline.setup ≡ setup_by settings → StandsFor opened.pipeline (tables (setup_by settings) [])
+    → opened.pipeline.recording.finished ≡ [] → opened.pipeline.measures ≡ [] → Opens most text opened
+opens most text settings opened is read few count setup stands records measures = record {
+  setup = read_whole most text settings is read (ap (takes most) (sym count) ∙ few) ∙ ap Ok (sym setup);
+  stands = subst (λ (s : Setup). StandsFor opened.pipeline (tables s [])) (sym setup) stands;
+  records = records;
+  measures = measures;
+  lanes = count ∙ sym (length-map settings.lanes (λ (l : ℕ × Option (List ℕ)). l.0)) ∙ sym (ap (λ (s : Setup). length s.ids) setup);
+}
+
+-- ---- a request line
+
+pub not_request : (setup : Setup) (t : Tables) (text : List ℕ) (why : Told) → request_spelled text ≡ Err why → effect_of_line setup t text ≡ Err why
+unfolding effect_of_line
+not_request setup t text why is = ap (effect_of_request setup t) is
+
+pub not_served : (setup : Setup) (t : Tables) (text : List ℕ) (request : Request) (why : Refusal) → request_spelled text ≡ Ok request
+    → effect_of setup t request ≡ Err why → effect_of_line setup t text ≡ Err (told.Step why)
+unfolding effect_of_line
+not_served setup t text request why is none = rw (is, none) refl
+
+stepped : (setup : Setup) (t : Tables) (text : List ℕ) (request : Request) (effect : Effect) → request_spelled text ≡ Ok request
+    → effect_of setup t request ≡ Ok effect → effect_of_line setup t text ≡ Ok effect
+unfolding effect_of_line
+stepped setup t text request effect is does = rw (is, does) refl
+
+pub answers : (text : List ℕ) (h : History) (old new : State) (request : Request) (answered : Answered) → request_spelled text ≡ Ok request
+    → answered.lane ≡ request.lane → Recorded (effect_of old.setup (tables old.setup h) request) h old new answered.reply → Answers text h old new answered
+answers text h old new request answered is lane did = record {
+  effect = did.effect;
+  is = stepped old.setup (tables old.setup h) text request did.effect is did.is;
+  lane = lane ∙ sym (ap lane_in is);
+  reply_is = did.reply_is;
+  setup = did.setup;
+  records = did.records;
+  measures = did.measures;
+  stands = did.stands;
+}

@@ -1,0 +1,75 @@
+-- How a script stands that has followed some lines, whichever lines come behind them.
+use Rattle.std.specs.Prelude.{◌≡◌, ℕ, List, [], ◌++◌, ◌⊎◌, length, Bool, true, false, Option, Some, None, Result, Ok, Err}
+use Rattle.std.specs.List.{list_all}
+use Rattle.span_script.specs.Tables.{History, tables}
+use Rattle.span_script.specs.Effects.{open_spans}
+use Rattle.span_script.specs.Fits.{State, StandsFor}
+use Rattle.span_script.specs.Outcomes.{records}
+use Rattle.trace_pipeline.specs.Lines.{is_blank}
+use Rattle.trace_records.specs.declared.finished.FinishedSpans.{FinishedSpans}
+use Rattle.trace_records.specs.declared.finished.RefusedLine.{RefusedLine}
+use Rattle.trace_records.specs.declared.script.ScriptRun.{ScriptRun}
+use Rattle.trace_records.specs.declared.script.Stage.{Stage}
+use Rattle.trace_records.specs.declared.script.Stage.TheVariants as stage
+use Rattle.trace_records.specs.Lines.{IsTold}
+use Rattle.trace_records.specs.Scripts.{Script, script_on, script_from, script_of}
+
+-- what is kept beside the records and the measures that are to be taken
+abbrev pub without_taken : State → State
+without_taken kept = record kept { recording = record kept.recording { finished = [] }; measures = [] }
+
+-- no settings line is among the lines
+abbrev pub are_blank : List (List ℕ) → Bool
+are_blank lines = list_all is_blank lines
+
+-- All lines are blank, and nothing finished.
+pub record IsOpening (most : Option ℕ) (lines : List (List ℕ)) (count : ℕ) (finished : FinishedSpans) : Type 0 where
+  pub blank : are_blank lines ≡ true
+  pub no_records : finished.records.items ≡ []
+  pub no_lanes : finished.lanes.items ≡ []
+  pub script_is : (more : List (List ℕ)) → script_of most (lines ++ more) ≡ script_from most count more
+
+-- The pipeline stands for the requests so far, whose records are kept, and the script goes on with the lines that follow.
+pub record IsRunning (most : Option ℕ) (lines : List (List ℕ)) (count : ℕ) (kept : State) (finished : FinishedSpans) : Type 0 where
+  pub history : History
+  pub some : are_blank lines ≡ false
+  pub stands : StandsFor kept (tables kept.setup history)
+  pub taken : kept.recording.finished ≡ []
+  pub records_are : finished.records.items ≡ records kept.setup history
+  pub lanes_are : finished.lane_count ≡ length kept.setup.ids
+  pub script_is : (more : List (List ℕ))
+      → script_of most (lines ++ more) ≡ script_on kept.setup history finished.lanes.items count more
+
+-- A line is refused, whichever lines follow.
+pub record IsStopped (most : Option ℕ) (lines : List (List ℕ)) (refused : RefusedLine) : Type 0 where
+  pub some : are_blank lines ≡ false
+  pub is_told : IsTold refused.told
+  pub script_is : (more : List (List ℕ)) → script_of most (lines ++ more) ≡ Err refused
+
+abbrev pub StandsAt : Option ℕ → Stage → List (List ℕ) → ℕ → FinishedSpans → Type 0
+StandsAt most stage.Opening lines count finished = IsOpening most lines count finished
+StandsAt most (stage.Running pipeline) lines count finished = IsRunning most lines count pipeline finished
+StandsAt most (stage.Refused refused) lines count finished = IsStopped most lines refused
+
+-- what a script keeps that has followed these lines
+abbrev pub Follows : Option ℕ → List (List ℕ) → ScriptRun → Type 0
+Follows most lines run = StandsAt most run.stage lines run.lines run.finished
+
+-- the line that is refused whatever lines follow, if there is one; else all are blank or a script
+abbrev pub IsRefusedBy : Option ℕ → List (List ℕ) → Option RefusedLine → Type 0
+IsRefusedBy most lines (Some refused) = IsStopped most lines refused
+IsRefusedBy most lines None = (are_blank lines ≡ true) ⊎ ((script : Script) × (script_of most lines ≡ Ok script))
+
+-- ---- the end
+
+-- the finished spans of a script
+pub record AreOf (script : Script) (finished : FinishedSpans) : Type 0 where
+  pub records_are : finished.records.items ≡ records script.setup script.history
+  pub lanes_are : finished.lanes.items ≡ script.lanes
+  pub lane_count : finished.lane_count ≡ length script.setup.ids
+  pub left_open : finished.open_spans ≡ open_spans (tables script.setup script.history)
+
+-- what came of the lines
+abbrev pub EndsAs : Option ℕ → List (List ℕ) → Result FinishedSpans RefusedLine → Type 0
+EndsAs most lines (Ok finished) = (script : Script) × (script_of most lines ≡ Ok script) × AreOf script finished
+EndsAs most lines (Err refused) = (script_of most lines ≡ Err refused) × IsTold refused.told

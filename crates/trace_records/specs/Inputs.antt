@@ -1,0 +1,46 @@
+-- What is written for a whole input, and which lines are refused whatever lines follow.
+use Rattle.std.specs.Prelude.{◌≡◌, ℕ, List, ◌++◌, ◌⊎◌, length, Bool, true, false, Option, Ok, Err, is_ok}
+use Rattle.span_script.specs.Effects.{open_spans}
+use Rattle.span_script.specs.Outcomes.{records}
+use Rattle.span_script.specs.Tables.{tables}
+use Rattle.trace_pipeline.specs.Texts.{refusal_text, end_text}
+use Rattle.trace_records.specs.declared.finished.RefusedLine.{RefusedLine}
+use Rattle.trace_records.specs.Scripts.{Script, Run, script_of}
+use Rattle.trace_records.specs.Following.{are_blank, IsStopped}
+
+-- ---- whichever lines are accepted, and whatever is written for them
+
+-- A line is refused, and the text is all that is written, whatever lines follow.
+pub record Refuses (accepts : List (List ℕ) → Bool) (Whole : List (List ℕ) → List ℕ → Type 0) (lines : List (List ℕ)) (text : List ℕ) : Type 0 where
+  pub some : are_blank lines ≡ false
+  pub refused : (more : List (List ℕ)) → accepts (lines ++ more) ≡ false
+  pub whole : (more : List (List ℕ)) → Whole (lines ++ more) text
+
+-- none of these lines is refused, whatever lines follow
+abbrev pub NoneRefused : (List (List ℕ) → Bool) → List (List ℕ) → Type 0
+NoneRefused accepts lines = (are_blank lines ≡ true) ⊎ (accepts lines ≡ true)
+
+-- ---- scripts that may have so many lanes
+
+-- no line is refused, a settings line is among them, and it gives no more lanes than the most, if there is a most
+abbrev pub accepts_within : Option ℕ → List (List ℕ) → Bool
+accepts_within most lines = is_ok (script_of most lines)
+
+-- what is written of a script, or the refusal line alone
+abbrev pub TellsRun : (Script → List ℕ → Type 0) → Run → List ℕ → Type 0
+TellsRun Tells (Ok script) text = Tells script text
+TellsRun Tells (Err refused) text = text ≡ refusal_text refused.line refused.told
+
+-- A line is refused, whatever lines follow, and the text is its refusal line.
+abbrev pub AreRefused : Option ℕ → List (List ℕ) → List ℕ → Type 0
+AreRefused most lines text = (refused : RefusedLine) × IsStopped most lines refused × (text ≡ refusal_text refused.line refused.told)
+
+-- ---- beside a run that tells traces
+
+-- the line that such a run writes last: its end line, by the spans left open and the records, or the refusal line
+abbrev pub last_of : Run → List ℕ
+last_of (Ok script) = end_text (open_spans (tables script.setup script.history)) (length (records script.setup script.history))
+last_of (Err refused) = refusal_text refused.line refused.told
+
+abbrev pub EndsWith : List ℕ → List ℕ → Type 0
+EndsWith last text = (front : List ℕ) × (text ≡ front ++ last)

@@ -1,0 +1,52 @@
+-- What one line does to a pipeline.
+use Rattle.std.specs.Prelude.{◌≡◌, ◌≢◌, ℕ, List, [], ◌∷◌, ◌++◌, length, Option, Result, Ok, Err}
+use Rattle.span_script.specs.declared.reply.Refusal.TheVariants as refusal
+use Rattle.span_script.specs.Setups.{Setup}
+use Rattle.span_script.specs.Tables.{History, Effect, tables, records_of}
+use Rattle.span_script.specs.Fits.{State, StandsFor}
+use Rattle.trace_pipeline.specs.declared.read.LineError.{LineError}
+use Rattle.trace_pipeline.specs.declared.read.LineError.TheVariants as error
+use Rattle.trace_pipeline.specs.declared.told.Told.{Told}
+use Rattle.trace_pipeline.specs.declared.told.Told.TheVariants as told
+use Rattle.trace_pipeline.specs.Spelled.{request_spelled}
+use Rattle.trace_pipeline.specs.Report.{effect_of_line}
+use Rattle.trace_records.specs.declared.line.Opened.{Opened}
+use Rattle.trace_records.specs.declared.line.Answered.{Answered}
+use Rattle.trace_records.specs.Scripts.{setup_of_line, lane_in}
+
+-- what was read of a line, where memory didn't want
+abbrev pub IsSpelled : {A : Type 0} → Result A LineError → Result A Told → Type 0
+IsSpelled (Ok value) spelled = spelled ≡ Ok value
+IsSpelled (Err error.BadLine) spelled = spelled ≡ Err told.BadLine
+IsSpelled (Err error.Memory) spelled = ⊥
+
+-- a refusal has a line that tells it
+abbrev pub IsTold : Told → Type 0
+IsTold why = why ≢ told.Step refusal.Memory
+
+-- A pipeline that the settings on a line fix, before any request.
+pub record Opens (most : Option ℕ) (text : List ℕ) (opened : Opened) : Type 0 where
+  pub setup : setup_of_line most text ≡ Ok opened.pipeline.setup
+  pub stands : StandsFor opened.pipeline (tables opened.pipeline.setup [])
+  pub records : opened.pipeline.recording.finished ≡ []
+  pub measures : opened.pipeline.measures ≡ []
+  pub lanes : opened.lane_count ≡ length opened.pipeline.setup.ids
+
+abbrev pub OpensLine : Option ℕ → List ℕ → Result Opened Told → Type 0
+OpensLine most text (Ok opened) = Opens most text opened
+OpensLine most text (Err why) = (setup_of_line most text ≡ Err why) × IsTold why
+
+-- The request on a line is answered: the pipeline stands for one effect more.
+pub record Answers (text : List ℕ) (h : History) (old new : State) (answered : Answered) : Type 0 where
+  pub effect : Effect
+  pub is : effect_of_line old.setup (tables old.setup h) text ≡ Ok effect
+  pub lane : answered.lane ≡ lane_in (request_spelled text)
+  pub reply_is : answered.reply ≡ effect.reply
+  pub setup : new.setup ≡ old.setup
+  pub records : new.recording.finished ≡ old.recording.finished ++ records_of (tables old.setup h) effect
+  pub measures : new.measures ≡ old.measures ++ effect.measures
+  pub stands : StandsFor new (tables old.setup (h ++ effect ∷ []))
+
+abbrev pub AnswersLine : List ℕ → History → State → State → Result Answered Told → Type 0
+AnswersLine text h old new (Ok answered) = Answers text h old new answered
+AnswersLine text h old new (Err why) = (effect_of_line old.setup (tables old.setup h) text ≡ Err why) × IsTold why

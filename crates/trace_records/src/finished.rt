@@ -1,0 +1,72 @@
+//! The finished spans of a script, or the line that is refused.
+ghost use Rattle.std.specs.Prelude.{◌≡◌, ◌++◌, [], map, OnOk};
+ghost use Rattle.trace_records.specs.Following.{without_taken};
+
+use otel_base::memory::Memory;
+use otel_base::record::Record;
+use span_pipeline::pipeline::Pipeline;
+use std::alloc::Global;
+use trace_pipeline::Told;
+
+/// The finished spans of a script.
+#[derive(Drop)]
+pub struct FinishedSpans {
+    /// Their records, in the order in which the spans closed.
+    pub records: Vec<Record>,
+    /// For each of them the lane of the drop that closed it, by its place.
+    pub lanes: Vec<u64>,
+    /// How many lanes the settings give.
+    pub lane_count: u64,
+    /// How many spans are open at the end.
+    pub open_spans: u64,
+}
+
+/// A line that is refused, by its number, from 1.
+#[derive(Drop)]
+pub struct RefusedLine {
+    /// The number of the line, blank ones included; one more than there are where no settings line came.
+    pub line: u64,
+    /// Why it is refused.
+    pub told: Told,
+}
+
+impl FinishedSpans {
+    /// None.
+    pub fn new(alloc: Global) -> FinishedSpans
+        ensures records { result.records.items ≡ [] }
+        ensures lanes { result.lanes.items ≡ [] }
+    {
+        FinishedSpans {
+            records: Vec::new(alloc),
+            lanes: Vec::new(alloc),
+            lane_count: 0,
+            open_spans: 0,
+        }
+    }
+
+    /// Takes the records that wait, which came by a drop on a lane.
+    pub fn take_records(&mut self, pipeline: &mut Pipeline, lane: u64) -> Result<(), Memory>
+        ensures records { OnOk result (
+            self.new.records.items ≡ self.old.records.items ++ pipeline.old.recording.finished) }
+        ensures lanes { OnOk result (self.new.lanes.items
+            ≡ self.old.lanes.items ++ map (λ r. lane) pipeline.old.recording.finished) }
+        ensures count { self.new.lane_count ≡ self.old.lane_count }
+        ensures taken { OnOk result (pipeline.new.recording.finished ≡ []) }
+        ensures state { without_taken pipeline.new ≡ without_taken pipeline.old }
+    {
+        while let Some(finished) = pipeline.take_record() {
+            self.records.push(finished)?;
+            self.lanes.push(lane)?;
+        }
+        Ok(())
+    }
+}
+
+/// Takes the measures that wait, and drops them.
+pub fn drop_measures(pipeline: &mut Pipeline)
+    ensures taken { pipeline.new.measures ≡ [] }
+    ensures records { pipeline.new.recording.finished ≡ pipeline.old.recording.finished }
+    ensures state { without_taken pipeline.new ≡ without_taken pipeline.old }
+{
+    while pipeline.take_measure().is_some() {}
+}

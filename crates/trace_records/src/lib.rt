@@ -1,0 +1,17 @@
+//! What a whole script records. It is run line by line, its finished spans are kept in order, and nothing is written.
+//! Everything turns on `ScriptRun`, which follows the lines and tells at their end what came of them; `follow_lines` gives it
+//! the lines of an input.
+#![tactic(auto)]
+
+pub mod answer;
+pub mod finished;
+pub mod follow;
+pub mod laws;
+pub mod line;
+pub mod lines;
+pub mod script;
+
+pub use answer::{Answer, refused_answer};
+pub use finished::{FinishedSpans, RefusedLine};
+pub use follow::{follow_lines, refusal_of};
+pub use script::ScriptRun;

@@ -1,0 +1,127 @@
+//! What one line of a script does: the settings line opens a pipeline, and each line behind it is a request.
+ghost use Rattle.std.specs.Prelude.{◌≡◌, ℕ, Option, IfOk, IfErr, OnOk, OnErr, true, false};
+ghost use Rattle.span_script.specs.Fits.{StandsFor, is_room};
+ghost use Rattle.span_script.specs.Tables.{History, tables};
+ghost use Rattle.trace_records.specs.Scripts.{takes};
+ghost use Rattle.trace_records.specs.Lines.{IsSpelled, IsTold, OpensLine, AnswersLine};
+
+use otel_base::memory::Memory;
+use span_pipeline::pipeline::Pipeline;
+use span_script::open_error::OpenError;
+use std::alloc::Global;
+use trace_base::discard::Discard;
+use trace_pipeline::read::{LineError, read_request, read_settings};
+use trace_pipeline::{Refusal, Reply, Told};
+
+/// What a settings line opens.
+pub struct Opened {
+    /// The pipeline, before any request. It has to be spent.
+    pub pipeline: Pipeline,
+    /// How many lanes the settings give.
+    pub lane_count: u64,
+}
+
+/// What a request is answered.
+#[derive(Clone, Copy)]
+pub struct Answered {
+    /// The lane that it came on, by its place.
+    pub lane: u64,
+    /// The reply.
+    pub reply: Reply,
+}
+
+// Whether so many lanes are no more than the most that are taken.
+fn takes(most_lanes: Option<u64>, lane_count: u64) -> bool
+    ensures { result ≡ takes most_lanes lane_count }
+{
+    match most_lanes {
+        Some(most) => lane_count <= most,
+        None => true,
+    }
+}
+
+/// Opens a pipeline by the settings on a line, or tells why the line is refused: it spells none, a text of directives isn't
+/// read, or there are more lanes than the most that are taken. `Memory` freely.
+pub fn open_line(
+    alloc: Global,
+    most_lanes: Option<u64>,
+    line: &[u8],
+) -> Result<Result<Opened, Told>, Memory>
+    ensures { IfOk result (OpensLine most_lanes line.now) }
+{
+    let settings = match spelled(read_settings(alloc, line))? {
+        Ok(settings) => settings,
+        Err(told) => return Ok(Err(told)),
+    };
+    let lane_count = settings.lanes.as_slice().len() as u64;
+    match Pipeline::open(alloc, settings) {
+        Ok(pipeline) => {
+            if takes(most_lanes, lane_count) {
+                Ok(Ok(Opened {
+                    pipeline,
+                    lane_count,
+                }))
+            } else {
+                pipeline.discard();
+                Ok(Err(Told::Lanes))
+            }
+        }
+        Err(OpenError::Directive { counting, piece }) => {
+            Ok(Err(Told::Directive { counting, piece }))
+        }
+        Err(OpenError::Memory) => Err(Memory),
+    }
+}
+
+/// Answers the request on a line, or tells why the line is refused. `Memory` freely.
+pub fn answer_line(
+    alloc: Global,
+    pipeline: &mut Pipeline,
+    line: &[u8],
+) -> Result<Result<Answered, Told>, Memory>
+    ensures answers { (h : History) → StandsFor pipeline.old (tables pipeline.old.setup h)
+        → IfOk result (AnswersLine line.now h pipeline.old pipeline.new) }
+    ensures told { IfOk result (λ answered. IfErr answered IsTold) }
+{
+    let request = match spelled(read_request(alloc, line))? {
+        Ok(request) => request,
+        Err(told) => return Ok(Err(told)),
+    };
+    let lane = request.lane;
+    match pipeline.step(request) {
+        Ok(reply) => Ok(Ok(Answered { lane, reply })),
+        Err(refusal) => {
+            let told = told_of(refusal)?;
+            Ok(Err(told))
+        }
+    }
+}
+
+// What a refusal line tells of a refusal. Want of memory has no such line.
+fn told_of(refusal: Refusal) -> Result<Told, Memory>
+    ensures same { IfOk result (λ told. told ≡ Told.Step refusal) }
+    ensures other { OnOk result (is_room refusal ≡ false) }
+    ensures memory { OnErr result (is_room refusal ≡ true) }
+{
+    match refusal {
+        Refusal::Memory => Err(Memory),
+        Refusal::BadMoment { .. }
+        | Refusal::UnknownName { .. }
+        | Refusal::InUse
+        | Refusal::WrongLane { .. }
+        | Refusal::Full { .. }
+        | Refusal::Directive { .. } => Ok(Told::Step { refusal }),
+    }
+}
+
+// What a line spells, or what its refusal line tells. Want of memory has no such line.
+fn spelled<T: Drop>(read: Result<T, LineError>) -> Result<Result<T, Told>, Memory>
+    ensures same { IfOk result (λ spelled. IsSpelled read spelled) }
+    ensures told { IfOk result (λ spelled. IfErr spelled IsTold) }
+{
+    match read {
+        Ok(value) => Ok(Ok(value)),
+        Err(LineError::BadLine) => Ok(Err(Told::BadLine)),
+        Err(LineError::Memory) => Err(Memory),
+    }
+}

@@ -1,0 +1,174 @@
+//! A script that runs line by line.
+ghost use Rattle.std.specs.Prelude.{◌≡◌, ℕ, List, Option, [], ◌∷◌, ◌++◌, OnOk, IfOk};
+ghost use Rattle.trace_records.specs.Following.{Follows, EndsAs, IsRefusedBy};
+
+use crate::finished::{FinishedSpans, RefusedLine, drop_measures};
+use crate::line::{Opened, answer_line, open_line};
+use crate::lines::is_blank;
+use otel_base::memory::Memory;
+use span_pipeline::pipeline::Pipeline;
+use std::alloc::Global;
+use std::mem;
+use trace_base::discard::Discard;
+use trace_pipeline::Told;
+
+/// Where a script stands between two lines.
+pub enum Stage {
+    /// No settings line came: each line so far is blank.
+    Opening,
+    /// The settings line came, and each request was answered.
+    Running { pipeline: Pipeline },
+    /// A line was refused, and those behind it do nothing.
+    Refused { refused: RefusedLine },
+}
+
+/// The pipeline is given up, if there is one.
+impl Discard for Stage {
+    fn discard(self) {
+        match self {
+            Stage::Opening => {}
+            Stage::Running { pipeline } => pipeline.discard(),
+            Stage::Refused { refused } => drop(refused),
+        }
+    }
+}
+
+/// A script that runs line by line, and the spans that finished so far. It has to be spent, by `end` or `discard`.
+pub struct ScriptRun {
+    /// How many lines came, blank ones included.
+    pub lines: u64,
+    /// Where the script stands.
+    pub stage: Stage,
+    /// The spans that finished so far.
+    pub finished: FinishedSpans,
+}
+
+/// What is kept is dropped.
+impl Discard for ScriptRun {
+    fn discard(self) {
+        let ScriptRun {
+            lines: _,
+            stage,
+            finished: _,
+        } = self;
+        stage.discard();
+    }
+}
+
+// Goes on to another stage.
+fn go_on(stage: &mut Stage, next: Stage)
+    ensures { stage.new ≡ next }
+{
+    mem::replace(stage, next).discard();
+}
+
+impl ScriptRun {
+    /// A script before its first line.
+    pub fn new(alloc: Global) -> ScriptRun
+        ensures { (most : Option ℕ) → Follows most [] result }
+    {
+        ScriptRun {
+            lines: 0,
+            stage: Stage::Opening,
+            finished: FinishedSpans::new(alloc),
+        }
+    }
+
+    /// Runs one line more of a script that may have so many lanes. Behind a refused line nothing is run. `Memory` freely;
+    /// what is left then follows no lines.
+    pub fn line(
+        &mut self,
+        alloc: Global,
+        most_lanes: Option<u64>,
+        line: &[u8],
+    ) -> Result<(), Memory>
+        ensures { (lines : List (List ℕ)) → Follows most_lanes lines self.old
+            → OnOk result (Follows most_lanes (lines ++ line.now ∷ []) self.new) }
+    {
+        // No input has so many lines that the sum wraps.
+        let number = self.lines.checked_add(1).ok_or(Memory)?;
+        self.lines = number;
+        if is_blank(line) {
+            return Ok(());
+        }
+        match &mut self.stage {
+            Stage::Opening => match open_line(alloc, most_lanes, line)? {
+                Ok(
+                    Opened {
+                        pipeline,
+                        lane_count,
+                    },
+                ) => {
+                    self.finished.lane_count = lane_count;
+                    go_on(&mut self.stage, Stage::Running { pipeline });
+                    Ok(())
+                }
+                Err(told) => {
+                    self.refuse(number, told);
+                    Ok(())
+                }
+            },
+            Stage::Running { pipeline } => match answer_line(alloc, pipeline, line)? {
+                Ok(answered) => {
+                    drop_measures(pipeline);
+                    self.finished.take_records(pipeline, answered.lane)
+                }
+                Err(told) => {
+                    self.refuse(number, told);
+                    Ok(())
+                }
+            },
+            Stage::Refused { .. } => Ok(()),
+        }
+    }
+
+    // Stops at a line that is refused.
+    fn refuse(&mut self, line: u64, told: Told)
+        ensures { self.new.stage ≡ Stage.Refused (record { line = line; told = told }) }
+    {
+        let refused = RefusedLine { line, told };
+        go_on(&mut self.stage, Stage::Refused { refused });
+    }
+
+    /// The line that is refused whatever lines follow, if one is.
+    pub fn refused_line(&self) -> Option<RefusedLine>
+        ensures { (most : Option ℕ) (lines : List (List ℕ)) → Follows most lines self.now
+            → IsRefusedBy most lines result }
+    {
+        match &self.stage {
+            Stage::Opening => None,
+            Stage::Running { .. } => None,
+            Stage::Refused { refused } => {
+                let RefusedLine { line, told } = *refused;
+                Some(RefusedLine { line, told })
+            }
+        }
+    }
+
+    /// What came of the lines, where no line follows: the finished spans, or the first refusal, which is that of an input
+    /// without a settings line where all lines are blank. `Memory` freely.
+    pub fn end(self) -> Result<Result<FinishedSpans, RefusedLine>, Memory>
+        ensures { (most : Option ℕ) (lines : List (List ℕ)) → Follows most lines self
+            → IfOk result (EndsAs most lines) }
+    {
+        let ScriptRun {
+            lines,
+            stage,
+            mut finished,
+        } = self;
+        match stage {
+            Stage::Opening => {
+                // No input has so many lines that the sum wraps.
+                let line = lines.checked_add(1).ok_or(Memory)?;
+                let told = Told::BadLine;
+                Ok(Err(RefusedLine { line, told }))
+            }
+            Stage::Running { pipeline } => {
+                finished.open_spans = pipeline.open_spans();
+                pipeline.discard();
+                Ok(Ok(finished))
+            }
+            Stage::Refused { refused } => Ok(Err(refused)),
+        }
+    }
+}

@@ -1,0 +1,72 @@
+-- The lines of the command `tree`.
+use Rattle.std.specs.Prelude.{◌≡◌, ℕ, List, [], ◌∷◌, ◌++◌, codes, decimal, length, true, None, unwrap_or, option_map, slice_get}
+use Rattle.std.specs.List.{flat_map}
+use Rattle.serde_json.specs.Data.{Data, boolean, string, object}
+use Rattle.otel_base.specs.declared.record.Record.{Record}
+use Rattle.span_script.specs.Effects.{open_spans}
+use Rattle.span_script.specs.Outcomes.{records}
+use Rattle.span_script.specs.Tables.{tables}
+use Rattle.trace_pipeline.specs.Hex.{hex16, hex32}
+use Rattle.trace_pipeline.specs.Object.{by_name, whole_number, line_of}
+use Rattle.trace_records.specs.Inputs.{TellsRun}
+use Rattle.trace_records.specs.Scripts.{Script, script_of}
+use Rattle.trace_tree.specs.declared.node.Node.{Node}
+use Rattle.trace_tree.specs.declared.totals.TraceTotal.{TraceTotal}
+use Rattle.trace_tree.specs.Busy.{busy_of}
+use Rattle.trace_tree.specs.Paths.{IsForest}
+use Rattle.trace_tree.specs.Totals.{IsTotals}
+
+-- a record that stands so deep: its busy time, which is told as a text as sums are, its name and its id
+abbrev pub node_data : ℕ → Record → Data
+node_data depth finished = object (by_name (
+    (codes "busy", string (decimal (busy_of finished)))
+    ∷ (codes "depth", whole_number depth)
+    ∷ (codes "name", string finished.name)
+    ∷ (codes "span", string (hex16 finished.context.span)) ∷ []))
+
+unfoldable pub node_text : ℕ → Record → List ℕ
+node_text depth finished = line_of (node_data depth finished)
+
+-- the line of a node, among some records
+abbrev pub node_line : List Record → Node → List ℕ
+node_line rs node = unwrap_or (option_map (node_text node.depth) (slice_get rs node.place)) []
+
+-- a trace: the sum of its busy times, how many spans it has, and its id
+abbrev pub total_data : TraceTotal → Data
+total_data total = object (by_name (
+    (codes "busy", string (decimal total.busy))
+    ∷ (codes "spans", whole_number total.spans)
+    ∷ (codes "trace", string (hex32 total.trace)) ∷ []))
+
+unfoldable pub total_text : TraceTotal → List ℕ
+total_text total = line_of (total_data total)
+
+-- the end: how many spans are open, how many records there are, and of how many traces
+abbrev pub tree_end_data : ℕ → ℕ → ℕ → Data
+tree_end_data open_spans records traces = object (by_name (
+    (codes "done", boolean true)
+    ∷ (codes "open", whole_number open_spans)
+    ∷ (codes "records", whole_number records)
+    ∷ (codes "traces", whole_number traces) ∷ []))
+
+unfoldable pub tree_end_text : ℕ → ℕ → ℕ → List ℕ
+tree_end_text open_spans records traces = line_of (tree_end_data open_spans records traces)
+
+-- What is written of the records of a script that leaves so many spans open: a line for each node of their forest, one for
+-- each of their totals, and the end line.
+pub record TellsTree (rs : List Record) (open_spans : ℕ) (text : List ℕ) : Type 0 where
+  pub nodes : List Node
+  pub forest : IsForest rs nodes
+  pub totals : List TraceTotal
+  pub sums : IsTotals rs totals
+  pub text_is : text ≡ flat_map (node_line rs) nodes ++ flat_map total_text totals ++ tree_end_text open_spans (length rs) (length totals)
+
+-- ---- a script
+
+-- the trees of the records of a script
+abbrev pub TellsScript : Script → List ℕ → Type 0
+TellsScript script text = TellsTree (records script.setup script.history) (open_spans (tables script.setup script.history)) text
+
+-- the trees of the script that lines come to, or the refusal line alone
+abbrev pub TellsTrees : List (List ℕ) → List ℕ → Type 0
+TellsTrees lines text = TellsRun TellsScript (script_of None lines) text
