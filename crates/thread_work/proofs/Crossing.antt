@@ -1,15 +1,8 @@
 -- What a worker's thread works on may go to it.
-use mathlib.Core.List.{List, [], ◌∷◌}
-use Prim.Native.Nat.{ℕ}
 use denote.RattleType.{RattleType}
 use denote.Builtin.{u64}
-use denote.Exit.{yes}
-use denote.Memory.{lone}
-use denote.Param.{param, arg}
-use denote.Param.Send.{IsSend, IsSync, param_send, given_send, plain_send, view_send, recorded_send, struct_send}
+use denote.Param.Send.{IsSend, plain_send, recorded_send, struct_send}
 use denote.Struct.Declared.{shape}
-use denote.Struct.Struct.{Struct}
-use denote.Struct.Tuple.{TupleAt, type_at}
 use Rattle.std.below.std_alloc.proofs.vec.deque.VecDeque.TheSendSync as deque
 use Rattle.trace_threads.specs.contracts.handle.Handle as handle
 use Rattle.trace_threads.specs.contracts.handle.Released as released

@@ -1,11 +1,11 @@
 -- What a history of more entries leaves of what was asked.
-use Rattle.std.proofs.Common.{◌≡◌, ℕ, ◌==◌, Bool, true, false, max, List, [], ◌∷◌, ◌++◌, length, refl, ap, sym, ◌∙◌, subst, arith, Some, None, length-append}
+use Rattle.std.proofs.Common.{◌≡◌, ℕ, ◌==◌, Bool, true, false, max, List, [], ◌∷◌, ◌++◌, length, refl, ap, sym, ◌∙◌, subst, arith, length-append}
 use Rattle.std.proofs.lemmas.Bool.Decides.{nat_tests}
 use Rattle.trace_threads.specs.declared.history.Entry.{Entry}
 use Rattle.trace_threads.specs.declared.history.What.{What}
 use Rattle.trace_threads.specs.declared.turns.View.{View}
 use Rattle.trace_threads.specs.History.{Sum, start, entry, sum_of, after, written, entries_by}
-use Rattle.trace_threads.specs.Turns.{Turn, entries}
+use Rattle.trace_threads.specs.Turns.{entries}
 use Rattle.trace_threads.specs.Calls.{Made}
 use Rattle.trace_threads.proofs.Beginnings.{entries_append}
 use Rattle.trace_threads.proofs.Passing.{entries_some}

@@ -1,5 +1,5 @@
 -- The releases of a span's handles, joined, tell the whole history.
-use Rattle.std.proofs.Common.{◌≡◌, ◌≢◌, ◌⊎◌, inl, inr, ⊎_elim, ℕ, zero, suc, ◌+◌, ◌<◌, ◌≤◌, ◌==◌, Bool, true, false, ◌&&◌, ◌||◌, List, [], ◌∷◌, ◌++◌, refl, ap, sym, ◌∙◌, subst, arith, Some, None, append_assoc, true≢false}
+use Rattle.std.proofs.Common.{◌≡◌, ◌≢◌, ⊎_elim, ℕ, zero, suc, ◌+◌, ◌<◌, ◌≤◌, ◌==◌, Bool, true, false, ◌&&◌, ◌||◌, List, [], ◌∷◌, ◌++◌, refl, ap, sym, ◌∙◌, subst, arith, Some, None, append_assoc, true≢false}
 use Rattle.std.specs.Prelude.{Option}
 use Rattle.std.proofs.lemmas.Bool.Decides.{nat_tests}
 use Rattle.std.proofs.lemmas.List.{append-nil}
@@ -15,7 +15,7 @@ use Rattle.trace_threads.specs.declared.history.What.TheVariants.{Clone, Call, J
 use Rattle.trace_threads.specs.declared.handle.Released.{Released}
 use Rattle.trace_threads.specs.History.{Sum, start, entry, after, may, is_legal, sum_of, sum, clones_after, IsLegal, is_closed, entries_by, ends, has_end}
 use Rattle.trace_threads.specs.Shared.{content_of}
-use Rattle.trace_threads.specs.Turns.{Turn, entries}
+use Rattle.trace_threads.specs.Turns.{entries}
 use Rattle.trace_threads.specs.Handles.{Seen, ClosedAs}
 use Rattle.trace_threads.proofs.Beginnings.{prefix_trans, prefix_entries, comparable}
 use Rattle.trace_threads.proofs.Helds.{both}

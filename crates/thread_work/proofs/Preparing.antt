@@ -1,5 +1,5 @@
 -- Workers before they have handles.
-use Rattle.std.proofs.Common.{◌≡◌, ℕ, zero, suc, ◌<◌, List, [], ◌∷◌, ◌++◌, length, true, refl, ap, sym, ◌∙◌, subst, arith, append_assoc, slice_index_or}
+use Rattle.std.proofs.Common.{◌≡◌, ℕ, zero, suc, List, [], ◌∷◌, ◌++◌, length, refl, ap, sym, ◌∙◌, subst, arith, append_assoc, slice_index_or}
 use Rattle.trace_threads.specs.Handles.{Held}
 use Rattle.otel_state.specs.declared.op.Op.{Op}
 use Rattle.std.specs.Prelude.{Option, Some, None}
@@ -7,13 +7,11 @@ use Rattle.thread_work.specs.declared.job.Job.{Job}
 use Rattle.thread_work.specs.declared.plan.Plan.{Plan}
 use Rattle.thread_work.specs.declared.script.WorkerOp.{WorkerOp}
 use Rattle.thread_work.specs.Asks.{Ask, balanced, balanced_by}
-use Rattle.trace_threads.specs.History.{move_in}
 use Rattle.trace_threads.specs.Moves.{Move, enters, exits, stays, move_of}
 use Rattle.std.specs.Prelude.{Bool, ◌+◌, ◌-◌, ◌&&◌, nat_lt}
 use Rattle.thread_work.specs.Plans.{part_by, asked_on, part_on, release_at, later_at, last_at}
-use Rattle.thread_work.specs.Works.{part_of}
 use Rattle.thread_work.specs.Jobs.{lists_of, gates_of}
-use Rattle.thread_work.specs.Spans.{HasRoomFor, AreFirsts, IsPreparedFor, ArePreparedFor}
+use Rattle.thread_work.specs.Spans.{IsPreparedFor, ArePreparedFor}
 use Rattle.thread_work.specs.Tests.{IsTested, AllTested, AllAtOpening}
 use Rattle.thread_work.specs.Preparing.{IsBegun, AllBegun}
 

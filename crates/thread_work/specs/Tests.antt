@@ -1,5 +1,5 @@
 -- What `work` takes for granted of a script and of the workers' gates.
-use Rattle.std.specs.Prelude.{◌≡◌, ℕ, ◌<◌, List, [], ◌∷◌, length, true, false}
+use Rattle.std.specs.Prelude.{◌≡◌, ℕ, ◌<◌, List, [], ◌∷◌, length, true}
 use Rattle.thread_work.specs.declared.plan.Plan.{Plan}
 use Rattle.thread_work.specs.declared.script.WorkerOp.{WorkerOp}
 use Rattle.thread_work.specs.Asks.{balanced}

@@ -1,4 +1,4 @@
-use Rattle.std.proofs.Common.{◌≡◌, List, length, sym, ap, subst, arith, IfOk}
+use Rattle.std.proofs.Common.{◌≡◌, List, length, sym, subst, arith, IfOk}
 use Rattle.thread_work.specs.declared.plan.Plan.{Plan}
 use Rattle.thread_work.specs.declared.script.WorkerOp.{WorkerOp}
 use Rattle.thread_work.specs.Preparing.{AllBegun}
