@@ -12,12 +12,12 @@ PAGE = TOP / "docs" / "FROM_TRACING.md"
 CRATES = {
     "span_handles": "Spans, their guards and calls: `tracing::span`",
     "span_futures": "Futures: `tracing::instrument`",
+    "traced": "What `span!` and `event!` do with a callsite: `tracing`",
     "trace_base": "Callsites, levels, dispatch, traits: `tracing_core`, `tracing::dispatcher`, `tracing_subscriber::layer`",
     "span_registry": "The registry and layered subscribers: `tracing_subscriber::registry`, `layer`",
     "env_directives": "Directives and `Targets`: `tracing_subscriber::filter`",
     "env_filter": "`EnvFilter` and `reload`: `tracing_subscriber::filter`, `reload`",
     "reload_handle": "A lock over a layer: `tracing_subscriber::reload`",
-    "shared_gate": "A filter that threads share",
     "otel_base": "Contexts, attributes, statuses, tracers: `opentelemetry`, `opentelemetry_sdk`",
     "otel_state": "What becomes of a span: `tracing_opentelemetry`, `opentelemetry_sdk`",
     "otel_layer": "The layer and its extension of spans: `tracing_opentelemetry`",
@@ -28,7 +28,7 @@ HEAD = """# From tracing
 
 Who knows the Rust crates finds here which item stands for which of theirs, where it is, and which clauses of its contract say what it does. The rows are gathered from the comments of the items by `docs/from_tracing.py`, which `.ci/run` runs to see that the page is theirs. `DIFFERENCES.md` has what differs, and what is left out.
 
-The macros have no item: a callsite is a value (`Callsite` of `trace_base`), and what `span!` and `event!` do is two calls, as `USING.md` shows.
+A callsite is a value here (`Callsite` of `trace_base`), which a macro makes in its place. What `span!` and `event!` do with one is two calls, as `USING.md` shows, or one of `traced`.
 """
 ITEM = re.compile(r"\s*(?:pub )?(?:unsafe )?(fn|struct|enum|trait|const|type)\s+(\w+)")
 CALL = re.compile(r"    ([A-Z]\w+)")
