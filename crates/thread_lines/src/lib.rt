@@ -2,6 +2,7 @@
 //! turns on `read_thread_line`, which reads one.
 #![tactic(auto)]
 
+pub mod laws;
 pub mod line;
 pub mod read;
 
