@@ -1,4 +1,4 @@
-//! Runs scripts of span calls: it reads a settings line and requests, and writes replies and records, or measures.
+//! Runs scripts of span calls, and writes what came of them: replies and records, measures, trees or batches.
 #![tactic(auto)]
 
 use std::env;
