@@ -51,6 +51,8 @@ impl<S: Subscriber> TracedFuture<S> for Looks {
         (new ≡ world) × (later ≡ lane) × (g ≡ f)
         × (r ≡ looks f.is_ready (dispatch_on lane.default world.global)) };
 
+    ghost besides = { λ at s t. ⊥ };
+
     ghost carries = { λ f old new known parts was. tt };
 
     fn poll_in(

@@ -78,14 +78,13 @@ module _ {S : Type 0} (spans : S → Spans) (kept : S → ℕ → ℕ → ℕ) (
       stays_lent same (λ s t is. record { stays_whole = same_whole s t is; as_entered = ap (λ (x : Spans). x.lanes) (same_spans s t is); as_kept = same_kept_law s t is }) old new d lane left known
 
 -- the calls that it came to
-module _ {S : Type 0} (does : S → SubscriberCall → S → Type 0) (same : S → S → Type 0) (same_refl : (s : S) → same s s) (same_trans : (s t u : S) → same s t → same t u → same s u)
-    (same_does : (s t : S) (call : SubscriberCall) (u : S) → same s t → does t call u → does s call u) where
-  pub made_calls : (spans : S → Spans) (old new : Worlds S) (lane : Lane) (at : ℕ) (place : Parent) (site : ℕ) (values : ValueSet) (dispatch : Option ℕ) (handle : Handle) → MakesIf spans does old new lane at place site values dispatch handle → CallsBy does same at old new
-  made_calls spans old new lane at place site values None handle made = subst (λ (w : Worlds S). CallsBy does same at old w) (sym made.1) (calls_none does same same_refl same_trans same_does at old)
+module _ {S : Type 0} (does : S → SubscriberCall → S → Type 0) (besides : ℕ → S → S → Type 0) (same : S → S → Type 0) (same_refl : (s : S) → same s s) (same_trans : (s t u : S) → same s t → same t u → same s u) where
+  pub made_calls : (spans : S → Spans) (old new : Worlds S) (lane : Lane) (at : ℕ) (place : Parent) (site : ℕ) (values : ValueSet) (dispatch : Option ℕ) (handle : Handle) → MakesIf spans does old new lane at place site values dispatch handle → CallsBy does besides same at old new
+  made_calls spans old new lane at place site values None handle made = subst (λ (w : Worlds S). CallsBy does besides same at old w) (sym made.1) (calls_none does besides same same_refl same_trans at old)
   made_calls spans old new lane at place site values (Some d) handle made =
       let call : SubscriberCall = NewSpan lane at place site made.callsite values in
-      calls_one does same same_refl same_trans same_does at (λ s t. (made.id ≡ length (spans s).made) × does s call t) old new d (λ s t did. called_once does same same_refl same_trans same_does at s call t (omega arith) did.1) made.made
+      calls_one does besides same same_refl same_trans at (λ s t. (made.id ≡ length (spans s).made) × does s call t) old new d (λ s t did. called_once does besides same same_refl same_trans at s call t (omega arith) did.1) made.made
 
-  pub unmade_calls : (at : ℕ) (old new : Worlds S) (dispatch : Option ℕ) → ReplacedIf same old new dispatch → CallsBy does same at old new
-  unmade_calls at old new None left = subst (λ (w : Worlds S). CallsBy does same at old w) (sym left) (calls_none does same same_refl same_trans same_does at old)
-  unmade_calls at old new (Some d) left = calls_one does same same_refl same_trans same_does at same old new d (λ s t is. called_same does same same_refl same_trans same_does at s t is) left
+  pub unmade_calls : (at : ℕ) (old new : Worlds S) (dispatch : Option ℕ) → ReplacedIf same old new dispatch → CallsBy does besides same at old new
+  unmade_calls at old new None left = subst (λ (w : Worlds S). CallsBy does besides same at old w) (sym left) (calls_none does besides same same_refl same_trans at old)
+  unmade_calls at old new (Some d) left = calls_one does besides same same_refl same_trans at same old new d (λ s t is. called_same does besides same same_refl same_trans at s t is) left

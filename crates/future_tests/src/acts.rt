@@ -63,6 +63,8 @@ impl<S: Stack> TracedFuture<S> for Looks {
 
     ghost polls = { λ f world lane at r g new later. (new ≡ world) × (later ≡ lane) × (g ≡ f) };
 
+    ghost besides = { λ at s t. ⊥ };
+
     ghost carries = { λ f old new known parts was. more_parts old new f.stack parts was };
 
     fn poll_in(
@@ -117,6 +119,8 @@ impl<S: Stack> TracedFuture<S> for Makes {
 
     ghost polls = { λ f world lane at r g new later. IfEnded r (λ handle. IsKnown S.spans new handle.held) };
 
+    ghost besides = { λ at s t. ⊥ };
+
     ghost carries = { λ f old new known parts was. site_stays old new f.site parts was };
 
     fn poll_in(
@@ -147,7 +151,7 @@ fn make_here<S: Stack>(
         (dispatch_on lane.now.default world.old.global) }
     ensures known { IfOk result (λ handle. IsKnown S.spans world.new handle.held) }
     ensures keeps { KeepsLent S.spans S.kept S.is_whole world.old world.new lane.now lane.now }
-    ensures moments { CallsBy S.does S.same at world.old world.new }
+    ensures moments { CallsBy S.does (λ at s t. ⊥) S.same at world.old world.new }
 {
     let span = Span::new(world, lane, at, site, values)?;
     Ok(span)
@@ -172,6 +176,8 @@ impl<S: Stack> TracedFuture<S> for Leaves {
     ghost has_room = { λ f world lane at. Unit {0} };
 
     ghost polls = { λ f world lane at r g new later. g ≡ f };
+
+    ghost besides = { λ at s t. ⊥ };
 
     ghost carries = { λ f old new known parts was. known f.span.held was };
 
@@ -213,7 +219,7 @@ fn enter_for_good<S: Stack>(
     requires whole { HasAll S.is_whole world.old }
     requires few_holds { HasOn (λ s id. HasFewHolds (S.spans s).made id) world.old span.now.held }
     ensures keeps { KeepsLent S.spans S.kept S.is_whole world.old world.new lane.old lane.new }
-    ensures moments { CallsBy S.does S.same at world.old world.new }
+    ensures moments { CallsBy S.does (λ at s t. ⊥) S.same at world.old world.new }
     ensures known { IsKnown S.spans world.new span.now.held }
 {
     match span.open_entry(world, lane, at) {

@@ -1,28 +1,46 @@
--- The calls that subscribers are given while something is polled, and their moments.
-use Rattle.std.specs.Prelude.{◌≡◌, ◌≤◌, ℕ, List, Some, slice_get}
+-- What is done to subscribers while something is polled, and the moments of that.
+use Rattle.std.specs.Prelude.{◌≡◌, ◌≤◌, ℕ, List, [], ◌∷◌, Some, slice_get}
 use Rattle.std.specs.List.{All}
 use Rattle.trace_base.specs.Gate.{Worlds}
 use Rattle.trace_base.specs.Calls.{SubscriberCall, NewSpan, Records, Follows, Event, Enter, Exit, CloneSpan, TryClose}
-use Rattle.span_registry.specs.History.{Runs}
+
+-- a call of a subscriber, or something that is done to it beside its calls, at a moment
+pub data Change : Type 0 where
+  Calls : (call : SubscriberCall) → Change
+  Beside : (at : ℕ) → Change
 
 -- the moment of a call, if it has one, is at most this
-abbrev pub IsBy : ℕ → SubscriberCall → Type 0
-IsBy last (NewSpan lane at place site callsite values) = at ≤ last
-IsBy last (Records id at callsite values) = at ≤ last
-IsBy last (Follows id from at) = at ≤ last
-IsBy last (Event lane at place site callsite values) = at ≤ last
-IsBy last (Enter id at before later) = at ≤ last
-IsBy last (Exit id at before later) = at ≤ last
-IsBy last (CloneSpan id) = Unit {0}
-IsBy last (TryClose id at) = at ≤ last
+abbrev pub IsCallBy : ℕ → SubscriberCall → Type 0
+IsCallBy last (NewSpan lane at place site callsite values) = at ≤ last
+IsCallBy last (Records id at callsite values) = at ≤ last
+IsCallBy last (Follows id from at) = at ≤ last
+IsCallBy last (Event lane at place site callsite values) = at ≤ last
+IsCallBy last (Enter id at before later) = at ≤ last
+IsCallBy last (Exit id at before later) = at ≤ last
+IsCallBy last (CloneSpan id) = Unit {0}
+IsCallBy last (TryClose id at) = at ≤ last
 
--- some calls, none of a later moment than this, and nothing else made one subscriber of another
-pub record IsCalledBy {S : Type 0} (does : S → SubscriberCall → S → Type 0) (same : S → S → Type 0) (last : ℕ) (s t : S) : Type 0 where
-  pub calls : List SubscriberCall
-  pub moments : All (IsBy last) calls
-  pub runs : Runs does same s calls t
+abbrev pub IsBy : ℕ → Change → Type 0
+IsBy last (Calls call) = IsCallBy last call
+IsBy last (Beside at) = at ≤ last
 
--- Each subscriber of a world is there later on, as such calls made it. Of subscribers that came nothing is said.
-abbrev pub CallsBy : {S : Type 0} → (S → SubscriberCall → S → Type 0) → (S → S → Type 0) → ℕ → Worlds S → Worlds S → Type 0
-CallsBy {S} does same last old new = (dispatch : ℕ) (s : S) → slice_get old.subscribers dispatch ≡ Some s
-    → (t : S) × (slice_get new.subscribers dispatch ≡ Some t) × IsCalledBy does same last s t
+-- what a change makes of a subscriber
+abbrev pub DoesChange : {S : Type 0} → (S → SubscriberCall → S → Type 0) → (ℕ → S → S → Type 0) → S → Change → S → Type 0
+DoesChange does besides s (Calls call) t = does s call t
+DoesChange does besides s (Beside at) t = besides at s t
+
+-- These changes were done to a subscriber, one after another, and nothing else changed it; spare room may have grown.
+abbrev pub DoesAll : {S : Type 0} → (S → SubscriberCall → S → Type 0) → (ℕ → S → S → Type 0) → (S → S → Type 0) → S → List Change → S → Type 0
+DoesAll does besides same s [] t = same s t
+DoesAll {S} does besides same s (change ∷ changes) t = (m : S) × (n : S) × same s m × DoesChange does besides m change n × DoesAll does besides same n changes t
+
+-- some changes, none of a later moment than this, and nothing else made one subscriber of another
+pub record IsCalledBy {S : Type 0} (does : S → SubscriberCall → S → Type 0) (besides : ℕ → S → S → Type 0) (same : S → S → Type 0) (last : ℕ) (s t : S) : Type 0 where
+  pub changes : List Change
+  pub moments : All (IsBy last) changes
+  pub runs : DoesAll does besides same s changes t
+
+-- Each subscriber of a world is there later on, as such changes made it. Of subscribers that came nothing is said.
+abbrev pub CallsBy : {S : Type 0} → (S → SubscriberCall → S → Type 0) → (ℕ → S → S → Type 0) → (S → S → Type 0) → ℕ → Worlds S → Worlds S → Type 0
+CallsBy {S} does besides same last old new = (dispatch : ℕ) (s : S) → slice_get old.subscribers dispatch ≡ Some s
+    → (t : S) × (slice_get new.subscribers dispatch ≡ Some t) × IsCalledBy does besides same last s t

@@ -10,7 +10,7 @@ returns-in-Ok-clause-keeps g c =
 
 pub returns-in-Ok-clause-moments : goal.returns-in-Ok-clause-moments
 returns-in-Ok-clause-moments g c =
-    calls_enter g.S.Subscriber.does g.S.Subscriber.same g.met.S.Subscriber.same_refl g.met.S.Subscriber.same_trans g.met.S.Subscriber.same_does c.args.at c.args.world.now c.open_entry.new.world c.args.lane.now c.open_entry.new.lane c.args.span.now.held c.in-Ok.ensures.did
+    calls_enter g.S.Subscriber.does (λ at s t. ⊥) g.S.Subscriber.same g.met.S.Subscriber.same_refl g.met.S.Subscriber.same_trans c.args.at c.args.world.now c.open_entry.new.world c.args.lane.now c.open_entry.new.lane c.args.span.now.held c.in-Ok.ensures.did
 
 pub returns-in-Err-clause-keeps : goal.returns-in-Err-clause-keeps
 returns-in-Err-clause-keeps g c =
@@ -18,4 +18,4 @@ returns-in-Err-clause-keeps g c =
 
 pub returns-in-Err-clause-moments : goal.returns-in-Err-clause-moments
 returns-in-Err-clause-moments g c =
-    calls_refused g.S.Subscriber.does g.S.Subscriber.same g.met.S.Subscriber.same_refl g.met.S.Subscriber.same_trans g.met.S.Subscriber.same_does c.args.at c.args.world.now c.open_entry.new.world c.args.span.now.held c.in-Err.ensures.leaves
+    calls_refused g.S.Subscriber.does (λ at s t. ⊥) g.S.Subscriber.same g.met.S.Subscriber.same_refl g.met.S.Subscriber.same_trans c.args.at c.args.world.now c.open_entry.new.world c.args.span.now.held c.in-Err.ensures.leaves

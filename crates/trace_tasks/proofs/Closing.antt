@@ -1,0 +1,54 @@
+-- The handles that are left are closed, one after another.
+use Rattle.std.proofs.Common.{◌≡◌, ℕ, List, [], ◌∷◌, Bool, Option, Some, refl, subst}
+use Rattle.trace_base.specs.declared.callsite.Callsite.{Callsite}
+use Rattle.trace_base.specs.declared.lane.Lane.{Lane}
+use Rattle.trace_base.specs.declared.level.LevelFilter.{LevelFilter}
+use Rattle.trace_base.specs.Calls.{SubscriberCall}
+use Rattle.trace_base.specs.Gate.{Worlds}
+use Rattle.trace_base.specs.Spans.{Spans}
+use Rattle.span_handles.specs.Worlds.{Chain}
+use Rattle.span_handles.specs.Handles.{Handle, Held, ReplacedOn}
+use Rattle.span_futures.specs.declared.instrument.Instrumented.{Instrumented}
+use Rattle.otel_layer.specs.Parts.{PartCall}
+use Rattle.trace_tasks.specs.declared.running.Running.{Running}
+use Rattle.trace_tasks.specs.Carrying.{Carries}
+use Rattle.trace_tasks.specs.Flat.{Left}
+use Rattle.trace_tasks.specs.Stops.{drops}
+use Rattle.trace_tasks.specs.Waiting.{AllStand}
+
+module _ {S : Type 0} (spans : S → Spans) (hint : S → Option LevelFilter) (enables : S → ℕ → Callsite → Bool) (does : S → SubscriberCall → S → Type 0) (touches : S → PartCall → S → Type 0) (at : ℕ) where
+  -- drops of some handles lead from one world to another
+  abbrev pub Drops : List Left → List Handle → Worlds S → Worlds S → Type 0
+  Drops ts handles old new = (d : ℕ) (lane : Lane) (guards : List Held)
+      → Carries spans hint enables does touches d (drops at ts) (record { world = old; lane = lane; handles = handles; guards = guards }) (record { world = new; lane = lane; handles = handles; guards = guards })
+
+  -- so far: what is left to be closed leads on
+  pub record Closing (first fs : List (Instrumented Running)) (old world : Worlds S) (handles : List Handle) (ts : List Left) : Type 0 where
+    pub now : List Left
+    pub stand : AllStand handles now fs
+    pub go : (new : Worlds S) → Drops now handles world new → Drops ts handles old new
+
+  pub closing_first : (fs : List (Instrumented Running)) (world : Worlds S) (handles : List Handle) (ts : List Left) → AllStand handles ts fs → Closing fs fs world world handles ts
+  closing_first fs world handles ts stand = record { now = ts; stand = stand; go = λ new did. did }
+
+  closing_now : (first : List (Instrumented Running)) (f : Instrumented Running) (fs : List (Instrumented Running)) (old world next : Worlds S) (handles : List Handle) (ts now : List Left)
+      → ((new : Worlds S) → Drops now handles world new → Drops ts handles old new) → AllStand handles now (f ∷ fs) → ReplacedOn (λ id s t. Chain spans does at (Some id) s t) world next f.span.held → Closing first fs old next handles ts
+  closing_now first f fs old world next handles ts [] go stand chain = absurd stand
+  closing_now first f fs old world next handles ts (t ∷ now) go stand chain = record {
+    now = now;
+    stand = stand.1;
+    go = λ new did. go new (λ d lane guards. (record { world = next; lane = lane; handles = handles; guards = guards }, record { handle = f.span; is = stand.0.handle; did = (refl, chain); handles = refl; guards = refl }, did d lane guards));
+  }
+
+  -- one more
+  pub closing_more : (first all : List (Instrumented Running)) (f : Instrumented Running) (fs : List (Instrumented Running)) (old world next : Worlds S) (handles : List Handle) (ts : List Left) → all ≡ f ∷ fs → Closing first all old world handles ts
+      → ReplacedOn (λ id s t. Chain spans does at (Some id) s t) world next f.span.held → Closing first fs old next handles ts
+  closing_more first all f fs old world next handles ts is so_far chain =
+      closing_now first f fs old world next handles ts so_far.now so_far.go (subst (λ (xs : List (Instrumented Running)). AllStand handles so_far.now xs) is so_far.stand) chain
+
+  closed_now : (old world : Worlds S) (handles : List Handle) (ts now : List Left) → ((new : Worlds S) → Drops now handles world new → Drops ts handles old new) → AllStand handles now [] → Drops ts handles old world
+  closed_now old world handles ts [] go stand = go world (λ d lane guards. refl)
+  closed_now old world handles ts (t ∷ now) go stand = absurd stand
+
+  pub closed_all : (first all : List (Instrumented Running)) (old world : Worlds S) (handles : List Handle) (ts : List Left) → all ≡ [] → Closing first all old world handles ts → Drops ts handles old world
+  closed_all first all old world handles ts is so_far = closed_now old world handles ts so_far.now so_far.go (subst (λ (xs : List (Instrumented Running)). AllStand handles so_far.now xs) is so_far.stand)

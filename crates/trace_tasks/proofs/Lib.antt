@@ -1,0 +1,17 @@
+pub mod Beginning
+pub mod Blocks
+pub mod Changing
+pub mod Closing
+pub mod Enqueueing
+pub mod Passing
+pub mod Polling
+pub mod Queueing
+pub mod Rounds
+pub mod Runs
+pub mod Spanning
+pub mod Spelling
+pub mod Stepping
+pub mod Stopping
+pub mod Taking
+pub mod Taping
+pub mod Turning

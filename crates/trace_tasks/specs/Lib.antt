@@ -1,0 +1,9 @@
+pub mod Acts
+pub mod Begun
+pub mod Carrying
+pub mod FieldNames
+pub mod Flat
+pub mod Spelled
+pub mod Stops
+pub mod Turning
+pub mod Waiting

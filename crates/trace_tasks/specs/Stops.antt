@@ -1,0 +1,117 @@
+-- A run of tasks that was refused: what was carried out before, and how what was open then was left.
+use Rattle.std.specs.Prelude.{◌≡◌, ℕ, zero, suc, List, [], ◌∷◌, ◌++◌, map, length, slice_get, Bool, true, Option, Some}
+use Rattle.std.proofs.Common.{◌⊎◌}
+use Rattle.otel_base.specs.declared.enter_error.EnterError.{EnterError}
+use Rattle.otel_base.specs.declared.enter_error.EnterError.TheVariants.{Full}
+use Rattle.trace_base.specs.declared.callsite.Callsite.{Callsite}
+use Rattle.trace_base.specs.declared.lane.Lane.{Lane}
+use Rattle.trace_base.specs.declared.level.LevelFilter.{LevelFilter}
+use Rattle.trace_base.specs.Calls.{SubscriberCall}
+use Rattle.trace_base.specs.Contexts.{IsFull}
+use Rattle.trace_base.specs.Gate.{Worlds}
+use Rattle.trace_base.specs.Spans.{Spans}
+use Rattle.span_handles.specs.Handles.{Handle, Held}
+use Rattle.span_handles.specs.Entries.{LeavesLane}
+use Rattle.span_futures.specs.declared.instrument.Instrumented.{Instrumented}
+use Rattle.otel_layer.specs.Parts.{PartCall}
+use Rattle.span_script.specs.declared.request.Call.TheVariants as call
+use Rattle.span_script.specs.declared.request.Request.{Request}
+use Rattle.trace_tape.specs.Taping.{on_lane}
+use Rattle.trace_tasks.specs.declared.running.Running.{Running}
+use Rattle.trace_tasks.specs.declared.script.Task.{Task}
+use Rattle.trace_tasks.specs.Acts.{Wants}
+use Rattle.trace_tasks.specs.Begun.{AreBegun}
+use Rattle.trace_tasks.specs.Carrying.{Stage, Carries}
+use Rattle.trace_tasks.specs.Flat.{Left, all_polls, begun, makings, flat, moment_of, poll, requeue, polled, turns}
+use Rattle.trace_tasks.specs.Turning.{serving, left_as}
+
+-- the tasks that are left after so many polls, the next one first
+abbrev pub left_after : ℕ → List Left → List Left
+left_after zero ts = ts
+left_after (suc n) [] = []
+left_after (suc n) (t ∷ ts) = left_after n (requeue ts (polled t))
+
+-- at a moment an exit of the guard of a poll, if its task was entered, and a drop of the handle of each task that is left
+abbrev pub exit_if : ℕ → ℕ → List Request → List Request
+exit_if at k [] = []
+exit_if at k (r ∷ part) = on_lane at (call.Exit k) ∷ []
+
+abbrev pub drops : ℕ → List Left → List Request
+drops at left = map (λ t. on_lane at (call.Drop t.number)) left
+
+abbrev pub leavings : ℕ → ℕ → List Request → List Left → List Request
+leavings at k part left = exit_if at k part ++ drops at left
+
+module _ {S : Type 0} (spans : S → Spans) (hint : S → Option LevelFilter) (enables : S → ℕ → Callsite → Bool) (activates : S → ℕ → Bool) (does : S → SubscriberCall → S → Type 0) (touches : S → PartCall → S → Type 0) (same : S → S → Type 0) (d : ℕ) where
+  -- memory was wanted, or a full lane was met: nothing more than room and a denied op tells the stages apart
+  pub record Fails (at : ℕ) (s t : Stage S) : Type 0 where
+    pub world : Wants spans hint enables does touches same at s.world t.world
+    pub lane : LeavesLane s.lane t.lane
+    pub handles : t.handles ≡ s.handles
+    pub guards : t.guards ≡ s.guards
+
+  -- an entry that attaches a context meets a lane that has as many as may be
+  pub record MeetsFull (s : Stage S) : Type 0 where
+    pub subscriber : S
+    pub there : slice_get s.world.subscribers d ≡ Some subscriber
+    pub id : ℕ
+    pub attaches : activates subscriber id ≡ true
+    pub full : IsFull s.lane
+
+  -- A front of some requests was carried out, then it failed, and what was left was let go. Full comes only where an entry met a
+  -- full lane.
+  pub record Stopped (front leaving : List Request) (at : ℕ) (e : EnterError) (s : Stage S) (new : Worlds S) (later : Lane) : Type 0 where
+    pub here : Stage S
+    pub carried : Carries spans hint enables does touches d front s here
+    pub failed : Stage S
+    pub fails : Fails at here failed
+    pub guards : List Held
+    pub closed : Carries spans hint enables does touches d leaving failed (record { world = new; lane = later; handles = failed.handles; guards = guards })
+    pub full : e ≡ Full → MeetsFull here
+
+  -- the same in a poll, after so many polls, of a task
+  pub record StopsPoll (sites : List Callsite) (at k : ℕ) (t : Left) (e : EnterError) (s : Stage S) (new : Worlds S) (later : Lane) : Type 0 where
+    pub part : List Request
+    pub others : List Request
+    pub within : part ++ others ≡ poll sites k t
+    pub stopped : Stopped part (leavings at k part (t ∷ [])) at e s new later
+    pub handles : stopped.failed.handles ≡ s.handles
+
+  -- the same in the turns of some tasks: in the poll after so many polls
+  pub record StopsTurns (sites : List Callsite) (ts : List Left) (e : EnterError) (s : Stage S) (new : Worlds S) (later : Lane) : Type 0 where
+    pub polls : ℕ
+    pub t : Left
+    pub waiting : List Left
+    pub next : left_after polls ts ≡ t ∷ waiting
+    pub part : List Request
+    pub others : List Request
+    pub within : turns sites polls 0 ts ++ part ++ others ≡ turns sites (all_polls ts) 0 ts
+    pub stopped : Stopped (turns sites polls 0 ts ++ part) (leavings (moment_of polls) polls part (t ∷ waiting)) (moment_of polls) e s new later
+
+  -- A run that was refused, as it made spans or in a poll: a front of the flat list was carried out, and then the handles of
+  -- all tasks that were begun and not finished were dropped, at once.
+  pub record GaveUp (sites : List Callsite) (tasks : List Task) (e : EnterError) (s : Stage S) (new : Worlds S) (later : Lane) : Type 0 where
+    pub first : List Task
+    pub polls : ℕ
+    pub part : List Request
+    pub others : List Request
+    pub within : makings first ++ turns sites polls 0 (begun 0 first) ++ part ++ others ≡ flat sites tasks
+    pub at : ℕ
+    pub moment : (at ≡ moment_of polls) ⊎ ((at ≡ 0) × (polls ≡ 0))
+    pub stopped : Stopped (makings first ++ turns sites polls 0 (begun 0 first) ++ part) (leavings at polls part (left_after polls (begun 0 first))) at e s new later
+
+-- the first of some tasks were begun, and the next one wanted memory
+pub record StopsBeginning {S : Type 0} (spans : S → Spans) (hint : S → Option LevelFilter) (enables : S → ℕ → Callsite → Bool) (kept : S → ℕ → ℕ → ℕ) (is_whole : S → Type 0) (does : S → SubscriberCall → S → Type 0) (touches : S → PartCall → S → Type 0) (same : S → S → Type 0)
+    (tasks : List Task) (lane : Lane) (old new : Worlds S) (fs : List (Instrumented Running)) : Type 0 where
+  pub first : List Task
+  pub others : List Task
+  pub within : first ++ others ≡ tasks
+  pub world : Worlds S
+  pub so_far : AreBegun spans hint enables kept is_whole does touches first lane old world fs
+  pub wants : Wants spans hint enables does touches same 0 world new
+
+-- a task's poll was refused, and its handle closed
+pub record TurnStops {S : Type 0} (spans : S → Spans) (hint : S → Option LevelFilter) (enables : S → ℕ → Callsite → Bool) (activates : S → ℕ → Bool) (does : S → SubscriberCall → S → Type 0) (touches : S → PartCall → S → Type 0) (same : S → S → Type 0)
+    (at : ℕ) (f : Instrumented Running) (old : Worlds S) (before : Lane) (e : EnterError) (new : Worlds S) (later : Lane) : Type 0 where
+  pub stops : (number site k : ℕ) (handles : List Handle) (guards : List Held) → at ≡ moment_of k → slice_get handles number ≡ Some f.span → length guards ≡ k → f.span.site ≡ Some site
+      → StopsPoll spans hint enables activates does touches same (serving before) old.sites at k (left_as number site f.inner) e (record { world = old; lane = before; handles = handles; guards = guards }) new later

@@ -1,0 +1,75 @@
+-- Tasks that wait for their next poll.
+use Rattle.std.specs.Prelude.{◌≡◌, ℕ, ◌<◌, Bool, List, [], ◌∷◌, ◌++◌, length, Option, Some, None, slice_get}
+use Rattle.std.specs.Option.{option_map}
+use Rattle.trace_base.specs.declared.callsite.Callsite.{Callsite}
+use Rattle.trace_base.specs.declared.lane.Lane.{Lane}
+use Rattle.trace_base.specs.declared.level.LevelFilter.{LevelFilter}
+use Rattle.trace_base.specs.Calls.{SubscriberCall}
+use Rattle.trace_base.specs.Gate.{Worlds}
+use Rattle.trace_base.specs.Spans.{Span, Spans, span_at, entries_on}
+use Rattle.span_handles.specs.Worlds.{spans_in}
+use Rattle.span_handles.specs.Handles.{Handle, Held}
+use Rattle.span_futures.specs.declared.instrument.Instrumented.{Instrumented}
+use Rattle.span_futures.specs.Lent.{HasAll, AreAllAttached}
+use Rattle.otel_layer.specs.Parts.{PartCall}
+use Rattle.trace_tasks.specs.declared.running.Running.{Running}
+use Rattle.trace_tasks.specs.Acts.{left_of}
+use Rattle.trace_tasks.specs.Carrying.{Carries}
+use Rattle.trace_tasks.specs.Flat.{Left, poll, moment_of}
+
+-- the subscriber that serves a lane by the lane's default
+abbrev pub served_by : Option ℕ → ℕ
+served_by None = 0
+served_by (Some d) = d
+
+abbrev pub serving : Lane → ℕ
+serving lane = served_by lane.default
+
+-- a world and a lane between polls: the lane has a default of the world, and no entry is open on it there
+pub record Ready {S : Type 0} (spans : S → Spans) (kept : S → ℕ → ℕ → ℕ) (is_whole : S → Type 0) (world : Worlds S) (lane : Lane) : Type 0 where
+  pub default : lane.default ≡ Some (serving lane)
+  pub there : serving lane < length world.subscribers
+  pub whole : HasAll is_whole world
+  pub still : AreAllAttached kept world lane
+  pub none_open : entries_on lane.id (spans_in spans world (serving lane)).lanes ≡ []
+
+-- a root that one handle holds
+abbrev pub alone : ℕ → Span
+alone site = record { holds = 1; parent = None; site = site }
+
+-- a handle with a callsite: it is the only hold of a root, or it is disabled
+abbrev pub IsAloneAs : List Span → ℕ → ℕ → Held → Type 0
+IsAloneAs made d site None = Unit {0}
+IsAloneAs made d site (Some held) = (held.0 ≡ d) × (span_at made held.1 ≡ alone site)
+
+pub record IsAlone (made : List Span) (d site : ℕ) (handle : Handle) : Type 0 where
+  pub site_is : handle.site ≡ Some site
+  pub held_is : IsAloneAs made d site handle.held
+
+-- the task of a handle's number
+abbrev pub left_as : ℕ → ℕ → Running → Left
+left_as number site f = record { number = number; site = site; steps = f.steps.items }
+
+-- what becomes of a task that is polled: it has the steps behind the yield left, or it is finished
+abbrev pub IsLeft : Option (Instrumented Running) → Instrumented Running → Type 0
+IsLeft None f = left_of f.inner.steps.items ≡ None
+IsLeft (Some g) f = (left_of f.inner.steps.items ≡ Some g.inner.steps.items) × (g.span ≡ f.span)
+
+-- the spans after a poll: all are the same, but for one that closed
+abbrev pub SpansStay : Option (Instrumented Running) → Held → List Span → List Span → Type 0
+SpansStay None held old new = (q : ℕ) → (option_map (λ h. h.1) held ≡ Some q → ⊥) → span_at new q ≡ span_at old q
+SpansStay (Some g) held old new = new ≡ old
+
+-- a poll of a task, and its end if it is finished, are the requests of its poll
+pub record Turned {S : Type 0} (spans : S → Spans) (hint : S → Option LevelFilter) (enables : S → ℕ → Callsite → Bool) (kept : S → ℕ → ℕ → ℕ) (is_whole : S → Type 0) (does : S → SubscriberCall → S → Type 0) (touches : S → PartCall → S → Type 0)
+    (at : ℕ) (f : Instrumented Running) (old : Worlds S) (before : Lane) (left : Option (Instrumented Running)) (new : Worlds S) (later : Lane) : Type 0 where
+  pub left_is : IsLeft left f
+  pub ready : Ready spans kept is_whole new later
+  pub lane_id : later.id ≡ before.id
+  pub default : later.default ≡ before.default
+  pub sites : new.sites ≡ old.sites
+  pub count : length new.subscribers ≡ length old.subscribers
+  pub stay : SpansStay left f.span.held (spans_in spans old (serving before)).made (spans_in spans new (serving before)).made
+  pub carried : (number site k : ℕ) (handles : List Handle) (guards : List Held) → at ≡ moment_of k → length guards ≡ k → slice_get handles number ≡ Some f.span → f.span.site ≡ Some site
+      → Carries spans hint enables does touches (serving before) (poll old.sites k (left_as number site f.inner))
+      (record { world = old; lane = before; handles = handles; guards = guards }) (record { world = new; lane = later; handles = handles; guards = guards ++ f.span.held ∷ [] })

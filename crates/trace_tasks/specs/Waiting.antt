@@ -1,0 +1,73 @@
+-- Tasks in a queue.
+use Rattle.std.specs.Prelude.{◌≡◌, ℕ, ◌+◌, List, [], ◌∷◌, ◌++◌, Bool, Option, Some, None, slice_get, sum_by}
+use Rattle.trace_base.specs.declared.callsite.Callsite.{Callsite}
+use Rattle.trace_base.specs.declared.lane.Lane.{Lane}
+use Rattle.trace_base.specs.declared.level.LevelFilter.{LevelFilter}
+use Rattle.trace_base.specs.Calls.{SubscriberCall}
+use Rattle.trace_base.specs.Gate.{Worlds}
+use Rattle.trace_base.specs.Spans.{Spans}
+use Rattle.span_handles.specs.Worlds.{spans_in}
+use Rattle.span_handles.specs.Handles.{Handle, Held, IsKnown, id_of}
+use Rattle.span_futures.specs.declared.instrument.Instrumented.{Instrumented}
+use Rattle.otel_layer.specs.Parts.{PartCall}
+use Rattle.trace_tasks.specs.declared.running.Running.{Running}
+use Rattle.trace_tasks.specs.Carrying.{Carries}
+use Rattle.trace_tasks.specs.Flat.{Left, yields, all_polls, turns}
+use Rattle.trace_tasks.specs.Turning.{IsAlone, serving}
+
+-- a task whose handle is known and alone holds its span
+pub record Waits {S : Type 0} (spans : S → Spans) (world : Worlds S) (d : ℕ) (f : Instrumented Running) : Type 0 where
+  pub known : IsKnown spans world f.span.held
+  pub site : ℕ
+  pub lone : IsAlone (spans_in spans world d).made d site f.span
+
+-- two tasks of different spans
+abbrev pub IsApart : Held → Held → Type 0
+IsApart held other = (id : ℕ) → id_of held ≡ Some id → id_of other ≡ Some id → ⊥
+
+abbrev pub AreApart : Instrumented Running → List (Instrumented Running) → Type 0
+AreApart f [] = Unit {0}
+AreApart f (g ∷ gs) = IsApart f.span.held g.span.held × AreApart f gs
+
+-- all tasks of a queue wait, each of a span of its own
+abbrev pub AllWait : {S : Type 0} → (S → Spans) → Worlds S → ℕ → List (Instrumented Running) → Type 0
+AllWait spans world d [] = Unit {0}
+AllWait spans world d (f ∷ fs) = Waits spans world d f × AreApart f fs × AllWait spans world d fs
+
+-- the handles of all tasks of a queue are known
+abbrev pub AllKnown : {S : Type 0} → (S → Spans) → Worlds S → List (Instrumented Running) → Type 0
+AllKnown spans world [] = Unit {0}
+AllKnown spans world (f ∷ fs) = IsKnown spans world f.span.held × AreApart f fs × AllKnown spans world fs
+
+-- the handles of all spans but one stay known
+abbrev pub KeepsBut : {S : Type 0} → (S → Spans) → Worlds S → Worlds S → Held → Type 0
+KeepsBut spans old new closed = (held : Held) → (held ≡ closed → ⊥) → IsKnown spans old held → IsKnown spans new held
+
+-- tasks, and where they stand in a script
+pub record Stands (handles : List Handle) (t : Left) (f : Instrumented Running) : Type 0 where
+  pub handle : slice_get handles t.number ≡ Some f.span
+  pub site : f.span.site ≡ Some t.site
+  pub steps : t.steps ≡ f.inner.steps.items
+
+abbrev pub AllStand : List Handle → List Left → List (Instrumented Running) → Type 0
+AllStand handles [] [] = Unit {0}
+AllStand handles [] (f ∷ fs) = ⊥
+AllStand handles (t ∷ ts) [] = ⊥
+AllStand handles (t ∷ ts) (f ∷ fs) = Stands handles t f × AllStand handles ts fs
+
+-- a task goes to the end of a queue, if it isn't finished
+abbrev pub queued : List (Instrumented Running) → Option (Instrumented Running) → List (Instrumented Running)
+queued fs None = fs
+queued fs (Some g) = fs ++ g ∷ []
+
+-- as many polls as a queue takes
+abbrev pub polls_in : List (Instrumented Running) → ℕ
+polls_in fs = sum_by (λ f. yields f.inner.steps.items + 1) fs
+
+-- the tasks of a queue were polled in turn until all were finished
+pub record TakesTurns {S : Type 0} (spans : S → Spans) (hint : S → Option LevelFilter) (enables : S → ℕ → Callsite → Bool) (does : S → SubscriberCall → S → Type 0) (touches : S → PartCall → S → Type 0)
+    (handles : List Handle) (ts : List Left) (old new : Worlds S) (before later : Lane) (polls : ℕ) : Type 0 where
+  pub guards : List Held
+  pub polled : polls ≡ all_polls ts
+  pub carried : Carries spans hint enables does touches (serving before) (turns old.sites (all_polls ts) 0 ts)
+      (record { world = old; lane = before; handles = handles; guards = [] }) (record { world = new; lane = later; handles = handles; guards = guards })

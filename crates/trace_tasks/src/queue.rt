@@ -1,0 +1,88 @@
+//! Tasks that take turns.
+ghost use Rattle.std.specs.Prelude.{◌≡◌, ◌<◌, ◌^◌, [], IfOk, IfErr};
+ghost use Rattle.std.specs.VecDeque.{deque_len, deque_capacity};
+ghost use Rattle.futures.specs.Task.{Keeps};
+ghost use Rattle.span_futures.specs.Lent.{HasAll};
+ghost use Rattle.trace_tasks.specs.Carrying.{Carries};
+ghost use Rattle.trace_tasks.specs.Stops.{StopsTurns, drops};
+ghost use Rattle.trace_tasks.specs.Turning.{Ready, serving};
+ghost use Rattle.trace_tasks.specs.Waiting.{AllWait, AllKnown, AllStand, TakesTurns, polls_in, queued};
+
+use crate::running::Running;
+use crate::turn::turn;
+use futures::task::Context;
+use otel_base::enter_error::EnterError;
+use otel_layer::part::OtelSubscriber;
+use span_futures::instrument::Instrumented;
+use std::collections::VecDeque;
+use trace_base::lane::Lane;
+use trace_base::world::World;
+
+/// Polls the first task of a queue, which goes to the end if it isn't finished, until none is left; answers the number of
+/// polls. The k-th poll is at the moment 10 k. A poll that is refused ends it, and all handles are closed at its moment.
+pub(crate) fn poll_all<S: OtelSubscriber>(
+    queue: &mut VecDeque<Instrumented<Running>>,
+    world: &mut World<S>,
+    lane: &mut Lane,
+    cx: &mut Context<'_>,
+) -> Result<u64, EnterError>
+    requires ready { Ready S.Subscriber.spans S.Subscriber.kept S.Subscriber.is_whole world.old lane.old }
+    requires wait { AllWait S.Subscriber.spans world.old (serving lane.old) queue.old.items }
+    requires few { polls_in queue.old.items < 2 ^ 60 }
+    ensures ok { IfOk result (λ polls. (handles : _) (ts : _) → AllStand handles ts queue.old.items
+        → TakesTurns S.Subscriber.spans S.Subscriber.hint S.Subscriber.enables S.Subscriber.does S.OtelPart.touches
+        handles ts world.old world.new lane.old lane.new polls) }
+    ensures stops { IfErr result (λ e. (handles : _) (ts : _) → AllStand handles ts queue.old.items
+        → StopsTurns S.Subscriber.spans S.Subscriber.hint S.Subscriber.enables S.Subscriber.activates S.Subscriber.does
+        S.OtelPart.touches S.Subscriber.same (serving lane.old) world.old.sites ts e
+        (record { world = world.old; lane = lane.old; handles = handles; guards = [] }) world.new lane.new) }
+    ensures empty { queue.new.items ≡ [] }
+    ensures whole { HasAll S.Subscriber.is_whole world.new }
+    ensures context { Keeps cx.old cx.new }
+{
+    let mut polls = 0;
+    while let Some(task) = queue.pop_front() {
+        let at = 10 * (polls + 1);
+        match turn(task, world, lane, at, cx) {
+            Ok(left) => put_back(queue, left),
+            Err(error) => {
+                close_all(queue, world, at);
+                return Err(error);
+            }
+        }
+        polls += 1;
+    }
+    Ok(polls)
+}
+
+// A task goes to the end of the queue, if it isn't finished.
+fn put_back(queue: &mut VecDeque<Instrumented<Running>>, left: Option<Instrumented<Running>>)
+    requires { deque_len queue.old < deque_capacity queue.old }
+    ensures { queue.new.items ≡ queued queue.old.items left }
+{
+    match left {
+        Some(task) => queue.push_back_reserved(task),
+        None => {}
+    }
+}
+
+/// Closes the handles of all tasks that are left.
+pub(crate) fn close_all<S: OtelSubscriber>(
+    queue: &mut VecDeque<Instrumented<Running>>,
+    world: &mut World<S>,
+    at: u64,
+)
+    requires known { AllKnown S.Subscriber.spans world.old queue.old.items }
+    requires whole { HasAll S.Subscriber.is_whole world.old }
+    ensures closed { (handles : _) (ts : _) → AllStand handles ts queue.old.items → (d : _) (lane : _) (guards : _)
+        → Carries S.Subscriber.spans S.Subscriber.hint S.Subscriber.enables S.Subscriber.does S.OtelPart.touches d
+        (drops at ts) (record { world = world.old; lane = lane; handles = handles; guards = guards })
+        (record { world = world.new; lane = lane; handles = handles; guards = guards }) }
+    ensures empty { queue.new.items ≡ [] }
+    ensures whole { HasAll S.Subscriber.is_whole world.new }
+{
+    while let Some(task) = queue.pop_front() {
+        let ended = task.into_inner(world, at);
+        drop(ended);
+    }
+}
