@@ -1,6 +1,8 @@
 -- The numbers and words by which the two formats and the process go.
 use Rattle.std.specs.Prelude.{ℕ, List, Bool, ◌==◌, Option, Some, None, if◌then◌else◌, codes, bytes_eq}
 use Rattle.std.specs.List.{list_all}
+use Rattle.std.specs.declared.io.ErrorKind.{ErrorKind}
+use Rattle.std.specs.declared.io.ErrorKind.TheVariants as error
 use Rattle.convert_base.specs.declared.kind.Kind.{Kind}
 use Rattle.convert_base.specs.declared.kind.Kind.TheVariants as kind
 use Rattle.convert_base.specs.declared.format.Format.{Format}
@@ -31,6 +33,16 @@ status_of (fault.NoJson line) = 2
 status_of (fault.NoRecord line) = 2
 status_of fault.Io = 3
 status_of fault.Memory = 5
+
+-- why a conversion ends where reading or writing gave an error: want of memory stays that
+abbrev pub io_fault : ErrorKind → Fault
+io_fault error.OutOfMemory = fault.Memory
+io_fault _ = fault.Io
+
+-- the same where a text was to be read: bytes that are none are the fault that is given
+abbrev pub text_fault : Fault → ErrorKind → Fault
+text_fault broken error.InvalidData = broken
+text_fault broken kind = io_fault kind
 
 -- an id whose digits are all 0 names no span
 abbrev pub names_none : List ℕ → Bool

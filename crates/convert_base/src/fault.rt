@@ -1,10 +1,11 @@
 //! Why a conversion ends early.
 ghost use Rattle.std.specs.Prelude.{◌≡◌};
-ghost use Rattle.convert_base.specs.Numbers.{status_of};
+ghost use Rattle.std.specs.IoError.{error_kind};
+ghost use Rattle.convert_base.specs.Numbers.{io_fault, status_of, text_fault};
 ghost use Rattle.convert_base.specs.declared.fault.Fault.TheVariants as fault;
 
 use std::alloc::{AllocError, AllocFailed};
-use std::io;
+use std::io::{self, ErrorKind};
 use thiserror::Error;
 
 /// Why a conversion ended early. What was written before it stands.
@@ -45,6 +46,25 @@ impl Fault {
             Fault::Memory => 5,
         }
     }
+
+    /// Why no text came: `broken` where its bytes are no UTF-8.
+    pub fn of_text(error: &io::Error, broken: Fault) -> Fault
+        ensures { result ≡ text_fault broken (error_kind error.now) }
+    {
+        match error.kind() {
+            ErrorKind::InvalidData => broken,
+            kind => Fault::of_kind(kind),
+        }
+    }
+
+    fn of_kind(kind: ErrorKind) -> Fault
+        ensures { result ≡ io_fault kind }
+    {
+        match kind {
+            ErrorKind::OutOfMemory => Fault::Memory,
+            _ => Fault::Io,
+        }
+    }
 }
 
 impl From<AllocError> for Fault {
@@ -64,9 +84,9 @@ impl<T: Drop> From<AllocFailed<T>> for Fault {
 }
 
 impl From<io::Error> for Fault {
-    ghost from_gives = { λ _ f. f ≡ fault.Io };
+    ghost from_gives = { λ error f. f ≡ io_fault (error_kind error) };
 
-    fn from(_: io::Error) -> Fault {
-        Fault::Io
+    fn from(error: io::Error) -> Fault {
+        Fault::of_kind(error.kind())
     }
 }

@@ -1,5 +1,5 @@
 //! A page that needs nothing else: a waterfall of each trace, and what each span has on a click. No text of a record
-//! stands in it but escaped, inside of a `bdi`, and no script runs on it.
+//! stands in it but escaped, in an element inside of a `bdi`, and no script runs on it.
 use crate::duration::duration;
 use crate::record::{Event, Link, Plain, Record, Status};
 use crate::scale::Scale;
@@ -58,7 +58,7 @@ pub fn section(alloc: Global, trace: &Trace) -> Result<String, Fault> {
     let lasts = duration(alloc, end.saturating_sub(start))?;
     let size = trace.size(alloc)?;
     let mut page = format!(in alloc;
-        "<section>\n<h2>Trace <code>{id}</code>, {size}, {lasts}</h2>\n"
+        "<section>\n<h2>Trace <code><bdi>{id}</bdi></code>, {size}, {lasts}</h2>\n"
     )?;
     for row in trace.rows(alloc)? {
         if let Some(record) = trace.records.get(row.place) {

@@ -15,8 +15,9 @@ use crate::otlp::Batch;
 use crate::record::record_of;
 use crate::traces::{Trace, Traces};
 use convert_base::{Fault, Format, width_of};
-use std::env;
+use std::io::{BufRead, BufReader};
 use std::process::ExitCode;
+use std::{env, mem};
 
 fn main(rt: HostRuntime) -> ExitCode {
     match convert(&rt) {
@@ -31,7 +32,7 @@ fn main(rt: HostRuntime) -> ExitCode {
 
 // Converts the whole standard input by the words that are given.
 fn convert(rt: &HostRuntime) -> Result<(), Fault> {
-    let mut words = env::args(rt)?;
+    let mut words = env::args(rt).map_err(|error| Fault::of_text(&error, Fault::Usage))?;
     words.next();
     let word = words.next().ok_or(Fault::Usage)?;
     let format = Format::of(word.as_str()).ok_or(Fault::Usage)?;
@@ -58,20 +59,27 @@ const NO_SERVICE: &str = "unknown_service";
 // The columns of a line where no number is given.
 const WIDTH: usize = 100;
 
-// A line for each batch of records.
+// A line for each batch of records. Those before a fault of the input are written too.
 fn write_otlp(rt: &HostRuntime, service: &str) -> Result<(), Fault> {
     let mut batch = Batch::new(rt.alloc());
+    let read = write_whole_batches(rt, &mut batch, service);
+    write_batch(rt, batch, service)?;
+    read
+}
+
+// Leaves the last records, which make no whole batch, in `batch`.
+fn write_whole_batches(rt: &HostRuntime, batch: &mut Batch, service: &str) -> Result<(), Fault> {
     let mut number = 0u64;
-    for line in rt.lines(rt.alloc()) {
+    for line in BufReader::new(rt.alloc(), rt.reader())?.lines(rt.alloc()) {
         number = number.saturating_add(1);
-        if let Some(record) = record_of(rt.alloc(), line?.as_str(), number)? {
+        if let Some(record) = record_of(rt.alloc(), line, number)? {
             if batch.add(rt.alloc(), record)? {
-                write_batch(rt, batch, service)?;
-                batch = Batch::new(rt.alloc());
+                let whole = mem::replace(batch, Batch::new(rt.alloc()));
+                write_batch(rt, whole, service)?;
             }
         }
     }
-    write_batch(rt, batch, service)
+    Ok(())
 }
 
 fn write_batch(rt: &HostRuntime, batch: Batch, service: &str) -> Result<(), Fault> {
@@ -124,9 +132,9 @@ fn write_html(rt: &HostRuntime) -> Result<(), Fault> {
 fn read_traces(rt: &HostRuntime) -> Result<Vec<Trace>, Fault> {
     let mut traces = Traces::new(rt.alloc());
     let mut number = 0u64;
-    for line in rt.lines(rt.alloc()) {
+    for line in BufReader::new(rt.alloc(), rt.reader())?.lines(rt.alloc()) {
         number = number.saturating_add(1);
-        if let Some(record) = record_of(rt.alloc(), line?.as_str(), number)? {
+        if let Some(record) = record_of(rt.alloc(), line, number)? {
             traces.add(rt.alloc(), record)?;
         }
     }

@@ -3,6 +3,7 @@ use convert_base::{Fault, Kind};
 use serde::{Deserialize, Serialize};
 use serde_json::{Error, Value};
 use std::alloc::Global;
+use std::io;
 
 /// A finished span. Its times are in nanoseconds, its ids lower case hexadecimal.
 #[derive(Drop, Deserialize)]
@@ -55,8 +56,14 @@ pub enum Status {
     Error(String),
 }
 
-/// The record of a line, none where the line is blank, a reply, a refusal or the end.
-pub fn record_of(alloc: Global, text: &str, line: u64) -> Result<Option<Record>, Fault> {
+/// The record of a line that was read, none where it is blank, a reply, a refusal or the end.
+pub fn record_of(
+    alloc: Global,
+    read: io::Result<String>,
+    line: u64,
+) -> Result<Option<Record>, Fault> {
+    let text = read.map_err(|error| Fault::of_text(&error, Fault::NoJson { line }))?;
+    let text = text.as_str();
     if text.trim().is_empty() {
         return Ok(None);
     }

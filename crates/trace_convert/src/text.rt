@@ -38,7 +38,7 @@ pub fn lines(alloc: Global, trace: &Trace, width: usize) -> Result<String, Fault
         end,
         steps: (columns.bar as u64).saturating_mul(8),
     };
-    let id = trace.id.as_str();
+    let id = printable(alloc, trace.id.as_str())?;
     let lasts = duration(alloc, end.saturating_sub(start))?;
     let size = trace.size(alloc)?;
     let mut lines = format!(in alloc; "trace {id}, {size}, {lasts}\n")?;
@@ -124,8 +124,9 @@ fn printable(alloc: Global, text: &str) -> Result<String, Fault> {
 
 fn is_plain(character: char) -> bool {
     let is_turning =
-        matches!(character, '\u{200e}' | '\u{200f}' | '\u{202a}'..='\u{202e}' | '\u{2066}'..='\u{2069}');
-    !character.is_control() && !is_turning
+        matches!(character, '\u{61c}' | '\u{200e}' | '\u{200f}' | '\u{202a}'..='\u{202e}' | '\u{2066}'..='\u{2069}');
+    let is_break = matches!(character, '\u{2028}' | '\u{2029}');
+    !character.is_control() && !is_turning && !is_break
 }
 
 fn push_blanks(text: &mut String, count: usize) -> Result<(), Fault> {
@@ -137,7 +138,8 @@ fn push_blanks(text: &mut String, count: usize) -> Result<(), Fault> {
 
 // The time of a span as a bar, its events as marks on it.
 fn bar_of(alloc: Global, record: &Record, columns: usize, scale: Scale) -> Result<String, Fault> {
-    let from = scale.at(record.start);
+    // A span of no length at the end of its trace has the last eighth.
+    let from = scale.at(record.start).min(scale.steps.saturating_sub(1));
     let to = scale.at(record.end);
     let mut bar = String::new(alloc);
     for column in 0..columns as u64 {
