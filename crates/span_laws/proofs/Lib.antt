@@ -10,6 +10,7 @@ pub mod Histories
 mod Levels
 pub mod Legal
 mod Living
+pub mod MadeRecords
 mod Making
 pub mod MakingLemmas
 mod Numbering
@@ -17,6 +18,7 @@ pub mod Occurrences
 mod OrderOfMaking
 pub mod Orders
 mod Pairs
+mod Parting
 mod Places
 mod Recorded
 mod Starting
