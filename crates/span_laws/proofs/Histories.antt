@@ -45,15 +45,15 @@ started_push h e =
     ∙ ap (fold with_started (started h)) (append-nil (starts_of e)) ∙ fold-append with_started (started h) (e.starts ++ option_to_list e.begins) e.closes
     ∙ ap (λ (o : List ℕ). fold with_started o e.closes) (fold-append with_started (started h) e.starts (option_to_list e.begins))
 
-ops_on : (own : SpanContext) (s : ℕ) (order : List ℕ) (h : History) (e : Effect) → ops_from own s order (h ++ e ∷ []) ≡ ops_from own s order h ++ ops_in own s (fold with_started order (flat_map starts_of h)) e
-ops_on own s order [] e = append-nil (ops_in own s order e)
-ops_on own s order (x ∷ h) e =
-    ap (λ (os : List Stamped). ops_in own s order x ++ os) (ops_on own s (fold with_started order (starts_of x)) h e)
-    ∙ sym (append_assoc (ops_in own s order x) (ops_from own s (fold with_started order (starts_of x)) h) (ops_in own s (fold with_started (fold with_started order (starts_of x)) (flat_map starts_of h)) e))
-    ∙ ap (λ (o : List ℕ). (ops_in own s order x ++ ops_from own s (fold with_started order (starts_of x)) h) ++ ops_in own s o e) (sym (fold-append with_started order (starts_of x) (flat_map starts_of h)))
+pub ops_parts : (own : SpanContext) (s : ℕ) (order : List ℕ) (h rest : History) → ops_from own s order (h ++ rest) ≡ ops_from own s order h ++ ops_from own s (fold with_started order (flat_map starts_of h)) rest
+ops_parts own s order [] rest = refl
+ops_parts own s order (x ∷ h) rest =
+    ap (λ (os : List Stamped). ops_in own s order x ++ os) (ops_parts own s (fold with_started order (starts_of x)) h rest)
+    ∙ sym (append_assoc (ops_in own s order x) (ops_from own s (fold with_started order (starts_of x)) h) (ops_from own s (fold with_started (fold with_started order (starts_of x)) (flat_map starts_of h)) rest))
+    ∙ ap (λ (o : List ℕ). (ops_in own s order x ++ ops_from own s (fold with_started order (starts_of x)) h) ++ ops_from own s o rest) (sym (fold-append with_started order (starts_of x) (flat_map starts_of h)))
 
 pub ops_push : (own : SpanContext) (h : History) (e : Effect) (s : ℕ) → ops_of own (h ++ e ∷ []) s ≡ ops_of own h s ++ ops_in own s (started h) e
-ops_push own h e s = ops_on own s [] h e
+ops_push own h e s = ops_parts own s [] h (e ∷ []) ∙ ap (λ (os : List Stamped). ops_of own h s ++ os) (append-nil (ops_in own s (started h) e))
 
 pub closed_push : (h : History) (e : Effect) (s : ℕ) → closed_at (h ++ e ∷ []) s ≡ (if is_in s e.closes then e.at else closed_at h s)
 closed_push h e s = fold_push (λ at e. if is_in s e.closes then e.at else at) 0 h e
@@ -197,7 +197,7 @@ module _ (setup : Setup) (h : History) (now : IsWhole setup h (tables setup h)) 
   abbrev begun_done : ℕ → SpanContext → List Stamped
   begun_done = begun_by e.at (started h) e.starts (done_in h)
 
-  begun : AreStories setup (first_of t.made) order_before begun_done (guards_of t.guards) e.at (is_open t.handles) (length t.made) (fold (λ r s. with_start s e.at r) t.recording e.starts)
+  pub begun : AreStories setup (first_of t.made) order_before begun_done (guards_of t.guards) e.at (is_open t.handles) (length t.made) (fold (λ r s. with_start s e.at r) t.recording e.starts)
   begun = starts_stories setup (first_of t.made) e.at timed.most (guards_of t.guards) (is_open t.handles) (length t.made) (started h) (done_in h) t.recording e.starts moved step.starts
 
   pub starts_made : AllByRecursion (λ s. s < length t.made) e.starts

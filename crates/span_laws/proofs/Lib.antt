@@ -17,6 +17,7 @@ mod Numbering
 pub mod Occurrences
 mod OrderOfMaking
 pub mod Orders
+pub mod OwnContexts
 mod Pairs
 mod Parting
 mod Places

@@ -70,7 +70,7 @@ made_kept : (ms : List Made) (o : Option Made) (s : ℕ) → s < length ms → m
 made_kept ms None s old = refl
 made_kept ms (Some m) s old = get_push_other ms m no_making s (λ same. absurd (omega (arith, same, old)))
 
-made_stays : (h : History) (t : Tables) (s : ℕ) → s < length t.made → made_of (fold after t h).made s ≡ made_of t.made s
+pub made_stays : (h : History) (t : Tables) (s : ℕ) → s < length t.made → made_of (fold after t h).made s ≡ made_of t.made s
 made_stays [] t s old = refl
 made_stays (e ∷ h) t s old = made_stays h (after t e) s (let longer = made_more t.made e.made in omega (arith, longer, old)) ∙ made_kept t.made e.made s old
 
@@ -117,7 +117,7 @@ IsStepOf setup fore e Known = (request : Request) × Known fore request × IsHis
 abbrev any_request : History → Request → Type 0
 any_request fore request = Unit {0}
 
-legal_step : (setup : Setup) (h : History) → IsHistory setup h → (fore rest : History) (e : Effect) → h ≡ fore ++ e ∷ rest → IsStepOf setup fore e any_request
+pub legal_step : (setup : Setup) (h : History) → IsHistory setup h → (fore rest : History) (e : Effect) → h ≡ fore ++ e ∷ rest → IsStepOf setup fore e any_request
 legal_step setup _ none fore rest e is = absurd (no_item e fore rest is)
 legal_step setup _ (more h request x legal at) fore rest e is = elim (parted e rest h (x ∷ []) fore is) [
   | inl found ↦ legal_step setup h legal fore found.0 e found.1

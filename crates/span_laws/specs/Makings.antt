@@ -1,5 +1,5 @@
 -- What a span is made with, by the request that makes it, and so its record.
-use Rattle.std.specs.Prelude.{◌≡◌, ℕ, ◌∷◌, ◌++◌, length, if◌then◌else◌, Bool, false, Option, Some, None, Ok}
+use Rattle.std.specs.Prelude.{◌≡◌, ℕ, [], ◌∷◌, ◌++◌, length, if◌then◌else◌, Bool, false, Option, Some, None, Ok}
 use Rattle.std.specs.Option.{option_map_or}
 use Rattle.otel_base.specs.declared.context.Context.{Context}
 use Rattle.otel_base.specs.declared.record.Record.{Record}
@@ -20,7 +20,7 @@ use Rattle.span_script.specs.declared.request.Request.{Request}
 use Rattle.span_script.specs.Effects.{admitted, effect_of, lane_in, last_attached, own_context, scope_at}
 use Rattle.span_script.specs.Fields.{Fields, all_values}
 use Rattle.span_script.specs.Setups.{Setup, id_at, span_site}
-use Rattle.span_script.specs.Tables.{Effect, History, Made, Scope, Tables, tables}
+use Rattle.span_script.specs.Tables.{Effect, History, Made, Scope, Tables, own, tables}
 use Rattle.span_laws.specs.Records.{Began, IsRecord, closed_at, ops_of}
 use Rattle.span_laws.specs.Starts.{place_in, started}
 
@@ -81,3 +81,20 @@ pub record IsRecordOf (setup : Setup) (h : History) (s : ℕ) (r : Record) : Typ
   pub request : Request
   pub made : MakesSpan setup h s fore request
   pub told : IsRecord made.by.making made.by.began.update (λ own. ops_of own h s) (place_in (started h) s) (closed_at h s) r
+
+-- the span whose own context a new span is put under: an explicit parent, or without activation the current span
+abbrev pub context_span : Bool → Place → Scope → Option ℕ → Option ℕ
+context_span activation place.Root up current = None
+context_span activation (place.Under handle) up current = own up
+context_span activation place.Contextual up current = if activation then None else current
+
+-- what is put under a span is put under the context of the span's record
+abbrev pub IsUnder : Setup → History → ℕ → Record → Type 0
+IsUnder setup h p r = (s : ℕ) (fore : History) (request : Request) (made : MakesSpan setup h s fore request)
+    → context_span setup.layer.activation made.by.under made.by.up (current_of ((tables setup fore).entries (id_at setup.ids request.lane))) ≡ Some p
+    → made.by.making.parent ≡ record { span = Some r.context }
+
+-- and so what any request sees of a span's own context that starts the span, or finds it started
+abbrev pub SeesOwn : Setup → History → ℕ → Record → Type 0
+SeesOwn setup h p r = (fore rest : History) (e : Effect) (up : Scope) → h ≡ fore ++ e ∷ rest → e.starts ≡ p ∷ []
+    → own_context (tables setup fore).recording e.at (p ∷ up) ≡ record { span = Some r.context }
