@@ -9,7 +9,7 @@ use Rattle.span_script.specs.Setups.{Setup, setup_by}
 use Rattle.span_script.specs.Tables.{Effect, History, made_of, tables}
 use Rattle.span_eager.specs.Early.{answers}
 use Rattle.span_laws.specs.Laws.{IsHistory, occurrences}
-use Rattle.span_laws.specs.Makings.{IsRecordOf, is_making}
+use Rattle.span_laws.specs.Makings.{IsRecordOf, IsUnder, is_making}
 use Rattle.span_laws.specs.Records.{Each}
 use Rattle.trace_base.specs.Spans.{is_in}
 use Rattle.trace_eager.specs.Renamed.{Script}
@@ -44,6 +44,7 @@ pub record TellsSpans (setup : Setup) (requests : List Request) (h : History) (a
   pub legal : IsHistory setup h
   pub admitted : (fore rest : History) (e : Effect) → h ≡ fore ++ e ∷ rest → MakesIfAdmitted setup requests fore e
   pub answered : AnswersEach (HoldsCalls setup requests h) h all
+  pub under : AnswersEach (IsUnder setup h) h all
   pub once : (s : ℕ) → occurrences s (closed_by h) ≤ 1
   -- so far those are closed that were made and that no unspent handle holds, theirs or a descendant's
   pub when_ended : (fore rest : History) (s : ℕ) → h ≡ fore ++ rest
