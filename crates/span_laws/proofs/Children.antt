@@ -1,5 +1,5 @@
 -- A child closes before its parent.
-use Rattle.std.proofs.Common.{◌≡◌, ℕ, zero, suc, ◌<◌, ◌≤◌, ◌==◌, ◌||◌, List, [], ◌∷◌, ◌++◌, length, Bool, true, false, slice_set, Option, None, refl, sym, ap, subst, ◌∙◌, arith, ◌⊎◌, inl, inr, append_assoc}
+use Rattle.std.proofs.Common.{◌≡◌, ℕ, zero, suc, ◌<◌, ◌≤◌, ◌==◌, ◌||◌, List, [], ◌∷◌, ◌++◌, length, Bool, true, false, slice_set, Option, None, refl, sym, ap, subst, ◌∙◌, arith, inl, inr, append_assoc}
 use Rattle.std.proofs.lemmas.List.{append-nil, get_or_push}
 use Rattle.std.proofs.lemmas.List.Sums.{fold_push}
 use Rattle.std.proofs.lemmas.Bool.{cases_eq, eq-eqb, eqb-true, or_right}
@@ -14,26 +14,8 @@ use Rattle.span_laws.proofs.Chaining.{chain_front, in_line, open_above}
 use Rattle.span_laws.proofs.Closing.{AreMine, IsSound, known_open, named, step_stands}
 use Rattle.span_laws.proofs.Histories.{fits, whole}
 use Rattle.span_laws.proofs.Occurrences.{get_push_other, is_in_counted, occurs_append, occurs_cons}
+use Rattle.span_laws.proofs.Parting.{heads, parted, tails}
 use Rattle.span_laws.proofs.Steps.{Names, no_name, another, new_span, Spends, no_spending, one_spent, step_of}
-
--- where a list of two parts holds a span, it stands in one of them
-module _ (p : ℕ) (rest : List ℕ) where
-  abbrev Parted : List ℕ → List ℕ → List ℕ → Type 0
-  Parted xs ys front = ((r : List ℕ) × (xs ≡ front ++ p ∷ r)) ⊎ ((f : List ℕ) × (front ≡ xs ++ f) × (ys ≡ f ++ p ∷ rest))
-
-  heads : (a b : ℕ) (x y : List ℕ) → ◌≡◌ {A = List ℕ} (a ∷ x) (b ∷ y) → a ≡ b
-  heads a b x y e = cc e
-
-  tails : (a b : ℕ) (x y : List ℕ) → ◌≡◌ {A = List ℕ} (a ∷ x) (b ∷ y) → x ≡ y
-  tails a b x y e = cc e
-
-  parted : (xs ys front : List ℕ) → xs ++ ys ≡ front ++ p ∷ rest → Parted xs ys front
-  parted [] ys front is = inr (front, refl, is)
-  parted (x ∷ xs) ys [] is = inl (xs, ap (λ (y : ℕ). y ∷ xs) (heads x p (xs ++ ys) rest is))
-  parted (x ∷ xs) ys (f ∷ front) is = elim (parted xs ys front (tails x f (xs ++ ys) (front ++ p ∷ rest) is)) [
-    | inl found ↦ (let both = ap (λ (y : ℕ). y ∷ xs) (heads x f (xs ++ ys) (front ++ p ∷ rest) is) ∙ ap (λ (l : List ℕ). f ∷ l) found.1 in inl (found.0, both))
-    | inr found ↦ (let both = ap (λ (y : ℕ). y ∷ front) (sym (heads x f (xs ++ ys) (front ++ p ∷ rest) is)) ∙ ap (λ (l : List ℕ). x ∷ l) found.1 in inr (found.0, both, found.2))
-  ]
 
 the_rest : (a b : ℕ) (x y : Scope) → ◌≡◌ {A = Scope} (a ∷ x) (b ∷ y) → x ≡ y
 the_rest a b x y e = cc e
@@ -52,7 +34,7 @@ behind ms x xs s p up mine there is = by_test (x == s) refl there
 before : (ms : List Made) (scope : Scope) (s p : ℕ) (up f rest : List ℕ) → AreMine ms scope → ((q : ℕ) → occurrences q scope ≤ 1) → is_in s scope ≡ true → (made_of ms s).scope ≡ s ∷ p ∷ up → scope ≡ f ++ p ∷ rest → is_in s f ≡ true
 before ms [] s p up f rest mine once there is parts = absurd (cc there)
 before ms (x ∷ xs) s p up [] rest mine once there is parts = absurd (
-    let same : x ≡ p = heads p rest x p xs rest parts in
+    let same : x ≡ p = heads x p xs rest parts in
     let again = behind ms x xs s p up mine there is in
     let counted = is_in_counted p xs in
     let all = occurs_cons p x xs in
@@ -62,11 +44,11 @@ before ms (x ∷ xs) s p up (y ∷ f) rest mine once there is parts =
     by_test (before ms xs s p up f rest mine.1 (λ q. (let all = occurs_cons q x xs in let one = once q in omega (arith, all, one)))) (x == s) refl there
   where
     same : x ≡ y
-    same = heads p rest x y xs (f ++ p ∷ rest) parts
+    same = heads x y xs (f ++ p ∷ rest) parts
 
     by_test : (is_in s xs ≡ true → (made_of ms s).scope ≡ s ∷ p ∷ up → xs ≡ f ++ p ∷ rest → is_in s f ≡ true) → (b : Bool) → (x == s) ≡ b → (b || is_in s xs) ≡ true → is_in s (y ∷ f) ≡ true
     by_test later true here there = ap (λ b. b || is_in s f) (eq-eqb y s (sym same ∙ eqb-true x s here))
-    by_test later false here there = or_right (y == s) (is_in s f) (later there is (tails p rest x y xs (f ++ p ∷ rest) parts))
+    by_test later false here there = or_right (y == s) (is_in s f) (later there is (tails x y xs (f ++ p ∷ rest) parts))
 
 -- each child stands before its parent among what closed
 abbrev pub AreFirst : List Made → List ℕ → Type 0

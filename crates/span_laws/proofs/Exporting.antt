@@ -13,7 +13,7 @@ use Rattle.span_script.specs.Setups.{Setup}
 use Rattle.span_script.specs.Tables.{Effect, Guarded, History, Tables, made_of, records_of, slot_at, tables}
 use Rattle.span_laws.specs.Closes.{is_drop}
 use Rattle.span_laws.specs.Laws.{IsHistory}
-use Rattle.span_laws.specs.Records.{Each, IsRecord, closed_at, ops_of, records}
+use Rattle.span_laws.specs.Records.{Each, closed_at, ops_of, records}
 use Rattle.span_laws.specs.Starts.{place_in, started}
 use Rattle.span_laws.specs.Telling.{TellsAttributes, TellsSpan}
 use Rattle.span_laws.proofs.Histories.{IsClosed, done_in, effect_each, fits, whole}
@@ -32,10 +32,6 @@ as_many_as_close setup h request e legal is =
     let now = whole setup h legal in
     let step = step_of setup (tables setup h) (fits setup h now) request e is in
     each_length _ e.closes (records_of (tables setup h) e) (effect_each setup h now request.at (is_drop request.call) e step.0 step.1)
-
-pub contents : (setup : Setup) (h : History) → IsHistory setup h
-    → Each (λ s r. IsRecord setup (made_of (tables setup h).made s).told (λ own. ops_of own h s) (place_in (started h) s) (closed_at h s) r) (tables setup h).closed (records setup h)
-contents setup h legal = (whole setup h legal).each
 
 -- what is read off each record
 module _ (setup : Setup) (h : History) (legal : IsHistory setup h) where

@@ -23,7 +23,7 @@ use Rattle.span_script.proofs.Recordings.{starts_fold}
 use Rattle.span_script.proofs.Running.{records_push}
 use Rattle.span_laws.specs.Closes.{is_drop}
 use Rattle.span_laws.specs.Laws.{IsHistory, none, more, occurrences}
-use Rattle.span_laws.specs.Records.{IsRecord, Each, records, start_in, ops_in, ops_from, ops_of, closed_at}
+use Rattle.span_laws.specs.Records.{Each, records, start_in, ops_in, ops_from, ops_of, closed_at}
 use Rattle.span_laws.specs.Starts.{with_started, starts_of, at_making, started, place_in}
 use Rattle.span_laws.proofs.Closing.{IsSound, Stands, named, step_stands, none_stands, fit_of}
 use Rattle.span_laws.proofs.Making.{first_of, starts_spare, made_stories}
@@ -33,7 +33,7 @@ use Rattle.span_laws.proofs.Places.{places_stay}
 use Rattle.span_laws.proofs.Recorded.{AreStories, Closed, Closes, begun_by, done_by, turned_by, same_record, starts_stories, ops_stories, closes_stories, before_closes, before_finished}
 use Rattle.span_laws.proofs.Starting.{starts_absent}
 use Rattle.span_laws.proofs.Steps.{IsReached, IsTimed, IsFit, IsStep, step_of}
-use Rattle.span_laws.proofs.Stories.{IsStory, stamp, later_story}
+use Rattle.span_laws.proofs.Stories.{IsEnding, IsStory, stamp, later_story}
 use Rattle.span_laws.proofs.Turning.{guards_of, guards_shut, turns_within}
 use Rattle.span_script.proofs.Openness.{any_counted, pick}
 
@@ -45,15 +45,15 @@ started_push h e =
     ∙ ap (fold with_started (started h)) (append-nil (starts_of e)) ∙ fold-append with_started (started h) (e.starts ++ option_to_list e.begins) e.closes
     ∙ ap (λ (o : List ℕ). fold with_started o e.closes) (fold-append with_started (started h) e.starts (option_to_list e.begins))
 
-ops_on : (own : SpanContext) (s : ℕ) (order : List ℕ) (h : History) (e : Effect) → ops_from own s order (h ++ e ∷ []) ≡ ops_from own s order h ++ ops_in own s (fold with_started order (flat_map starts_of h)) e
-ops_on own s order [] e = append-nil (ops_in own s order e)
-ops_on own s order (x ∷ h) e =
-    ap (λ (os : List Stamped). ops_in own s order x ++ os) (ops_on own s (fold with_started order (starts_of x)) h e)
-    ∙ sym (append_assoc (ops_in own s order x) (ops_from own s (fold with_started order (starts_of x)) h) (ops_in own s (fold with_started (fold with_started order (starts_of x)) (flat_map starts_of h)) e))
-    ∙ ap (λ (o : List ℕ). (ops_in own s order x ++ ops_from own s (fold with_started order (starts_of x)) h) ++ ops_in own s o e) (sym (fold-append with_started order (starts_of x) (flat_map starts_of h)))
+pub ops_parts : (own : SpanContext) (s : ℕ) (order : List ℕ) (h rest : History) → ops_from own s order (h ++ rest) ≡ ops_from own s order h ++ ops_from own s (fold with_started order (flat_map starts_of h)) rest
+ops_parts own s order [] rest = refl
+ops_parts own s order (x ∷ h) rest =
+    ap (λ (os : List Stamped). ops_in own s order x ++ os) (ops_parts own s (fold with_started order (starts_of x)) h rest)
+    ∙ sym (append_assoc (ops_in own s order x) (ops_from own s (fold with_started order (starts_of x)) h) (ops_from own s (fold with_started (fold with_started order (starts_of x)) (flat_map starts_of h)) rest))
+    ∙ ap (λ (o : List ℕ). (ops_in own s order x ++ ops_from own s (fold with_started order (starts_of x)) h) ++ ops_from own s o rest) (sym (fold-append with_started order (starts_of x) (flat_map starts_of h)))
 
 pub ops_push : (own : SpanContext) (h : History) (e : Effect) (s : ℕ) → ops_of own (h ++ e ∷ []) s ≡ ops_of own h s ++ ops_in own s (started h) e
-ops_push own h e s = ops_on own s [] h e
+ops_push own h e s = ops_parts own s [] h (e ∷ []) ∙ ap (λ (os : List Stamped). ops_of own h s ++ os) (append-nil (ops_in own s (started h) e))
 
 pub closed_push : (h : History) (e : Effect) (s : ℕ) → closed_at (h ++ e ∷ []) s ≡ (if is_in s e.closes then e.at else closed_at h s)
 closed_push h e s = fold_push (λ at e. if is_in s e.closes then e.at else at) 0 h e
@@ -109,7 +109,7 @@ not_among hs (id ∷ ids) held s off = ap (λ b. b || is_in s ids) (ne_eqb id s 
 
 -- the record of a closed span
 abbrev pub IsClosed : Setup → List Made → History → ℕ → Record → Type 0
-IsClosed setup ms h s r = IsRecord setup (first_of ms s) (λ own. ops_of own h s) (place_in (started h) s) (closed_at h s) r
+IsClosed setup ms h s r = IsEnding setup (first_of ms s) (λ own. ops_of own h s) (place_in (started h) s) (closed_at h s) r
 
 abbrev pub done_in : History → ℕ → SpanContext → List Stamped
 done_in h s own = ops_of own h s
@@ -197,7 +197,7 @@ module _ (setup : Setup) (h : History) (now : IsWhole setup h (tables setup h)) 
   abbrev begun_done : ℕ → SpanContext → List Stamped
   begun_done = begun_by e.at (started h) e.starts (done_in h)
 
-  begun : AreStories setup (first_of t.made) order_before begun_done (guards_of t.guards) e.at (is_open t.handles) (length t.made) (fold (λ r s. with_start s e.at r) t.recording e.starts)
+  pub begun : AreStories setup (first_of t.made) order_before begun_done (guards_of t.guards) e.at (is_open t.handles) (length t.made) (fold (λ r s. with_start s e.at r) t.recording e.starts)
   begun = starts_stories setup (first_of t.made) e.at timed.most (guards_of t.guards) (is_open t.handles) (length t.made) (started h) (done_in h) t.recording e.starts moved step.starts
 
   pub starts_made : AllByRecursion (λ s. s < length t.made) e.starts
@@ -414,9 +414,9 @@ module _ (setup : Setup) (h : History) (now : IsWhole setup h (tables setup h)) 
   stays_closed s r some c =
       let old = closed_before s some in
       let at_same = closed_push h e s ∙ cond-false {A = ℕ} (is_in s e.closes) e.at (closed_at h s) old.2 in
-      let kept = same_record setup (first_of t.made s) (done_in h s) (done_in h' s) (place_in (started h) s) (place_in (started h') s) (closed_at h s) r (λ own. sym (same_ops s own old.1 (closed_off s some) old.2)) (sym (place_kept s c.started)) c in
-      subst (λ (f : Told). IsRecord setup f (done_in h' s) (place_in (started h') s) (closed_at h' s) r) (sym (first_stays e.made s old.0))
-      (subst (λ (n : ℕ). IsRecord setup (first_of t.made s) (done_in h' s) (place_in (started h') s) n r) (sym at_same) kept)
+      let kept = same_record setup (first_of t.made s) (done_in h s) (done_in h' s) (place_in (started h) s) (place_in (started h') s) (closed_at h s) r (λ own. sym (same_ops s own old.1 (closed_off s some) old.2)) (sym (place_kept s c.ends.started)) c in
+      subst (λ (f : Told). IsEnding setup f (done_in h' s) (place_in (started h') s) (closed_at h' s) r) (sym (first_stays e.made s old.0))
+      (subst (λ (n : ℕ). IsEnding setup (first_of t.made s) (done_in h' s) (place_in (started h') s) n r) (sym at_same) kept)
 
   -- those of the effect
   closes_now : (s : ℕ) (r : Record) → 0 < occurrences s e.closes → Closed setup (first_of ms) e.at timed.most order_in_end (begun_by e.at order e.closes done) s r → IsClosed setup ms h' s r
@@ -424,7 +424,7 @@ module _ (setup : Setup) (h : History) (now : IsWhole setup h (tables setup h)) 
       let counted = is_in_counted s e.closes in
       let inside : is_in s e.closes ≡ true = grind (arith, nat_tests, counted, some) in
       let at_now = closed_push h e s ∙ cond-true {A = ℕ} (is_in s e.closes) e.at (closed_at h s) inside in
-      subst (λ (n : ℕ). IsRecord setup (first_of ms s) (done_in h' s) (place_in (started h') s) n r) (sym at_now)
+      subst (λ (n : ℕ). IsEnding setup (first_of ms s) (done_in h' s) (place_in (started h') s) n r) (sym at_now)
       (same_record setup (first_of ms s) (begun_by e.at order e.closes done s) (done_in h' s) (place_in order_in_end s) (place_in (started h') s) e.at r (done_is s) (ap (λ (o : List ℕ). place_in o s) (sym (started_push h e))) c)
 
   records_now : records setup h' ≡ records setup h ++ closes.records

@@ -10,13 +10,16 @@ pub mod Histories
 mod Levels
 pub mod Legal
 mod Living
+pub mod MadeRecords
 mod Making
 pub mod MakingLemmas
 mod Numbering
 pub mod Occurrences
 mod OrderOfMaking
 pub mod Orders
+pub mod OwnContexts
 mod Pairs
+mod Parting
 mod Places
 mod Recorded
 mod Starting

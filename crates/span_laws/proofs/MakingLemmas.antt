@@ -1,7 +1,7 @@
 -- A span is made exactly by a request for one that is admitted, and as that says.
 use Rattle.std.proofs.Common.{◌≡◌, ℕ, [], ◌∷◌, length, Bool, true, false, cond, Option, Some, None, Ok, Err, refl, sym, ap, subst, ◌∙◌}
 use Rattle.std.specs.Prelude.{is_some, slice_get, ◌==◌, if◌then◌else◌}
-use Rattle.std.specs.Option.{option_map_or}
+use Rattle.std.specs.Option.{option_map_or, option_to_list}
 use Rattle.otel_state.specs.declared.settings.LayerSettings.{LayerSettings}
 use Rattle.otel_state.specs.FirstAttributes.{first_attributes}
 use Rattle.otel_state.specs.SpanFields.{span_update}
@@ -182,16 +182,37 @@ module _ (setup : Setup) (t : Tables) (fit : IsFit setup t) where
       by_read (Ok ds) read = nothing at lane (call.Reload text) _ e read refl refl
       by_read (Err piece) read = absurd (cc read)
 
-  by_request : (request : Request) (e : Effect) → effect_of setup t request ≡ Ok e → Makes request.at request.lane request.call e.made
-  by_request request e is =
+  -- the effect of a request is that of its call
+  call_of : (request : Request) (e : Effect) → effect_of setup t request ≡ Ok e → effect_of_call setup t request.at request.lane request.call ≡ Ok e
+  call_of request e is =
       let by_name = named what.Lane (slice_get setup.ids request.lane) (λ id. effect_of_call setup t request.at request.lane request.call) in
       let passed = unrefused setup t fit (is_bad_moment t.moment request.at) (refusal.BadMoment t.moment request.at) by_name e is in
       let lane = found setup t fit what.Lane (slice_get setup.ids request.lane) (λ id. effect_of_call setup t request.at request.lane request.call) e passed.1 in
-      by_call request.at request.lane request.call e lane.2
+      lane.2
+
+  by_request : (request : Request) (e : Effect) → effect_of setup t request ≡ Ok e → Makes request.at request.lane request.call e.made
+  by_request request e is = by_call request.at request.lane request.call e (call_of request e is)
 
   by_made : (at lane : ℕ) (what_for : Call) (o : Option Made) → Makes at lane what_for o → is_some o ≡ asks_admitted setup t (id_at setup.ids lane) what_for
   by_made at lane what_for None unasked = sym unasked
   by_made at lane what_for (Some m) made = sym made.0
+
+-- what starts before a span is made
+pub starts_before : (setup : Setup) (t : Tables) (fit : IsFit setup t) (request : Request) (e : Effect) (m : Made) → effect_of setup t request ≡ Ok e → e.made ≡ Some m → (by : IsMadeBy setup t request.at request.lane request.call m)
+    → e.starts ≡ option_to_list (above setup.layer.activation (parent_at by.under by.up) (current_of (t.entries (id_at setup.ids request.lane))))
+starts_before setup t fit request e m is made by =
+    let named_call = ap (effect_of_call setup t request.at request.lane) (sym by.asked) ∙ call_of setup t fit request e is in
+    let callsite = found setup t fit what.Site (span_site setup.sites m.site) _ e named_call in
+    let up = found setup t fit what.Handle (scope_at t (id_at setup.ids request.lane) by.under) _ e callsite.2 in
+    let values = found setup t fit what.Field (all_values callsite.0 by.fields) _ e up.2 in
+    let same : up.0 ≡ by.up = cc (sym up.1 ∙ by.parent) in
+    by_gate callsite.0 up.0 values.0 (admitted setup t (id_at setup.ids request.lane) callsite.0) (the_effect setup t fit _ e values.2)
+    ∙ ap (λ (scope : Scope). option_to_list (above setup.layer.activation (parent_at by.under scope) (current_of (t.entries (id_at setup.ids request.lane))))) same
+  where
+    by_gate : (callsite : Callsite) (up : Scope) (values : ValueSet) (b : Bool) → cond b (makes_span setup t request.at request.lane m.site callsite values by.under up) (declines t request.at (id_at setup.ids request.lane)) ≡ e
+        → e.starts ≡ option_to_list (above setup.layer.activation (parent_at by.under up) (current_of (t.entries (id_at setup.ids request.lane))))
+    by_gate callsite up values true is = ap (λ (x : Effect). x.starts) (sym is)
+    by_gate callsite up values false is = (let none : ◌≡◌ {A = Option Made} None (Some m) = ap (λ (x : Effect). x.made) is ∙ made in absurd (cc none))
 
 pub if_admitted : (setup : Setup) (h : History) (request : Request) (e : Effect) → IsHistory setup h → effect_of setup (tables setup h) request ≡ Ok e → is_some e.made ≡ is_making setup (tables setup h) request
 if_admitted setup h request e legal is =

@@ -76,7 +76,7 @@ of_open setup h s legal held =
     ap id_told story.is ∙ told_by story.told.own (place_in (started h) s) story.told.parent story.has_id
 
 pub of_records : (setup : Setup) (h : History) → IsHistory setup h → map id_of (records setup h) ≡ map (place_in (started h)) (tables setup h).closed
-of_records setup h legal = let t = tables setup h in each_equal (IsClosed setup t.made h) id_of (place_in (started h)) (λ s r c. ap (λ (own : SpanContext). own.span) c.own) t.closed (records setup h) (whole setup h legal).each
+of_records setup h legal = let t = tables setup h in each_equal (IsClosed setup t.made h) id_of (place_in (started h)) (λ s r c. ap (λ (own : SpanContext). own.span) c.ends.own) t.closed (records setup h) (whole setup h legal).each
 
 each_placed : (P : ℕ → Record → Type 0) (g : ℕ → ℕ) → ((s : ℕ) (r : Record) → P s r → 0 < g s) → (xs : List ℕ) (rs : List Record) → Each P xs rs → (s : ℕ) → 0 < occurrences s xs → 0 < g s
 each_placed P g some [] [] each s there = absurd (omega (arith, there))
@@ -128,7 +128,7 @@ no_two_alike setup h id legal =
     let t = tables setup h in
     subst (λ (ids : List ℕ). occurrences id ids ≤ 1) (sym (of_records setup h legal))
     (mapped_once (place_in (started h)) t.closed id (λ s. closed_once setup h s legal) (λ s q there same. one_place 1 (started h) s q (omega arith) same
-    (each_placed (IsClosed setup t.made h) (place_in (started h)) (λ s r c. c.started) t.closed (records setup h) (whole setup h legal).each s there)))
+    (each_placed (IsClosed setup t.made h) (place_in (started h)) (λ s r c. c.ends.started) t.closed (records setup h) (whole setup h legal).each s there)))
 
 pub none_zero : (setup : Setup) (h : History) → IsHistory setup h → occurrences 0 (map id_of (records setup h)) ≡ 0
 none_zero setup h legal =
@@ -137,7 +137,7 @@ none_zero setup h legal =
       | inr none ↦ omega (arith, none)
       | inl some ↦ absurd (
           let it = given (place_in (started h)) t.closed 0 some in
-          let placed = each_placed (IsClosed setup t.made h) (place_in (started h)) (λ s r c. c.started) t.closed (records setup h) (whole setup h legal).each it.0 it.1 in
+          let placed = each_placed (IsClosed setup t.made h) (place_in (started h)) (λ s r c. c.ends.started) t.closed (records setup h) (whole setup h legal).each it.0 it.1 in
           let is = it.2 in
           omega (arith, placed, is))
     ])

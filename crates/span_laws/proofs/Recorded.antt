@@ -26,13 +26,13 @@ use Rattle.span_script.specs.Setups.{Setup}
 use Rattle.span_script.specs.Tables.{Made, Done, Effect, with_made}
 use Rattle.span_script.specs.Tables as table
 use Rattle.span_laws.specs.Laws.{occurrences}
-use Rattle.span_laws.specs.Records.{IsRecord, Each, all_ops, start_in}
+use Rattle.span_laws.specs.Records.{Each, all_ops, start_in}
 use Rattle.span_laws.specs.Starts.{with_started, place_in}
 use Rattle.span_laws.proofs.Occurrences.{occurs_cons}
 use Rattle.span_laws.proofs.Pairs.{each_map}
 use Rattle.span_laws.proofs.Places.{present, placed, place_new, place_other, places_stay}
 use Rattle.span_laws.proofs.Starting.{in_started, starts_here, starts_other, starts_not, starts_cons}
-use Rattle.span_laws.proofs.Stories.{IsStory, HasId, stamp, turned, op_story, start_story, record_is, later_story}
+use Rattle.span_laws.proofs.Stories.{IsEnding, IsStory, HasId, stamp, turned, op_story, start_story, record_is, later_story}
 
 -- Each open span has its story, no span above a number is recorded, and so many have started.
 pub record AreStories (setup : Setup) (first : ℕ → Told) (order : List ℕ) (done : ℕ → SpanContext → List Stamped) (opened : ℕ → ℕ) (now : ℕ) (is_known : ℕ → Bool) (n : ℕ) (r : Recording) : Type 0 where
@@ -65,17 +65,19 @@ begun_cons at order id ids done s own =
     append_assoc (done s own) (start_in own at s order (id ∷ [])) (start_in own at s (with_started order id) ids) ∙ ap (λ (xs : List Stamped). done s own ++ xs) (sym (starts_cons own at s order id ids))
 
 -- the same record, told otherwise
-pub same_record : (setup : Setup) (first : Told) (done same : SpanContext → List Stamped) (place there at : ℕ) (r : Record) → ((own : SpanContext) → done own ≡ same own) → place ≡ there → IsRecord setup first done place at r → IsRecord setup first same there at r
+pub same_record : (setup : Setup) (first : Told) (done same : SpanContext → List Stamped) (place there at : ℕ) (r : Record) → ((own : SpanContext) → done own ≡ same own) → place ≡ there → IsEnding setup first done place at r → IsEnding setup first same there at r
 same_record setup first done same place there at r alike is c =
     let all = ap (all_ops c.making c.began.update) (alike r.context) in
     record {
       making = c.making;
       began = c.began;
-      in_order = subst (InOrder c.making.made) all c.in_order;
-      shut = sym (ap (open_by 0) all) ∙ c.shut;
-      is = c.is ∙ ap (λ (xs : List Stamped). content c.making xs at) all;
-      started = subst (λ (p : ℕ). 0 < p) is c.started;
-      own = c.own ∙ ap (λ (xs : List Stamped). recorder_ids place (ids_of (parent_of c.making.parent xs))) all ∙ ap (λ (p : ℕ). recorder_ids p (ids_of (parent_of c.making.parent (all_ops c.making c.began.update (same r.context))))) is;
+      ends = record {
+        in_order = subst (InOrder c.making.made) all c.ends.in_order;
+        shut = sym (ap (open_by 0) all) ∙ c.ends.shut;
+        is = c.ends.is ∙ ap (λ (xs : List Stamped). content c.making xs at) all;
+        started = subst (λ (p : ℕ). 0 < p) is c.ends.started;
+        own = c.ends.own ∙ ap (λ (xs : List Stamped). recorder_ids place (ids_of (parent_of c.making.parent xs))) all ∙ ap (λ (p : ℕ). recorder_ids p (ids_of (parent_of c.making.parent (all_ops c.making c.began.update (same r.context))))) is;
+      };
     }
 
 start_finished : (under : Option Context) (id at : ℕ) (r : Recording) → (started_under under id at r).finished ≡ r.finished
@@ -203,7 +205,7 @@ module _ (setup : Setup) (first : ℕ → Told) (now : ℕ) (most : now ≤ GREA
   -- ---- a close
 
   abbrev pub Closed : List ℕ → (ℕ → SpanContext → List Stamped) → ℕ → Record → Type 0
-  Closed order done s r = IsRecord setup (first s) (done s) (place_in order s) now r
+  Closed order done s r = IsEnding setup (first s) (done s) (place_in order s) now r
 
   pub record Closes (order : List ℕ) (done : ℕ → SpanContext → List Stamped) (opened : ℕ → ℕ) (is_known : ℕ → Bool) (n : ℕ) (r : Recording) (spans : List ℕ) (later : Recording) : Type 0 where
     pub after : AreStories setup first (fold with_started order spans) (begun_by now order spans done) opened now (λ s. is_known s && not (is_in s spans)) n later
@@ -261,7 +263,7 @@ module _ (setup : Setup) (first : ℕ → Told) (now : ℕ) (most : now ≤ GREA
     first_stays order done id spans last c =
         same_record setup (first id) (begun_by now order (id ∷ []) done id) (begun_by now order (id ∷ spans) done id) (place_in (with_started order id) id) (place_in (fold with_started order (id ∷ spans)) id) now last
         (λ own. sym (append-nil (begun_by now order (id ∷ []) done id own)) ∙ ap (λ (xs : List Stamped). begun_by now order (id ∷ []) done id own ++ xs) (sym (starts_not own now id (with_started order id) spans (in_started order id))) ∙ begun_cons now order id spans done id own)
-        (sym (places_stay (with_started order id) spans id c.started)) c
+        (sym (places_stay (with_started order id) spans id c.ends.started)) c
 
     closes_on : (order : List ℕ) (done : ℕ → SpanContext → List Stamped) (is_known : ℕ → Bool) (r : Recording) (id : ℕ) (spans : List ℕ) → One order done is_known r id
         → Closes (with_started order id) (begun_by now order (id ∷ []) done) opened (λ s. is_known s && not (id == s)) n (with_close id now r) spans (fold (λ r s. with_close s now r) (with_close id now r) spans)

@@ -4,6 +4,7 @@ use Rattle.std.specs.Prelude.{if◌then◌else◌, min}
 use Rattle.std.proofs.lemmas.List.Sums.{fold_push}
 use Rattle.otel_base.specs.declared.context.Context.{Context}
 use Rattle.otel_base.specs.declared.context.SpanContext.{SpanContext}
+use Rattle.otel_base.specs.declared.record.Record.{Record}
 use Rattle.otel_base.specs.Ids.{ids_of, ids_or_zeros}
 use Rattle.otel_base.specs.RecorderIds.{recorder_ids}
 use Rattle.otel_state.specs.declared.op.Op.{Op}
@@ -52,6 +53,12 @@ pub record IsStory (setup : Setup) (o : Option Told) (first : Told) (place : ℕ
   pub rest : (own : SpanContext) → IsOwn told.own own → later ≡ done own
   pub has_id : HasId told.own place told.parent
   pub within : told.entries ≤ opened
+
+-- the record of a span that had come to something by its making, whichever that was
+pub record IsEnding (setup : Setup) (first : Told) (done : SpanContext → List Stamped) (place at : ℕ) (r : Record) : Type 0 where
+  pub making : Making
+  pub began : Began setup first.made first making
+  pub ends : IsRecord making began.update done place at r
 
 in_order_push : (made : ℕ) (all : List Stamped) (op : Stamped) → InOrder made all → last_at made all ≤ op.at → op.at ≤ GREATEST → InOrder made (all ++ op ∷ [])
 in_order_push made [] op order later most = (later, most)
@@ -126,7 +133,7 @@ module _ (setup : Setup) (first : Told) where
         }
 
     -- the close of a span that has started and has no open entry
-    record_by : opened ≡ 0 → (own : Option SpanContext) → story.told.own ≡ own → HasId own place story.told.parent → 0 < place → IsRecord setup first done place now (record_of story.told now)
+    record_by : opened ≡ 0 → (own : Option SpanContext) → story.told.own ≡ own → HasId own place story.told.parent → 0 < place → IsEnding setup first done place now (record_of story.told now)
     record_by none None is unplaced some = absurd (omega (arith, unplaced, some))
     record_by none (Some own) is has some =
         let context : (record_of story.told now).context ≡ own = ap ids_or_zeros is in
@@ -135,14 +142,16 @@ module _ (setup : Setup) (first : Told) where
         record {
           making = story.making;
           began = story.began;
-          in_order = subst (InOrder story.making.made) all_is story.in_order;
-          shut = (let entries = entries_is story.told story.making all story.stands in let within = story.within in let same = ap (open_by 0) all_is in omega (arith, entries, within, none, same));
-          is = content_is story.making all story.told now story.stands story.in_order ∙ ap (λ (xs : List Stamped). content story.making xs now) all_is;
-          started = some;
-          own = context ∙ has.0 ∙ ap (λ (c : Context). recorder_ids place (ids_of c)) (parent_is story.told story.making all story.stands ∙ ap (parent_of story.making.parent) all_is);
+          ends = record {
+            in_order = subst (InOrder story.making.made) all_is story.in_order;
+            shut = (let entries = entries_is story.told story.making all story.stands in let within = story.within in let same = ap (open_by 0) all_is in omega (arith, entries, within, none, same));
+            is = content_is story.making all story.told now story.stands story.in_order ∙ ap (λ (xs : List Stamped). content story.making xs now) all_is;
+            started = some;
+            own = context ∙ has.0 ∙ ap (λ (c : Context). recorder_ids place (ids_of c)) (parent_is story.told story.making all story.stands ∙ ap (parent_of story.making.parent) all_is);
+          };
         }
 
-    pub record_is : opened ≡ 0 → 0 < place → IsRecord setup first done place now (record_of story.told now)
+    pub record_is : opened ≡ 0 → 0 < place → IsEnding setup first done place now (record_of story.told now)
     record_is none some = record_by none story.told.own refl story.has_id some
 
     -- time goes on, more entries may be open, and the ops are those told otherwise

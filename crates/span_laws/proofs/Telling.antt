@@ -12,27 +12,28 @@ use Rattle.otel_state.specs.States.{Told, with_all}
 use Rattle.otel_state.specs.Times.{busy_of, last_exit, idle_of}
 use Rattle.otel_state.proofs.AddingUp.{tells_times}
 use Rattle.span_script.specs.Setups.{Setup}
-use Rattle.span_laws.specs.Records.{IsRecord, all_ops}
+use Rattle.span_laws.specs.Records.{all_ops}
 use Rattle.span_laws.specs.Telling.{TellsSpan, TellsAttributes}
+use Rattle.span_laws.proofs.Stories.{IsEnding}
 
 with_all_is : {A : Type 0} (xs ys : List A) → with_all xs ys ≡ xs ++ ys
 with_all_is xs [] = sym (append-nil xs)
 with_all_is xs (y ∷ ys) = refl
 
-module _ (setup : Setup) (first : Told) (done : SpanContext → List Stamped) (place at : ℕ) (r : Record) (rec : IsRecord setup first done place at r) where
+module _ (setup : Setup) (first : Told) (done : SpanContext → List Stamped) (place at : ℕ) (r : Record) (rec : IsEnding setup first done place at r) where
   abbrev all : List Stamped
   all = all_ops rec.making rec.began.update (done r.context)
 
   pub span_told : TellsSpan first.made (last_exit (done r.context)) at r
   span_told = record {
-    start = ap (λ (r : Record). r.start) rec.is ∙ sym (ap (λ (t : Told). t.made) rec.began.is);
-    end = ap (λ (r : Record). r.end) rec.is;
+    start = ap (λ (r : Record). r.start) rec.ends.is ∙ sym (ap (λ (t : Told). t.made) rec.began.is);
+    end = ap (λ (r : Record). r.end) rec.ends.is;
   }
 
   pub times_told : IsTrue setup.layer.inactivity → TellsTimes (was_entered (done r.context)) (last_exit (done r.context)) r
   times_told tracked =
-      let times = tells_times rec.making all at (subst IsTrue (sym rec.began.tracked) tracked) rec.in_order rec.shut in
-      subst (λ (x : Record). TellsTimes (was_entered (done r.context)) (last_exit (done r.context)) x) (sym rec.is) times
+      let times = tells_times rec.making all at (subst IsTrue (sym rec.began.tracked) tracked) rec.ends.in_order rec.ends.shut in
+      subst (λ (x : Record). TellsTimes (was_entered (done r.context)) (last_exit (done r.context)) x) (sym rec.ends.is) times
 
   first_attributes_are : first.attributes ≡ rec.making.first ++ rec.began.update.attributes
   first_attributes_are = ap (λ (t : Told). t.attributes) rec.began.is ∙ with_all_is rec.making.first rec.began.update.attributes
@@ -50,7 +51,7 @@ module _ (setup : Setup) (first : Told) (done : SpanContext → List Stamped) (p
         busy = busy;
         idle = idle;
         told =
-            ap (λ (r : Record). r.attributes) rec.is
+            ap (λ (r : Record). r.attributes) rec.ends.is
             ∙ ap (λ (counting : Bool). rec.making.first ++ attributes_of all ++ closing_count counting (counted_of all) ++ closing_times rec.making.inactivity busy idle) rec.began.counting_is
             ∙ ap (λ (tracked : Bool). rec.making.first ++ attributes_of all ++ count ++ closing_times tracked busy idle) rec.began.tracked
             ∙ regroup rec.making.first rec.began.update.attributes (attributes_of (done r.context)) count closing

@@ -1,7 +1,8 @@
--- What a span is made with, by the request that makes it.
-use Rattle.std.specs.Prelude.{◌≡◌, ℕ, ◌∷◌, length, if◌then◌else◌, Bool, false, Option, Some, None}
+-- What a span is made with, by the request that makes it, and so its record.
+use Rattle.std.specs.Prelude.{◌≡◌, ℕ, [], ◌∷◌, ◌++◌, length, if◌then◌else◌, Bool, false, Option, Some, None, Ok}
 use Rattle.std.specs.Option.{option_map_or}
 use Rattle.otel_base.specs.declared.context.Context.{Context}
+use Rattle.otel_base.specs.declared.record.Record.{Record}
 use Rattle.otel_base.specs.Stack.{empty_context}
 use Rattle.otel_layer.specs.Recording.{with_start}
 use Rattle.otel_layer.specs.Table.{own_or, told_at}
@@ -16,11 +17,12 @@ use Rattle.span_script.specs.declared.request.Call.TheVariants as call
 use Rattle.span_script.specs.declared.request.Place.{Place}
 use Rattle.span_script.specs.declared.request.Place.TheVariants as place
 use Rattle.span_script.specs.declared.request.Request.{Request}
-use Rattle.span_script.specs.Effects.{admitted, lane_in, last_attached, own_context, scope_at}
+use Rattle.span_script.specs.Effects.{admitted, effect_of, lane_in, last_attached, own_context, scope_at}
 use Rattle.span_script.specs.Fields.{Fields, all_values}
 use Rattle.span_script.specs.Setups.{Setup, id_at, span_site}
-use Rattle.span_script.specs.Tables.{Made, Scope, Tables}
-use Rattle.span_laws.specs.Records.{Began}
+use Rattle.span_script.specs.Tables.{Effect, History, Made, Scope, Tables, own, tables}
+use Rattle.span_laws.specs.Records.{Began, IsRecord, closed_at, ops_of}
+use Rattle.span_laws.specs.Starts.{place_in, started}
 
 -- a call asks for a span of a callsite that the directives in force admit, on the lane of an id
 abbrev pub asks_admitted : Setup → Tables → ℕ → Call → Bool
@@ -61,3 +63,38 @@ pub record IsMadeBy (setup : Setup) (t : Tables) (at lane : ℕ) (what_for : Cal
   pub first : making.first ≡ first_attributes callsite (lane_in setup lane) setup.layer
   pub began : Began setup at m.told making
   pub written : began.update ≡ span_update callsite values setup.layer
+
+-- a request behind the front of a history made the span of a number, as it says
+pub record MakesSpan (setup : Setup) (h : History) (s : ℕ) (fore : History) (request : Request) : Type 0 where
+  pub e : Effect
+  pub rest : History
+  pub m : Made
+  pub is : h ≡ fore ++ e ∷ rest
+  pub effect : effect_of setup (tables setup fore) request ≡ Ok e
+  pub made : e.made ≡ Some m
+  pub number : length (tables setup fore).made ≡ s
+  pub by : IsMadeBy setup (tables setup fore) request.at request.lane request.call m
+
+-- The record of a span in a history: it is made with what the request says that made it, and has the span's ops in the history.
+pub record IsRecordOf (setup : Setup) (h : History) (s : ℕ) (r : Record) : Type 0 where
+  pub fore : History
+  pub request : Request
+  pub made : MakesSpan setup h s fore request
+  pub told : IsRecord made.by.making made.by.began.update (λ own. ops_of own h s) (place_in (started h) s) (closed_at h s) r
+
+-- the span whose own context a new span is put under: an explicit parent, or without activation the current span
+abbrev pub context_span : Bool → Place → Scope → Option ℕ → Option ℕ
+context_span activation place.Root up current = None
+context_span activation (place.Under handle) up current = own up
+context_span activation place.Contextual up current = if activation then None else current
+
+-- what is put under a span is put under the context of the span's record
+abbrev pub IsUnder : Setup → History → ℕ → Record → Type 0
+IsUnder setup h p r = (s : ℕ) (fore : History) (request : Request) (made : MakesSpan setup h s fore request)
+    → context_span setup.layer.activation made.by.under made.by.up (current_of ((tables setup fore).entries (id_at setup.ids request.lane))) ≡ Some p
+    → made.by.making.parent ≡ record { span = Some r.context }
+
+-- and so what any request sees of a span's own context that starts the span, or finds it started
+abbrev pub SeesOwn : Setup → History → ℕ → Record → Type 0
+SeesOwn setup h p r = (fore rest : History) (e : Effect) (up : Scope) → h ≡ fore ++ e ∷ rest → e.starts ≡ p ∷ []
+    → own_context (tables setup fore).recording e.at (p ∷ up) ≡ record { span = Some r.context }

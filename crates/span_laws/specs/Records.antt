@@ -65,13 +65,11 @@ pub record Began (setup : Setup) (at : ℕ) (first : Told) (making : Making) : T
 abbrev pub all_ops : Making → Update → List Stamped → List Stamped
 all_ops making update done = record { at = making.made; op = ops.Update update } ∷ done
 
--- A span's record is the content of its making and its ops at a moment, none of its entries being open. Its own ids are
--- those of a recorder for its place among the starts, under its parent.
-pub record IsRecord (setup : Setup) (first : Told) (done : SpanContext → List Stamped) (place at : ℕ) (r : Record) : Type 0 where
-  pub making : Making
-  pub began : Began setup first.made first making
-  pub in_order : InOrder making.made (all_ops making began.update (done r.context))
-  pub shut : open_by 0 (all_ops making began.update (done r.context)) ≡ 0
-  pub is : r ≡ content making (all_ops making began.update (done r.context)) at
+-- A span's record is the content of its making, the making's update and its ops at a moment, none of its entries being open.
+-- Its own ids are those of a recorder for its place among the starts, under its parent.
+pub record IsRecord (making : Making) (update : Update) (done : SpanContext → List Stamped) (place at : ℕ) (r : Record) : Type 0 where
+  pub in_order : InOrder making.made (all_ops making update (done r.context))
+  pub shut : open_by 0 (all_ops making update (done r.context)) ≡ 0
+  pub is : r ≡ content making (all_ops making update (done r.context)) at
   pub started : 0 < place
-  pub own : r.context ≡ recorder_ids place (ids_of (parent_of making.parent (all_ops making began.update (done r.context))))
+  pub own : r.context ≡ recorder_ids place (ids_of (parent_of making.parent (all_ops making update (done r.context))))

@@ -1,16 +1,16 @@
 //! What the records of each history are: one for each closed span, the content of its making and its ops.
-ghost use Rattle.std.specs.Prelude.{◌≡◌, ℕ, length, Ok};
+ghost use Rattle.std.specs.Prelude.{◌≡◌, length, Ok};
 ghost use Rattle.span_script.specs.declared.request.Request.{Request};
 ghost use Rattle.span_script.specs.Effects.{effect_of};
 ghost use Rattle.span_script.specs.Setups.{Setup};
-ghost use Rattle.span_script.specs.Tables.{Effect, History, made_of, records_of, tables};
+ghost use Rattle.span_script.specs.Tables.{Effect, History, records_of, tables};
 ghost use Rattle.span_laws.specs.Laws.{IsHistory};
-ghost use Rattle.span_laws.specs.Records.{Each, IsRecord, closed_at, ops_of, records};
-ghost use Rattle.span_laws.specs.Starts.{place_in, started};
+ghost use Rattle.span_laws.specs.Makings.{IsRecordOf};
+ghost use Rattle.span_laws.specs.Records.{Each, records};
 
-/// The records of a history are as many as its closed spans, and in their order. Each is the content of its span's making
-/// and of the ops that requests did to the span, with no entry open, at the moment of its close; the ids of its start are
-/// those of a recorder for its place among the starts.
+/// The records of a history are as many as its closed spans, and in their order. Each is the content of what the request
+/// says that made its span and of the ops that requests did to it, with no entry open, at the moment of its close; the ids
+/// of its start are those of a recorder for its place among the starts.
 pub fn contents()
     ensures as_many_as_closed { (setup : Setup) (h : History) → IsHistory setup h
         → length (records setup h) ≡ length (tables setup h).closed }
@@ -18,6 +18,5 @@ pub fn contents()
         → effect_of setup (tables setup h) request ≡ Ok e
         → length (records_of (tables setup h) e) ≡ length e.closes }
     ensures contents { (setup : Setup) (h : History) → IsHistory setup h
-        → Each (λ s r. IsRecord setup (made_of (tables setup h).made s).told (λ own. ops_of own h s)
-        (place_in (started h) s) (closed_at h s) r) (tables setup h).closed (records setup h) }
+        → Each (IsRecordOf setup h) (tables setup h).closed (records setup h) }
 {}

@@ -5,7 +5,8 @@ ghost use Rattle.span_script.specs.Effects.{effect_of};
 ghost use Rattle.span_script.specs.Setups.{Setup};
 ghost use Rattle.span_script.specs.Tables.{Effect, History, Made, tables};
 ghost use Rattle.span_laws.specs.Laws.{IsHistory};
-ghost use Rattle.span_laws.specs.Makings.{IsMadeBy, is_making};
+ghost use Rattle.span_laws.specs.Makings.{IsMadeBy, IsUnder, SeesOwn, is_making};
+ghost use Rattle.span_laws.specs.Records.{Each, records};
 
 /// A request makes a span exactly where it asks for one of a callsite that the directives in force admit. What the span is
 /// made with is what the request says: the callsite's name and first attributes, the context of an explicit parent, of the
@@ -16,4 +17,13 @@ pub fn makings()
     ensures told { (setup : Setup) (h : History) (request : Request) (e : Effect) (m : Made) → IsHistory setup h
         → effect_of setup (tables setup h) request ≡ Ok e → e.made ≡ Some m
         → IsMadeBy setup (tables setup h) request.at request.lane request.call m }
+{}
+
+/// Which contexts spans are put under: that of its record, where it is the own context of a span. So is what any request sees
+/// of a span's own context that starts the span, or finds it started.
+pub fn contexts()
+    ensures under { (setup : Setup) (h : History) → IsHistory setup h
+        → Each (IsUnder setup h) (tables setup h).closed (records setup h) }
+    ensures seen { (setup : Setup) (h : History) → IsHistory setup h
+        → Each (SeesOwn setup h) (tables setup h).closed (records setup h) }
 {}

@@ -1,20 +1,23 @@
 -- What a script's answers tell of its spans.
-use Rattle.std.proofs.Common.{◌≡◌, ℕ, ◌≤◌, ◌&&◌, List, [], ◌∷◌, length, Bool, not, Option, Some, Ok, refl, sym, ap, subst, ◌∙◌, inl, inr}
-use Rattle.std.specs.Prelude.{nat_lt}
+use Rattle.std.proofs.Common.{◌≡◌, ℕ, ◌≤◌, ◌&&◌, List, [], ◌∷◌, ◌++◌, length, Bool, not, Option, Some, Ok, refl, sym, ap, subst, ◌∙◌, inl, inr}
+use Rattle.std.specs.Prelude.{nat_lt, slice_get}
 use Rattle.std.proofs.lemmas.Bool.{cases_lt, lt-ltb, le-ltb}
+use Rattle.otel_base.specs.declared.record.Record.{Record}
 use Rattle.span_script.specs.declared.request.Request.{Request}
 use Rattle.span_script.specs.Admission.{opening_read}
 use Rattle.span_script.specs.Effects.{is_open}
 use Rattle.span_script.specs.Outcomes.{history_of, records}
 use Rattle.span_script.specs.Setups.{Setup, setup_by}
-use Rattle.span_script.specs.Tables.{History, no_tables, tables}
+use Rattle.span_script.specs.Tables.{Effect, History, no_tables, tables}
 use Rattle.span_eager.specs.Early.{answers}
 use Rattle.span_laws.specs.Laws.{IsHistory, none, occurrences}
+use Rattle.span_laws.specs.Makings.{IsUnder}
 use Rattle.span_laws.specs.Records.{Each}
 use Rattle.span_laws.proofs.Children.{children_first}
-use Rattle.span_laws.proofs.Exporting.{contents}
 use Rattle.span_laws.proofs.Histories.{closed_once, closed_when_ended, only_made_closed}
+use Rattle.span_laws.proofs.MadeRecords.{IsStepOf, each_known}
 use Rattle.span_laws.proofs.MakingLemmas.{if_admitted}
+use Rattle.span_laws.proofs.OwnContexts.{is_under}
 use Rattle.span_laws.proofs.Legal.{scripts_are_legal}
 use Rattle.trace_base.specs.Spans.{is_in}
 use Rattle.trace_eager.specs.Renamed.{Script, script_from}
@@ -22,8 +25,8 @@ use Rattle.trace_eager.specs.Written.{requests_of}
 use Rattle.trace_pipeline.specs.declared.signal.Signal.TheVariants as signal
 use Rattle.trace_pipeline.specs.Lines.{lines_of}
 use Rattle.trace_pipeline.specs.Report.{output}
-use Rattle.trace_laws.specs.Headline.{AreAnswers, HoldsCalls, TellsSpans, TellsScript}
-use Rattle.trace_laws.specs.Written.{IsOutput, opened_text}
+use Rattle.trace_laws.specs.Headline.{AnswersEach, AreAnswers, HoldsCalls, TellsSpans, TellsScript}
+use Rattle.trace_laws.specs.Written.{IsOutput, first_line, opened_text}
 use Rattle.trace_laws.proofs.FrontsLemmas.{answers_each, closed_is, front_legal, front_step, records_are, replies_are}
 use Rattle.trace_laws.proofs.OutputLemmas.{is_output}
 
@@ -41,13 +44,27 @@ module _ (setup : Setup) (requests : List Request) where
   legal : IsHistory setup h
   legal = scripts_are_legal setup requests
 
+  -- each effect is that of the request at its place, behind a legal front
+  abbrev IsAt : History → Request → Type 0
+  IsAt fore request = slice_get requests (length fore) ≡ Some request
+
+  step_at : (fore rest : History) (e : Effect) → h ≡ fore ++ e ∷ rest → IsStepOf setup fore e IsAt
+  step_at fore rest e is =
+      let step = front_step setup requests (no_tables setup) fore rest e is in
+      (step.0, step.1, front_legal setup requests [] (no_tables setup) refl none fore (e ∷ rest) is, step.2)
+
+  -- what holds of each record holds of it behind its reply
+  each_answer : (P : ℕ → Record → Type 0) → Each P (tables setup h).closed (records setup h) → AnswersEach P h (answers setup requests)
+  each_answer P each = answers_each setup P requests [] (no_tables setup) refl none (subst (λ (ids : List ℕ). Each P ids (records setup h)) (closed_is (no_tables setup) h) each)
+
   pub tells_spans : TellsSpans setup requests h (answers setup requests)
   tells_spans = record {
     legal = legal;
     admitted = λ fore rest e is.
-        let step = front_step setup requests (no_tables setup) fore rest e is in
-        record { request = step.0; place = step.1; effect = step.2; made = if_admitted setup fore step.0 e (front_legal setup requests [] (no_tables setup) refl none fore (e ∷ rest) is) step.2 };
-    answered = answers_each setup (HoldsCalls setup h) requests [] (no_tables setup) refl none (subst (λ (ids : List ℕ). Each (HoldsCalls setup h) ids (records setup h)) (closed_is (no_tables setup) h) (contents setup h legal));
+        let step = step_at fore rest e is in
+        record { request = step.0; place = step.1; effect = step.3; made = if_admitted setup fore step.0 e step.2 step.3 };
+    answered = each_answer (HoldsCalls setup requests h) (each_known setup h legal IsAt step_at);
+    under = each_answer (IsUnder setup h) (is_under setup h legal);
     once = λ s. subst (λ (ids : List ℕ). occurrences s ids ≤ 1) (closed_is (no_tables setup) h) (closed_once setup h s legal);
     when_ended = λ fore rest s is.
         subst (λ (ids : List ℕ). is_in s ids ≡ (nat_lt s (length (tables setup fore).made) && not (is_open (tables setup fore).handles s))) (closed_is (no_tables setup) fore)
@@ -61,7 +78,7 @@ module _ (setup : Setup) (requests : List Request) where
 pub tells_script : (bytes : List ℕ) (script : Script) → script_from 0 (lines_of bytes) ≡ Some script
     → opening_read script.settings.filter script.settings.counting ≡ Ok tt → TellsScript script (output signal.Traces bytes)
 tells_script bytes script is read = record {
-  written = subst (λ (o : Option Script). IsOutput o (output signal.Traces bytes)) is (is_output bytes) ∙ ap (λ r. opened_text r script) read;
+  written = subst (λ (o : Option Script). IsOutput (first_line 0 (lines_of bytes)) o (output signal.Traces bytes)) is (is_output bytes) ∙ ap (λ r. opened_text r script) read;
   outcome = are_answers (setup_by script.settings) (requests_of script.lines);
   spans = tells_spans (setup_by script.settings) (requests_of script.lines);
 }

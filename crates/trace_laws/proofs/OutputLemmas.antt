@@ -1,6 +1,6 @@
 -- What is written for some bytes.
-use Rattle.std.proofs.Common.{◌≡◌, ℕ, ◌+◌, List, [], ◌∷◌, ◌++◌, length, Bool, true, false, Option, Some, None, Ok, Err, refl, ap, ◌∙◌, arith}
-use Rattle.std.specs.Prelude.{if◌then◌else◌, ok_or}
+use Rattle.std.proofs.Common.{◌≡◌, ℕ, ◌+◌, List, [], ◌∷◌, ◌++◌, length, Bool, true, false, Option, Some, None, Ok, Err, suc, refl, ap, subst, ◌∙◌, arith}
+use Rattle.std.specs.Prelude.{if◌then◌else◌, ok_or, slice_index_or}
 use Rattle.span_script.specs.declared.settings.Settings.{Settings}
 use Rattle.span_script.specs.Admission.{OpeningRead, opening_read}
 use Rattle.span_script.specs.Outcomes.{outcome_of}
@@ -15,7 +15,8 @@ use Rattle.trace_pipeline.specs.Lines.{is_blank, lines_of}
 use Rattle.trace_pipeline.specs.Report.{opened, opening, output, report_from, report_on}
 use Rattle.trace_pipeline.specs.SettingsForm.{settings_form}
 use Rattle.trace_pipeline.specs.Spelled.{settings_spelled, spelled}
-use Rattle.trace_laws.specs.Written.{IsOutput, answer_lines, last_line, opened_text, unread_from}
+use Rattle.trace_pipeline.specs.Texts.{refusal_text}
+use Rattle.trace_laws.specs.Written.{IsOutput, first_line, answer_lines, last_line, opened_text, unread_from}
 use Rattle.trace_laws.proofs.AnswersLemmas.{text_is}
 
 by_read : (read : OpeningRead) (settings : Settings) (n : ℕ) (lines : List (List ℕ))
@@ -28,17 +29,20 @@ by_read (Ok read) settings n lines =
     ∙ ap (λ (k : ℕ). answer_lines 0 (numbers_of n lines) (answers setup (requests_of lines)) ++ last_line (numbers_of n lines) outcome.refused (unread_from n lines) outcome.left_open k) many
 by_read (Err unread) settings n lines = refl
 
-by_line : (b : Bool) (o : Option Settings) (n : ℕ) (lines : List (List ℕ)) → IsOutput (script_from (n + 1) lines) (report_from signal.Traces (n + 1) lines).written
-    → IsOutput (if b then script_from (n + 1) lines else script_by (ok_or o BadLine) (n + 1) lines)
+by_line : (b : Bool) (o : Option Settings) (n : ℕ) (lines : List (List ℕ)) → IsOutput (first_line (n + 1) lines) (script_from (n + 1) lines) (report_from signal.Traces (n + 1) lines).written
+    → IsOutput (slice_index_or (if b then numbers_of (n + 1) lines else (n + 1) ∷ numbers_of (n + 1) lines) 0 (n + suc (length lines) + 1))
+    (if b then script_from (n + 1) lines else script_by (ok_or o BadLine) (n + 1) lines)
     (if b then report_from signal.Traces (n + 1) lines else opening (ok_or o BadLine) (λ settings. report_on signal.Traces (setup_by settings) [] (n + 1) 0 lines) (n + 1)).written
-by_line true o n lines rest = rest
-by_line false None n lines rest = (n + 1, refl)
+by_line true o n lines rest =
+    let past : n + 1 + length lines + 1 ≡ n + suc (length lines) + 1 = omega arith in
+    subst (λ (k : ℕ). IsOutput (slice_index_or (numbers_of (n + 1) lines) 0 k) (script_from (n + 1) lines) (report_from signal.Traces (n + 1) lines).written) past rest
+by_line false None n lines rest = refl
 by_line false (Some settings) n lines rest = by_read (opening_read settings.filter settings.counting) settings (n + 1) lines
 
-output_from : (lines : List (List ℕ)) (n : ℕ) → IsOutput (script_from n lines) (report_from signal.Traces n lines).written
+output_from : (lines : List (List ℕ)) (n : ℕ) → IsOutput (first_line n lines) (script_from n lines) (report_from signal.Traces n lines).written
 unfolding settings_spelled
-output_from [] n = (n + 1, refl)
+output_from [] n = ap (λ (k : ℕ). refusal_text k BadLine) (omega arith)
 output_from (text ∷ lines) n = by_line (is_blank text) (spelled (all_of settings_form) text) n lines (output_from lines (n + 1))
 
-pub is_output : (bytes : List ℕ) → IsOutput (script_from 0 (lines_of bytes)) (output signal.Traces bytes)
+pub is_output : (bytes : List ℕ) → IsOutput (first_line 0 (lines_of bytes)) (script_from 0 (lines_of bytes)) (output signal.Traces bytes)
 is_output bytes = output_from (lines_of bytes) 0

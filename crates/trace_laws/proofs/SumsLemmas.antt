@@ -1,8 +1,9 @@
 -- The summary of a made script counts what is written of it.
 use Rattle.std.proofs.Common.{◌≡◌, ℕ, ◌+◌, ◌≤◌, List, [], ◌∷◌, ◌++◌, length, map, Bool, true, Option, Some, None, Ok, Err, refl, sym, ap, ap₂, subst, ◌∙◌, arith, append-nil}
 use Rattle.std.specs.Prelude.{option_and_then, if◌then◌else◌}
-use Rattle.std.specs.List.{sum_by}
+use Rattle.std.specs.List.{range_with_len, sum_by}
 use Rattle.std.proofs.lemmas.List.{length-append}
+use Rattle.std.proofs.lemmas.List.FromFn.{length-range_with_len}
 use Rattle.std.proofs.lemmas.Option.{slice_get_past}
 use Rattle.otel_base.specs.declared.record.Record.{Record}
 use Rattle.span_script.specs.declared.reply.Refusal.{Refusal}
@@ -26,7 +27,7 @@ use Rattle.trace_pipeline.specs.Report.{IsValid, Report, accepts, opened, output
 use Rattle.trace_pipeline.specs.Texts.{end_text}
 use Rattle.trace_pipeline.proofs.MadeLines.{Each, HasLine, made_each, script_lines, settings_read}
 use Rattle.trace_laws.specs.Sums.{Counts, records_in}
-use Rattle.trace_laws.specs.Written.{IsOutput, answer_lines, last_line, opened_text, outcome_text, unread_from}
+use Rattle.trace_laws.specs.Written.{IsOutput, first_line, answer_lines, last_line, opened_text, outcome_text, unread_from}
 use Rattle.trace_laws.proofs.FeedsLemmas.{all_lines, end_line}
 use Rattle.trace_laws.proofs.FrontsLemmas.{records_are}
 use Rattle.trace_laws.proofs.OutputLemmas.{is_output}
@@ -41,12 +42,11 @@ all_spelled : (n : ℕ) (requests : List Request) → Each HasLine requests → 
 all_spelled n [] all = refl
 all_spelled n (r ∷ requests) all = rw (all.0.shown, all.0.spells) (all_spelled (n + 1) requests all.1)
 
-numbers_back : (n : ℕ) (requests : List Request) → Each HasLine requests → length (numbers_of n (map request_line requests)) ≡ length requests
-numbers_back n [] all = refl
-numbers_back n (r ∷ requests) all =
+numbers_are : (n : ℕ) (requests : List Request) → Each HasLine requests → numbers_of n (map request_line requests) ≡ range_with_len (n + 1) (length requests)
+numbers_are n [] all = refl
+numbers_are n (r ∷ requests) all =
     let behind = numbers_of (n + 1) (map request_line requests) in
-    let rest = numbers_back (n + 1) requests all.1 in
-    ap (λ (b : Bool). length (if b then behind else (n + 1) ∷ behind)) all.0.shown ∙ omega (arith, rest)
+    ap (λ (b : Bool). if b then behind else (n + 1) ∷ behind) all.0.shown ∙ ap (λ (numbers : List ℕ). (n + 1) ∷ numbers) (numbers_are (n + 1) requests all.1)
 
 made_from : (n : ℕ) → n ≤ 50000 → script_from 0 (lines_of (made_script n)) ≡ Some (record { settings = made_settings; number = 1; lines = map request_line (made_requests n) })
 made_from n few = ap (script_from 0) (script_lines n few) ∙ rw settings_read refl
@@ -120,35 +120,38 @@ module _ (n : ℕ) (few : n ≤ 50000) (valid : IsValid (made_script n)) (h : Hi
   read = is_opened (opening_read made_settings.filter made_settings.counting) (report_on signal.Traces made_setup [] 1 0 lines) 1
       (sym opening_is ∙ sym (ap (λ ls. accepts ls) (script_lines n few)) ∙ valid.accepted)
 
-  written : output signal.Traces (made_script n) ≡ answer_lines 0 (numbers_of 1 lines) all ++ end_text (open_spans (tables made_setup done)) (length (records made_setup done))
+  abbrev numbers : List ℕ
+  numbers = range_with_len 2 (length all)
+
+  numbered : numbers_of 1 lines ≡ numbers
+  numbered = let answered = answers_many made_setup requests in numbers_are 1 requests each ∙ ap (range_with_len 2) (omega (arith, many, answered))
+
+  written : output signal.Traces (made_script n) ≡ answer_lines 0 numbers all ++ end_text (open_spans (tables made_setup done)) (length (records made_setup done))
   written =
-      subst (λ (o : Option Script). IsOutput o (output signal.Traces (made_script n))) (made_from n few) (is_output (made_script n))
+      subst (λ (o : Option Script). IsOutput (first_line 0 (lines_of (made_script n))) o (output signal.Traces (made_script n))) (made_from n few) (is_output (made_script n))
       ∙ ap (λ (r : OpeningRead). opened_text r script) read
       ∙ ap (λ (rs : List Request). outcome_text (numbers_of 1 lines) (unread_from 1 lines) (answers made_setup rs) (outcome_of made_setup rs)) (requests_back requests each)
       ∙ ap₂ (λ (refused : Option (ℕ × Refusal)) (unread : Option (ℕ × Told)). answer_lines 0 (numbers_of 1 lines) all ++ last_line (numbers_of 1 lines) refused unread (open_spans (tables made_setup done)) (length (records made_setup done)))
       (none_refused made_setup requests done (omega (arith, many))) (all_spelled 1 requests each)
+      ∙ ap (λ (ns : List ℕ). answer_lines 0 ns all ++ end_text (open_spans (tables made_setup done)) (length (records made_setup done))) numbered
 
-  counted : Counts (output signal.Traces (made_script n)) (summary_of made_setup done)
+  counted : Counts (output signal.Traces (made_script n)) all (summary_of made_setup done)
   counted =
       let found : records_in all ≡ records made_setup done = records_are (no_tables made_setup) done in
       let answered = answers_many made_setup requests in
-      let numbered = numbers_back 1 requests each in
       let recorded = ap (λ (rs : List Record). length rs) found in
       record {
-        numbers = numbers_of 1 lines;
-        all = all;
         is = written;
-        one_each = omega (arith, numbered, answered, many);
         requests = sym answered;
         records = sym recorded;
         events = ap (λ (rs : List Record). sum_by events_of rs) (sym found);
         busy = ap (λ (rs : List Record). sum_by busy_of rs) (sym found);
         lines =
-            let apart = all_lines 0 (numbers_of 1 lines) all (end_text (open_spans (tables made_setup done)) (length (records made_setup done))) (omega (arith, numbered, answered, many)) in
+            let apart = all_lines 0 numbers all (end_text (open_spans (tables made_setup done)) (length (records made_setup done))) (length-range_with_len 2 (length all)) in
             let last = end_line (open_spans (tables made_setup done)) (length (records made_setup done)) in
             let whole = ap (λ (text : List ℕ). length (lines_of text)) written in
             omega (arith, answered, recorded, apart, last, whole);
       }
 
-  pub made_counts : Counts (output signal.Traces (made_script n)) (summary_of made_setup h)
-  made_counts = subst (λ (x : History). Counts (output signal.Traces (made_script n)) (summary_of made_setup x)) (sym same) counted
+  pub made_counts : Counts (output signal.Traces (made_script n)) all (summary_of made_setup h)
+  made_counts = subst (λ (x : History). Counts (output signal.Traces (made_script n)) all (summary_of made_setup x)) (sym same) counted

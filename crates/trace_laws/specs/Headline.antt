@@ -9,9 +9,8 @@ use Rattle.span_script.specs.Setups.{Setup, setup_by}
 use Rattle.span_script.specs.Tables.{Effect, History, made_of, tables}
 use Rattle.span_eager.specs.Early.{answers}
 use Rattle.span_laws.specs.Laws.{IsHistory, occurrences}
-use Rattle.span_laws.specs.Makings.{is_making}
-use Rattle.span_laws.specs.Records.{Each, IsRecord, closed_at, ops_of}
-use Rattle.span_laws.specs.Starts.{place_in, started}
+use Rattle.span_laws.specs.Makings.{IsRecordOf, IsUnder, is_making}
+use Rattle.span_laws.specs.Records.{Each}
 use Rattle.trace_base.specs.Spans.{is_in}
 use Rattle.trace_eager.specs.Renamed.{Script}
 use Rattle.trace_eager.specs.Written.{requests_of}
@@ -21,9 +20,9 @@ use Rattle.trace_laws.specs.Written.{script_text}
 abbrev pub closed_by : History → List ℕ
 closed_by h = flat_map (λ e. e.closes) h
 
--- the record of a span holds exactly that span's calls, in order
-abbrev pub HoldsCalls : Setup → History → ℕ → Record → Type 0
-HoldsCalls setup h s r = IsRecord setup (made_of (tables setup h).made s).told (λ own. ops_of own h s) (place_in (started h) s) (closed_at h s) r
+-- the record of a span is made with what the request at its place says, and holds exactly that span's calls, in order
+abbrev pub HoldsCalls : Setup → List Request → History → ℕ → Record → Type 0
+HoldsCalls setup requests h s r = (of : IsRecordOf setup h s r) × (slice_get requests (length of.fore) ≡ Some of.request)
 
 -- each answer is the reply to its request and the records of the spans that the request closed
 abbrev pub AnswersEach : (ℕ → Record → Type 0) → History → List (Reply × List Record) → Type 0
@@ -44,7 +43,8 @@ pub record MakesIfAdmitted (setup : Setup) (requests : List Request) (h : Histor
 pub record TellsSpans (setup : Setup) (requests : List Request) (h : History) (all : List (Reply × List Record)) : Type 0 where
   pub legal : IsHistory setup h
   pub admitted : (fore rest : History) (e : Effect) → h ≡ fore ++ e ∷ rest → MakesIfAdmitted setup requests fore e
-  pub answered : AnswersEach (HoldsCalls setup h) h all
+  pub answered : AnswersEach (HoldsCalls setup requests h) h all
+  pub under : AnswersEach (IsUnder setup h) h all
   pub once : (s : ℕ) → occurrences s (closed_by h) ≤ 1
   -- so far those are closed that were made and that no unspent handle holds, theirs or a descendant's
   pub when_ended : (fore rest : History) (s : ℕ) → h ≡ fore ++ rest

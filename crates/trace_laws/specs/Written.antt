@@ -58,7 +58,11 @@ abbrev pub opened_text : OpeningRead → Script → List ℕ
 opened_text (Ok read) script = script_text script
 opened_text (Err unread) script = refusal_text script.number (told.Directive unread.0 unread.1)
 
--- what is written: without settings, whose line is missing or spells none, a refusal line alone
-abbrev pub IsOutput : Option Script → List ℕ → Type 0
-IsOutput None text = (number : ℕ) × (text ≡ refusal_text number told.BadLine)
-IsOutput (Some script) text = text ≡ opened_text (opening_read script.settings.filter script.settings.counting) script
+-- the number of the first line that isn't blank, else of the one past the last, so many lines having come before
+abbrev pub first_line : ℕ → List (List ℕ) → ℕ
+first_line n lines = slice_index_or (numbers_of n lines) 0 (n + length lines + 1)
+
+-- what is written: without settings, whose line of a number is missing or spells none, the refusal of that line alone
+abbrev pub IsOutput : ℕ → Option Script → List ℕ → Type 0
+IsOutput number None text = text ≡ refusal_text number told.BadLine
+IsOutput number (Some script) text = text ≡ opened_text (opening_read script.settings.filter script.settings.counting) script

@@ -2,10 +2,11 @@
 ghost use Rattle.std.specs.Prelude.{◌≡◌, ◌≤◌, List, ℕ, [], Ok, Some};
 ghost use Rattle.span_script.specs.Admission.{opening_read};
 ghost use Rattle.span_script.specs.Tables.{History};
+ghost use Rattle.span_eager.specs.Early.{answers};
 ghost use Rattle.trace_eager.specs.Renamed.{Script, script_from};
 ghost use Rattle.trace_laws.specs.Headline.{TellsScript};
 ghost use Rattle.trace_laws.specs.Sums.{Counts};
-ghost use Rattle.trace_laws.specs.Written.{IsOutput};
+ghost use Rattle.trace_laws.specs.Written.{IsOutput, first_line};
 ghost use Rattle.trace_pipeline.specs.Lines.{lines_of};
 ghost use Rattle.trace_pipeline.specs.Generated.{made_requests, made_script, made_setup};
 ghost use Rattle.trace_pipeline.specs.Replay.{replayed, summary_of};
@@ -14,9 +15,9 @@ ghost use Rattle.trace_pipeline.specs.declared.generated.TheConstants.{MOST_ROUN
 ghost use Rattle.trace_pipeline.specs.declared.signal.Signal.TheVariants as signal;
 
 /// What is written for some bytes: where their settings are read, the lines of the outcome of their requests, and behind
-/// them the refusal line of the first line that is refused, or the end line; else a refusal line alone.
+/// them the refusal line of the first line that is refused, or the end line; else the refusal of the settings line alone.
 pub fn outputs()
-    ensures { (bytes : List ℕ) → IsOutput (script_from 0 (lines_of bytes)) (output signal.Traces bytes) }
+    ensures { (bytes : List ℕ) → IsOutput (first_line 0 (lines_of bytes)) (script_from 0 (lines_of bytes)) (output signal.Traces bytes) }
 {}
 
 /// So for each request its reply is written and then the records of the spans that it closed; every span is recorded once,
@@ -27,10 +28,10 @@ pub fn headline()
         → opening_read script.settings.filter script.settings.counting ≡ Ok tt → TellsScript script (output signal.Traces bytes) }
 {}
 
-/// The line of `make` counts what the script that it makes writes: its requests, its lines and its records, with their
-/// events and busy times; the open spans are those that its end line tells.
+/// The line of `make` counts what the script that it makes writes, the answers to its requests and the end line: the lines,
+/// the requests and the records, with their events and busy times; the open spans are those that the end line tells.
 pub fn sums()
     ensures { (rounds : ℕ) (h : History) → rounds ≤ MOST_ROUNDS → IsValid (made_script rounds)
         → replayed made_setup [] (made_requests rounds) ≡ Some h
-        → Counts (output signal.Traces (made_script rounds)) (summary_of made_setup h) }
+        → Counts (output signal.Traces (made_script rounds)) (answers made_setup (made_requests rounds)) (summary_of made_setup h) }
 {}

@@ -84,7 +84,8 @@ Completes answers status bytes before now =
     AreValid answers bytes → IsQuiet before.read_faults now.read_faults → IsQuiet before.write_faults now.write_faults
     → (status ≡ ends.Ok) ⊎ (status ≡ ends.Memory)
 
--- A refusal is told at a whole line of what was read, within the longest input, or where the source's end was met.
+-- A refusal is told at a whole line of what was read, within the longest input, or where the source's end was met. A source that
+-- doesn't tell its bytes ties nothing to what was read, so of such a one this says nothing.
 abbrev pub IsRefusedAt : Answering → Status → Streams → Streams → Type 0
 IsRefusedAt answers status before now = status ≡ ends.Refused
     → (read : List ℕ) × Takes before.left now.left read
