@@ -7,6 +7,7 @@ ghost use Rattle.batch_lines.specs.Texts.{TellsAll};
 
 use crate::text::batches_text;
 use otel_base::memory::Memory;
+use otel_base::record::Record;
 use std::alloc::Global;
 use std::sync::Wait;
 use std::thread::Threads;
@@ -29,10 +30,10 @@ pub fn batch_answer<H: Threads + Wait + Sync, T: Turnstile + Sync>(
     ensures refused { IfOk result (λ answer.
         accepts_within (Some MOST_LANES) (lines_of bytes.now) ≡ not answer.refused) }
 {
-    match follow_lines(alloc, Some(MOST_LANES), bytes)?.end()? {
+    match follow_lines::<Record>(alloc, Some(MOST_LANES), bytes)?.end()? {
         Ok(finished) => {
             let FinishedSpans {
-                records,
+                spans,
                 lanes,
                 lane_count,
                 open_spans,
@@ -42,7 +43,7 @@ pub fn batch_answer<H: Threads + Wait + Sync, T: Turnstile + Sync>(
                 alloc,
                 turns,
                 size,
-                records,
+                spans,
                 lanes.as_slice(),
                 lane_count,
                 open_spans,

@@ -6,7 +6,7 @@ use otel_base::memory::Memory;
 use std::alloc::Global;
 use trace_batch::{Finished, Item, Sent};
 
-/// Stands for a record: its text is a number.
+/// Stands for a record: its text is its number, the lane and the place.
 #[derive(Drop)]
 pub struct Number {
     /// The number.
@@ -14,18 +14,19 @@ pub struct Number {
 }
 
 impl Finished for Number {
-    ghost use Rattle.std.specs.Prelude.{decimal};
+    ghost use Rattle.std.specs.Prelude.{◌++◌, codes, decimal};
 
-    ghost text = { λ finished lane place. decimal finished.number };
+    ghost text = { λ finished lane place.
+        decimal finished.number ++ codes " " ++ decimal lane ++ codes " " ++ decimal place };
 
-    fn make_text(&self, alloc: Global, _lane: u64, _place: u64) -> Result<Items<u8>, Memory> {
-        Ok(Items::from(format!(in alloc; "{}", self.number)?.into_bytes()))
+    fn make_text(&self, alloc: Global, lane: u64, place: u64) -> Result<Items<u8>, Memory> {
+        Ok(Items::from(format!(in alloc; "{} {lane} {place}", self.number)?.into_bytes()))
     }
 }
 
-// The number of an item.
+// The number of an item, another for each of the first thousand of a lane.
 fn number_of(lane: u64, place: u64) -> u64 {
-    place % 1000 + lane % 1000
+    lane.wrapping_mul(1000).wrapping_add(place)
 }
 
 // So many items of a lane.
@@ -66,7 +67,8 @@ pub fn is_merge(alloc: Global, sent: &[Sent], counts: &[u64]) -> Result<bool, Me
         if lane >= next.len() || next[lane] != one.place {
             return Ok(false);
         }
-        let text = format!(in alloc; "{}", number_of(one.lane, one.place))?;
+        let number = number_of(one.lane, one.place);
+        let text = format!(in alloc; "{number} {} {}", one.lane, one.place)?;
         if one.text.as_slice() != text.as_bytes() {
             return Ok(false);
         }

@@ -10,6 +10,7 @@ pub mod item;
 mod queue;
 pub mod relay;
 mod sender;
+mod start;
 mod writer;
 
 pub use item::{Finished, Item, Sent};

@@ -1,23 +1,22 @@
 //! How the senders are started, and how the writer serves them.
 ghost use Rattle.std.specs.Prelude.{◌≡◌, ◌<◌, ◌≤◌, ◌+◌, ◌∷◌, ◌++◌, ℕ, [], false, All, length, get_or, map, drop};
-ghost use Rattle.std.specs.Thread.{IsSync};
 ghost use Rattle.crossbeam_queue.specs.Passes.{view, IsPassOf};
 ghost use Rattle.trace_batch.specs.Merges.{sent_of};
-ghost use Rattle.trace_batch.specs.Rule.{sender, Told, lanes_of};
+ghost use Rattle.trace_batch.specs.Rule.{Told, lanes_of};
 ghost use Rattle.trace_batch.specs.Sending.{Sends};
 ghost use Rattle.trace_batch.specs.Serving.{Serving, Opens};
 
 use crate::item::{Finished, Item, Sent, sent_of};
 use crate::queue::{End, Next, Queue, QueuePass, Take};
-use crate::sender::{Progress, SenderEnd, send};
-use core::thread::Stack;
+use crate::sender::{Progress, SenderEnd};
+use crate::start::{end_of, stack_of, start};
 use otel_base::list::Items;
 use otel_base::memory::Memory;
 use std::alloc::Global;
 use std::sync::Wait;
 use std::sync::atomic::Ordering;
 use std::thread;
-use std::thread::{Promise, Scope, Threads};
+use std::thread::{Scope, Threads};
 use turnstile::Turnstile;
 
 /// How far the writer is.
@@ -31,23 +30,6 @@ pub struct Writer {
     pub late: Items<Sent>,
     /// Whether it or a sender found no memory.
     pub lacks_memory: bool,
-}
-
-/// What the sender of a lane promises.
-#[derive(Clone, Copy)]
-pub struct SenderPromise<'a, F> {
-    /// The queue that it puts into.
-    pub queue: &'a Queue,
-    /// The items of its lane.
-    pub list: &'a [Item<F>],
-    /// Its lane.
-    pub lane: u64,
-}
-
-impl<'a, F: Finished> Promise<SenderEnd> for SenderPromise<'a, F> {
-    ghost use Rattle.trace_batch.specs.Sending.{Sends};
-
-    ghost kept_by = { λ p r. Sends F.text p.queue.now p.lane p.list.now r };
 }
 
 // Keeps what was taken out, where there is memory for it.
@@ -170,14 +152,6 @@ fn settle<F: Finished>(
     serve_rest(alloc, rest, &mut writer.late, &mut writer.lacks_memory);
 }
 
-// The stack of a lane's sender: of the size that is given for it, else of the usual one.
-fn stack_of(stack_sizes: &[usize], lane: usize) -> Stack {
-    match stack_sizes.get(lane) {
-        Some(size) => Stack::new().stack_size(*size),
-        None => Stack::new(),
-    }
-}
-
 /// Starts the senders of the lanes from one on, takes out what they put in, and takes in what they leave.
 pub(crate) fn serve<'s, E, R: Threads + Wait + Sync, F: Finished + Sync, T: Turnstile + Sync>(
     scope: &'s Scope<'s, E>,
@@ -203,57 +177,31 @@ pub(crate) fn serve<'s, E, R: Threads + Wait + Sync, F: Finished + Sync, T: Turn
         return;
     }
     let list = lists[lane].as_slice();
-    let number = lane as u64;
     let pass = queue.another::<Next>(&mut writer.pass);
-    let promise = SenderPromise {
+    let stack = stack_of(stack_sizes, lane);
+    let started = start(
+        scope,
+        rt,
+        alloc,
         queue,
         list,
-        lane: number,
-    };
-    let started = stack_of(stack_sizes, lane).spawn_scoped_with(
-        scope,
-        promise,
-        move || -> SenderEnd
-            requires queue { IsPassOf queue.now pass × (view pass ≡ sender number []) }
-            requires own { All (λ i. i.lane ≡ number) list.now }
-            ensures { Sends F.text queue.entry.now number list.entry.now result }
-        { send(rt, alloc, queue, list, number, progress, turns, pass) },
+        lane as u64,
+        stack,
+        progress,
+        turns,
+        pass,
     );
-    match started {
-        Ok(handle) => {
-            serve(
-                scope,
-                rt,
-                alloc,
-                queue,
-                lists,
-                lane + 1,
-                stack_sizes,
-                progress,
-                turns,
-                writer,
-            );
-            let ended = handle.join(rt);
-            settle(alloc, queue, lists, lane, ended, writer);
-        }
-        Err(refused) => {
-            // The closure came back with the pass in it. It is called for the pass alone: it would wait for ever for
-            // room in a queue that nobody empties.
-            progress.refused.store(number, Ordering::SeqCst);
-            let ended = (refused.value)();
-            serve(
-                scope,
-                rt,
-                alloc,
-                queue,
-                lists,
-                lane + 1,
-                stack_sizes,
-                progress,
-                turns,
-                writer,
-            );
-            settle(alloc, queue, lists, lane, ended, writer);
-        }
-    }
+    serve(
+        scope,
+        rt,
+        alloc,
+        queue,
+        lists,
+        lane + 1,
+        stack_sizes,
+        progress,
+        turns,
+        writer,
+    );
+    settle(alloc, queue, lists, lane, end_of(rt, started), writer);
 }

@@ -1,7 +1,7 @@
 -- One line more is followed, and the lines end.
 use Rattle.std.proofs.Common.{◌≡◌, ℕ, List, [], ◌∷◌, ◌++◌, refl, sym, ap, subst, ◌∙◌, append_assoc, ◌+◌, length, map, inl, inr}
 use Rattle.std.specs.Prelude.{Bool, Option, Some, None, Result, Ok, Err, OnOk, true, false}
-use Rattle.std.proofs.lemmas.List.{append-nil}
+use Rattle.std.proofs.lemmas.List.{append-nil, map-append}
 use Rattle.std.proofs.lemmas.List.Folds.{list_all-append}
 use Rattle.otel_base.specs.declared.record.Record.{Record}
 use Rattle.span_script.specs.Setups.{Setup}
@@ -50,42 +50,42 @@ stays_stopped most lines more refused s = record {
 }
 
 -- a blank line
-pub blank_on : (most : Option ℕ) (at : Stage) (lines : List (List ℕ)) (count next : ℕ) (finished : FinishedSpans) (line : List ℕ)
-    → StandsAt most at lines count finished → next ≡ count + 1 → is_blank line ≡ true → StandsAt most at (lines ++ line ∷ []) next finished
-blank_on most stage.Opening lines count next finished line a counted is = record {
+pub blank_on : {K : Type 0} (of : Record → K) (most : Option ℕ) (at : Stage) (lines : List (List ℕ)) (count next : ℕ) (finished : FinishedSpans K) (line : List ℕ)
+    → StandsAt of most at lines count finished → next ≡ count + 1 → is_blank line ≡ true → StandsAt of most at (lines ++ line ∷ []) next finished
+blank_on of most stage.Opening lines count next finished line a counted is = record {
   blank = all_blank lines line a.blank is;
-  no_records = a.no_records;
+  no_spans = a.no_spans;
   no_lanes = a.no_lanes;
   script_is = λ more. on_line most lines more line _ (a.script_is (line ∷ more) ∙ rw (is, counted) refl);
 }
-blank_on most (stage.Running pipeline) lines count next finished line a counted is = record {
+blank_on of most (stage.Running pipeline) lines count next finished line a counted is = record {
   history = a.history;
   some = some_before lines (line ∷ []) a.some;
   stands = a.stands;
   taken = a.taken;
-  records_are = a.records_are;
+  spans_are = a.spans_are;
   lanes_are = a.lanes_are;
   script_is = λ more. on_line most lines more line _ (a.script_is (line ∷ more) ∙ rw (is, counted) refl);
 }
-blank_on most (stage.Refused refused) lines count next finished line a counted is = stays_stopped most lines (line ∷ []) refused a
+blank_on of most (stage.Refused refused) lines count next finished line a counted is = stays_stopped most lines (line ∷ []) refused a
 
 -- the settings line
-pub opened_on : (most : Option ℕ) (lines : List (List ℕ)) (count next : ℕ) (old new : FinishedSpans) (line : List ℕ) (opened : Opened)
+pub opened_on : {K : Type 0} (of : Record → K) (most : Option ℕ) (lines : List (List ℕ)) (count next : ℕ) (old new : FinishedSpans K) (line : List ℕ) (opened : Opened)
     → IsOpening most lines count old → next ≡ count + 1 → is_blank line ≡ false → Opens most line opened
-    → new.records.items ≡ old.records.items → new.lanes.items ≡ old.lanes.items → new.lane_count ≡ opened.lane_count
-    → IsRunning most (lines ++ line ∷ []) next opened.pipeline new
-opened_on most lines count next old new line opened o counted is opens records lanes number = record {
+    → new.spans.items ≡ old.spans.items → new.lanes.items ≡ old.lanes.items → new.lane_count ≡ opened.lane_count
+    → IsRunning of most (lines ++ line ∷ []) next opened.pipeline new
+opened_on of most lines count next old new line opened o counted is opens spans lanes number = record {
   history = [];
   some = one_not_blank lines line o.blank is;
   stands = opens.stands;
   taken = opens.records;
-  records_are = records ∙ o.no_records;
+  spans_are = spans ∙ o.no_spans;
   lanes_are = number ∙ opens.lanes;
   script_is = λ more. on_line most lines more line _ (o.script_is (line ∷ more) ∙ rw (is, opens.setup, counted, lanes, o.no_lanes) refl);
 }
 
 -- a settings line that is refused
-pub unopened_on : (most : Option ℕ) (lines : List (List ℕ)) (count next : ℕ) (finished : FinishedSpans) (line : List ℕ) (why : Told)
+pub unopened_on : {K : Type 0} (most : Option ℕ) (lines : List (List ℕ)) (count next : ℕ) (finished : FinishedSpans K) (line : List ℕ) (why : Told)
     → IsOpening most lines count finished → next ≡ count + 1 → is_blank line ≡ false → setup_of_line most line ≡ Err why → IsTold why
     → IsStopped most (lines ++ line ∷ []) (record { line = next; told = why })
 unopened_on most lines count next finished line why o counted is refused told = record {
@@ -95,10 +95,10 @@ unopened_on most lines count next finished line why o counted is refused told = 
 }
 
 -- a request line that is refused
-pub refused_on : (most : Option ℕ) (lines : List (List ℕ)) (count next : ℕ) (kept : State) (finished : FinishedSpans) (line : List ℕ) (why : Told)
-    (r : IsRunning most lines count kept finished) → next ≡ count + 1 → is_blank line ≡ false → effect_of_line kept.setup (tables kept.setup r.history) line ≡ Err why → IsTold why
+pub refused_on : {K : Type 0} (of : Record → K) (most : Option ℕ) (lines : List (List ℕ)) (count next : ℕ) (kept : State) (finished : FinishedSpans K) (line : List ℕ) (why : Told)
+    (r : IsRunning of most lines count kept finished) → next ≡ count + 1 → is_blank line ≡ false → effect_of_line kept.setup (tables kept.setup r.history) line ≡ Err why → IsTold why
     → IsStopped most (lines ++ line ∷ []) (record { line = next; told = why })
-refused_on most lines count next kept finished line why r counted is none told = record {
+refused_on of most lines count next kept finished line why r counted is none told = record {
   some = some_before lines (line ∷ []) r.some;
   is_told = told;
   script_is = λ more. on_line most lines more line _ (r.script_is (line ∷ more) ∙ rw (is, none, counted) refl);
@@ -157,26 +157,26 @@ pub stands_beside : (old new : State) (t : Tables) → without_taken new ≡ wit
 stands_beside old new t same stands = back new t (subst (λ (k : State). StandsFor k t) (sym same) (beside old t stands))
 
 -- a request that is answered
-pub answered_on : (most : Option ℕ) (lines : List (List ℕ)) (count next : ℕ) (old mid new : State) (before after : FinishedSpans) (line : List ℕ) (answered : Answered)
-    (r : IsRunning most lines count old before) → next ≡ count + 1 → is_blank line ≡ false → Answers line r.history old mid answered
+pub answered_on : {K : Type 0} (of : Record → K) (most : Option ℕ) (lines : List (List ℕ)) (count next : ℕ) (old mid new : State) (before after : FinishedSpans K) (line : List ℕ) (answered : Answered)
+    (r : IsRunning of most lines count old before) → next ≡ count + 1 → is_blank line ≡ false → Answers line r.history old mid answered
     → without_taken new ≡ without_taken mid → new.recording.finished ≡ []
-    → after.records.items ≡ before.records.items ++ mid.recording.finished → after.lanes.items ≡ before.lanes.items ++ map (λ (x : Record). answered.lane) mid.recording.finished
-    → after.lane_count ≡ before.lane_count → IsRunning most (lines ++ line ∷ []) next new after
-answered_on most lines count next old mid new before after line answered r counted is a same taken records_are lanes_are number =
+    → after.spans.items ≡ before.spans.items ++ map of mid.recording.finished → after.lanes.items ≡ before.lanes.items ++ map (λ (x : Record). answered.lane) mid.recording.finished
+    → after.lane_count ≡ before.lane_count → IsRunning of most (lines ++ line ∷ []) next new after
+answered_on of most lines count next old mid new before after line answered r counted is a same taken spans_are lanes_are number =
     let h : History = r.history in
     let t : Tables = tables old.setup h in
     let more : List Record = records_of t a.effect in
     let finished : mid.recording.finished ≡ more = a.records ∙ ap (λ (f : List Record). f ++ more) r.taken in
     let setup : new.setup ≡ old.setup = ap (λ (k : State). k.setup) same ∙ a.setup in
     let lanes : after.lanes.items ≡ before.lanes.items ++ lanes_on line more = lanes_are ∙ rw (a.lane, finished) refl in
-    let all : after.records.items ≡ records old.setup (h ++ a.effect ∷ []) =
-    records_are ∙ rw (r.records_are, finished) refl ∙ sym (records_push (no_tables old.setup) h a.effect) in
+    let all : after.spans.items ≡ map of (records old.setup (h ++ a.effect ∷ [])) =
+    spans_are ∙ rw (r.spans_are, finished) refl ∙ sym (map-append of (records old.setup h) more) ∙ sym (ap (map of) (records_push (no_tables old.setup) h a.effect)) in
     record {
       history = h ++ a.effect ∷ [];
       some = some_before lines (line ∷ []) r.some;
       stands = subst (λ (s : Setup). StandsFor new (tables s (h ++ a.effect ∷ []))) (sym setup) (stands_beside mid new (tables old.setup (h ++ a.effect ∷ [])) same a.stands);
       taken = taken;
-      records_are = all ∙ ap (λ (s : Setup). records s (h ++ a.effect ∷ [])) (sym setup);
+      spans_are = all ∙ ap (λ (s : Setup). map of (records s (h ++ a.effect ∷ []))) (sym setup);
       lanes_are = number ∙ r.lanes_are ∙ ap (λ (s : Setup). length s.ids) (sym setup);
       script_is = λ later. on_line most lines later line _ (r.script_is (line ∷ later) ∙ rw (is, a.is, counted, lanes, setup) refl);
     }
@@ -197,27 +197,27 @@ refused_at (stage.Refused refused) = Some refused
 with_none : (most : Option ℕ) (lines : List (List ℕ)) → script_of most lines ≡ script_of most (lines ++ [])
 with_none most lines = ap (script_of most) (sym (append-nil lines))
 
-pub opening_end : (most : Option ℕ) (lines : List (List ℕ)) (count next : ℕ) (finished : FinishedSpans) → IsOpening most lines count finished → next ≡ count + 1
-    → EndsAs most lines (Err (record { line = next; told = told.BadLine }))
-opening_end most lines count next finished o counted = (with_none most lines ∙ o.script_is [] ∙ rw counted refl, λ is. cc)
+pub opening_end : {K : Type 0} (of : Record → K) (most : Option ℕ) (lines : List (List ℕ)) (count next : ℕ) (finished : FinishedSpans K) → IsOpening most lines count finished → next ≡ count + 1
+    → EndsAs of most lines (Err (record { line = next; told = told.BadLine }))
+opening_end of most lines count next finished o counted = (with_none most lines ∙ o.script_is [] ∙ rw counted refl, λ is. cc)
 
-pub running_end : (most : Option ℕ) (lines : List (List ℕ)) (count : ℕ) (kept : State) (before after : FinishedSpans) → IsRunning most lines count kept before
-    → after.records.items ≡ before.records.items → after.lanes.items ≡ before.lanes.items → after.lane_count ≡ before.lane_count
+pub running_end : {K : Type 0} (of : Record → K) (most : Option ℕ) (lines : List (List ℕ)) (count : ℕ) (kept : State) (before after : FinishedSpans K) → IsRunning of most lines count kept before
+    → after.spans.items ≡ before.spans.items → after.lanes.items ≡ before.lanes.items → after.lane_count ≡ before.lane_count
     → ((h : History) → StandsFor kept (tables kept.setup h) → after.open_spans ≡ open_spans (tables kept.setup h))
-    → EndsAs most lines (Ok after)
-running_end most lines count kept before after r records_are lanes_are number counts = (
+    → EndsAs of most lines (Ok after)
+running_end of most lines count kept before after r spans_are lanes_are number counts = (
   record { setup = kept.setup; history = r.history; lanes = before.lanes.items },
   with_none most lines ∙ r.script_is [],
-  record { records_are = records_are ∙ r.records_are; lanes_are = lanes_are; lane_count = number ∙ r.lanes_are; left_open = counts r.history r.stands },
+  record { spans_are = spans_are ∙ r.spans_are; lanes_are = lanes_are; lane_count = number ∙ r.lanes_are; left_open = counts r.history r.stands },
 )
 
-pub running_refuses_none : (most : Option ℕ) (lines : List (List ℕ)) (count : ℕ) (kept : State) (finished : FinishedSpans) → IsRunning most lines count kept finished → IsRefusedBy most lines None
-running_refuses_none most lines count kept finished r = inr (record { setup = kept.setup; history = r.history; lanes = finished.lanes.items }, with_none most lines ∙ r.script_is [])
+pub running_refuses_none : {K : Type 0} (of : Record → K) (most : Option ℕ) (lines : List (List ℕ)) (count : ℕ) (kept : State) (finished : FinishedSpans K) → IsRunning of most lines count kept finished → IsRefusedBy most lines None
+running_refuses_none of most lines count kept finished r = inr (record { setup = kept.setup; history = r.history; lanes = finished.lanes.items }, with_none most lines ∙ r.script_is [])
 
-pub refused_by : (most : Option ℕ) (at : Stage) (lines : List (List ℕ)) (count : ℕ) (finished : FinishedSpans) → StandsAt most at lines count finished → IsRefusedBy most lines (refused_at at)
-refused_by most stage.Opening lines count finished o = inl o.blank
-refused_by most (stage.Running kept) lines count finished r = running_refuses_none most lines count kept finished r
-refused_by most (stage.Refused refused) lines count finished s = s
+pub refused_by : {K : Type 0} (of : Record → K) (most : Option ℕ) (at : Stage) (lines : List (List ℕ)) (count : ℕ) (finished : FinishedSpans K) → StandsAt of most at lines count finished → IsRefusedBy most lines (refused_at at)
+refused_by of most stage.Opening lines count finished o = inl o.blank
+refused_by of most (stage.Running kept) lines count finished r = running_refuses_none of most lines count kept finished r
+refused_by of most (stage.Refused refused) lines count finished s = s
 
-pub stopped_end : (most : Option ℕ) (lines : List (List ℕ)) (refused : RefusedLine) → IsStopped most lines refused → EndsAs most lines (Err refused)
-stopped_end most lines refused s = (with_none most lines ∙ s.script_is [], s.is_told)
+pub stopped_end : {K : Type 0} (of : Record → K) (most : Option ℕ) (lines : List (List ℕ)) (refused : RefusedLine) → IsStopped most lines refused → EndsAs of most lines (Err refused)
+stopped_end of most lines refused s = (with_none most lines ∙ s.script_is [], s.is_told)

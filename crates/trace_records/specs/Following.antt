@@ -1,6 +1,7 @@
 -- How a script stands that has followed some lines, whichever lines come behind them.
-use Rattle.std.specs.Prelude.{◌≡◌, ℕ, List, [], ◌++◌, ◌⊎◌, length, Bool, true, false, Option, Some, None, Result, Ok, Err}
+use Rattle.std.specs.Prelude.{◌≡◌, ℕ, List, [], ◌++◌, ◌⊎◌, length, map, Bool, true, false, Option, Some, None, Result, Ok, Err}
 use Rattle.std.specs.List.{list_all}
+use Rattle.otel_base.specs.declared.record.Record.{Record}
 use Rattle.span_script.specs.Tables.{History, tables}
 use Rattle.span_script.specs.Effects.{open_spans}
 use Rattle.span_script.specs.Fits.{State, StandsFor}
@@ -23,19 +24,20 @@ abbrev pub are_blank : List (List ℕ) → Bool
 are_blank lines = list_all is_blank lines
 
 -- All lines are blank, and nothing finished.
-pub record IsOpening (most : Option ℕ) (lines : List (List ℕ)) (count : ℕ) (finished : FinishedSpans) : Type 0 where
+pub record IsOpening {K : Type 0} (most : Option ℕ) (lines : List (List ℕ)) (count : ℕ) (finished : FinishedSpans K) : Type 0 where
   pub blank : are_blank lines ≡ true
-  pub no_records : finished.records.items ≡ []
+  pub no_spans : finished.spans.items ≡ []
   pub no_lanes : finished.lanes.items ≡ []
   pub script_is : (more : List (List ℕ)) → script_of most (lines ++ more) ≡ script_from most count more
 
--- The pipeline stands for the requests so far, whose records are kept, and the script goes on with the lines that follow.
-pub record IsRunning (most : Option ℕ) (lines : List (List ℕ)) (count : ℕ) (kept : State) (finished : FinishedSpans) : Type 0 where
+-- The pipeline stands for the requests so far, of whose records what is wanted (of) is kept, and the script goes on with the
+-- lines that follow.
+pub record IsRunning {K : Type 0} (of : Record → K) (most : Option ℕ) (lines : List (List ℕ)) (count : ℕ) (kept : State) (finished : FinishedSpans K) : Type 0 where
   pub history : History
   pub some : are_blank lines ≡ false
   pub stands : StandsFor kept (tables kept.setup history)
   pub taken : kept.recording.finished ≡ []
-  pub records_are : finished.records.items ≡ records kept.setup history
+  pub spans_are : finished.spans.items ≡ map of (records kept.setup history)
   pub lanes_are : finished.lane_count ≡ length kept.setup.ids
   pub script_is : (more : List (List ℕ))
       → script_of most (lines ++ more) ≡ script_on kept.setup history finished.lanes.items count more
@@ -46,14 +48,15 @@ pub record IsStopped (most : Option ℕ) (lines : List (List ℕ)) (refused : Re
   pub is_told : IsTold refused.told
   pub script_is : (more : List (List ℕ)) → script_of most (lines ++ more) ≡ Err refused
 
-abbrev pub StandsAt : Option ℕ → Stage → List (List ℕ) → ℕ → FinishedSpans → Type 0
-StandsAt most stage.Opening lines count finished = IsOpening most lines count finished
-StandsAt most (stage.Running pipeline) lines count finished = IsRunning most lines count pipeline finished
-StandsAt most (stage.Refused refused) lines count finished = IsStopped most lines refused
+-- what holds at each stage
+abbrev pub StandsAt : {K : Type 0} → (Record → K) → Option ℕ → Stage → List (List ℕ) → ℕ → FinishedSpans K → Type 0
+StandsAt of most stage.Opening lines count finished = IsOpening most lines count finished
+StandsAt of most (stage.Running pipeline) lines count finished = IsRunning of most lines count pipeline finished
+StandsAt of most (stage.Refused refused) lines count finished = IsStopped most lines refused
 
 -- what a script keeps that has followed these lines
-abbrev pub Follows : Option ℕ → List (List ℕ) → ScriptRun → Type 0
-Follows most lines run = StandsAt most run.stage lines run.lines run.finished
+abbrev pub Follows : {K : Type 0} → (Record → K) → Option ℕ → List (List ℕ) → ScriptRun K → Type 0
+Follows of most lines run = StandsAt of most run.stage lines run.lines run.finished
 
 -- the line that is refused whatever lines follow, if there is one; else all are blank or a script
 abbrev pub IsRefusedBy : Option ℕ → List (List ℕ) → Option RefusedLine → Type 0
@@ -62,14 +65,14 @@ IsRefusedBy most lines None = (are_blank lines ≡ true) ⊎ ((script : Script) 
 
 -- ---- the end
 
--- the finished spans of a script
-pub record AreOf (script : Script) (finished : FinishedSpans) : Type 0 where
-  pub records_are : finished.records.items ≡ records script.setup script.history
+-- the finished spans of a script, of each of which what is wanted (of) is kept
+pub record AreOf {K : Type 0} (of : Record → K) (script : Script) (finished : FinishedSpans K) : Type 0 where
+  pub spans_are : finished.spans.items ≡ map of (records script.setup script.history)
   pub lanes_are : finished.lanes.items ≡ script.lanes
   pub lane_count : finished.lane_count ≡ length script.setup.ids
   pub left_open : finished.open_spans ≡ open_spans (tables script.setup script.history)
 
 -- what came of the lines
-abbrev pub EndsAs : Option ℕ → List (List ℕ) → Result FinishedSpans RefusedLine → Type 0
-EndsAs most lines (Ok finished) = (script : Script) × (script_of most lines ≡ Ok script) × AreOf script finished
-EndsAs most lines (Err refused) = (script_of most lines ≡ Err refused) × IsTold refused.told
+abbrev pub EndsAs : {K : Type 0} → (Record → K) → Option ℕ → List (List ℕ) → Result (FinishedSpans K) RefusedLine → Type 0
+EndsAs of most lines (Ok finished) = (script : Script) × (script_of most lines ≡ Ok script) × AreOf of script finished
+EndsAs of most lines (Err refused) = (script_of most lines ≡ Err refused) × IsTold refused.told

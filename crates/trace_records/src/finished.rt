@@ -2,17 +2,17 @@
 ghost use Rattle.std.specs.Prelude.{◌≡◌, ◌++◌, [], map, OnOk};
 ghost use Rattle.trace_records.specs.Following.{without_taken};
 
+use crate::kept::Kept;
 use otel_base::memory::Memory;
-use otel_base::record::Record;
 use span_pipeline::pipeline::Pipeline;
 use std::alloc::Global;
 use trace_pipeline::Told;
 
 /// The finished spans of a script.
 #[derive(Drop)]
-pub struct FinishedSpans {
-    /// Their records, in the order in which the spans closed.
-    pub records: Vec<Record>,
+pub struct FinishedSpans<K> {
+    /// What is kept of each, in the order in which the spans closed.
+    pub spans: Vec<K>,
     /// For each of them the lane of the drop that closed it, by its place.
     pub lanes: Vec<u64>,
     /// How many lanes the settings give.
@@ -30,24 +30,24 @@ pub struct RefusedLine {
     pub told: Told,
 }
 
-impl FinishedSpans {
+impl<K: Kept> FinishedSpans<K> {
     /// None.
-    pub fn new(alloc: Global) -> FinishedSpans
-        ensures records { result.records.items ≡ [] }
+    pub fn new(alloc: Global) -> FinishedSpans<K>
+        ensures spans { result.spans.items ≡ [] }
         ensures lanes { result.lanes.items ≡ [] }
     {
         FinishedSpans {
-            records: Vec::new(alloc),
+            spans: Vec::new(alloc),
             lanes: Vec::new(alloc),
             lane_count: 0,
             open_spans: 0,
         }
     }
 
-    /// Takes the records that wait, which came by a drop on a lane.
+    /// Takes the records that wait, which came by a drop on a lane, and keeps what is wanted of each.
     pub fn take_records(&mut self, pipeline: &mut Pipeline, lane: u64) -> Result<(), Memory>
-        ensures records { OnOk result (
-            self.new.records.items ≡ self.old.records.items ++ pipeline.old.recording.finished) }
+        ensures spans { OnOk result (self.new.spans.items
+            ≡ self.old.spans.items ++ map K.of_record pipeline.old.recording.finished) }
         ensures lanes { OnOk result (self.new.lanes.items
             ≡ self.old.lanes.items ++ map (λ r. lane) pipeline.old.recording.finished) }
         ensures count { self.new.lane_count ≡ self.old.lane_count }
@@ -55,7 +55,7 @@ impl FinishedSpans {
         ensures state { without_taken pipeline.new ≡ without_taken pipeline.old }
     {
         while let Some(finished) = pipeline.take_record() {
-            self.records.push(finished)?;
+            self.spans.push(K::keep(finished))?;
             self.lanes.push(lane)?;
         }
         Ok(())

@@ -5,21 +5,23 @@ ghost use Rattle.trace_records.specs.Following.{Follows};
 ghost use Rattle.trace_records.specs.Inputs.{AreRefused, NoneRefused, accepts_within};
 
 use crate::answer::refused_answer;
+use crate::kept::Kept;
 use crate::lines::first_line;
 use crate::script::ScriptRun;
 use otel_base::memory::Memory;
 use std::alloc::Global;
 use trace_base::discard::Discard;
+use trace_tree::TreeSpan;
 
 /// The script that has followed the lines of some bytes, and may have so many lanes. `Memory` freely.
-pub fn follow_lines(
+pub fn follow_lines<K: Kept>(
     alloc: Global,
     most_lanes: Option<u64>,
     bytes: &[u8],
-) -> Result<ScriptRun, Memory>
-    ensures { IfOk result (Follows most_lanes (lines_of bytes.now)) }
+) -> Result<ScriptRun<K>, Memory>
+    ensures { IfOk result (Follows K.of_record most_lanes (lines_of bytes.now)) }
 {
-    let mut run = ScriptRun::new(alloc);
+    let mut run = ScriptRun::<K>::new(alloc);
     let mut rest = bytes;
     while !rest.is_empty() {
         let (line, after) = first_line(rest);
@@ -44,7 +46,7 @@ pub fn refusal_of(
     ensures none { IfOk result (λ refusal. refusal ≡ None
         → NoneRefused (accepts_within most_lanes) (lines_of bytes.now)) }
 {
-    let run = follow_lines(alloc, most_lanes, bytes)?;
+    let run = follow_lines::<TreeSpan>(alloc, most_lanes, bytes)?;
     let refused = run.refused_line();
     run.discard();
     match refused {

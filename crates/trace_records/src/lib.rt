@@ -1,4 +1,5 @@
-//! What a whole script records. It is run line by line, its finished spans are kept in order, and nothing is written.
+//! What a whole script records. It is run line by line, what is wanted of each finished span (`Kept`) is kept in order, and
+//! nothing is written.
 //! Everything turns on `ScriptRun`, which follows the lines and tells at their end what came of them; `follow_lines` gives it
 //! the lines of an input.
 #![tactic(auto)]
@@ -6,6 +7,7 @@
 pub mod answer;
 pub mod finished;
 pub mod follow;
+pub mod kept;
 pub mod laws;
 pub mod line;
 pub mod lines;
@@ -14,4 +16,5 @@ pub mod script;
 pub use answer::{Answer, refused_answer};
 pub use finished::{FinishedSpans, RefusedLine};
 pub use follow::{follow_lines, refusal_of};
+pub use kept::Kept;
 pub use script::ScriptRun;

@@ -3,6 +3,7 @@ ghost use Rattle.std.specs.Prelude.{◌≡◌, ℕ, List, Option, [], ◌∷◌,
 ghost use Rattle.trace_records.specs.Following.{Follows, EndsAs, IsRefusedBy};
 
 use crate::finished::{FinishedSpans, RefusedLine, drop_measures};
+use crate::kept::Kept;
 use crate::line::{Opened, answer_line, open_line};
 use crate::lines::is_blank;
 use otel_base::memory::Memory;
@@ -34,17 +35,17 @@ impl Discard for Stage {
 }
 
 /// A script that runs line by line, and the spans that finished so far. It has to be spent, by `end` or `discard`.
-pub struct ScriptRun {
+pub struct ScriptRun<K> {
     /// How many lines came, blank ones included.
     pub lines: u64,
     /// Where the script stands.
     pub stage: Stage,
     /// The spans that finished so far.
-    pub finished: FinishedSpans,
+    pub finished: FinishedSpans<K>,
 }
 
 /// What is kept is dropped.
-impl Discard for ScriptRun {
+impl<K: Kept> Discard for ScriptRun<K> {
     fn discard(self) {
         let ScriptRun {
             lines: _,
@@ -62,10 +63,10 @@ fn go_on(stage: &mut Stage, next: Stage)
     mem::replace(stage, next).discard();
 }
 
-impl ScriptRun {
+impl<K: Kept> ScriptRun<K> {
     /// A script before its first line.
-    pub fn new(alloc: Global) -> ScriptRun
-        ensures { (most : Option ℕ) → Follows most [] result }
+    pub fn new(alloc: Global) -> ScriptRun<K>
+        ensures { (most : Option ℕ) → Follows K.of_record most [] result }
     {
         ScriptRun {
             lines: 0,
@@ -82,8 +83,8 @@ impl ScriptRun {
         most_lanes: Option<u64>,
         line: &[u8],
     ) -> Result<(), Memory>
-        ensures { (lines : List (List ℕ)) → Follows most_lanes lines self.old
-            → OnOk result (Follows most_lanes (lines ++ line.now ∷ []) self.new) }
+        ensures { (lines : List (List ℕ)) → Follows K.of_record most_lanes lines self.old
+            → OnOk result (Follows K.of_record most_lanes (lines ++ line.now ∷ []) self.new) }
     {
         // No input has so many lines that the sum wraps.
         let number = self.lines.checked_add(1).ok_or(Memory)?;
@@ -132,7 +133,7 @@ impl ScriptRun {
 
     /// The line that is refused whatever lines follow, if one is.
     pub fn refused_line(&self) -> Option<RefusedLine>
-        ensures { (most : Option ℕ) (lines : List (List ℕ)) → Follows most lines self.now
+        ensures { (most : Option ℕ) (lines : List (List ℕ)) → Follows K.of_record most lines self.now
             → IsRefusedBy most lines result }
     {
         match &self.stage {
@@ -147,9 +148,9 @@ impl ScriptRun {
 
     /// What came of the lines, where no line follows: the finished spans, or the first refusal, which is that of an input
     /// without a settings line where all lines are blank. `Memory` freely.
-    pub fn end(self) -> Result<Result<FinishedSpans, RefusedLine>, Memory>
-        ensures { (most : Option ℕ) (lines : List (List ℕ)) → Follows most lines self
-            → IfOk result (EndsAs most lines) }
+    pub fn end(self) -> Result<Result<FinishedSpans<K>, RefusedLine>, Memory>
+        ensures { (most : Option ℕ) (lines : List (List ℕ)) → Follows K.of_record most lines self
+            → IfOk result (EndsAs K.of_record most lines) }
     {
         let ScriptRun {
             lines,

@@ -9,7 +9,7 @@ use Rattle.std.proofs.lemmas.Bool.{cases_eq}
 use Rattle.std.proofs.lemmas.List.{append-nil, get_or-set_same, get_or-set_other}
 use Rattle.std.proofs.lemmas.List.Elements.{filter-append}
 use Rattle.std.proofs.lemmas.Map.Keys.{below_from_sorted}
-use Rattle.otel_base.specs.declared.record.Record.{Record}
+use Rattle.trace_tree.specs.declared.span.TreeSpan.{TreeSpan}
 use Rattle.trace_tree.specs.declared.adjacency.Adjacency.{Adjacency}
 use Rattle.trace_tree.specs.Paths.{path_at, tree_parent}
 use Rattle.trace_tree.specs.Walking.{Ordered, has, up_from, up_at, id_at, Children, Roots, IsAdjacency, IsIndex}
@@ -60,12 +60,12 @@ is_up p None = false
 is_up p (Some q) = q == p
 
 -- the tables after the places ps
-pub record Grouped (rs : List Record) (roots : List ℕ) (under : List (List ℕ)) (ps : List ℕ) : Type 0 where
+pub record Grouped (rs : List TreeSpan) (roots : List ℕ) (under : List (List ℕ)) (ps : List ℕ) : Type 0 where
   pub size : length under ≡ length rs
   pub roots_are : roots ≡ filter (λ k. is_none_up (up_at rs k)) ps
   pub kids : (p : ℕ) → p < length rs → get_or under p [] ≡ filter (λ k. is_up p (up_at rs k)) ps
 
-pub grouped_start : (rs : List Record) (under : List (List ℕ)) → length under ≡ length rs → ((p : ℕ) → get_or under p [] ≡ []) → Grouped rs [] under []
+pub grouped_start : (rs : List TreeSpan) (under : List (List ℕ)) → length under ≡ length rs → ((p : ℕ) → get_or under p [] ≡ []) → Grouped rs [] under []
 grouped_start rs under size empty = record { size = size; roots_are = refl; kids = λ p less. empty p }
 
 -- an empty table more
@@ -82,14 +82,14 @@ module _ (p : ℕ → Bool) (ps : List ℕ) (x : ℕ) where
   filter_without : p x ≡ false → filter p ps ≡ filter p (ps ++ x ∷ [])
   filter_without e = sym (append-nil (filter p ps)) ∙ ap (λ b. filter p ps ++ cond b (x ∷ []) []) (sym e) ∙ sym (filter-append p ps (x ∷ []))
 
-pub grouped_root : (rs : List Record) (roots : List ℕ) (under : List (List ℕ)) (ps : List ℕ) (x : ℕ) → Grouped rs roots under ps → up_at rs x ≡ None → Grouped rs (roots ++ x ∷ []) under (ps ++ x ∷ [])
+pub grouped_root : (rs : List TreeSpan) (roots : List ℕ) (under : List (List ℕ)) (ps : List ℕ) (x : ℕ) → Grouped rs roots under ps → up_at rs x ≡ None → Grouped rs (roots ++ x ∷ []) under (ps ++ x ∷ [])
 grouped_root rs roots under ps x g e = record {
   size = g.size;
   roots_are = ap (λ (l : List ℕ). l ++ x ∷ []) g.roots_are ∙ filter_with (λ k. is_none_up (up_at rs k)) ps x (ap is_none_up e);
   kids = λ p less. g.kids p less ∙ filter_without (λ k. is_up p (up_at rs k)) ps x (ap (is_up p) e);
 }
 
-pub grouped_under : (rs : List Record) (roots : List ℕ) (under : List (List ℕ)) (ps : List ℕ) (x q : ℕ) → Grouped rs roots under ps → up_at rs x ≡ Some q → q < length rs
+pub grouped_under : (rs : List TreeSpan) (roots : List ℕ) (under : List (List ℕ)) (ps : List ℕ) (x q : ℕ) → Grouped rs roots under ps → up_at rs x ≡ Some q → q < length rs
     → Grouped rs roots (set under q (get_or under q [] ++ x ∷ [])) (ps ++ x ∷ [])
 grouped_under rs roots under ps x q g e less = record {
   size = length-set under q (get_or under q [] ++ x ∷ []) ∙ g.size;
@@ -110,26 +110,26 @@ grouped_under rs roots under ps x q g e less = record {
 
 -- ---- paths by places
 
-under_by : (rs : List Record) (d : Record) (k x : ℕ) → k < length rs → up_at rs k ≡ Some x → path_at rs k ≡ path_at rs x ++ id_at rs k ∷ []
+under_by : (rs : List TreeSpan) (d : TreeSpan) (k x : ℕ) → k < length rs → up_at rs k ≡ Some x → path_at rs k ≡ path_at rs x ++ id_at rs k ∷ []
 under_by rs d k x less e =
     let u : up_from 0 rs (get_or rs k d) ≡ Some x = sym (up_is rs rs k d less) ∙ e in
     let w = up_within 0 rs (get_or rs k d) x u in
     let z : x - 0 ≡ x = omega arith in
     let t : tree_parent rs (get_or rs k d) ≡ Some (get_or rs x d) = up_parent 0 rs (get_or rs k d) x d u ∙ ap (λ m. Some (get_or rs m d)) z in
     path_of_place rs rs k d less ∙ path_under rs (get_or rs k d) (get_or rs x d) t
-    ∙ ap (λ (l : List ℕ). l ++ (get_or rs k d).context.span ∷ []) (sym (path_of_place rs rs x d (let h = w.1 in omega arith)))
+    ∙ ap (λ (l : List ℕ). l ++ (get_or rs k d).span ∷ []) (sym (path_of_place rs rs x d (let h = w.1 in omega arith)))
     ∙ ap (λ n. path_at rs x ++ n ∷ []) (sym (id_is rs k d less))
 
-under_at : (rs : List Record) (k x : ℕ) → k < length rs → up_at rs k ≡ Some x → path_at rs k ≡ path_at rs x ++ id_at rs k ∷ []
+under_at : (rs : List TreeSpan) (k x : ℕ) → k < length rs → up_at rs k ≡ Some x → path_at rs k ≡ path_at rs x ++ id_at rs k ∷ []
 under_at [] k x less e = absurd (omega arith)
 under_at (r ∷ rs) k x less e = under_by (r ∷ rs) r k x less e
 
-top_by : (rs : List Record) (d : Record) (k : ℕ) → k < length rs → up_at rs k ≡ None → path_at rs k ≡ id_at rs k ∷ []
+top_by : (rs : List TreeSpan) (d : TreeSpan) (k : ℕ) → k < length rs → up_at rs k ≡ None → path_at rs k ≡ id_at rs k ∷ []
 top_by rs d k less e =
     let u : up_from 0 rs (get_or rs k d) ≡ None = sym (up_is rs rs k d less) ∙ e in
     path_of_place rs rs k d less ∙ path_top rs (get_or rs k d) (up_top 0 rs (get_or rs k d) u) ∙ ap (λ n. n ∷ []) (sym (id_is rs k d less))
 
-top_at : (rs : List Record) (k : ℕ) → k < length rs → up_at rs k ≡ None → path_at rs k ≡ id_at rs k ∷ []
+top_at : (rs : List TreeSpan) (k : ℕ) → k < length rs → up_at rs k ≡ None → path_at rs k ≡ id_at rs k ∷ []
 top_at [] k less e = absurd (omega arith)
 top_at (r ∷ rs) k less e = top_by (r ∷ rs) r k less e
 
@@ -143,16 +143,16 @@ is_up_from p (Some q) e = ap (λ n. Some n) (eqb-true q p e)
 
 -- ---- all places, in the order of their ids
 
-pub record Places (rs : List Record) (ps : List ℕ) : Type 0 where
+pub record Places (rs : List TreeSpan) (ps : List ℕ) : Type 0 where
   pub within : AllByRecursion (λ k. k < length rs) ps
   pub ordered : Ordered (λ a b. id_at rs a < id_at rs b) ps
   pub whole : (k : ℕ) → k < length rs → has k ps ≡ true
 
-top_or : (rs : List Record) (ps : List ℕ) (k : ℕ) (o : Option ℕ) → up_at rs k ≡ o → has k ps ≡ true → (has k (filter (λ j. is_none_up (up_at rs j)) ps) ≡ true) ⊎ ((p : ℕ) × (up_at rs k ≡ Some p))
+top_or : (rs : List TreeSpan) (ps : List ℕ) (k : ℕ) (o : Option ℕ) → up_at rs k ≡ o → has k ps ≡ true → (has k (filter (λ j. is_none_up (up_at rs j)) ps) ≡ true) ⊎ ((p : ℕ) × (up_at rs k ≡ Some p))
 top_or rs ps k None e h = inl (filter_has (λ j. is_none_up (up_at rs j)) k (ap is_none_up e) ps h)
 top_or rs ps k (Some p) e h = inr (p, e)
 
-pub roots_from : (rs : List Record) (ps : List ℕ) → Places rs ps → Roots (length rs) (path_at rs) (id_at rs) (up_at rs) (filter (λ k. is_none_up (up_at rs k)) ps)
+pub roots_from : (rs : List TreeSpan) (ps : List ℕ) → Places rs ps → Roots (length rs) (path_at rs) (id_at rs) (up_at rs) (filter (λ k. is_none_up (up_at rs k)) ps)
 roots_from rs ps a = record {
   single = filter_all (λ k. is_none_up (up_at rs k)) (λ k. k < length rs) (λ c. (c < length rs) × (path_at rs c ≡ id_at rs c ∷ []))
       (λ k less e. (less, top_at rs k less (is_none_from (up_at rs k) e))) ps a.within;
@@ -160,7 +160,7 @@ roots_from rs ps a = record {
   whole = λ k less. top_or rs ps k (up_at rs k) refl (a.whole k less);
 }
 
-pub kids_from : (rs : List Record) (ps : List ℕ) (x : ℕ) → Places rs ps → Children (length rs) (path_at rs) (id_at rs) (up_at rs) x (filter (λ k. is_up x (up_at rs k)) ps)
+pub kids_from : (rs : List TreeSpan) (ps : List ℕ) (x : ℕ) → Places rs ps → Children (length rs) (path_at rs) (id_at rs) (up_at rs) x (filter (λ k. is_up x (up_at rs k)) ps)
 kids_from rs ps x a = record {
   under = filter_all (λ k. is_up x (up_at rs k)) (λ k. k < length rs) (λ c. (c < length rs) × (path_at rs c ≡ path_at rs x ++ id_at rs c ∷ []))
       (λ k less e. (less, under_at rs k x less (is_up_from x (up_at rs k) e))) ps a.within;
@@ -168,7 +168,7 @@ kids_from rs ps x a = record {
   whole = λ k less e. filter_has (λ j. is_up x (up_at rs j)) k (ap (is_up x) e ∙ eq-eqb x x refl) ps (a.whole k less);
 }
 
-pub grouped_end : (rs : List Record) (f : Adjacency) (ps : List ℕ) → Grouped rs f.roots f.children.items ps → Places rs ps → IsAdjacency rs f
+pub grouped_end : (rs : List TreeSpan) (f : Adjacency) (ps : List ℕ) → Grouped rs f.roots f.children.items ps → Places rs ps → IsAdjacency rs f
 grouped_end rs f ps g a = record {
   size = g.size;
   roots = subst (λ (l : List ℕ). Roots (length rs) (path_at rs) (id_at rs) (up_at rs) l) (sym g.roots_are) (roots_from rs ps a);
@@ -178,18 +178,18 @@ grouped_end rs f ps g a = record {
 -- ---- the places of an index
 
 -- each entry's place is that of the record with its id
-abbrev Sound : List Record → ℕ × ℕ → Type 0
+abbrev Sound : List TreeSpan → ℕ × ℕ → Type 0
 Sound rs e = (e.1 < length rs) × (id_at rs e.1 ≡ e.0)
 
-entries_within : (rs : List Record) (es : List (ℕ × ℕ)) → AllByRecursion (Sound rs) es → AllByRecursion (λ k. k < length rs) (values_of es)
+entries_within : (rs : List TreeSpan) (es : List (ℕ × ℕ)) → AllByRecursion (Sound rs) es → AllByRecursion (λ k. k < length rs) (values_of es)
 entries_within rs [] a = tt
 entries_within rs (e ∷ es) a = (a.0.0, entries_within rs es a.1)
 
-entries_above : (rs : List Record) (q : ℕ) (es : List (ℕ × ℕ)) → AllByRecursion (Sound rs) es → ((i : ℕ) → i < length (keys_of es) → q < get_or (keys_of es) i 0) → AllByRecursion (λ k. q < id_at rs k) (values_of es)
+entries_above : (rs : List TreeSpan) (q : ℕ) (es : List (ℕ × ℕ)) → AllByRecursion (Sound rs) es → ((i : ℕ) → i < length (keys_of es) → q < get_or (keys_of es) i 0) → AllByRecursion (λ k. q < id_at rs k) (values_of es)
 entries_above rs q [] a h = tt
 entries_above rs q (e ∷ es) a h = ((let s = a.0.1 in let l = h 0 (omega arith) in omega arith), entries_above rs q es a.1 (λ i less. h (suc i) (omega arith)))
 
-entries_ordered : (rs : List Record) (es : List (ℕ × ℕ)) → AllByRecursion (Sound rs) es → ((i j : ℕ) → i < j → j < length (keys_of es) → get_or (keys_of es) i 0 < get_or (keys_of es) j 0)
+entries_ordered : (rs : List TreeSpan) (es : List (ℕ × ℕ)) → AllByRecursion (Sound rs) es → ((i j : ℕ) → i < j → j < length (keys_of es) → get_or (keys_of es) i 0 < get_or (keys_of es) j 0)
     → Ordered (λ a b. id_at rs a < id_at rs b) (values_of es)
 entries_ordered rs [] a h = tt
 entries_ordered rs (e ∷ es) a h = (
@@ -205,11 +205,11 @@ lookup_has : (test : ℕ → Bool) (k : ℕ) (es : List (ℕ × ℕ)) → lookup
 lookup_has test k [] e = cc
 lookup_has test k (x ∷ es) e = found_at k x.1 (test x.0) (lookup test es) (values_of es) (λ h. lookup_has test k es h) e
 
-sound_all : (rs : List Record) (m : BTreeMap ℕ ℕ) (es : List (ℕ × ℕ)) → IsIndex rs (length rs) m → AllByRecursion (λ e. get nat_cmp m e.0 ≡ Some e.1) es → AllByRecursion (Sound rs) es
+sound_all : (rs : List TreeSpan) (m : BTreeMap ℕ ℕ) (es : List (ℕ × ℕ)) → IsIndex rs (length rs) m → AllByRecursion (λ e. get nat_cmp m e.0 ≡ Some e.1) es → AllByRecursion (Sound rs) es
 sound_all rs m [] x a = tt
 sound_all rs m (e ∷ es) x a = (x.sound e.0 e.1 a.0, sound_all rs m es x a.1)
 
-pub places_from : (rs : List Record) (m : BTreeMap ℕ ℕ) → IsIndex rs (length rs) m → IsOrdered nat_cmp m → AllByRecursion (λ e. get nat_cmp m e.0 ≡ Some e.1) m.entries → Places rs (values_of m.entries)
+pub places_from : (rs : List TreeSpan) (m : BTreeMap ℕ ℕ) → IsIndex rs (length rs) m → IsOrdered nat_cmp m → AllByRecursion (λ e. get nat_cmp m e.0 ≡ Some e.1) m.entries → Places rs (values_of m.entries)
 places_from rs m x sorted found =
     let s = sound_all rs m m.entries x found in
     record {

@@ -4,7 +4,7 @@ use Rattle.std.specs.List.{AllByRecursion, IsDistinct, list_any}
 use Rattle.std.proofs.lemmas.List.{append-nil, map-append}
 use Rattle.std.proofs.lemmas.Map.Keys.{IsDistinct-cons}
 use Rattle.std.proofs.lemmas.Map.Steps.{length-le_from_distinct_below}
-use Rattle.otel_base.specs.declared.record.Record.{Record}
+use Rattle.trace_tree.specs.declared.span.TreeSpan.{TreeSpan}
 use Rattle.trace_tree.specs.declared.node.Node.{Node}
 use Rattle.trace_tree.specs.declared.adjacency.Adjacency.{Adjacency}
 use Rattle.trace_tree.specs.Paths.{IsBelow, path_at, IsForest}
@@ -17,10 +17,10 @@ abbrev pub places : List Node → List ℕ
 places ns = map (λ (v : Node). v.place) ns
 
 -- the depth is the length of the path less 1
-abbrev pub IsDeep : List Record → Node → Type 0
+abbrev pub IsDeep : List TreeSpan → Node → Type 0
 IsDeep rs v = suc v.depth ≡ length (path_at rs v.place)
 
-pub record Visits (rs : List Record) (nodes waits : List Node) : Type 0 where
+pub record Visits (rs : List TreeSpan) (nodes waits : List Node) : Type 0 where
   pub walk : Walk (length rs) (path_at rs) (id_at rs) (up_at rs) (places nodes) (places waits)
   pub deep : AllByRecursion (IsDeep rs) nodes
   pub deep_waits : AllByRecursion (IsDeep rs) waits
@@ -33,7 +33,7 @@ places_of depth (k ∷ ks) = ap (λ (l : List ℕ). k ∷ l) (places_of depth ks
 places_front : (depth : ℕ) (ks : List ℕ) (waits : List Node) → places (map (node_at depth) ks ++ waits) ≡ ks ++ places waits
 places_front depth ks waits = map-append (λ (v : Node). v.place) (map (node_at depth) ks) waits ∙ ap (λ (l : List ℕ). l ++ places waits) (places_of depth ks)
 
-roots_deep : (rs : List Record) (ts : List ℕ) → AllByRecursion (λ c. (c < length rs) × (path_at rs c ≡ id_at rs c ∷ [])) ts → AllByRecursion (IsDeep rs) (map (node_at 0) ts)
+roots_deep : (rs : List TreeSpan) (ts : List ℕ) → AllByRecursion (λ c. (c < length rs) × (path_at rs c ≡ id_at rs c ∷ [])) ts → AllByRecursion (IsDeep rs) (map (node_at 0) ts)
 roots_deep rs [] a = tt
 roots_deep rs (c ∷ ts) a = (sym (ap length a.0.1), roots_deep rs ts a.1)
 
@@ -41,7 +41,7 @@ roots_shallow : (n : ℕ) (ts : List ℕ) → AllByRecursion (λ (w : Node). w.d
 roots_shallow n [] = tt
 roots_shallow n (c ∷ ts) = (omega arith, roots_shallow n ts)
 
-pub visits_start : (rs : List Record) (f : Adjacency) → IsAdjacency rs f → Visits rs [] (map (node_at 0) f.roots)
+pub visits_start : (rs : List TreeSpan) (f : Adjacency) → IsAdjacency rs f → Visits rs [] (map (node_at 0) f.roots)
 visits_start rs f is = record {
   walk = subst (λ (l : List ℕ). Walk (length rs) (path_at rs) (id_at rs) (up_at rs) [] l) (sym (places_of 0 f.roots)) (starts (length rs) (path_at rs) (id_at rs) (up_at rs) f.roots is.roots);
   deep = tt;
@@ -49,7 +49,7 @@ visits_start rs f is = record {
   shallow = roots_shallow 0 f.roots;
 }
 
-kids_deep : (rs : List Record) (x : Node) (ks : List ℕ) → IsDeep rs x → AllByRecursion (λ c. (c < length rs) × (path_at rs c ≡ path_at rs x.place ++ id_at rs c ∷ [])) ks → AllByRecursion (IsDeep rs) (map (node_at (x.depth + 1)) ks)
+kids_deep : (rs : List TreeSpan) (x : Node) (ks : List ℕ) → IsDeep rs x → AllByRecursion (λ c. (c < length rs) × (path_at rs c ≡ path_at rs x.place ++ id_at rs c ∷ [])) ks → AllByRecursion (IsDeep rs) (map (node_at (x.depth + 1)) ks)
 kids_deep rs x [] e a = tt
 kids_deep rs x (c ∷ ks) e a = (
   (let l = ap length a.0.1 ∙ length-append (path_at rs x.place) (id_at rs c ∷ []) in omega arith),
@@ -60,13 +60,13 @@ kids_shallow : (depth n : ℕ) (ks : List ℕ) → depth ≤ n → AllByRecursio
 kids_shallow depth n [] h = tt
 kids_shallow depth n (c ∷ ks) h = (h, kids_shallow depth n ks h)
 
-pub next_within : (rs : List Record) (nodes : List Node) (x : Node) (waits : List Node) → Visits rs nodes (x ∷ waits) → x.place < length rs
+pub next_within : (rs : List TreeSpan) (nodes : List Node) (x : Node) (waits : List Node) → Visits rs nodes (x ∷ waits) → x.place < length rs
 next_within rs nodes x waits v = first (places nodes) v.walk.within where
   first : (ps : List ℕ) → AllByRecursion (λ a. a < length rs) (ps ++ x.place ∷ places waits) → x.place < length rs
   first [] a = a.0
   first (p ∷ ps) a = first ps a.1
 
-pub visits_step : (rs : List Record) (f : Adjacency) (nodes : List Node) (x : Node) (waits : List Node) → IsAdjacency rs f → Visits rs nodes (x ∷ waits)
+pub visits_step : (rs : List TreeSpan) (f : Adjacency) (nodes : List Node) (x : Node) (waits : List Node) → IsAdjacency rs f → Visits rs nodes (x ∷ waits)
     → Visits rs (nodes ++ x ∷ []) (map (node_at (x.depth + 1)) (get_or f.children.items x.place []) ++ waits)
 visits_step rs f nodes x waits is v =
     let ks : List ℕ = get_or f.children.items x.place [] in
@@ -85,7 +85,7 @@ visits_step rs f nodes x waits is v =
 
 -- ---- no place is visited twice
 
-distinct_of : (rs : List Record) (ps : List ℕ) → Ordered (λ a b. IsBelow (path_at rs a) (path_at rs b)) ps → IsDistinct eqb ps
+distinct_of : (rs : List TreeSpan) (ps : List ℕ) → Ordered (λ a b. IsBelow (path_at rs a) (path_at rs b)) ps → IsDistinct eqb ps
 unfolding IsDistinct
 distinct_of rs [] o = tt
 distinct_of rs (p ∷ ps) o =
@@ -102,7 +102,7 @@ any_below : (n q : ℕ) (ps : List ℕ) → AllByRecursion (λ a. a < n) ps → 
 any_below n q [] a e = absurd (true≢false (sym e))
 any_below n q (p ∷ ps) a e = any_at n q p (list_any (eqb q) ps) (eqb q p) refl a.0 (λ h. any_below n q ps a.1 h) e
 
-pub next_fits : (rs : List Record) (nodes : List Node) (x : Node) (waits : List Node) → Visits rs nodes (x ∷ waits) → length nodes < length rs
+pub next_fits : (rs : List TreeSpan) (nodes : List Node) (x : Node) (waits : List Node) → Visits rs nodes (x ∷ waits) → length nodes < length rs
 next_fits rs nodes x waits v =
     let ps : List ℕ = places nodes ++ x.place ∷ places waits in
     let most : length ps ≤ length rs = length-le_from_distinct_below ps (length rs) (distinct_of rs ps v.walk.sorted) (λ q h. any_below (length rs) q ps v.walk.within h) in
@@ -150,17 +150,17 @@ found k [] h = absurd (true≢false (sym h))
 found k (x ∷ ns) h = found_at k x ns (x.place == k) refl (λ e. found k ns e) h
 
 -- a tree parent has its place in the list, and its id is less
-pub up_is : (all rs : List Record) (k : ℕ) (d : Record) → k < length rs → up_in all rs k ≡ up_from 0 all (get_or rs k d)
+pub up_is : (all rs : List TreeSpan) (k : ℕ) (d : TreeSpan) → k < length rs → up_in all rs k ≡ up_from 0 all (get_or rs k d)
 up_is all [] k d less = absurd (omega arith)
 up_is all (r ∷ rs) zero d less = refl
 up_is all (r ∷ rs) (suc k) d less = up_is all rs k d (omega arith)
 
-pub id_is : (rs : List Record) (k : ℕ) (d : Record) → k < length rs → id_at rs k ≡ (get_or rs k d).context.span
+pub id_is : (rs : List TreeSpan) (k : ℕ) (d : TreeSpan) → k < length rs → id_at rs k ≡ (get_or rs k d).span
 id_is [] k d less = absurd (omega arith)
 id_is (r ∷ rs) zero d less = refl
 id_is (r ∷ rs) (suc k) d less = id_is rs k d (omega arith)
 
-down_by : (rs : List Record) (d : Record) (k p : ℕ) → k < length rs → up_at rs k ≡ Some p → (p < length rs) × (id_at rs p < id_at rs k)
+down_by : (rs : List TreeSpan) (d : TreeSpan) (k p : ℕ) → k < length rs → up_at rs k ≡ Some p → (p < length rs) × (id_at rs p < id_at rs k)
 down_by rs d k p less e =
     let u : up_from 0 rs (get_or rs k d) ≡ Some p = sym (up_is rs rs k d less) ∙ e in
     let w = up_within 0 rs (get_or rs k d) p u in
@@ -171,11 +171,11 @@ down_by rs d k p less e =
     let b = id_is rs p d in' in
     (in', omega arith)
 
-down : (rs : List Record) (k p : ℕ) → k < length rs → up_at rs k ≡ Some p → (p < length rs) × (id_at rs p < id_at rs k)
+down : (rs : List TreeSpan) (k p : ℕ) → k < length rs → up_at rs k ≡ Some p → (p < length rs) × (id_at rs p < id_at rs k)
 down [] k p less e = absurd (omega arith)
 down (r ∷ rs) k p less e = down_by (r ∷ rs) r k p less e
 
-pub visits_end : (rs : List Record) (nodes : List Node) → Visits rs nodes [] → IsForest rs nodes
+pub visits_end : (rs : List TreeSpan) (nodes : List Node) → Visits rs nodes [] → IsForest rs nodes
 unfolding Found
 visits_end rs nodes v =
     let R : ℕ → ℕ → Type 0 = λ a b. IsBelow (path_at rs a) (path_at rs b) in

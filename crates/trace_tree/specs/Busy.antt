@@ -1,10 +1,11 @@
--- Busy times.
+-- Busy times, and what trees need of a finished span.
 use Rattle.std.specs.Prelude.{ℕ, pos, negsuc, Bool, List, [], ◌∷◌, codes, bytes_eq}
 use Rattle.std.specs.List.{filter}
 use Rattle.otel_base.specs.declared.value.KeyValue.{KeyValue}
 use Rattle.otel_base.specs.declared.value.OtelValue.{OtelValue}
 use Rattle.otel_base.specs.declared.value.OtelValue.TheVariants as value
 use Rattle.otel_base.specs.declared.record.Record.{Record}
+use Rattle.trace_tree.specs.declared.span.TreeSpan.{TreeSpan}
 
 -- a whole number that isn't negative as it is, and anything else as 0
 abbrev pub nanoseconds_of : OtelValue → ℕ
@@ -24,5 +25,9 @@ latest n [] = n
 latest n (a ∷ rest) = latest (nanoseconds_of a.value) rest
 
 -- what the last attribute named busy_ns is worth, 0 where there is none
-abbrev pub busy_of : Record → ℕ
-busy_of r = latest 0 (filter is_busy r.attributes)
+abbrev pub busy_told : Record → ℕ
+busy_told r = latest 0 (filter is_busy r.attributes)
+
+-- what trees need of a finished span
+abbrev pub tree_span : Record → TreeSpan
+tree_span r = record { trace = r.context.trace; span = r.context.span; parent = r.parent; name = r.name; busy = busy_told r }

@@ -1,37 +1,39 @@
--- The tree parents of records, their paths, and the forest, which is the records in the order of their paths.
+-- The tree parents of finished spans, their paths, and the forest, which is the spans in the order of their paths.
 use Rattle.std.specs.Prelude.{◌≡◌, ℕ, zero, suc, ◌<◌, ◌⊎◌, ◌==◌, ◌&&◌, ltb, Bool, cond, List, [], ◌∷◌, ◌++◌, length, Option, Some, None, get_or}
-use Rattle.otel_base.specs.declared.record.Record.{Record}
+use Rattle.trace_tree.specs.declared.span.TreeSpan.{TreeSpan}
 use Rattle.trace_tree.specs.declared.node.Node.{Node}
 
--- whether a record is of the same trace and has the span id that is the other's parent, and that id is less than the other's own
-abbrev pub is_parent_of : Record → Record → Bool
-is_parent_of r q = (q.context.trace == r.context.trace) && (q.context.span == r.parent) && ltb r.parent r.context.span
+-- whether a span is of the same trace and has the span id that is the other's parent, and that id is less than the other's own
+abbrev pub is_parent_of : TreeSpan → TreeSpan → Bool
+is_parent_of r q = (q.trace == r.trace) && (q.span == r.parent) && ltb r.parent r.span
 
--- the tree parent among some records
-abbrev pub tree_parent : List Record → Record → Option Record
+-- the tree parent among some spans
+abbrev pub tree_parent : List TreeSpan → TreeSpan → Option TreeSpan
 tree_parent [] r = None
 tree_parent (q ∷ qs) r = cond (is_parent_of r q) (Some q) (tree_parent qs r)
 
-abbrev pub path_over : (Record → List ℕ) → Option Record → List ℕ
+-- the path by a function of the tree parent, if there is one
+abbrev pub path_over : (TreeSpan → List ℕ) → Option TreeSpan → List ℕ
 path_over f None = []
 path_over f (Some q) = f q
 
--- The path of a record, up to so many steps. A parent's id is less, so that as many as the record's id are enough
-abbrev pub path_within : ℕ → List Record → Record → List ℕ
-path_within zero rs r = r.context.span ∷ []
-path_within (suc n) rs r = path_over (path_within n rs) (tree_parent rs r) ++ r.context.span ∷ []
+-- The path of a span, up to so many steps. A parent's id is less, so that as many as the span's id are enough
+abbrev pub path_within : ℕ → List TreeSpan → TreeSpan → List ℕ
+path_within zero rs r = r.span ∷ []
+path_within (suc n) rs r = path_over (path_within n rs) (tree_parent rs r) ++ r.span ∷ []
 
 -- its tree parent's path and then its own span id
-abbrev pub path : List Record → Record → List ℕ
-path rs r = path_within r.context.span rs r
+abbrev pub path : List TreeSpan → TreeSpan → List ℕ
+path rs r = path_within r.span rs r
 
-abbrev pub path_in : List Record → List Record → ℕ → List ℕ
+-- the path of the span at a place of the rest of a list
+abbrev pub path_in : List TreeSpan → List TreeSpan → ℕ → List ℕ
 path_in all [] k = []
 path_in all (r ∷ rs) zero = path all r
 path_in all (r ∷ rs) (suc k) = path_in all rs k
 
--- the path of the record at a place
-abbrev pub path_at : List Record → ℕ → List ℕ
+-- the path of the span at a place
+abbrev pub path_at : List TreeSpan → ℕ → List ℕ
 path_at rs k = path_in rs rs k
 
 -- one list of numbers comes before another; a prefix first
@@ -42,11 +44,11 @@ IsBelow (x ∷ xs) [] = ⊥
 IsBelow (x ∷ xs) (y ∷ ys) = (x < y) ⊎ ((x ≡ y) × IsBelow xs ys)
 
 -- the ids of spans differ
-abbrev pub AreDistinct : List Record → Type 0
-AreDistinct rs = (i j : ℕ) (d : Record) → i < j → j < length rs → (get_or rs i d).context.span ≡ (get_or rs j d).context.span → ⊥
+abbrev pub AreDistinct : List TreeSpan → Type 0
+AreDistinct rs = (i j : ℕ) (d : TreeSpan) → i < j → j < length rs → (get_or rs i d).span ≡ (get_or rs j d).span → ⊥
 
--- all records, in the order of their paths, each with how deep it stands
-pub record IsForest (rs : List Record) (nodes : List Node) : Type 0 where
+-- all spans, in the order of their paths, each with how deep it stands
+pub record IsForest (rs : List TreeSpan) (nodes : List Node) : Type 0 where
   pub sorted : (i j : ℕ) (d : Node) → i < j → j < length nodes → IsBelow (path_at rs (get_or nodes i d).place) (path_at rs (get_or nodes j d).place)
   pub within : (i : ℕ) (d : Node) → i < length nodes → (get_or nodes i d).place < length rs
   pub whole : (k : ℕ) → k < length rs → (i : ℕ) × (i < length nodes) × ((d : Node) → (get_or nodes i d).place ≡ k)

@@ -1,9 +1,9 @@
--- What a walk over all records needs: which stand under which, in the order of their ids.
+-- What a walk over all spans needs: which stand under which, in the order of their ids.
 use Rattle.std.specs.Prelude.{◌≡◌, ℕ, zero, suc, ◌<◌, ◌⊎◌, ◌==◌, Bool, true, cond, Option, Some, None, List, [], ◌∷◌, ◌++◌, length, get_or}
 use Rattle.std.specs.List.{AllByRecursion, list_any}
 use Rattle.std.specs.Ordering.{nat_cmp}
 use Rattle.std.specs.BTreeMap.{BTreeMap, get}
-use Rattle.otel_base.specs.declared.record.Record.{Record}
+use Rattle.trace_tree.specs.declared.span.TreeSpan.{TreeSpan}
 use Rattle.trace_tree.specs.declared.node.Node.{Node}
 use Rattle.trace_tree.specs.declared.adjacency.Adjacency.{Adjacency}
 use Rattle.trace_tree.specs.Paths.{is_parent_of, path_at}
@@ -20,23 +20,23 @@ abbrev pub has : ℕ → List ℕ → Bool
 has k xs = list_any (λ x. x == k) xs
 
 -- the place of the tree parent, in a list that begins at the place i
-abbrev pub up_from : ℕ → List Record → Record → Option ℕ
+abbrev pub up_from : ℕ → List TreeSpan → TreeSpan → Option ℕ
 up_from i [] r = None
 up_from i (q ∷ qs) r = cond (is_parent_of r q) (Some i) (up_from (suc i) qs r)
 
-abbrev pub up_in : List Record → List Record → ℕ → Option ℕ
+abbrev pub up_in : List TreeSpan → List TreeSpan → ℕ → Option ℕ
 up_in all [] k = None
 up_in all (r ∷ rs) zero = up_from 0 all r
 up_in all (r ∷ rs) (suc k) = up_in all rs k
 
--- the place of the tree parent of the record at a place
-abbrev pub up_at : List Record → ℕ → Option ℕ
+-- the place of the tree parent of the span at a place
+abbrev pub up_at : List TreeSpan → ℕ → Option ℕ
 up_at rs k = up_in rs rs k
 
--- the id of the record at a place
-abbrev pub id_at : List Record → ℕ → ℕ
+-- the id of the span at a place
+abbrev pub id_at : List TreeSpan → ℕ → ℕ
 id_at [] k = 0
-id_at (r ∷ rs) zero = r.context.span
+id_at (r ∷ rs) zero = r.span
 id_at (r ∷ rs) (suc k) = id_at rs k
 
 module _ (n : ℕ) (path : ℕ → List ℕ) (id : ℕ → ℕ) (up : ℕ → Option ℕ) where
@@ -52,12 +52,12 @@ module _ (n : ℕ) (path : ℕ → List ℕ) (id : ℕ → ℕ) (up : ℕ → Op
     pub ordered : Ordered (λ a b. id a < id b) ts
     pub whole : (k : ℕ) → k < n → (has k ts ≡ true) ⊎ ((p : ℕ) × (up k ≡ Some p))
 
-pub record IsAdjacency (rs : List Record) (f : Adjacency) : Type 0 where
+pub record IsAdjacency (rs : List TreeSpan) (f : Adjacency) : Type 0 where
   pub size : length f.children.items ≡ length rs
   pub roots : Roots (length rs) (path_at rs) (id_at rs) (up_at rs) f.roots
   pub children : (p : ℕ) → p < length rs → Children (length rs) (path_at rs) (id_at rs) (up_at rs) p (get_or f.children.items p [])
 
--- the places of the first records by their ids
-pub record IsIndex (rs : List Record) (n : ℕ) (m : BTreeMap ℕ ℕ) : Type 0 where
+-- the places of the first spans by their ids
+pub record IsIndex (rs : List TreeSpan) (n : ℕ) (m : BTreeMap ℕ ℕ) : Type 0 where
   pub sound : (q p : ℕ) → get nat_cmp m q ≡ Some p → (p < n) × (id_at rs p ≡ q)
   pub whole : (p : ℕ) → p < n → get nat_cmp m (id_at rs p) ≡ Some p

@@ -1,5 +1,5 @@
-//! Finished spans under their parents: the forest of a list of records, totals of its traces, and busy times. Everything
-//! turns on the path of a record, the span ids from its root down to itself: the forest is the records in the order of
+//! Finished spans under their parents: the forest of a list of spans, totals of its traces, and busy times. Everything
+//! turns on the path of a span, the span ids from its root down to itself: the forest is the spans in the order of
 //! their paths.
 #![tactic(auto)]
 
@@ -8,8 +8,10 @@ pub mod busy;
 pub mod forest;
 pub mod laws;
 pub mod node;
+pub mod span;
 pub mod totals;
 mod walk;
 
 pub use node::Node;
+pub use span::TreeSpan;
 pub use totals::TraceTotal;

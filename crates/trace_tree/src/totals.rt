@@ -5,9 +5,8 @@ ghost use Rattle.std.specs.Ordering.{nat_cmp};
 ghost use Rattle.std.specs.BTreeMap.{get};
 ghost use Rattle.trace_tree.specs.Totals.{IsTally, IsTotals};
 
-use crate::busy::busy;
+use crate::span::TreeSpan;
 use otel_base::memory::Memory;
-use otel_base::record::Record;
 use std::alloc::Global;
 use std::collections::BTreeMap;
 
@@ -16,7 +15,7 @@ use std::collections::BTreeMap;
 pub struct TraceTotal {
     /// The id of the trace.
     pub trace: u128,
-    /// How many records it has.
+    /// How many finished spans it has.
     pub spans: u64,
     /// The sum of their busy times, in nanoseconds.
     pub busy: u128,
@@ -30,24 +29,24 @@ fn sums_at(sums: &BTreeMap<u128, (u64, u128)>, trace: u128) -> (u64, u128)
 }
 
 // The sums of each trace.
-fn tally(alloc: Global, records: &[Record]) -> Result<BTreeMap<u128, (u64, u128)>, Memory>
-    ensures { IfOk result (λ m. IsTally records.now m) }
+fn tally(alloc: Global, finished: &[TreeSpan]) -> Result<BTreeMap<u128, (u64, u128)>, Memory>
+    ensures { IfOk result (λ m. IsTally finished.now m) }
 {
     let mut sums = BTreeMap::new(alloc);
-    for record in records {
-        let trace = record.context.trace;
+    for span in finished {
+        let trace = span.trace;
         let (spans, sum) = sums_at(&sums, trace);
-        let more = sum + u128::from(busy(record));
+        let more = sum + u128::from(span.busy);
         sums.insert(trace, (spans + 1, more))?;
     }
     Ok(sums)
 }
 
-/// The totals of the records' traces, in the ascending order of their ids. `Memory` freely.
-pub fn totals(alloc: Global, records: &[Record]) -> Result<Vec<TraceTotal>, Memory>
-    ensures { IfOk result (λ v. IsTotals records.now v.items) }
+/// The totals of the spans' traces, in the ascending order of their ids. `Memory` freely.
+pub fn totals(alloc: Global, finished: &[TreeSpan]) -> Result<Vec<TraceTotal>, Memory>
+    ensures { IfOk result (λ v. IsTotals finished.now v.items) }
 {
-    let sums = tally(alloc, records)?;
+    let sums = tally(alloc, finished)?;
     let mut all = Vec::new(alloc);
     for (trace, (spans, busy)) in &sums {
         all.push(TraceTotal {

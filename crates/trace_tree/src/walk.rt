@@ -1,12 +1,12 @@
-//! A walk over all records with a stack of children.
+//! A walk over all spans with a stack of children.
 ghost use Rattle.std.specs.Prelude.{◌≡◌, ◌<◌, ◌++◌, OnOk, IfOk, List, ℕ, length, map, reverse};
 ghost use Rattle.trace_tree.specs.Paths.{IsForest};
 ghost use Rattle.trace_tree.specs.Walking.{node_at, IsAdjacency};
 
 use crate::adjacency::Adjacency;
 use crate::node::Node;
+use crate::span::TreeSpan;
 use otel_base::memory::Memory;
-use otel_base::record::Record;
 use std::alloc::Global;
 
 // Puts places onto the stack, the first one on top.
@@ -22,14 +22,14 @@ fn push_all(places: &[u64], depth: u64, stack: &mut Vec<Node>) -> Result<(), Mem
     Ok(())
 }
 
-/// All records in the order of their paths.
+/// All spans in the order of their paths.
 pub(crate) fn walk(
     alloc: Global,
-    records: &[Record],
+    finished: &[TreeSpan],
     adjacency: &Adjacency,
 ) -> Result<Vec<Node>, Memory>
-    requires { IsAdjacency records.now adjacency.now }
-    ensures { IfOk result (λ v. IsForest records.now v.items) }
+    requires { IsAdjacency finished.now adjacency.now }
+    ensures { IfOk result (λ v. IsForest finished.now v.items) }
 {
     let mut nodes = Vec::new(alloc);
     let mut stack = Vec::new(alloc);

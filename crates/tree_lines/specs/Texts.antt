@@ -1,8 +1,7 @@
 -- The lines of the command `tree`.
-use Rattle.std.specs.Prelude.{◌≡◌, ℕ, List, [], ◌∷◌, ◌++◌, codes, decimal, length, true, None, unwrap_or, option_map, slice_get}
+use Rattle.std.specs.Prelude.{◌≡◌, ℕ, List, [], ◌∷◌, ◌++◌, codes, decimal, length, map, true, None, unwrap_or, option_map, slice_get}
 use Rattle.std.specs.List.{flat_map}
 use Rattle.serde_json.specs.Data.{Data, boolean, string, object}
-use Rattle.otel_base.specs.declared.record.Record.{Record}
 use Rattle.span_script.specs.Effects.{open_spans}
 use Rattle.span_script.specs.Outcomes.{records}
 use Rattle.span_script.specs.Tables.{tables}
@@ -11,24 +10,26 @@ use Rattle.trace_pipeline.specs.Object.{by_name, whole_number, line_of}
 use Rattle.trace_records.specs.Inputs.{TellsRun}
 use Rattle.trace_records.specs.Scripts.{Script, script_of}
 use Rattle.trace_tree.specs.declared.node.Node.{Node}
+use Rattle.trace_tree.specs.declared.span.TreeSpan.{TreeSpan}
 use Rattle.trace_tree.specs.declared.totals.TraceTotal.{TraceTotal}
-use Rattle.trace_tree.specs.Busy.{busy_of}
+use Rattle.trace_tree.specs.Busy.{tree_span}
 use Rattle.trace_tree.specs.Paths.{IsForest}
 use Rattle.trace_tree.specs.Totals.{IsTotals}
 
--- a record that stands so deep: its busy time, which is told as a text as sums are, its name and its id
-abbrev pub node_data : ℕ → Record → Data
+-- a span that stands so deep: its busy time, which is told as a text as sums are, its name and its id
+abbrev pub node_data : ℕ → TreeSpan → Data
 node_data depth finished = object (by_name (
-    (codes "busy", string (decimal (busy_of finished)))
+    (codes "busy", string (decimal finished.busy))
     ∷ (codes "depth", whole_number depth)
     ∷ (codes "name", string finished.name)
-    ∷ (codes "span", string (hex16 finished.context.span)) ∷ []))
+    ∷ (codes "span", string (hex16 finished.span)) ∷ []))
 
-unfoldable pub node_text : ℕ → Record → List ℕ
+-- its line
+unfoldable pub node_text : ℕ → TreeSpan → List ℕ
 node_text depth finished = line_of (node_data depth finished)
 
--- the line of a node, among some records
-abbrev pub node_line : List Record → Node → List ℕ
+-- the line of a node, among some spans
+abbrev pub node_line : List TreeSpan → Node → List ℕ
 node_line rs node = unwrap_or (option_map (node_text node.depth) (slice_get rs node.place)) []
 
 -- a trace: the sum of its busy times, how many spans it has, and its id
@@ -38,6 +39,7 @@ total_data total = object (by_name (
     ∷ (codes "spans", whole_number total.spans)
     ∷ (codes "trace", string (hex32 total.trace)) ∷ []))
 
+-- its line
 unfoldable pub total_text : TraceTotal → List ℕ
 total_text total = line_of (total_data total)
 
@@ -49,12 +51,13 @@ tree_end_data open_spans records traces = object (by_name (
     ∷ (codes "records", whole_number records)
     ∷ (codes "traces", whole_number traces) ∷ []))
 
+-- its line
 unfoldable pub tree_end_text : ℕ → ℕ → ℕ → List ℕ
 tree_end_text open_spans records traces = line_of (tree_end_data open_spans records traces)
 
--- What is written of the records of a script that leaves so many spans open: a line for each node of their forest, one for
+-- What is written of the finished spans of a script that leaves so many open: a line for each node of their forest, one for
 -- each of their totals, and the end line.
-pub record TellsTree (rs : List Record) (open_spans : ℕ) (text : List ℕ) : Type 0 where
+pub record TellsTree (rs : List TreeSpan) (open_spans : ℕ) (text : List ℕ) : Type 0 where
   pub nodes : List Node
   pub forest : IsForest rs nodes
   pub totals : List TraceTotal
@@ -63,9 +66,10 @@ pub record TellsTree (rs : List Record) (open_spans : ℕ) (text : List ℕ) : T
 
 -- ---- a script
 
--- the trees of the records of a script
+-- the trees of the records of a script, of each of which they tell what trees need
 abbrev pub TellsScript : Script → List ℕ → Type 0
-TellsScript script text = TellsTree (records script.setup script.history) (open_spans (tables script.setup script.history)) text
+TellsScript script text =
+    TellsTree (map tree_span (records script.setup script.history)) (open_spans (tables script.setup script.history)) text
 
 -- the trees of the script that lines come to, or the refusal line alone
 abbrev pub TellsTrees : List (List ℕ) → List ℕ → Type 0

@@ -10,17 +10,18 @@ use otel_base::memory::Memory;
 use span_laws::ids::ids;
 use std::alloc::Global;
 use trace_records::{Answer, follow_lines, refusal_of, refused_answer};
+use trace_tree::TreeSpan;
 
 /// The trees of the script that these bytes are, or its refusal line alone. `Memory` freely.
 pub fn tree_answer(alloc: Global, bytes: &[u8]) -> Result<Answer, Memory>
     ensures text { IfOk result (λ answer. TellsTrees (lines_of bytes.now) answer.text.items) }
     ensures refused { IfOk result (λ answer. accepts (lines_of bytes.now) ≡ not answer.refused) }
 {
-    match follow_lines(alloc, None, bytes)?.end()? {
+    match follow_lines::<TreeSpan>(alloc, None, bytes)?.end()? {
         Ok(finished) => {
-            // The records' ids differ, which their forest asks for.
+            // The spans' ids differ, which their forest asks for.
             ids();
-            let text = tree_text(alloc, finished.records.as_slice(), finished.open_spans)?;
+            let text = tree_text(alloc, finished.spans.as_slice(), finished.open_spans)?;
             let refused = false;
             Ok(Answer { text, refused })
         }

@@ -5,12 +5,10 @@ ghost use Rattle.trace_pipeline.specs.Writes.{Writes};
 ghost use Rattle.tree_lines.specs.Texts.{node_text, total_text, tree_end_text};
 
 use itoa::Buffer;
-use otel_base::record::Record;
 use std::alloc::AllocError;
 use trace_pipeline::write::hex::{add_id, add_long_id};
 use trace_pipeline::write::pieces::{add, add_number, add_text};
-use trace_tree::busy::busy;
-use trace_tree::totals::TraceTotal;
+use trace_tree::{TraceTotal, TreeSpan};
 
 // Adds a whole number as a text, since it may pass 64 bits.
 fn add_decimal(out: &mut Vec<u8>, front: &str, number: u128) -> Result<(), AllocError>
@@ -21,14 +19,14 @@ fn add_decimal(out: &mut Vec<u8>, front: &str, number: u128) -> Result<(), Alloc
     add_text(out, front, digits)
 }
 
-/// Adds the line of a record that stands so deep.
-pub fn add_node(out: &mut Vec<u8>, depth: u64, finished: &Record) -> Result<(), AllocError>
+/// Adds the line of a span that stands so deep.
+pub fn add_node(out: &mut Vec<u8>, depth: u64, finished: &TreeSpan) -> Result<(), AllocError>
     ensures { Writes result out.old out.new (node_text depth finished.now) }
 {
-    add_decimal(out, "{\"busy\":", u128::from(busy(finished)))?;
+    add_decimal(out, "{\"busy\":", u128::from(finished.busy))?;
     add_number(out, ",\"depth\":", depth)?;
     add_text(out, ",\"name\":", finished.name.as_str())?;
-    add_id(out, ",\"span\":", finished.context.span)?;
+    add_id(out, ",\"span\":", finished.span)?;
     add(out, "}")?;
     add(out, "\n")?;
     Ok(())

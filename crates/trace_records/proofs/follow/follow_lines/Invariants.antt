@@ -5,8 +5,8 @@ use Rattle.trace_records.specs.Following.{Follows}
 use Rattle.trace_records.proofs.follow.follow_lines.Given as goal
 
 abbrev pub invariant-loop-rest : goal.invariant-loop-rest
-invariant-loop-rest l =
-    (before : List (List ℕ)) × (lines_of l.fn.bytes ≡ before ++ lines_of l.rest) × Follows l.fn.most_lanes before l.run
+invariant-loop-rest g l =
+    (before : List (List ℕ)) × (lines_of l.fn.bytes ≡ before ++ lines_of l.rest) × Follows g.K.Kept.of_record l.fn.most_lanes before l.run
 
 abbrev pub decreases-loop-rest : goal.decreases-loop-rest
-decreases-loop-rest l = length l.rest
+decreases-loop-rest g l = length l.rest

@@ -9,4 +9,4 @@ abbrev pub invariant-loop : goal.invariant-loop
 invariant-loop l = (length l.children.items ≡ l.index) × ((p : ℕ) → get_or l.children.items p [] ≡ [])
 
 abbrev pub invariant-loop-place : goal.invariant-loop-place
-invariant-loop-place l = Grouped l.records l.roots l.children.items (values_of (map deref_pair l.yielded))
+invariant-loop-place l = Grouped l.finished l.roots l.children.items (values_of (map deref_pair l.yielded))

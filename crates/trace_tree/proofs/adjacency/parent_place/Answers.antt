@@ -1,22 +1,22 @@
 -- What the index has is looked at.
 use Rattle.std.proofs.Common.{◌==◌, ◌&&◌, ltb, Bool, cond, Some, None, ap, sym, ◌∙◌}
-use Rattle.otel_base.specs.declared.record.Record.{Record}
+use Rattle.trace_tree.specs.declared.span.TreeSpan.{TreeSpan}
 use Rattle.trace_tree.proofs.Indexing.{parent_none, parent_some}
 use Rattle.trace_tree.proofs.adjacency.parent_place.Goals as goal
 
 pub returns-then-is_parent : goal.returns-then-is_parent
 returns-then-is_parent c =
-    let r : Record = c.args.one.now in
-    let test = ap (λ (x : Record). (x.context.trace == r.context.trace) && ltb r.parent r.context.span) (sym c.index-records-place.is) ∙ sym c.is_parent.ensures ∙ c.if-is_parent.true in
+    let r : TreeSpan = c.args.one.now in
+    let test = ap (λ (x : TreeSpan). (x.trace == r.trace) && ltb r.parent r.span) (sym c.index-finished-place.is) ∙ sym c.is_parent.ensures ∙ c.if-is_parent.true in
     sym (ap (λ (b : Bool). cond b (Some c.in-Some.place) None) test)
-    ∙ parent_some c.args.records.now r c.args.index.now c.in-Some.place c.index-records-place.result c.requires.distinct c.requires.index (sym c.place_of.ensures ∙ c.in-Some.is)
+    ∙ parent_some c.args.finished.now r c.args.index.now c.in-Some.place c.index-finished-place.result c.requires.distinct c.requires.index (sym c.place_of.ensures ∙ c.in-Some.is)
 
 pub returns-else-is_parent : goal.returns-else-is_parent
 returns-else-is_parent c =
-    let r : Record = c.args.one.now in
-    let test = ap (λ (x : Record). (x.context.trace == r.context.trace) && ltb r.parent r.context.span) (sym c.index-records-place.is) ∙ sym c.is_parent.ensures ∙ c.if-is_parent.false in
+    let r : TreeSpan = c.args.one.now in
+    let test = ap (λ (x : TreeSpan). (x.trace == r.trace) && ltb r.parent r.span) (sym c.index-finished-place.is) ∙ sym c.is_parent.ensures ∙ c.if-is_parent.false in
     sym (ap (λ (b : Bool). cond b (Some c.in-Some.place) None) test)
-    ∙ parent_some c.args.records.now r c.args.index.now c.in-Some.place c.index-records-place.result c.requires.distinct c.requires.index (sym c.place_of.ensures ∙ c.in-Some.is)
+    ∙ parent_some c.args.finished.now r c.args.index.now c.in-Some.place c.index-finished-place.result c.requires.distinct c.requires.index (sym c.place_of.ensures ∙ c.in-Some.is)
 
 pub returns-in-None : goal.returns-in-None
-returns-in-None c = parent_none c.args.records.now c.args.one.now c.args.index.now c.requires.index (sym c.place_of.ensures ∙ c.in-None.is)
+returns-in-None c = parent_none c.args.finished.now c.args.one.now c.args.index.now c.requires.index (sym c.place_of.ensures ∙ c.in-None.is)

@@ -4,7 +4,7 @@ use Rattle.trace_tree.proofs.Visits.{Visits}
 use Rattle.trace_tree.proofs.walk.walk.Given as goal
 
 abbrev pub invariant-loop-node : goal.invariant-loop-node
-invariant-loop-node l = Visits l.records l.nodes.items (reverse l.stack.items)
+invariant-loop-node l = Visits l.finished l.nodes.items (reverse l.stack.items)
 
 abbrev pub decreases-loop-node : goal.decreases-loop-node
-decreases-loop-node l = length l.records - length l.nodes.items
+decreases-loop-node l = length l.finished - length l.nodes.items

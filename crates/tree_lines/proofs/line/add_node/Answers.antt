@@ -10,5 +10,5 @@ pub returns : goal.returns
 unfolding escape_byte node_text line_of
 returns c =
     then _ _ _ (compact_text (node_data c.args.depth c.args.finished.now)) _
-    (retold _ _ _ _ (then _ _ _ _ _ c.in_ok-add_decimal.ensures (then _ _ _ _ _ c.in_ok-add_number.ensures (then _ _ _ _ _ c.in_ok-add_text.ensures (then _ _ _ _ _ c.in_ok-add_id.ensures c.in_ok-add.ensures)))) (rw (c.from.ensures, c.busy.ensures, c.as_str.ensures) refl))
+    (retold _ _ _ _ (then _ _ _ _ _ c.in_ok-add_decimal.ensures (then _ _ _ _ _ c.in_ok-add_number.ensures (then _ _ _ _ _ c.in_ok-add_text.ensures (then _ _ _ _ _ c.in_ok-add_id.ensures c.in_ok-add.ensures)))) (rw (c.from.ensures, c.as_str.ensures) refl))
     c.in_ok-add-2.ensures
