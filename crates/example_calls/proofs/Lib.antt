@@ -1,4 +1,1 @@
-pub mod Begins
-pub mod Closing
-pub mod Counts
-pub mod Moves
+-- This crate has no lemmas of its own.

@@ -1,5 +1,5 @@
 //! The callsites of the program, which in Rust its macros make, and values for their fields.
-ghost use Rattle.std.specs.Prelude.{◌≡◌, IfOk, length};
+ghost use Rattle.std.specs.Prelude.{◌≡◌, IfOk, OnOk, length};
 ghost use Rattle.example_calls.specs.Order.{AreThere};
 
 use otel_base::list::Items;
@@ -26,10 +26,11 @@ pub struct Sites {
 }
 
 impl Sites {
-    /// The callsites, added to a world.
+    /// The callsites, added to a world that has none.
     pub fn new<S: Subscriber>(alloc: Global, world: &mut World<S>) -> Result<Sites, Memory>
-        ensures there { IfOk result (λ sites. AreThere sites (length world.new.sites)) }
-        ensures alone { length world.old.subscribers ≡ 0 → length world.new.subscribers ≡ 0 }
+        requires { length world.old.sites ≡ 0 }
+        ensures there { IfOk result AreThere }
+        ensures four { OnOk result (length world.new.sites ≡ 4) }
     {
         let request = site(
             alloc,

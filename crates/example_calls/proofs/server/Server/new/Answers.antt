@@ -1,13 +1,16 @@
--- The one stack is as it was added.
-use Rattle.std.proofs.Common.{length, List, ap, sym, subst, refl}
-use Rattle.trace_base.specs.declared.callsite.Callsite.{Callsite}
-use Rattle.trace_base.specs.Gate.{Worlds}
-use Rattle.example_calls.specs.Order.{AreThere}
-use Rattle.example_calls.proofs.Begins.{begins}
+-- The one stack serves both lanes, which have ids of their own.
+use Rattle.std.proofs.Common.{◌≡◌, ℕ, [], ◌∷◌, Option, length, ap, arith}
+use Rattle.trace_base.specs.Gate.{dispatch_on}
 use Rattle.example_calls.proofs.server.Server.new.Goals as goal
 
-pub returns-in-Ok-add : goal.returns-in-Ok-add
-returns-in-Ok-add g c =
-    begins g.S.Subscriber.same c.args.stack g.S.Subscriber.spans g.S.Subscriber.kept g.S.Subscriber.is_whole g.met.S.Subscriber.same_spans g.met.S.Subscriber.same_kept g.met.S.Subscriber.same_whole c.requires.whole c.requires.spans c.requires.kept
-    c.new.new.world.subscribers (c.in-Ok.ensures.alone (ap (λ (w : Worlds g.row.S.Denot). length w.subscribers) c.new-world.ensures)) c.add.new.self c.in-Ok-add.ensures.ok
-    c.in-Ok.sites (subst (λ (xs : List Callsite). AreThere c.in-Ok.sites (length xs)) (sym c.in-Ok-add.ensures.sites) c.in-Ok.ensures.there) _ c.in-Ok-add.dispatch c.in-Ok-add.ensures.dispatch refl
+pub returns-in-Ok-start : goal.returns-in-Ok-start
+returns-in-Ok-start g c =
+    let global = c.start.new.world.global in
+    let four : length c.new.new.world.sites ≡ 4 = c.in-Ok.ensures.four in
+    let front = c.lane.ensures in
+    let back = c.lane-in-Ok-start.ensures in
+    record {
+      stands = c.in-Ok-start.ensures.stands 4 (c.lane.result ∷ c.lane-in-Ok-start.result ∷ []) (omega (arith, four))
+          (ap (λ (o : Option ℕ). dispatch_on o global) front.own, ((λ e. omega (arith, e, front.id, back.id)), tt), (ap (λ (o : Option ℕ). dispatch_on o global) back.own, tt, tt));
+      sites = c.in-Ok.ensures.there;
+    }

@@ -1,18 +1,56 @@
--- The span of a request is closed, and the next request comes later.
-use Rattle.std.proofs.Common.{◌+◌, arith}
-use Rattle.span_handles.specs.Worlds.{spans_in}
-use Rattle.example_calls.proofs.Closing.{closes, stays_newest}
-use Rattle.example_calls.proofs.Moves.{closed, later, released_spans}
+-- A span is made, what is done inside leaves all as it was, and the span is closed.
+use Rattle.std.proofs.Common.{ℕ, ◌+◌, [], ◌∷◌, arith, sym, subst}
+use Rattle.traced.specs.Standing.{IsHeld}
+use Rattle.traced.proofs.Moves.{later}
+use Rattle.traced.proofs.Rules.{can_close, held_after, made_after}
 use Rattle.example_calls.proofs.server.Server.serve.Goals as goal
 
-pub returns-clause-order : goal.returns-clause-order
-returns-clause-order g c = later g.S.Subscriber.spans g.S.Subscriber.kept g.S.Subscriber.is_whole c.inside-told.new.self.dispatch c.inside-told.new.self.sites (c.args.at + 60) (c.args.at + 100) c.close.new.world c.inside-told.new.self.lane (omega arith)
-    (closed g.S.Subscriber.spans g.S.Subscriber.attaches g.S.Subscriber.kept g.S.Subscriber.is_whole g.S.Subscriber.does g.met.S.Subscriber.allowed g.met.S.Subscriber.shows g.met.S.Subscriber.lanes g.met.S.Subscriber.keeps_attaches g.met.S.Subscriber.keeps_whole g.S.Subscriber.same g.met.S.Subscriber.same_spans g.met.S.Subscriber.same_attaches g.met.S.Subscriber.same_kept g.met.S.Subscriber.same_whole c.inside-told.new.self.dispatch c.inside-told.new.self.sites (c.args.at + 60) c.inside-told.new.self.world c.close.new.world c.inside-told.new.self.lane (c.args.at + 60) _ c.inside-told.ensures.held.own c.close.ensures.did c.inside-told.ensures.order).stands
+pub returns-in_err-span-clause-order : goal.returns-in_err-span-clause-order
+returns-in_err-span-clause-order g c =
+    let old = c.args.self.now in
+    let lanes = old.front ∷ old.back ∷ [] in
+    record {
+      stands = later g.S.Subscriber (c.args.at + 1) (c.args.at + 100) old.dispatch 4 c.span.new.world lanes (omega arith) (c.span.ensures.stands c.args.at old.dispatch 4 lanes c.requires.order.stands);
+      sites = c.requires.order.sites;
+    }
 
-pub returns-clause-as_before : goal.returns-clause-as_before
-returns-clause-as_before g c =
-    let x = spans_in g.S.Subscriber.spans c.args.self.now.world c.args.self.now.dispatch in
-    let w = spans_in g.S.Subscriber.spans c.span.new.self.world c.span.new.self.dispatch in
-    let y = spans_in g.S.Subscriber.spans c.inside-told.new.self.world c.inside-told.new.self.dispatch in
-    closes _ x y (spans_in g.S.Subscriber.spans c.close.new.world c.inside-told.new.self.dispatch) (stays_newest _ x w y c.in_ok-span.ensures.newest c.inside-told.ensures.as_before)
-    (released_spans g.S.Subscriber.spans g.S.Subscriber.attaches g.S.Subscriber.kept g.S.Subscriber.is_whole g.S.Subscriber.does g.met.S.Subscriber.allowed g.met.S.Subscriber.shows g.met.S.Subscriber.lanes g.met.S.Subscriber.keeps_attaches g.met.S.Subscriber.keeps_whole g.S.Subscriber.same g.met.S.Subscriber.same_spans g.met.S.Subscriber.same_attaches g.met.S.Subscriber.same_kept g.met.S.Subscriber.same_whole c.inside-told.new.self.dispatch c.inside-told.new.self.sites c.inside-told.new.self.world c.close.new.world (c.args.at + 60) _ c.inside-told.ensures.held.own c.close.ensures.did)
+pub inside-told-requires-clause-order : goal.inside-told-requires-clause-order
+inside-told-requires-clause-order g c =
+    let old = c.args.self.now in
+    let lanes = old.front ∷ old.back ∷ [] in
+    record {
+      stands = later g.S.Subscriber (c.args.at + 1) (c.args.at + 10) old.dispatch 4 c.span.new.world lanes (omega arith) (c.span.ensures.stands c.args.at old.dispatch 4 lanes c.requires.order.stands);
+      sites = c.requires.order.sites;
+    }
+
+pub inside-told-requires-clause-held : goal.inside-told-requires-clause-held
+inside-told-requires-clause-held g c = (c.in_ok-span.ensures.newest c.args.self.now.dispatch c.requires.order.stands.served.0.serves).held
+
+pub close-requires : goal.close-requires
+close-requires g c =
+    let new = c.inside-told.new.self in
+    let made = c.in_ok-span.ensures.newest c.args.self.now.dispatch c.requires.order.stands.served.0.serves in
+    let same = c.inside-told.ensures.restores in
+    can_close g.S.Subscriber (c.args.at + 60) new.dispatch 4 new.world (new.front ∷ new.back ∷ []) _
+    (subst (λ (d : ℕ). IsHeld g.S.Subscriber d new.world c.in_ok-span.span) (sym same.dispatch) (held_after g.S.Subscriber c.args.self.now.dispatch c.span.new.world new.world _ same.as_before made.held))
+    c.inside-told.ensures.order.stands
+
+pub returns-clause-order : goal.returns-clause-order
+returns-clause-order g c =
+    let new = c.inside-told.new.self in
+    let lanes = new.front ∷ new.back ∷ [] in
+    record {
+      stands = later g.S.Subscriber (c.args.at + 60) (c.args.at + 100) new.dispatch 4 c.close.new.world lanes (omega arith) (c.close.ensures.stands (c.args.at + 60) new.dispatch 4 lanes c.inside-told.ensures.order.stands);
+      sites = c.inside-told.ensures.order.sites;
+    }
+
+pub returns-clause-restores : goal.returns-clause-restores
+returns-clause-restores g c =
+    let old = c.args.self.now in
+    let same = c.inside-told.ensures.restores in
+    let made = c.in_ok-span.ensures.newest old.dispatch c.requires.order.stands.served.0.serves in
+    record {
+      as_before = c.close.ensures.as_before old.dispatch old.world (made_after g.S.Subscriber old.dispatch old.world c.span.new.world c.inside-told.new.self.world _ made same.as_before);
+      front = same.front;
+      dispatch = same.dispatch;
+    }
