@@ -29,7 +29,6 @@ use Rattle.trace_base.specs.declared.field.ValueSet.{ValueSet}
 use Rattle.trace_base.specs.declared.lane.Lane.{Lane}
 use Rattle.trace_base.specs.declared.span.Parent.{Parent}
 use Rattle.trace_base.specs.declared.span.Parent.TheVariants as parent
-use Rattle.trace_base.specs.Hooks.{OnNewSpan}
 use Rattle.trace_base.specs.Spans.{current_of}
 use Rattle.span_script.specs.declared.reply.Reply.{Reply}
 use Rattle.span_script.specs.declared.reply.Reply.TheVariants as reply
@@ -45,8 +44,8 @@ use Rattle.span_script.specs.declared.request.Request.{Request}
 use Rattle.span_script.specs.Admission.{TextRead, text_read, text_filter}
 use Rattle.span_script.specs.Fields.{Fields, all_values, declared_by}
 use Rattle.span_script.specs.Setups.{Setup, id_at, span_site, event_site}
-use Rattle.span_script.specs.Tables.{Scope, Done, Made, EntryOf, Attached, Tables, slot_at, own, site_of, scope_of, made_of, begun_by, quiet}
-use Rattle.span_script.specs.Effects.{Resolved, named, admitted, scope_at, declines, parent_at, last_attached, context_around, lane_in, makes_span, makes, clones, drops, drops_unless, is_borrowed, current_scope, scope_or_current, exchanges, on, all_on, active, enters, is_full, meets_full, enters_unless, opens, exits, is_shared, unless_shared, exits_on, if_told, counted, tells, events, callsite_of, updates, heard_values, records, asks, reloads_if, gives, own_context, attached_by as attaches_by, bare_lane, attaches, detaches, follows, set_while, is_set, links, happens_at, effect_of_call, is_bad_moment, effect_of}
+use Rattle.span_script.specs.Tables.{Scope, Done, Made, EntryOf, Attached, HeardNew, Tables, slot_at, own, site_of, scope_of, made_of, begun_by, quiet}
+use Rattle.span_script.specs.Effects.{Resolved, named, admitted, scope_at, declines, parent_at, last_attached, context_around, lane_in, makes_span, makes, clones, drops, drops_unless, is_borrowed, current_scope, scope_or_current, exchanges, on, all_on, active, enters, is_full, meets_full, enters_unless, opens, exits, is_shared, unless_shared, exits_on, if_told, counted, tells, events, callsite_of, updates, heard_values, records, asks, reloads_if, gives, own_context, attached_by as attaches_by, attaches, detaches, follows, set_while, is_set, links, happens_at, effect_of_call, is_bad_moment, effect_of}
 use Rattle.span_eager.specs.Early.{lazy, IsSettled, is_far, gives_far}
 use Rattle.span_eager.specs.Renaming.{ids_by, context_by, reply_by}
 use Rattle.span_eager.proofs.SameSpan.{Ids, early_ids, op_by, told_by, valid_by, ids_of_by}
@@ -222,8 +221,8 @@ module _ (f : Ids) (setup : Setup) (eager : setup.layer.eager ≡ true) (t : Tab
   callsite_by scope = ap (option_and_then (λ (site : ℕ). slice_get setup.sites site)) (sited f.new t.made scope)
 
   records_agree : (scope : Scope) (fields : Fields) (c : Option Callsite)
-      → A (Ok (record (tells at id reply.Done (updates setup.layer scope fields c)) { heard = heard_values at scope fields c }))
-      (Ok (record (tells at id reply.Done (updates (lazy setup).layer scope fields c)) { heard = heard_values at scope fields c }))
+      → A (Ok (record (tells at id reply.Done (updates setup.layer scope fields c)) { heard = heard_values scope fields c }))
+      (Ok (record (tells at id reply.Done (updates (lazy setup).layer scope fields c)) { heard = heard_values scope fields c }))
   records_agree scope fields None = (refl, record { at_is = refl; begins = refl; made = tt; starts_none = tt })
   records_agree [] fields (Some c) = (refl, record { at_is = refl; begins = refl; made = tt; starts_none = tt })
   records_agree (s ∷ up) fields (Some c) = (refl, record { at_is = refl; begins = refl; made = tt; starts_none = (refl, tt) })
@@ -338,7 +337,7 @@ module _ (f : Ids) (setup : Setup) (eager : setup.layer.eager ≡ true) (t : Tab
           new_handle = Some (k i ∷ up);
           made = Some (record { site = site; scope = k i ∷ up; told = told i });
           begins = source_of (eager i) (k i);
-          heard = OnNewSpan (k i) (bare_lane id) at p None c values ∷ [];
+          heard = HeardNew (k i) c values ∷ [];
         }),
         record { at_is = refl; begins = refl; made = (refl, last_of at); starts_none = tt },
       )
@@ -393,7 +392,7 @@ module _ (f : Ids) (setup : Setup) (eager : setup.layer.eager ≡ true) (t : Tab
   call_agrees (call.Record handle fields) far ready =
       named_agrees what.Handle (slot_at t.handles handle)
       (λ scope. Ok (records setup te at id scope fields)) (λ scope. Ok (records (lazy setup) t at id scope fields)) ready
-      (λ scope given. subst (λ (c : Option Callsite). A (Ok (record (tells at id reply.Done (updates setup.layer scope fields c)) { heard = heard_values at scope fields c })) (Ok (records (lazy setup) t at id scope fields)))
+      (λ scope given. subst (λ (c : Option Callsite). A (Ok (record (tells at id reply.Done (updates setup.layer scope fields c)) { heard = heard_values scope fields c })) (Ok (records (lazy setup) t at id scope fields)))
       (sym (callsite_by scope)) (records_agree scope fields (callsite_of (lazy setup) t scope)))
   call_agrees (call.HasField handle name) far ready =
       named_agrees what.Handle (slot_at t.handles handle)

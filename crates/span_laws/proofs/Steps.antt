@@ -24,7 +24,6 @@ use Rattle.otel_layer.specs.Table.{told_at, waits}
 use Rattle.trace_base.specs.declared.callsite.Callsite.{Callsite}
 use Rattle.trace_base.specs.declared.field.ValueSet.{ValueSet}
 use Rattle.trace_base.specs.declared.lane.Lane.{Lane}
-use Rattle.trace_base.specs.Hooks.{Hook}
 use Rattle.trace_base.specs.Spans.{is_in, current_of}
 use Rattle.span_script.specs.declared.request.Request.{Request}
 use Rattle.span_script.specs.declared.request.Place.{Place}
@@ -38,9 +37,9 @@ use Rattle.span_script.specs.declared.reply.Refusal.TheVariants as refusal
 use Rattle.span_script.specs.declared.reply.What.{What}
 use Rattle.span_script.specs.declared.reply.What.TheVariants as what
 use Rattle.span_script.specs.Setups.{Setup, id_at, span_site, event_site}
-use Rattle.span_script.specs.Tables.{Scope, Made, Done, Guarded, Effect, Tables, with_new, either_after, slot_at, own}
+use Rattle.span_script.specs.Tables.{Scope, Made, Done, Guarded, Heard, Effect, Tables, with_new, either_after, slot_at, own}
 use Rattle.span_script.specs.Fields.{Fields, all_values, values_of}
-use Rattle.span_script.specs.Effects.{Resolved, named, is_open, holds, closed_of, is_borrowed, scope_at, parent_at, lane_in, made_at, makes_span, declines, clones, drops, current_scope, scope_or_current, exchanges, on, active, enters, meets_full, opens, exits, exits_on, is_shared, callsite_of, updates, tells, is_full, gives, own_context, attaches, detaches, follows, happens_at, is_bad_moment, effect_of, effect_of_call, admitted, reloads_if, bare_lane, heard_values}
+use Rattle.span_script.specs.Effects.{Resolved, named, is_open, holds, closed_of, is_borrowed, scope_at, parent_at, lane_in, made_at, makes_span, declines, clones, drops, current_scope, scope_or_current, exchanges, on, active, enters, meets_full, opens, exits, exits_on, is_shared, callsite_of, updates, tells, is_full, gives, own_context, attaches, detaches, follows, happens_at, is_bad_moment, effect_of, effect_of_call, admitted, reloads_if, heard_values}
 use Rattle.span_script.specs.Admission.{TextRead, text_read}
 use Rattle.span_laws.specs.Closes.{is_drop}
 use Rattle.span_laws.specs.Laws.{occurrences}
@@ -215,7 +214,7 @@ module _ (setup : Setup) (t : Tables) (fit : IsFit setup t) where
         reached = tt;
         turns = tt;
         closing = λ no. refl;
-        heard = of_making _ (bare_lane (id_at setup.ids lane)) at (parent_at under up) None callsite values;
+        heard = of_making _ callsite values;
       }
 
   cloned : (at lane : ℕ) (scope : Scope) → IsKnown t.handles scope → Step at false (clones t at lane scope)
@@ -233,7 +232,7 @@ module _ (setup : Setup) (t : Tables) (fit : IsFit setup t) where
     reached = tt;
     turns = tt;
     closing = λ no. absurd (cc no);
-    heard = of_open None _ (heard_close t.handles handle scope at there);
+    heard = of_open None _ (heard_close t.handles handle scope there);
   }
 
   exchanged : (at lane handle : ℕ) (scope : Scope) → slot_at t.handles handle ≡ Some scope → is_borrowed t.guards handle ≡ false → Step at false (exchanges t at lane handle (scope_or_current t lane scope))
@@ -277,7 +276,7 @@ module _ (setup : Setup) (t : Tables) (fit : IsFit setup t) where
     reached = on_reached scope ops.Enter (of_handle handle scope there) refl;
     turns = enters_on scope;
     closing = λ no. refl;
-    heard = of_open None _ (heard_entry t.handles [] scope at (bare_lane (id_at setup.ids lane)));
+    heard = of_open None _ (heard_entry t.handles [] scope (id_at setup.ids lane));
   }
 
   exited : (at lane guard : ℕ) (g : Guarded) → slot_at t.guards guard ≡ Some g → lane ≡ id_at setup.ids g.lane → Step at false (exits setup at lane guard g.scope)
@@ -292,7 +291,7 @@ module _ (setup : Setup) (t : Tables) (fit : IsFit setup t) where
     reached = on_reached g.scope ops.Exit (of_handle g.handle g.scope (fit.still guard g there)) refl;
     turns = exits_on_own g.scope;
     closing = λ no. refl;
-    heard = of_open None _ (heard_exit t.handles [] g.scope at (bare_lane lane));
+    heard = of_open None _ (heard_exit t.handles [] g.scope lane);
   }
 
   on_calm : (scope : Scope) (op : Op) → (deed op).enters ≡ false → (deed op).exits ≡ false → AllByRecursion IsCalm (on scope op)
@@ -334,9 +333,9 @@ module _ (setup : Setup) (t : Tables) (fit : IsFit setup t) where
   })
 
   -- the same, of which a filter hears something, or which puts one in force, and with measures
-  beside : (at : ℕ) (e : Effect) (text : Option (List ℕ)) (hooks : List Hook) (added : List Measure) → Hears t.handles (length t.made) e.closes e.made hooks → Step at false e
-      → Step at false (record e { filter = text; heard = hooks; measures = added })
-  beside at e text hooks added hears s = record { moment = s.moment; names = s.names; enters = s.enters; spends = s.spends; begins = s.begins; early = s.early; starts = s.starts; reached = s.reached; turns = s.turns; closing = s.closing; heard = hears }
+  beside : (at : ℕ) (e : Effect) (text : Option (List ℕ)) (heard : List Heard) (added : List Measure) → Hears t.handles (length t.made) e.closes e.made heard → Step at false e
+      → Step at false (record e { filter = text; heard = heard; measures = added })
+  beside at e text heard added hears s = record { moment = s.moment; names = s.names; enters = s.enters; spends = s.spends; begins = s.begins; early = s.early; starts = s.starts; reached = s.reached; turns = s.turns; closing = s.closing; heard = hears }
 
   given : (at lane : ℕ) (starting : Option ℕ) (context : Context) → Open (option_to_list starting) → Step at false (gives t at lane starting context)
   given at lane starting context held = record { moment = refl; names = no_name; enters = no_entry; spends = no_spending; begins = tt; early = refl; starts = held; reached = tt; turns = tt; closing = λ no. refl; heard = of_open None [] tt }
@@ -434,8 +433,8 @@ module _ (setup : Setup) (t : Tables) (fit : IsFit setup t) where
       let there = found what.Handle (slot_at t.handles handle) _ e is in
       let callsite = callsite_of setup t there.0 in
       subst (Step at false) (the_effect _ e there.2)
-      (beside at (tells at (id_at setup.ids lane) reply.Done (updates setup.layer there.0 fields callsite)) None (heard_values at there.0 fields callsite) []
-      (of_open None _ (heard_record t.handles [] there.0 at fields callsite (own_open there.0 (of_handle handle there.0 there.1))))
+      (beside at (tells at (id_at setup.ids lane) reply.Done (updates setup.layer there.0 fields callsite)) None (heard_values there.0 fields callsite) []
+      (of_open None _ (heard_record t.handles [] there.0 fields callsite (own_open there.0 (of_handle handle there.0 there.1))))
       (told at (id_at setup.ids lane) reply.Done _ (updates_reached there.0 fields callsite (of_handle handle there.0 there.1)) (updates_calm there.0 fields callsite)))
   by_call at lane (call.HasField handle name) e is =
       let there = found what.Handle (slot_at t.handles handle) _ e is in

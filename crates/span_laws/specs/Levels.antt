@@ -1,11 +1,12 @@
 -- The levels that a filter keeps of spans, over a history.
-use Rattle.std.specs.Prelude.{◌≡◌, ℕ, List, Option, None}
+use Rattle.std.specs.Prelude.{◌≡◌, ℕ, List, map, Option, None}
 use Rattle.std.specs.List.{AllByRecursion}
 use Rattle.trace_base.specs.declared.level.LevelFilter.{LevelFilter}
+use Rattle.trace_base.specs.Hooks.{Hook}
 use Rattle.env_directives.specs.declared.env.directive.Directive.{Directive}
 use Rattle.env_filter.specs.Filtering.{span_level}
 use Rattle.span_script.specs.Admission.{text_filter}
-use Rattle.span_script.specs.Effects.{in_force, filter_at}
+use Rattle.span_script.specs.Effects.{hook_of, in_force, filter_at}
 use Rattle.span_script.specs.Setups.{Setup}
 use Rattle.span_script.specs.Tables.{Effect, History, tables}
 
@@ -16,6 +17,10 @@ level_in setup h s = span_level (filter_at setup (tables setup h)) s
 -- the dynamic directives of the text in force
 abbrev pub directives_in : Setup → History → List Directive
 directives_in setup h = (text_filter (in_force setup (tables setup h))).dynamics.directives
+
+-- the hooks by which the filter in force heard what it heard
+abbrev pub hooks_in : Setup → History → List Hook
+hooks_in setup h = map hook_of (tables setup h).heard
 
 -- no other filter is put in force
 abbrev pub HasNoReload : History → Type 0

@@ -1,5 +1,6 @@
 pub mod Laws
 pub mod Closes
+pub mod Hearing
 pub mod Starts
 pub mod Levels
 pub mod Live

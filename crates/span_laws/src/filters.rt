@@ -2,16 +2,18 @@
 ghost use Rattle.std.specs.Prelude.{◌≡◌, ℕ, List, [], ◌++◌, Some, true, false, is_some};
 ghost use Rattle.trace_base.specs.declared.callsite.Callsite.{Callsite};
 ghost use Rattle.trace_base.specs.declared.field.ValueSet.{ValueSet};
+ghost use Rattle.trace_base.specs.Hooks.{Hook};
 ghost use Rattle.trace_base.specs.Spans.{is_in};
-ghost use Rattle.env_filter.specs.Filtering.{is_admitted};
+ghost use Rattle.env_filter.specs.Filtering.{Filtered, after as after_hook, is_admitted};
 ghost use Rattle.env_filter.specs.Histories.{NeverFalls, level_told, levels_told};
 ghost use Rattle.span_script.specs.Admission.{text_filter};
-ghost use Rattle.span_script.specs.Effects.{admitted, events, reloads, filter_at};
+ghost use Rattle.span_script.specs.Effects.{admitted, events, filter_at, hook_of, reloads};
 ghost use Rattle.span_script.specs.Setups.{Setup};
-ghost use Rattle.span_script.specs.Tables.{History, Scope, Tables, after, quiet, tables};
+ghost use Rattle.span_script.specs.Tables.{Heard, History, Scope, Tables, after, quiet, tables};
 ghost use Rattle.span_script.specs.declared.reply.Reply.TheVariants as reply;
+ghost use Rattle.span_laws.specs.Hearing.{heard_of, hears_if};
 ghost use Rattle.span_laws.specs.Laws.{IsHistory};
-ghost use Rattle.span_laws.specs.Levels.{HasNoReload, directives_in, level_in};
+ghost use Rattle.span_laws.specs.Levels.{HasNoReload, directives_in, hooks_in, level_in};
 
 /// After a reload the gate speaks of the new text alone, whatever came before. All else is as it was: spans that were made
 /// stay, whatever the new text says of them.
@@ -30,13 +32,20 @@ pub fn refused_events()
         → events setup t at lane c values reached ≡ quiet at lane (reply.Enabled false) }
 {}
 
+/// A filter hears of a making the span, its callsite and its values, of a record the values that it gives, of an entry and an
+/// exit the lane's id, and closes: a hook makes of it what this makes of it, whatever else the hook is told.
+pub fn hears()
+    ensures hook { (f : Filtered) (hook : Hook) → after_hook f hook ≡ hears_if f (heard_of hook) }
+    ensures heard { (heard : Heard) → heard_of (hook_of heard) ≡ Some heard }
+{}
+
 /// The levels of spans and of lanes are those that the values say that were given since the filter was put in force.
 pub fn levels()
     ensures span { (setup : Setup) (h : History) (s : ℕ) → IsHistory setup h
-        → level_in setup h s ≡ level_told (directives_in setup h) s (tables setup h).heard }
+        → level_in setup h s ≡ level_told (directives_in setup h) s (hooks_in setup h) }
     ensures lane { (setup : Setup) (h : History) (lane : ℕ) → IsHistory setup h
         → (filter_at setup (tables setup h)).lanes lane
-        ≡ levels_told (directives_in setup h) lane (tables setup h).heard }
+        ≡ levels_told (directives_in setup h) lane (hooks_in setup h) }
 {}
 
 /// While a filter is in force the level of a span never falls, and a span that has one keeps it until it closes.

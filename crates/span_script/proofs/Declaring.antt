@@ -192,7 +192,7 @@ module _ {S : Type 0} (spans : S → Spans) (views : Views S) (attaches : S → 
         abbrev r : Recording
         r = seen views.recorded no_recording old dispatch
 
-        does_update : (line : Scope) (o : Option Callsite) → RecordsAt does old new at (values_by o fields) (held_of dispatch line) o → Does spans views attaches kept is_whole old new dispatch at (updates r.settings line fields o) (heard_values at line fields o)
+        does_update : (line : Scope) (o : Option Callsite) → RecordsAt does old new at (values_by o fields) (held_of dispatch line) o → Does spans views attaches kept is_whole old new dispatch at (updates r.settings line fields o) (heard_values line fields o)
         does_update [] None step = does_none spans views attaches kept is_whole old new dispatch at step
         does_update [] (Some c) step = does_none spans views attaches kept is_whole old new dispatch at step
         does_update (s ∷ up) None step = does_none spans views attaches kept is_whole old new dispatch at step
@@ -210,7 +210,7 @@ module _ {S : Type 0} (spans : S → Spans) (views : Views S) (attaches : S → 
               whole = shown.whole;
             }
 
-        updated : (t : Tables) (fits : Fits now t) → Does spans views attaches kept is_whole old new dispatch at (updates r.settings (its_scope t fits).at fields (callsite_of now.setup t (its_scope t fits).at)) (heard_values at (its_scope t fits).at fields (callsite_of now.setup t (its_scope t fits).at))
+        updated : (t : Tables) (fits : Fits now t) → Does spans views attaches kept is_whole old new dispatch at (updates r.settings (its_scope t fits).at fields (callsite_of now.setup t (its_scope t fits).at)) (heard_values (its_scope t fits).at fields (callsite_of now.setup t (its_scope t fits).at))
         updated t fits =
             let line = its_scope t fits in
             let mine = callsite_same old h.site ∙ its_callsite t fits in
@@ -219,7 +219,7 @@ module _ {S : Type 0} (spans : S → Spans) (views : Views S) (attaches : S → 
             (subst (λ (held : Held). RecordsAt does old new at (values_by (callsite_in old h.site) fields) held (callsite_in old h.site)) line.is
             (subst (λ (v : ValueSet). RecordsAt does old new at v h.held (callsite_in old h.site)) is did)))
 
-        values_known : (line : Scope) (o : Option Callsite) (n : ℕ) → AreKnown n (heard_values at line fields o) n
+        values_known : (line : Scope) (o : Option Callsite) (n : ℕ) → AreKnown n (heard_values line fields o) n
         values_known line None n = refl
         values_known [] (Some c) n = refl
         values_known (s ∷ up) (Some c) n = (tt, refl)

@@ -7,9 +7,7 @@ use Rattle.trace_base.specs.Gate.{Worlds}
 use Rattle.trace_base.specs.declared.lane.Lane.{Lane}
 use Rattle.trace_base.specs.Spans.{is_in, Spans, span_at}
 use Rattle.trace_base.specs.Calls.{SubscriberCall}
-use Rattle.trace_base.specs.Hooks.{OnClose}
 use Rattle.env_filter.specs.Filtering.{Filtered}
-use Rattle.env_filter.specs.Filtering.{after as hears}
 use Rattle.span_stack.specs.Filtered.{without_span, FiltersChain}
 use Rattle.span_script.proofs.Beside.{Adds, aside_in, adds_same}
 use Rattle.span_script.proofs.Filtering.{AreKnown, heard_none}
@@ -23,8 +21,8 @@ use Rattle.span_script.specs.declared.reply.Reply.TheVariants as reply
 use Rattle.span_script.specs.declared.request.Call.TheVariants as call
 use Rattle.span_script.specs.declared.reply.What.TheVariants as what
 use Rattle.otel_layer.specs.Recording.{Recording, no_recording, RecordsChain, with_close}
-use Rattle.span_script.specs.Tables.{Scope, Effect, Tables, after, recorded_by, slot_at}
-use Rattle.span_script.specs.Effects.{Resolved, named, effect_of_call, is_open, closed_of, drops, drops_unless, is_borrowed}
+use Rattle.span_script.specs.Tables.{Scope, HeardClose, Effect, Tables, after, recorded_by, slot_at}
+use Rattle.span_script.specs.Effects.{Resolved, hears, named, effect_of_call, is_open, closed_of, drops, drops_unless, is_borrowed}
 use Rattle.span_script.specs.Slots.{is_named}
 use Rattle.span_script.specs.Fits.{Views, Named, State, state_of, laned, Fits, StandsFor, LanesFit, IsKept, Served, held_of, held_by, site_by}
 use Rattle.span_script.proofs.Naming.{find, held_slot}
@@ -103,23 +101,23 @@ module _ {S : Type 0} (spans : S → Spans) (views : Views S) (attaches : S → 
   chain_recorded at (s ∷ up) shown hs order = shown.2.is ∙ ap (λ (ss : List ℕ). fold (λ r s. with_close s at r) (rec_in old) ss) (order s up refl shown.2.chain)
 
   -- and the filter hears of these
-  closes_heard : (at : ℕ) (ss : List ℕ) (f : Filtered) → fold without_span f ss ≡ fold hears f (map (λ s. OnClose s at) ss)
-  closes_heard at [] f = refl
-  closes_heard at (s ∷ ss) f = closes_heard at ss (without_span f s)
+  closes_heard : (ss : List ℕ) (f : Filtered) → fold without_span f ss ≡ fold hears f (map HeardClose ss)
+  closes_heard [] f = refl
+  closes_heard (s ∷ ss) f = closes_heard ss (without_span f s)
 
-  closes_known : (at : ℕ) (ss : List ℕ) (n : ℕ) → AreKnown n (map (λ s. OnClose s at) ss) n
-  closes_known at [] n = refl
-  closes_known at (s ∷ ss) n = (tt, closes_known at ss n)
+  closes_known : (ss : List ℕ) (n : ℕ) → AreKnown n (map HeardClose ss) n
+  closes_known [] n = refl
+  closes_known (s ∷ ss) n = (tt, closes_known ss n)
 
-  filter_heard : (at : ℕ) (ss : List ℕ) (o : Option Filtered) → option_map (λ f. fold without_span f ss) o ≡ option_map (λ f. fold hears f (map (λ s. OnClose s at) ss)) o
-  filter_heard at ss None = refl
-  filter_heard at ss (Some f) = ap Some (closes_heard at ss f)
+  filter_heard : (ss : List ℕ) (o : Option Filtered) → option_map (λ f. fold without_span f ss) o ≡ option_map (λ f. fold hears f (map HeardClose ss)) o
+  filter_heard ss None = refl
+  filter_heard ss (Some f) = ap Some (closes_heard ss f)
 
   chain_heard : (at : ℕ) (line : Scope) → ChainOn at line → (hs : List (Option Scope)) → ((s : ℕ) (up : Scope) → line ≡ s ∷ up → (r : Released (Some s) (spans_in spans old dispatch) (spans_in spans new dispatch)) → closed_in (Some s) (spans_in spans old dispatch) (spans_in spans new dispatch) r ≡ closed_of hs line)
-      → seen views.filtered None new dispatch ≡ option_map (λ f. fold hears f (map (λ s. OnClose s at) (closed_of hs line))) (seen views.filtered None old dispatch)
+      → seen views.filtered None new dispatch ≡ option_map (λ f. fold hears f (map HeardClose (closed_of hs line))) (seen views.filtered None old dispatch)
   chain_heard at [] same hs order = ap (λ (w : Worlds S). seen views.filtered None w dispatch) same ∙ heard_none (seen views.filtered None old dispatch)
   chain_heard at (s ∷ up) shown hs order = shown.3.is ∙ ap (λ (ss : List ℕ). option_map (λ (f : Filtered). fold without_span f ss) (seen views.filtered None old dispatch)) (order s up refl shown.3.chain)
-      ∙ filter_heard at (closed_of hs (s ∷ up)) (seen views.filtered None old dispatch)
+      ∙ filter_heard (closed_of hs (s ∷ up)) (seen views.filtered None old dispatch)
 
   module _ (law : ChainLaw) (recalls : ChainRecalls)
       (opening : Texts) (lanes : List Lane) (hs hs' : List (Option Handle)) (gs : List (Option Guard)) (cs : Named) (m at lane handle : ℕ) (h : Handle) (found : slot_at hs handle ≡ Some h) (inv : IsKept kept is_whole old (state_of spans views old dispatch opening lanes hs gs cs m)) where
@@ -164,7 +162,7 @@ module _ {S : Type 0} (spans : S → Spans) (views : Views S) (attaches : S → 
           refl setup (recorded_by (length t.made) e (rec_in old)).tokens rec_is (later_of then refl setup refl refl refl refl refl refl)
           (λ s some. let left = drop_known now bare t at place_id handle line.at fits line.there bare_fits s some in known_still now then t e (recorded_by (length t.made) e (rec_in old)).tokens rec_is stands.recording s left.0 left.1)
           (all_same now then t.contexts setup refl refl tokens stands.recording.attached)
-          (record { quiet = refl; before = seen views.filtered None old dispatch; later = seen views.filtered None new dispatch; shown_before = refl; shown_later = refl; known = closes_known at (closed_of (slice_set t.handles handle None) line.at) (length t.made); told = chain_heard at line.at chain (slice_set t.handles handle None) order; cached = (chain_kept at line.at chain).cached; aside = record { before = aside_in views old dispatch; later = aside_in views new dispatch; shown_before = refl; shown_later = refl; waits_before = refl; waits_later = refl; adds = (chain_kept at line.at chain).aside } })
+          (record { quiet = refl; before = seen views.filtered None old dispatch; later = seen views.filtered None new dispatch; shown_before = refl; shown_later = refl; known = closes_known (closed_of (slice_set t.handles handle None) line.at) (length t.made); told = chain_heard at line.at chain (slice_set t.handles handle None) order; cached = (chain_kept at line.at chain).cached; aside = record { before = aside_in views old dispatch; later = aside_in views new dispatch; shown_before = refl; shown_later = refl; waits_before = refl; waits_later = refl; adds = (chain_kept at line.at chain).aside } })
 
       pub keeps_dropped : IsKept kept is_whole new then
       keeps_dropped =

@@ -29,8 +29,8 @@ use Rattle.otel_state.specs.States.{Told}
 use Rattle.otel_layer.specs.Core.{is_token}
 use Rattle.otel_layer.specs.Table.{told_at, own_or}
 use Rattle.otel_layer.specs.Recording.{Recording, no_recording, with_start, with_starts, with_applied, source_of, RecordsCall, Enters, Exits}
-use Rattle.span_script.specs.Tables.{Scope, Made, Guarded, Effect, Tables, after, recorded_by, slot_at, own, with_entry, with_exit, with_attached, with_detached, open_part, quiet, EntryOf, Attached}
-use Rattle.span_script.specs.Effects.{bare_lane, heard_on, Resolved, named, effect_of_call, borrows, is_borrowed, active, attached_by, meets_full, opens, enters, enters_unless, is_shared, unless_shared, exits, exits_on}
+use Rattle.span_script.specs.Tables.{Scope, Made, Guarded, Heard, HeardEnter, HeardExit, Effect, Tables, after, recorded_by, slot_at, own, with_entry, with_exit, with_attached, with_detached, open_part, quiet, EntryOf, Attached}
+use Rattle.span_script.specs.Effects.{hears, heard_on, Resolved, named, effect_of_call, borrows, is_borrowed, active, attached_by, meets_full, opens, enters, enters_unless, is_shared, unless_shared, exits, exits_on}
 use Rattle.span_script.specs.Slots.{names_handle, is_named, is_shared_by}
 use Rattle.span_script.proofs.Beside.{aside_in}
 use Rattle.span_script.proofs.Dropping.{borrowed_is}
@@ -50,10 +50,8 @@ use Rattle.trace_base.proofs.Holding.{holds_other}
 use Rattle.span_script.proofs.Recordings.{recorded_settings, start_open, starts_fold, entry_tokens}
 use Rattle.span_script.proofs.Laned.{all_skipped, all_entered, all_exited}
 use Rattle.span_script.proofs.Serving.{AllFit, serve, known_still, kept_served, call_count, call_sites, call_cached, call_aside, call_whole, call_lanes}
-use Rattle.span_script.proofs.Filtering.{IsKnownHook, count_hook, AreKnown, heard_none}
-use Rattle.trace_base.specs.Hooks.{Hook, OnEnter, OnExit}
+use Rattle.span_script.proofs.Filtering.{IsKnownHeard, count_heard, AreKnown, heard_none}
 use Rattle.env_filter.specs.Filtering.{Filtered}
-use Rattle.env_filter.specs.Filtering.{after as hears}
 
 the_guard : (a b : Guarded) → ◌≡◌ {A = Option Guarded} (Some a) (Some b) → a ≡ b
 the_guard a b e = cc e
@@ -176,9 +174,9 @@ attach_is true s at up r x is = ap (λ (xs : List (ℕ × Told)). Some (record {
 attach_is false s at up r x is = refl
 
 -- what is heard of a scope's own span, which was made
-on_known : (line : Scope) (hook : ℕ → Hook) (n : ℕ) → ((s : ℕ) (up : Scope) → line ≡ s ∷ up → IsKnownHook n (hook s) × (count_hook n (hook s) ≡ n)) → AreKnown n (heard_on line hook) n
-on_known [] hook n known = refl
-on_known (s ∷ up) hook n known = let k = known s up refl in (k.0, k.1)
+on_known : (line : Scope) (heard : ℕ → Heard) (n : ℕ) → ((s : ℕ) (up : Scope) → line ≡ s ∷ up → IsKnownHeard n (heard s) × (count_heard n (heard s) ≡ n)) → AreKnown n (heard_on line heard) n
+on_known [] heard n known = refl
+on_known (s ∷ up) heard n known = let k = known s up refl in (k.0, k.1)
 
 module _ {S : Type 0} (spans : S → Spans) (views : Views S) (attaches : S → Bool) (kept : S → ℕ → ℕ → ℕ) (is_whole : S → Type 0) (old new : Worlds S) where
   entered_spans : (dispatch at lane : ℕ) (before later : Lane) (line : Scope) → before.id ≡ lane → ShownOn spans views attaches kept is_whole old new dispatch line (λ id. Enter id at before later) → spans_in spans new dispatch ≡ spans_entered (spans_in spans old dispatch) line lane
@@ -230,14 +228,14 @@ module _ {S : Type 0} (spans : S → Spans) (views : Views S) (attaches : S → 
 
     -- what the filter hears of an entry and of an exit
     entry_heard : (line : Scope) → ShownOn spans views attaches kept is_whole old new dispatch line (λ id. Enter id at before later)
-        → seen views.filtered None new dispatch ≡ option_map (λ f. fold hears f (heard_on line (λ s. OnEnter s at (bare_lane place_id) (bare_lane place_id)))) (seen views.filtered None old dispatch)
+        → seen views.filtered None new dispatch ≡ option_map (λ f. fold hears f (heard_on line (λ s. HeardEnter s place_id))) (seen views.filtered None old dispatch)
     entry_heard [] same = ap (λ (w : Worlds S). seen views.filtered None w dispatch) same ∙ heard_none (seen views.filtered None old dispatch)
-    entry_heard (s ∷ up) shown = shown.3 ∙ ap (λ (l : ℕ). option_map (λ (f : Filtered). hears f (OnEnter s at (bare_lane l) (bare_lane l))) (seen views.filtered None old dispatch)) id_is
+    entry_heard (s ∷ up) shown = shown.3 ∙ ap (λ (l : ℕ). option_map (λ (f : Filtered). hears f (HeardEnter s l)) (seen views.filtered None old dispatch)) id_is
 
     exit_heard : (line : Scope) → ShownOn spans views attaches kept is_whole old new dispatch line (λ id. Exit id at before later)
-        → seen views.filtered None new dispatch ≡ option_map (λ f. fold hears f (heard_on line (λ s. OnExit s at (bare_lane place_id) (bare_lane place_id)))) (seen views.filtered None old dispatch)
+        → seen views.filtered None new dispatch ≡ option_map (λ f. fold hears f (heard_on line (λ s. HeardExit s place_id))) (seen views.filtered None old dispatch)
     exit_heard [] same = ap (λ (w : Worlds S). seen views.filtered None w dispatch) same ∙ heard_none (seen views.filtered None old dispatch)
-    exit_heard (s ∷ up) shown = shown.3 ∙ ap (λ (l : ℕ). option_map (λ (f : Filtered). hears f (OnExit s at (bare_lane l) (bare_lane l))) (seen views.filtered None old dispatch)) id_is
+    exit_heard (s ∷ up) shown = shown.3 ∙ ap (λ (l : ℕ). option_map (λ (f : Filtered). hears f (HeardExit s l)) (seen views.filtered None old dispatch)) id_is
 
     -- an exit, by the scope of its guard
     exited_record : (gs' : List (Option Guard)) (t : Tables) (guard : ℕ) (line : Scope) → RecordingFits now t → ((s : ℕ) (up : Scope) → line ≡ s ∷ up → 0 < (span_at now.spans.made s).holds) → lanes_of → later.id ≡ before.id → (line ≡ [] → later ≡ before)
@@ -327,7 +325,7 @@ module _ {S : Type 0} (spans : S → Spans) (views : Views S) (attaches : S → 
           refl setup rec_is.0 rec_is.1 (fits_exited now exited_then t at guard x fits open_one.there step setup refl refl refl one refl refl place_id lane_is)
           (λ s some. known_still now exited_then t e rec_is.0 rec_is.1 stands.recording s refl (let a = exited_less now.spans x.scope (id_at now.setup.ids x.lane) s in let b = ap (λ (y : Spans). (span_at y.made s).holds) step in omega (arith, a, b, some)))
           rec_is.2
-          (record { quiet = refl; before = seen views.filtered None old dispatch; later = seen views.filtered None new dispatch; shown_before = refl; shown_later = refl; told = exit_heard x.scope shown; known = on_known x.scope (λ s. OnExit s at (bare_lane place_id) (bare_lane place_id)) (length t.made) (λ s up e. ((subst (IsScope t.made) e (fits.scopes x.handle x.scope (fits.still guard x open_one.there))).0, refl)); cached = call_cached spans views attaches kept is_whole old new dispatch x.scope (λ id. Exit id at before later) shown; aside = record { before = aside_in views old dispatch; later = aside_in views new dispatch; shown_before = refl; shown_later = refl; waits_before = refl; waits_later = refl; adds = call_aside spans views attaches kept is_whole old new dispatch x.scope (λ id. Exit id at before later) (λ s. refl) shown } })
+          (record { quiet = refl; before = seen views.filtered None old dispatch; later = seen views.filtered None new dispatch; shown_before = refl; shown_later = refl; told = exit_heard x.scope shown; known = on_known x.scope (λ s. HeardExit s place_id) (length t.made) (λ s up e. ((subst (IsScope t.made) e (fits.scopes x.handle x.scope (fits.still guard x open_one.there))).0, refl)); cached = call_cached spans views attaches kept is_whole old new dispatch x.scope (λ id. Exit id at before later) shown; aside = record { before = aside_in views old dispatch; later = aside_in views new dispatch; shown_before = refl; shown_later = refl; waits_before = refl; waits_later = refl; adds = call_aside spans views attaches kept is_whole old new dispatch x.scope (λ id. Exit id at before later) (λ s. refl) shown } })
 
       pub keeps_exited : IsKept kept is_whole new exited_then
       keeps_exited =
@@ -368,7 +366,7 @@ module _ {S : Type 0} (spans : S → Spans) (views : Views S) (attaches : S → 
           setup rec_is.0 rec_is.1 (fits_entered now entered_then t at lane handle owns line.at fits line.there step setup refl refl refl guards_are named_same skip refl)
           (λ s some. known_still now entered_then t e rec_is.0 rec_is.1 stands.recording s refl (entered_live now.spans line.at place_id s live (subst (λ (y : Spans). 0 < (span_at y.made s).holds) step some)))
           rec_is.2
-          (record { quiet = refl; before = seen views.filtered None old dispatch; later = seen views.filtered None new dispatch; shown_before = refl; shown_later = refl; told = entry_heard line.at shown; known = on_known line.at (λ s. OnEnter s at (bare_lane place_id) (bare_lane place_id)) (length t.made) (λ s up e. ((subst (IsScope t.made) e (fits.scopes handle line.at line.there)).0, refl)); cached = call_cached spans views attaches kept is_whole old new dispatch line.at (λ id. Enter id at before later) shown; aside = record { before = aside_in views old dispatch; later = aside_in views new dispatch; shown_before = refl; shown_later = refl; waits_before = refl; waits_later = refl; adds = call_aside spans views attaches kept is_whole old new dispatch line.at (λ id. Enter id at before later) (λ s. refl) shown } })
+          (record { quiet = refl; before = seen views.filtered None old dispatch; later = seen views.filtered None new dispatch; shown_before = refl; shown_later = refl; told = entry_heard line.at shown; known = on_known line.at (λ s. HeardEnter s place_id) (length t.made) (λ s up e. ((subst (IsScope t.made) e (fits.scopes handle line.at line.there)).0, refl)); cached = call_cached spans views attaches kept is_whole old new dispatch line.at (λ id. Enter id at before later) shown; aside = record { before = aside_in views old dispatch; later = aside_in views new dispatch; shown_before = refl; shown_later = refl; waits_before = refl; waits_later = refl; adds = call_aside spans views attaches kept is_whole old new dispatch line.at (λ id. Enter id at before later) (λ s. refl) shown } })
 
       pub keeps_entered : IsKept kept is_whole new entered_then
       keeps_entered =

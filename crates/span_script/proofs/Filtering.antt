@@ -11,7 +11,6 @@ use Rattle.span_registry.specs.Both.{picked}
 use Rattle.span_handles.specs.Worlds.{seen}
 use Rattle.span_stack.specs.Reading.{Stacks, in_place, stack_interest}
 use Rattle.env_filter.specs.Reloading.{if_there, sometimes}
-use Rattle.trace_base.specs.Hooks.{Hook, OnNewSpan, OnRecord, OnFollows, OnEvent, OnEnter, OnExit, OnClose}
 use Rattle.env_directives.specs.Table.{Table}
 use Rattle.env_directives.specs.declared.env.directive.Directive.{Directive}
 use Rattle.env_filter.specs.Keyed.{put}
@@ -19,39 +18,36 @@ use Rattle.env_filter.specs.Kept.{opened, closed}
 use Rattle.env_filter.specs.Levels.{Opened}
 use Rattle.env_filter.specs.Watching.{Watched, watched, recorded, level_of}
 use Rattle.env_filter.specs.Filtering.{Filtered, Filtering, IsNew, plain, interest_in, is_admitted, enables_in}
-use Rattle.env_filter.specs.Filtering.{after as hears}
 use Rattle.span_script.specs.Setups.{Setup, id_at}
-use Rattle.span_script.specs.Tables.{Effect, Tables, after, with_new, newer, heard_since}
-use Rattle.span_script.specs.Effects.{in_force, filter_at}
+use Rattle.span_script.specs.Tables.{Heard, HeardNew, HeardRecord, HeardEnter, HeardExit, HeardClose, Effect, Tables, after, with_new, newer, heard_since}
+use Rattle.span_script.specs.Effects.{hears, in_force, filter_at}
 use Rattle.span_script.specs.Admission.{text_filter}
 use Rattle.span_script.proofs.Beside.{AddsTo}
 use Rattle.span_script.specs.Fits.{Views, ShownFilter, first_of, shown_of, counter_by, State, FilteringFits}
 
--- hooks one after another
-heard_both : (f : Filtered) (xs ys : List Hook) → fold hears f (xs ++ ys) ≡ fold hears (fold hears f xs) ys
+-- one after another
+heard_both : (f : Filtered) (xs ys : List Heard) → fold hears f (xs ++ ys) ≡ fold hears (fold hears f xs) ys
 heard_both f [] ys = refl
 heard_both f (x ∷ xs) ys = heard_both (hears f x) xs ys
 
--- no hook changes what a filter is interested in
-interest_heard : (f : Filtered) (hooks : List Hook) (c : Callsite) → interest_in (fold hears f hooks) c ≡ interest_in f c
+-- nothing that is heard changes what a filter is interested in
+interest_heard : (f : Filtered) (all : List Heard) (c : Callsite) → interest_in (fold hears f all) c ≡ interest_in f c
 interest_heard f [] c = refl
-interest_heard f (hook ∷ hooks) c = interest_heard (hears f hook) hooks c ∙ by_hook hook
+interest_heard f (heard ∷ all) c = interest_heard (hears f heard) all c ∙ by_one heard
   where
-    by_hook : (hook : Hook) → interest_in (hears f hook) c ≡ interest_in f c
-    by_hook (OnNewSpan id lane at parent current callsite values) = refl
-    by_hook (OnRecord id at callsite values) = refl
-    by_hook (OnFollows id from at) = refl
-    by_hook (OnEvent reached lane at callsite values) = refl
-    by_hook (OnEnter id at before later) = refl
-    by_hook (OnExit id at before later) = refl
-    by_hook (OnClose id at) = refl
+    by_one : (heard : Heard) → interest_in (hears f heard) c ≡ interest_in f c
+    by_one (HeardNew s callsite values) = refl
+    by_one (HeardRecord s callsite values) = refl
+    by_one (HeardEnter s lane) = refl
+    by_one (HeardExit s lane) = refl
+    by_one (HeardClose s) = refl
 
 abbrev pub rows_of : Filtered → List Callsite → List (List Interest)
 rows_of f sites = map (λ c. interest_in f c ∷ []) sites
 
-rows_heard : (f : Filtered) (hooks : List Hook) (sites : List Callsite) → rows_of (fold hears f hooks) sites ≡ rows_of f sites
-rows_heard f hooks [] = refl
-rows_heard f hooks (c ∷ sites) = ap (λ (i : Interest). (i ∷ []) ∷ rows_of (fold hears f hooks) sites) (interest_heard f hooks c) ∙ ap (λ (rows : List (List Interest)). (interest_in f c ∷ []) ∷ rows) (rows_heard f hooks sites)
+rows_heard : (f : Filtered) (all : List Heard) (sites : List Callsite) → rows_of (fold hears f all) sites ≡ rows_of f sites
+rows_heard f all [] = refl
+rows_heard f all (c ∷ sites) = ap (λ (i : Interest). (i ∷ []) ∷ rows_of (fold hears f all) sites) (interest_heard f all c) ∙ ap (λ (rows : List (List Interest)). (interest_in f c ∷ []) ∷ rows) (rows_heard f all sites)
 
 -- ---- filters that are seen alike
 
@@ -103,70 +99,64 @@ lanes_put (i ∷ ids) f g k step same =
     ap (λ (x : List Opened). x ∷ map (put f k (step (f k))) ids) (put_same f g k (step (f k)) (step (g k)) i (λ e. ap (λ (n : ℕ). step (f n)) e ∙ ap step head ∙ ap (λ (n : ℕ). step (g n)) (sym e)) (λ other. head))
     ∙ ap (λ (xs : List (List Opened)). put g k (step (g k)) i ∷ xs) (lanes_put ids f g k step tail)
 
--- a hook names spans that are there, and makes the next one
-abbrev pub IsKnownHook : ℕ → Hook → Type 0
-IsKnownHook n (OnNewSpan id lane at parent current callsite values) = id ≡ n
-IsKnownHook n (OnRecord id at callsite values) = Unit {0}
-IsKnownHook n (OnFollows id from at) = Unit {0}
-IsKnownHook n (OnEvent reached lane at callsite values) = Unit {0}
-IsKnownHook n (OnEnter id at before later) = id < n
-IsKnownHook n (OnExit id at before later) = id < n
-IsKnownHook n (OnClose id at) = Unit {0}
+-- what is heard names spans that are there, and makes the next one
+abbrev pub IsKnownHeard : ℕ → Heard → Type 0
+IsKnownHeard n (HeardNew s callsite values) = s ≡ n
+IsKnownHeard n (HeardRecord s callsite values) = Unit {0}
+IsKnownHeard n (HeardEnter s lane) = s < n
+IsKnownHeard n (HeardExit s lane) = s < n
+IsKnownHeard n (HeardClose s) = Unit {0}
 
-abbrev pub count_hook : ℕ → Hook → ℕ
-count_hook n (OnNewSpan id lane at parent current callsite values) = n + 1
-count_hook n (OnRecord id at callsite values) = n
-count_hook n (OnFollows id from at) = n
-count_hook n (OnEvent reached lane at callsite values) = n
-count_hook n (OnEnter id at before later) = n
-count_hook n (OnExit id at before later) = n
-count_hook n (OnClose id at) = n
+abbrev pub count_heard : ℕ → Heard → ℕ
+count_heard n (HeardNew s callsite values) = n + 1
+count_heard n (HeardRecord s callsite values) = n
+count_heard n (HeardEnter s lane) = n
+count_heard n (HeardExit s lane) = n
+count_heard n (HeardClose s) = n
 
-abbrev pub AreKnown : ℕ → List Hook → ℕ → Type 0
+abbrev pub AreKnown : ℕ → List Heard → ℕ → Type 0
 AreKnown n [] m = n ≡ m
-AreKnown n (hook ∷ hooks) m = IsKnownHook n hook × AreKnown (count_hook n hook) hooks m
+AreKnown n (heard ∷ all) m = IsKnownHeard n heard × AreKnown (count_heard n heard) all m
 
-agree_hook : (n : ℕ) (ids : List ℕ) (f g : Filtered) (hook : Hook) → IsKnownHook n hook → Agree n ids f g → Agree (count_hook n hook) ids (hears f hook) (hears g hook)
-agree_hook n ids f g (OnNewSpan id lane at parent current callsite values) known a = record {
+agree_heard : (n : ℕ) (ids : List ℕ) (f g : Filtered) (heard : Heard) → IsKnownHeard n heard → Agree n ids f g → Agree (count_heard n heard) ids (hears f heard) (hears g heard)
+agree_heard n ids f g (HeardNew id callsite values) known a = record {
   statics = a.statics;
   dynamics = a.dynamics;
   spans = λ s below. put_same f.spans g.spans id (watched f.dynamics.directives callsite values.pairs) (watched g.dynamics.directives callsite values.pairs) s
       (λ e. ap (λ (t : Table Directive). watched t.directives callsite values.pairs) a.dynamics) (λ other. a.spans s (omega (arith, below, known, other)));
   lanes = a.lanes;
 }
-agree_hook n ids f g (OnRecord id at callsite values) known a = record {
+agree_heard n ids f g (HeardRecord id callsite values) known a = record {
   statics = a.statics;
   dynamics = a.dynamics;
   spans = λ s below. put_same f.spans g.spans id (option_map (recorded values.pairs) (f.spans id)) (option_map (recorded values.pairs) (g.spans id)) s
       (λ e. ap (option_map (recorded values.pairs)) (a.spans id (omega (arith, e, below)))) (λ other. a.spans s below);
   lanes = a.lanes;
 }
-agree_hook n ids f g (OnFollows id from at) known a = a
-agree_hook n ids f g (OnEvent reached lane at callsite values) known a = a
-agree_hook n ids f g (OnEnter id at before later) known a = record {
+agree_heard n ids f g (HeardEnter id lane) known a = record {
   statics = a.statics;
   dynamics = a.dynamics;
   spans = a.spans;
-  lanes = lanes_put ids f.lanes g.lanes before.id (opened (option_map level_of (f.spans id)) id) a.lanes
-      ∙ ap (λ (o : Option Watched). map (put g.lanes before.id (opened (option_map level_of o) id (g.lanes before.id))) ids) (a.spans id known);
+  lanes = lanes_put ids f.lanes g.lanes lane (opened (option_map level_of (f.spans id)) id) a.lanes
+      ∙ ap (λ (o : Option Watched). map (put g.lanes lane (opened (option_map level_of o) id (g.lanes lane))) ids) (a.spans id known);
 }
-agree_hook n ids f g (OnExit id at before later) known a = record {
+agree_heard n ids f g (HeardExit id lane) known a = record {
   statics = a.statics;
   dynamics = a.dynamics;
   spans = a.spans;
-  lanes = lanes_put ids f.lanes g.lanes before.id (closed (is_some (f.spans id)) id) a.lanes
-      ∙ ap (λ (o : Option Watched). map (put g.lanes before.id (closed (is_some o) id (g.lanes before.id))) ids) (a.spans id known);
+  lanes = lanes_put ids f.lanes g.lanes lane (closed (is_some (f.spans id)) id) a.lanes
+      ∙ ap (λ (o : Option Watched). map (put g.lanes lane (closed (is_some o) id (g.lanes lane))) ids) (a.spans id known);
 }
-agree_hook n ids f g (OnClose id at) known a = record {
+agree_heard n ids f g (HeardClose id) known a = record {
   statics = a.statics;
   dynamics = a.dynamics;
   spans = λ s below. put_same f.spans g.spans id None None s (λ e. refl) (λ other. a.spans s below);
   lanes = a.lanes;
 }
 
-agree_hooks : (n m : ℕ) (ids : List ℕ) (f g : Filtered) (hooks : List Hook) → AreKnown n hooks m → Agree n ids f g → Agree m ids (fold hears f hooks) (fold hears g hooks)
-agree_hooks n m ids f g [] known a = subst (λ (k : ℕ). Agree k ids f g) known a
-agree_hooks n m ids f g (hook ∷ hooks) known a = agree_hooks (count_hook n hook) m ids (hears f hook) (hears g hook) hooks known.1 (agree_hook n ids f g hook known.0 a)
+agree_all : (n m : ℕ) (ids : List ℕ) (f g : Filtered) (all : List Heard) → AreKnown n all m → Agree n ids f g → Agree m ids (fold hears f all) (fold hears g all)
+agree_all n m ids f g [] known a = subst (λ (k : ℕ). Agree k ids f g) known a
+agree_all n m ids f g (heard ∷ all) known a = agree_all (count_heard n heard) m ids (hears f heard) (hears g heard) all known.1 (agree_heard n ids f g heard known.0 a)
 
 -- on the lanes that are seen
 lane_agrees : (f g : ℕ → List Opened) (ids : List ℕ) (lane : ℕ) → map f ids ≡ map g ids → lane < length ids → f (id_at ids lane) ≡ g (id_at ids lane)
@@ -219,7 +209,7 @@ filtering_step k next t e count count_later fits setup h =
     let place = in_place_by n ids h.before (filter_at k.setup t) (ap (λ (i : ℕ). option_map (shown_of i ids) h.before) (sym count) ∙ sym h.shown_before ∙ fits.in_place) in
     let now : filter_at next.setup (after t e) ≡ fold hears (filter_at k.setup t) e.heard = ap (λ (x : Setup). filter_at x (after t e)) setup ∙ heard_at k.setup t e h.quiet in
     let ids_are : next.setup.ids ≡ ids = ap (λ (x : Setup). x.ids) setup in
-    let alike = shown_same m ids (fold hears place.filter e.heard) (fold hears (filter_at k.setup t) e.heard) (agree_hooks n m ids place.filter (filter_at k.setup t) e.heard h.known place.agree) in
+    let alike = shown_same m ids (fold hears place.filter e.heard) (fold hears (filter_at k.setup t) e.heard) (agree_all n m ids place.filter (filter_at k.setup t) e.heard h.known place.agree) in
     record {
       in_place = h.shown_later ∙ ap (λ (o : Option Filtered). option_map (shown_of (length next.spans.made) next.setup.ids) o) (h.told ∙ ap (option_map (λ (f : Filtered). fold hears f e.heard)) place.is)
           ∙ ap (λ (i : ℕ). Some (shown_of i next.setup.ids (fold hears place.filter e.heard))) count_later

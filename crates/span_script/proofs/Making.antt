@@ -1,16 +1,14 @@
 -- Makings, served.
 use Rattle.std.proofs.Common.{◌≡◌, ℕ, ◌+◌, ◌<◌, ◌≤◌, ◌^◌, List, [], ◌∷◌, ◌++◌, length, Bool, true, false, fold, get_or, Option, Some, None, Ok, option_map, map, refl, sym, ap, subst, ◌∙◌, arith, inl, inr}
 use Rattle.std.specs.Prelude.{IfSome, slice_get, is_some}
-use Rattle.std.proofs.lemmas.Bool.{cases_eq, cases_lt, cond-true, cond-false, true≢false}
+use Rattle.std.proofs.lemmas.Bool.{cases_eq, cases_lt, cond-true, cond-false}
 use Rattle.std.proofs.lemmas.List.{length-map, length_push, map_push, get_or_past, get_or_push, get_or_append_left}
 use Rattle.trace_base.specs.declared.lane.Lane.{Lane}
 use Rattle.trace_base.specs.declared.span.Parent.{Parent}
 use Rattle.trace_base.specs.declared.callsite.Callsite.{Callsite}
 use Rattle.trace_base.specs.declared.field.ValueSet.{ValueSet}
 use Rattle.trace_base.specs.Gate.{Worlds}
-use Rattle.trace_base.specs.Hooks.{OnNewSpan}
 use Rattle.env_filter.specs.Filtering.{Filtered}
-use Rattle.env_filter.specs.Filtering.{after as hears}
 use Rattle.trace_base.specs.Spans.{Span, Spans, no_span, span_at, held_by_child, entries_on, place_on}
 use Rattle.trace_base.specs.Calls.{SubscriberCall, NewSpan, with_span}
 use Rattle.trace_base.specs.Conditions.{IsLivePlace, HasFewHolds, AreFew, HasFewHoldsAbove}
@@ -46,8 +44,8 @@ use Rattle.trace_base.specs.declared.span.Parent.TheVariants as parent
 use Rattle.trace_base.specs.Spans.{current_of}
 use Rattle.trace_base.proofs.Entering.{length_held}
 use Rattle.trace_base.proofs.Holding.{holds_other}
-use Rattle.span_script.specs.Tables.{Scope, Made, Attached, no_making, Effect, Tables, recorded_by, open_part, slot_at, own, made_of}
-use Rattle.span_script.specs.Effects.{named, effect_of_call, admitted, bare_lane, lane_in, made_at, context_around, parent_at, makes, makes_span, declines, scope_at}
+use Rattle.span_script.specs.Tables.{Scope, Made, Attached, no_making, HeardNew, Effect, Tables, recorded_by, open_part, slot_at, own, made_of}
+use Rattle.span_script.specs.Effects.{hears, named, effect_of_call, admitted, lane_in, made_at, context_around, parent_at, makes, makes_span, declines, scope_at}
 use Rattle.span_script.proofs.Beside.{aside_in, adds_nothing, adds_same}
 use Rattle.span_script.proofs.Known.{recorded_known, new_known}
 use Rattle.span_script.proofs.Attaching.{last_is}
@@ -286,8 +284,8 @@ module _ {S : Type 0} (spans : S → Spans) (views : Views S) (attaches : S → 
               shown_before = refl;
               shown_later = refl;
               known = (refl, sym (length_push t.made new_made));
-              told = recalled.1 ∙ ap (λ (n : ℕ). option_map (λ (f : Filtered). hears f (OnNewSpan n (bare_lane place_id) at q None did.callsite values)) (seen views.filtered None old dispatch)) fits.made.count
-                  ∙ ap (λ (c : Callsite). option_map (λ (f : Filtered). hears f (OnNewSpan (length t.made) (bare_lane place_id) at q None c values)) (seen views.filtered None old dispatch)) callsite_is;
+              told = recalled.1 ∙ ap (λ (n : ℕ). option_map (λ (f : Filtered). hears f (HeardNew n did.callsite values)) (seen views.filtered None old dispatch)) fits.made.count
+                  ∙ ap (λ (c : Callsite). option_map (λ (f : Filtered). hears f (HeardNew (length t.made) c values)) (seen views.filtered None old dispatch)) callsite_is;
               cached = ap (λ (w : Worlds S). w.cached) did.made.others;
               aside = record { before = aside_in views old dispatch; later = aside_in views new dispatch; shown_before = refl; shown_later = refl; waits_before = refl; waits_later = refl; adds = recalled.2 };
             })

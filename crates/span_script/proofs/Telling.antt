@@ -1,6 +1,5 @@
 -- Ops on spans that leave all else as it is, served; and events.
 use Rattle.std.specs.Prelude.{slice_get, option_and_then, is_some, IfSome}
-use Rattle.std.proofs.lemmas.Bool.{true≢false}
 use Rattle.std.proofs.lemmas.List.{length-map}
 use Rattle.std.proofs.Common.{◌≡◌, ℕ, ◌<◌, List, [], ◌∷◌, length, Bool, true, false, fold, get_or, Option, Some, None, Ok, option_map, map, refl, sym, ap, subst, ◌∙◌, arith}
 use Rattle.otel_state.specs.EventFields.{event_of}
@@ -17,9 +16,7 @@ use Rattle.trace_base.specs.declared.callsite.Kind.TheVariants as kinds
 use Rattle.trace_base.specs.declared.field.ValueSet.{ValueSet}
 use Rattle.trace_base.specs.declared.span.Parent.{Parent}
 use Rattle.trace_base.specs.Gate.{Worlds}
-use Rattle.trace_base.specs.Hooks.{Hook}
 use Rattle.env_filter.specs.Filtering.{Filtered, IsNew, enables_in}
-use Rattle.env_filter.specs.Filtering.{after as hears}
 use Rattle.trace_base.specs.Spans.{Spans, span_at, entries_on, place_on}
 use Rattle.trace_base.specs.Calls.{SubscriberCall}
 use Rattle.trace_base.specs.Sound.{OneEach}
@@ -33,10 +30,10 @@ use Rattle.span_script.specs.declared.request.Place.{Place}
 use Rattle.span_script.specs.declared.reply.What.TheVariants as what
 use Rattle.span_script.specs.declared.settings.Texts.{Texts}
 use Rattle.span_script.specs.Setups.{id_at, if_event, event_site}
-use Rattle.span_script.specs.Tables.{Scope, Done, Effect, Tables, own, recorded_by}
+use Rattle.span_script.specs.Tables.{Scope, Done, Heard, Effect, Tables, own, recorded_by}
 use Rattle.span_script.specs.Fields.{Fields, all_values}
 use Rattle.span_script.specs.Admission.{text_filter}
-use Rattle.span_script.specs.Effects.{Resolved, named, effect_of_call, scope_at, all_on, if_told, counted, tells, events}
+use Rattle.span_script.specs.Effects.{hears, Resolved, named, effect_of_call, scope_at, all_on, if_told, counted, tells, events}
 use Rattle.span_script.specs.Slots.{place_for, TellsOnly, LetsThrough}
 use Rattle.span_script.specs.Balance.{Balanced, named_by, opened_by}
 use Rattle.span_script.specs.Fits.{Views, shown_of, Named, State, state_of, laned, held_by, StandsFor, MadeFit, LanesFit, IsKept, Served}
@@ -76,8 +73,8 @@ event_kind sites site callsite is = by_site (slice_get sites site) is
     by_site (Some c) e = by_kind c c.kind refl e
 
 -- ops on spans, of which the filter hears
-abbrev pub tells_heard : ℕ → ℕ → Reply → List Done → List Hook → Effect
-tells_heard at lane answer done hooks = record (tells at lane answer done) { heard = hooks }
+abbrev pub tells_heard : ℕ → ℕ → Reply → List Done → List Heard → Effect
+tells_heard at lane answer done heard = record (tells at lane answer done) { heard = heard }
 
 -- what a list of ops makes of what was recorded
 abbrev pub done_by : ℕ → List Done → Recording → Recording
@@ -116,20 +113,20 @@ told_is decides ids counting counter shown new scope id lane mine within at call
 
 module _ {S : Type 0} (spans : S → Spans) (views : Views S) (attaches : S → Bool) (kept : S → ℕ → ℕ → ℕ) (is_whole : S → Type 0) (old new : Worlds S) where
   -- spans were started, then ops were done on spans, of which the filter heard, some measures were added, and nothing else
-  pub record Starts (dispatch at : ℕ) (ss : List ℕ) (o : List Done) (hooks : List Hook) (added : List Measure) : Type 0 where
+  pub record Starts (dispatch at : ℕ) (ss : List ℕ) (o : List Done) (heard : List Heard) (added : List Measure) : Type 0 where
     pub spans_same : spans_in spans new dispatch ≡ spans_in spans old dispatch
     pub kept_same : kept_in kept new dispatch ≡ kept_in kept old dispatch
     pub sites_same : new.sites ≡ old.sites
     pub recorded_is : seen views.recorded no_recording new dispatch ≡ done_by at o (started_by at ss (seen views.recorded no_recording old dispatch))
-    pub filter_is : seen views.filtered None new dispatch ≡ option_map (λ f. fold hears f hooks) (seen views.filtered None old dispatch)
+    pub filter_is : seen views.filtered None new dispatch ≡ option_map (λ f. fold hears f heard) (seen views.filtered None old dispatch)
     pub cached_same : new.cached ≡ old.cached
     pub aside_is : Adds (aside_in views old dispatch) (aside_in views new dispatch) added
     pub count : length new.subscribers ≡ length old.subscribers
     pub whole : Has is_whole old dispatch → Has is_whole new dispatch
 
   -- the ops alone
-  abbrev pub Does : ℕ → ℕ → List Done → List Hook → Type 0
-  Does dispatch at o hooks = Starts dispatch at [] o hooks []
+  abbrev pub Does : ℕ → ℕ → List Done → List Heard → Type 0
+  Does dispatch at o heard = Starts dispatch at [] o heard []
 
   -- none, where nothing changed
   pub does_none : (dispatch at : ℕ) → new ≡ old → Does dispatch at [] []
@@ -156,18 +153,18 @@ module _ {S : Type 0} (spans : S → Spans) (views : Views S) (attaches : S → 
     r = seen views.recorded no_recording old dispatch
 
     -- the effect of some starts and ops, of which the filter hears, and of measures
-    abbrev pub measures_then : List ℕ → List Done → List Hook → List Measure → Reply → Effect
-    measures_then ss o hooks added answer = record (tells_heard at (id_at now.setup.ids lane) answer o hooks) { starts = ss; measures = added }
+    abbrev pub measures_then : List ℕ → List Done → List Heard → List Measure → Reply → Effect
+    measures_then ss o heard added answer = record (tells_heard at (id_at now.setup.ids lane) answer o heard) { starts = ss; measures = added }
 
-    abbrev pub starts_then : List ℕ → List Done → List Hook → Reply → Effect
-    starts_then ss o hooks answer = measures_then ss o hooks [] answer
+    abbrev pub starts_then : List ℕ → List Done → List Heard → Reply → Effect
+    starts_then ss o heard answer = measures_then ss o heard [] answer
 
-    pub serves_measures : (t : Tables) → StandsFor now t → (ss : List ℕ) (o : List Done) (hooks : List Hook) (added : List Measure) (known : AreKnown (length t.made) hooks (length t.made)) (answer : Reply) (resolved : Resolved) → Starts dispatch at ss o hooks added → resolved ≡ Ok (measures_then ss o hooks added answer) → Served resolved t now then answer
-    serves_measures t stands ss o hooks added known answer resolved did is =
+    pub serves_measures : (t : Tables) → StandsFor now t → (ss : List ℕ) (o : List Done) (heard : List Heard) (added : List Measure) (known : AreKnown (length t.made) heard (length t.made)) (answer : Reply) (resolved : Resolved) → Starts dispatch at ss o heard added → resolved ≡ Ok (measures_then ss o heard added answer) → Served resolved t now then answer
+    serves_measures t stands ss o heard added known answer resolved did is =
         let fits = stands.fits in
         let ids = now.setup.ids in
         let step = did.spans_same in
-        let e : Effect = measures_then ss o hooks added answer in
+        let e : Effect = measures_then ss o heard added answer in
         let tokens = recorded_tokens (length t.made) e r in
         let rec_is : seen views.recorded no_recording new dispatch ≡ record (recorded_by (length t.made) e r) { tokens = r.tokens } = did.recorded_is ∙ ap (λ (ts : List Token). record (recorded_by (length t.made) e r) { tokens = ts }) tokens in
         let settings = ap (λ (x : Recording). x.settings) rec_is ∙ recorded_settings (length t.made) e r in
@@ -196,24 +193,24 @@ module _ {S : Type 0} (spans : S → Spans) (views : Views S) (attaches : S → 
         (all_same now then t.contexts setup refl refl (ap (λ (x : Recording). x.tokens) rec_is) stands.recording.attached)
         (record { quiet = refl; before = seen views.filtered None old dispatch; later = seen views.filtered None new dispatch; shown_before = refl; shown_later = refl; told = did.filter_is; known = known; cached = did.cached_same; aside = record { before = aside_in views old dispatch; later = aside_in views new dispatch; shown_before = refl; shown_later = refl; waits_before = refl; waits_later = refl; adds = did.aside_is } })
 
-    pub keeps_measures : (inv : IsKept kept is_whole old now) (ss : List ℕ) (o : List Done) (hooks : List Hook) (added : List Measure) (known : AreKnown (length inv.tables.made) hooks (length inv.tables.made)) (answer : Reply) (resolved : Resolved) → Starts dispatch at ss o hooks added → resolved ≡ Ok (measures_then ss o hooks added answer) → IsKept kept is_whole new then
-    keeps_measures inv ss o hooks added known answer resolved did is =
-        kept_served spans views attaches kept is_whole old new now then inv resolved answer (serves_measures inv.tables (record { fits = inv.fits; recording = inv.recording; filtering = inv.filtering }) ss o hooks added known answer resolved did is) refl did.count did.whole
+    pub keeps_measures : (inv : IsKept kept is_whole old now) (ss : List ℕ) (o : List Done) (heard : List Heard) (added : List Measure) (known : AreKnown (length inv.tables.made) heard (length inv.tables.made)) (answer : Reply) (resolved : Resolved) → Starts dispatch at ss o heard added → resolved ≡ Ok (measures_then ss o heard added answer) → IsKept kept is_whole new then
+    keeps_measures inv ss o heard added known answer resolved did is =
+        kept_served spans views attaches kept is_whole old new now then inv resolved answer (serves_measures inv.tables (record { fits = inv.fits; recording = inv.recording; filtering = inv.filtering }) ss o heard added known answer resolved did is) refl did.count did.whole
         (subst (λ (f : ℕ → ℕ → ℕ). LanesFit f (map laned lanes)) (sym did.kept_same) inv.lanes)
 
     -- the same without measures
-    pub serves_starts : (t : Tables) → StandsFor now t → (ss : List ℕ) (o : List Done) (hooks : List Hook) (known : AreKnown (length t.made) hooks (length t.made)) (answer : Reply) (resolved : Resolved) → Starts dispatch at ss o hooks [] → resolved ≡ Ok (starts_then ss o hooks answer) → Served resolved t now then answer
-    serves_starts t stands ss o hooks known answer resolved did is = serves_measures t stands ss o hooks [] known answer resolved did is
+    pub serves_starts : (t : Tables) → StandsFor now t → (ss : List ℕ) (o : List Done) (heard : List Heard) (known : AreKnown (length t.made) heard (length t.made)) (answer : Reply) (resolved : Resolved) → Starts dispatch at ss o heard [] → resolved ≡ Ok (starts_then ss o heard answer) → Served resolved t now then answer
+    serves_starts t stands ss o heard known answer resolved did is = serves_measures t stands ss o heard [] known answer resolved did is
 
-    pub keeps_starts : (inv : IsKept kept is_whole old now) (ss : List ℕ) (o : List Done) (hooks : List Hook) (known : AreKnown (length inv.tables.made) hooks (length inv.tables.made)) (answer : Reply) (resolved : Resolved) → Starts dispatch at ss o hooks [] → resolved ≡ Ok (starts_then ss o hooks answer) → IsKept kept is_whole new then
-    keeps_starts inv ss o hooks known answer resolved did is = keeps_measures inv ss o hooks [] known answer resolved did is
+    pub keeps_starts : (inv : IsKept kept is_whole old now) (ss : List ℕ) (o : List Done) (heard : List Heard) (known : AreKnown (length inv.tables.made) heard (length inv.tables.made)) (answer : Reply) (resolved : Resolved) → Starts dispatch at ss o heard [] → resolved ≡ Ok (starts_then ss o heard answer) → IsKept kept is_whole new then
+    keeps_starts inv ss o heard known answer resolved did is = keeps_measures inv ss o heard [] known answer resolved did is
 
     -- the same of ops alone
-    pub serves_ops : (t : Tables) → StandsFor now t → (o : List Done) (hooks : List Hook) (known : AreKnown (length t.made) hooks (length t.made)) (answer : Reply) (resolved : Resolved) → Does dispatch at o hooks → resolved ≡ Ok (tells_heard at (id_at now.setup.ids lane) answer o hooks) → Served resolved t now then answer
-    serves_ops t stands o hooks known answer resolved did is = serves_starts t stands [] o hooks known answer resolved did is
+    pub serves_ops : (t : Tables) → StandsFor now t → (o : List Done) (heard : List Heard) (known : AreKnown (length t.made) heard (length t.made)) (answer : Reply) (resolved : Resolved) → Does dispatch at o heard → resolved ≡ Ok (tells_heard at (id_at now.setup.ids lane) answer o heard) → Served resolved t now then answer
+    serves_ops t stands o heard known answer resolved did is = serves_starts t stands [] o heard known answer resolved did is
 
-    pub keeps_ops : (inv : IsKept kept is_whole old now) (o : List Done) (hooks : List Hook) (known : AreKnown (length inv.tables.made) hooks (length inv.tables.made)) (answer : Reply) (resolved : Resolved) → Does dispatch at o hooks → resolved ≡ Ok (tells_heard at (id_at now.setup.ids lane) answer o hooks) → IsKept kept is_whole new then
-    keeps_ops inv o hooks known answer resolved did is = keeps_starts inv [] o hooks known answer resolved did is
+    pub keeps_ops : (inv : IsKept kept is_whole old now) (o : List Done) (heard : List Heard) (known : AreKnown (length inv.tables.made) heard (length inv.tables.made)) (answer : Reply) (resolved : Resolved) → Does dispatch at o heard → resolved ≡ Ok (tells_heard at (id_at now.setup.ids lane) answer o heard) → IsKept kept is_whole new then
+    keeps_ops inv o heard known answer resolved did is = keeps_starts inv [] o heard known answer resolved did is
 
   module _ (does : S → SubscriberCall → S → Type 0) (law : Law spans views attaches kept is_whole does) (recalls : Recalls spans views attaches kept is_whole does)
       (dispatch : ℕ) (opening : Texts) (lanes : List Lane) (hs : List (Option Handle)) (gs : List (Option Guard)) (cs : Named) (m at lane : ℕ) where

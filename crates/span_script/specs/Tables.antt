@@ -8,7 +8,8 @@ use Rattle.otel_state.specs.States.{Told, begun}
 use Rattle.otel_layer.specs.Table.{with_span}
 use Rattle.otel_layer.specs.Recording.{Recording, no_recording, with_start, with_starts, with_applied, with_close}
 use Rattle.trace_base.specs.Spans.{without_last}
-use Rattle.trace_base.specs.Hooks.{Hook}
+use Rattle.trace_base.specs.declared.callsite.Callsite.{Callsite}
+use Rattle.trace_base.specs.declared.field.ValueSet.{ValueSet}
 use Rattle.span_script.specs.declared.reply.Reply.{Reply}
 use Rattle.span_script.specs.Setups.{Setup}
 
@@ -60,6 +61,15 @@ pub record Guarded : Type 0 where
   pub owns : Bool
   pub scope : Scope
 
+-- what a filter hears: that a callsite makes a span with some values, that a span is given some, that it is entered or exited
+-- on the lane of an id, and that it closes
+pub data Heard : Type 0 where
+  HeardNew : (span : ℕ) → (callsite : Callsite) → (values : ValueSet) → Heard
+  HeardRecord : (span : ℕ) → (callsite : Callsite) → (values : ValueSet) → Heard
+  HeardEnter : (span lane : ℕ) → Heard
+  HeardExit : (span lane : ℕ) → Heard
+  HeardClose : (span : ℕ) → Heard
+
 -- What a request changed, at a moment on the lane of an id. Of the names that it makes and spends each is one at most.
 pub record Effect : Type 0 where
   pub at : ℕ
@@ -94,7 +104,7 @@ pub record Effect : Type 0 where
   pub detach : Option Owner
   -- the text of the filter that it put in force, and what the filter in force heard of it
   pub filter : Option (List ℕ)
-  pub heard : List Hook
+  pub heard : List Heard
   pub reply : Reply
 
 -- what changes nothing
@@ -144,7 +154,7 @@ pub record Tables : Type 0 where
   pub contexts : ℕ → List Attached
   pub recording : Recording
   pub filter : Option (List ℕ)
-  pub heard : List Hook
+  pub heard : List Heard
   pub moment : ℕ
 
 -- nothing recorded by the layer of a setup
@@ -242,7 +252,7 @@ abbrev pub newer : Option (List ℕ) → Option (List ℕ) → Option (List ℕ)
 newer old None = old
 newer old (Some text) = Some text
 
-abbrev pub heard_since : List Hook → Option (List ℕ) → List Hook
+abbrev pub heard_since : List Heard → Option (List ℕ) → List Heard
 heard_since past None = past
 heard_since past (Some text) = []
 
