@@ -3,10 +3,11 @@ use Rattle.std.specs.Prelude.{◌≡◌, ℕ, List, Option, slice_index_or, coun
 use Rattle.span_script.specs.declared.slots.Guard.{Guard}
 use Rattle.span_script.specs.Slots.{names_handle}
 
--- the guards by their numbers, for how many more there is room, and how many handles have a count
+-- the guards by their numbers, for how many more numbers and guards there is room, and how many handles have a count
 pub record Guarding : Type 0 where
   pub items : List (Option Guard)
   pub room : ℕ
+  pub space : ℕ
   pub counted : ℕ
 
 -- each handle's count is that of the guards that name it; past the end there are none

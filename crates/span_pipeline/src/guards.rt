@@ -1,10 +1,10 @@
 //! The guards of entries, with the number of open ones beside each handle.
-ghost use Rattle.std.specs.Prelude.{◌≡◌, ℕ, ◌<◌, ◌≤◌, ◌+◌, ◌-◌, ◌^◌, ◌++◌, ◌∷◌, [], Some, None, OnOk, option_map, length, slice_index_or, slice_set, vec_capacity};
-ghost use Rattle.span_script.specs.Slots.{is_named, is_shared_by};
+ghost use Rattle.std.specs.Prelude.{◌≡◌, ℕ, ◌<◌, ◌≤◌, ◌+◌, ◌-◌, ◌^◌, ◌++◌, ◌∷◌, [], Some, None, OnOk, option_map, length, count_by, slice_index_or, slice_set};
+ghost use Rattle.span_script.specs.Slots.{is_named, is_shared_by, names_handle};
 
-use crate::names::{self, slot_at};
 use otel_base::memory::Memory;
 use span_script::slots::Guard;
+use sparse_slots::Slots;
 use std::alloc::Global;
 use std::marker::Model;
 use trace_base::discard::Discard;
@@ -12,20 +12,21 @@ use trace_base::discard::Discard;
 /// The guards of entries, by their numbers. The open ones of each handle are counted, so that nothing searches them.
 pub struct Guards {
     // None where one is spent, or is an attach's.
-    slots: Vec<Option<Guard>>,
+    slots: Slots<Guard>,
     // How many of them name each handle, by its number.
-    counts: Vec<u64>,
+    counts: Vec<u32>,
 }
 
 impl Model for Guards {
-    ghost use Rattle.std.specs.Prelude.{◌-◌, length, vec_capacity};
+    ghost use Rattle.std.specs.Prelude.{length};
     ghost use Rattle.span_pipeline.specs.Guards.{Guarding, AreCounted};
 
     ghost Value = { Guarding };
 
     ghost view = { λ g. record {
       items = g.slots.items;
-      room = vec_capacity g.slots - length g.slots.items;
+      room = g.slots.room;
+      space = g.slots.space;
       counted = length g.counts.items;
     } };
 
@@ -38,7 +39,7 @@ impl Guards {
         ensures items { result.items ≡ [] }
     {
         Guards {
-            slots: Vec::new(alloc),
+            slots: Slots::new(alloc),
             counts: Vec::new(alloc),
         }
     }
@@ -54,7 +55,7 @@ impl Guards {
     pub fn at(&self, number: u64) -> Option<&Guard>
         ensures { option_map (λ x. x.now) result ≡ slice_index_or self.now.items number None }
     {
-        slot_at(&self.slots, number)
+        self.slots.get(number)
     }
 
     /// Whether an open guard names the handle.
@@ -76,29 +77,36 @@ impl Guards {
         ensures items { self.new.items ≡ self.old.items }
         ensures ok { OnOk result (0 < self.new.room) }
     {
-        self.slots.reserve(1)?;
+        self.slots.reserve()?;
         Ok(())
     }
 
     /// Takes room for a guard of a handle.
     pub fn reserve_for(&mut self, handle: u64) -> Result<(), Memory>
         ensures items { self.new.items ≡ self.old.items }
-        ensures ok { OnOk result (0 < self.new.room) }
+        ensures room { OnOk result (0 < self.new.room) }
+        ensures space { OnOk result (0 < self.new.space) }
         ensures counted { OnOk result (handle < self.new.counted) }
+        ensures few { OnOk result (count_by (names_handle handle) self.new.items + 1 < 2 ^ 32) }
     {
+        if count_at(&self.counts, handle) == u32::MAX {
+            return Err(Memory);
+        }
         reserve_count(&mut self.counts, handle)?;
-        self.slots.reserve(1)?;
+        self.slots.reserve()?;
         Ok(())
     }
 
     /// Puts a guard more into its room.
     pub fn keep(&mut self, guard: Guard)
         requires room { 0 < self.old.room }
+        requires space { 0 < self.old.space }
         requires counted { guard.handle < self.old.counted }
+        requires few { count_by (names_handle guard.handle) self.old.items + 1 < 2 ^ 32 }
         ensures { self.new.items ≡ self.old.items ++ Some guard ∷ [] }
     {
         count_more(&mut self.counts, guard.handle);
-        names::keep(&mut self.slots, guard);
+        self.slots.keep(guard);
     }
 
     /// Passes over a number, which is an attach's guard, in the room that there is.
@@ -106,7 +114,7 @@ impl Guards {
         requires { 0 < self.old.room }
         ensures { self.new.items ≡ self.old.items ++ None ∷ [] }
     {
-        names::skip(&mut self.slots);
+        self.slots.skip();
     }
 
     /// Takes out the guard of a number, if it is there and isn't spent.
@@ -114,7 +122,7 @@ impl Guards {
         ensures value { result ≡ slice_index_or self.old.items number None }
         ensures spent { self.new.items ≡ slice_set self.old.items number None }
     {
-        let taken = names::take(&mut self.slots, number);
+        let taken = self.slots.take(number);
         if let Some(guard) = &taken {
             count_less(&mut self.counts, guard.handle);
         }
@@ -131,7 +139,7 @@ impl Discard for Guards {
 }
 
 // A handle's count, 0 past the end.
-fn count_at(counts: &Vec<u64>, handle: u64) -> u64
+fn count_at(counts: &Vec<u32>, handle: u64) -> u32
     ensures { result ≡ slice_index_or counts.now.items handle 0 }
 {
     match counts.get(handle as usize) {
@@ -141,7 +149,7 @@ fn count_at(counts: &Vec<u64>, handle: u64) -> u64
 }
 
 // A count for a handle, if it has none.
-fn reserve_count(counts: &mut Vec<u64>, handle: u64) -> Result<(), Memory>
+fn reserve_count(counts: &mut Vec<u32>, handle: u64) -> Result<(), Memory>
     ensures counts { (n : ℕ) → slice_index_or counts.new.items n 0 ≡ slice_index_or counts.old.items n 0 }
     ensures ok { OnOk result (handle < length counts.new.items) }
 {
@@ -153,15 +161,15 @@ fn reserve_count(counts: &mut Vec<u64>, handle: u64) -> Result<(), Memory>
     Ok(())
 }
 
-fn count_more(counts: &mut Vec<u64>, handle: u64)
+fn count_more(counts: &mut Vec<u32>, handle: u64)
     requires within { handle < length counts.old.items }
-    requires few { slice_index_or counts.old.items handle 0 < 2 ^ 63 }
+    requires few { slice_index_or counts.old.items handle 0 + 1 < 2 ^ 32 }
     ensures { counts.new.items ≡ slice_set counts.old.items handle (slice_index_or counts.old.items handle 0 + 1) }
 {
     counts[handle as usize] += 1;
 }
 
-fn count_less(counts: &mut Vec<u64>, handle: u64)
+fn count_less(counts: &mut Vec<u32>, handle: u64)
     requires { 0 < slice_index_or counts.old.items handle 0 }
     ensures { counts.new.items ≡ slice_set counts.old.items handle (slice_index_or counts.old.items handle 0 - 1) }
 {

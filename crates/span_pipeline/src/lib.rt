@@ -8,6 +8,7 @@
 
 mod asked;
 mod calls;
+mod contexts;
 mod fields;
 mod filters;
 mod guards;

@@ -6,6 +6,7 @@ ghost use Rattle.span_script.specs.Admission.{opening_read, IsUnread, IsTextFilt
 ghost use Rattle.span_script.specs.Setups.{HasOwnIds, setup_by};
 ghost use Rattle.span_script.specs.Effects.{is_bad_moment};
 
+use crate::contexts::Contexts;
 use crate::filters::read_texts;
 use crate::guards::Guards;
 use crate::opening;
@@ -14,12 +15,12 @@ use env_filter::filter::EnvFilter;
 use otel_base::memory::Memory;
 use otel_base::record::Moment;
 use span_handles::span::Span;
-use span_script::contexts::Contexts;
 use span_script::open_error::OpenError;
 use span_script::reply::{Refusal, Reply, What};
 use span_script::request::{Call, LAST_MOMENT, Request};
 use span_script::settings::{Settings, Texts};
 use span_stack::{Stack, laws, new_stack};
+use sparse_slots::Slots;
 use std::alloc::Global;
 use std::marker::Model;
 use trace_base::discard::Discard;
@@ -36,14 +37,15 @@ pub struct Pipeline {
     pub(crate) dispatch: Dispatch,
     pub(crate) opening: Texts,
     pub(crate) lanes: Vec<Lane>,
-    pub(crate) handles: Vec<Option<Span>>,
+    pub(crate) handles: Slots<Span>,
     pub(crate) guards: Guards,
     pub(crate) contexts: Contexts,
     pub(crate) moment: Moment,
 }
 
 impl Model for Pipeline {
-    ghost use Rattle.span_script.specs.Fits.{State, named_in, state_of, stack_views, IsKept};
+    ghost use Rattle.span_script.specs.Fits.{State, state_of, stack_views, IsKept};
+    ghost use Rattle.span_pipeline.specs.Contexts.{named_in};
 
     ghost Value = { State };
 
@@ -143,7 +145,7 @@ impl Pipeline {
             dispatch,
             opening: Texts { filter, counting },
             lanes,
-            handles: Vec::new(alloc),
+            handles: Slots::new(alloc),
             guards: Guards::new(alloc),
             contexts: Contexts::new(alloc),
             moment: 0,
@@ -177,6 +179,8 @@ impl Pipeline {
         self.call(at, lane, call)
     }
 
+    // Taken into `step`, so that a request's parts aren't handed on once more.
+    #[inline(always)]
     fn call(&mut self, at: Moment, lane: u64, call: Call) -> Result<Reply, Refusal>
         requires { lane < length self.old.lanes }
         ensures ok { (t : Tables) → StandsFor self.old t

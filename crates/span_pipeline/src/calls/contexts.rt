@@ -7,7 +7,7 @@ ghost use Rattle.span_script.specs.declared.reply.Refusal.TheVariants.{Memory as
 ghost use Rattle.span_script.specs.declared.request.Call.{Call};
 
 use crate::asked::context_of;
-use crate::names::{add, context_at, keep, slot_at, take};
+use crate::names::{add, context_at};
 use crate::pipeline::{MOST, Pipeline};
 use crate::shown::leaves;
 use otel_base::context::{Context, SpanContext};
@@ -73,7 +73,7 @@ impl Pipeline {
     {
         leaves();
         laws::asks();
-        let Some(span) = slot_at(&self.handles, handle) else {
+        let Some(span) = self.handles.get(handle) else {
             return Err(Refusal::UnknownName { what: What::Handle });
         };
         let number = self.contexts.made.len() as u64;
@@ -105,13 +105,13 @@ impl Pipeline {
             });
         };
         self.guards.reserve()?;
-        self.contexts.attaches.reserve(1)?;
+        self.contexts.attaches.reserve()?;
         let attached = match attach_to(&mut self.lanes[lane as usize], given) {
             Ok(attached) => attached,
             Err(error) => return Err(Refusal::of_entry(lane, error)),
         };
         self.guards.skip();
-        keep(&mut self.contexts.attaches, Attach { lane, attached });
+        self.contexts.attaches.keep(Attach { lane, attached });
         self.moment = at;
         Ok(Reply::Guard { guard })
     }
@@ -125,13 +125,13 @@ impl Pipeline {
         ensures err { OnErr result (self.new ≡ self.old) }
         ensures room { ¬ (result ≡ Err NoMemory) }
     {
-        let Some(named) = slot_at(&self.contexts.attaches, guard) else {
+        let Some(named) = self.contexts.attaches.get(guard) else {
             return Err(Refusal::UnknownName { what: What::Guard });
         };
         if named.lane != lane {
             return Err(Refusal::WrongLane { lane: named.lane });
         }
-        let Some(open) = take(&mut self.contexts.attaches, guard) else {
+        let Some(open) = self.contexts.attaches.take(guard) else {
             unreachable!()
         };
         let Attach { lane: _, attached } = open;

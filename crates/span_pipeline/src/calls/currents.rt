@@ -2,7 +2,6 @@
 ghost use Rattle.std.specs.Prelude.{◌≡◌, ◌<◌, length, IfOk, IfErr, OnErr};
 ghost use Rattle.span_script.specs.declared.request.Call.TheVariants as request;
 
-use crate::names::{keep, slot_at, take};
 use crate::pipeline::{MOST, Pipeline};
 use crate::shown::calls;
 use otel_base::record::Moment;
@@ -29,13 +28,13 @@ impl Pipeline {
             return Err(Refusal::Memory);
         }
         let number = self.handles.len() as u64;
-        self.handles.reserve(1)?;
+        self.handles.reserve()?;
         let on = &mut self.lanes[lane as usize];
         // The lane uses the pipeline's stack.
         on.default = Some(self.dispatch);
         let span = Span::current(&mut self.world, on);
         let enabled = span.id().is_some();
-        keep(&mut self.handles, span);
+        self.handles.keep(span);
         self.moment = at;
         Ok(Reply::Made {
             enabled,
@@ -61,15 +60,15 @@ impl Pipeline {
         if self.handles.len() >= MOST || self.guards.len() >= MOST {
             return Err(Refusal::Memory);
         }
-        let Some(_named) = slot_at(&self.handles, handle) else {
+        let Some(_named) = self.handles.get(handle) else {
             return Err(Refusal::UnknownName { what: What::Handle });
         };
         if self.guards.is_borrowed(handle) {
             return Err(Refusal::InUse);
         }
         let number = self.handles.len() as u64;
-        self.handles.reserve(1)?;
-        let Some(span) = take(&mut self.handles, handle) else {
+        self.handles.reserve()?;
+        let Some(span) = self.handles.take(handle) else {
             unreachable!()
         };
         let on = &mut self.lanes[lane as usize];
@@ -77,7 +76,7 @@ impl Pipeline {
         on.default = Some(self.dispatch);
         let span = span.or_current(&mut self.world, on);
         let enabled = span.id().is_some();
-        keep(&mut self.handles, span);
+        self.handles.keep(span);
         self.moment = at;
         Ok(Reply::Made {
             enabled,

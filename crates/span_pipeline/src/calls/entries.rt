@@ -3,7 +3,6 @@ ghost use Rattle.std.specs.Prelude.{◌≡◌, ◌<◌, length, IfOk, IfErr, OnE
 ghost use Rattle.span_script.specs.declared.reply.Refusal.TheVariants.{Memory as NoMemory};
 ghost use Rattle.span_script.specs.declared.request.Call.{Call};
 
-use crate::names::{skip, slot_at};
 use crate::pipeline::{MOST, Pipeline};
 use crate::shown::{calls, same};
 use otel_base::record::Moment;
@@ -39,11 +38,11 @@ impl Pipeline {
             return Err(Refusal::Memory);
         }
         let guard = self.guards.len() as u64;
-        let Some(span) = slot_at(&self.handles, handle) else {
+        let Some(span) = self.handles.get(handle) else {
             return Err(Refusal::UnknownName { what: What::Handle });
         };
         self.guards.reserve_for(handle)?;
-        self.contexts.attaches.reserve(1)?;
+        self.contexts.attaches.reserve()?;
         let entry = match span.open_entry(&mut self.world, &mut self.lanes[lane as usize], at) {
             Ok(entry) => entry,
             Err(error) => return Err(Refusal::of_entry(lane, error)),
@@ -54,7 +53,7 @@ impl Pipeline {
             owns,
             entry,
         });
-        skip(&mut self.contexts.attaches);
+        self.contexts.attaches.skip();
         self.moment = at;
         Ok(Reply::Guard { guard })
     }
@@ -67,7 +66,7 @@ impl Pipeline {
             → IfErr result (IsRefusal (effect_of_call self.old.setup t at lane (Call.Entered handle))) }
         ensures err { OnErr result (self.new ≡ self.old) }
     {
-        let Some(_named) = slot_at(&self.handles, handle) else {
+        let Some(_named) = self.handles.get(handle) else {
             return Err(Refusal::UnknownName { what: What::Handle });
         };
         if self.guards.is_borrowed(handle) {
@@ -105,7 +104,7 @@ impl Pipeline {
             owns: _,
             entry,
         } = open;
-        let Some(span) = slot_at(&self.handles, handle) else {
+        let Some(span) = self.handles.get(handle) else {
             unreachable!()
         };
         span.close_entry(entry, &mut self.world, &mut self.lanes[lane as usize], at);

@@ -98,7 +98,7 @@ impl Pipeline {
         };
         let parent = above.parent();
         let callsite = site(&self.world, found);
-        let Some(values) = all_values(*self.handles.allocator(), callsite, fields)? else {
+        let Some(values) = all_values(*self.lanes.allocator(), callsite, fields)? else {
             return Err(Refusal::UnknownName { what: What::Field });
         };
         let on = &self.lanes[lane as usize];

@@ -5,7 +5,7 @@ ghost use Rattle.span_script.specs.declared.request.Call.{Call};
 ghost use Rattle.span_script.specs.Effects.{happens_at};
 
 use crate::asked::{Asked, ask};
-use crate::names::{context_at, slot_at};
+use crate::names::context_at;
 use crate::pipeline::Pipeline;
 use crate::shown::leaves;
 use otel_base::list::Items;
@@ -48,7 +48,7 @@ impl Pipeline {
     {
         leaves();
         laws::asks();
-        let Some(span) = slot_at(&self.handles, handle) else {
+        let Some(span) = self.handles.get(handle) else {
             return Err(Refusal::UnknownName { what: What::Handle });
         };
         let Some(given) = context_at(&self.contexts.made, context) else {
@@ -77,7 +77,7 @@ impl Pipeline {
     {
         leaves();
         laws::asks();
-        let Some(span) = slot_at(&self.handles, handle) else {
+        let Some(span) = self.handles.get(handle) else {
             return Err(Refusal::UnknownName { what: What::Handle });
         };
         ask(span, &mut self.world, at, Asked::Attribute { key, value })?;
@@ -101,7 +101,7 @@ impl Pipeline {
     {
         leaves();
         laws::asks();
-        let Some(span) = slot_at(&self.handles, handle) else {
+        let Some(span) = self.handles.get(handle) else {
             return Err(Refusal::UnknownName { what: What::Handle });
         };
         // No memory is wanted for a status.
@@ -127,7 +127,7 @@ impl Pipeline {
     {
         leaves();
         laws::asks();
-        let Some(span) = slot_at(&self.handles, handle) else {
+        let Some(span) = self.handles.get(handle) else {
             return Err(Refusal::UnknownName { what: What::Handle });
         };
         let time = happens_at(at, time);

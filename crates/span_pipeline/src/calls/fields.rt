@@ -4,7 +4,6 @@ ghost use Rattle.span_script.specs.declared.reply.Refusal.TheVariants.{Memory as
 ghost use Rattle.span_script.specs.declared.request.Call.{Call};
 
 use crate::fields::values_by;
-use crate::names::slot_at;
 use crate::pipeline::Pipeline;
 use crate::shown::{calls, same};
 use otel_base::list::Items;
@@ -36,11 +35,11 @@ impl Pipeline {
         laws::calls();
         same();
         laws::same();
-        let Some(span) = slot_at(&self.handles, handle) else {
+        let Some(span) = self.handles.get(handle) else {
             return Err(Refusal::UnknownName { what: What::Handle });
         };
         let callsite = span.metadata(&self.world);
-        let values = values_by(*self.handles.allocator(), callsite, fields)?;
+        let values = values_by(*self.lanes.allocator(), callsite, fields)?;
         span.record_all(&mut self.world, at, &values)?;
         self.moment = at;
         Ok(Reply::Done)
@@ -60,7 +59,7 @@ impl Pipeline {
         ensures err { OnErr result (self.new ≡ self.old) }
         ensures room { ¬ (result ≡ Err NoMemory) }
     {
-        let Some(span) = slot_at(&self.handles, handle) else {
+        let Some(span) = self.handles.get(handle) else {
             return Err(Refusal::UnknownName { what: What::Handle });
         };
         let has = span.has_field(&self.world, &name.as_str());

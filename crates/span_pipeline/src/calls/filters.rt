@@ -41,7 +41,7 @@ impl Pipeline {
             → IfErr result (IsRefusal (effect_of_call self.old.setup t at lane (Call.Reload text))) }
         ensures err { OnErr result (self.new ≡ self.old) }
     {
-        let filter = match read_filter(*self.handles.allocator(), false, text.as_str()) {
+        let filter = match read_filter(*self.lanes.allocator(), false, text.as_str()) {
             Ok(filter) => filter,
             Err(error) => return Err(Refusal::of_text(error)),
         };

@@ -3,7 +3,7 @@ ghost use Rattle.std.specs.Prelude.{◌≡◌, IfOk, IfErr, OnErr};
 ghost use Rattle.span_script.specs.declared.request.Call.{Call};
 
 use crate::asked::{Asked, ask};
-use crate::names::{context_at, slot_at};
+use crate::names::context_at;
 use crate::pipeline::Pipeline;
 use crate::shown::{calls, leaves, same};
 use otel_base::list::Items;
@@ -34,10 +34,10 @@ impl Pipeline {
         laws::calls();
         same();
         laws::same();
-        let Some(span) = slot_at(&self.handles, handle) else {
+        let Some(span) = self.handles.get(handle) else {
             return Err(Refusal::UnknownName { what: What::Handle });
         };
-        let Some(followed) = slot_at(&self.handles, from) else {
+        let Some(followed) = self.handles.get(from) else {
             return Err(Refusal::UnknownName { what: What::Handle });
         };
         span.follows_from(&mut self.world, at, followed)?;
@@ -61,7 +61,7 @@ impl Pipeline {
     {
         leaves();
         laws::asks();
-        let Some(span) = slot_at(&self.handles, handle) else {
+        let Some(span) = self.handles.get(handle) else {
             return Err(Refusal::UnknownName { what: What::Handle });
         };
         let Some(given) = context_at(&self.contexts.made, context) else {

@@ -7,7 +7,7 @@ ghost use Rattle.span_script.specs.Setups.{span_site};
 ghost use Rattle.span_script.specs.Slots.{parent_of, IsAbove, MakesOnly};
 
 use crate::fields::all_values;
-use crate::names::{keep, place_above};
+use crate::names::place_above;
 use crate::pipeline::{MOST, Pipeline};
 use crate::shown::{calls, same};
 use crate::sites::{site, site_at};
@@ -102,12 +102,12 @@ impl Pipeline {
         let Some(found) = span_site(&self.world, place) else {
             return Err(Refusal::UnknownName { what: What::Site });
         };
-        self.handles.reserve(1)?;
+        self.handles.reserve()?;
         let Some(above) = place_above(&self.handles, under) else {
             return Err(Refusal::UnknownName { what: What::Handle });
         };
         let callsite = site(&self.world, found);
-        let Some(values) = all_values(*self.handles.allocator(), callsite, fields)? else {
+        let Some(values) = all_values(*self.lanes.allocator(), callsite, fields)? else {
             return Err(Refusal::UnknownName { what: What::Field });
         };
         let on = &self.lanes[lane as usize];
@@ -122,7 +122,7 @@ impl Pipeline {
             found,
             &values,
         )?;
-        keep(&mut self.handles, span);
+        self.handles.keep(span);
         self.moment = at;
         Ok(Reply::Made {
             enabled,

@@ -3,7 +3,6 @@ ghost use Rattle.std.specs.Prelude.{◌≡◌, IfOk, IfErr, OnErr, Err};
 ghost use Rattle.span_script.specs.declared.reply.Refusal.TheVariants.{Memory as NoMemory};
 ghost use Rattle.span_script.specs.declared.request.Call.{Call};
 
-use crate::names::{keep, slot_at, take};
 use crate::pipeline::{MOST, Pipeline};
 use crate::shown::{calls, chains};
 use otel_base::record::Moment;
@@ -33,13 +32,13 @@ impl Pipeline {
             return Err(Refusal::Memory);
         }
         let number = self.handles.len() as u64;
-        self.handles.reserve(1)?;
-        let Some(span) = slot_at(&self.handles, handle) else {
+        self.handles.reserve()?;
+        let Some(span) = self.handles.get(handle) else {
             return Err(Refusal::UnknownName { what: What::Handle });
         };
         let enabled = span.id().is_some();
         let copy = span.clone_handle(&mut self.world);
-        keep(&mut self.handles, copy);
+        self.handles.keep(copy);
         self.moment = at;
         Ok(Reply::Made {
             enabled,
@@ -62,13 +61,13 @@ impl Pipeline {
     {
         chains();
         laws::chains();
-        let Some(_named) = slot_at(&self.handles, handle) else {
+        let Some(_named) = self.handles.get(handle) else {
             return Err(Refusal::UnknownName { what: What::Handle });
         };
         if self.guards.is_borrowed(handle) {
             return Err(Refusal::InUse);
         }
-        let Some(span) = take(&mut self.handles, handle) else {
+        let Some(span) = self.handles.take(handle) else {
             unreachable!()
         };
         span.close(&mut self.world, at);

@@ -1,10 +1,10 @@
 -- The attach.
 use Rattle.std.proofs.Common.{rules, ◌∙◌, refl, ap, Err}
 use Rattle.span_script.specs.declared.request.Call.TheVariants as call
-use Rattle.span_script.specs.Fits.{named_in}
 use Rattle.span_script.proofs.Attaches.{not_full, left_state, left_kept, refuses_attach, serves_attached, keeps_attached}
 use Rattle.span_script.proofs.Keeping.{within_view}
 use Rattle.span_script.proofs.Serving.{by_view, by_view_refused}
+use Rattle.span_pipeline.specs.Contexts.{named_in}
 use Rattle.span_pipeline.proofs.pipeline.Pipeline.attach.Goals as goal
 
 pub invariant_of-self-in-Err : goal.invariant_of-self-in-Err
@@ -17,7 +17,7 @@ pub returns-in-Err-clause-refused : goal.returns-in-Err-clause-refused
 returns-in-Err-clause-refused c = λ t stands no. by_view_refused c.args.at c.args.lane (call.Attach c.args.context) _ _ _ c.self.view_is (λ t stands. refuses_attach _ _ _ _ c.self.inside.world c.self.inside.dispatch c.self.inside.opening c.self.inside.lanes.items c.self.inside.handles.items c.self.inside.guards.items (named_in c.self.inside.contexts) c.self.inside.moment c.args.at c.args.lane c.index_mut.result.now (within_view _ _ c.self.inside.lanes.items c.args.lane c.self.view_is refl c.requires) c.index_mut.ensures.value c.self.invariant c.args.context c.in-Some.given (search rules) c.in-Err.error c.of_entry.result c.of_entry.ensures (λ e. c.in-Err.ensures.full.0 (ap (λ x. Err x) e)) no t stands) t stands
 
 pub invariant_of-self-2 : goal.invariant_of-self-2
-invariant_of-self-2 c = keeps_attached _ _ _ _ c.self.inside.world c.self.inside.dispatch c.self.inside.opening c.self.inside.lanes.items c.self.inside.handles.items c.self.inside.guards.items (named_in c.self.inside.contexts) c.self.inside.moment c.args.at c.args.lane c.index_mut.result.now (within_view _ _ c.self.inside.lanes.items c.args.lane c.self.view_is refl c.requires) c.index_mut.ensures.value c.self.invariant c.args.context c.in-Some.given (search rules) c.attach_to.new.lane c.in-Ok.ensures.id c.in-Ok.ensures.name c.in-Ok.attached c.len-guard.result (search rules) c.in-Ok.ensures.number c.in-Ok.ensures.live (not_full c.in-Ok.attached _ c.in-Ok.ensures.full.1) c.skip.new.self.items (search rules) (record { made = c.self.inside.contexts.made.items; attaches = c.keep.new.slots.items }) refl (search rules)
+invariant_of-self-2 c = keeps_attached _ _ _ _ c.self.inside.world c.self.inside.dispatch c.self.inside.opening c.self.inside.lanes.items c.self.inside.handles.items c.self.inside.guards.items (named_in c.self.inside.contexts) c.self.inside.moment c.args.at c.args.lane c.index_mut.result.now (within_view _ _ c.self.inside.lanes.items c.args.lane c.self.view_is refl c.requires) c.index_mut.ensures.value c.self.invariant c.args.context c.in-Some.given (search rules) c.attach_to.new.lane c.in-Ok.ensures.id c.in-Ok.ensures.name c.in-Ok.attached c.len-guard.result (search rules) c.in-Ok.ensures.number c.in-Ok.ensures.live (not_full c.in-Ok.attached _ c.in-Ok.ensures.full.1) c.skip.new.self.items (search rules) (record { made = c.self.inside.contexts.made.items; attaches = c.keep.new.self.items }) refl (search rules)
 
 pub returns-clause-ok : goal.returns-clause-ok
-returns-clause-ok c = by_view c.args.at c.args.lane (call.Attach c.args.context) _ _ _ _ c.self.view_is (λ t stands. serves_attached _ _ _ _ c.self.inside.world c.self.inside.dispatch c.self.inside.opening c.self.inside.lanes.items c.self.inside.handles.items c.self.inside.guards.items (named_in c.self.inside.contexts) c.self.inside.moment c.args.at c.args.lane c.index_mut.result.now (within_view _ _ c.self.inside.lanes.items c.args.lane c.self.view_is refl c.requires) c.index_mut.ensures.value c.self.invariant c.args.context c.in-Some.given (search rules) c.attach_to.new.lane c.in-Ok.ensures.id c.in-Ok.ensures.name c.in-Ok.attached c.len-guard.result (search rules) c.in-Ok.ensures.number c.in-Ok.ensures.live (not_full c.in-Ok.attached _ c.in-Ok.ensures.full.1) c.skip.new.self.items (search rules) (record { made = c.self.inside.contexts.made.items; attaches = c.keep.new.slots.items }) refl (search rules) t stands)
+returns-clause-ok c = by_view c.args.at c.args.lane (call.Attach c.args.context) _ _ _ _ c.self.view_is (λ t stands. serves_attached _ _ _ _ c.self.inside.world c.self.inside.dispatch c.self.inside.opening c.self.inside.lanes.items c.self.inside.handles.items c.self.inside.guards.items (named_in c.self.inside.contexts) c.self.inside.moment c.args.at c.args.lane c.index_mut.result.now (within_view _ _ c.self.inside.lanes.items c.args.lane c.self.view_is refl c.requires) c.index_mut.ensures.value c.self.invariant c.args.context c.in-Some.given (search rules) c.attach_to.new.lane c.in-Ok.ensures.id c.in-Ok.ensures.name c.in-Ok.attached c.len-guard.result (search rules) c.in-Ok.ensures.number c.in-Ok.ensures.live (not_full c.in-Ok.attached _ c.in-Ok.ensures.full.1) c.skip.new.self.items (search rules) (record { made = c.self.inside.contexts.made.items; attaches = c.keep.new.self.items }) refl (search rules) t stands)

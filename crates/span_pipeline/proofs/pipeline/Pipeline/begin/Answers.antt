@@ -8,7 +8,7 @@ use Rattle.span_script.proofs.Beginning.{begins, recorded_nothing, measured_noth
 use Rattle.env_filter.specs.Filtering.{plain}
 use Rattle.span_stack.specs.Reading.{stack_interest}
 use Rattle.span_script.proofs.Filtering.{stack_shows}
-use Rattle.span_script.specs.Fits.{named_in}
+use Rattle.span_pipeline.specs.Contexts.{named_in}
 use Rattle.span_pipeline.proofs.pipeline.Pipeline.begin.Goals as goal
 
 pub invariant_of-result : goal.invariant_of-result

@@ -1,7 +1,6 @@
 -- The event.
 use Rattle.std.proofs.Common.{rules, refl, ◌∙◌}
 use Rattle.span_script.specs.declared.request.Call.TheVariants as call
-use Rattle.span_script.specs.Fits.{named_in}
 use Rattle.span_stack.specs.Reading.{stack_interest}
 use Rattle.span_script.proofs.Beside.{stack_same}
 use Rattle.span_script.proofs.Filtering.{stack_shows}
@@ -12,6 +11,7 @@ use Rattle.span_script.proofs.Serving.{by_view, by_view_refused}
 use Rattle.span_script.proofs.Declaring.{refuses_event}
 use Rattle.span_script.proofs.Making.{made_alike, tell_live}
 use Rattle.span_script.proofs.Telling.{serves_told, keeps_told}
+use Rattle.span_pipeline.specs.Contexts.{named_in}
 use Rattle.span_pipeline.proofs.Placing.{refuses_event_site, refuses_event_place}
 use Rattle.span_pipeline.proofs.pipeline.Pipeline.event.Goals as goal
 

@@ -1,7 +1,6 @@
 -- The making.
 use Rattle.std.proofs.Common.{rules, refl, ◌∙◌}
 use Rattle.span_script.specs.declared.request.Call.TheVariants as call
-use Rattle.span_script.specs.Fits.{named_in}
 use Rattle.span_stack.specs.Reading.{stack_interest}
 use Rattle.span_script.proofs.Beside.{stack_same}
 use Rattle.span_script.proofs.Filtering.{stack_shows}
@@ -11,6 +10,7 @@ use Rattle.span_script.proofs.Naming.{found_place, found_nowhere}
 use Rattle.span_script.proofs.Serving.{by_view, by_view_refused}
 use Rattle.span_script.proofs.Declaring.{refuses_new, refuses_place}
 use Rattle.span_script.proofs.Making.{make_may, all_of, made_alike, serves_new, keeps_new}
+use Rattle.span_pipeline.specs.Contexts.{named_in}
 use Rattle.span_pipeline.proofs.Placing.{refuses_span_site}
 use Rattle.span_pipeline.proofs.pipeline.Pipeline.make.Goals as goal
 
@@ -27,11 +27,11 @@ pub returns-in_err-span-clause-err : goal.returns-in_err-span-clause-err
 returns-in_err-span-clause-err c = on_err _ _ ((made_alike _ _ _ _ _ _ c.same.ensures (λ o n d r. (c.same-2.ensures.recording o n d r, c.same-2.ensures.filter o n d r, stack_same o n d (c.same-2.ensures.counter o n d r) (c.same-2.ensures.measures o n d r))) c.self.inside.world c.make_if.new.world c.self.inside.dispatch c.self.inside.opening c.self.inside.lanes.items c.self.inside.handles.items c.reserve.new.self.items c.self.inside.guards.items (named_in c.self.inside.contexts) c.self.inside.moment (search rules) c.in_err-span.ensures.memory_leaves).0 ∙ c.self.view_is)
 
 pub invariant_of-self-2 : goal.invariant_of-self-2
-invariant_of-self-2 c = keeps_new _ _ _ _ _ _ c.make_if.new.world _ c.calls.ensures (λ o n d k r. (c.calls-2.ensures.recording o n d k r, c.calls-2.ensures.filter o n d k r, record { counter = c.calls-2.ensures.counter o n d k r; measures = c.calls-2.ensures.measures o n d k r })) c.self.inside.dispatch c.self.inside.opening c.self.inside.lanes.items c.self.inside.handles.items c.keep.new.slots.items c.self.inside.guards.items (named_in c.self.inside.contexts) c.self.inside.moment c.args.at c.args.lane c.len-number.result (search rules) c.self.invariant
+invariant_of-self-2 c = keeps_new _ _ _ _ _ _ c.make_if.new.world _ c.calls.ensures (λ o n d k r. (c.calls-2.ensures.recording o n d k r, c.calls-2.ensures.filter o n d k r, record { counter = c.calls-2.ensures.counter o n d k r; measures = c.calls-2.ensures.measures o n d k r })) c.self.inside.dispatch c.self.inside.opening c.self.inside.lanes.items c.self.inside.handles.items c.keep.new.self.items c.self.inside.guards.items (named_in c.self.inside.contexts) c.self.inside.moment c.args.at c.args.lane c.len-number.result (search rules) c.self.invariant
     c.args.under _ c.in-Some.found c.args.place (search rules) (search rules) (found_place c.reserve.new.self.items c.self.inside.handles.items c.args.under _ c.in-Some-place_above.above (search rules) c.place_above.ensures.place c.in-Some-place_above.is) c.args.fields c.in-Some-2.values c.site-callsite.result.now (search rules) (search rules) c.in_ok-span.span c.index-on.result.now (within_view _ _ c.self.inside.lanes.items c.args.lane c.self.view_is refl c.requires) (search rules) (search rules) c.admits-enabled.result c.admits-enabled.ensures c.in_ok-span.ensures.ok
 
 pub returns-clause-ok : goal.returns-clause-ok
-returns-clause-ok c = by_view c.args.at c.args.lane (call.New c.args.place c.args.under c.args.fields) _ _ _ _ c.self.view_is (λ t stands. serves_new _ _ _ _ _ _ c.make_if.new.world _ c.calls.ensures (λ o n d k r. (c.calls-2.ensures.recording o n d k r, c.calls-2.ensures.filter o n d k r, record { counter = c.calls-2.ensures.counter o n d k r; measures = c.calls-2.ensures.measures o n d k r })) c.self.inside.dispatch c.self.inside.opening c.self.inside.lanes.items c.self.inside.handles.items c.keep.new.slots.items c.self.inside.guards.items (named_in c.self.inside.contexts) c.self.inside.moment c.args.at c.args.lane c.len-number.result (search rules) c.self.invariant
+returns-clause-ok c = by_view c.args.at c.args.lane (call.New c.args.place c.args.under c.args.fields) _ _ _ _ c.self.view_is (λ t stands. serves_new _ _ _ _ _ _ c.make_if.new.world _ c.calls.ensures (λ o n d k r. (c.calls-2.ensures.recording o n d k r, c.calls-2.ensures.filter o n d k r, record { counter = c.calls-2.ensures.counter o n d k r; measures = c.calls-2.ensures.measures o n d k r })) c.self.inside.dispatch c.self.inside.opening c.self.inside.lanes.items c.self.inside.handles.items c.keep.new.self.items c.self.inside.guards.items (named_in c.self.inside.contexts) c.self.inside.moment c.args.at c.args.lane c.len-number.result (search rules) c.self.invariant
     c.args.under _ c.in-Some.found c.args.place (search rules) (search rules) (found_place c.reserve.new.self.items c.self.inside.handles.items c.args.under _ c.in-Some-place_above.above (search rules) c.place_above.ensures.place c.in-Some-place_above.is) c.args.fields c.in-Some-2.values c.site-callsite.result.now (search rules) (search rules) c.in_ok-span.span c.index-on.result.now (within_view _ _ c.self.inside.lanes.items c.args.lane c.self.view_is refl c.requires) (search rules) (search rules) c.admits-enabled.result c.admits-enabled.ensures c.in_ok-span.ensures.ok t stands)
 
 pub returns-in_default-2-clause-refused : goal.returns-in_default-2-clause-refused

@@ -1,0 +1,21 @@
+-- Values by their numbers. Inner definitions.
+use Rattle.std.specs.Prelude.{◌≡◌, ℕ, ◌+◌, ◌-◌, ◌<◌, ◌==◌, if◌then◌else◌, List, Option, Some, None, IfSome, option_map, slice_get, slice_index_or}
+
+-- the values by their numbers, none where one was taken out, and for how many more numbers and values there is room
+pub record Slotted (X : Type 0) : Type 0 where
+  pub items : List (Option X)
+  pub room : ℕ
+  pub space : ℕ
+
+-- what stands at a place, which is counted from 1
+abbrev pub value_at : {X : Type 0} → List (ℕ × X) → ℕ → Option X
+value_at live place = if place == 0 then None else option_map (λ e. e.1) (slice_get live (place - 1))
+
+-- the number of the value at an index
+abbrev pub number_at : {X : Type 0} → List (ℕ × X) → ℕ → Option ℕ
+number_at live index = option_map (λ e. e.0) (slice_get live index)
+
+-- at the place of a number stands its value, and a value stands at the place of its number
+pub record AreLinked {X : Type 0} (places : List ℕ) (live : List (ℕ × X)) : Type 0 where
+  pub found : (n : ℕ) → 0 < slice_index_or places n 0 → number_at live (slice_index_or places n 0 - 1) ≡ Some n
+  pub placed : (index : ℕ) → IfSome (slice_get live index) (λ e. slice_index_or places e.0 0 ≡ index + 1)
