@@ -7,6 +7,7 @@ mod field_runs;
 mod filter_runs;
 mod line_runs;
 mod metric_runs;
+mod objects;
 mod refused_runs;
 mod runs;
 mod span_runs;

@@ -3,6 +3,7 @@ pub mod LineValue
 pub mod Members
 pub mod Distinct
 pub mod Items
+pub mod Objects
 pub mod OwnIds
 pub mod Hex
 pub mod HexRead

@@ -224,6 +224,21 @@ array_read deep line rest ps utf8 shallow all a b =
     ∙ read_compact raw (array (read_items ps)) (items_numbers deep ps all) (omega (arith, shallow, items_shallow deep ps all)) (ap (option_map array) (items_read deep ps all)) in
     read_value line (array (read_items ps)) utf8 reads
 
+-- an array in front of a text, by its items
+pub array_front : (deep : ℕ) (text items rest : List ℕ) (ps : List Pair) → AllRead deep ps → text ≡ 91 ∷ items → items ≡ items_text false (raw_items ps no_items) ++ rest
+    → Begins (deep + 1) text (array (read_items ps)) rest
+array_front deep text items rest ps all is more = (
+  array (raw_items ps no_items),
+  is ∙ ap (λ (l : List ℕ). 91 ∷ l) more,
+  (items_numbers deep ps all, omega (arith, items_shallow deep ps all), ap (option_map array) (items_read deep ps all)),
+)
+
+-- a text with nothing behind its value
+pub whole_text_read : (deep : ℕ) (line text rest : List ℕ) (d : Data) → IsUtf8 line → deep ≤ max_depth → line ≡ text → rest ≡ [] → Begins deep text d rest → line_value line ≡ Some d
+whole_text_read deep line text rest d utf8 shallow is none b =
+    read_value line d utf8
+    (ap read (is ∙ b.1 ∙ ap (λ (l : List ℕ). compact_text b.0 ++ l) none ∙ append-nil (compact_text b.0)) ∙ read_compact b.0 d b.2.0 (omega (arith, shallow, b.2.1)) b.2.2)
+
 -- a nested value stays a text, which is read as the value
 pub nested_begins : (deep : ℕ) (text words rest : List ℕ) → IsUtf8 words → words ++ rest ≡ text → deep ≤ max_depth → (d : Data) → nested d ≡ d → (raw : Data) → words ≡ compact_text raw → Reads deep raw d
     → Begins deep text (nested (unwrap_or (line_value words) null)) rest

@@ -15,6 +15,9 @@ use Rattle.span_script.specs.declared.request.Call.TheVariants as call
 use Rattle.span_script.specs.declared.request.Place.TheVariants as place
 use Rattle.span_script.specs.declared.request.Request.{Request}
 use Rattle.trace_pipeline.specs.declared.told.Told.TheVariants.{BadLine}
+use Rattle.trace_base.specs.declared.field.Value.{Value}
+use Rattle.trace_pipeline.specs.Compact.{Reads}
+use Rattle.trace_pipeline.specs.FieldForm.{fields_of}
 use Rattle.trace_pipeline.specs.Forms.{all_of}
 use Rattle.trace_pipeline.specs.QuickLines.{fronted, two_numbers}
 use Rattle.trace_pipeline.specs.RequestForm.{request_form, new_form, drop_form, enter_form, exit_form, event_form}
@@ -33,6 +36,18 @@ spells raw ms request line text is numbers shallow same formed =
 -- the members of a request with a number of a name
 abbrev numbered : List ℕ → List ℕ → ℕ → ℕ → ℕ → Members
 numbered word name at n lane = member (codes "at") (number (unsigned at)) (member (codes "do") (string word) (member name (number (unsigned n)) (member (codes "lane") (number (unsigned lane)) no_members)))
+
+-- the members of a new span or an event that is under no other
+abbrev rooted : List ℕ → ℕ → ℕ → ℕ → Members
+rooted word at lane site =
+    member (codes "at") (number (unsigned at)) (member (codes "do") (string word)
+    (member (codes "lane") (number (unsigned lane)) (member (codes "parent") (string (codes "root")) (member (codes "site") (number (unsigned site)) no_members))))
+
+-- the members of a contextual one with fields
+abbrev filled : List ℕ → Data → ℕ → ℕ → ℕ → Members
+filled word fields at lane site =
+    member (codes "at") (number (unsigned at)) (member (codes "do") (string word)
+    (member (codes "fields") fields (member (codes "lane") (number (unsigned lane)) (member (codes "site") (number (unsigned site)) no_members))))
 
 -- the same with the lane in front of the name
 abbrev numbered_late : List ℕ → List ℕ → ℕ → ℕ → ℕ → Members
@@ -112,3 +127,41 @@ event_read line rest at lane site text a l h is behind =
     spells ms ms (record { at = at; lane = lane; call = call.Event site place.Contextual [] }) line text (is ∙ ap (fronted at) behind)
     (IsNumber-decimal at a, (tt, (IsNumber-decimal lane l, (IsNumber-decimal site h, tt)))) (omega arith)
     (rw (number_of-decimal at a, number_of-decimal lane l, number_of-decimal site h) refl) refl
+
+pub new_root_read : (line rest : List ℕ) (at lane site : ℕ) → IsUtf8 line → at < 2 ^ 64 → lane < 2 ^ 64 → site < 2 ^ 64 → line ≡ fronted at rest
+    → rest ≡ two_numbers (codes "new\",\"lane\":") lane (codes ",\"parent\":\"root\",\"site\":") site → request_spelled line ≡ Ok (record { at = at; lane = lane; call = call.New site place.Root [] })
+unfolding request_form new_form escape_byte
+new_root_read line rest at lane site text a l h is behind =
+    let ms = rooted (codes "new") at lane site in
+    spells ms ms (record { at = at; lane = lane; call = call.New site place.Root [] }) line text (is ∙ ap (fronted at) behind)
+    (IsNumber-decimal at a, (tt, (IsNumber-decimal lane l, (tt, (IsNumber-decimal site h, tt))))) (omega arith)
+    (rw (number_of-decimal at a, number_of-decimal lane l, number_of-decimal site h) refl) refl
+
+pub new_fields_read : (line rest array tail : List ℕ) (at lane site : ℕ) (raw d : Data) (fields : List (List ℕ × Value)) → IsUtf8 line → at < 2 ^ 64 → lane < 2 ^ 64 → site < 2 ^ 64 → line ≡ fronted at rest
+    → rest ≡ codes "new\",\"fields\":" ++ array → array ≡ compact_text raw ++ tail → Reads 18 raw d → fields_of d ≡ Some fields → tail ≡ two_numbers (codes ",\"lane\":") lane (codes ",\"site\":") site
+    → request_spelled line ≡ Ok (record { at = at; lane = lane; call = call.New site place.Contextual fields })
+unfolding request_form new_form escape_byte
+new_fields_read line rest array tail at lane site raw d fields text a l h is front begins reads given behind =
+    spells (filled (codes "new") raw at lane site) (filled (codes "new") d at lane site) (record { at = at; lane = lane; call = call.New site place.Contextual fields }) line text
+    (is ∙ ap (fronted at) (front ∙ ap (λ (t : List ℕ). codes "new\",\"fields\":" ++ t) (begins ∙ ap (λ (t : List ℕ). compact_text raw ++ t) behind)))
+    (IsNumber-decimal at a, (tt, (reads.0, (IsNumber-decimal lane l, (IsNumber-decimal site h, tt))))) (omega (arith, reads.1))
+    (rw (number_of-decimal at a, reads.2, number_of-decimal lane l, number_of-decimal site h) refl) (rw given refl)
+
+pub event_root_read : (line rest : List ℕ) (at lane site : ℕ) → IsUtf8 line → at < 2 ^ 64 → lane < 2 ^ 64 → site < 2 ^ 64 → line ≡ fronted at rest
+    → rest ≡ two_numbers (codes "event\",\"lane\":") lane (codes ",\"parent\":\"root\",\"site\":") site → request_spelled line ≡ Ok (record { at = at; lane = lane; call = call.Event site place.Root [] })
+unfolding request_form event_form escape_byte
+event_root_read line rest at lane site text a l h is behind =
+    let ms = rooted (codes "event") at lane site in
+    spells ms ms (record { at = at; lane = lane; call = call.Event site place.Root [] }) line text (is ∙ ap (fronted at) behind)
+    (IsNumber-decimal at a, (tt, (IsNumber-decimal lane l, (tt, (IsNumber-decimal site h, tt))))) (omega arith)
+    (rw (number_of-decimal at a, number_of-decimal lane l, number_of-decimal site h) refl) refl
+
+pub event_fields_read : (line rest array tail : List ℕ) (at lane site : ℕ) (raw d : Data) (fields : List (List ℕ × Value)) → IsUtf8 line → at < 2 ^ 64 → lane < 2 ^ 64 → site < 2 ^ 64 → line ≡ fronted at rest
+    → rest ≡ codes "event\",\"fields\":" ++ array → array ≡ compact_text raw ++ tail → Reads 18 raw d → fields_of d ≡ Some fields → tail ≡ two_numbers (codes ",\"lane\":") lane (codes ",\"site\":") site
+    → request_spelled line ≡ Ok (record { at = at; lane = lane; call = call.Event site place.Contextual fields })
+unfolding request_form event_form escape_byte
+event_fields_read line rest array tail at lane site raw d fields text a l h is front begins reads given behind =
+    spells (filled (codes "event") raw at lane site) (filled (codes "event") d at lane site) (record { at = at; lane = lane; call = call.Event site place.Contextual fields }) line text
+    (is ∙ ap (fronted at) (front ∙ ap (λ (t : List ℕ). codes "event\",\"fields\":" ++ t) (begins ∙ ap (λ (t : List ℕ). compact_text raw ++ t) behind)))
+    (IsNumber-decimal at a, (tt, (reads.0, (IsNumber-decimal lane l, (IsNumber-decimal site h, tt))))) (omega (arith, reads.1))
+    (rw (number_of-decimal at a, reads.2, number_of-decimal lane l, number_of-decimal site h) refl) (rw given refl)

@@ -20,6 +20,7 @@ pub mod RecordData
 pub mod MeasureData
 pub mod Texts
 pub mod Writes
+pub mod Building
 pub mod Report
 pub mod Laws
 pub mod Generated

@@ -22,5 +22,6 @@ pub use span_script::{Call, LAST_MOMENT, Place, Refusal, Reply, Request, Setting
 pub use told::Told;
 pub use write::{
     append_end, append_measure, append_measures_end, append_record, append_refusal, append_reply,
-    end_line, measure_line, measures_end_line, record_line, refusal_line, reply_line,
+    end_line, measure_line, measures_end_line, record_line, record_object, refusal_line,
+    reply_line,
 };

@@ -17,6 +17,7 @@ pub mod record;
 mod refusal;
 mod reply;
 pub mod summary;
+mod value;
 
 use crate::told::Told;
 use end::{add_end, add_measures_end};
@@ -31,6 +32,7 @@ use reply::add_reply;
 use span_script::reply::Reply;
 use std::alloc::{AllocError, Global};
 use summary::{Summary, add_summary};
+pub use value::record_object;
 
 // The bytes that most lines need, of records and of others.
 const LONG: usize = 512;

@@ -1,7 +1,7 @@
 -- What a line spells decides what it does.
 use Rattle.std.proofs.Common.{◌≡◌, ℕ, List, [], ◌∷◌, ◌++◌, refl, sym, ap, subst, ◌∙◌, length, map}
 use Rattle.std.proofs.lemmas.List.{length-map}
-use Rattle.std.specs.Prelude.{Bool, true, false, Option, Result, Ok, Err, IfOk, IfErr, IsErrOf}
+use Rattle.std.specs.Prelude.{Bool, true, false, Option, Ok, Err}
 use Rattle.std.proofs.lemmas.Bool.{true≢false}
 use Rattle.span_script.specs.declared.settings.Settings.{Settings}
 use Rattle.span_script.specs.Setups.{Setup, setup_by}
@@ -13,8 +13,6 @@ use Rattle.span_script.specs.Tables.{History, Effect, Tables, tables, records_of
 use Rattle.span_script.specs.Effects.{effect_of}
 use Rattle.span_script.specs.Fits.{State, StandsFor, Recorded, is_room}
 use Rattle.span_script.specs.Admission.{opening_read}
-use Rattle.trace_pipeline.specs.declared.read.LineError.{LineError}
-use Rattle.trace_pipeline.specs.declared.read.LineError.TheVariants as error
 use Rattle.trace_pipeline.specs.declared.told.Told.{Told}
 use Rattle.trace_pipeline.specs.declared.told.Told.TheVariants as told
 use Rattle.trace_pipeline.specs.Spelled.{settings_spelled, request_spelled}
@@ -22,25 +20,9 @@ use Rattle.trace_pipeline.specs.Report.{effect_of_line, effect_of_request}
 use Rattle.trace_records.specs.declared.line.Opened.{Opened}
 use Rattle.trace_records.specs.declared.line.Answered.{Answered}
 use Rattle.trace_records.specs.Scripts.{takes, setup_of, setup_of_line, lane_in}
-use Rattle.trace_records.specs.Lines.{IsSpelled, IsTold, Opens, Answers}
+use Rattle.trace_records.specs.Lines.{IsTold, Opens, Answers}
 
-pub spelled_as : {A : Type 0} (read : Result A LineError) (spelled is : Result A Told) → IsSpelled read spelled → IfOk read (λ value. is ≡ Ok value)
-    → (IsErrOf read error.BadLine → is ≡ Err told.BadLine) → is ≡ spelled
-spelled_as (Ok value) spelled is same ok bad = ok ∙ sym same
-spelled_as (Err error.BadLine) spelled is same ok bad = bad refl ∙ sym same
-spelled_as (Err error.Memory) spelled is same ok bad = absurd same
-
--- what holds of a value that was read holds of what is spelled
-pub spelled_keeps : {A : Type 0} (P : A → Type 0) (read : Result A LineError) (spelled : Result A Told) (value : A) → IsSpelled read spelled → spelled ≡ Ok value → IfOk read P → P value
-spelled_keeps P (Ok x) spelled value same is holds = subst P (cc (sym same ∙ is)) holds
-spelled_keeps P (Err error.BadLine) spelled value same is holds = absurd (cc (sym same ∙ is))
-spelled_keeps P (Err error.Memory) spelled value same is holds = absurd same
-
--- a refusal that was read has a line, and so has that of a step but for want of memory
-pub is_told : {A : Type 0} (spelled : Result A Told) (why : Told) → spelled ≡ Err why → IfErr spelled IsTold → IsTold why
-is_told (Ok value) why is told = absurd (cc is)
-is_told (Err reason) why is told = let same : reason ≡ why = cc in subst IsTold same told
-
+-- the refusal of a step has a line but for want of memory
 pub told_step : (why : Refusal) → is_room why ≡ false → IsTold (told.Step why)
 told_step why other is = let same : why ≡ refusal.Memory = cc in true≢false (sym (ap is_room same) ∙ other)
 

@@ -4,8 +4,6 @@ use Rattle.span_script.specs.declared.reply.Refusal.TheVariants as refusal
 use Rattle.span_script.specs.Setups.{Setup}
 use Rattle.span_script.specs.Tables.{History, Effect, tables, records_of}
 use Rattle.span_script.specs.Fits.{State, StandsFor}
-use Rattle.trace_pipeline.specs.declared.read.LineError.{LineError}
-use Rattle.trace_pipeline.specs.declared.read.LineError.TheVariants as error
 use Rattle.trace_pipeline.specs.declared.told.Told.{Told}
 use Rattle.trace_pipeline.specs.declared.told.Told.TheVariants as told
 use Rattle.trace_pipeline.specs.Spelled.{request_spelled}
@@ -13,12 +11,6 @@ use Rattle.trace_pipeline.specs.Report.{effect_of_line}
 use Rattle.trace_records.specs.declared.line.Opened.{Opened}
 use Rattle.trace_records.specs.declared.line.Answered.{Answered}
 use Rattle.trace_records.specs.Scripts.{setup_of_line, lane_in}
-
--- what was read of a line, where memory didn't want
-abbrev pub IsSpelled : {A : Type 0} → Result A LineError → Result A Told → Type 0
-IsSpelled (Ok value) spelled = spelled ≡ Ok value
-IsSpelled (Err error.BadLine) spelled = spelled ≡ Err told.BadLine
-IsSpelled (Err error.Memory) spelled = ⊥
 
 -- a refusal has a line that tells it
 abbrev pub IsTold : Told → Type 0

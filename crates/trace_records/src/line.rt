@@ -3,7 +3,7 @@ ghost use Rattle.std.specs.Prelude.{◌≡◌, ℕ, Option, IfOk, IfErr, OnOk, O
 ghost use Rattle.span_script.specs.Fits.{StandsFor, is_room};
 ghost use Rattle.span_script.specs.Tables.{History, tables};
 ghost use Rattle.trace_records.specs.Scripts.{takes};
-ghost use Rattle.trace_records.specs.Lines.{IsSpelled, IsTold, OpensLine, AnswersLine};
+ghost use Rattle.trace_records.specs.Lines.{IsTold, OpensLine, AnswersLine};
 
 use otel_base::memory::Memory;
 use span_pipeline::pipeline::Pipeline;
@@ -49,9 +49,10 @@ pub fn open_line(
 ) -> Result<Result<Opened, Told>, Memory>
     ensures { IfOk result (OpensLine most_lanes line.now) }
 {
-    let settings = match spelled(read_settings(alloc, line))? {
+    let settings = match read_settings(alloc, line) {
         Ok(settings) => settings,
-        Err(told) => return Ok(Err(told)),
+        Err(LineError::BadLine) => return Ok(Err(Told::BadLine)),
+        Err(LineError::Memory) => return Err(Memory),
     };
     let lane_count = settings.lanes.as_slice().len() as u64;
     match Pipeline::open(alloc, settings) {
@@ -83,9 +84,10 @@ pub fn answer_line(
         → IfOk result (AnswersLine line.now h pipeline.old pipeline.new) }
     ensures told { IfOk result (λ answered. IfErr answered IsTold) }
 {
-    let request = match spelled(read_request(alloc, line))? {
+    let request = match read_request(alloc, line) {
         Ok(request) => request,
-        Err(told) => return Ok(Err(told)),
+        Err(LineError::BadLine) => return Ok(Err(Told::BadLine)),
+        Err(LineError::Memory) => return Err(Memory),
     };
     let lane = request.lane;
     match pipeline.step(request) {
@@ -111,17 +113,5 @@ fn told_of(refusal: Refusal) -> Result<Told, Memory>
         | Refusal::WrongLane { .. }
         | Refusal::Full { .. }
         | Refusal::Directive { .. } => Ok(Told::Step { refusal }),
-    }
-}
-
-// What a line spells, or what its refusal line tells. Want of memory has no such line.
-fn spelled<T: Drop>(read: Result<T, LineError>) -> Result<Result<T, Told>, Memory>
-    ensures same { IfOk result (λ spelled. IsSpelled read spelled) }
-    ensures told { IfOk result (λ spelled. IfErr spelled IsTold) }
-{
-    match read {
-        Ok(value) => Ok(Ok(value)),
-        Err(LineError::BadLine) => Ok(Err(Told::BadLine)),
-        Err(LineError::Memory) => Err(Memory),
     }
 }

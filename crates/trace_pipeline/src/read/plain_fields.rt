@@ -6,7 +6,7 @@ ghost use Rattle.trace_pipeline.specs.FieldForm.{value_of, field_of, fields_of};
 ghost use Rattle.trace_pipeline.specs.Spelled.{line_value};
 
 use crate::read::fields::plain_value;
-use crate::read::flat::{closes, ends};
+use crate::read::flat::ends;
 use crate::read::plain::Plain;
 use crate::read::scan::{DEEPEST, behind, text, value};
 use otel_base::list::Items;
@@ -50,15 +50,18 @@ fn keep(fields: &mut Vec<(Text, FieldValue)>, field: (Text, FieldValue)) -> Opti
     Some(())
 }
 
-/// The fields that an array of a text spells.
-pub(crate) fn plain_fields(alloc: Global, array: &str) -> Option<Items<(Text, FieldValue)>>
-    ensures { IfSome result (λ fields. option_and_then fields_of (line_value array.now) ≡ Some fields) }
+/// The fields that an array in front of a text spells, and what stands behind it.
+pub(crate) fn leading_fields<'a>(
+    alloc: Global,
+    bytes: &'a [u8],
+) -> Option<(Items<(Text, FieldValue)>, &'a [u8])>
+    ensures { IfSome result (λ r.
+        (d : Data) × Begins (DEEPEST + 2) bytes.now d r.1.now × (fields_of d ≡ Some r.0)) }
 {
     let mut fields = Vec::new(alloc);
-    let mut rest = behind(array.as_bytes(), b'[')?;
+    let mut rest = behind(bytes, b'[')?;
     if let Some(end) = behind(rest, b']') {
-        ends(end)?;
-        return Some(Items::from(fields));
+        return Some((Items::from(fields), end));
     }
     for _ in 0..MOST_FIELDS {
         let (field, after) = plain_field(alloc, rest)?;
@@ -66,10 +69,19 @@ pub(crate) fn plain_fields(alloc: Global, array: &str) -> Option<Items<(Text, Fi
         match behind(after, b',') {
             Some(more) => rest = more,
             None => {
-                closes(after, b']')?;
-                return Some(Items::from(fields));
+                let end = behind(after, b']')?;
+                return Some((Items::from(fields), end));
             }
         }
     }
     None
+}
+
+/// The fields that an array of a text spells.
+pub(crate) fn plain_fields(alloc: Global, array: &str) -> Option<Items<(Text, FieldValue)>>
+    ensures { IfSome result (λ fields. option_and_then fields_of (line_value array.now) ≡ Some fields) }
+{
+    let (fields, end) = leading_fields(alloc, array.as_bytes())?;
+    ends(end)?;
+    Some(fields)
 }

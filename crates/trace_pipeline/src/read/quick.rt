@@ -1,4 +1,5 @@
 //! Requests as they are mostly written: compact, with their moment and their word in front, and two numbers behind them.
+//! A new span or an event may have fields before these.
 //! None says nothing of what the line spells.
 ghost use Rattle.std.specs.Prelude.{◌≡◌, ◌<◌, ◌^◌, Ok, IfSome};
 ghost use Rattle.std.specs.Str.{IsUtf8};
@@ -6,6 +7,7 @@ ghost use Rattle.trace_pipeline.specs.QuickLines.{fronted, two_numbers};
 ghost use Rattle.trace_pipeline.specs.Spelled.{request_spelled};
 
 use crate::read::flat::{closes, is_text};
+use crate::read::plain_fields::leading_fields;
 use crate::read::scan::{number, word};
 use otel_base::list::Items;
 use span_script::request::{Call, Place, Request};
@@ -99,34 +101,108 @@ fn exit_line(line: &[u8], at: u64, rest: &[u8]) -> Option<Request>
     }
 }
 
-// A contextual span without fields.
+// A span without fields, contextual or under no other.
 fn new_line(alloc: Global, line: &[u8], at: u64, rest: &[u8]) -> Option<Request>
     requires text { IsUtf8 line.now }
     requires fits { at < 2 ^ 64 }
     requires front { line.now ≡ fronted at rest.now }
     ensures { IfSome result (λ request. request_spelled line.now ≡ Ok request) }
 {
-    let (lane, site) = pair(rest, b"new\",\"lane\":", b",\"site\":")?;
+    let fields = Items::new(alloc);
+    match pair(rest, b"new\",\"lane\":", b",\"site\":") {
+        Some((lane, site)) => Some(Request {
+            at,
+            lane,
+            call: Call::New {
+                site,
+                place: Place::Contextual,
+                fields,
+            },
+        }),
+        None => {
+            let (lane, site) = pair(rest, b"new\",\"lane\":", b",\"parent\":\"root\",\"site\":")?;
+            Some(Request {
+                at,
+                lane,
+                call: Call::New {
+                    site,
+                    place: Place::Root,
+                    fields,
+                },
+            })
+        }
+    }
+}
+
+// A contextual span with fields.
+fn new_fields_line(alloc: Global, line: &[u8], at: u64, rest: &[u8]) -> Option<Request>
+    requires text { IsUtf8 line.now }
+    requires fits { at < 2 ^ 64 }
+    requires front { line.now ≡ fronted at rest.now }
+    ensures { IfSome result (λ request. request_spelled line.now ≡ Ok request) }
+{
+    let array = word(rest, b"new\",\"fields\":")?;
+    let (fields, tail) = leading_fields(alloc, array)?;
+    let (lane, site) = pair(tail, b",\"lane\":", b",\"site\":")?;
     let call = Call::New {
         site,
         place: Place::Contextual,
-        fields: Items::new(alloc),
+        fields,
     };
     Some(Request { at, lane, call })
 }
 
-// A contextual event without fields.
+// An event without fields, contextual or under no other.
 fn event_line(alloc: Global, line: &[u8], at: u64, rest: &[u8]) -> Option<Request>
     requires text { IsUtf8 line.now }
     requires fits { at < 2 ^ 64 }
     requires front { line.now ≡ fronted at rest.now }
     ensures { IfSome result (λ request. request_spelled line.now ≡ Ok request) }
 {
-    let (lane, site) = pair(rest, b"event\",\"lane\":", b",\"site\":")?;
+    let fields = Items::new(alloc);
+    match pair(rest, b"event\",\"lane\":", b",\"site\":") {
+        Some((lane, site)) => Some(Request {
+            at,
+            lane,
+            call: Call::Event {
+                site,
+                place: Place::Contextual,
+                fields,
+            },
+        }),
+        None => {
+            let (lane, site) = pair(
+                rest,
+                b"event\",\"lane\":",
+                b",\"parent\":\"root\",\"site\":",
+            )?;
+            Some(Request {
+                at,
+                lane,
+                call: Call::Event {
+                    site,
+                    place: Place::Root,
+                    fields,
+                },
+            })
+        }
+    }
+}
+
+// A contextual event with fields.
+fn event_fields_line(alloc: Global, line: &[u8], at: u64, rest: &[u8]) -> Option<Request>
+    requires text { IsUtf8 line.now }
+    requires fits { at < 2 ^ 64 }
+    requires front { line.now ≡ fronted at rest.now }
+    ensures { IfSome result (λ request. request_spelled line.now ≡ Ok request) }
+{
+    let array = word(rest, b"event\",\"fields\":")?;
+    let (fields, tail) = leading_fields(alloc, array)?;
+    let (lane, site) = pair(tail, b",\"lane\":", b",\"site\":")?;
     let call = Call::Event {
         site,
         place: Place::Contextual,
-        fields: Items::new(alloc),
+        fields,
     };
     Some(Request { at, lane, call })
 }
@@ -155,10 +231,16 @@ pub(crate) fn quick_request(alloc: Global, line: &[u8]) -> Option<Request>
         return None;
     }
     match (rest[0], rest[1]) {
-        (b'n', _) => new_line(alloc, line, at, rest),
+        (b'n', _) => match new_line(alloc, line, at, rest) {
+            Some(request) => Some(request),
+            None => new_fields_line(alloc, line, at, rest),
+        },
         (b'd', _) => drop_line(line, at, rest),
         (b'e', b'n') => enter_line(line, at, rest),
-        (b'e', b'v') => event_line(alloc, line, at, rest),
+        (b'e', b'v') => match event_line(alloc, line, at, rest) {
+            Some(request) => Some(request),
+            None => event_fields_line(alloc, line, at, rest),
+        },
         (b'e', _) => exit_line(line, at, rest),
         _ => None,
     }

@@ -27,17 +27,18 @@ pub fn add_long_id(out: &mut Vec<u8>, front: &str, id: u128) -> Result<(), Alloc
     Ok(())
 }
 
-// The digits as a text, without a copy.
+/// The digits as a text, without a copy.
 #[tactic(auto, using(crate::proofs::Hex::is_ok))]
-fn as_text(digits: &[u8]) -> &str
+pub(crate) fn as_text(digits: &[u8]) -> &str
     requires { IsUtf8 digits.now }
     ensures { result.now ≡ digits.now }
 {
     str::from_utf8(digits).unwrap()
 }
 
+/// The digits of an id of 64 bits.
 #[tactic(auto, using(crate::proofs::Hex::whole_list))]
-fn digits_of(id: u64) -> [u8; 16]
+pub(crate) fn digits_of(id: u64) -> [u8; 16]
     ensures value { result ≡ hex16 id }
     ensures utf8 { IsUtf8 result }
     ensures plain { escape result ≡ result }
@@ -47,8 +48,9 @@ fn digits_of(id: u64) -> [u8; 16]
     digits
 }
 
+/// The digits of an id of 128 bits.
 #[tactic(auto, using(crate::proofs::Hex::both_halves))]
-fn digits_of_long(id: u128) -> [u8; 32]
+pub(crate) fn digits_of_long(id: u128) -> [u8; 32]
     ensures value { result ≡ hex32 id }
     ensures utf8 { IsUtf8 result }
     ensures plain { escape result ≡ result }

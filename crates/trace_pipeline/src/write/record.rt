@@ -48,7 +48,8 @@ fn add_lane(out: &mut Vec<u8>, lane: Option<u64>) -> Result<(), AllocError>
     }
 }
 
-fn name_of(kind: SpanKind) -> &'static str
+/// The name of a kind.
+pub(crate) fn name_of(kind: SpanKind) -> &'static str
     ensures { result.now ≡ kind_name kind }
 {
     match kind {

@@ -1,0 +1,10 @@
+-- the fields that were read, as they stand in the text and as they are kept
+use Rattle.std.proofs.Common.{◌≡◌, ◌+◌, List, Some}
+use Rattle.trace_pipeline.specs.FieldForm.{field_of}
+use Rattle.trace_pipeline.specs.Forms.{each}
+use Rattle.trace_pipeline.specs.declared.read.scan.TheConstants.{DEEPEST}
+use Rattle.trace_pipeline.proofs.Plainly.{Pair, AllRead, GoesItems, read_items}
+use Rattle.trace_pipeline.proofs.read.plain_fields.leading_fields.Given as goal
+
+abbrev pub invariant-loop : goal.invariant-loop
+invariant-loop l = (ps : List Pair) × AllRead (DEEPEST + 1) ps × GoesItems l.initial.rest ps l.rest × (each field_of (read_items ps) ≡ Some l.fields.items)
