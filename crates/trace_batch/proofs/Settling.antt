@@ -6,29 +6,29 @@ use Rattle.trace_batch.specs.declared.item.Sent.{Sent}
 use Rattle.trace_batch.specs.declared.writer.Writer.{Writer}
 use Rattle.trace_batch.specs.Merges.{sent_of, of_lane, texts, IsMerge}
 use Rattle.trace_batch.specs.Rule.{writer, known_at, Told}
-use Rattle.trace_batch.specs.Serving.{Kept}
+use Rattle.trace_batch.specs.Serving.{HasServed}
 use Rattle.trace_batch.proofs.Lanes.{of_append}
 use Rattle.trace_batch.proofs.Texts.{sent_all, AllOf, of_own_texts, of_other_texts, all_drop}
 
 module _ {F : Type 0} (text : F → ℕ → ℕ → List ℕ) where
   -- before anything was taken, where no lane is left
-  pub kept_none : (lists : List (List (Item F))) (lane : ℕ) (w : Writer) → length lists ≤ lane → w.taken ≡ [] → w.late ≡ [] → Kept text lists lane [] [] w
-  kept_none lists lane w all taken late = record {
+  pub served_none : (lists : List (List (Item F))) (lane : ℕ) (w : Writer) → length lists ≤ lane → w.taken ≡ [] → w.late ≡ [] → HasServed text lists lane [] [] w
+  served_none lists lane w all taken late = record {
     taken = taken;
     late = λ l past. ap (of_lane l) late ∙ sym (ap (map (sent_of text)) (get_or_past lists l [] (omega arith)));
     others = λ l less. ap (of_lane l) late;
   }
 
-  pub kept_more : (lists : List (List (Item F))) (lane : ℕ) (known : List (List Sent)) (got : List Sent) (x : Sent) (w v : Writer)
-      → Kept text lists lane known got w → v.taken ≡ w.taken ++ x ∷ [] → v.late ≡ w.late → Kept text lists lane known (got ++ x ∷ []) v
-  kept_more lists lane known got x w v k taken late = record {
+  pub served_more : (lists : List (List (Item F))) (lane : ℕ) (known : List (List Sent)) (got : List Sent) (x : Sent) (w v : Writer)
+      → HasServed text lists lane known got w → v.taken ≡ w.taken ++ x ∷ [] → v.late ≡ w.late → HasServed text lists lane known (got ++ x ∷ []) v
+  served_more lists lane known got x w v k taken late = record {
     taken = taken ∙ ap (λ (l : List Sent). l ++ x ∷ []) k.taken;
     late = λ l past. ap (λ (ys : List Sent). known_at lane known l ++ of_lane l ys) late ∙ k.late l past;
     others = λ l less. ap (of_lane l) late ∙ k.others l less;
   }
 
   module _ (lists : List (List (Item F))) (lane sent : ℕ) (list : List (Item F)) (known : List (List Sent)) (got : List Sent) (w v : Writer) (is : list ≡ get_or lists lane []) (own : AllOf lane list)
-      (k : Kept text lists (lane + 1) known got w) (taken : v.taken ≡ w.taken) (late : v.late ≡ w.late ++ map (sent_of text) (drop sent list)) where
+      (k : HasServed text lists (lane + 1) known got w) (taken : v.taken ≡ w.taken) (late : v.late ≡ w.late ++ map (sent_of text) (drop sent list)) where
     late_of : (l : ℕ) → of_lane l v.late ≡ of_lane l w.late ++ of_lane l (map (sent_of text) (drop sent list))
     late_of l = ap (of_lane l) late ∙ of_append l w.late (map (sent_of text) (drop sent list))
 
@@ -55,14 +55,14 @@ module _ {F : Type 0} (text : F → ℕ → ℕ → List ℕ) where
         ∙ ap (λ (m : ℕ). get_or known m [] ++ of_lane l w.late) at
         ∙ k.late l (omega arith)
 
-    pub kept_settled : Kept text lists lane (map (sent_of text) (take sent list) ∷ known) got v
-    kept_settled = record {
+    pub served_settled : HasServed text lists lane (map (sent_of text) (take sent list) ∷ known) got v
+    served_settled = record {
       taken = taken ∙ k.taken;
       late = λ l past. late_at (l - lane) l refl past;
       others = λ l less. late_other l (λ e. omega arith) ∙ k.others l (omega arith);
     }
 
-  pub merged : (lists : List (List (Item F))) (known : List (List Sent)) (got out : List Sent) (w : Writer) → Kept text lists 0 known got w → Told (writer 0 known got) [] → out ≡ w.taken ++ w.late
+  pub merged : (lists : List (List (Item F))) (known : List (List Sent)) (got out : List Sent) (w : Writer) → HasServed text lists 0 known got w → Told (writer 0 known got) [] → out ≡ w.taken ++ w.late
       → IsMerge text lists out
   merged lists known got out w k told is l =
       ap (of_lane l) is ∙ of_append l w.taken w.late

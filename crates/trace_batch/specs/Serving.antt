@@ -10,7 +10,7 @@ use Rattle.trace_batch.specs.Rule.{writer, known_at}
 module _ {F : Type 0} (text : F → ℕ → ℕ → List ℕ) where
   -- Of the lanes from one on, what the sender put in and then what the writer served itself is the lane's list with
   -- texts. Of the other lanes it served nothing itself
-  pub record Kept (lists : List (List (Item F))) (lane : ℕ) (known : List (List Sent)) (got : List Sent) (w : Writer) : Type 0 where
+  pub record HasServed (lists : List (List (Item F))) (lane : ℕ) (known : List (List Sent)) (got : List Sent) (w : Writer) : Type 0 where
     pub taken : w.taken ≡ got
     pub late : (l : ℕ) → lane ≤ l → known_at lane known l ++ of_lane l w.late ≡ texts text lists l
     pub others : (l : ℕ) → l < lane → of_lane l w.late ≡ []
@@ -20,7 +20,7 @@ module _ {F : Type 0} (text : F → ℕ → ℕ → List ℕ) where
     pub known : List (List Sent)
     pub got : List Sent
     pub knows : view w.pass ≡ writer lane known got
-    pub kept : w.lacks_memory ≡ false → Kept lists lane known got w
+    pub kept : w.lacks_memory ≡ false → HasServed lists lane known got w
 
 -- Nothing was taken or served yet
 abbrev pub Opens : ℕ → Writer → Type 0

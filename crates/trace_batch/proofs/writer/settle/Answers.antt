@@ -5,7 +5,7 @@ use Rattle.trace_batch.specs.declared.item.Item.{Item}
 use Rattle.trace_batch.specs.declared.writer.Writer.{Writer}
 use Rattle.trace_batch.specs.Merges.{sent_of}
 use Rattle.trace_batch.specs.Rule.{one_fewer}
-use Rattle.trace_batch.proofs.Settling.{kept_settled}
+use Rattle.trace_batch.proofs.Settling.{served_settled}
 use Rattle.trace_batch.proofs.Steps.{merges}
 use Rattle.trace_batch.proofs.writer.settle.Goals as goal
 
@@ -36,6 +36,6 @@ returns-clause-serving g c =
       knows = c.absorb.ensures.rule ∙ (λ i. one_fewer (s.knows i) (c.requires.sends.1 i));
       kept = λ e.
           let r = c.serve_rest.ensures e in
-          kept_settled g.F.Finished.text lists lane sent list s.known s.got w v refl c.requires.own (s.kept (left_false w.lacks_memory c.args.ended.lacks_memory r.0)) refl
+          served_settled g.F.Finished.text lists lane sent list s.known s.got w v refl c.requires.own (s.kept (left_false w.lacks_memory c.args.ended.lacks_memory r.0)) refl
           (r.1 ∙ ap (λ (xs : List (Item g.row.F.Denot)). w.late ++ map (sent_of g.F.Finished.text) xs) rest);
     }
