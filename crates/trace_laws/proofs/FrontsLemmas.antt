@@ -1,6 +1,6 @@
 -- Fronts of a history are legal, and answers are parted as the spans that requests closed.
 use Rattle.std.proofs.Common.{◌≡◌, ℕ, List, [], ◌∷◌, ◌++◌, length, map, flat_map, fold, Some, Ok, Err, refl, sym, ap, subst, ◌∙◌, arith, append_assoc, append-nil}
-use Rattle.std.specs.Prelude.{slice_get}
+use Rattle.std.specs.Prelude.{slice_get, IsErr}
 use Rattle.std.proofs.lemmas.List.Sums.{fold_push}
 use Rattle.otel_base.specs.declared.record.Record.{Record}
 use Rattle.span_script.specs.declared.reply.Reply.{Reply}
@@ -101,3 +101,19 @@ module _ (setup : Setup) where
           let parts = heads made x (history_from setup (after t made) requests) (fore ++ e ∷ rest) same in
           let later = behind made fore parts.1 in
           (later.0, later.1, ap (λ (y : Effect). effect_of setup (fold after (after t y) fore) later.0) (sym parts.0) ∙ later.2)
+
+  -- the request behind the history that requests give is refused
+  pub is_refused : (requests : List Request) (t : Tables) (request : Request) → slice_get requests (length (history_from setup t requests)) ≡ Some request
+      → IsErr (effect_of setup (fold after t (history_from setup t requests)) request)
+  is_refused [] t request there = absurd (cc there)
+  is_refused (first ∷ requests) t request there = by_effect (effect_of setup t first) refl (λ e. is_refused requests (after t e) request) there
+    where
+      by_effect : (r : Resolved) → effect_of setup t first ≡ r
+          → ((e : Effect) → slice_get requests (length (history_from setup (after t e) requests)) ≡ Some request
+          → IsErr (effect_of setup (fold after (after t e) (history_from setup (after t e) requests)) request))
+          → slice_get (first ∷ requests) (length (followed_by r (λ e. history_from setup (after t e) requests))) ≡ Some request
+          → IsErr (effect_of setup (fold after t (followed_by r (λ e. history_from setup (after t e) requests))) request)
+      by_effect (Err why) is behind there =
+          let same : first ≡ request = cc there in
+          subst (λ (q : Request). IsErr (effect_of setup t q)) same (subst (λ (r : Resolved). IsErr r) (sym is) refl)
+      by_effect (Ok e) is behind there = behind e there

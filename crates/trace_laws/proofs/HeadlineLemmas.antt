@@ -27,7 +27,7 @@ use Rattle.trace_pipeline.specs.Lines.{lines_of}
 use Rattle.trace_pipeline.specs.Report.{output}
 use Rattle.trace_laws.specs.Headline.{AnswersEach, AreAnswers, HoldsCalls, TellsSpans, TellsScript}
 use Rattle.trace_laws.specs.Written.{IsOutput, first_line, opened_text}
-use Rattle.trace_laws.proofs.FrontsLemmas.{answers_each, closed_is, front_legal, front_step, records_are, replies_are}
+use Rattle.trace_laws.proofs.FrontsLemmas.{answers_each, closed_is, front_legal, front_step, is_refused, records_are, replies_are}
 use Rattle.trace_laws.proofs.OutputLemmas.{is_output}
 
 -- which spans a legal history has closed
@@ -60,6 +60,7 @@ module _ (setup : Setup) (requests : List Request) where
   pub tells_spans : TellsSpans setup requests h (answers setup requests)
   tells_spans = record {
     legal = legal;
+    refused = is_refused setup requests (no_tables setup);
     admitted = λ fore rest e is.
         let step = step_at fore rest e is in
         record { request = step.0; place = step.1; effect = step.3; made = if_admitted setup fore step.0 e step.2 step.3 };

@@ -1,5 +1,5 @@
 -- What is written of a script tells of its spans.
-use Rattle.std.specs.Prelude.{◌≡◌, ℕ, ◌≤◌, List, [], ◌∷◌, ◌++◌, map, flat_map, length, nat_lt, ◌&&◌, not, is_some, slice_get, true, Some, Ok}
+use Rattle.std.specs.Prelude.{◌≡◌, ℕ, ◌≤◌, List, [], ◌∷◌, ◌++◌, map, flat_map, length, nat_lt, ◌&&◌, not, is_some, slice_get, true, Some, Ok, IsErr}
 use Rattle.otel_base.specs.declared.record.Record.{Record}
 use Rattle.span_script.specs.declared.reply.Reply.{Reply}
 use Rattle.span_script.specs.declared.request.Request.{Request}
@@ -42,6 +42,8 @@ pub record MakesIfAdmitted (setup : Setup) (requests : List Request) (h : Histor
 -- what answers tell of the spans of a history that requests give
 pub record TellsSpans (setup : Setup) (requests : List Request) (h : History) (all : List (Reply × List Record)) : Type 0 where
   pub legal : IsHistory setup h
+  -- each request is answered up to the first that is refused
+  pub refused : (request : Request) → slice_get requests (length h) ≡ Some request → IsErr (effect_of setup (tables setup h) request)
   pub admitted : (fore rest : History) (e : Effect) → h ≡ fore ++ e ∷ rest → MakesIfAdmitted setup requests fore e
   pub answered : AnswersEach (HoldsCalls setup requests h) h all
   pub under : AnswersEach (IsUnder setup h) h all
