@@ -1,16 +1,15 @@
 //! A server whose calls are traced.
-ghost use Rattle.std.specs.Prelude.{◌≡◌, ◌<◌, ◌≤◌, ◌^◌, ◌+◌, ℕ, IsErr, IfOk, IfErr, Err};
+ghost use Rattle.std.specs.Prelude.{◌≡◌, ◌<◌, ◌≤◌, ◌^◌, ◌+◌, IsErr, IfOk, IfErr, Err};
 ghost use Rattle.trace_base.specs.Contexts.{IsFull};
-ghost use Rattle.span_registry.specs.Registering.{no_spans};
 ghost use Rattle.span_handles.specs.Entries.{MeetsFullLane};
-ghost use Rattle.traced.specs.Standing.{IsHeld};
+ghost use Rattle.traced.specs.Standing.{IsUnused, IsHeld};
+ghost use Rattle.traced.specs.AsBefore.{IsAsBefore};
 ghost use Rattle.example_calls.specs.declared.error.ServeError.TheVariants as fault;
-ghost use Rattle.example_calls.specs.Order.{InOrder, Restores};
+ghost use Rattle.example_calls.specs.Order.{InOrder};
 
 use crate::error::ServeError;
 use crate::sites::{self, Request, Sites};
 use otel_base::memory::Memory;
-use otel_base::stack::ContextStack;
 use span_handles::span::Span;
 use std::alloc::Global;
 use trace_base::discard::Discard;
@@ -32,9 +31,7 @@ pub struct Server<S> {
 impl<S: Subscriber + Discard> Server<S> {
     /// A server with a stack that knows no span.
     pub fn new(alloc: Global, stack: S) -> Result<Server<S>, Memory>
-        requires whole { S.is_whole stack }
-        requires spans { S.spans stack ≡ no_spans }
-        requires kept { (lane number : ℕ) → S.kept stack lane number ≡ 0 }
+        requires { IsUnused S.Subscriber stack }
         ensures { IfOk result (InOrder S.Subscriber 0) }
     {
         let mut world = World::new(alloc);
@@ -46,8 +43,8 @@ impl<S: Subscriber + Discard> Server<S> {
         match traced::start(&mut world, stack) {
             Ok(dispatch) => Ok(Server {
                 world,
-                front: lane(alloc, 1, dispatch),
-                back: lane(alloc, 2, dispatch),
+                front: traced::lane(alloc, 1, dispatch),
+                back: traced::lane(alloc, 2, dispatch),
                 dispatch,
                 sites,
             }),
@@ -60,6 +57,7 @@ impl<S: Subscriber + Discard> Server<S> {
     }
 }
 
+#[tactic(auto, using(traced::proofs::Rules::standing))]
 impl<S: Subscriber> Server<S> {
     /// Serves the requests of some lines, each 100 after the one before. Lines that would come at 2^62 or later are left
     /// out.
@@ -72,7 +70,7 @@ impl<S: Subscriber> Server<S> {
         requires order { InOrder S.Subscriber from self.old }
         requires early { from ≤ 2 ^ 62 }
         ensures order { InOrder S.Subscriber (2 ^ 63) self.new }
-        ensures restores { Restores S.Subscriber self.old self.new }
+        ensures restores { IsAsBefore S.Subscriber 0 self.old.world self.new.world }
     {
         let mut at = from;
         for line in lines {
@@ -90,7 +88,7 @@ impl<S: Subscriber> Server<S> {
         requires order { InOrder S.Subscriber at self.old }
         requires early { at < 2 ^ 62 }
         ensures order { InOrder S.Subscriber (at + 100) self.new }
-        ensures restores { Restores S.Subscriber self.old self.new }
+        ensures restores { IsAsBefore S.Subscriber 0 self.old.world self.new.world }
         ensures full { result ≡ Err fault.Full → IsFull self.old.front }
     {
         let request = sites::read(alloc, line)?;
@@ -105,9 +103,9 @@ impl<S: Subscriber> Server<S> {
     fn inside(&mut self, at: u64, span: &Span, request: &Request) -> Result<(), ServeError>
         requires order { InOrder S.Subscriber (at + 10) self.old }
         requires early { at < 2 ^ 62 }
-        requires held { IsHeld S.Subscriber self.old.dispatch self.old.world span.now }
+        requires held { IsHeld S.Subscriber 0 self.old.world span.now }
         ensures order { InOrder S.Subscriber (at + 60) self.new }
-        ensures restores { Restores S.Subscriber self.old self.new }
+        ensures restores { IsAsBefore S.Subscriber 0 self.old.world self.new.world }
         ensures full { result ≡ Err fault.Full → MeetsFullLane S.activates self.old.world self.old.front span.now.held }
         ensures full_refused { MeetsFullLane S.activates self.old.world self.old.front span.now.held → IsErr result }
     {
@@ -121,9 +119,9 @@ impl<S: Subscriber> Server<S> {
     fn answer(&mut self, at: u64, span: &Span, request: &Request) -> Result<(), ServeError>
         requires order { InOrder S.Subscriber (at + 20) self.old }
         requires early { at < 2 ^ 62 }
-        requires held { IsHeld S.Subscriber self.old.dispatch self.old.world span.now }
+        requires held { IsHeld S.Subscriber 0 self.old.world span.now }
         ensures order { InOrder S.Subscriber (at + 50) self.new }
-        ensures restores { Restores S.Subscriber self.old self.new }
+        ensures restores { IsAsBefore S.Subscriber 0 self.old.world self.new.world }
         ensures memory { IfErr result (λ error. error ≡ fault.Memory) }
     {
         let (parsed, answered) = (self.sites.parsed, self.sites.answered);
@@ -148,9 +146,9 @@ impl<S: Subscriber> Server<S> {
     fn query(&mut self, at: u64, span: &Span, values: &ValueSet) -> Result<(), Memory>
         requires order { InOrder S.Subscriber at self.old }
         requires early { at < 2 ^ 63 }
-        requires held { IsHeld S.Subscriber self.old.dispatch self.old.world span.now }
+        requires held { IsHeld S.Subscriber 0 self.old.world span.now }
         ensures order { InOrder S.Subscriber (at + 10) self.new }
-        ensures restores { Restores S.Subscriber self.old self.new }
+        ensures restores { IsAsBefore S.Subscriber 0 self.old.world self.new.world }
     {
         let query = traced::child_of(
             span,
@@ -162,18 +160,5 @@ impl<S: Subscriber> Server<S> {
         )?;
         traced::close(query, &mut self.world, at + 5);
         Ok(())
-    }
-}
-
-// A lane that a stack serves.
-fn lane(alloc: Global, id: u64, dispatch: Dispatch) -> Lane
-    ensures id { result.id ≡ id }
-    ensures own { result.default ≡ Some dispatch }
-{
-    Lane {
-        id,
-        name: None,
-        default: Some(dispatch),
-        contexts: ContextStack::new(alloc),
     }
 }

@@ -28,9 +28,11 @@ pub struct Sites {
 impl Sites {
     /// The callsites, added to a world that has none.
     pub fn new<S: Subscriber>(alloc: Global, world: &mut World<S>) -> Result<Sites, Memory>
-        requires { length world.old.sites ≡ 0 }
+        requires none { length world.old.sites ≡ 0 }
+        requires alone { length world.old.subscribers ≡ 0 }
         ensures there { IfOk result AreThere }
         ensures four { OnOk result (length world.new.sites ≡ 4) }
+        ensures alone { length world.new.subscribers ≡ 0 }
     {
         let request = site(
             alloc,

@@ -1,6 +1,6 @@
 //! A server that is traced: it serves requests, one a line, each under a span, and prints the records of its spans. After
 //! the first request its filter is exchanged. Its calls are `example_calls`, and `docs/USING.md` is read beside it.
-#![tactic(auto, using(traced::proofs::Rules::standing))]
+#![tactic(auto)]
 
 ghost use Rattle.std.specs.Prelude.{◌<◌, length};
 ghost use Rattle.env_filter.specs.Filtering.{plain, IsNew};
@@ -47,6 +47,7 @@ fn run(alloc: Global, lines: &[String]) -> Result<String, ServeError> {
 }
 
 // Serves the first line, and the others under another filter.
+#[tactic(auto, using(crate::proofs::Order::there))]
 fn serve(alloc: Global, server: &mut Server<Stack>, lines: &[String]) -> Result<(), ServeError>
     requires { InOrder ⟦<Stack as Subscriber>⟧ 0 server.old }
     ensures { server.new.dispatch < length server.new.world.subscribers }

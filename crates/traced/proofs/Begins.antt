@@ -6,7 +6,7 @@ use Rattle.std.proofs.lemmas.List.{length-append}
 use Rattle.trace_base.specs.declared.callsite.Callsite.{Callsite}
 use Rattle.trace_base.specs.declared.lane.Lane.{Lane}
 use Rattle.trace_base.specs.declared.subscriber.Subscriber.{Ghosts}
-use Rattle.trace_base.specs.Gate.{Worlds, AreSame}
+use Rattle.trace_base.specs.Gate.{Worlds, AreSame, dispatch_on}
 use Rattle.span_registry.specs.Registering.{no_spans}
 use Rattle.span_handles.specs.Worlds.{spans_in, kept_in}
 use Rattle.traced.specs.Laws.{IsLawful}
@@ -48,3 +48,10 @@ pub begins_if : {S E : Type 0} (sub : Ghosts S) (law : IsLawful sub) (first : S)
     → IfOk result (λ dispatch. dispatch ≡ length before.subscribers) → world.sites ≡ before.sites → IfOk result (λ dispatch. (sites : ℕ) (lanes : List Lane) → sites ≤ length before.sites → AreAssigned world.global dispatch lanes → Stands sub 0 dispatch sites world lanes)
 begins_if sub law first whole none nothing before world (Ok dispatch) are is same = λ sites lanes within on. begins sub law first whole none nothing before.subscribers world are sites (let e = ap (λ (cs : List Callsite). length cs) same in omega (arith, e, within)) dispatch is lanes on
 begins_if sub law first whole none nothing before world (Err refused) are is same = tt
+
+-- the first stack of a world serves two lanes with ids of their own
+pub first_two : {S : Type 0} {sub : Ghosts S} {world : Worlds S} {dispatch : ℕ} {front back : Lane} (old : Worlds S) (sites : ℕ) → dispatch ≡ 0 → sites ≤ length old.sites → front.default ≡ Some dispatch → back.default ≡ Some dispatch → (back.id ≡ front.id → ⊥)
+    → ((sites : ℕ) (lanes : List Lane) → sites ≤ length old.sites → AreAssigned world.global dispatch lanes → Stands sub 0 dispatch sites world lanes) → Stands sub 0 0 sites world (front ∷ back ∷ [])
+first_two {S} {sub} {world} {dispatch} {front} {back} old sites first within one other apart begins =
+    let serves : (lane : Lane) → lane.default ≡ Some dispatch → dispatch_on lane.default world.global ≡ Some dispatch = λ lane own. ap (λ (o : Option ℕ). dispatch_on o world.global) own in
+    subst (λ (d : ℕ). Stands sub 0 d sites world (front ∷ back ∷ [])) first (begins sites (front ∷ back ∷ []) within (serves front one, (apart, tt), (serves back other, tt, tt)))

@@ -18,7 +18,7 @@ within_if_there (y ∷ xs) zero x there = omega arith
 within_if_there (y ∷ xs) (suc n) x there = (let w = within_if_there xs n x there in omega (arith, w))
 
 -- what holds of what is read holds of it still
-has_same : {S A : Type 0} (read : S → A) (none : A) (Q : A → Type 0) (old new : Worlds S) (d : ℕ) → length new.subscribers ≡ length old.subscribers → seen read none new d ≡ seen read none old d → Has (λ s. Q (read s)) old d → Has (λ s. Q (read s)) new d
+pub has_same : {S A : Type 0} (read : S → A) (none : A) (Q : A → Type 0) (old new : Worlds S) (d : ℕ) → length new.subscribers ≡ length old.subscribers → seen read none new d ≡ seen read none old d → Has (λ s. Q (read s)) old d → Has (λ s. Q (read s)) new d
 has_same {S} read none Q old new d count same has = λ s here. (
     let w = within_if_there new.subscribers d s here in
     let g = get_there old.subscribers d (omega (arith, w, count)) in

@@ -6,3 +6,4 @@ pub mod Inside
 pub mod Moves
 pub mod Restored
 pub mod Rules
+pub mod Steps

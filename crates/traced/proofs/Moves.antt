@@ -19,15 +19,16 @@ use Rattle.trace_base.specs.Contexts.{KeepsAttached}
 use Rattle.trace_base.specs.Sound.{IsSound}
 use Rattle.trace_base.proofs.Sound.{place_live}
 use Rattle.span_handles.specs.Worlds.{Replaced, Shown, Alike, Chain, ChainShown, spans_in, kept_in, no_spans}
-use Rattle.span_handles.specs.Handles.{Held, Handle, IsKnown, IsOf, Makes, MakesIf, ReplacedIf, ReplacedOn}
+use Rattle.span_handles.specs.Handles.{Held, Handle, IsKnown, IsOf, HasOn, Makes, MakesIf, MayMakeIf, ReplacedIf, ReplacedOn}
 use Rattle.span_handles.specs.Entries.{Opened, LeavesLane}
 use Rattle.span_handles.specs.Knowing.{KeepsKnown, KeepsHandles, KeepsOthers}
 use Rattle.span_handles.proofs.Knowing.{handles_same}
 use Rattle.span_handles.proofs.Showing.{as_many, shown, alike, chain_shown}
 use Rattle.traced.specs.Laws.{IsLawful}
-use Rattle.traced.specs.Standing.{AreAtMost, AreServed, Stands, IsHeld}
+use Rattle.traced.specs.Standing.{AreAtMost, AreServed, Stands, IsHeld, CanClose}
 use Rattle.traced.specs.AsBefore.{IsAsBefore, IsOfNewest, IsNew, HasMade, IsLiveOn, IsEntered, HasEntered}
 use Rattle.traced.specs.Gating.{TellsIf}
+use Rattle.traced.specs.Moving.{Enters, Refuses}
 use Rattle.traced.specs.Staying.{Stays}
 use Rattle.traced.proofs.Counts.{more, with_new, with_entry, with_exit, with_closes}
 use Rattle.traced.proofs.Restored.{unchanged, closes, exits, IsReleasedOn, IsExitedOn}
@@ -175,6 +176,27 @@ module _ {S : Type 0} (sub : Ghosts S) (law : IsLawful sub) where
       live_above None p x live is = absurd (cc is)
       live_above (Some q) p x live is = (let e : q ≡ p = cc is in subst (λ (k : ℕ). IsLive x.made k) e live)
 
+  pub made_global : (old new : Worlds S) (lane : Lane) (at : ℕ) (place : Parent) (site : ℕ) (values : ValueSet) (o : Option ℕ) (result : Result Handle Memory) → IfOk result (MakesIf sub.spans sub.does old new lane at place site values o) → OnErr result (ReplacedIf sub.same old new o) → new.global ≡ old.global
+  made_global old new lane at place site values None (Ok handle) did left = ap (λ (w : Worlds S). w.global) did.1
+  made_global old new lane at place site values (Some e) (Ok handle) did left = ap (λ (w : Worlds S). w.global) did.made.others
+  made_global old new lane at place site values o (Err memory) did left = (room_stays_if old new o left).global
+
+  -- its handle can be closed
+  pub made_can_close : (old new : Worlds S) (lane : Lane) (at : ℕ) (place : Parent) (site : ℕ) (values : ValueSet) (o : Option ℕ) (result : Result Handle Memory) → IfOk result (MakesIf sub.spans sub.does old new lane at place site values o)
+      → IfOk result (λ handle. IsKnown sub.spans new handle.held) → MayMakeIf sub.spans sub.is_whole old lane.id place o → IfOk result (CanClose sub new)
+  made_can_close old new lane at place site values o (Err memory) did known may = tt
+  made_can_close old new lane at place site values None (Ok handle) did known may = record {
+    known = known;
+    whole = subst (λ (h : Handle). HasOn (λ s id. sub.is_whole s) new h.held) (sym did.0) tt;
+  }
+  made_can_close old new lane at place site values (Some e) (Ok handle) did known may =
+      let call : SubscriberCall = NewSpan lane at place site did.callsite values in
+      let r : Replaced (λ s t. sub.does s call t) old new e = record { before = did.made.before; later = did.made.later; there = did.made.there; did = did.made.did.1; others = did.made.others } in
+      record {
+        known = known;
+        whole = subst (λ (h : Handle). HasOn (λ s id. sub.is_whole s) new h.held) (sym did.handle_is) ((by_call old new e call r).whole may.whole);
+      }
+
   pub none_made : (old new : Worlds S) (o : Option ℕ) (result : Result Handle Memory) → OnErr result (ReplacedIf sub.same old new o) → OnErr result ((dispatch : ℕ) → IsAsBefore sub dispatch old new)
   none_made old new o (Ok handle) left = tt
   none_made old new o (Err memory) left = λ dispatch. stays_as_before sub dispatch old new (room_stays_if old new o left)
@@ -191,6 +213,10 @@ module _ {S : Type 0} (sub : Ghosts S) (law : IsLawful sub) where
   ] where
     chain : (old new : Worlds S) (h : ℕ × ℕ) (at : ℕ) → Replaced (λ s t. Chain sub.spans sub.does at (Some h.1) s t) old new h.0 → ChainShown sub.spans sub.attaches sub.kept sub.is_whole old new h.0 h.1
     chain old new h at r = chain_shown sub.spans sub.attaches sub.kept sub.is_whole sub.does law.allowed law.shows law.lanes law.keeps_attaches law.keeps_whole at old new h.0 h.1 r
+
+  pub closed_global : (old new : Worlds S) (at : ℕ) (held : Held) → ReplacedOn (λ id s t. Chain sub.spans sub.does at (Some id) s t) old new held → new.global ≡ old.global
+  closed_global old new at None did = ap (λ (w : Worlds S). w.global) did
+  closed_global old new at (Some h) did = ap (λ (w : Worlds S). w.global) did.others
 
   released_spans : (dispatch : ℕ) (old new : Worlds S) (at : ℕ) (held : Held) → IsOf held dispatch → ReplacedOn (λ id s t. Chain sub.spans sub.does at (Some id) s t) old new held → IsReleasedOn held (spans_in sub.spans old dispatch) (spans_in sub.spans new dispatch)
   released_spans dispatch old new at None own did = ap (λ (w : Worlds S). spans_in sub.spans w dispatch) did
@@ -241,16 +267,15 @@ module _ {S : Type 0} (sub : Ghosts S) (law : IsLawful sub) where
       let sh = by_call old new dispatch call r in
       on_lane n (n + 1) dispatch sites call old new before left others sh (same_sites _ old new dispatch r) (same_global _ old new dispatch r) sh.lanes.0.id sh.lanes.0.default sh.lanes.1 (with_entry n (spans_in sub.spans old dispatch) h.1 before.id) stands
 
-  pub lane_same : (old new : Worlds S) (before left : Lane) (at : ℕ) (held : Held) (result : Result Opened EnterError) → OnOk result (ReplacedOn (λ id s t. sub.does s (Enter id at before left) t) old new held) → (held ≡ None → left ≡ before) → OnErr result (LeavesLane before left) → left.id ≡ before.id
-  lane_same old new before left at None (Ok guard) did none left_lane = ap (λ (l : Lane). l.id) (none refl)
-  lane_same old new before left at (Some h) (Ok guard) did none left_lane = (by_call old new h.0 (Enter h.1 at before left) did).lanes.0.id
-  lane_same old new before left at held (Err error) did none left_lane = left_lane.id
+  lane_same : (old new : Worlds S) (before left : Lane) (at : ℕ) (held : Held) → ReplacedOn (λ id s t. sub.does s (Enter id at before left) t) old new held → (held ≡ None → left ≡ before) → left.id ≡ before.id
+  lane_same old new before left at None did none = ap (λ (l : Lane). l.id) (none refl)
+  lane_same old new before left at (Some h) did none = (by_call old new h.0 (Enter h.1 at before left) did).lanes.0.id
 
   -- one that is refused
   pub refused_on : (n dispatch sites : ℕ) (old new : Worlds S) (before left : Lane) (others : List Lane) (held : Held) → ReplacedOn (λ id s t. sub.same s t) old new held → LeavesLane before left
-      → Stands sub n dispatch sites old (before ∷ others) → Stands sub (n + 1) dispatch sites new (left ∷ others)
+      → Stands sub n dispatch sites old (before ∷ others) → Stands sub n dispatch sites new (left ∷ others)
   refused_on n dispatch sites old new before left others held did leaves stands =
-      let s = later sub n (n + 1) dispatch sites new (before ∷ others) (omega arith) (stays_stands sub n dispatch sites old new (before ∷ others) (room_stays_on old new held did) stands) in
+      let s = stays_stands sub n dispatch sites old new (before ∷ others) (room_stays_on old new held did) stands in
       record {
         there = s.there;
         whole = s.whole;
@@ -270,11 +295,6 @@ module _ {S : Type 0} (sub : Ghosts S) (law : IsLawful sub) where
         );
       }
 
-  pub stands_entered : (n dispatch sites : ℕ) (old new : Worlds S) (before left : Lane) (others : List Lane) (at : ℕ) (held : Held) (result : Result Opened EnterError) → IsOf held dispatch → OnOk result (ReplacedOn (λ id s t. sub.does s (Enter id at before left) t) old new held) → (held ≡ None → left ≡ before)
-      → OnErr result (ReplacedOn (λ id s t. sub.same s t) old new held) → OnErr result (LeavesLane before left) → Stands sub n dispatch sites old (before ∷ others) → Stands sub (n + 1) dispatch sites new (left ∷ others)
-  stands_entered n dispatch sites old new before left others at held (Ok guard) own did none same leaves stands = entered_on n dispatch sites old new before left others at held own did none stands
-  stands_entered n dispatch sites old new before left others at held (Err error) own did none same leaves stands = refused_on n dispatch sites old new before left others held same leaves stands
-
   entered_spans : (dispatch : ℕ) (old new : Worlds S) (before left : Lane) (at : ℕ) (held : Held) → IsOf held dispatch → ReplacedOn (λ id s t. sub.does s (Enter id at before left) t) old new held → IsEntered held before.id (spans_in sub.spans old dispatch) (spans_in sub.spans new dispatch)
   entered_spans dispatch old new before left at None own did = unchanged _ _ (ap (λ (w : Worlds S). spans_in sub.spans w dispatch) did)
   entered_spans dispatch old new before left at (Some h) own did =
@@ -291,14 +311,24 @@ module _ {S : Type 0} (sub : Ghosts S) (law : IsLawful sub) where
     entered_once = entered_spans dispatch old new before left at handle.held held.own did;
   })
 
-  pub entered_if : (dispatch : ℕ) (old new : Worlds S) (before left : Lane) (at : ℕ) (handle : Handle) (result : Result Opened EnterError) → IfOk result (λ guard. guard ≡ record { span = handle; lane = before.id }) → IsHeld sub dispatch old handle → IsKnown sub.spans new handle.held → KeepsHandles sub.spans old new
-      → OnOk result (ReplacedOn (λ id s t. sub.does s (Enter id at before left) t) old new handle.held) → IfOk result (HasEntered sub dispatch old new)
-  entered_if dispatch old new before left at handle (Ok guard) is held known keeps did = has_entered dispatch old new before left at handle guard is held known keeps did
-  entered_if dispatch old new before left at handle (Err error) is held known keeps did = tt
+  pub enters : (old new : Worlds S) (before left : Lane) (at : ℕ) (handle : Handle) (result : Result Opened EnterError) → IfOk result (λ guard. guard ≡ record { span = handle; lane = before.id }) → IsKnown sub.spans new handle.held → KeepsHandles sub.spans old new
+      → OnOk result (ReplacedOn (λ id s t. sub.does s (Enter id at before left) t) old new handle.held) → (handle.held ≡ None → left ≡ before) → IfOk result (Enters sub old new before left handle)
+  enters old new before left at handle (Err error) is known keeps did none = tt
+  enters old new before left at handle (Ok guard) is known keeps did none = record {
+    lane_id = lane_same old new before left at handle.held did none;
+    of = ap (λ (o : Opened). o.span) is;
+    on = ap (λ (o : Opened). o.lane) is;
+    stands = λ most dispatch sites others held stands. entered_on most dispatch sites old new before left others at handle.held held.own did none stands;
+    entered = λ dispatch held. has_entered dispatch old new before left at handle guard is held known keeps did;
+  }
 
-  pub none_entered : (old new : Worlds S) (held : Held) (result : Result Opened EnterError) → OnErr result (ReplacedOn (λ id s t. sub.same s t) old new held) → OnErr result ((dispatch : ℕ) → IsAsBefore sub dispatch old new)
-  none_entered old new held (Ok guard) same = tt
-  none_entered old new held (Err error) same = λ dispatch. stays_as_before sub dispatch old new (room_stays_on old new held same)
+  pub refuses : (old new : Worlds S) (before left : Lane) (held : Held) (result : Result Opened EnterError) → OnErr result (ReplacedOn (λ id s t. sub.same s t) old new held) → OnErr result (LeavesLane before left) → OnErr result (Refuses sub old new before left)
+  refuses old new before left held (Ok guard) same leaves = tt
+  refuses old new before left held (Err error) same leaves = record {
+    lane_id = leaves.id;
+    stands = λ most dispatch sites others stands. refused_on most dispatch sites old new before left others held same leaves stands;
+    as_before = λ dispatch. stays_as_before sub dispatch old new (room_stays_on old new held same);
+  }
 
   -- an exit
   pub exited_on : (n dispatch sites : ℕ) (old new : Worlds S) (before left : Lane) (others : List Lane) (at : ℕ) (held : Held) → IsOf held dispatch → ReplacedOn (λ id s t. sub.does s (Exit id at before left) t) old new held → (held ≡ None → left ≡ before)

@@ -10,7 +10,7 @@ use Rattle.trace_base.proofs.Entering.{count_push, counted_if_any, any_if_counte
 use Rattle.trace_base.proofs.Holding.{less_last, less_more}
 use Rattle.span_handles.specs.Worlds.{Released, all_released, releases}
 use Rattle.span_handles.specs.Handles.{Held}
-use Rattle.traced.specs.AsBefore.{AreAsBefore, IsNewest, IsOfNewest, IsLiveOn, IsEntered}
+use Rattle.traced.specs.AsBefore.{AreAsBefore, IsNewest, IsOfNewest, IsLiveOn, IsEntered, IsOpen}
 
 -- nothing has changed, and what was kept stays kept
 pub unchanged : (x y : Spans) → y ≡ x → AreAsBefore x y
@@ -195,11 +195,6 @@ pub stays_entered : (h : Held) (lane : ℕ) (x w y : Spans) → IsEntered h lane
 stays_entered None lane x w y enter same = on x w y enter same
 stays_entered (Some h) lane x w y enter same = on (entered x h.1 lane) w y enter same
 
--- an entry of an enabled handle's span is open on the lane
-abbrev pub IsOpen : Held → ℕ → Spans → Type 0
-IsOpen None lane spans = Unit {0}
-IsOpen (Some h) lane spans = 0 < times_in h.1 (entries_on lane spans.lanes)
-
 pub opened : (h : Held) (lane : ℕ) (x y : Spans) → IsEntered h lane x y → IsOpen h lane y
 opened None lane x y enter = tt
 opened (Some h) lane x y enter =
@@ -208,3 +203,7 @@ opened (Some h) lane x y enter =
     let push = count_push (λ y. y == h.1) ids h.1 in
     let one = cond-true {A = ℕ} (h.1 == h.1) 1 0 (eq-eqb h.1 h.1 refl) in
     omega (arith, there, push, one)
+
+pub stays_open : (h : Held) (lane : ℕ) (x y : Spans) → IsOpen h lane x → AreAsBefore x y → IsOpen h lane y
+stays_open None lane x y entered same = tt
+stays_open (Some h) lane x y entered same = (let e = ap (times_in h.1) (same.entries lane) in omega (arith, e, entered))

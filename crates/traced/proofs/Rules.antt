@@ -1,5 +1,5 @@
 -- What callers need between their calls, for `using` of their tactics.
-use Rattle.std.proofs.Common.{◌≡◌, ℕ, ◌<◌, ◌^◌, List, ◌∷◌, length, Option, Some, None, sym, ap, subst, arith, slice_get}
+use Rattle.std.proofs.Common.{◌≡◌, ℕ, ◌+◌, ◌<◌, ◌^◌, List, ◌∷◌, length, Option, Some, None, sym, ap, ◌∙◌, subst, arith, slice_get}
 use Rattle.std.specs.Prelude.{◌==◌, IfSome}
 use Rattle.std.specs.Option.{option_map_or}
 use Rattle.trace_base.specs.declared.lane.Lane.{Lane}
@@ -12,27 +12,17 @@ use Rattle.trace_base.specs.Gate.{Worlds, IsOwn, dispatch_on}
 use Rattle.trace_base.specs.Spans.{Spans, entries_on, times_in, place_on}
 use Rattle.trace_base.proofs.Entering.{any_if_counted}
 use Rattle.trace_base.proofs.Holding.{first_if_in}
-use Rattle.span_handles.specs.Worlds.{Has, Alike, spans_in}
+use Rattle.span_handles.specs.Worlds.{Has, Alike, no_spans, spans_in}
 use Rattle.span_handles.specs.Handles.{Held, Handle, IsKnown, HasOn, IsOf, MayMakeIf, HasIf, place_under}
-use Rattle.span_handles.specs.Entries.{Opened, IsThere}
-use Rattle.traced.specs.Standing.{AreAtMost, Stands, IsHeld, CanMake, CanTell, CanAsk, CanClose, CanEnter, CanExit}
-use Rattle.traced.specs.AsBefore.{IsAsBefore, IsLiveOn, HasMade, HasEntered}
-use Rattle.traced.proofs.Restored.{on, stays_newest, stays_entered, opened, IsOpen}
+use Rattle.span_handles.specs.Entries.{Opened, IsThere, IsStillOn}
+use Rattle.traced.specs.Standing.{AreAtMost, Stands, Serves, IsHeld, CanMake, CanTell, CanAsk, CanClose, CanEnter, CanExit}
+use Rattle.traced.specs.AsBefore.{IsLiveOn, IsOpen, IsInside}
+use Rattle.traced.specs.Moving.{Enters}
+use Rattle.traced.specs.Staying.{Stays}
 use Rattle.traced.proofs.Elsewhere.{stands_after}
-use Rattle.traced.proofs.Moves.{read_there, later, stays_stands, stays_as_before, live_on}
-
--- calls are made on the next lane
-pub turned : {S : Type 0} (sub : Ghosts S) (n dispatch sites : ℕ) (world : Worlds S) (lane other : Lane) (others : List Lane) → Stands sub n dispatch sites world (lane ∷ other ∷ others) → Stands sub n dispatch sites world (other ∷ lane ∷ others)
-turned sub n dispatch sites world lane other others stands = record {
-  there = stands.there;
-  whole = stands.whole;
-  few = stands.few;
-  declared = stands.declared;
-  served = (stands.served.2.0, ((λ e. stands.served.1.0 (sym e)), stands.served.2.1), (stands.served.0, stands.served.1.1, stands.served.2.2));
-}
-
-pub serves : {S : Type 0} (sub : Ghosts S) (n dispatch sites : ℕ) (world : Worlds S) (lane : Lane) (others : List Lane) → Stands sub n dispatch sites world (lane ∷ others) → dispatch_on lane.default world.global ≡ Some dispatch
-serves sub n dispatch sites world lane others stands = stands.served.0.serves
+use Rattle.traced.proofs.Inside.{has_same}
+use Rattle.traced.proofs.Moves.{read_there, stays_as_before, live_on}
+use Rattle.traced.proofs.Steps.{stepping, turned, inside_if_entered}
 
 -- what holds of the spans that are read holds of the subscriber
 has_spans : {S : Type 0} (sub : Ghosts S) (world : Worlds S) (dispatch : ℕ) (P : Spans → Type 0) → P (spans_in sub.spans world dispatch) → Has (λ s. P (sub.spans s)) world dispatch
@@ -52,8 +42,8 @@ few_above n x None early few = tt
 few_above n x (Some p) early few = (let h = few.holds p in omega (arith, h, early))
 
 -- the subscriber of a lane may be asked for a span
-can_make_at : {S : Type 0} (sub : Ghosts S) (n dispatch sites : ℕ) (world : Worlds S) (lane : Lane) (others : List Lane) (place : Parent) (site : ℕ) → n < 2 ^ 63 → site < sites → IsLivePlace (spans_in sub.spans world dispatch).made place → Stands sub n dispatch sites world (lane ∷ others) → CanMake sub world lane place site
-can_make_at {S} sub n dispatch sites world lane others place site early within live stands =
+make_at : {S : Type 0} (sub : Ghosts S) (n dispatch sites : ℕ) (world : Worlds S) (lane : Lane) (others : List Lane) (place : Parent) (site : ℕ) → n < 2 ^ 63 → site < sites → IsLivePlace (spans_in sub.spans world dispatch).made place → Stands sub n dispatch sites world (lane ∷ others) → CanMake sub world lane place site
+make_at {S} sub n dispatch sites world lane others place site early within live stands =
     let served = stands.served.0.serves in
     let x = spans_in sub.spans world dispatch in
     let few = stands.few in
@@ -69,26 +59,13 @@ can_make_at {S} sub n dispatch sites world lane others place site early within l
       });
     }
 
-pub can_make : {S : Type 0} (sub : Ghosts S) (n dispatch sites : ℕ) (world : Worlds S) (lane : Lane) (others : List Lane) (site : ℕ) → n < 2 ^ 63 → site < sites → Stands sub n dispatch sites world (lane ∷ others) → CanMake sub world lane parent.Current site
-can_make sub n dispatch sites world lane others site early within stands = can_make_at sub n dispatch sites world lane others parent.Current site early within tt stands
-
-pub can_make_root : {S : Type 0} (sub : Ghosts S) (n dispatch sites : ℕ) (world : Worlds S) (lane : Lane) (others : List Lane) (site : ℕ) → n < 2 ^ 63 → site < sites → Stands sub n dispatch sites world (lane ∷ others) → CanMake sub world lane parent.Root site
-can_make_root sub n dispatch sites world lane others site early within stands = can_make_at sub n dispatch sites world lane others parent.Root site early within tt stands
-
 live_under : (held : Held) (x : Spans) → IsLiveOn held x → IsLivePlace x.made (place_under held)
 live_under None x live = tt
 live_under (Some h) x live = live
 
-pub can_make_under : {S : Type 0} (sub : Ghosts S) (n dispatch sites : ℕ) (world : Worlds S) (lane : Lane) (others : List Lane) (site : ℕ) (handle : Handle) → n < 2 ^ 63 → site < sites → IsHeld sub dispatch world handle → Stands sub n dispatch sites world (lane ∷ others) → CanMake sub world lane (place_under handle.held) site
-can_make_under sub n dispatch sites world lane others site handle early within held stands =
-    can_make_at sub n dispatch sites world lane others (place_under handle.held) site early within (live_under handle.held (spans_in sub.spans world dispatch) (live_on sub dispatch world handle.held held.own held.known)) stands
-
-pub of_lane : {S : Type 0} (sub : Ghosts S) (n dispatch sites : ℕ) (world : Worlds S) (lane : Lane) (others : List Lane) (handle : Handle) → IsHeld sub dispatch world handle → Stands sub n dispatch sites world (lane ∷ others) → IfSome (dispatch_on lane.default world.global) (IsOf handle.held)
-of_lane sub n dispatch sites world lane others handle held stands = subst (λ (o : Option ℕ). IfSome o (IsOf handle.held)) (sym stands.served.0.serves) held.own
-
 -- and of an event
-pub can_tell : {S : Type 0} (sub : Ghosts S) (n dispatch sites : ℕ) (world : Worlds S) (lane : Lane) (others : List Lane) (site : ℕ) → site < sites → Stands sub n dispatch sites world (lane ∷ others) → CanTell sub world lane site
-can_tell sub n dispatch sites world lane others site within stands =
+pub can_tell : {S : Type 0} (sub : Ghosts S) (n dispatch sites : ℕ) (world : Worlds S) (lane : Lane) (others : List Lane) (site : ℕ) → Stands sub n dispatch sites world (lane ∷ others) → site < sites → CanTell sub world lane site
+can_tell sub n dispatch sites world lane others site stands within =
     let served = stands.served.0.serves in
     record {
       own = own_there world dispatch lane.default world.global stands.there served;
@@ -98,14 +75,14 @@ can_tell sub n dispatch sites world lane others site within stands =
     }
 
 -- calls on handles
-pub can_close : {S : Type 0} (sub : Ghosts S) (n dispatch sites : ℕ) (world : Worlds S) (lanes : List Lane) (handle : Handle) → IsHeld sub dispatch world handle → Stands sub n dispatch sites world lanes → CanClose sub world handle
-can_close sub n dispatch sites world lanes handle held stands = record {
+pub can_close : {S : Type 0} (sub : Ghosts S) (n dispatch sites : ℕ) (world : Worlds S) (lanes : List Lane) (handle : Handle) → Stands sub n dispatch sites world lanes → IsHeld sub dispatch world handle → CanClose sub world handle
+can_close sub n dispatch sites world lanes handle stands held = record {
   known = held.known;
   whole = on_held (λ s id. sub.is_whole s) world dispatch handle.held held.own (λ id. stands.whole);
 }
 
-pub can_enter : {S : Type 0} (sub : Ghosts S) (n dispatch sites : ℕ) (world : Worlds S) (lanes : List Lane) (handle : Handle) → n < 2 ^ 63 → IsHeld sub dispatch world handle → Stands sub n dispatch sites world lanes → CanEnter sub world handle
-can_enter sub n dispatch sites world lanes handle early held stands = record {
+pub can_enter : {S : Type 0} (sub : Ghosts S) (n dispatch sites : ℕ) (world : Worlds S) (lanes : List Lane) (handle : Handle) → Stands sub n dispatch sites world lanes → n < 2 ^ 63 → IsHeld sub dispatch world handle → CanEnter sub world handle
+can_enter sub n dispatch sites world lanes handle stands early held = record {
   known = held.known;
   whole = on_held (λ s id. sub.is_whole s) world dispatch handle.held held.own (λ id. stands.whole);
   few_holds = on_held (λ s id. HasFewHolds (sub.spans s).made id) world dispatch handle.held held.own
@@ -116,9 +93,6 @@ there_on : {S : Type 0} (sub : Ghosts S) (world : Worlds S) (held : Held) → Is
 there_on sub world None known = tt
 there_on sub world (Some h) known = known.0
 
-pub can_ask : {S : Type 0} (sub : Ghosts S) (dispatch : ℕ) (world : Worlds S) (handle : Handle) → IsHeld sub dispatch world handle → CanAsk world handle
-can_ask sub dispatch world handle held = record { there = there_on sub world handle.held held.known }
-
 may_exit : {S : Type 0} (sub : Ghosts S) (dispatch : ℕ) (world : Worlds S) (lane : ℕ) (held : Held) → IsKnown sub.spans world held → IsOf held dispatch → IsOpen held lane (spans_in sub.spans world dispatch) → HasOn (λ s id. MayExit (sub.spans s) id lane) world held
 may_exit sub dispatch world lane None known own entered = tt
 may_exit {S} sub dispatch world lane (Some h) known own entered = λ s there. (
@@ -128,51 +102,101 @@ may_exit {S} sub dispatch world lane (Some h) known own entered = λ s there. (
     let holds = known.1 s there in
     (some, λ one. omega (arith, first, holds)))
 
-pub can_exit : {S : Type 0} (sub : Ghosts S) (n dispatch sites : ℕ) (before world : Worlds S) (lane : Lane) (others : List Lane) (guard : Opened) → lane.id ≡ guard.lane → HasEntered sub dispatch before world guard → Stands sub n dispatch sites world (lane ∷ others) → CanExit sub world lane guard
-can_exit {S} sub n dispatch sites before world lane others guard here entered stands =
-    let held = entered.held in
+pub can_exit : {S : Type 0} (sub : Ghosts S) (n dispatch sites : ℕ) (world : Worlds S) (lane : Lane) (others : List Lane) (guard : Opened) → Stands sub n dispatch sites world (lane ∷ others) → IsInside sub dispatch world guard → lane.id ≡ guard.lane → CanExit sub world lane guard
+can_exit {S} sub n dispatch sites world lane others guard stands inside here =
+    let held = inside.held in
     record {
       on = here;
       there = there_on sub world guard.span.held held.known;
       whole = on_held (λ s id. sub.is_whole s) world dispatch guard.span.held held.own (λ id. stands.whole);
-      may = subst (λ (l : ℕ). HasOn (λ s id. MayExit (sub.spans s) id l) world guard.span.held) (sym here)
-          (may_exit sub dispatch world guard.lane guard.span.held held.known held.own (opened guard.span.held guard.lane (spans_in sub.spans before dispatch) (spans_in sub.spans world dispatch) entered.entered_once));
+      may = subst (λ (l : ℕ). HasOn (λ s id. MayExit (sub.spans s) id l) world guard.span.held) (sym here) (may_exit sub dispatch world guard.lane guard.span.held held.known held.own inside.open_still);
       still = on_held (λ s id. AreAttached (sub.kept s) lane) world dispatch guard.span.held held.own
           (λ id. λ s there. subst (λ (k : ℕ → ℕ → ℕ). AreAttached k lane) (ap (λ (o : Option S). option_map_or sub.kept o (λ lane number. 0)) there) stands.served.0.attached);
     }
 
--- what was made or entered since, after calls that leave all as before
-pub again : {S : Type 0} (sub : Ghosts S) (dispatch : ℕ) (start old new : Worlds S) → IsAsBefore sub dispatch start old → IsAsBefore sub dispatch old new → IsAsBefore sub dispatch start new
-again sub dispatch start old new first last = record { known = λ held known. last.known held (first.known held known); as_before = on _ _ _ first.as_before last.as_before }
+-- what holds of a handle's subscriber holds of it where nothing that is read changed
+there_stays : {S : Type 0} (sub : Ghosts S) (old new : Worlds S) (held : Held) → Stays sub old new → IsThere old held → IsThere new held
+there_stays sub old new None stays there = tt
+there_stays sub old new (Some h) stays there = (let count = (stays.alike h.0).count in omega (arith, count, there))
 
-pub held_after : {S : Type 0} (sub : Ghosts S) (dispatch : ℕ) (old new : Worlds S) (handle : Handle) → IsAsBefore sub dispatch old new → IsHeld sub dispatch old handle → IsHeld sub dispatch new handle
-held_after sub dispatch old new handle same held = record { known = same.known handle.held held.known; own = held.own }
+has_stays : {S : Type 0} (sub : Ghosts S) (old new : Worlds S) (held : Held) → Stays sub old new → HasOn (λ s id. sub.is_whole s) old held → HasOn (λ s id. sub.is_whole s) new held
+has_stays sub old new None stays has = tt
+has_stays sub old new (Some h) stays has = (stays.alike h.0).whole has
 
-pub made_after : {S : Type 0} (sub : Ghosts S) (dispatch : ℕ) (start old new : Worlds S) (handle : Handle) → HasMade sub dispatch start old handle → IsAsBefore sub dispatch old new → HasMade sub dispatch start new handle
-made_after sub dispatch start old new handle made same = record {
-  known = λ held known. same.known held (made.known held known);
-  held = held_after sub dispatch old new handle same made.held;
-  is_new = made.is_new;
-  newest = stays_newest handle.held _ _ _ made.newest same.as_before;
-}
+on_stays : {S : Type 0} (sub : Ghosts S) (old new : Worlds S) (Q : Spans → ℕ → Type 0) (held : Held) → Stays sub old new → HasOn (λ s id. Q (sub.spans s) id) old held → HasOn (λ s id. Q (sub.spans s) id) new held
+on_stays sub old new Q None stays has = tt
+on_stays sub old new Q (Some h) stays has = (let a = stays.alike h.0 in has_same sub.spans no_spans (λ x. Q x h.1) old new h.0 a.count a.spans_same has)
 
-pub entered_after : {S : Type 0} (sub : Ghosts S) (dispatch : ℕ) (start old new : Worlds S) (guard : Opened) → HasEntered sub dispatch start old guard → IsAsBefore sub dispatch old new → HasEntered sub dispatch start new guard
-entered_after sub dispatch start old new guard entered same = record {
-  known = λ held known. same.known held (entered.known held known);
-  held = held_after sub dispatch old new guard.span same entered.held;
-  live = entered.live;
-  entered_once = stays_entered guard.span.held guard.lane _ _ _ entered.entered_once same.as_before;
-}
-
-pub held_if_made : {S : Type 0} (sub : Ghosts S) (dispatch : ℕ) (old new : Worlds S) (handle : Handle) → HasMade sub dispatch old new handle → IsHeld sub dispatch new handle
-held_if_made sub dispatch old new handle made = made.held
-
-pub held_if_entered : {S : Type 0} (sub : Ghosts S) (dispatch : ℕ) (old new : Worlds S) (guard : Opened) → HasEntered sub dispatch old new guard → IsHeld sub dispatch new guard.span
-held_if_entered sub dispatch old new guard entered = entered.held
+kept_stays : {S : Type 0} (sub : Ghosts S) (old new : Worlds S) (lane : Lane) (held : Held) → Stays sub old new → IsStillOn sub.kept lane old held → IsStillOn sub.kept lane new held
+kept_stays sub old new lane None stays has = tt
+kept_stays sub old new lane (Some h) stays has = (let a = stays.alike h.0 in has_same sub.kept (λ lane number. 0) (λ f. AreAttached f lane) old new h.0 a.count a.kept_same has)
 
 -- a filter was exchanged, or something else that is read of no span and no lane
-pub alike_stands : {S : Type 0} (sub : Ghosts S) (n dispatch sites : ℕ) (old new : Worlds S) (lanes : List Lane) → Alike sub.spans sub.attaches sub.kept sub.is_whole old new dispatch → new.sites ≡ old.sites → new.global ≡ old.global → Stands sub n dispatch sites old lanes → Stands sub n dispatch sites new lanes
-alike_stands sub n dispatch sites old new lanes alike same global stands =
-    stands_after sub n n dispatch sites old new lanes alike.count same global alike.whole (λ few. subst (AreAtMost n) (sym alike.spans_same) few) alike.kept_same stands
+pub alike_stands : {S : Type 0} (sub : Ghosts S) (n e dispatch sites : ℕ) (old new : Worlds S) (lanes : List Lane) → Alike sub.spans sub.attaches sub.kept sub.is_whole old new e → e ≡ dispatch → new.sites ≡ old.sites → new.global ≡ old.global → Stands sub n dispatch sites old lanes → Stands sub n dispatch sites new lanes
+alike_stands sub n e dispatch sites old new lanes alike is same global stands =
+    let a = subst (Alike sub.spans sub.attaches sub.kept sub.is_whole old new) is alike in
+    stands_after sub n n dispatch sites old new lanes a.count same global a.whole (λ few. subst (AreAtMost n) (sym a.spans_same) few) a.kept_same stands
 
-pub ruleset standing = (later, alike_stands, stays_stands, stays_as_before, turned, serves, can_make, can_make_root, can_make_under, of_lane, can_tell, can_ask, can_close, can_enter, can_exit, again, held_after, made_after, entered_after, held_if_made, held_if_entered)
+-- What each call asks, on the first lane and on the second.
+module _ {S : Type 0} (sub : Ghosts S) (n dispatch sites : ℕ) (world : Worlds S) where
+  pub can_make : (lane : Lane) (others : List Lane) (site : ℕ) → Stands sub n dispatch sites world (lane ∷ others) → n < 2 ^ 63 → site < sites → CanMake sub world lane parent.Current site
+  can_make lane others site stands early within = make_at sub n dispatch sites world lane others parent.Current site early within tt stands
+
+  pub can_make_second : (first lane : Lane) (others : List Lane) (site : ℕ) → Stands sub n dispatch sites world (first ∷ lane ∷ others) → n < 2 ^ 63 → site < sites → CanMake sub world lane parent.Current site
+  can_make_second first lane others site stands early within = can_make lane (first ∷ others) site (turned stands) early within
+
+  pub can_make_root : (lane : Lane) (others : List Lane) (site : ℕ) → Stands sub n dispatch sites world (lane ∷ others) → n < 2 ^ 63 → site < sites → CanMake sub world lane parent.Root site
+  can_make_root lane others site stands early within = make_at sub n dispatch sites world lane others parent.Root site early within tt stands
+
+  pub can_make_under : (lane : Lane) (others : List Lane) (site : ℕ) (handle : Handle) → Stands sub n dispatch sites world (lane ∷ others) → n < 2 ^ 63 → site < sites → IsHeld sub dispatch world handle → CanMake sub world lane (place_under handle.held) site
+  can_make_under lane others site handle stands early within held =
+      make_at sub n dispatch sites world lane others (place_under handle.held) site early within (live_under handle.held (spans_in sub.spans world dispatch) (live_on sub dispatch world handle.held held.own held.known)) stands
+
+  pub can_make_under_second : (first lane : Lane) (others : List Lane) (site : ℕ) (handle : Handle) → Stands sub n dispatch sites world (first ∷ lane ∷ others) → n < 2 ^ 63 → site < sites → IsHeld sub dispatch world handle → CanMake sub world lane (place_under handle.held) site
+  can_make_under_second first lane others site handle stands early within held = can_make_under lane (first ∷ others) site handle (turned stands) early within held
+
+  pub can_tell_second : (first lane : Lane) (others : List Lane) (site : ℕ) → Stands sub n dispatch sites world (first ∷ lane ∷ others) → site < sites → CanTell sub world lane site
+  can_tell_second first lane others site stands within = can_tell sub n dispatch sites world lane (first ∷ others) site (turned stands) within
+
+  pub can_exit_second : (first lane : Lane) (others : List Lane) (guard : Opened) → Stands sub n dispatch sites world (first ∷ lane ∷ others) → IsInside sub dispatch world guard → lane.id ≡ guard.lane → CanExit sub world lane guard
+  can_exit_second first lane others guard stands inside here = can_exit sub n dispatch sites world lane (first ∷ others) guard (turned stands) inside here
+
+-- what is told, and exited, on the lane that was just entered
+module _ {S : Type 0} (sub : Ghosts S) (n dispatch sites : ℕ) (old new : Worlds S) (before left : Lane) (handle : Handle) (guard : Opened) where
+  pub tell_entered : (others : List Lane) (site : ℕ) → Enters sub old new before left handle guard → Stands sub n dispatch sites old (before ∷ others) → IsHeld sub dispatch old handle → site < sites → CanTell sub new left site
+  tell_entered others site enters stands held within = can_tell sub (n + 1) dispatch sites new left others site (enters.stands n dispatch sites others held stands) within
+
+  pub tell_entered_second : (first : Lane) (others : List Lane) (site : ℕ) → Enters sub old new before left handle guard → Stands sub n dispatch sites old (first ∷ before ∷ others) → IsHeld sub dispatch old handle → site < sites → CanTell sub new left site
+  tell_entered_second first others site enters stands held within = tell_entered (first ∷ others) site enters (turned stands) held within
+
+  pub exit_entered : (others : List Lane) → Enters sub old new before left handle guard → Stands sub n dispatch sites old (before ∷ others) → IsHeld sub dispatch old handle → CanExit sub new left guard
+  exit_entered others enters stands held = can_exit sub (n + 1) dispatch sites new left others guard (enters.stands n dispatch sites others held stands) (inside_if_entered sub old new before left handle guard dispatch enters held) (enters.lane_id ∙ sym enters.on)
+
+  pub exit_entered_second : (first : Lane) (others : List Lane) → Enters sub old new before left handle guard → Stands sub n dispatch sites old (first ∷ before ∷ others) → IsHeld sub dispatch old handle → CanExit sub new left guard
+  exit_entered_second first others enters stands held = exit_entered (first ∷ others) enters (turned stands) held
+
+-- and again where nothing that is read changed
+pub exit_stays : {S : Type 0} (sub : Ghosts S) (old new : Worlds S) (lane : Lane) (guard : Opened) → Stays sub old new → CanExit sub old lane guard → CanExit sub new lane guard
+exit_stays sub old new lane guard stays can = record {
+  on = can.on;
+  there = there_stays sub old new guard.span.held stays can.there;
+  whole = has_stays sub old new guard.span.held stays can.whole;
+  may = on_stays sub old new (λ x id. MayExit x id lane.id) guard.span.held stays can.may;
+  still = kept_stays sub old new lane guard.span.held stays can.still;
+}
+
+pub close_stays : {S : Type 0} (sub : Ghosts S) (old new : Worlds S) (handle : Handle) → Stays sub old new → CanClose sub old handle → CanClose sub new handle
+close_stays sub old new handle stays can = record { known = stays.known.known handle.held can.known; whole = has_stays sub old new handle.held stays can.whole }
+
+-- a handle that can be closed can be asked
+pub can_ask : {S : Type 0} (sub : Ghosts S) (world : Worlds S) (handle : Handle) → CanClose sub world handle → CanAsk world handle
+can_ask sub world handle can = record { there = there_on sub world handle.held can.known }
+
+pub can_ask_held : {S : Type 0} (sub : Ghosts S) (dispatch : ℕ) (world : Worlds S) (handle : Handle) → IsHeld sub dispatch world handle → CanAsk world handle
+can_ask_held sub dispatch world handle held = record { there = there_on sub world handle.held held.known }
+
+-- a handle is of the subscriber of a lane
+pub of_lane : {S : Type 0} (sub : Ghosts S) (dispatch : ℕ) (world : Worlds S) (lane : Lane) (handle : Handle) → IsHeld sub dispatch world handle → Serves dispatch world lane → IfSome (dispatch_on lane.default world.global) (IsOf handle.held)
+of_lane sub dispatch world lane handle held serves = subst (λ (o : Option ℕ). IfSome o (IsOf handle.held)) (sym serves.serves) held.own
+
+pub ruleset standing = (stepping, stays_as_before, alike_stands, can_make, can_make_second, can_make_root, can_make_under, can_make_under_second, can_tell, can_tell_second, can_close, can_enter, can_exit, can_exit_second, tell_entered, tell_entered_second, exit_entered, exit_entered_second, exit_stays, close_stays, can_ask, can_ask_held, of_lane)

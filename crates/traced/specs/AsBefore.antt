@@ -2,7 +2,7 @@
 use Rattle.std.specs.Prelude.{◌≡◌, ◌<◌, ℕ, length, Option, Some, None}
 use Rattle.trace_base.specs.declared.subscriber.Subscriber.{Ghosts}
 use Rattle.trace_base.specs.Gate.{Worlds}
-use Rattle.trace_base.specs.Spans.{Spans, span_at, entries_on}
+use Rattle.trace_base.specs.Spans.{Spans, span_at, entries_on, times_in}
 use Rattle.trace_base.specs.Calls.{with_span, entered}
 use Rattle.span_handles.specs.Worlds.{spans_in}
 use Rattle.span_handles.specs.Handles.{Held, Handle, IsKnown}
@@ -62,3 +62,13 @@ pub record HasEntered {S : Type 0} (sub : Ghosts S) (dispatch : ℕ) (old new : 
   pub held : IsHeld sub dispatch new guard.span
   pub live : IsLiveOn guard.span.held (spans_in sub.spans old dispatch)
   pub entered_once : IsEntered guard.span.held guard.lane (spans_in sub.spans old dispatch) (spans_in sub.spans new dispatch)
+
+-- the span of a guard, if it is enabled, has an open entry on the guard's lane
+abbrev pub IsOpen : Held → ℕ → Spans → Type 0
+IsOpen None lane x = Unit {0}
+IsOpen (Some held) lane x = 0 < times_in held.1 (entries_on lane x.lanes)
+
+-- a guard of the subscriber, whose entry is open
+pub record IsInside {S : Type 0} (sub : Ghosts S) (dispatch : ℕ) (world : Worlds S) (guard : Opened) : Type 0 where
+  pub held : IsHeld sub dispatch world guard.span
+  pub open_still : IsOpen guard.span.held guard.lane (spans_in sub.spans world dispatch)

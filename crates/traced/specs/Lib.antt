@@ -2,5 +2,6 @@ pub mod AsBefore
 pub mod Gating
 pub mod Laws
 pub mod Making
+pub mod Moving
 pub mod Standing
 pub mod Staying

@@ -7,6 +7,7 @@ use Rattle.trace_base.specs.Conditions.{HasFewHolds, MayExit}
 use Rattle.trace_base.specs.Contexts.{AreAttached}
 use Rattle.trace_base.specs.Gate.{Worlds, IsOwn, dispatch_on}
 use Rattle.trace_base.specs.Spans.{Spans, span_at}
+use Rattle.span_registry.specs.Registering.{no_spans}
 use Rattle.span_handles.specs.Worlds.{Has, spans_in, kept_in}
 use Rattle.span_handles.specs.Handles.{Handle, IsKnown, HasOn, HasIf, IsOf, MayMakeIf}
 use Rattle.span_handles.specs.Entries.{Opened, IsThere, IsStillOn}
@@ -39,6 +40,10 @@ pub record Stands {S : Type 0} (sub : Ghosts S) (most dispatch sites : ℕ) (wor
   pub few : AreAtMost most (spans_in sub.spans world dispatch)
   pub declared : sites ≤ length world.sites
   pub served : AreServed world.global (kept_in sub.kept world dispatch) dispatch lanes
+
+-- the subscriber serves a lane
+pub record Serves {S : Type 0} (dispatch : ℕ) (world : Worlds S) (lane : Lane) : Type 0 where
+  pub serves : dispatch_on lane.default world.global ≡ Some dispatch
 
 -- a handle of the subscriber, which knows it
 pub record IsHeld {S : Type 0} (sub : Ghosts S) (dispatch : ℕ) (world : Worlds S) (handle : Handle) : Type 0 where
@@ -84,3 +89,9 @@ pub record CanExit {S : Type 0} (sub : Ghosts S) (world : Worlds S) (lane : Lane
 abbrev pub AreAssigned : Option ℕ → ℕ → List Lane → Type 0
 AreAssigned global dispatch [] = Unit {0}
 AreAssigned global dispatch (lane ∷ lanes) = (dispatch_on lane.default global ≡ Some dispatch) × IsApart lane lanes × AreAssigned global dispatch lanes
+
+-- a stack that knows no span, and keeps nothing attached
+pub record IsUnused {S : Type 0} (sub : Ghosts S) (stack : S) : Type 0 where
+  pub whole : sub.is_whole stack
+  pub spans : sub.spans stack ≡ no_spans
+  pub kept : (lane number : ℕ) → sub.kept stack lane number ≡ 0

@@ -1,12 +1,10 @@
 //! Handles that are closed.
-ghost use Rattle.std.specs.Prelude.{ℕ, List, Some};
-ghost use Rattle.trace_base.specs.declared.lane.Lane.{Lane};
-ghost use Rattle.trace_base.specs.Gate.{Worlds};
+ghost use Rattle.std.specs.Prelude.{Some};
 ghost use Rattle.span_handles.specs.Worlds.{Chain};
 ghost use Rattle.span_handles.specs.Handles.{ReplacedOn, ClosesOn};
 ghost use Rattle.span_handles.specs.Knowing.{KeepsOthers, LosesOne};
-ghost use Rattle.traced.specs.Standing.{Stands, CanClose};
-ghost use Rattle.traced.specs.AsBefore.{IsAsBefore, HasMade};
+ghost use Rattle.traced.specs.Standing.{CanClose};
+ghost use Rattle.traced.specs.Moving.{Closes};
 
 use crate::laws::lawful;
 use span_handles::span::Span;
@@ -21,11 +19,7 @@ pub fn close<S: Subscriber>(span: Span, world: &mut World<S>, at: u64) -> bool
     ensures did { ReplacedOn (λ id s t. Chain S.spans S.does at (Some id) s t) world.old world.new span.held }
     ensures keeps { KeepsOthers S.spans world.old world.new span.held }
     ensures fewer { LosesOne S.spans world.old world.new span.held }
-    ensures stands { (most dispatch sites : ℕ) (lanes : List Lane)
-        → Stands S.Subscriber most dispatch sites world.old lanes
-        → Stands S.Subscriber most dispatch sites world.new lanes }
-    ensures as_before { (dispatch : ℕ) (before : Worlds S) → HasMade S.Subscriber dispatch before world.old span
-        → IsAsBefore S.Subscriber dispatch before world.new }
+    ensures closes { Closes S.Subscriber world.old world.new span }
 {
     lawful::<S>();
     span.close(world, at)

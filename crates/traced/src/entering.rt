@@ -1,13 +1,11 @@
 //! Spans that are entered and exited.
-ghost use Rattle.std.specs.Prelude.{◌≡◌, ◌+◌, ℕ, List, ◌∷◌, None, Err, IfOk, OnOk, OnErr, IsErr, IsOk};
+ghost use Rattle.std.specs.Prelude.{◌≡◌, Err, IfOk, OnOk, OnErr, IsErr};
 ghost use Rattle.otel_base.specs.declared.enter_error.EnterError.TheVariants.{Full};
-ghost use Rattle.trace_base.specs.declared.lane.Lane.{Lane};
 ghost use Rattle.trace_base.specs.Calls.{Enter, Exit};
-ghost use Rattle.trace_base.specs.Gate.{Worlds};
 ghost use Rattle.span_handles.specs.Handles.{ReplacedOn};
 ghost use Rattle.span_handles.specs.Entries.{MeetsFullLane};
-ghost use Rattle.traced.specs.Standing.{Stands, IsHeld, CanEnter, CanExit};
-ghost use Rattle.traced.specs.AsBefore.{IsAsBefore, HasEntered};
+ghost use Rattle.traced.specs.Standing.{CanEnter, CanExit};
+ghost use Rattle.traced.specs.Moving.{Enters, Refuses, Exits};
 
 use crate::laws::lawful;
 use otel_base::enter_error::EnterError;
@@ -25,16 +23,10 @@ pub fn enter<'a, S: Subscriber>(
     at: u64,
 ) -> Result<Entered<'a>, EnterError>
     requires { CanEnter S.Subscriber world.old span.now }
-    ensures value { IfOk result (λ guard. guard ≡ record { span = span.now; lane = lane.old.id }) }
     ensures did { OnOk result
         (ReplacedOn (λ id s t. S.does s (Enter id at lane.old lane.new) t) world.old world.new span.now.held) }
-    ensures lane_id { lane.new.id ≡ lane.old.id }
-    ensures stands { (most dispatch sites : ℕ) (others : List Lane) → IsHeld S.Subscriber dispatch world.old span.now
-        → Stands S.Subscriber most dispatch sites world.old (lane.old ∷ others)
-        → Stands S.Subscriber (most + 1) dispatch sites world.new (lane.new ∷ others) }
-    ensures entered { (dispatch : ℕ) → IsHeld S.Subscriber dispatch world.old span.now
-        → IfOk result (HasEntered S.Subscriber dispatch world.old world.new) }
-    ensures refused { OnErr result ((dispatch : ℕ) → IsAsBefore S.Subscriber dispatch world.old world.new) }
+    ensures entered { IfOk result (Enters S.Subscriber world.old world.new lane.old lane.new span.now) }
+    ensures refused { OnErr result (Refuses S.Subscriber world.old world.new lane.old lane.new) }
     ensures full { result ≡ Err Full → MeetsFullLane S.activates world.old lane.old span.now.held }
     ensures full_refused { MeetsFullLane S.activates world.old lane.old span.now.held → IsErr result }
 {
@@ -48,14 +40,7 @@ pub fn exit<S: Subscriber>(guard: Entered<'_>, world: &mut World<S>, lane: &mut 
     requires { CanExit S.Subscriber world.old lane.old guard }
     ensures did { ReplacedOn (λ id s t. S.does s (Exit id at lane.old lane.new) t) world.old world.new
         guard.entry.span.held }
-    ensures lane_id { lane.new.id ≡ lane.old.id }
-    ensures stands { (most dispatch sites : ℕ) (others : List Lane)
-        → IsHeld S.Subscriber dispatch world.old guard.entry.span
-        → Stands S.Subscriber most dispatch sites world.old (lane.old ∷ others)
-        → Stands S.Subscriber most dispatch sites world.new (lane.new ∷ others) }
-    ensures as_before { (dispatch : ℕ) (before : Worlds S)
-        → HasEntered S.Subscriber dispatch before world.old guard.entry
-        → IsAsBefore S.Subscriber dispatch before world.new }
+    ensures exits { Exits S.Subscriber world.old world.new lane.old lane.new guard.entry }
 {
     lawful::<S>();
     guard.exit(world, lane, at);

@@ -15,5 +15,5 @@ pub use closing::close;
 pub use entering::{enter, exit};
 pub use making::span;
 pub use placing::{child_of, root};
-pub use starting::start;
+pub use starting::{lane, start};
 pub use telling::event;

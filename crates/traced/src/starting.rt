@@ -1,21 +1,21 @@
 //! Worlds that calls can be made in.
-ghost use Rattle.std.specs.Prelude.{◌≡◌, ◌≤◌, ℕ, List, length, IfOk, IfErr, OnOk, OnErr};
+ghost use Rattle.std.specs.Prelude.{◌≡◌, ◌≤◌, ℕ, List, Some, length, IfOk, IfErr, OnOk, OnErr};
 ghost use Rattle.trace_base.specs.declared.lane.Lane.{Lane};
 ghost use Rattle.trace_base.specs.Gate.{AreSame};
-ghost use Rattle.span_registry.specs.Registering.{no_spans};
-ghost use Rattle.traced.specs.Standing.{Stands, AreAssigned};
+ghost use Rattle.traced.specs.Standing.{Stands, AreAssigned, IsUnused};
 
 use crate::laws::lawful;
 use otel_base::memory::Memory;
+use otel_base::stack::ContextStack;
+use std::alloc::Global;
 use trace_base::dispatcher::Dispatch;
+use trace_base::lane::Lane;
 use trace_base::subscriber::Subscriber;
 use trace_base::world::World;
 
 /// Adds a stack that knows no span, as `World::add` does. Calls can then be made on lanes that it serves.
 pub fn start<S: Subscriber>(world: &mut World<S>, stack: S) -> Result<Dispatch, (S, Memory)>
-    requires whole { S.is_whole stack }
-    requires spans { S.spans stack ≡ no_spans }
-    requires kept { (lane number : ℕ) → S.kept stack lane number ≡ 0 }
+    requires { IsUnused S.Subscriber stack }
     ensures dispatch { IfOk result (λ dispatch. dispatch ≡ length world.old.subscribers) }
     ensures stands { IfOk result (λ dispatch. (sites : ℕ) (lanes : List Lane) → sites ≤ length world.old.sites
         → AreAssigned world.new.global dispatch lanes → Stands S.Subscriber 0 dispatch sites world.new lanes) }
@@ -24,4 +24,17 @@ pub fn start<S: Subscriber>(world: &mut World<S>, stack: S) -> Result<Dispatch, 
 {
     lawful::<S>();
     world.add(stack)
+}
+
+/// A lane with an id, which a stack serves.
+pub fn lane(alloc: Global, id: u64, dispatch: Dispatch) -> Lane
+    ensures id { result.id ≡ id }
+    ensures own { result.default ≡ Some dispatch }
+{
+    Lane {
+        id,
+        name: None,
+        default: Some(dispatch),
+        contexts: ContextStack::new(alloc),
+    }
 }
