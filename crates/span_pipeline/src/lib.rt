@@ -20,6 +20,8 @@ mod runs;
 mod shown;
 mod sites;
 
+pub use filters::read_texts;
+pub use opening::world_of;
 pub use pipeline::Pipeline;
 pub use span_script::{
     Call, LAST_MOMENT, OpenError, Outcome, Place, Refusal, Reply, Request, Settings, What,

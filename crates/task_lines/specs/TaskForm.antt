@@ -1,0 +1,78 @@
+-- The form of a task line, and of a step, with a row for each word of `do`.
+use Rattle.std.specs.Prelude.{ℕ, List, Option, Some, None, Result, ok_or, if◌then◌else◌, codes, bytes_eq}
+use Rattle.serde_json.specs.Data.{Data}
+use Rattle.trace_pipeline.specs.declared.told.Told.{Told}
+use Rattle.trace_pipeline.specs.declared.told.Told.TheVariants.{BadLine}
+use Rattle.trace_pipeline.specs.AttributeForm.{otel_value_of}
+use Rattle.trace_pipeline.specs.FieldForm.{fields_of}
+use Rattle.trace_pipeline.specs.Forms.{Form, ◌>>=◌, give, when, whole, text, member, array, each, object_of, all_of}
+use Rattle.trace_pipeline.specs.RequestForm.{fields_form}
+use Rattle.trace_pipeline.specs.Spelled.{spelled}
+use Rattle.trace_tasks.specs.declared.script.Step.{Step}
+use Rattle.trace_tasks.specs.declared.script.Step.TheVariants as step
+use Rattle.trace_tasks.specs.declared.script.Task.{Task}
+use Rattle.task_lines.specs.declared.read.StepWord.{StepWord}
+use Rattle.task_lines.specs.declared.read.StepWord.TheVariants as word
+
+-- the words of `do`
+abbrev pub step_word : List ℕ → Option StepWord
+step_word w =
+    if bytes_eq w (codes "event") then Some word.Event else
+    (if bytes_eq w (codes "record") then Some word.Record else
+    (if bytes_eq w (codes "set_attribute") then Some word.SetAttribute else
+    (if bytes_eq w (codes "yield") then Some word.Yield else None)))
+
+abbrev pub word_form : Form StepWord
+word_form = do
+  w ← text (codes "do")
+  when (step_word w)
+
+-- `event` tells an event of a callsite, with the values of some fields
+unfoldable pub event_form : Form Step
+event_form = do
+  site ← whole (codes "site")
+  fields ← fields_form
+  give (step.Event site fields)
+
+-- `record` records the values of some fields
+unfoldable pub record_form : Form Step
+record_form = do
+  there ← member (codes "fields")
+  fields ← when (fields_of there)
+  give (step.Record fields)
+
+-- `set_attribute` sets an attribute
+unfoldable pub set_attribute_form : Form Step
+set_attribute_form = do
+  key ← text (codes "key")
+  there ← member (codes "value")
+  value ← when (otel_value_of there)
+  give (step.SetAttribute key value)
+
+-- what a word goes on with; `yield` goes on with nothing
+abbrev pub step_form_of : StepWord → Form Step
+step_form_of word.Event = event_form
+step_form_of word.Record = record_form
+step_form_of word.SetAttribute = set_attribute_form
+step_form_of word.Yield = give step.Yield
+
+unfoldable pub step_form : Form Step
+step_form = do
+  w ← word_form
+  step_form_of w
+
+abbrev pub step_of : Data → Option Step
+step_of d = object_of step_form d
+
+-- a task: the callsite of its span, the values of some fields, and its steps
+unfoldable pub task_form : Form Task
+task_form = do
+  site ← whole (codes "site")
+  fields ← fields_form
+  values ← array (codes "task")
+  steps ← when (each step_of values)
+  give (record { site = site; fields = fields; steps = steps })
+
+-- the task that a line spells
+unfoldable pub task_spelled : List ℕ → Result Task Told
+task_spelled line = ok_or (spelled (all_of task_form) line) BadLine

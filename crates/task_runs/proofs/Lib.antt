@@ -1,0 +1,5 @@
+pub mod FitsLemmas
+pub mod InputLemmas
+pub mod OneLineLemmas
+pub mod ReadingLemmas
+pub mod TapesLemmas

@@ -1,0 +1,76 @@
+//! What a script of tasks gives.
+ghost use Rattle.std.specs.Prelude.{◌≡◌, ◌<◌, ◌^◌, ◌+◌, length, sum_by, None, IfOk, IfSome};
+ghost use Rattle.task_runs.specs.Reading.{IsFit};
+ghost use Rattle.task_runs.specs.Texts.{tasks_outcome};
+ghost use Rattle.trace_tasks.specs.Flat.{yields};
+
+use crate::spell::spelled_requests;
+use otel_base::list::Items;
+use otel_base::memory::Memory;
+use span_pipeline::pipeline::Pipeline;
+use span_script::outcome::Outcome;
+use std::alloc::{AllocGlobal, Global};
+use std::random::RandomSource;
+use trace_tasks::script::{Step, Task, TaskScript};
+
+// More polls than that are never made.
+const MOST_POLLS: u64 = 1_000_000_000_000_000_000;
+
+// How many yields some steps have.
+fn yields(steps: &[Step]) -> u64
+    ensures { result ≡ yields steps.now }
+{
+    let mut count = 0;
+    for step in steps {
+        if matches!(step, Step::Yield) {
+            count += 1;
+        }
+    }
+    count
+}
+
+// How many polls some tasks take, if they aren't too many.
+fn polls_of(tasks: &[Task]) -> Option<u64>
+    ensures { IfSome result (λ polls. (polls ≡ sum_by (λ t. yields t.steps) tasks.now + length tasks.now)
+        × (polls < 2 ^ 60)) }
+{
+    let mut polls = 0u64;
+    for task in tasks {
+        polls = polls
+            .checked_add(yields(task.steps.as_slice()))?
+            .checked_add(1)?;
+    }
+    if polls < MOST_POLLS {
+        Some(polls)
+    } else {
+        None
+    }
+}
+
+/// Polls the tasks of a script in turn, and runs the requests that they spell: the outcome is that of the flat list of these,
+/// with an entry round each poll, and none of them is refused. `Memory` freely.
+pub fn run_task_script<R: RandomSource + AllocGlobal>(
+    rt: &R,
+    alloc: Global,
+    script: TaskScript,
+) -> Result<Outcome, Memory>
+    requires { IsFit script }
+    ensures outcome { IfOk result (λ outcome. outcome ≡ tasks_outcome script) }
+    ensures served { IfOk result (λ outcome. outcome.refused ≡ None) }
+{
+    // No input has so many steps.
+    let Some(_) = polls_of(script.tasks.as_slice()) else {
+        return Err(Memory);
+    };
+    let requests = spelled_requests(rt, alloc, &script)?;
+    let TaskScript { settings, tasks } = script;
+    drop(tasks);
+    let Ok(outcome) = Pipeline::run(alloc, settings, Items::from(requests)) else {
+        return Err(Memory);
+    };
+    // Only room can want to the requests of tasks that fit their settings.
+    if outcome.refused.is_some() {
+        return Err(Memory);
+    }
+    Ok(outcome)
+}
