@@ -18,7 +18,8 @@ use turnstile::Turnstile;
 
 /// Runs the workers of a script in threads over its shared spans, of which the handles numbered 0 are given, in order.
 /// Each worker has a gate of its own, which it asks once for each event; a worker for which no thread can be started is
-/// run here. It answers for each span, in order: a history that does on this span what each worker asks by its list, and
+/// run here. `turns` is called round each call of a worker, and round each of its releases, which are numbered on from
+/// the calls. It answers for each span, in order: a history that does on this span what each worker asks by its list, and
 /// nothing else; its record; and a pass of this very span that has seen just that history. `Memory` where there was none
 /// for some call; then all handles have been ended.
 pub fn work<R: Threads + Wait + Sync, G: EventGate + Send + Drop, T: Turnstile + Sync>(

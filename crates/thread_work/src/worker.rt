@@ -144,10 +144,13 @@ fn moment_of(plan: &Plan, last: Option<Moment>, s: usize) -> Moment
     }
 }
 
-// Ends all handles of a worker, in the order of the spans.
-fn end_all<R: Wait>(
+// Ends all handles of a worker, in the order of the spans. For the turnstile they are numbered on from its calls.
+fn end_all<R: Wait, T: Turnstile>(
     rt: &R,
     plan: &Plan,
+    turns: &T,
+    worker: u64,
+    calls: u64,
     last: Option<Moment>,
     handles: &mut Vec<Handle>,
     left: &mut Vec<Released>,
@@ -163,7 +166,10 @@ fn end_all<R: Wait>(
     for s in 0..handles.len() {
         let at = moment_of(plan, last, s);
         let handle = handles.remove(0);
+        let call = calls.saturating_add(s as u64);
+        turns.before(worker, call);
         left.push_reserved(end_one(rt, handle, at));
+        turns.after(worker, call);
     }
 }
 
@@ -192,6 +198,7 @@ pub(crate) fn run_job<R: Wait, G: EventGate, T: Turnstile>(
         left,
         is_done,
     } = job;
+    let calls = ops.len() as u64;
     *is_done = make_calls(
         rt,
         alloc,
@@ -203,5 +210,5 @@ pub(crate) fn run_job<R: Wait, G: EventGate, T: Turnstile>(
         ops,
     )
     .is_ok();
-    end_all(rt, plan, *last, handles, left);
+    end_all(rt, plan, turns, worker, calls, *last, handles, left);
 }

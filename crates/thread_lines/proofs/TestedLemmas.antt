@@ -1,0 +1,101 @@
+-- Calls that passed their tests, in front of those that are to be tested.
+use Rattle.std.proofs.Common.{◌≡◌, ℕ, zero, suc, take, arith, List, [], ◌∷◌, ◌++◌, length, Ok, Err, refl, sym, ap, subst, ◌∙◌, append_assoc, append-nil, replicate}
+use Rattle.std.specs.Prelude.{Result, ⊤, ◌==◌, nat_lt}
+use Rattle.std.specs.List.{list_all}
+use Rattle.span_script.specs.declared.reply.Refusal.TheVariants as refusal
+use Rattle.trace_pipeline.specs.declared.told.Told.{Told}
+use Rattle.trace_pipeline.specs.declared.told.Told.TheVariants as told
+use Rattle.thread_work.specs.declared.script.ThreadScript.{ThreadScript}
+use Rattle.thread_work.specs.declared.script.WorkerOp.{WorkerOp}
+use Rattle.thread_lines.specs.declared.line.ThreadOp.{ThreadOp}
+use Rattle.thread_lines.specs.declared.limits.TheConstants.{MOST_WORKERS}
+use Rattle.thread_lines.specs.declared.stop.Stop.{Stop}
+use Rattle.thread_lines.specs.declared.stop.Stop.TheVariants as stop
+use Rattle.thread_lines.specs.Answers.{Answers, Adds}
+use Rattle.thread_lines.specs.Steps.{◌>>=◌, required, has_lane, last_made, with_worker, worker_added, move_of_call, entered_after, op_tested, ops_tested}
+
+abbrev pub in_front : {A : Type 0} → List A → Result (List A) Told → Result (List A) Told
+in_front front (Ok more) = Ok (front ++ more)
+in_front front (Err why) = Err why
+
+-- ---- at the front of all
+
+pub all_ok : {A : Type 0} (all : Result (List A) Told) (front : List A) → Ok (front ++ []) ≡ in_front [] all → all ≡ Ok front
+all_ok (Ok more) front e = sym e ∙ ap Ok (append-nil front)
+all_ok (Err why) front e = absurd (cc e)
+
+pub all_err : {A : Type 0} (all : Result (List A) Told) (w : Told) → Err w ≡ in_front [] all → all ≡ Err w
+all_err (Ok more) w e = absurd (cc e)
+all_err (Err why) w e = sym e
+
+-- ---- one call more
+
+pub moved : (front : List WorkerOp) (op : WorkerOp) (rest : Result (List WorkerOp) Told) → in_front (front ++ op ∷ []) rest ≡ in_front front (rest >>= (λ ops. Ok (op ∷ ops)))
+moved front op (Ok ops) = ap Ok (append_assoc front (op ∷ []) ops)
+moved front op (Err why) = refl
+
+pub one_passed : (s : ThreadScript) (before : ℕ) (entered after : List ℕ) (front : List WorkerOp) (o : ThreadOp) (os : List ThreadOp) (op : WorkerOp)
+    → op_tested s before entered o ≡ Ok op → after ≡ entered_after entered op.span (move_of_call op.what)
+    → in_front (front ++ op ∷ []) (ops_tested s op.at after os) ≡ in_front front (ops_tested s before entered (o ∷ os))
+one_passed s before entered after front o os op passed is =
+    ap (λ (l : List ℕ). in_front (front ++ op ∷ []) (ops_tested s op.at l os)) is
+    ∙ moved front op (ops_tested s op.at (entered_after entered op.span (move_of_call op.what)) os)
+    ∙ ap (λ (r : Result WorkerOp Told). in_front front (r >>= (λ x. ops_tested s x.at (entered_after entered x.span (move_of_call x.what)) os >>= (λ ops. Ok (x ∷ ops))))) (sym passed)
+
+pub one_refused : (s : ThreadScript) (before : ℕ) (entered : List ℕ) (front : List WorkerOp) (o : ThreadOp) (os : List ThreadOp) (w : Told)
+    → op_tested s before entered o ≡ Err w → Err w ≡ in_front front (ops_tested s before entered (o ∷ os))
+one_refused s before entered front o os w refused =
+    ap (λ (r : Result WorkerOp Told). in_front front (r >>= (λ x. ops_tested s x.at (entered_after entered x.span (move_of_call x.what)) os >>= (λ ops. Ok (x ∷ ops))))) (sym refused)
+
+-- ---- what is written back
+
+pub put_back : {A : Type 0} (n : ℕ) (xs ys : List A) → n ≡ length xs → take n (xs ++ ys) ≡ xs
+put_back zero [] ys e = refl
+put_back zero (x ∷ xs) ys e = absurd (omega (arith, e))
+put_back (suc n) [] ys e = absurd (omega (arith, e))
+put_back {A = A} (suc n) (x ∷ xs) ys e = ap (λ (l : List A). x ∷ l) (put_back n xs ys (omega (arith, e)))
+
+-- ---- at the end
+
+pub all_passed : (s : ThreadScript) (before : ℕ) (entered : List ℕ) (front : List WorkerOp) (u : ⊤) → required (told.Step refusal.InUse) (list_all (λ n. n == 0) entered) ≡ Ok u
+    → Ok (front ++ []) ≡ in_front front (ops_tested s before entered [])
+all_passed s before entered front u e = ap (λ (r : Result ⊤ Told). in_front front (r >>= (λ closed. Ok []))) (sym e)
+
+pub left_open : (s : ThreadScript) (before : ℕ) (entered : List ℕ) (front : List WorkerOp) (w : Told) → required (told.Step refusal.InUse) (list_all (λ n. n == 0) entered) ≡ Err w
+    → Err w ≡ in_front front (ops_tested s before entered [])
+left_open s before entered front w e = ap (λ (r : Result ⊤ Told). in_front front (r >>= (λ closed. Ok []))) (sym e)
+
+-- ---- what is answered
+
+module _ (s : ThreadScript) (before : ℕ) (entered : List ℕ) (front : List WorkerOp) (all : Result (List WorkerOp) Told) (r : Result (List WorkerOp) Stop) (why : Stop) (is : r ≡ Err why) where
+  pub refused_here : (o : ThreadOp) (os : List ThreadOp) → Answers {A = WorkerOp} (λ op. op) (Err why) (op_tested s before entered o) → in_front front (ops_tested s before entered (o ∷ os)) ≡ in_front [] all → Answers {A = List WorkerOp} (λ l. l) r all
+  refused_here o os a e = subst (λ (x : Result (List WorkerOp) Stop). Answers {A = List WorkerOp} (λ l. l) x all) (sym is) (by_why why a)
+    where
+      by_why : (w : Stop) → Answers {A = WorkerOp} (λ op. op) (Err w) (op_tested s before entered o) → Answers {A = List WorkerOp} (λ l. l) (Err w) all
+      by_why (stop.Refused t) refused = all_err all t (one_refused s before entered front o os t refused ∙ e)
+      by_why stop.Memory refused = tt
+
+  pub left_here : Answers {A = ⊤} (λ u. u) (Err why) (required (told.Step refusal.InUse) (list_all (λ n. n == 0) entered)) → in_front front (ops_tested s before entered []) ≡ in_front [] all → Answers {A = List WorkerOp} (λ l. l) r all
+  left_here a e = subst (λ (x : Result (List WorkerOp) Stop). Answers {A = List WorkerOp} (λ l. l) x all) (sym is) (by_why why a)
+    where
+      by_why : (w : Stop) → Answers {A = ⊤} (λ u. u) (Err w) (required (told.Step refusal.InUse) (list_all (λ n. n == 0) entered)) → Answers {A = List WorkerOp} (λ l. l) (Err w) all
+      by_why (stop.Refused t) refused = all_err all t (left_open s before entered front t refused ∙ e)
+      by_why stop.Memory refused = tt
+
+-- ---- the line of a worker
+
+module _ (s : ThreadScript) (os : List ThreadOp) (u v : ⊤) (room : required told.BadLine (nat_lt (length s.workers) MOST_WORKERS) ≡ Ok u) (lane : has_lane s (length s.workers) ≡ Ok v) where
+  worker_by : worker_added s os ≡ (ops_tested s (last_made s.shared) (replicate (length s.shared) 0) os >>= (λ ops. Ok (with_worker s ops)))
+  worker_by =
+      ap (λ (r : Result ⊤ Told). r >>= (λ x. has_lane s (length s.workers) >>= (λ y. ops_tested s (last_made s.shared) (replicate (length s.shared) 0) os >>= (λ ops. Ok (with_worker s ops))))) room
+      ∙ ap (λ (r : Result ⊤ Told). r >>= (λ y. ops_tested s (last_made s.shared) (replicate (length s.shared) 0) os >>= (λ ops. Ok (with_worker s ops)))) lane
+
+  pub worker_passed : (ops : List WorkerOp) → ops_tested s (last_made s.shared) (replicate (length s.shared) 0) os ≡ Ok ops → worker_added s os ≡ Ok (with_worker s ops)
+  worker_passed ops e = worker_by ∙ ap (λ (r : Result (List WorkerOp) Told). r >>= (λ ops. Ok (with_worker s ops))) e
+
+  pub worker_stopped : {U : Type 0} (r : Result U Stop) (why : Stop) → r ≡ Err why → Answers {A = List WorkerOp} (λ l. l) (Err why) (ops_tested s (last_made s.shared) (replicate (length s.shared) 0) os) → Adds s r (worker_added s os)
+  worker_stopped {U = U} r why is e = subst (λ (x : Result U Stop). Adds s x (worker_added s os)) (sym is) (by_why why e)
+    where
+      by_why : (w : Stop) → Answers {A = List WorkerOp} (λ l. l) (Err w) (ops_tested s (last_made s.shared) (replicate (length s.shared) 0) os) → Adds {U = U} s (Err w) (worker_added s os)
+      by_why (stop.Refused t) e = worker_by ∙ ap (λ (r : Result (List WorkerOp) Told). r >>= (λ ops. Ok (with_worker s ops))) e
+      by_why stop.Memory e = tt

@@ -1,0 +1,166 @@
+-- A refused line is told why, and that is never want of memory.
+use Rattle.std.proofs.Common.{◌≡◌, ◌≢◌, ℕ, ◌+◌, List, [], ◌∷◌, length, Bool, true, false, Ok, Err, refl, ap, subst, replicate}
+use Rattle.std.specs.Prelude.{Result, Option, Some, None, not, ◌==◌, nat_lt, if◌then◌else◌, ok_or}
+use Rattle.std.specs.List.{list_all}
+use Rattle.otel_state.specs.declared.op.Op.{Op}
+use Rattle.span_script.specs.declared.reply.Refusal.{Refusal}
+use Rattle.span_script.specs.declared.reply.Refusal.TheVariants as refusal
+use Rattle.span_script.specs.declared.reply.What.{What}
+use Rattle.span_script.specs.declared.reply.What.TheVariants as what
+use Rattle.span_script.specs.declared.settings.Settings.{Settings}
+use Rattle.span_script.specs.Admission.{OpeningRead, opening_read}
+use Rattle.span_script.specs.Effects.{is_bad_moment}
+use Rattle.span_script.specs.Setups.{span_site}
+use Rattle.trace_pipeline.specs.declared.told.Told.{Told}
+use Rattle.trace_pipeline.specs.declared.told.Told.TheVariants as told
+use Rattle.trace_pipeline.specs.Forms.{all_of}
+use Rattle.trace_pipeline.specs.Lines.{is_blank}
+use Rattle.trace_pipeline.specs.Spelled.{spelled, settings_spelled}
+use Rattle.thread_work.specs.declared.script.ThreadScript.{ThreadScript}
+use Rattle.thread_work.specs.declared.script.SharedLine.{SharedLine}
+use Rattle.thread_lines.specs.declared.limits.TheConstants.{MOST_WORKERS}
+use Rattle.thread_lines.specs.declared.line.ThreadLine.{ThreadLine}
+use Rattle.thread_lines.specs.declared.line.ThreadLine.TheVariants as line
+use Rattle.thread_lines.specs.declared.line.ThreadOp.{ThreadOp}
+use Rattle.thread_lines.specs.declared.line.ThreadCall.{ThreadCall}
+use Rattle.thread_lines.specs.declared.line.ThreadCall.TheVariants as said
+use Rattle.trace_records.specs.declared.finished.RefusedLine.{RefusedLine}
+use Rattle.trace_records.specs.Lines.{IsTold}
+use Rattle.thread_lines.specs.Steps.{◌>>=◌, required, unknown, named, in_time, has_lane, directives, begun, opened, script_opened, last_made, has_room, shared_added, move_of_call, entered_on, entered_after, is_shared, is_entered, call_tested, op_tested, ops_tested, worker_added, line_added, text_added, at_line, lines_added, script_from, script_of}
+use Rattle.thread_lines.specs.ThreadForm.{thread_form}
+
+-- what refuses is told
+abbrev pub Tells : {A : Type 0} → Result A Told → Type 0
+Tells r = (w : Told) → r ≡ Err w → IsTold w
+
+-- ---- single tests
+
+step_told : (r : Refusal) → r ≢ refusal.Memory → IsTold (told.Step r)
+step_told r other e = other (cc e)
+
+required_told : (t : Told) (b : Bool) → IsTold t → Tells (required t b)
+required_told t true is w e = absurd (cc e)
+required_told t false is w e = (let same : t ≡ w = cc e in subst IsTold same is)
+
+bad_line : IsTold told.BadLine
+bad_line e = cc e
+
+no_name : (w : What) → IsTold (unknown w)
+no_name w = step_told (refusal.UnknownName w) (λ e. cc e)
+
+named_told : {A : Type 0} (w : What) (o : Option A) → Tells (named w o)
+named_told w (Some x) v e = absurd (cc e)
+named_told w None v e = (let same : unknown w ≡ v = cc e in subst IsTold same (no_name w))
+
+none_told : {A : Type 0} (a : A) → Tells {A = A} (Ok a)
+none_told a w e = absurd (cc e)
+
+then_told : {A B : Type 0} (r : Result A Told) (go : A → Result B Told) → Tells r → ((a : A) → Tells (go a)) → Tells (r >>= go)
+then_told (Ok a) go first later w e = later a w e
+then_told (Err why) go first later w e = first w (let same : why ≡ w = cc e in ap Err same)
+
+time_told : (before at : ℕ) → Tells (in_time before at)
+time_told before at = required_told (told.Step (refusal.BadMoment before at)) (not (is_bad_moment before at)) (step_told (refusal.BadMoment before at) (λ e. cc e))
+
+lane_told : (s : ThreadScript) (place : ℕ) → Tells (has_lane s place)
+lane_told s place = required_told (unknown what.Lane) (nat_lt place (length s.lanes)) (no_name what.Lane)
+
+-- ---- lines
+
+spelled_told : {A : Type 0} (o : Option A) → Tells (ok_or o told.BadLine)
+spelled_told (Some x) w e = absurd (cc e)
+spelled_told None w e = (let same : told.BadLine ≡ w = cc e in subst IsTold same bad_line)
+
+directives_told : (r : OpeningRead) → Tells (directives r)
+directives_told (Ok read) w e = absurd (cc e)
+directives_told (Err unread) w e = (let same : told.Directive unread.0 unread.1 ≡ w = cc e in subst IsTold same (λ no. cc no))
+
+opened_told : (s : Settings) → Tells (opened s)
+opened_told s = then_told (directives (opening_read s.filter s.counting)) _ (directives_told (opening_read s.filter s.counting)) (λ a. none_told (begun s))
+
+shared_told : (s : ThreadScript) (l : SharedLine) → Tells (shared_added s l)
+shared_told s l =
+    then_told (required told.BadLine (has_room s)) _ (required_told told.BadLine (has_room s) bad_line) (λ a.
+    then_told (in_time (last_made s.shared) l.at) _ (time_told (last_made s.shared) l.at) (λ b.
+    then_told (has_lane s 0) _ (lane_told s 0) (λ c.
+    then_told (named what.Site (span_site s.callsites l.site)) _ (named_told what.Site (span_site s.callsites l.site)) (λ d. none_told _))))
+
+there_told : (s : ThreadScript) (span : ℕ) → Tells (is_shared s span)
+there_told s span = required_told (unknown what.Handle) (nat_lt span (length s.shared)) (no_name what.Handle)
+
+entered_told : (n : ℕ) (op : Op) → Tells (is_entered n op)
+entered_told n op = required_told (unknown what.Guard) _ (no_name what.Guard)
+
+call_told : (s : ThreadScript) (entered : List ℕ) (span : ℕ) (call : ThreadCall) → Tells (call_tested s entered span call)
+call_told s entered span (said.Record fields) = then_told (is_shared s span) _ (there_told s span) (λ a. none_told _)
+call_told s entered span (said.Event site fields) =
+    then_told _ _ (named_told what.Site _) (λ c.
+    then_told (is_shared s span) _ (there_told s span) (λ a.
+    then_told _ _ (named_told what.Field _) (λ v. none_told _)))
+call_told s entered span (said.Own op) =
+    then_told (is_shared s span) _ (there_told s span) (λ a.
+    then_told (is_entered (entered_on entered span) op) _ (entered_told (entered_on entered span) op) (λ b. none_told _))
+
+op_told : (s : ThreadScript) (before : ℕ) (entered : List ℕ) (o : ThreadOp) → Tells (op_tested s before entered o)
+op_told s before entered o =
+    then_told (in_time before o.at) _ (time_told before o.at) (λ a.
+    then_told (call_tested s entered o.span o.call) _ (call_told s entered o.span o.call) (λ c. none_told _))
+
+ops_told : (s : ThreadScript) (before : ℕ) (entered : List ℕ) (os : List ThreadOp) → Tells (ops_tested s before entered os)
+ops_told s before entered [] =
+    then_told _ _ (required_told (told.Step refusal.InUse) (list_all (λ n. n == 0) entered) (step_told refusal.InUse (λ e. cc e))) (λ a. none_told _)
+ops_told s before entered (o ∷ os) =
+    then_told (op_tested s before entered o) _ (op_told s before entered o) (λ op.
+    then_told (ops_tested s op.at (entered_after entered op.span (move_of_call op.what)) os) _ (ops_told s op.at (entered_after entered op.span (move_of_call op.what)) os) (λ ops. none_told _))
+
+worker_told : (s : ThreadScript) (os : List ThreadOp) → Tells (worker_added s os)
+worker_told s os =
+    then_told (required told.BadLine (nat_lt (length s.workers) MOST_WORKERS)) _ (required_told told.BadLine (nat_lt (length s.workers) MOST_WORKERS) bad_line) (λ a.
+    then_told (has_lane s (length s.workers)) _ (lane_told s (length s.workers)) (λ b.
+    then_told (ops_tested s (last_made s.shared) (replicate (length s.shared) 0) os) _ (ops_told s (last_made s.shared) (replicate (length s.shared) 0) os) (λ c. none_told _)))
+
+line_told : (s : ThreadScript) (l : ThreadLine) → Tells (line_added s l)
+line_told s (line.Shared at site) = shared_told s (record { at = at; site = site })
+line_told s (line.Worker ops) = worker_told s ops
+
+text_told : (s : ThreadScript) (text : List ℕ) → Tells (text_added s text)
+text_told s text = then_told (ok_or (spelled (all_of thread_form) text) told.BadLine) (line_added s) (spelled_told (spelled (all_of thread_form) text)) (λ l. line_told s l)
+
+-- ---- all lines
+
+abbrev pub TellsLine : {A : Type 0} → Result A RefusedLine → Type 0
+TellsLine r = (w : RefusedLine) → r ≡ Err w → IsTold w.told
+
+at_told : {A B : Type 0} (n : ℕ) (r : Result A Told) (go : A → Result B RefusedLine) → Tells r → ((a : A) → TellsLine (go a)) → TellsLine (at_line n r go)
+at_told n (Ok a) go first later w e = later a w e
+at_told n (Err why) go first later w e =
+    (let same : record { line = n; told = why } ≡ w = cc e in subst (λ (x : RefusedLine). IsTold x.told) same (first why refl))
+
+by_blank : {A : Type 0} (b : Bool) (one other : Result A RefusedLine) → TellsLine one → TellsLine other → TellsLine (if b then one else other)
+by_blank true one other x y = x
+by_blank false one other x y = y
+
+none_refused : {A : Type 0} (a : A) → TellsLine {A = A} (Ok a)
+none_refused a w e = absurd (cc e)
+
+refused_bad : {A : Type 0} (n : ℕ) → TellsLine {A = A} (Err (record { line = n; told = told.BadLine }))
+refused_bad n w e = (let same : record { line = n; told = told.BadLine } ≡ w = cc e in subst (λ (x : RefusedLine). IsTold x.told) same bad_line)
+
+added_told : (s : ThreadScript) (n : ℕ) (lines : List (List ℕ)) → TellsLine (lines_added s n lines)
+added_told s n [] = none_refused s
+added_told s n (text ∷ lines) =
+    by_blank (is_blank text) _ _ (added_told s (n + 1) lines)
+    (at_told (n + 1) (text_added s text) _ (text_told s text) (λ more. added_told more (n + 1) lines))
+
+settings_told : (t : List ℕ) → Tells (settings_spelled t)
+unfolding settings_spelled
+settings_told t = spelled_told _
+
+from_told : (n : ℕ) (lines : List (List ℕ)) → TellsLine (script_from n lines)
+from_told n [] = refused_bad (n + 1)
+from_told n (text ∷ lines) =
+    by_blank (is_blank text) _ _ (from_told (n + 1) lines)
+    (at_told (n + 1) (script_opened text) _ (then_told (settings_spelled text) opened (settings_told text) opened_told) (λ s. added_told s (n + 1) lines))
+
+pub script_told : (lines : List (List ℕ)) → TellsLine (script_of lines)
+script_told lines = from_told 0 lines

@@ -1,0 +1,4 @@
+pub mod ThreadForm
+pub mod Answers
+pub mod Steps
+pub mod Runnable

@@ -1,0 +1,33 @@
+-- What is known of a script whose lines passed their tests.
+use Rattle.std.specs.Prelude.{◌≡◌, ℕ, ◌<◌, ◌≤◌, List, [], ◌∷◌, length, true, false, is_some}
+use Rattle.env_directives.specs.declared.env.directive.Directive.{Directive}
+use Rattle.env_filter.specs.Pieces.{ReadsText}
+use Rattle.otel_state.specs.declared.times.TheConstants.{GREATEST}
+use Rattle.span_script.specs.Setups.{span_site}
+use Rattle.trace_base.specs.declared.callsite.Callsite.{Callsite}
+use Rattle.thread_work.specs.declared.script.SharedLine.{SharedLine}
+use Rattle.thread_work.specs.declared.script.ThreadScript.{ThreadScript}
+use Rattle.thread_work.specs.Plans.{plan_of}
+use Rattle.thread_work.specs.Tests.{AllTested}
+use Rattle.thread_lines.specs.declared.limits.TheConstants.{MOST_SPANS, MOST_WORKERS}
+
+-- each piece of a filter's text that isn't empty is a directive
+abbrev pub HasFilter : List ℕ → Type 0
+HasFilter text = (ds : List Directive) × ReadsText false text ds []
+
+-- a shared span isn't made too late, and is of a callsite of spans
+abbrev pub IsSharedLine : List Callsite → SharedLine → Type 0
+IsSharedLine callsites l = (l.at ≤ GREATEST) × (is_some (span_site callsites l.site) ≡ true)
+
+abbrev pub AreShared : List Callsite → List SharedLine → Type 0
+AreShared callsites [] = Unit {0}
+AreShared callsites (l ∷ ls) = IsSharedLine callsites l × AreShared callsites ls
+
+-- A script that workers may run.
+pub record IsRunnable (script : ThreadScript) : Type 0 where
+  pub filter : HasFilter script.filter
+  pub shared : AreShared script.callsites script.shared
+  pub lane : 0 < length script.shared → 0 < length script.lanes
+  pub tested : AllTested (plan_of script) script.workers
+  pub few_spans : length script.shared ≤ MOST_SPANS
+  pub few_workers : length script.workers ≤ MOST_WORKERS

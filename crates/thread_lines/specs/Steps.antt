@@ -1,0 +1,218 @@
+-- What each line adds to a script for threads, or the first refusal that applies.
+use Rattle.std.specs.Prelude.{ℕ, ◌+◌, ok_or, ◌&&◌, nat_lt, List, [], ◌∷◌, ◌++◌, length, Bool, true, false, not, if◌then◌else◌, Option, Some, None, Result, Ok, Err, set, slice_index_or, replicate, ◌==◌, ⊤}
+use Rattle.std.specs.List.{list_all}
+use Rattle.otel_state.specs.declared.op.Op.{Op}
+use Rattle.trace_threads.specs.Moves.{Move, enters, exits, stays, move_of, opens_after}
+use Rattle.thread_work.specs.declared.script.ThreadScript.{ThreadScript}
+use Rattle.thread_work.specs.declared.script.SharedLine.{SharedLine}
+use Rattle.thread_work.specs.declared.script.WorkerOp.{WorkerOp}
+use Rattle.thread_work.specs.declared.script.WorkerCall.{WorkerCall}
+use Rattle.thread_work.specs.declared.script.WorkerCall.TheVariants as work
+use Rattle.span_script.specs.declared.settings.Settings.{Settings}
+use Rattle.span_script.specs.declared.reply.Refusal.TheVariants as refusal
+use Rattle.span_script.specs.declared.reply.What.{What}
+use Rattle.span_script.specs.declared.reply.What.TheVariants as what
+use Rattle.span_script.specs.Admission.{OpeningRead, opening_read}
+use Rattle.span_script.specs.Effects.{is_bad_moment}
+use Rattle.span_script.specs.Fields.{all_values}
+use Rattle.span_script.specs.Setups.{span_site, event_site}
+use Rattle.trace_pipeline.specs.declared.told.Told.{Told}
+use Rattle.trace_pipeline.specs.declared.told.Told.TheVariants as told
+use Rattle.trace_pipeline.specs.Forms.{all_of}
+use Rattle.trace_pipeline.specs.Lines.{is_blank}
+use Rattle.trace_pipeline.specs.Spelled.{spelled, settings_spelled}
+use Rattle.thread_lines.specs.ThreadForm.{thread_form}
+use Rattle.trace_records.specs.declared.finished.RefusedLine.{RefusedLine}
+use Rattle.thread_lines.specs.declared.limits.TheConstants.{MOST_SPANS, MOST_WORKERS}
+use Rattle.thread_lines.specs.declared.line.ThreadCall.{ThreadCall}
+use Rattle.thread_lines.specs.declared.line.ThreadCall.TheVariants as said
+use Rattle.thread_lines.specs.declared.line.ThreadLine.{ThreadLine}
+use Rattle.thread_lines.specs.declared.line.ThreadLine.TheVariants as line
+use Rattle.thread_lines.specs.declared.line.ThreadOp.{ThreadOp}
+
+-- ---- one test after another
+
+-- goes on with what came of a test
+infixl 10 ◌>>=◌
+abbrev pub ◌>>=◌ : {A B : Type 0} → Result A Told → (A → Result B Told) → Result B Told
+(Ok a) >>= go = go a
+(Err why) >>= go = Err why
+
+-- refuses unless this holds
+abbrev pub required : Told → Bool → Result ⊤ Told
+required why true = Ok tt
+required why false = Err why
+
+-- a name names nothing
+abbrev pub unknown : What → Told
+unknown w = told.Step (refusal.UnknownName w)
+
+-- what a name names, which has to be there
+abbrev pub named : {A : Type 0} → What → Option A → Result A Told
+named w (Some x) = Ok x
+named w None = Err (unknown w)
+
+-- there is a lane at this place
+abbrev pub has_lane : ThreadScript → ℕ → Result ⊤ Told
+has_lane s place = required (unknown what.Lane) (nat_lt place (length s.lanes))
+
+-- the moment is neither too late nor below the one before
+abbrev pub in_time : ℕ → ℕ → Result ⊤ Told
+in_time before at = required (told.Step (refusal.BadMoment before at)) (not (is_bad_moment before at))
+
+-- ---- the settings line
+
+-- the script of some settings, before its lines
+abbrev pub begun : Settings → ThreadScript
+begun s = record { filter = s.filter; callsites = s.callsites; lanes = s.lanes; layer = s.layer; shared = []; workers = [] }
+
+-- a text of directives that isn't read is refused
+abbrev pub directives : OpeningRead → Result ⊤ Told
+directives (Ok read) = Ok tt
+directives (Err unread) = Err (told.Directive unread.0 unread.1)
+
+abbrev pub opened : Settings → Result ThreadScript Told
+opened s = do
+  read ← directives (opening_read s.filter s.counting)
+  Ok (begun s)
+
+-- the script of a settings line
+abbrev pub script_opened : List ℕ → Result ThreadScript Told
+script_opened text = settings_spelled text >>= opened
+
+-- ---- the line of a shared span
+
+-- the moment of the last shared span, 0 where there is none
+abbrev pub last_made : List SharedLine → ℕ
+last_made [] = 0
+last_made (l ∷ []) = l.at
+last_made (l ∷ m ∷ ls) = last_made (m ∷ ls)
+
+abbrev pub no_workers : List (List WorkerOp) → Bool
+no_workers [] = true
+no_workers (ops ∷ workers) = false
+
+-- shared spans come before workers, and there is a most
+abbrev pub has_room : ThreadScript → Bool
+has_room s = no_workers s.workers && nat_lt (length s.shared) MOST_SPANS
+
+abbrev pub with_shared : ThreadScript → SharedLine → ThreadScript
+with_shared s l = record s { shared = s.shared ++ l ∷ [] }
+
+-- the first lane is that of the shared spans
+abbrev pub shared_added : ThreadScript → SharedLine → Result ThreadScript Told
+shared_added s l = do
+  room ← required told.BadLine (has_room s)
+  time ← in_time (last_made s.shared) l.at
+  lane ← has_lane s 0
+  callsite ← named what.Site (span_site s.callsites l.site)
+  Ok (with_shared s l)
+
+-- ---- a call of a worker
+
+-- whether a call opens an entry or closes one
+abbrev pub move_of_call : WorkerCall → Move
+move_of_call (work.Record fields) = stays
+move_of_call (work.Event site values) = stays
+move_of_call (work.Own op) = move_of op
+
+-- how many entries a worker has open on a span, of these numbers for all spans
+abbrev pub entered_on : List ℕ → ℕ → ℕ
+entered_on entered span = slice_index_or entered span 0
+
+abbrev pub entered_after : List ℕ → ℕ → Move → List ℕ
+entered_after entered span m = set entered span (opens_after (entered_on entered span) m)
+
+-- there is such a shared span
+abbrev pub is_shared : ThreadScript → ℕ → Result ⊤ Told
+is_shared s span = required (unknown what.Handle) (nat_lt span (length s.shared))
+
+-- an exit needs an open entry, so many being open
+abbrev pub has_entry_for : ℕ → Move → Bool
+has_entry_for n exits = nat_lt 0 n
+has_entry_for n enters = true
+has_entry_for n stays = true
+
+abbrev pub is_entered : ℕ → Op → Result ⊤ Told
+is_entered n op = required (unknown what.Guard) (has_entry_for n (move_of op))
+
+-- an op, where so many entries are open on the span
+abbrev pub own_tested : ℕ → Op → Result WorkerCall Told
+own_tested n op = do
+  open_there ← is_entered n op
+  Ok (work.Own op)
+
+-- a call on a span, where the worker has so many entries open on each
+abbrev pub call_tested : ThreadScript → List ℕ → ℕ → ThreadCall → Result WorkerCall Told
+call_tested s entered span (said.Record fields) = do
+  there ← is_shared s span
+  Ok (work.Record fields)
+call_tested s entered span (said.Event site fields) = do
+  callsite ← named what.Site (event_site s.callsites site)
+  there ← is_shared s span
+  values ← named what.Field (all_values callsite fields)
+  Ok (work.Event site values)
+call_tested s entered span (said.Own op) = do
+  there ← is_shared s span
+  own_tested (entered_on entered span) op
+
+abbrev pub op_tested : ThreadScript → ℕ → List ℕ → ThreadOp → Result WorkerOp Told
+op_tested s before entered o = do
+  time ← in_time before o.at
+  call ← call_tested s entered o.span o.call
+  Ok (record { at = o.at; span = o.span; what = call })
+
+-- the calls of a worker, the last of those before them having come at a moment; at their end no entry may be open
+abbrev pub ops_tested : ThreadScript → ℕ → List ℕ → List ThreadOp → Result (List WorkerOp) Told
+ops_tested s before entered [] = required (told.Step refusal.InUse) (list_all (λ n. n == 0) entered) >>= (λ closed. Ok [])
+ops_tested s before entered (o ∷ os) =
+    op_tested s before entered o
+    >>= (λ op. ops_tested s op.at (entered_after entered op.span (move_of_call op.what)) os >>= (λ ops. Ok (op ∷ ops)))
+
+-- ---- the line of a worker
+
+abbrev pub with_worker : ThreadScript → List WorkerOp → ThreadScript
+with_worker s ops = record s { workers = s.workers ++ ops ∷ [] }
+
+-- each worker has a lane of its own
+abbrev pub worker_added : ThreadScript → List ThreadOp → Result ThreadScript Told
+worker_added s os = do
+  room ← required told.BadLine (nat_lt (length s.workers) MOST_WORKERS)
+  lane ← has_lane s (length s.workers)
+  ops ← ops_tested s (last_made s.shared) (replicate (length s.shared) 0) os
+  Ok (with_worker s ops)
+
+-- ---- any line
+
+abbrev pub line_added : ThreadScript → ThreadLine → Result ThreadScript Told
+line_added s (line.Shared at site) = shared_added s (record { at = at; site = site })
+line_added s (line.Worker ops) = worker_added s ops
+
+-- ---- all lines
+
+-- what a line behind the settings line adds
+abbrev pub text_added : ThreadScript → List ℕ → Result ThreadScript Told
+text_added s text = ok_or (spelled (all_of thread_form) text) told.BadLine >>= line_added s
+
+-- refused at a line
+abbrev pub at_line : {A B : Type 0} → ℕ → Result A Told → (A → Result B RefusedLine) → Result B RefusedLine
+at_line number (Ok a) go = go a
+at_line number (Err why) go = Err (record { line = number; told = why })
+
+-- what the lines behind the settings line add, so many lines having come before; blank ones are counted and left out
+abbrev pub lines_added : ThreadScript → ℕ → List (List ℕ) → Result ThreadScript RefusedLine
+lines_added s n [] = Ok s
+lines_added s n (text ∷ lines) =
+    if is_blank text then lines_added s (n + 1) lines else
+    at_line (n + 1) (text_added s text) (λ more. lines_added more (n + 1) lines)
+
+-- The first line that isn't blank is the settings line. If there is none, the lines are refused at their end.
+abbrev pub script_from : ℕ → List (List ℕ) → Result ThreadScript RefusedLine
+script_from n [] = Err (record { line = n + 1; told = told.BadLine })
+script_from n (text ∷ lines) =
+    if is_blank text then script_from (n + 1) lines else
+    at_line (n + 1) (script_opened text) (λ s. lines_added s (n + 1) lines)
+
+-- the script that lines come to, or the first line that is refused
+abbrev pub script_of : List (List ℕ) → Result ThreadScript RefusedLine
+script_of lines = script_from 0 lines

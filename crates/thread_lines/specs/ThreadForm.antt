@@ -1,0 +1,150 @@
+-- The forms of the lines of scripts for threads.
+use Rattle.std.specs.Prelude.{ℕ, ◌==◌, ◌||◌, List, Option, Some, None, option_map, option_and_then, if◌then◌else◌, codes, bytes_eq}
+use Rattle.serde_json.specs.Data.{Data}
+use Rattle.serde_json.specs.Find.{as_array, as_str}
+use Rattle.otel_base.specs.declared.context.SpanContext.{SpanContext}
+use Rattle.otel_state.specs.declared.op.Op.{Op}
+use Rattle.otel_state.specs.declared.op.Op.TheVariants as op
+use Rattle.span_script.specs.Effects.{happens_at}
+use Rattle.thread_lines.specs.declared.read.op.OpWord.{OpWord}
+use Rattle.thread_lines.specs.declared.read.op.OpWord.TheVariants as word
+use Rattle.thread_lines.specs.declared.line.ThreadCall.{ThreadCall}
+use Rattle.thread_lines.specs.declared.line.ThreadCall.TheVariants as calls
+use Rattle.thread_lines.specs.declared.line.ThreadOp.{ThreadOp}
+use Rattle.thread_lines.specs.declared.line.ThreadLine.{ThreadLine}
+use Rattle.thread_lines.specs.declared.line.ThreadLine.TheVariants as line
+use Rattle.trace_pipeline.specs.AttributeForm.{otel_value_of, attributes_form, status_of}
+use Rattle.trace_pipeline.specs.ExtensionForm.{time_form}
+use Rattle.trace_pipeline.specs.FieldForm.{fields_of}
+use Rattle.trace_pipeline.specs.Forms.{Form, ◌>>=◌, give, when, whole, text, member, optional, each, object_of}
+use Rattle.trace_pipeline.specs.Hex.{id_word, long_id_word}
+use Rattle.trace_pipeline.specs.RequestForm.{fields_form}
+
+-- the words of `do` that workers have
+abbrev pub word_of_op : List ℕ → Option OpWord
+word_of_op w =
+    if bytes_eq w (codes "record") then Some word.Record else
+    (if bytes_eq w (codes "event") then Some word.Event else
+    (if bytes_eq w (codes "set_attribute") then Some word.SetAttribute else
+    (if bytes_eq w (codes "set_status") then Some word.SetStatus else
+    (if bytes_eq w (codes "add_event") then Some word.AddEvent else
+    (if bytes_eq w (codes "add_link") then Some word.AddLink else
+    (if bytes_eq w (codes "enter") then Some word.Enter else
+    (if bytes_eq w (codes "exit") then Some word.Exit else
+    (if bytes_eq w (codes "start") then Some word.Start else None))))))))
+
+abbrev pub word_form : Form OpWord
+word_form = do
+  w ← text (codes "do")
+  when (word_of_op w)
+
+-- ---- what each word goes on with
+
+unfoldable pub record_op_form : Form ThreadCall
+record_op_form = do
+  there ← member (codes "fields")
+  fields ← when (fields_of there)
+  give (calls.Record fields)
+
+unfoldable pub event_op_form : Form ThreadCall
+event_op_form = do
+  site ← whole (codes "site")
+  fields ← fields_form
+  give (calls.Event site fields)
+
+unfoldable pub attribute_op_form : Form Op
+attribute_op_form = do
+  key ← text (codes "key")
+  there ← member (codes "value")
+  value ← when (otel_value_of there)
+  give (op.SetAttribute (record { key = key; value = value }))
+
+unfoldable pub status_op_form : Form Op
+status_op_form = do
+  there ← member (codes "status")
+  status ← when (status_of there)
+  give (op.SetStatus status)
+
+-- an event at the time that is said, else at the moment of its op
+unfoldable pub added_event_form : ℕ → Form Op
+added_event_form at = do
+  name ← text (codes "name")
+  attributes ← attributes_form
+  time ← time_form
+  give (op.AddEvent (record { name = name; time = happens_at at time; attributes = attributes }))
+
+-- ids of which neither is 0
+abbrev pub valid_context : ℕ → ℕ → Option SpanContext
+valid_context trace span = if (trace == 0) || (span == 0) then None else Some (record { trace = trace; span = span })
+
+-- ids are texts of all their digits
+abbrev pub trace_id_of : Data → Option ℕ
+trace_id_of d = option_and_then long_id_word (as_str d)
+
+abbrev pub span_id_of : Data → Option ℕ
+span_id_of d = option_and_then id_word (as_str d)
+
+unfoldable pub link_op_form : Form Op
+link_op_form = do
+  trace_there ← member (codes "trace")
+  trace ← when (trace_id_of trace_there)
+  span_there ← member (codes "span_id")
+  span ← when (span_id_of span_there)
+  context ← when (valid_context trace span)
+  attributes ← attributes_form
+  give (op.Link (record { context = context; attributes = attributes }))
+
+-- an op by itself
+abbrev pub own : Form Op → Form ThreadCall
+own form = do
+  o ← form
+  give (calls.Own o)
+
+-- the ids of a start are those of the span's making
+abbrev pub no_ids : SpanContext
+no_ids = record { trace = 0; span = 0 }
+
+abbrev pub call_form : ℕ → OpWord → Form ThreadCall
+call_form at word.Record = record_op_form
+call_form at word.Event = event_op_form
+call_form at word.SetAttribute = own attribute_op_form
+call_form at word.SetStatus = own status_op_form
+call_form at word.AddEvent = own (added_event_form at)
+call_form at word.AddLink = own link_op_form
+call_form at word.Enter = give (calls.Own op.Enter)
+call_form at word.Exit = give (calls.Own op.Exit)
+call_form at word.Start = give (calls.Own (op.Start no_ids))
+
+-- ---- lines
+
+-- a moment, a shared span, and what is done there
+unfoldable pub op_form : Form ThreadOp
+op_form = do
+  at ← whole (codes "at")
+  span ← whole (codes "span")
+  w ← word_form
+  what ← call_form at w
+  give (record { at = at; span = span; call = what })
+
+abbrev pub op_of : Data → Option ThreadOp
+op_of d = object_of op_form d
+
+-- a worker: what it does, in order
+abbrev pub worker_of : Data → Option ThreadLine
+worker_of d = option_map line.Worker (option_and_then (each op_of) (as_array d))
+
+-- a shared span: its moment and its callsite
+unfoldable pub shared_form : Form ThreadLine
+shared_form = do
+  at ← whole (codes "at")
+  site ← whole (codes "shared")
+  give (line.Shared at site)
+
+abbrev pub worker_or_shared : Option Data → Form ThreadLine
+worker_or_shared (Some d) = when (worker_of d)
+worker_or_shared None = shared_form
+
+unfoldable pub thread_form : Form ThreadLine
+thread_form = do
+  there ← optional (codes "worker")
+  worker_or_shared there

@@ -1,0 +1,130 @@
+//! What one line adds to a script for threads.
+ghost use Rattle.std.specs.Prelude.{◌≡◌, IfOk, OnOk};
+ghost use Rattle.span_script.specs.Admission.{judged, text_read, opening_read};
+ghost use Rattle.thread_lines.specs.Answers.{Answers, Adds, stop_of};
+ghost use Rattle.thread_lines.specs.Runnable.{HasFilter, IsRunnable};
+ghost use Rattle.thread_lines.specs.Steps.{last_made, directives, script_opened, shared_added, worker_added, text_added};
+
+use crate::limits::{MOST_SPANS, MOST_WORKERS};
+use crate::line::{ThreadLine, ThreadOp};
+use crate::read::read_thread_line;
+use crate::require::{require, span_site, test_lane, test_moment};
+use crate::stop::Stop;
+use crate::worker_ops::test_ops;
+use event_gate::{GateError, TextFilter};
+use otel_base::list::Items;
+use otel_base::memory::Memory;
+use otel_base::record::Moment;
+use otel_base::text::Text;
+use std::alloc::Global;
+use thread_work::{SharedLine, ThreadScript};
+use trace_pipeline::{LineError, Settings, Told, read_settings};
+
+// Why nothing was read of a line.
+fn unread(error: LineError) -> Stop
+    ensures { result ≡ stop_of error }
+{
+    match error {
+        LineError::BadLine => Stop::Refused {
+            told: Told::BadLine,
+        },
+        LineError::Memory => Stop::Memory,
+    }
+}
+
+// Tests the text of a filter, which is one for counting or not.
+fn test_directives(alloc: Global, counting: bool, text: &Text) -> Result<(), Stop>
+    ensures directives { Answers (λ u. u) result (directives (judged counting (text_read text.now))) }
+    ensures filter { OnOk result (HasFilter text.now) }
+{
+    match TextFilter::read(alloc, text.as_str()) {
+        Ok(_) => Ok(()),
+        Err(GateError::Directive { piece }) => Err(Stop::Refused {
+            told: Told::Directive { counting, piece },
+        }),
+        Err(GateError::Memory) => Err(Stop::Memory),
+    }
+}
+
+// Tests the texts of settings, that of the filter first.
+fn test_texts(alloc: Global, settings: &Settings) -> Result<(), Stop>
+    ensures directives { Answers (λ u. u) result (directives (opening_read settings.now.filter settings.now.counting)) }
+    ensures filter { OnOk result (HasFilter settings.now.filter) }
+{
+    test_directives(alloc, false, &settings.filter)?;
+    match &settings.counting {
+        Some(text) => test_directives(alloc, true, text),
+        None => Ok(()),
+    }
+}
+
+/// The script of a settings line, before its other lines.
+pub(crate) fn open_script(alloc: Global, line: &[u8]) -> Result<ThreadScript, Stop>
+    ensures opened { Answers (λ s. s) result (script_opened line.now) }
+    ensures runnable { IfOk result IsRunnable }
+{
+    let settings = read_settings(alloc, line).map_err(unread)?;
+    test_texts(alloc, &settings)?;
+    let Settings {
+        filter,
+        counting: _,
+        lanes,
+        callsites,
+        layer,
+    } = settings;
+    Ok(ThreadScript {
+        filter,
+        callsites,
+        lanes,
+        layer,
+        shared: Items::new(alloc),
+        workers: Items::new(alloc),
+    })
+}
+
+// The moment of the last shared span, 0 where there is none.
+fn last_made(shared: &[SharedLine]) -> Moment
+    ensures { result ≡ last_made shared.now }
+{
+    match shared.last() {
+        Some(line) => line.at,
+        None => 0,
+    }
+}
+
+// Adds a shared span.
+fn add_shared(script: &mut ThreadScript, line: SharedLine) -> Result<(), Stop>
+    ensures { Adds script.new result (shared_added script.old line) }
+{
+    let shared = script.shared.as_slice();
+    let has_room = script.workers.as_slice().is_empty() && shared.len() < MOST_SPANS;
+    require(Told::BadLine, has_room)?;
+    test_moment(last_made(shared), line.at)?;
+    test_lane(script, 0)?;
+    span_site(script, line.site)?;
+    script.shared.push(line)?;
+    Ok(())
+}
+
+// Adds a worker.
+fn add_worker(alloc: Global, script: &mut ThreadScript, ops: Items<ThreadOp>) -> Result<(), Stop>
+    ensures { Adds script.new result (worker_added script.old ops) }
+{
+    let worker = script.workers.as_slice().len();
+    require(Told::BadLine, worker < MOST_WORKERS)?;
+    test_lane(script, worker)?;
+    let made = last_made(script.shared.as_slice());
+    let ops = test_ops(alloc, script, made, ops)?;
+    script.workers.push(ops)?;
+    Ok(())
+}
+
+/// Adds the line behind the settings line that a text spells.
+pub(crate) fn add_text(alloc: Global, script: &mut ThreadScript, text: &[u8]) -> Result<(), Stop>
+    ensures { Adds script.new result (text_added script.old text.now) }
+{
+    match read_thread_line(alloc, text).map_err(unread)? {
+        ThreadLine::Shared { at, site } => add_shared(script, SharedLine { at, site }),
+        ThreadLine::Worker { ops } => add_worker(alloc, script, ops),
+    }
+}

@@ -1,0 +1,212 @@
+//! What a call of a worker spells.
+ghost use Rattle.std.specs.Prelude.{◌≡◌};
+ghost use Rattle.serde_json.specs.View.{view};
+ghost use Rattle.trace_pipeline.specs.AttributeForm.{attributes_form};
+ghost use Rattle.trace_pipeline.specs.ExtensionForm.{as_moment, time_form};
+ghost use Rattle.trace_pipeline.specs.Gives.{Gives};
+ghost use Rattle.line_members.specs.Left.{left};
+ghost use Rattle.thread_lines.specs.ThreadForm.{word_of_op, word_form, record_op_form, event_op_form, attribute_op_form, status_op_form, added_event_form, valid_context, link_op_form, call_form, op_form};
+
+use crate::line::{ThreadCall, ThreadOp};
+use line_members::Members;
+use line_members::members::whole_of;
+use otel_base::context::SpanContext;
+use otel_base::list::Items;
+use otel_base::record::{Link, Moment, OtelEvent};
+use otel_base::value::KeyValue;
+use otel_state::Op;
+use serde_json::Value as Json;
+use std::alloc::Global;
+use trace_pipeline::{
+    LAST_MOMENT, LineError, read_attribute_value, read_attributes, read_fields, read_span_id,
+    read_status, read_trace_id,
+};
+
+// The words of `do` that workers have.
+#[derive(Clone, Copy)]
+pub(crate) enum OpWord {
+    Record,
+    Event,
+    SetAttribute,
+    SetStatus,
+    AddEvent,
+    AddLink,
+    Enter,
+    Exit,
+    Start,
+}
+
+fn word_of_op(word: &str) -> Option<OpWord>
+    ensures { result ≡ word_of_op word.now }
+{
+    match word {
+        "record" => Some(OpWord::Record),
+        "event" => Some(OpWord::Event),
+        "set_attribute" => Some(OpWord::SetAttribute),
+        "set_status" => Some(OpWord::SetStatus),
+        "add_event" => Some(OpWord::AddEvent),
+        "add_link" => Some(OpWord::AddLink),
+        "enter" => Some(OpWord::Enter),
+        "exit" => Some(OpWord::Exit),
+        "start" => Some(OpWord::Start),
+        _ => None,
+    }
+}
+
+// Takes the word of what is to be done.
+fn op_word(members: &mut Members) -> Result<OpWord, LineError>
+    ensures { Gives (λ w. (w, left members.new)) result (word_form (left members.old)) }
+{
+    let word = members.text("do")?;
+    word_of_op(word.as_str()).ok_or(LineError::BadLine)
+}
+
+// Takes the attributes that are given, which are none where nothing is said.
+fn given_attributes(alloc: Global, members: &mut Members) -> Result<Items<KeyValue>, LineError>
+    ensures { Gives (λ l. (l, left members.new)) result (attributes_form (left members.old)) }
+{
+    match members.optional("attributes") {
+        Some(value) => read_attributes(alloc, &value),
+        None => Ok(Items::new(alloc)),
+    }
+}
+
+// A moment up to the last.
+fn moment_of(value: &Json) -> Result<Moment, LineError>
+    ensures { Gives (λ n. n) result (as_moment (view value.now)) }
+{
+    let at = whole_of(value)?;
+    if at <= LAST_MOMENT {
+        Ok(at)
+    } else {
+        Err(LineError::BadLine)
+    }
+}
+
+// Takes the time of an event, if it is said.
+fn time(members: &mut Members) -> Result<Option<Moment>, LineError>
+    ensures { Gives (λ t. (t, left members.new)) result (time_form (left members.old)) }
+{
+    match members.optional("time") {
+        Some(value) => Ok(Some(moment_of(&value)?)),
+        None => Ok(None),
+    }
+}
+
+#[tactic(auto, unfolding(crate::specs::ThreadForm::record_op_form))]
+fn record_op(alloc: Global, members: &mut Members) -> Result<ThreadCall, LineError>
+    ensures { Gives (λ c. (c, left members.new)) result (record_op_form (left members.old)) }
+{
+    let value = members.member("fields")?;
+    let fields = read_fields(alloc, &value)?;
+    Ok(ThreadCall::Record { fields })
+}
+
+#[tactic(auto, unfolding(crate::specs::ThreadForm::event_op_form))]
+fn event_op(alloc: Global, members: &mut Members) -> Result<ThreadCall, LineError>
+    ensures { Gives (λ c. (c, left members.new)) result (event_op_form (left members.old)) }
+{
+    let site = members.whole("site")?;
+    let fields = members.given_fields(alloc)?;
+    Ok(ThreadCall::Event { site, fields })
+}
+
+#[tactic(auto, unfolding(crate::specs::ThreadForm::attribute_op_form))]
+fn attribute_op(alloc: Global, members: &mut Members) -> Result<Op, LineError>
+    ensures { Gives (λ o. (o, left members.new)) result (attribute_op_form (left members.old)) }
+{
+    let key = members.text("key")?;
+    let value = members.member("value")?;
+    let value = read_attribute_value(alloc, &value)?;
+    let pair = KeyValue { key, value };
+    Ok(Op::SetAttribute { pair })
+}
+
+#[tactic(auto, unfolding(crate::specs::ThreadForm::status_op_form))]
+fn status_op(alloc: Global, members: &mut Members) -> Result<Op, LineError>
+    ensures { Gives (λ o. (o, left members.new)) result (status_op_form (left members.old)) }
+{
+    let value = members.member("status")?;
+    let status = read_status(alloc, &value)?;
+    Ok(Op::SetStatus { status })
+}
+
+// An event at the time that is said, else at the moment of its call.
+#[tactic(auto, unfolding(crate::specs::ThreadForm::added_event_form))]
+fn added_event(alloc: Global, at: Moment, members: &mut Members) -> Result<Op, LineError>
+    ensures { Gives (λ o. (o, left members.new)) result (added_event_form at (left members.old)) }
+{
+    let name = members.text("name")?;
+    let attributes = given_attributes(alloc, members)?;
+    let time = time(members)?.unwrap_or(at);
+    let event = OtelEvent {
+        name,
+        time,
+        attributes,
+    };
+    Ok(Op::AddEvent { event })
+}
+
+// Ids of which neither may be 0.
+fn valid_context(trace: u128, span: u64) -> Result<SpanContext, LineError>
+    ensures { Gives (λ c. c) result (valid_context trace span) }
+{
+    if trace == 0 || span == 0 {
+        return Err(LineError::BadLine);
+    }
+    Ok(SpanContext { trace, span })
+}
+
+#[tactic(auto, unfolding(crate::specs::ThreadForm::link_op_form))]
+fn link_op(alloc: Global, members: &mut Members) -> Result<Op, LineError>
+    ensures { Gives (λ o. (o, left members.new)) result (link_op_form (left members.old)) }
+{
+    let trace = members.member("trace")?;
+    let trace = read_trace_id(&trace)?;
+    let span = members.member("span_id")?;
+    let span = read_span_id(&span)?;
+    let context = valid_context(trace, span)?;
+    let attributes = given_attributes(alloc, members)?;
+    let link = Link {
+        context,
+        attributes,
+    };
+    Ok(Op::Link { link })
+}
+
+// What a word goes on with.
+fn call(
+    alloc: Global,
+    at: Moment,
+    word: OpWord,
+    members: &mut Members,
+) -> Result<ThreadCall, LineError>
+    ensures { Gives (λ c. (c, left members.new)) result (call_form at word (left members.old)) }
+{
+    let op = match word {
+        OpWord::Record => return record_op(alloc, members),
+        OpWord::Event => return event_op(alloc, members),
+        OpWord::SetAttribute => attribute_op(alloc, members)?,
+        OpWord::SetStatus => status_op(alloc, members)?,
+        OpWord::AddEvent => added_event(alloc, at, members)?,
+        OpWord::AddLink => link_op(alloc, members)?,
+        OpWord::Enter => Op::Enter,
+        OpWord::Exit => Op::Exit,
+        OpWord::Start => Op::Start {
+            own: SpanContext { trace: 0, span: 0 },
+        },
+    };
+    Ok(ThreadCall::Own { op })
+}
+
+/// Takes the members of a call.
+#[tactic(auto, unfolding(crate::specs::ThreadForm::op_form))]
+pub(crate) fn op(alloc: Global, members: &mut Members) -> Result<ThreadOp, LineError>
+    ensures { Gives (λ o. (o, left members.new)) result (op_form (left members.old)) }
+{
+    let at = members.whole("at")?;
+    let span = members.whole("span")?;
+    let word = op_word(members)?;
+    let call = call(alloc, at, word, members)?;
+    Ok(ThreadOp { at, span, call })
+}

@@ -1,0 +1,72 @@
+//! The tests that lines of both kinds have to pass.
+ghost use Rattle.std.specs.Prelude.{◌≡◌};
+ghost use Rattle.span_script.specs.Setups.{span_site, event_site};
+ghost use Rattle.span_script.specs.declared.reply.What.TheVariants.{Site};
+ghost use Rattle.thread_lines.specs.Answers.{Answers};
+ghost use Rattle.thread_lines.specs.Steps.{required, named, in_time, unknown, has_lane};
+
+use crate::stop::Stop;
+use otel_base::record::Moment;
+use thread_work::ThreadScript;
+use trace_base::callsite::{Callsite, Kind};
+use trace_pipeline::{LAST_MOMENT, Refusal, Told, What};
+
+/// Refuses unless this holds.
+pub(crate) fn require(told: Told, holds: bool) -> Result<(), Stop>
+    ensures { Answers (λ u. u) result (required told holds) }
+{
+    if holds {
+        Ok(())
+    } else {
+        Err(Stop::Refused { told })
+    }
+}
+
+/// The refusal of a name that names nothing.
+pub(crate) fn unknown(what: What) -> Told
+    ensures { result ≡ unknown what }
+{
+    Told::Step {
+        refusal: Refusal::UnknownName { what },
+    }
+}
+
+/// Tests that a moment is neither too late nor below the one before.
+pub(crate) fn test_moment(before: Moment, at: Moment) -> Result<(), Stop>
+    ensures { Answers (λ u. u) result (in_time before at) }
+{
+    let refusal = Refusal::BadMoment { before, given: at };
+    let is_bad = at < before || at > LAST_MOMENT;
+    require(Told::Step { refusal }, !is_bad)
+}
+
+/// Tests that there is a lane at a place.
+pub(crate) fn test_lane(script: &ThreadScript, place: usize) -> Result<(), Stop>
+    ensures { Answers (λ u. u) result (has_lane script.now place) }
+{
+    require(unknown(What::Lane), place < script.lanes.as_slice().len())
+}
+
+/// The callsite at a place, which has to make spans.
+pub(crate) fn span_site(script: &ThreadScript, place: u64) -> Result<&Callsite, Stop>
+    ensures { Answers (λ c. c.now) result (named Site (span_site script.now.callsites place)) }
+{
+    match script.callsites.as_slice().get(place as usize) {
+        Some(callsite) if callsite.kind == Kind::Span => Ok(callsite),
+        _ => Err(Stop::Refused {
+            told: unknown(What::Site),
+        }),
+    }
+}
+
+/// The callsite at a place, which has to make events.
+pub(crate) fn event_site(script: &ThreadScript, place: u64) -> Result<&Callsite, Stop>
+    ensures { Answers (λ c. c.now) result (named Site (event_site script.now.callsites place)) }
+{
+    match script.callsites.as_slice().get(place as usize) {
+        Some(callsite) if callsite.kind == Kind::Event => Ok(callsite),
+        _ => Err(Stop::Refused {
+            told: unknown(What::Site),
+        }),
+    }
+}

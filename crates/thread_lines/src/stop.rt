@@ -1,0 +1,32 @@
+//! Why a script isn't gone on with.
+ghost use Rattle.std.specs.Prelude.{◌≡◌};
+ghost use Rattle.thread_lines.specs.declared.stop.Stop.TheVariants as stop;
+
+use otel_base::memory;
+use std::alloc::AllocError;
+use trace_pipeline::Told;
+
+/// Why a script isn't gone on with.
+#[derive(Clone, Copy)]
+pub enum Stop {
+    /// A line is refused.
+    Refused { told: Told },
+    /// No memory was to be had.
+    Memory,
+}
+
+impl From<memory::Memory> for Stop {
+    ghost from_gives = { λ _ e. e ≡ stop.Memory };
+
+    fn from(_error: memory::Memory) -> Stop {
+        Stop::Memory
+    }
+}
+
+impl From<AllocError> for Stop {
+    ghost from_gives = { λ _ e. e ≡ stop.Memory };
+
+    fn from(_error: AllocError) -> Stop {
+        Stop::Memory
+    }
+}

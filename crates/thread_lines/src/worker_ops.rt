@@ -1,0 +1,169 @@
+//! Testing the calls of a worker.
+ghost use Rattle.std.specs.List.{list_all};
+ghost use Rattle.std.specs.Prelude.{◌≡◌, ◌<◌, ◌==◌, IfOk, OnOk, length, replicate};
+ghost use Rattle.span_script.specs.Fields.{all_values};
+ghost use Rattle.span_script.specs.declared.reply.What.TheVariants.{Field};
+ghost use Rattle.thread_lines.specs.Answers.{Answers};
+ghost use Rattle.thread_lines.specs.Steps.{named, is_shared, has_entry_for, own_tested, move_of_call, entered_after, call_tested, op_tested, ops_tested};
+ghost use Rattle.trace_threads.specs.Moves.{move_of, opens_after};
+
+use crate::line::{ThreadCall, ThreadOp};
+use crate::require::{event_site, require, test_moment, unknown};
+use crate::stop::Stop;
+use otel_base::list::Items;
+use otel_base::memory::Memory;
+use otel_base::record::Moment;
+use otel_base::text::Text;
+use otel_state::Op;
+use std::alloc::Global;
+use thread_work::{ThreadScript, WorkerCall, WorkerOp, values_of};
+use trace_base::callsite::Callsite;
+use trace_base::field::{Value, ValueSet};
+use trace_pipeline::{Refusal, Told, What};
+
+// Tests that there is a shared span at a place.
+fn test_span(script: &ThreadScript, span: u64) -> Result<(), Stop>
+    ensures { Answers (λ u. u) result (is_shared script.now span) }
+{
+    let count = script.shared.as_slice().len() as u64;
+    require(unknown(What::Handle), span < count)
+}
+
+// The values of fields, each of which the callsite has to declare.
+fn all_values(
+    alloc: Global,
+    callsite: &Callsite,
+    fields: Items<(Text, Value)>,
+) -> Result<ValueSet, Stop>
+    ensures { Answers (λ v. v) result (named Field (all_values callsite.now fields)) }
+{
+    let given = fields.as_slice().len();
+    let values = values_of(alloc, callsite, fields)?;
+    if values.pairs.as_slice().len() < given {
+        return Err(Stop::Refused {
+            told: unknown(What::Field),
+        });
+    }
+    Ok(values)
+}
+
+// Whether an op may come where so many entries are open.
+fn may_come(entries: u64, op: &Op) -> bool
+    ensures { result ≡ has_entry_for entries (move_of op.now) }
+{
+    match op {
+        Op::Exit => entries > 0,
+        _ => true,
+    }
+}
+
+// An op of a worker, where it has so many entries open on the span: an exit needs one.
+fn own_call(entries: u64, op: Op) -> Result<WorkerCall, Stop>
+    ensures { Answers (λ c. c) result (own_tested entries op) }
+{
+    if may_come(entries, &op) {
+        Ok(WorkerCall::Own { op })
+    } else {
+        Err(Stop::Refused {
+            told: unknown(What::Guard),
+        })
+    }
+}
+
+// Tests what is done on a span, where the worker has so many entries open on each.
+fn test_call(
+    alloc: Global,
+    script: &ThreadScript,
+    entered: &[u64],
+    span: u64,
+    call: ThreadCall,
+) -> Result<WorkerCall, Stop>
+    requires { length entered.now ≡ length script.now.shared }
+    ensures { Answers (λ c. c) result (call_tested script.now entered.now span call) }
+{
+    match call {
+        ThreadCall::Record { fields } => {
+            test_span(script, span)?;
+            Ok(WorkerCall::Record { fields })
+        }
+        ThreadCall::Event { site, fields } => {
+            let callsite = event_site(script, site)?;
+            test_span(script, span)?;
+            let values = all_values(alloc, callsite, fields)?;
+            Ok(WorkerCall::Event { site, values })
+        }
+        ThreadCall::Own { op } => {
+            test_span(script, span)?;
+            own_call(entered[span as usize], op)
+        }
+    }
+}
+
+// Tests a call that comes after a moment.
+fn test_op(
+    alloc: Global,
+    script: &ThreadScript,
+    before: Moment,
+    entered: &[u64],
+    op: ThreadOp,
+) -> Result<WorkerOp, Stop>
+    requires { length entered.now ≡ length script.now.shared }
+    ensures { Answers (λ o. o) result (op_tested script.now before entered.now op) }
+{
+    let ThreadOp { at, span, call } = op;
+    test_moment(before, at)?;
+    let what = test_call(alloc, script, entered, span, call)?;
+    Ok(WorkerOp { at, span, what })
+}
+
+// How many entries are open after a call, so many being open before. No line has so many calls that the sum wraps.
+fn entries_after(entries: u64, call: &WorkerCall) -> Result<u64, Memory>
+    ensures { IfOk result (λ n. n ≡ opens_after entries (move_of_call call.now)) }
+{
+    match call {
+        WorkerCall::Own { op: Op::Enter } => entries.checked_add(1).ok_or(Memory),
+        WorkerCall::Own { op: Op::Exit } => Ok(entries.saturating_sub(1)),
+        _ => Ok(entries),
+    }
+}
+
+// Counts what a call opens or closes.
+fn count_entry(entered: &mut [u64], op: &WorkerOp) -> Result<(), Memory>
+    requires { op.now.span < length entered.old }
+    ensures len { length entered.new ≡ length entered.old }
+    ensures counted { OnOk result (entered.new ≡ entered_after entered.old op.now.span (move_of_call op.now.what)) }
+{
+    let entries = entered[op.span as usize];
+    entered[op.span as usize] = entries_after(entries, &op.what)?;
+    Ok(())
+}
+
+// Whether no entry is open.
+fn are_closed(entered: &[u64]) -> bool
+    ensures { result ≡ list_all (λ n. n == 0) entered.now }
+{
+    entered.iter().all(|entries| *entries == 0)
+}
+
+/// Tests the calls of a worker, which come after a moment. An entry that is left open is refused at the end.
+pub(crate) fn test_ops(
+    alloc: Global,
+    script: &ThreadScript,
+    made: Moment,
+    ops: Items<ThreadOp>,
+) -> Result<Items<WorkerOp>, Stop>
+    ensures { Answers (λ l. l) result (ops_tested script.now made (replicate (length script.now.shared) 0) ops) }
+{
+    let mut before = made;
+    let mut entered = vec![in alloc; 0u64; script.shared.as_slice().len()]?;
+    let mut tested = Items::new(alloc);
+    for op in ops.into_vec() {
+        let op = test_op(alloc, script, before, entered.as_slice(), op)?;
+        before = op.at;
+        count_entry(entered.as_mut_slice(), &op)?;
+        tested.push(op)?;
+    }
+    let refusal = Refusal::InUse;
+    require(Told::Step { refusal }, are_closed(entered.as_slice()))?;
+    Ok(tested)
+}

@@ -1,0 +1,31 @@
+-- Which histories and records fit a script.
+use Rattle.std.specs.Prelude.{◌≡◌, ℕ, ◌<◌, List, length, Some, slice_index_or}
+use Rattle.otel_base.specs.declared.record.Record.{Record}
+use Rattle.trace_threads.specs.declared.history.Entry.{Entry}
+use Rattle.trace_threads.specs.declared.making.Making.{Making}
+use Rattle.trace_threads.specs.Shared.{content_of}
+use Rattle.trace_threads.specs.Turns.{entries}
+use Rattle.thread_work.specs.declared.gather.Ended.{Ended}
+use Rattle.thread_work.specs.declared.script.ThreadScript.{ThreadScript}
+use Rattle.thread_work.specs.Asks.{DoesAll}
+use Rattle.thread_work.specs.Plans.{plan_of, parts_on}
+use Rattle.thread_run.specs.Spans.{shared_making}
+
+-- A history of the shared span at a place does what each worker's list asks of it and nothing else, and the record is its
+-- content.
+pub record Fits (script : ThreadScript) (place : ℕ) (log : List Entry) (finished : Record) : Type 0 where
+  pub making : Making
+  pub of_span : shared_making script place ≡ Some making
+  pub does : DoesAll making.made (length script.workers) (parts_on (plan_of script) place making.made script.workers) log
+  pub content : finished ≡ content_of making log
+
+-- the pass that comes with it has seen just that history
+pub record FitsEnded (script : ThreadScript) (place : ℕ) (e : Ended) : Type 0 where
+  pub fits : Fits script place e.history e.finished
+  pub seen : entries e.pass.view.seen ≡ e.history
+
+-- one for each shared span, in order
+abbrev pub AllFit : ThreadScript → List Ended → Type 0
+AllFit script es =
+    (length es ≡ length script.shared)
+    × ((place : ℕ) (d : Ended) → place < length es → FitsEnded script place (slice_index_or es place d))

@@ -1,0 +1,5 @@
+pub mod Spans
+pub mod Gates
+pub mod Fits
+pub mod Texts
+pub mod Inputs

@@ -1,0 +1,74 @@
+-- The lines of what came of a script for threads.
+use Rattle.std.specs.Prelude.{◌≡◌, ℕ, ◌+◌, ◌==◌, slice_index_or, if◌then◌else◌, List, [], ◌∷◌, ◌++◌, codes, length}
+use Rattle.serde_json.specs.Data.{Data, string, object, array, item, no_items}
+use Rattle.otel_base.specs.declared.record.Record.{Record}
+use Rattle.trace_pipeline.specs.Object.{by_name, whole_number, line_of, array_of}
+use Rattle.trace_pipeline.specs.Texts.{record_text, end_text}
+use Rattle.trace_threads.specs.declared.history.Entry.{Entry}
+use Rattle.trace_threads.specs.declared.history.What.{What}
+use Rattle.trace_threads.specs.declared.history.What.TheVariants.{Clone, Call, Join, Release}
+use Rattle.thread_run.specs.declared.entry.EntryText.{EntryText}
+use Rattle.thread_run.specs.declared.entry.Deed.{Deed}
+use Rattle.thread_run.specs.declared.entry.Deed.TheVariants as deed
+use Rattle.thread_work.specs.declared.gather.Ended.{Ended}
+
+-- how many calls a handle made in a history
+abbrev pub is_call : What → ℕ
+is_call (Clone n) = 0
+is_call (Call op) = 1
+is_call (Join k) = 0
+is_call Release = 0
+
+abbrev pub calls_by : ℕ → List Entry → ℕ
+calls_by k [] = 0
+calls_by k (e ∷ log) = if e.caller == k then is_call e.what + calls_by k log else calls_by k log
+
+-- the calls of each handle in a history are counted at its number
+abbrev pub AreCounted : List Entry → List ℕ → Type 0
+AreCounted log counts = (k : ℕ) → slice_index_or counts k 0 ≡ calls_by k log
+
+-- what an entry tells: a call by its number among those that its handle made on the span, from 0
+abbrev pub deed_after : List Entry → ℕ → What → Deed
+deed_after before k (Clone n) = deed.Clone
+deed_after before k (Call op) = deed.Call (calls_by k before)
+deed_after before k (Join n) = deed.Join
+deed_after before k Release = deed.Release
+
+abbrev pub entry_after : List Entry → Entry → EntryText
+entry_after before e = record { caller = e.caller; deed = deed_after before e.caller e.what }
+
+-- what the entries of a history tell, some having come before
+abbrev pub entries_after : List Entry → List Entry → List EntryText
+entries_after before [] = []
+entries_after before (e ∷ log) = entry_after before e ∷ entries_after (before ++ e ∷ []) log
+
+abbrev pub deed_data : Deed → Data
+deed_data deed.Clone = string (codes "clone")
+deed_data deed.Join = string (codes "join")
+deed_data deed.Release = string (codes "release")
+deed_data (deed.Call k) = whole_number k
+
+abbrev pub entry_data : EntryText → Data
+entry_data e = array (item (whole_number e.caller) (item (deed_data e.deed) no_items))
+
+-- what the entries of the shared span at a place tell
+abbrev pub history_data : ℕ → List EntryText → Data
+history_data place told = object (by_name (
+    (codes "history", array_of entry_data told)
+    ∷ (codes "shared", whole_number place) ∷ []))
+
+unfoldable pub told_text : ℕ → List EntryText → List ℕ
+told_text place told = line_of (history_data place told)
+
+-- the line of a history
+abbrev pub history_text : ℕ → List Entry → List ℕ
+history_text place log = told_text place (entries_after [] log)
+
+-- a history line and a record line for each shared span, so many having come before
+abbrev pub spans_text : ℕ → List Ended → List ℕ
+spans_text place [] = []
+spans_text place (e ∷ es) = (history_text place e.history ++ record_text (place + 1) e.finished) ++ spans_text (place + 1) es
+
+-- then the end line: no span is open
+abbrev pub all_text : List Ended → List ℕ
+all_text es = spans_text 0 es ++ end_text 0 (length es)
