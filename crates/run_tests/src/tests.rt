@@ -25,6 +25,7 @@ use refused_runs::REFUSED_RUNS;
 use runs::RUNS;
 use span_runs::SPAN_RUNS;
 use std::process::Abort;
+use std::random::RandomSource;
 use std::sync::Wait;
 use std::test::Fail;
 use std::thread::Threads;
@@ -76,7 +77,7 @@ fn ended<R: AllocGlobal>(rt: &R, text: &str, size: usize, status: Status) -> Res
     Ok(format!(in rt.alloc(); "{front}= {}\n", status.number())?)
 }
 
-fn run<H: Threads + Wait + Sync + AllocGlobal, R: Source, W: Sink>(
+fn run<H: Threads + Wait + Sync + RandomSource + AllocGlobal, R: Source, W: Sink>(
     rt: &H,
     source: &mut R,
     sink: &mut W,
@@ -88,7 +89,7 @@ fn run<H: Threads + Wait + Sync + AllocGlobal, R: Source, W: Sink>(
 }
 
 // What is written for an input by the command of a word, over these turns of reads and writes, and behind it the status.
-fn ran_as<H: Threads + Wait + Sync + AllocGlobal>(
+fn ran_as<H: Threads + Wait + Sync + RandomSource + AllocGlobal>(
     rt: &H,
     word: &str,
     input: &[u8],
@@ -103,7 +104,7 @@ fn ran_as<H: Threads + Wait + Sync + AllocGlobal>(
 }
 
 // The same by `run`.
-fn ran<H: Threads + Wait + Sync + AllocGlobal>(
+fn ran<H: Threads + Wait + Sync + RandomSource + AllocGlobal>(
     rt: &H,
     input: &[u8],
     reads: &[Turn],
@@ -161,7 +162,7 @@ impl Row {
 
 // What is written for a run of a table by the command of a word. With a blank in front of each line it has to be the same;
 // where it isn't both are told, which is never what is wanted.
-fn both_ways<H: Threads + Wait + Sync + AllocGlobal>(
+fn both_ways<H: Threads + Wait + Sync + RandomSource + AllocGlobal>(
     rt: &H,
     word: &str,
     row: &Row,
@@ -175,7 +176,7 @@ fn both_ways<H: Threads + Wait + Sync + AllocGlobal>(
 }
 
 // What is written for a run of a table that a line ends. None where the line ends none.
-fn written<H: Threads + Wait + Sync + AllocGlobal>(
+fn written<H: Threads + Wait + Sync + RandomSource + AllocGlobal>(
     rt: &H,
     word: &str,
     row: &mut Row,
@@ -195,7 +196,7 @@ fn written<H: Threads + Wait + Sync + AllocGlobal>(
 }
 
 // The first of some runs by the command of a word that goes otherwise than is written there.
-fn differing<H: Threads + Wait + Sync + AllocGlobal>(
+fn differing<H: Threads + Wait + Sync + RandomSource + AllocGlobal>(
     rt: &H,
     word: &str,
     runs: &str,

@@ -3,7 +3,9 @@ use Rattle.std.specs.Prelude.{ℕ}
 use Rattle.trace_run.specs.Commands.Run.{runs}
 use Rattle.trace_run.specs.Commands.Make.{makes}
 use Rattle.trace_run.specs.Commands.Tree.{trees}
+use Rattle.trace_run.specs.Commands.Tasks.{tasks}
 use Rattle.trace_run.specs.Commands.Batch.{batches}
+use Rattle.trace_run.specs.Commands.Threads.{works}
 use Rattle.trace_run.specs.Meaning.{Meaning}
 use Rattle.trace_run.specs.declared.invocation.Invocation.{Invocation}
 use Rattle.trace_run.specs.declared.invocation.Invocation.TheVariants as invocation
@@ -12,14 +14,18 @@ use Rattle.trace_run.specs.declared.script.Command.TheVariants as command
 pub mod Run
 pub mod Make
 pub mod Tree
+pub mod Tasks
 pub mod Batch
+pub mod Threads
 
 abbrev pub meaning_of : Command → Meaning
 meaning_of (command.Run signal) = runs signal
 meaning_of (command.Make rounds) = makes rounds
 meaning_of command.Tree = trees
+meaning_of command.Tasks = tasks
 
 -- of what the words ask for
 abbrev pub meaning_by : Invocation → Meaning
 meaning_by (invocation.Script command) = meaning_of command
 meaning_by (invocation.Batch size) = batches size
+meaning_by invocation.Threads = works

@@ -2,8 +2,8 @@
 use Rattle.std.specs.Prelude.{ℕ, List, [], ◌∷◌, if◌then◌else◌, Option, Some, None, option_map, option_and_then, ◌&&◌, nat_le, codes, bytes_eq}
 use Rattle.trace_run.specs.declared.batch.TheConstants.{MOST_ITEMS}
 use Rattle.trace_run.specs.declared.invocation.Invocation.{Invocation}
-use Rattle.trace_run.specs.declared.invocation.Invocation.TheVariants.{Script, Batch}
-use Rattle.trace_run.specs.declared.script.Command.TheVariants.{Run, Make, Tree}
+use Rattle.trace_run.specs.declared.invocation.Invocation.TheVariants.{Script, Batch, Threads}
+use Rattle.trace_run.specs.declared.script.Command.TheVariants.{Run, Make, Tree, Tasks}
 use Rattle.trace_pipeline.specs.declared.generated.TheConstants.{MOST_ROUNDS}
 use Rattle.trace_pipeline.specs.Decimals.{u128_word}
 use Rattle.trace_pipeline.specs.declared.signal.Signal.TheVariants.{Traces, Metrics}
@@ -19,7 +19,9 @@ abbrev pub invocation_by : List ℕ → Option Invocation
 invocation_by word =
     if bytes_eq word (codes "run") then Some (Script (Run Traces)) else
     (if bytes_eq word (codes "metrics") then Some (Script (Run Metrics)) else
-    (if bytes_eq word (codes "tree") then Some (Script Tree) else None))
+    (if bytes_eq word (codes "tree") then Some (Script Tree) else
+    (if bytes_eq word (codes "tasks") then Some (Script Tasks) else
+    (if bytes_eq word (codes "threads") then Some Threads else None))))
 
 -- a word with a number
 abbrev pub invocation_with : List ℕ → List ℕ → Option Invocation

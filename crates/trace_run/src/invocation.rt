@@ -15,6 +15,8 @@ pub enum Invocation {
     Script { command: Command },
     /// To run a script, and to tell its records in batches of a size, whose texts threads make.
     Batch { size: u64 },
+    /// To run a script for threads.
+    Threads,
 }
 
 /// What the words ask for, if it is something that the program does.
@@ -40,6 +42,8 @@ fn invocation_by(word: &str) -> Option<Invocation>
             signal: Signal::Metrics,
         },
         "tree" => Command::Tree,
+        "tasks" => Command::Tasks,
+        "threads" => return Some(Invocation::Threads),
         _ => return None,
     };
     Some(Invocation::Script { command })

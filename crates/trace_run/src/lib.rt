@@ -18,6 +18,8 @@ pub mod script;
 pub mod sink;
 pub mod source;
 pub mod status;
+pub mod tasks;
+pub mod threads;
 pub mod top;
 pub mod tree;
 pub mod turns;

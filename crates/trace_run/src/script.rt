@@ -12,8 +12,10 @@ use crate::run::run;
 use crate::sink::Sink;
 use crate::source::Source;
 use crate::status::Status;
+use crate::tasks::Tasks;
 use crate::tree::Tree;
-use std::alloc::Global;
+use std::alloc::{AllocGlobal, Global};
+use std::random::RandomSource;
 use trace_pipeline::Signal;
 
 /// What the program does without threads.
@@ -25,11 +27,14 @@ pub enum Command {
     Make { rounds: u64 },
     /// To run a script, and to tell its finished spans as trees.
     Tree,
+    /// To run a script of tasks, and to tell the finished spans of these.
+    Tasks,
 }
 
 /// Carries a command out, which makes at most 50,000 rounds. A line that is refused is told before a fault of the source
-/// and too long an input.
-pub fn run_script<R: Source, W: Sink>(
+/// and too long an input. The runtime is asked by `tasks` alone, whose polls need a task to poll in.
+pub fn run_script<H: RandomSource + AllocGlobal, R: Source, W: Sink>(
+    rt: &H,
     alloc: Global,
     command: Command,
     source: &mut R,
@@ -49,5 +54,6 @@ pub fn run_script<R: Source, W: Sink>(
         Command::Run { signal } => run(alloc, signal, source, sink),
         Command::Make { rounds } => make(alloc, rounds, sink),
         Command::Tree => answer_all(alloc, &mut Tree, source, sink),
+        Command::Tasks => answer_all(alloc, &mut Tasks { rt }, source, sink),
     }
 }

@@ -12,14 +12,17 @@ use crate::script::run_script;
 use crate::sink::Sink;
 use crate::source::Source;
 use crate::status::Status;
-use std::alloc::Global;
+use crate::threads::run_threads;
+use std::alloc::{AllocGlobal, Global};
+use std::random::RandomSource;
 use std::sync::Wait;
 use std::thread::Threads;
 use turnstile::OpenTurnstile;
 
 /// Carries out what the words ask for, and answers how it ended. Words that ask for nothing touch neither source
-/// nor sink. The host is asked for threads by `batch` alone, which waits for them.
-pub fn top<H: Threads + Wait + Sync, R: Source, W: Sink>(
+/// nor sink. The host is asked for threads by `batch` and `threads` alone, which wait for them, and for a task to poll in
+/// by `tasks` alone.
+pub fn top<H: Threads + Wait + Sync + RandomSource + AllocGlobal, R: Source, W: Sink>(
     rt: &H,
     alloc: Global,
     words: &[String],
@@ -41,7 +44,7 @@ pub fn top<H: Threads + Wait + Sync, R: Source, W: Sink>(
     ensures write_stops { result ≡ Status.WriteFault → StopsWriting W.faults W.holds sink.old sink.new }
 {
     match invocation_of(words) {
-        Some(Invocation::Script { command }) => run_script(alloc, command, source, sink),
+        Some(Invocation::Script { command }) => run_script(rt, alloc, command, source, sink),
         Some(Invocation::Batch { size }) => run_batch(
             rt,
             alloc,
@@ -50,6 +53,7 @@ pub fn top<H: Threads + Wait + Sync, R: Source, W: Sink>(
             source,
             sink,
         ),
+        Some(Invocation::Threads) => run_threads(rt, alloc, &OpenTurnstile, source, sink),
         None => Status::Usage,
     }
 }

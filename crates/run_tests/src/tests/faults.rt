@@ -1,5 +1,6 @@
 //! Reads and writes that fail, one after another, and inputs that are too long.
 use crate::tests::{ANSWERS, FIRST, SETTINGS, ended, ran, ran_as, script};
+use std::random::RandomSource;
 use std::sync::Wait;
 use std::test::Fail;
 use std::thread::Threads;
@@ -17,7 +18,7 @@ fn size_of_lines(text: &str, lines: usize) -> usize {
 }
 
 // Whether the first span's script over these turns writes so many bytes of its answers, and ends so.
-fn goes<H: Threads + Wait + Sync + AllocGlobal>(
+fn goes<H: Threads + Wait + Sync + RandomSource + AllocGlobal>(
     rt: &H,
     reads: &[Turn],
     writes: &[Turn],
@@ -49,7 +50,9 @@ fn answered(input: &[u8], size: usize) -> usize {
 
 // The first read of the script, byte by byte, that isn't answered by the lines of the whole lines before it where it fails.
 // The last is the one that would meet the end.
-fn wrong_read<H: Threads + Wait + Sync + AllocGlobal>(rt: &H) -> Result<Option<usize>, Fail> {
+fn wrong_read<H: Threads + Wait + Sync + RandomSource + AllocGlobal>(
+    rt: &H,
+) -> Result<Option<usize>, Fail> {
     let input = script(rt, FIRST)?;
     let reads = input.len().saturating_add(1);
     let mut turns = vec![in rt.alloc(); Turn::Moves { most: 1 }; reads]?;
@@ -65,7 +68,9 @@ fn wrong_read<H: Threads + Wait + Sync + AllocGlobal>(rt: &H) -> Result<Option<u
 }
 
 // The first write, byte by byte, that isn't told with the bytes before it where it fails.
-fn wrong_write<H: Threads + Wait + Sync + AllocGlobal>(rt: &H) -> Result<Option<usize>, Fail> {
+fn wrong_write<H: Threads + Wait + Sync + RandomSource + AllocGlobal>(
+    rt: &H,
+) -> Result<Option<usize>, Fail> {
     let mut turns = vec![in rt.alloc(); Turn::Moves { most: 1 }; ANSWERS.len()]?;
     for at in 0..ANSWERS.len() {
         turns[at] = Turn::Fails;
@@ -101,7 +106,10 @@ fn breaks_off(rt: HostRuntime) -> Result<(), Fail> {
 }
 
 // What `tree` writes of a script behind whose second line the reading fails.
-fn broken_tree<H: Threads + Wait + Sync + AllocGlobal>(rt: &H, rest: &str) -> Result<String, Fail> {
+fn broken_tree<H: Threads + Wait + Sync + RandomSource + AllocGlobal>(
+    rt: &H,
+    rest: &str,
+) -> Result<String, Fail> {
     let input = script(rt, rest)?;
     let most = size_of_lines(input.as_str(), 2);
     let reads = [Turn::Moves { most }, Turn::Fails];
@@ -118,7 +126,7 @@ fn writes_no_tree_of_a_broken_input(rt: HostRuntime) -> Result<(), Fail> {
 }
 
 // Whether a text that is filled up with blanks to so many bytes is answered so.
-fn fills<H: Threads + Wait + Sync + AllocGlobal>(
+fn fills<H: Threads + Wait + Sync + RandomSource + AllocGlobal>(
     rt: &H,
     text: &str,
     size: usize,

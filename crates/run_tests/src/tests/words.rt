@@ -1,5 +1,6 @@
 //! What the program is asked for by words that need no input.
 use crate::tests::ended;
+use std::random::RandomSource;
 use std::sync::Wait;
 use std::test::Fail;
 use std::thread::Threads;
@@ -12,7 +13,10 @@ const UNKNOWN: &str =
     "make|0\nmake|50001\nmake|+1\nmake|01\nmake|\nmake|1 \nmake\nmake|1|1\ntree|1\nTree\nRun\nmetric\n";
 
 // What is written for words, and behind it the number of the status.
-fn told<H: Threads + Wait + Sync + AllocGlobal>(rt: &H, words: &str) -> Result<String, Fail> {
+fn told<H: Threads + Wait + Sync + RandomSource + AllocGlobal>(
+    rt: &H,
+    words: &str,
+) -> Result<String, Fail> {
     let mut asked = Vec::new(rt.alloc());
     for word in words.split('|') {
         asked.push(String::from_str(rt.alloc(), word)?)?;
@@ -25,7 +29,9 @@ fn told<H: Threads + Wait + Sync + AllocGlobal>(rt: &H, words: &str) -> Result<S
 }
 
 // The first of the unknown words that asks for something.
-fn known<H: Threads + Wait + Sync + AllocGlobal>(rt: &H) -> Result<Option<&'static str>, Fail> {
+fn known<H: Threads + Wait + Sync + RandomSource + AllocGlobal>(
+    rt: &H,
+) -> Result<Option<&'static str>, Fail> {
     for words in UNKNOWN.lines() {
         if told(rt, words)?.as_str() != "= 1\n" {
             return Ok(Some(words));

@@ -24,3 +24,6 @@ returns-in-Make-clause-renames g c = rw c.in-Make.is (λ is. absurd (cc is))
 
 pub returns-in-Tree-clause-renames : goal.returns-in-Tree-clause-renames
 returns-in-Tree-clause-renames g c = rw c.in-Tree.is (λ is. absurd (cc is))
+
+pub returns-in-Tasks-clause-renames : goal.returns-in-Tasks-clause-renames
+returns-in-Tasks-clause-renames g c = rw c.in-Tasks.is (λ is. absurd (cc is))
