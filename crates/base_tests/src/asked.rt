@@ -2,7 +2,7 @@
 ghost use Rattle.std.specs.Prelude.{◌≡◌, false};
 ghost use Rattle.std.proofs.Common.{refl, ap, ◌∙◌};
 ghost use Rattle.trace_base.specs.declared.lane.Lane.{Lane};
-ghost use Rattle.trace_base.specs.Unseeing.{unseeing, LeavesLanes, unseeing_sees, unseeing_lanes};
+ghost use Rattle.trace_base.specs.layers.Unseeing.{unseeing, LeavesLanes, unseeing_sees, unseeing_lanes};
 
 use otel_base::enter_error::EnterError;
 use otel_base::memory::Memory;

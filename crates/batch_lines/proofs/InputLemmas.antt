@@ -6,7 +6,7 @@ use Rattle.std.specs.Prelude.{Option, Some, None, Result, Ok, Err, is_ok, not, I
 use Rattle.otel_base.specs.declared.record.Record.{Record}
 use Rattle.span_script.specs.Outcomes.{records}
 use Rattle.trace_batch.specs.declared.relay.TheConstants.{MOST_LANES}
-use Rattle.trace_pipeline.specs.Texts.{refusal_text}
+use Rattle.trace_pipeline.specs.text.Texts.{refusal_text}
 use Rattle.trace_records.specs.declared.answer.Answer.{Answer}
 use Rattle.trace_records.specs.declared.finished.FinishedSpans.{FinishedSpans}
 use Rattle.trace_records.specs.declared.finished.RefusedLine.{RefusedLine}

@@ -6,7 +6,7 @@ use Rattle.otel_base.specs.declared.record.Record.{Record}
 use Rattle.span_script.specs.Effects.{open_spans}
 use Rattle.span_script.specs.Outcomes.{records}
 use Rattle.span_script.specs.Tables.{tables}
-use Rattle.trace_pipeline.specs.Object.{by_name, whole_number, line_of}
+use Rattle.trace_pipeline.specs.reading.Object.{by_name, whole_number, line_of}
 use Rattle.trace_batch.specs.declared.item.Sent.{Sent}
 use Rattle.trace_batch.specs.declared.relay.TheConstants.{MOST_LANES}
 use Rattle.trace_batch.specs.Cuts.{IsCut}

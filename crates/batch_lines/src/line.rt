@@ -1,6 +1,6 @@
 //! The lines of batches and of the end, each with its line feed.
 ghost use Rattle.std.specs.Prelude.{◌≡◌, ◌++◌, OnOk, false};
-ghost use Rattle.trace_pipeline.specs.Writes.{Writes};
+ghost use Rattle.trace_pipeline.specs.text.Writes.{Writes};
 ghost use Rattle.batch_lines.specs.Texts.{listed, batch_text, batches_end_data, batches_end_text};
 ghost use Rattle.serde_json.specs.Written.{compact_text};
 

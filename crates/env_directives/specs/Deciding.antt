@@ -4,8 +4,8 @@ use Rattle.trace_base.specs.declared.callsite.Callsite.{Callsite}
 use Rattle.trace_base.specs.declared.subscriber.Interest.{Interest}
 use Rattle.trace_base.specs.declared.subscriber.Interest.TheVariants as interests
 use Rattle.env_directives.specs.declared.directive.StaticDirective.{StaticDirective}
-use Rattle.env_directives.specs.Choice.{admits}
-use Rattle.env_directives.specs.Table.{Table}
+use Rattle.env_directives.specs.orders.Choice.{admits}
+use Rattle.env_directives.specs.orders.Table.{Table}
 
 -- always where the directive that decides lets a callsite through, else never
 abbrev pub interest_in : Table StaticDirective → Callsite → Interest

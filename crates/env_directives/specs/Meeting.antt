@@ -2,7 +2,7 @@
 use Rattle.std.specs.Prelude.{ℕ, ℤ, pos, List, Bool, true, false, not, ◌==◌, Option, None, Some, bytes_eq}
 use Rattle.std.specs.Fmt.{decimal, signed_decimal}
 use Rattle.std.specs.Ordering.{int_eq}
-use Rattle.trace_base.specs.Quote.{quoted}
+use Rattle.trace_base.specs.words.Quote.{quoted}
 use Rattle.trace_base.specs.declared.field.Value.{Value}
 use Rattle.trace_base.specs.declared.field.Value.TheVariants as given
 use Rattle.env_directives.specs.declared.env.field.ValueMatch.{ValueMatch}

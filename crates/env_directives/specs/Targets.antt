@@ -6,14 +6,14 @@ use Rattle.std.specs.List.{find}
 use Rattle.std.specs.Option.{option_map, option_map_or, is_none}
 use Rattle.std.specs.Ordering.{nat_cmp, on, eq_of_both, eq_by_cmp}
 use Rattle.std.specs.Cmp.Lexicographic.{pointwise}
-use Rattle.trace_base.specs.Level.{greatest_verbosity}
+use Rattle.trace_base.specs.words.Level.{greatest_verbosity}
 use Rattle.trace_base.specs.declared.level.LevelFilter.{LevelFilter}
 use Rattle.env_directives.specs.declared.directive.ParseError.{ParseError}
 use Rattle.env_directives.specs.declared.directive.StaticDirective.{StaticDirective}
-use Rattle.env_directives.specs.Separators.{comma_pieces}
-use Rattle.env_directives.specs.StaticOrder.{most_specific_first}
-use Rattle.env_directives.specs.StaticText.{and_then, static_of}
-use Rattle.env_directives.specs.Table.{Table, empty_table, with_added, with_all_added}
+use Rattle.env_directives.specs.reading.Separators.{comma_pieces}
+use Rattle.env_directives.specs.orders.StaticOrder.{most_specific_first}
+use Rattle.env_directives.specs.reading.StaticText.{and_then, static_of}
+use Rattle.env_directives.specs.orders.Table.{Table, empty_table, with_added, with_all_added}
 
 abbrev pub added : StaticDirective → Table StaticDirective → Table StaticDirective
 added = with_added most_specific_first (λ d. d.level)

@@ -10,10 +10,10 @@ ghost use Rattle.trace_base.specs.declared.level.LevelFilter.TheVariants.{ERROR}
 ghost use Rattle.trace_base.specs.declared.callsite.Callsite.{Callsite};
 ghost use Rattle.trace_base.specs.declared.level.LevelFilter.{LevelFilter};
 ghost use Rattle.env_directives.specs.Cares.{begins_with, covers, cares_about_target, declares_all, cares};
-ghost use Rattle.env_directives.specs.Separators.{nonempty, comma_pieces};
-ghost use Rattle.env_directives.specs.StaticPrinted.{static_text, joined};
-ghost use Rattle.env_directives.specs.StaticText.{Reads, static_of, bare_of, with_equals, front_of, with_names, names_of, level_of};
-ghost use Rattle.env_directives.specs.StaticOrder.{most_specific_first, specificity_cmp, target_length};
+ghost use Rattle.env_directives.specs.reading.Separators.{nonempty, comma_pieces};
+ghost use Rattle.env_directives.specs.printed.StaticPrinted.{static_text, joined};
+ghost use Rattle.env_directives.specs.reading.StaticText.{Reads, static_of, bare_of, with_equals, front_of, with_names, names_of, level_of};
+ghost use Rattle.env_directives.specs.orders.StaticOrder.{most_specific_first, specificity_cmp, target_length};
 
 use crate::env::field::text_of;
 use otel_base::list::Items;

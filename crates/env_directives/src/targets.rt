@@ -7,14 +7,14 @@ ghost use Rattle.std.specs.Cmp.{and_equiv, eq_by_cmp_equiv, nat_cmp_total, on_eq
 ghost use Rattle.std.specs.Cmp.Lexicographic.{pointwise, lists_equiv};
 ghost use Rattle.std.specs.Cmp.Rules.{comparing};
 ghost use Rattle.std.specs.Ordering.{is_eq, nat_cmp};
-ghost use Rattle.trace_base.specs.Level.{greatest_verbosity};
+ghost use Rattle.trace_base.specs.words.Level.{greatest_verbosity};
 ghost use Rattle.std.specs.Iterator.{YieldsFirstBy, item_count};
-ghost use Rattle.env_directives.specs.Choice.{admits_target};
+ghost use Rattle.env_directives.specs.orders.Choice.{admits_target};
 ghost use Rattle.env_directives.specs.Iterators.{pairs_left};
-ghost use Rattle.env_directives.specs.StaticOrder.{most_specific_first};
-ghost use Rattle.env_directives.specs.StaticPrinted.{joined, static_text};
-ghost use Rattle.env_directives.specs.StaticText.{Reads, Fails, static_of};
-ghost use Rattle.env_directives.specs.Table.{empty_table, AddsSome};
+ghost use Rattle.env_directives.specs.orders.StaticOrder.{most_specific_first};
+ghost use Rattle.env_directives.specs.printed.StaticPrinted.{joined, static_text};
+ghost use Rattle.env_directives.specs.reading.StaticText.{Reads, Fails, static_of};
+ghost use Rattle.env_directives.specs.orders.Table.{empty_table, AddsSome};
 ghost use Rattle.env_directives.specs.Targets.{added, all_added, target_directive, pair_directive, default_directive, default_level, pairs, targets_of, same_rule, same_level, same_directive, same_targets};
 
 use crate::directive::set::DirectiveSet;
@@ -36,7 +36,7 @@ pub struct Targets {
 }
 
 impl Model for Targets {
-    ghost use Rattle.env_directives.specs.Table.{Table};
+    ghost use Rattle.env_directives.specs.orders.Table.{Table};
     ghost use Rattle.env_directives.specs.declared.directive.StaticDirective.{StaticDirective};
 
     ghost Value = { Table StaticDirective };

@@ -1,14 +1,4 @@
-pub mod Fixing
-pub mod Leveling
-pub mod Printing
-pub mod PrintedTables
-pub mod ReadBack
-pub mod Readings
-pub mod Refusals
-pub mod Rising
-pub mod Stacked
-pub mod TextParts
-pub mod Told
-pub mod Watches
 pub mod Wholes
 pub mod Worlds
+pub mod printed
+pub mod kept

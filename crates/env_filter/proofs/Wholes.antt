@@ -8,15 +8,15 @@ use Rattle.std.specs.Ordering.{match_ordering}
 use Rattle.std.proofs.lemmas.Bool.{cases_Bool, cond-true, cond-false}
 use Rattle.trace_base.specs.declared.level.LevelFilter.{LevelFilter}
 use Rattle.trace_base.specs.declared.level.LevelFilter.TheVariants.{OFF}
-use Rattle.trace_base.specs.Level.{greatest_verbosity}
+use Rattle.trace_base.specs.words.Level.{greatest_verbosity}
 use Rattle.env_directives.specs.declared.directive.StaticDirective.{StaticDirective}
 use Rattle.env_directives.specs.declared.env.directive.Directive.{Directive}
-use Rattle.env_directives.specs.DirectiveOrder.{directive_cmp}
-use Rattle.env_directives.specs.StaticOrder.{most_specific_first}
-use Rattle.env_directives.specs.Table.{Table, empty_table, placed, with_added, with_all_added, more_verbose}
+use Rattle.env_directives.specs.orders.DirectiveOrder.{directive_cmp}
+use Rattle.env_directives.specs.orders.StaticOrder.{most_specific_first}
+use Rattle.env_directives.specs.orders.Table.{Table, empty_table, placed, with_added, with_all_added, more_verbose}
 use Rattle.env_filter.specs.declared.watch.Care.{Care}
-use Rattle.env_filter.specs.Levels.{Opened, is_of}
-use Rattle.env_filter.specs.Watching.{Watched}
+use Rattle.env_filter.specs.spans.Levels.{Opened, is_of}
+use Rattle.env_filter.specs.spans.Watching.{Watched}
 use Rattle.env_filter.specs.Filtering.{Filtered, AreWhole, IsNew, Each, IsBelow, fresh}
 use Rattle.env_filter.specs.Gating.{first_below, second_below}
 use Rattle.env_filter.specs.Tables.{is_static, is_dynamic, static_of, statics_of, dynamics_of, placed_in, fixed_directive, with_directive, with_tables, has_none, or_default, filter_of}

@@ -8,19 +8,19 @@ use Rattle.trace_base.specs.declared.level.LevelFilter.{LevelFilter}
 use Rattle.trace_base.specs.declared.level.LevelFilter.TheVariants.{TRACE, OFF}
 use Rattle.trace_base.specs.declared.subscriber.Interest.{Interest}
 use Rattle.trace_base.specs.declared.subscriber.Interest.TheVariants as interests
-use Rattle.trace_base.specs.Level.{is_within, greatest_verbosity}
-use Rattle.trace_base.specs.Hooks.{Hook, OnNewSpan, OnRecord, OnFollows, OnEvent, OnEnter, OnExit, OnClose, Preparation, ForNewSpan, ForRecord, ForFollows, ForEvent, ForEnter, Seen}
+use Rattle.trace_base.specs.words.Level.{is_within, greatest_verbosity}
+use Rattle.trace_base.specs.layers.Hooks.{Hook, OnNewSpan, OnRecord, OnFollows, OnEvent, OnEnter, OnExit, OnClose, Preparation, ForNewSpan, ForRecord, ForFollows, ForEvent, ForEnter, Seen}
 use Rattle.span_registry.specs.Both.{KnowsNone}
-use Rattle.env_filter.specs.Keyed.{put}
-use Rattle.env_filter.specs.Levels.{Opened, Leveled, is_of}
-use Rattle.env_filter.specs.Kept.{watched_in, levels_in, room_in, opened, closed}
+use Rattle.env_filter.specs.spans.Keyed.{put}
+use Rattle.env_filter.specs.spans.Levels.{Opened, Leveled, is_of}
+use Rattle.env_filter.specs.spans.Kept.{watched_in, levels_in, room_in, opened, closed}
 use Rattle.env_directives.specs.declared.directive.StaticDirective.{StaticDirective}
 use Rattle.env_directives.specs.declared.env.directive.Directive.{Directive}
 use Rattle.env_directives.specs.declared.env.field.Match.{Match}
 use Rattle.env_directives.specs.Cares.{cares_for_span, is_span}
-use Rattle.env_directives.specs.Choice.{admits}
-use Rattle.env_directives.specs.Table.{Table, more_verbose}
-use Rattle.env_filter.specs.Watching.{Watched, watched, recorded, level_of, found_in}
+use Rattle.env_directives.specs.orders.Choice.{admits}
+use Rattle.env_directives.specs.orders.Table.{Table, more_verbose}
+use Rattle.env_filter.specs.spans.Watching.{Watched, watched, recorded, level_of, found_in}
 use Rattle.env_filter.specs.declared.watch.Care.{Care}
 use Rattle.env_filter.specs.declared.filter.hooks.Ready.{Ready}
 

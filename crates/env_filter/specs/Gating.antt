@@ -8,13 +8,13 @@ use Rattle.trace_base.specs.declared.level.Level.TheVariants as level
 use Rattle.trace_base.specs.declared.level.LevelFilter.{LevelFilter}
 use Rattle.trace_base.specs.declared.level.LevelFilter.TheVariants.{TRACE, OFF}
 use Rattle.trace_base.specs.declared.subscriber.Interest.TheVariants as interests
-use Rattle.trace_base.specs.Level.{is_within, greatest_verbosity, verbosity}
+use Rattle.trace_base.specs.words.Level.{is_within, greatest_verbosity, verbosity}
 use Rattle.trace_base.specs.Gate.{gate}
 use Rattle.env_directives.specs.declared.directive.StaticDirective.{StaticDirective}
 use Rattle.env_directives.specs.Cares.{cares}
-use Rattle.env_directives.specs.Choice.{admits, lets_through}
-use Rattle.env_directives.specs.Table.{more_verbose}
-use Rattle.env_filter.specs.Levels.{Opened}
+use Rattle.env_directives.specs.orders.Choice.{admits, lets_through}
+use Rattle.env_directives.specs.orders.Table.{more_verbose}
+use Rattle.env_filter.specs.spans.Levels.{Opened}
 use Rattle.env_filter.specs.Filtering.{Filtered, AreWhole, Each, IsBelow, is_cared, has_dynamics, interest_in, asks_values, hint_in, is_open, enables_in, is_admitted}
 
 within_below : (l : Level) (f most : LevelFilter) → is_within l f ≡ true → IsBelow most f → is_within l most ≡ true

@@ -4,8 +4,8 @@ use Rattle.trace_base.specs.declared.callsite.Callsite.{Callsite}
 use Rattle.trace_base.specs.declared.subscriber.Interest.{Interest}
 use Rattle.trace_base.specs.declared.subscriber.Interest.TheVariants as interests
 use Rattle.trace_base.specs.declared.lane.Lane.{Lane}
-use Rattle.trace_base.specs.Hooks.{Hook, OnEnter, Seen, Sees, HookLanes}
-use Rattle.trace_base.specs.Unseeing.{unseeing, LeavesLanes, unseeing_sees, unseeing_lanes}
+use Rattle.trace_base.specs.layers.Hooks.{Hook, OnEnter, Seen, Sees, HookLanes}
+use Rattle.trace_base.specs.layers.Unseeing.{unseeing, LeavesLanes, unseeing_sees, unseeing_lanes}
 
 abbrev pub if_there : {L V : Type 0} → V → (L → V) → Option L → V
 if_there none value None = none

@@ -3,10 +3,10 @@ use Rattle.std.specs.Prelude.{◌≡◌, ℕ, List, [], ◌∷◌, ◌++◌, Opt
 use Rattle.std.specs.Option.{option_map}
 use Rattle.trace_base.specs.Spans.{Spans}
 use Rattle.trace_base.specs.Calls.{SubscriberCall, after as spans_after}
-use Rattle.trace_base.specs.Hooks.{Hook}
+use Rattle.trace_base.specs.layers.Hooks.{Hook}
 use Rattle.span_registry.specs.Hearing.{HearsCall}
 use Rattle.env_filter.specs.Filtering.{Filtered, Filtering, plain, after, span_level}
-use Rattle.env_filter.specs.Histories.{AreInOrder, level_told, levels_told}
+use Rattle.env_filter.specs.spans.Histories.{AreInOrder, level_told, levels_told}
 
 -- a hook comes behind those before
 abbrev pub Appends : List Hook → Hook → List Hook → Type 0

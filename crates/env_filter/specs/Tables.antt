@@ -7,9 +7,9 @@ use Rattle.env_directives.specs.declared.env.directive.Directive.{Directive}
 use Rattle.env_directives.specs.declared.env.field.Match.{Match}
 use Rattle.env_directives.specs.declared.env.field.ValueMatch.{ValueMatch}
 use Rattle.env_directives.specs.declared.env.field.ValueMatch.TheVariants.{Bool as Truth, U64, I64, Pat, Debug}
-use Rattle.env_directives.specs.DirectiveOrder.{directive_cmp}
-use Rattle.env_directives.specs.StaticOrder.{most_specific_first}
-use Rattle.env_directives.specs.Table.{Table, empty_table, with_added, with_all_added}
+use Rattle.env_directives.specs.orders.DirectiveOrder.{directive_cmp}
+use Rattle.env_directives.specs.orders.StaticOrder.{most_specific_first}
+use Rattle.env_directives.specs.orders.Table.{Table, empty_table, with_added, with_all_added}
 use Rattle.env_filter.specs.Filtering.{Filtered, asks_value}
 
 -- a static directive can be judged by a callsite alone: it has no span name and asks for no value

@@ -1,6 +1,6 @@
 //! What filters are built by.
 ghost use Rattle.std.specs.Prelude.{◌≡◌, [], List, ℕ, Some, IfOk, IfErr, OnOk, string_bytes};
-ghost use Rattle.env_filter.specs.Building.{Building, default_builder, filter_by, IsFilterOf, IsSomeFilterOf, IsRefused, IsRefusedAt};
+ghost use Rattle.env_filter.specs.texts.Building.{Building, default_builder, filter_by, IsFilterOf, IsSomeFilterOf, IsRefused, IsRefusedAt};
 ghost use Rattle.env_filter.specs.Filtering.{plain, IsNew};
 ghost use Rattle.env_filter.specs.Tables.{or_default, with_directive};
 
@@ -28,7 +28,7 @@ pub struct Builder {
 impl Model for Builder {
     ghost use Rattle.std.specs.Prelude.{codes};
     ghost use Rattle.std.specs.Option.{unwrap_or};
-    ghost use Rattle.env_filter.specs.Building.{Building};
+    ghost use Rattle.env_filter.specs.texts.Building.{Building};
 
     ghost Value = { Building };
 

@@ -1,11 +1,11 @@
 //! Filters by directives.
 ghost use Rattle.std.specs.Prelude.{◌≡◌, ◌==◌, ◌&&◌, Some, is_some};
 ghost use Rattle.std.specs.List.{list_any};
-ghost use Rattle.trace_base.specs.Level.{is_within};
+ghost use Rattle.trace_base.specs.words.Level.{is_within};
 ghost use Rattle.env_directives.specs.Cares.{cares_for_span, is_span};
-ghost use Rattle.env_filter.specs.Levels.{levels_of};
+ghost use Rattle.env_filter.specs.spans.Levels.{levels_of};
 ghost use Rattle.env_filter.specs.Filtering.{Filtering, plain, span_level, is_cared, has_dynamics, interest_in, asks_values, hint_in, is_open, enables_in};
-ghost use Rattle.env_filter.specs.Histories.{IsLevelTold, AreLevelsTold};
+ghost use Rattle.env_filter.specs.spans.Histories.{IsLevelTold, AreLevelsTold};
 
 use crate::levels::Levels;
 use crate::watch::{Matches, more_verbose};

@@ -1,8 +1,8 @@
 //! The levels of each lane, by the lane's id.
 ghost use Rattle.std.specs.Prelude.{◌≡◌, ◌<◌, OnOk, true, None, Some};
-ghost use Rattle.env_filter.specs.Keyed.{at_key, changed};
-ghost use Rattle.env_filter.specs.Levels.{levels_of};
-ghost use Rattle.env_filter.specs.Kept.{levels_in, room_in, opened, closed};
+ghost use Rattle.env_filter.specs.spans.Keyed.{at_key, changed};
+ghost use Rattle.env_filter.specs.spans.Levels.{levels_of};
+ghost use Rattle.env_filter.specs.spans.Kept.{levels_in, room_in, opened, closed};
 
 use crate::levels::Levels;
 use otel_base::memory::Memory;

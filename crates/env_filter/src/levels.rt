@@ -2,7 +2,7 @@
 ghost use Rattle.std.specs.Prelude.{◌≡◌, ◌≢◌, ◌==◌, ◌<◌, ℕ, [], ◌∷◌, ◌++◌, OnOk, length, IfSome, IsNone, slice_index_or, vec_len, vec_capacity};
 ghost use Rattle.std.specs.List.{remove};
 ghost use Rattle.trace_base.specs.Spans.{without_last};
-ghost use Rattle.env_filter.specs.Levels.{Leveled, levels_of, paired, is_of};
+ghost use Rattle.env_filter.specs.spans.Levels.{Leveled, levels_of, paired, is_of};
 
 use otel_base::memory::Memory;
 use std::alloc::Global;
@@ -19,7 +19,7 @@ pub struct Levels {
 
 impl Model for Levels {
     ghost use Rattle.std.specs.Prelude.{◌≡◌, ◌-◌, length, min, vec_capacity};
-    ghost use Rattle.env_filter.specs.Levels.{Leveled, paired};
+    ghost use Rattle.env_filter.specs.spans.Levels.{Leveled, paired};
 
     ghost Value = { Leveled };
 

@@ -1,7 +1,7 @@
 //! The pieces of a filter's text, which commas are between.
 ghost use Rattle.std.specs.Prelude.{◌≡◌, ◌++◌, ◌+◌, ◌<◌, ◌^◌, IfOk, OnOk};
-ghost use Rattle.env_directives.specs.Separators.{comma_pieces};
-ghost use Rattle.env_filter.specs.Pieces.{shown, is_memory, ReadsText, AddsPiece};
+ghost use Rattle.env_directives.specs.reading.Separators.{comma_pieces};
+ghost use Rattle.env_filter.specs.texts.Pieces.{shown, is_memory, ReadsText, AddsPiece};
 
 use env_directives::directive::ParseError;
 use env_directives::env::directive::Directive;

@@ -2,9 +2,9 @@
 ghost use Rattle.std.specs.Prelude.{◌≡◌, ◌<◌, IfOk, Some, None};
 ghost use Rattle.std.specs.HashMap.{spare};
 ghost use Rattle.std.specs.Option.{option_map};
-ghost use Rattle.env_filter.specs.Keyed.{put, changed};
-ghost use Rattle.env_filter.specs.Kept.{watched_in, level_in, with_met};
-ghost use Rattle.env_filter.specs.Watching.{Watched, found_in};
+ghost use Rattle.env_filter.specs.spans.Keyed.{put, changed};
+ghost use Rattle.env_filter.specs.spans.Kept.{watched_in, level_in, with_met};
+ghost use Rattle.env_filter.specs.spans.Watching.{Watched, found_in};
 
 use crate::watch::Matches;
 use otel_base::list::Items;

@@ -1,9 +1,9 @@
 //! The two tables of a filter: which directives go where.
 ghost use Rattle.std.specs.Prelude.{◌≡◌, [], ◌++◌, ◌∷◌, IfOk, OnOk, OnErr, map, option_map};
 ghost use Rattle.std.specs.List.{list_any};
-ghost use Rattle.env_directives.specs.DirectiveOrder.{directive_cmp};
-ghost use Rattle.env_directives.specs.StaticOrder.{most_specific_first};
-ghost use Rattle.env_directives.specs.Table.{empty_table, with_added, with_all_added};
+ghost use Rattle.env_directives.specs.orders.DirectiveOrder.{directive_cmp};
+ghost use Rattle.env_directives.specs.orders.StaticOrder.{most_specific_first};
+ghost use Rattle.env_directives.specs.orders.Table.{empty_table, with_added, with_all_added};
 ghost use Rattle.env_filter.specs.Filtering.{asks_value};
 ghost use Rattle.env_filter.specs.Tables.{is_static, is_dynamic, static_of, all_static, statics_of, dynamics_of, fixed, fixed_field, fixed_directive};
 

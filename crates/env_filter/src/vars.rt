@@ -1,6 +1,6 @@
 //! Where the text of a filter stands: variables, by name.
 ghost use Rattle.std.specs.Prelude.{◌≡◌, List, ℕ, Option, None, Some, IfOk, option_map, string_bytes};
-ghost use Rattle.env_filter.specs.Reading.{Told, IsToldAt, first_named};
+ghost use Rattle.env_filter.specs.texts.Reading.{Told, IsToldAt, first_named};
 
 use otel_base::list::Items;
 use otel_base::memory::Memory;

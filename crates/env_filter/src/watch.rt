@@ -3,9 +3,9 @@ ghost use Rattle.std.specs.List.{list_all};
 ghost use Rattle.std.specs.Prelude.{List, if◌then◌else◌, ◌==◌, ◌&&◌, ◌≡◌, ◌||◌, ◌++◌, [], ◌∷◌, IfOk, length, map, option_map, take, drop};
 ghost use Rattle.trace_base.specs.declared.level.LevelFilter.TheVariants.{OFF};
 ghost use Rattle.env_directives.specs.Meeting.{meets};
-ghost use Rattle.env_directives.specs.Table.{more_verbose};
+ghost use Rattle.env_directives.specs.orders.Table.{more_verbose};
 ghost use Rattle.env_filter.specs.declared.watch.Ask.{Ask};
-ghost use Rattle.env_filter.specs.Watching.{Watched, is_given, is_asked_later, ask_of, and_ask, asks_of, care_of, cares_of, all_asks, found_in, watched, noted, more_met, recorded, level_from, level_of};
+ghost use Rattle.env_filter.specs.spans.Watching.{Watched, is_given, is_asked_later, ask_of, and_ask, asks_of, care_of, cares_of, all_asks, found_in, watched, noted, more_met, recorded, level_from, level_of};
 
 use env_directives::directive;
 use env_directives::env::directive::Directive;
@@ -42,7 +42,7 @@ pub struct Matches {
 
 impl Model for Matches {
     ghost use Rattle.std.specs.Prelude.{◌≡◌, length};
-    ghost use Rattle.env_filter.specs.Watching.{Watched, all_asks};
+    ghost use Rattle.env_filter.specs.spans.Watching.{Watched, all_asks};
 
     ghost Value = { Watched };
 

@@ -3,9 +3,9 @@ use Rattle.std.proofs.Common.{◌≡◌, ℕ, List, Bool, true, false, Some, ref
 use Rattle.std.specs.Prelude.{◌||◌, ◌&&◌}
 use Rattle.trace_base.specs.declared.callsite.Callsite.{Callsite}
 use Rattle.trace_base.specs.declared.level.LevelFilter.{LevelFilter}
-use Rattle.trace_base.specs.Level.{is_within}
+use Rattle.trace_base.specs.words.Level.{is_within}
 use Rattle.trace_base.specs.Gate.{gate}
-use Rattle.env_directives.specs.Choice.{admits}
+use Rattle.env_directives.specs.orders.Choice.{admits}
 use Rattle.env_filter.specs.Filtering.{Filtered, IsNew, interest_in, hint_in, enables_in, is_cared, is_open}
 use Rattle.env_filter.specs.Gating.{admitted}
 use Rattle.event_gate.specs.Rules.{gate_rule, is_within_some}

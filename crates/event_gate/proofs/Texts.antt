@@ -2,17 +2,17 @@
 use Rattle.std.proofs.Common.{◌≡◌, ℕ, ◌+◌, List, [], ◌∷◌, ◌++◌, Bool, false, Ok, Err, refl, sym, ap, ◌∙◌}
 use Rattle.std.specs.Prelude.{flat_map}
 use Rattle.std.specs.Str.{trim}
-use Rattle.env_directives.specs.Reading.{Read}
-use Rattle.env_directives.specs.Separators.{comma_pieces}
+use Rattle.env_directives.specs.reading.Reading.{Read}
+use Rattle.env_directives.specs.reading.Separators.{comma_pieces}
 use Rattle.env_directives.specs.declared.directive.ParseError.{ParseError}
 use Rattle.env_directives.specs.declared.directive.ParseError.TheVariants as fault
 use Rattle.env_directives.specs.declared.env.directive.Directive.{Directive}
-use Rattle.env_directives.proofs.Grammar.{directive_reads}
+use Rattle.env_directives.proofs.forms.GrammarLemmas.{directive_reads}
 use Rattle.env_filter.specs.declared.pieces.Ignored.{Ignored}
-use Rattle.env_filter.specs.Building.{filter_by, IsFilterOf, IsRefusedAt}
+use Rattle.env_filter.specs.texts.Building.{filter_by, IsFilterOf, IsRefusedAt}
 use Rattle.env_filter.specs.Filtering.{Filtering, plain, IsNew}
-use Rattle.env_filter.specs.Pieces.{Reads, ReadsAll, IsFirstFault}
-use Rattle.env_filter.specs.Printing.{fixed_builder}
+use Rattle.env_filter.specs.texts.Pieces.{Reads, ReadsAll, IsFirstFault}
+use Rattle.env_filter.specs.texts.Printing.{fixed_builder}
 use Rattle.event_gate.specs.Rules.{directive_read, directive_in, IsTextFilter}
 
 -- one piece

@@ -5,16 +5,16 @@ use Rattle.std.specs.Str.{trim}
 use Rattle.trace_base.specs.declared.callsite.Callsite.{Callsite}
 use Rattle.trace_base.specs.declared.level.Level.{Level}
 use Rattle.trace_base.specs.declared.level.LevelFilter.{LevelFilter}
-use Rattle.trace_base.specs.Level.{is_within}
+use Rattle.trace_base.specs.words.Level.{is_within}
 use Rattle.env_directives.specs.declared.directive.ParseError.{ParseError}
 use Rattle.env_directives.specs.declared.env.directive.Directive.{Directive}
-use Rattle.env_directives.specs.Choice.{admits}
-use Rattle.env_directives.specs.Reading.{Read, reading}
-use Rattle.env_directives.specs.Separators.{comma_pieces}
-use Rattle.env_filter.specs.Building.{filter_by}
+use Rattle.env_directives.specs.orders.Choice.{admits}
+use Rattle.env_directives.specs.reading.Reading.{Read, reading}
+use Rattle.env_directives.specs.reading.Separators.{comma_pieces}
+use Rattle.env_filter.specs.texts.Building.{filter_by}
 use Rattle.env_filter.specs.Filtering.{Filtered, Filtering, plain, IsNew, is_cared, hint_in}
-use Rattle.env_filter.specs.Pieces.{ReadsText, IsFirstFault}
-use Rattle.env_filter.specs.Printing.{fixed_builder}
+use Rattle.env_filter.specs.texts.Pieces.{ReadsText, IsFirstFault}
+use Rattle.env_filter.specs.texts.Printing.{fixed_builder}
 use Rattle.event_gate.specs.declared.error.GateError.{GateError}
 use Rattle.event_gate.specs.declared.error.GateError.TheVariants as error
 use Rattle.event_gate.specs.declared.levels.Levels.{Levels}

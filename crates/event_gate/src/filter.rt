@@ -1,10 +1,10 @@
 //! The filter of a text.
 ghost use Rattle.std.specs.Prelude.{◌≡◌, ◌||◌, [], Some, IfOk, IfErr};
 ghost use Rattle.trace_base.specs.Gate.{gate};
-ghost use Rattle.env_filter.specs.Building.{IsFilterOf, IsRefusedAt};
-ghost use Rattle.env_filter.specs.Printing.{fixed_builder};
+ghost use Rattle.env_filter.specs.texts.Building.{IsFilterOf, IsRefusedAt};
+ghost use Rattle.env_filter.specs.texts.Printing.{fixed_builder};
 ghost use Rattle.env_filter.specs.Filtering.{plain, IsNew, interest_in, hint_in, enables_in};
-ghost use Rattle.trace_base.specs.Level.{is_within};
+ghost use Rattle.trace_base.specs.words.Level.{is_within};
 ghost use Rattle.event_gate.specs.Rules.{text_filter, gate_rule, is_within_some, IsTextFilter, IsRefused};
 
 use crate::error::GateError;

@@ -1,6 +1,6 @@
 //! A server whose calls are traced.
 ghost use Rattle.std.specs.Prelude.{◌≡◌, ◌<◌, ◌≤◌, ◌^◌, ◌+◌, IsErr, IfOk, IfErr, Err};
-ghost use Rattle.trace_base.specs.Contexts.{IsFull};
+ghost use Rattle.trace_base.specs.lanes.Contexts.{IsFull};
 ghost use Rattle.span_handles.specs.Entries.{MeetsFullLane};
 ghost use Rattle.traced.specs.Standing.{IsUnused, IsHeld};
 ghost use Rattle.traced.specs.AsBefore.{IsAsBefore};

@@ -1,8 +1,8 @@
 -- The lines that tell of directives, and the words that tell of which kind one and a field's value are.
 use Rattle.std.specs.Prelude.{ℕ, List, [], ◌∷◌, ◌++◌, if◌then◌else◌, Bool, ◌||◌, Option, None, Some, is_some, codes, flat_map}
 use Rattle.std.specs.List.{list_any}
-use Rattle.trace_base.specs.Level.{filter_text}
-use Rattle.env_directives.specs.Printed.{directive_text, match_text}
+use Rattle.trace_base.specs.words.Level.{filter_text}
+use Rattle.env_directives.specs.printed.Printed.{directive_text, match_text}
 use Rattle.env_directives.specs.declared.env.directive.Directive.{Directive}
 use Rattle.env_directives.specs.declared.env.field.Match.{Match}
 use Rattle.env_directives.specs.declared.env.field.ValueMatch.{ValueMatch}

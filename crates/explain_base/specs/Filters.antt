@@ -1,9 +1,9 @@
 -- The lines that tell how a filter prints, and what levels it has.
 use Rattle.std.specs.Prelude.{ℕ, List, ◌++◌, Option, None, Some, codes, flat_map}
 use Rattle.trace_base.specs.declared.level.LevelFilter.{LevelFilter}
-use Rattle.trace_base.specs.Level.{filter_text}
+use Rattle.trace_base.specs.words.Level.{filter_text}
 use Rattle.env_filter.specs.Filtering.{Filtering, plain, hint_in}
-use Rattle.env_filter.specs.Printing as printing
+use Rattle.env_filter.specs.texts.Printing as printing
 
 -- how a filter prints, and its hint
 abbrev pub filter_line : Filtering → List ℕ

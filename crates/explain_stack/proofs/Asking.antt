@@ -12,7 +12,7 @@ use Rattle.trace_base.specs.Calls.{SubscriberCall, Records, Follows, Event, afte
 use Rattle.trace_base.specs.Conditions.{Allowed}
 use Rattle.trace_base.specs.Sound.{IsSound}
 use Rattle.trace_base.specs.declared.span.Parent.{Parent}
-use Rattle.trace_base.specs.Contexts.{Lanes}
+use Rattle.trace_base.specs.lanes.Contexts.{Lanes}
 use Rattle.otel_state.specs.declared.op.Op.{Op}
 use Rattle.otel_state.specs.declared.op.OpReply.{OpReply}
 use Rattle.span_handles.specs.Worlds.{Replaced}

@@ -11,7 +11,7 @@ use Rattle.trace_base.specs.Gate.{Worlds, IsOwn}
 use Rattle.trace_base.specs.Spans.{Span, Spans, entries_on, times_in, is_in, place_on, held, released, held_by_child}
 use Rattle.trace_base.specs.Calls.{SubscriberCall, NewSpan, Enter, Exit, after, entered, exited}
 use Rattle.trace_base.specs.Conditions.{HasOwnHold, MayExit}
-use Rattle.trace_base.specs.Contexts.{Lanes, KeepsAttached, attached_as}
+use Rattle.trace_base.specs.lanes.Contexts.{Lanes, KeepsAttached, attached_as}
 use Rattle.trace_base.proofs.Entering.{counted_if_any, length_held}
 use Rattle.trace_base.proofs.Holding.{first_if_in}
 use Rattle.span_handles.specs.Worlds.{Replaced}

@@ -3,11 +3,11 @@ use Rattle.std.proofs.Common.{◌≡◌, ℕ, ◌≤◌, List, [], ◌∷◌, �
 use Rattle.std.specs.Prelude.{◌==◌}
 use Rattle.otel_base.specs.declared.context.Context.{Context}
 use Rattle.trace_base.specs.declared.lane.Lane.{Lane}
-use Rattle.trace_base.specs.Default.{with_own}
+use Rattle.trace_base.specs.lanes.Default.{with_own}
 use Rattle.trace_base.specs.Gate.{Worlds, IsOwn}
 use Rattle.trace_base.specs.Spans.{Spans}
 use Rattle.trace_base.specs.Calls.{SubscriberCall, Exit, after}
-use Rattle.trace_base.specs.Contexts.{Lanes, attached_as}
+use Rattle.trace_base.specs.lanes.Contexts.{Lanes, attached_as}
 use Rattle.trace_base.proofs.Entering.{count_push}
 use Rattle.span_handles.specs.Handles.{Held, ReplacedOn}
 use Rattle.span_handles.specs.Entries.{Begins}

@@ -3,7 +3,7 @@ use Rattle.std.proofs.Common.{◌≡◌, ℕ, length, Bool, Option, Some, refl, 
 use Rattle.std.proofs.lemmas.List.{length-set}
 use Rattle.trace_base.specs.Spans.{Spans, next_of}
 use Rattle.trace_base.specs.Calls.{SubscriberCall, NewSpan, Records, Follows, Event, Enter, Exit, CloneSpan, TryClose, after}
-use Rattle.trace_base.specs.Contexts.{Lanes}
+use Rattle.trace_base.specs.lanes.Contexts.{Lanes}
 use Rattle.span_handles.specs.Worlds.{Chain, ended, closes}
 use Rattle.otel_layer.specs.Parts.{PartCall, StaysStack}
 use Rattle.explain_stack.proofs.Steps.{IsQuiet}

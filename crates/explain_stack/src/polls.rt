@@ -1,7 +1,7 @@
 //! Futures that are polled under the spans of handles, and full lanes.
 ghost use Rattle.std.specs.Prelude.{◌≡◌, ◌≤◌, ℕ, IfSome};
 ghost use Rattle.trace_base.specs.Conditions.{HasFewHolds};
-ghost use Rattle.trace_base.specs.Contexts.{attached_as};
+ghost use Rattle.trace_base.specs.lanes.Contexts.{attached_as};
 ghost use Rattle.trace_base.specs.Gate.{dispatch_on};
 ghost use Rattle.span_handles.specs.Handles.{IsKnown, HasOn};
 ghost use Rattle.span_handles.specs.Knowing.{KeepsKnown};

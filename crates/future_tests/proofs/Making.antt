@@ -8,7 +8,7 @@ use Rattle.trace_base.specs.declared.span.Parent.{Parent}
 use Rattle.trace_base.specs.Gate.{Worlds}
 use Rattle.trace_base.specs.Spans.{Spans, entries_on, times_in}
 use Rattle.trace_base.specs.Calls.{SubscriberCall, NewSpan, CloneSpan, after}
-use Rattle.trace_base.specs.Contexts.{Lanes}
+use Rattle.trace_base.specs.lanes.Contexts.{Lanes}
 use Rattle.span_handles.specs.Worlds.{Replaced, spans_in, no_spans}
 use Rattle.span_handles.specs.Handles.{Held, Handle, MakesIf, ReplacedIf, ReplacedOn}
 use Rattle.span_handles.specs.Knowing.{KeepsKnown}

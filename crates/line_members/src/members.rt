@@ -2,9 +2,9 @@
 ghost use Rattle.std.specs.Prelude.{◌≡◌, option_map};
 ghost use Rattle.serde_json.specs.Find.{as_array, as_object, as_str, get_member};
 ghost use Rattle.serde_json.specs.View.{view, items_view};
-ghost use Rattle.trace_pipeline.specs.Forms.{array, as_whole, member, nothing, text, whole, without};
-ghost use Rattle.trace_pipeline.specs.Gives.{Gives};
-ghost use Rattle.trace_pipeline.specs.RequestForm.{fields_form};
+ghost use Rattle.trace_pipeline.specs.forms.Forms.{array, as_whole, member, nothing, text, whole, without};
+ghost use Rattle.trace_pipeline.specs.reading.Gives.{Gives};
+ghost use Rattle.trace_pipeline.specs.forms.RequestForm.{fields_form};
 ghost use Rattle.line_members.specs.Left.{left};
 
 use otel_base::list::Items;
@@ -60,7 +60,7 @@ impl Members {
     }
 
     /// Takes a member, if it is there.
-    #[tactic(auto, using(trace_pipeline::proofs::Members::found, trace_pipeline::proofs::Members::kept))]
+    #[tactic(auto, using(trace_pipeline::proofs::readings::MembersLemmas::found, trace_pipeline::proofs::readings::MembersLemmas::kept))]
     pub fn optional(&mut self, name: &str) -> Option<Json>
         ensures found { option_map view result ≡ get_member name.now (left self.old) }
         ensures left { left self.new ≡ without name.now (left self.old) }
@@ -111,7 +111,7 @@ impl Members {
     }
 
     /// Makes sure that no member is left.
-    #[tactic(auto, using(trace_pipeline::proofs::Members::nothing_left, trace_pipeline::proofs::Members::something_left))]
+    #[tactic(auto, using(trace_pipeline::proofs::readings::MembersLemmas::nothing_left, trace_pipeline::proofs::readings::MembersLemmas::something_left))]
     pub fn end(&self) -> Result<(), LineError>
         ensures { Gives (λ u. u) result (nothing (left self.now)) }
     {

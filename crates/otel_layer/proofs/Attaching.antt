@@ -3,7 +3,7 @@ use Rattle.std.proofs.Common.{◌≡◌, ℕ, Bool, arith, refl}
 use Rattle.std.specs.Prelude.{◌==◌}
 use Rattle.std.proofs.lemmas.Bool.{eq-eqb, cond-true}
 use Rattle.trace_base.specs.declared.lane.Lane.{Lane}
-use Rattle.trace_base.specs.Contexts.{KeepsLane, KeepsAttached, AreAttached, attached_as}
+use Rattle.trace_base.specs.lanes.Contexts.{KeepsLane, KeepsAttached, AreAttached, attached_as}
 
 pub entered_still : (attaches : Bool) (kept now : ℕ → ℕ → ℕ) (before later : Lane) → ((lane number : ℕ) → kept lane number ≡ 0) → KeepsLane attaches before later × KeepsAttached kept before later now → AreAttached now later
 entered_still attaches kept now before later none h number =

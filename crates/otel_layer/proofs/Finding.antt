@@ -8,7 +8,7 @@ use Rattle.otel_base.specs.declared.context.SpanContext.{SpanContext}
 use Rattle.otel_base.specs.Ids.{ids_of}
 use Rattle.otel_base.specs.RecorderIds.{recorder_ids}
 use Rattle.trace_base.specs.Spans.{Spans}
-use Rattle.trace_base.specs.Hooks.{Seen}
+use Rattle.trace_base.specs.layers.Hooks.{Seen}
 use Rattle.span_registry.specs.Both.{InStep}
 use Rattle.otel_state.specs.declared.op.Op.{Op}
 use Rattle.otel_state.specs.declared.op.Op.TheVariants as ops

@@ -12,12 +12,12 @@ use Rattle.trace_base.specs.declared.callsite.Callsite.{Callsite}
 use Rattle.trace_base.specs.declared.field.ValueSet.{ValueSet}
 use Rattle.trace_base.specs.declared.lane.Lane.{Lane}
 use Rattle.trace_base.specs.declared.span.Parent.{Parent}
-use Rattle.trace_base.specs.Contexts.{AreAttached, attached_as}
+use Rattle.trace_base.specs.lanes.Contexts.{AreAttached, attached_as}
 use Rattle.otel_state.specs.declared.op.Op.{Op}
 use Rattle.otel_state.specs.declared.op.Op.TheVariants as ops
 use Rattle.otel_state.specs.declared.settings.LayerSettings.{LayerSettings}
 use Rattle.otel_state.specs.declared.update.Update.{Update}
-use Rattle.otel_state.specs.FirstAttributes.{first_attributes}
+use Rattle.otel_state.specs.fields.FirstAttributes.{first_attributes}
 use Rattle.otel_state.specs.Stack.{last_passing}
 use Rattle.otel_state.specs.States.{Told, Room, HasRoom, begun, changed, record_of}
 use Rattle.otel_layer.specs.declared.tokens.Token.{Token}
@@ -25,8 +25,8 @@ use Rattle.otel_layer.specs.Table.{told_at, with_span, with_op, own_or, is_id, R
 use Rattle.otel_layer.specs.Core.{Core, is_token, is_number, keeps_as, kept_by, IsWholeCore}
 use Rattle.otel_layer.specs.Steps.{Starts, StartsAny, above, around, context_from, made_told, MakesSpan, EntersLane, EntersSpan, ClosesSpan}
 use Rattle.otel_layer.specs.Ready.{retimed}
-use Rattle.otel_layer.specs.Taking.{last_passes, last_counted}
-use Rattle.otel_layer.specs.Keeping.{whole_kin, starts_kin, removed_length}
+use Rattle.otel_layer.specs.laws.CountsLemmas.{last_passes, last_counted}
+use Rattle.otel_layer.specs.laws.HookLemmas.{whole_kin, starts_kin, removed_length}
 
 pub makes : {T : Type 0} (does : T → TracerCall → T → Type 0) (c between added d : Core T) (id : ℕ) (lane : Lane) (at : ℕ) (place : Parent) (current : Option ℕ) (callsite : Callsite) (values : ValueSet) (source again first : Option ℕ) (active eager : Bool) (put : Parent) (context : Context) (told : Told)
     → active ≡ c.settings.activation → put ≡ place → source ≡ above active put current → again ≡ source → StartsAny does again at c between → context ≡ context_from between.spans (around lane place) source

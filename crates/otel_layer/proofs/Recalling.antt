@@ -13,7 +13,7 @@ use Rattle.otel_base.specs.Recorder.{Records as RecordsBy}
 use Rattle.otel_base.specs.RecorderIds.{recorder_ids}
 use Rattle.otel_base.specs.Stack.{without, empty_context}
 use Rattle.trace_base.specs.declared.lane.Lane.{Lane}
-use Rattle.trace_base.specs.Hooks.{Hook, OnNewSpan, OnRecord, OnFollows, OnEvent, OnEnter, OnExit, OnClose}
+use Rattle.trace_base.specs.layers.Hooks.{Hook, OnNewSpan, OnRecord, OnFollows, OnEvent, OnEnter, OnExit, OnClose}
 use Rattle.otel_state.specs.declared.op.Op.TheVariants as ops
 use Rattle.otel_state.specs.States.{Told, record_of}
 use Rattle.otel_layer.specs.Core.{Core}

@@ -9,7 +9,7 @@ use Rattle.otel_base.specs.Recorder.{Records as RecordsBy}
 use Rattle.otel_base.specs.Stack.{has, without, empty_context}
 use Rattle.trace_base.specs.declared.lane.Lane.{Lane}
 use Rattle.trace_base.specs.Gate.{Worlds}
-use Rattle.trace_base.specs.Hooks.{Hook}
+use Rattle.trace_base.specs.layers.Hooks.{Hook}
 use Rattle.trace_base.specs.Spans.{Spans, next_of, span_at}
 use Rattle.trace_base.specs.Calls.{SubscriberCall, NewSpan, Records, Follows, Event, Enter, Exit, CloneSpan, TryClose, after}
 use Rattle.trace_base.specs.Conditions.{Allowed}

@@ -2,7 +2,7 @@
 use Rattle.std.specs.Prelude.{ℕ, ◌+◌, ◌<◌, ◌≤◌, ◌==◌, ◌^◌, ◌&&◌, if◌then◌else◌, Bool, false, List, [], length, Option, Some, None, count_by}
 use Rattle.std.specs.List.{list_any}
 use Rattle.std.specs.Map.{keys_of}
-use Rattle.trace_base.specs.Hooks.{Seen}
+use Rattle.trace_base.specs.layers.Hooks.{Seen}
 use Rattle.otel_state.specs.declared.settings.LayerSettings.{LayerSettings}
 use Rattle.otel_state.specs.States.{Told, Room}
 use Rattle.otel_layer.specs.declared.tokens.Token.{Token}

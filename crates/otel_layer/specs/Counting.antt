@@ -4,14 +4,14 @@ use Rattle.std.specs.Prelude.{if◌then◌else◌}
 use Rattle.otel_base.specs.Tracer.{TracerCall}
 use Rattle.trace_base.specs.declared.callsite.Callsite.{Callsite}
 use Rattle.trace_base.specs.declared.field.ValueSet.{ValueSet}
-use Rattle.trace_base.specs.Hooks.{Hook, OnNewSpan, OnRecord, OnFollows, OnEvent, OnEnter, OnExit, OnClose}
+use Rattle.trace_base.specs.layers.Hooks.{Hook, OnNewSpan, OnRecord, OnFollows, OnEvent, OnEnter, OnExit, OnClose}
 use Rattle.otel_state.specs.declared.op.Op.{Op}
 use Rattle.otel_state.specs.declared.op.Op.TheVariants as ops
 use Rattle.otel_state.specs.declared.settings.LayerSettings.{LayerSettings}
-use Rattle.otel_state.specs.EventFields.{event_of}
+use Rattle.otel_state.specs.fields.EventFields.{event_of}
 use Rattle.otel_state.specs.States.{Told, changed}
 use Rattle.otel_layer.specs.Core.{Core}
-use Rattle.otel_layer.specs.Keeping.{KeepsOwn}
+use Rattle.otel_layer.specs.laws.HookLemmas.{KeepsOwn}
 use Rattle.otel_layer.specs.Rooming.{same_core_does}
 use Rattle.otel_layer.specs.Steps.{Events, SameCore, Step, DoesHook}
 

@@ -4,7 +4,7 @@ use Rattle.otel_base.specs.declared.context.Context.{Context}
 use Rattle.otel_base.specs.declared.context.SpanContext.{SpanContext}
 use Rattle.otel_base.specs.declared.memory.Memory.{Memory}
 use Rattle.otel_base.specs.Tracer.{TracerCall}
-use Rattle.trace_base.specs.Hooks.{Seen}
+use Rattle.trace_base.specs.layers.Hooks.{Seen}
 use Rattle.trace_base.specs.Spans.{Spans}
 use Rattle.otel_state.specs.declared.op.Op.{Op}
 use Rattle.otel_state.specs.declared.op.Op.TheVariants as ops

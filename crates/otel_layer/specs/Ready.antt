@@ -4,14 +4,14 @@ use Rattle.otel_base.specs.Stack.{IsReady, empty_context}
 use Rattle.trace_base.specs.declared.callsite.Callsite.{Callsite}
 use Rattle.trace_base.specs.declared.field.ValueSet.{ValueSet}
 use Rattle.trace_base.specs.declared.lane.Lane.{Lane}
-use Rattle.trace_base.specs.Contexts.{AreAttached, IsFull}
-use Rattle.trace_base.specs.Hooks.{Preparation, ForNewSpan, ForRecord, ForFollows, ForEvent, ForEnter}
+use Rattle.trace_base.specs.lanes.Contexts.{AreAttached, IsFull}
+use Rattle.trace_base.specs.layers.Hooks.{Preparation, ForNewSpan, ForRecord, ForFollows, ForEvent, ForEnter}
 use Rattle.otel_state.specs.declared.op.Op.{Op}
 use Rattle.otel_state.specs.declared.op.Op.TheVariants as ops
 use Rattle.otel_state.specs.declared.update.Update.{Update}
-use Rattle.otel_state.specs.EventFields.{event_of}
-use Rattle.otel_state.specs.FirstAttributes.{first_attributes}
-use Rattle.otel_state.specs.SpanFields.{span_update}
+use Rattle.otel_state.specs.fields.EventFields.{event_of}
+use Rattle.otel_state.specs.fields.FirstAttributes.{first_attributes}
+use Rattle.otel_state.specs.fields.SpanFields.{span_update}
 use Rattle.otel_state.specs.States.{Told, Kept, begun}
 use Rattle.otel_layer.specs.declared.ready.Ready.{Ready}
 use Rattle.otel_layer.specs.declared.ready.Ready.TheVariants as ready

@@ -14,7 +14,7 @@ use Rattle.trace_base.specs.declared.lane.Lane.{Lane}
 use Rattle.trace_base.specs.declared.span.Parent.{Parent}
 use Rattle.trace_base.specs.Calls.{SubscriberCall, NewSpan, Records, Follows, Event, Enter, Exit, CloneSpan, TryClose}
 use Rattle.trace_base.specs.Gate.{Worlds}
-use Rattle.trace_base.specs.Hooks.{Hook, OnNewSpan, OnRecord, OnFollows, OnEvent, OnEnter, OnExit, OnClose}
+use Rattle.trace_base.specs.layers.Hooks.{Hook, OnNewSpan, OnRecord, OnFollows, OnEvent, OnEnter, OnExit, OnClose}
 use Rattle.trace_base.specs.Spans.{Spans, span_at, entries_on, current_of, place_on, without_last}
 use Rattle.span_registry.specs.declared.layered.Layered.{Layered}
 use Rattle.span_registry.specs.Registering.{Registered}
@@ -22,9 +22,9 @@ use Rattle.span_handles.specs.Worlds.{seen, Released, closed_in}
 use Rattle.otel_state.specs.declared.op.Op.{Op}
 use Rattle.otel_state.specs.declared.op.Op.TheVariants as ops
 use Rattle.otel_state.specs.declared.settings.LayerSettings.{LayerSettings}
-use Rattle.otel_state.specs.EventFields.{event_of}
+use Rattle.otel_state.specs.fields.EventFields.{event_of}
 use Rattle.otel_state.specs.Settings.{default_settings}
-use Rattle.otel_state.specs.SpanFields.{span_update}
+use Rattle.otel_state.specs.fields.SpanFields.{span_update}
 use Rattle.otel_state.specs.Stack.{last_passing}
 use Rattle.otel_state.specs.States.{Told, changed, record_of}
 use Rattle.otel_layer.specs.declared.tokens.Token.{Token}

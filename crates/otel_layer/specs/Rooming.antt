@@ -1,7 +1,7 @@
 -- The same but for room, and hooks that were prepared before.
 use Rattle.std.proofs.Common.{◌≡◌, ℕ, suc, zero, ◌+◌, refl, sym, ap, subst, ◌∙◌, arith, add-zero, zero-add, add_assoc}
 use Rattle.otel_base.specs.Tracer.{TracerCall}
-use Rattle.trace_base.specs.Hooks.{Hook}
+use Rattle.trace_base.specs.layers.Hooks.{Hook}
 use Rattle.otel_layer.specs.Core.{Core}
 use Rattle.otel_layer.specs.Steps.{Reserves, SameCore, Events, Step, DoesHook}
 

@@ -12,15 +12,15 @@ use Rattle.trace_base.specs.declared.lane.Lane.{Lane}
 use Rattle.trace_base.specs.declared.span.Parent.{Parent}
 use Rattle.trace_base.specs.declared.span.Parent.TheVariants as parent
 use Rattle.trace_base.specs.Spans.{without_last}
-use Rattle.trace_base.specs.Contexts.{KeepsLane, attached_as}
-use Rattle.trace_base.specs.Hooks.{Hook, OnNewSpan, OnRecord, OnFollows, OnEvent, OnEnter, OnExit, OnClose}
+use Rattle.trace_base.specs.lanes.Contexts.{KeepsLane, attached_as}
+use Rattle.trace_base.specs.layers.Hooks.{Hook, OnNewSpan, OnRecord, OnFollows, OnEvent, OnEnter, OnExit, OnClose}
 use Rattle.otel_state.specs.declared.op.Op.TheVariants as ops
 use Rattle.otel_state.specs.declared.settings.LayerSettings.{LayerSettings}
 use Rattle.otel_state.specs.declared.update.Update.{Update}
 use Rattle.otel_state.specs.Content.{Making}
-use Rattle.otel_state.specs.EventFields.{event_of}
-use Rattle.otel_state.specs.FirstAttributes.{first_attributes}
-use Rattle.otel_state.specs.SpanFields.{span_update}
+use Rattle.otel_state.specs.fields.EventFields.{event_of}
+use Rattle.otel_state.specs.fields.FirstAttributes.{first_attributes}
+use Rattle.otel_state.specs.fields.SpanFields.{span_update}
 use Rattle.otel_state.specs.Stack.{last_passing}
 use Rattle.otel_state.specs.States.{Told, begun, changed, record_of}
 use Rattle.otel_layer.specs.declared.tokens.Token.{Token}

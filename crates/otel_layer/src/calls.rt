@@ -3,7 +3,7 @@ ghost use Rattle.std.specs.Prelude.{◌≡◌, ◌<◌, ◌≤◌, ◌^◌, ◌+
 ghost use Rattle.std.specs.Map.{remove_entry};
 ghost use Rattle.otel_base.specs.Stack.{IsReady};
 ghost use Rattle.otel_base.specs.Tracer.{Finish};
-ghost use Rattle.trace_base.specs.Contexts.{AreAttached};
+ghost use Rattle.trace_base.specs.lanes.Contexts.{AreAttached};
 ghost use Rattle.otel_state.specs.declared.op.Op.TheVariants as ops;
 ghost use Rattle.otel_state.specs.Content.{Making};
 ghost use Rattle.otel_state.specs.Stack.{last_passing};

@@ -5,9 +5,9 @@ ghost use Rattle.std.proofs.lemmas.Bool.{true≢false};
 ghost use Rattle.std.specs.Borrow.{sem};
 ghost use Rattle.otel_layer.specs.Core.{Roomed, StaysWhole};
 ghost use Rattle.otel_layer.specs.Counting.{counting_core};
-ghost use Rattle.otel_layer.specs.CountingLending.{LendsCountingTracer};
+ghost use Rattle.otel_layer.specs.lending.CountingLending.{LendsCountingTracer};
 ghost use Rattle.otel_layer.specs.Parts.{Touches};
-ghost use Rattle.otel_layer.specs.Touching.{touches_tell, core_stays, layer_can_start};
+ghost use Rattle.otel_layer.specs.laws.CallsLemmas.{touches_tell, core_stays, layer_can_start};
 
 use crate::layer::OpenTelemetryLayer;
 use crate::part::{OtelLayer, OtelPart};

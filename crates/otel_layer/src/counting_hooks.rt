@@ -6,9 +6,9 @@ ghost use Rattle.otel_layer.specs.Core.{seen_in, kept_in, IsWholeCore};
 ghost use Rattle.otel_layer.specs.Counting.{counted_events, counted_keep_own, counted_does};
 ghost use Rattle.otel_layer.specs.Steps.{SameCore, DoesHook};
 ghost use Rattle.otel_layer.specs.Ready.{IsReadyOtel};
-ghost use Rattle.otel_layer.specs.Keeping.{does_whole, same_whole_core};
-ghost use Rattle.otel_layer.specs.Seeing.{does_sees};
-ghost use Rattle.otel_layer.specs.Laning.{does_lanes, does_passive, does_settings};
+ghost use Rattle.otel_layer.specs.laws.HookLemmas.{does_whole, same_whole_core};
+ghost use Rattle.otel_layer.specs.laws.KnownSpansLemmas.{does_sees};
+ghost use Rattle.otel_layer.specs.laws.LaneLemmas.{does_lanes, does_passive, does_settings};
 ghost use Rattle.otel_layer.specs.Rooming.{same_core_refl, same_core_trans};
 
 use crate::counting::FilteredOpenTelemetryLayer;

@@ -2,7 +2,7 @@
 ghost use Rattle.std.specs.Prelude.{false, None};
 ghost use Rattle.std.proofs.Common.{refl};
 ghost use Rattle.otel_layer.specs.Parts.{TouchesNone};
-ghost use Rattle.otel_layer.specs.Touching.{still_layer};
+ghost use Rattle.otel_layer.specs.laws.CallsLemmas.{still_layer};
 
 use crate::part::{OtelLayer, OtelPart};
 use env_directives::targets::Targets;

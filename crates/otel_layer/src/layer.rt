@@ -3,7 +3,7 @@ ghost use Rattle.std.specs.Prelude.{◌≡◌, ◌≤◌, ◌^◌, [], length};
 ghost use Rattle.otel_state.specs.Settings.{default_settings};
 ghost use Rattle.otel_layer.specs.Core.{new_core, set_in, with_other, IsWholeCore, StaysWhole};
 ghost use Rattle.otel_layer.specs.Counting.{counting_core};
-ghost use Rattle.otel_layer.specs.Lending.{LendsTracer};
+ghost use Rattle.otel_layer.specs.lending.Lending.{LendsTracer};
 ghost use Rattle.std.specs.Borrow.{sem};
 
 use crate::table::Table;

@@ -4,7 +4,7 @@ ghost use Rattle.std.proofs.Common.{refl, ap};
 ghost use Rattle.std.proofs.lemmas.Bool.{true≢false};
 ghost use Rattle.otel_state.specs.States.{Told};
 ghost use Rattle.otel_layer.specs.Parts.{PartCall, Applies, Shows, IsOutside, Touches, TouchesNone, TouchesFirst, TellsIf, IsUnanswered, StaysLayer, StaysStack};
-ghost use Rattle.otel_layer.specs.Touching.{touches_tell, core_stays, layer_can_start, first_tells, first_none, first_has, first_stay, layered_is};
+ghost use Rattle.otel_layer.specs.laws.CallsLemmas.{touches_tell, core_stays, layer_can_start, first_tells, first_none, first_has, first_stay, layered_is};
 ghost use Rattle.span_registry.specs.Layering.{kept_same, or_same, whole_both, in_step_same};
 
 use crate::layer::OpenTelemetryLayer;

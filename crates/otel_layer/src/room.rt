@@ -1,8 +1,8 @@
 //! What the hooks of the layer need, and is made and reserved before them.
 ghost use Rattle.std.specs.Prelude.{◌≡◌, ◌<◌, length, OnOk, IfOk, Err};
 ghost use Rattle.otel_base.specs.declared.enter_error.EnterError.TheVariants.{Full};
-ghost use Rattle.trace_base.specs.Contexts.{KeepsLive};
-ghost use Rattle.trace_base.specs.Hooks.{ForNewSpan, ForRecord, ForFollows, ForEvent, ForEnter};
+ghost use Rattle.trace_base.specs.lanes.Contexts.{KeepsLive};
+ghost use Rattle.trace_base.specs.layers.Hooks.{ForNewSpan, ForRecord, ForFollows, ForEvent, ForEnter};
 ghost use Rattle.otel_layer.specs.Steps.{SameCore};
 ghost use Rattle.otel_layer.specs.Ready.{IsReadySpan, IsReadyOtel, IsReadyOp, IsReadyLane, MeetsFull, fresh_told, IsRoomed};
 

@@ -2,7 +2,7 @@
 ghost use Rattle.std.specs.Prelude.{◌≡◌, ℕ, ◌<◌, ◌≤◌, true, false, length, Some, None, IfSome, if◌then◌else◌};
 ghost use Rattle.std.specs.List.{list_any};
 ghost use Rattle.otel_base.specs.Stack.{IsReady};
-ghost use Rattle.trace_base.specs.Contexts.{attached_as};
+ghost use Rattle.trace_base.specs.lanes.Contexts.{attached_as};
 ghost use Rattle.trace_base.specs.Spans.{without_last};
 ghost use Rattle.otel_state.specs.Stack.{last_passing, IsLastPlace};
 ghost use Rattle.otel_layer.specs.Core.{entries_by, is_token};

@@ -3,7 +3,7 @@ use Rattle.std.specs.Prelude.{◌≡◌, ℕ, List, [], ◌++◌, if◌then◌el
 use Rattle.trace_base.specs.declared.callsite.Callsite.{Callsite}
 use Rattle.trace_base.specs.declared.subscriber.Interest.{Interest}
 use Rattle.trace_base.specs.declared.subscriber.Interest.TheVariants.{Always, Never}
-use Rattle.trace_base.specs.Hooks.{Hook, OnEvent, Preparation, ForEvent}
+use Rattle.trace_base.specs.layers.Hooks.{Hook, OnEvent, Preparation, ForEvent}
 use Rattle.otel_metrics.specs.declared.measure.Measure.{Measure}
 use Rattle.otel_metrics.specs.Families.{is_metrics_event}
 use Rattle.otel_metrics.specs.Measures.{measures}

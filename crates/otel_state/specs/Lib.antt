@@ -7,7 +7,4 @@ pub mod States
 pub mod Laws
 pub mod Stack
 pub mod Settings
-pub mod Fields
-pub mod FirstAttributes
-pub mod SpanFields
-pub mod EventFields
+pub mod fields

@@ -3,7 +3,7 @@ ghost use Rattle.std.specs.Prelude.{◌≡◌, ◌++◌, ◌∷◌, [], OnOk, If
 ghost use Rattle.std.specs.Option.{option_copied};
 ghost use Rattle.otel_base.specs.Words.{word_text};
 ghost use Rattle.otel_base.specs.declared.word.Word.TheVariants.{LineNumber};
-ghost use Rattle.otel_state.specs.Fields.{with_text, wanted, known_text, known_number, location, plain_text, debug_text, as_exception, as_field};
+ghost use Rattle.otel_state.specs.fields.Fields.{with_text, wanted, known_text, known_number, location, plain_text, debug_text, as_exception, as_field};
 
 use otel_base::list::Items;
 use otel_base::memory::Memory;

@@ -15,10 +15,10 @@ use Rattle.span_script.specs.Outcomes.{followed_by, history_from}
 use Rattle.span_laws.specs.Closes.{is_drop}
 use Rattle.span_laws.specs.Laws.{IsHistory, more, occurrences}
 use Rattle.span_laws.specs.Starts.{at_making, started}
-use Rattle.span_laws.proofs.Histories.{closing_once, closing_shut, fits, whole}
-use Rattle.span_laws.proofs.Occurrences.{is_in_counted, occurs_cons}
-use Rattle.span_laws.proofs.Orders.{order_in, effect_order}
-use Rattle.span_laws.proofs.Steps.{step_of}
+use Rattle.span_laws.proofs.records.HistoriesLemmas.{closing_once, closing_shut, fits, whole}
+use Rattle.span_laws.proofs.spans.OccurrencesLemmas.{is_in_counted, occurs_cons}
+use Rattle.span_laws.proofs.spans.StartOrdersLemmas.{order_in, effect_order}
+use Rattle.span_laws.proofs.steps.StepsLemmas.{step_of}
 use Rattle.span_eager.proofs.SameRecordings.{AreOnce, Shut, entries_in}
 
 -- the spans of a history that goes on from some tables, in the order in which they start

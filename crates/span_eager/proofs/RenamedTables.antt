@@ -9,7 +9,7 @@ use Rattle.otel_state.specs.Deeds.{deed}
 use Rattle.otel_layer.specs.Recording.{Recording, with_start, with_starts, with_applied}
 use Rattle.trace_base.specs.Spans.{without_last}
 use Rattle.span_script.specs.Tables.{Made, Done, Owner, Attached, is_by, Effect, Tables, with_new, with_attached, with_detached, with_made, begun_by, done_by, recorded_by, open_part, after}
-use Rattle.span_laws.proofs.Orders.{starts_from, closes_from}
+use Rattle.span_laws.proofs.spans.StartOrdersLemmas.{starts_from, closes_from}
 use Rattle.span_eager.specs.Early.{IsSettled}
 use Rattle.span_eager.specs.Renaming.{context_by, reply_by}
 use Rattle.span_eager.proofs.SameSpan.{Ids, told_by}

@@ -5,7 +5,7 @@ use Rattle.std.specs.List.{AllByRecursion}
 use Rattle.std.specs.Option.{option_to_list}
 use Rattle.std.proofs.lemmas.List.{length-map}
 use Rattle.std.proofs.lemmas.Option.{slice_get-map}
-use Rattle.env_directives.specs.Choice.{admits}
+use Rattle.env_directives.specs.orders.Choice.{admits}
 use Rattle.otel_base.specs.declared.context.Context.{Context}
 use Rattle.otel_base.specs.declared.context.SpanContext.{SpanContext}
 use Rattle.otel_base.specs.declared.value.KeyValue.{KeyValue}
@@ -17,7 +17,7 @@ use Rattle.otel_state.specs.declared.op.Op.{Op}
 use Rattle.otel_state.specs.declared.op.Op.TheVariants as ops
 use Rattle.otel_state.specs.declared.settings.LayerSettings.{LayerSettings}
 use Rattle.otel_state.specs.declared.times.TheConstants.{GREATEST}
-use Rattle.otel_state.specs.EventFields.{event_of}
+use Rattle.otel_state.specs.fields.EventFields.{event_of}
 use Rattle.otel_state.specs.Deeds.{deed}
 use Rattle.otel_state.specs.States.{Told}
 use Rattle.otel_layer.specs.Asking.{link_of, event_at}

@@ -14,8 +14,8 @@ use Rattle.span_script.specs.Effects.{is_open, open_spans}
 use Rattle.span_script.specs.Outcomes.{history_of, outcome_of}
 use Rattle.span_laws.specs.Laws.{none}
 use Rattle.span_laws.specs.Starts.{started}
-use Rattle.span_laws.proofs.Balance.{started_few}
-use Rattle.span_laws.proofs.Legal.{scripts_are_legal}
+use Rattle.span_laws.proofs.spans.AllSpansLemmas.{started_few}
+use Rattle.span_laws.proofs.steps.LegalLemmas.{scripts_are_legal}
 use Rattle.span_eager.specs.Early.{lazy, eager_id, answers, is_far, MayStartEarly}
 use Rattle.span_eager.specs.Renaming.{new_id, reply_by, answer_by, outcome_with}
 use Rattle.span_eager.proofs.SameSpan.{Ids}

@@ -21,7 +21,7 @@ use Rattle.otel_layer.specs.Recording.{Recording, with_applied, started_under, w
 use Rattle.otel_layer.specs.Table.{told_at, update, with_op, waits, waits_by}
 use Rattle.otel_layer.proofs.Finding.{told_at_removed}
 use Rattle.span_script.specs.Tables.{Done}
-use Rattle.span_laws.proofs.Orders.{if_waiting, starting, starts_from, closes_from}
+use Rattle.span_laws.proofs.spans.StartOrdersLemmas.{if_waiting, starting, starts_from, closes_from}
 use Rattle.span_eager.specs.Early.{settles, IsSettled}
 use Rattle.span_eager.specs.Renaming.{record_by}
 use Rattle.span_eager.proofs.SameSpan.{Ids, SameTold, Quiet, op_by, told_by, early_ids, changed_alike, start_alike, made_alike, record_alike}

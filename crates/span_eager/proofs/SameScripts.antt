@@ -16,7 +16,7 @@ use Rattle.span_script.specs.Setups.{Setup}
 use Rattle.span_script.specs.Tables.{Effect, History, Tables, done_by, recorded_by, open_part, records_of, after}
 use Rattle.span_script.specs.Effects.{Resolved, named, effect_of, effect_of_call, is_bad_moment}
 use Rattle.span_script.specs.Outcomes.{followed_by, history_from, records_from, refusal_at}
-use Rattle.span_laws.proofs.Orders.{starts_from, closes_from}
+use Rattle.span_laws.proofs.spans.StartOrdersLemmas.{starts_from, closes_from}
 use Rattle.span_eager.specs.Early.{lazy, answers_from, AreSettled, AreFar}
 use Rattle.span_eager.specs.Renaming.{record_by, reply_by, answer_by}
 use Rattle.span_eager.proofs.SameSpan.{Ids}

@@ -7,7 +7,7 @@ use Rattle.trace_base.specs.Gate.{Worlds}
 use Rattle.trace_base.specs.Spans.{Span, Spans, span_at, entries_on, is_in, times_in, held}
 use Rattle.trace_base.specs.Calls.{SubscriberCall, Enter, entered, after}
 use Rattle.trace_base.specs.Conditions.{HasOwnHold, MayExit}
-use Rattle.trace_base.specs.Contexts.{AreAttached, KeepsAttached, Lanes, attached_as}
+use Rattle.trace_base.specs.lanes.Contexts.{AreAttached, KeepsAttached, Lanes, attached_as}
 use Rattle.trace_base.proofs.Entering.{count_push, any_if_counted, with_same, made_if_held}
 use Rattle.trace_base.proofs.Holding.{first_if_in, first_with, in_push_same, keeps_children, holds_set}
 use Rattle.span_handles.specs.Worlds.{Has, Replaced}

@@ -6,7 +6,7 @@ use Rattle.trace_base.specs.Gate.{Worlds}
 use Rattle.trace_base.specs.Spans.{Spans, next_of}
 use Rattle.trace_base.specs.Calls.{SubscriberCall, TryClose, after}
 use Rattle.trace_base.specs.Conditions.{Allowed}
-use Rattle.trace_base.specs.Contexts.{Lanes}
+use Rattle.trace_base.specs.lanes.Contexts.{Lanes}
 use Rattle.span_handles.specs.Worlds.{Has, Replaced, seen, Shown, Alike, Chain, ended, closes, Released, all_released, releases, ChainShown, no_spans}
 
 get_set : {X : Type 0} (xs : List X) (n : ℕ) (x y : X) → slice_get xs n ≡ Some x → slice_get (slice_set xs n y) n ≡ Some y

@@ -2,7 +2,7 @@
 use Rattle.std.specs.Prelude.{◌≡◌, ◌<◌, ℕ, Bool, true, length, Some, None}
 use Rattle.trace_base.specs.declared.lane.Lane.{Lane}
 use Rattle.trace_base.specs.Gate.{Worlds}
-use Rattle.trace_base.specs.Contexts.{AreAttached, IsFull}
+use Rattle.trace_base.specs.lanes.Contexts.{AreAttached, IsFull}
 use Rattle.trace_base.specs.Spans.{Spans, entries_on, times_in}
 use Rattle.trace_base.specs.Calls.{SubscriberCall, Enter}
 use Rattle.span_handles.specs.Worlds.{Has}

@@ -5,7 +5,7 @@ use Rattle.trace_base.specs.Gate.{Worlds}
 use Rattle.trace_base.specs.Spans.{Spans, next_of, span_at, released}
 use Rattle.trace_base.specs.Calls.{SubscriberCall, TryClose, after}
 use Rattle.trace_base.specs.Conditions.{HasOwnHold}
-use Rattle.trace_base.specs.Contexts.{Lanes}
+use Rattle.trace_base.specs.lanes.Contexts.{Lanes}
 
 -- something holds of the subscriber of a number
 abbrev pub Has : {S : Type 0} → (S → Type 0) → Worlds S → ℕ → Type 0

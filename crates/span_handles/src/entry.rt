@@ -3,7 +3,7 @@ ghost use Rattle.std.specs.Prelude.{◌≡◌, ◌<◌, ℕ, length, Some, None,
 ghost use Rattle.otel_base.specs.declared.enter_error.EnterError.TheVariants.{Full};
 ghost use Rattle.trace_base.specs.Calls.{Enter, Exit};
 ghost use Rattle.trace_base.specs.Conditions.{HasFewHolds, IsLive, MayExit};
-ghost use Rattle.trace_base.specs.Contexts.{AreAttached, KeepsLive};
+ghost use Rattle.trace_base.specs.lanes.Contexts.{AreAttached, KeepsLive};
 ghost use Rattle.span_handles.specs.Worlds.{Has, Replaced};
 ghost use Rattle.span_handles.specs.Handles.{IsKnown, HasOn, ReplacedOn};
 ghost use Rattle.span_handles.specs.Knowing.{KeepsHandles};

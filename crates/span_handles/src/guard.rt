@@ -3,7 +3,7 @@ ghost use Rattle.std.specs.Prelude.{◌≡◌, ℕ, Option, Some, None, Err, IfO
 ghost use Rattle.otel_base.specs.declared.enter_error.EnterError.TheVariants.{Full};
 ghost use Rattle.trace_base.specs.Calls.{Enter, Exit};
 ghost use Rattle.trace_base.specs.Conditions.{HasFewHolds, MayExit};
-ghost use Rattle.trace_base.specs.Contexts.{AreAttached};
+ghost use Rattle.trace_base.specs.lanes.Contexts.{AreAttached};
 ghost use Rattle.span_handles.specs.Handles.{Handle, IsKnown, HasOn, ReplacedOn, id_of};
 ghost use Rattle.span_handles.specs.Knowing.{KeepsHandles};
 ghost use Rattle.span_handles.specs.Entries.{IsThere, IsStillOn, Begins, Keeps, LeavesLane, MeetsFullLane};

@@ -1,6 +1,6 @@
 -- What a filter hears of the hook of a layer.
 use Rattle.std.specs.Prelude.{Option, Some, None}
-use Rattle.trace_base.specs.Hooks.{Hook, OnNewSpan, OnRecord, OnFollows, OnEvent, OnEnter, OnExit, OnClose}
+use Rattle.trace_base.specs.layers.Hooks.{Hook, OnNewSpan, OnRecord, OnFollows, OnEvent, OnEnter, OnExit, OnClose}
 use Rattle.env_filter.specs.Filtering.{Filtered}
 use Rattle.span_script.specs.Effects.{hears}
 use Rattle.span_script.specs.Tables.{Heard, HeardNew, HeardRecord, HeardEnter, HeardExit, HeardClose}

@@ -2,7 +2,7 @@
 use Rattle.std.specs.Prelude.{◌≡◌, ℕ, List, map, Option, None}
 use Rattle.std.specs.List.{AllByRecursion}
 use Rattle.trace_base.specs.declared.level.LevelFilter.{LevelFilter}
-use Rattle.trace_base.specs.Hooks.{Hook}
+use Rattle.trace_base.specs.layers.Hooks.{Hook}
 use Rattle.env_directives.specs.declared.env.directive.Directive.{Directive}
 use Rattle.env_filter.specs.Filtering.{span_level}
 use Rattle.span_script.specs.Admission.{text_filter}

@@ -1,7 +1,7 @@
 -- Which spans the layer of a stack keeps a state of.
 use Rattle.std.specs.Prelude.{◌≡◌, ℕ, Bool, nat_lt, is_some, count_by}
 use Rattle.std.specs.Map.{keys_of}
-use Rattle.trace_base.specs.Hooks.{one_if}
+use Rattle.trace_base.specs.layers.Hooks.{one_if}
 use Rattle.trace_base.specs.Spans.{Spans, span_at}
 use Rattle.otel_layer.specs.Parts.{PartCall, Applies, Shows}
 use Rattle.otel_layer.specs.Recording.{Recording}

@@ -7,8 +7,8 @@ use Rattle.otel_base.specs.Stack.{empty_context}
 use Rattle.otel_layer.specs.Recording.{with_start}
 use Rattle.otel_layer.specs.Table.{own_or, told_at}
 use Rattle.otel_state.specs.Content.{Making}
-use Rattle.otel_state.specs.FirstAttributes.{first_attributes}
-use Rattle.otel_state.specs.SpanFields.{span_update}
+use Rattle.otel_state.specs.fields.FirstAttributes.{first_attributes}
+use Rattle.otel_state.specs.fields.SpanFields.{span_update}
 use Rattle.trace_base.specs.declared.callsite.Callsite.{Callsite}
 use Rattle.trace_base.specs.declared.field.ValueSet.{ValueSet}
 use Rattle.trace_base.specs.Spans.{current_of}

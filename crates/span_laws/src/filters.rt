@@ -2,10 +2,10 @@
 ghost use Rattle.std.specs.Prelude.{◌≡◌, ℕ, List, [], ◌++◌, Some, true, false, is_some};
 ghost use Rattle.trace_base.specs.declared.callsite.Callsite.{Callsite};
 ghost use Rattle.trace_base.specs.declared.field.ValueSet.{ValueSet};
-ghost use Rattle.trace_base.specs.Hooks.{Hook};
+ghost use Rattle.trace_base.specs.layers.Hooks.{Hook};
 ghost use Rattle.trace_base.specs.Spans.{is_in};
 ghost use Rattle.env_filter.specs.Filtering.{Filtered, after as after_hook, is_admitted};
-ghost use Rattle.env_filter.specs.Histories.{NeverFalls, level_told, levels_told};
+ghost use Rattle.env_filter.specs.spans.Histories.{NeverFalls, level_told, levels_told};
 ghost use Rattle.span_script.specs.Admission.{text_filter};
 ghost use Rattle.span_script.specs.Effects.{admitted, events, filter_at, hook_of, reloads};
 ghost use Rattle.span_script.specs.Setups.{Setup};

@@ -2,7 +2,7 @@
 ghost use Rattle.std.specs.Prelude.{◌≡◌, ◌↔◌, ℕ, List, [], Ok, Err, false};
 ghost use Rattle.env_directives.specs.declared.directive.ParseError.{ParseError};
 ghost use Rattle.env_directives.specs.declared.env.directive.Directive.{Directive};
-ghost use Rattle.env_filter.specs.Pieces.{IsFirstFault, ReadsText};
+ghost use Rattle.env_filter.specs.texts.Pieces.{IsFirstFault, ReadsText};
 ghost use Rattle.span_script.specs.Admission.{text_read};
 
 /// A text is put in force exactly where each of its nonempty pieces is a directive by the grammar of forms, as these in

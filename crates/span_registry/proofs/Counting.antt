@@ -11,7 +11,7 @@ use Rattle.trace_base.specs.declared.field.ValueSet.{ValueSet}
 use Rattle.trace_base.specs.Spans.{Span, Entries, Spans, no_span, span_at, entries_on, with_entries, is_in, times_in, first_entries, is_child_of, without_last, held, less_held, released, held_by_child, place_on, next_of}
 use Rattle.trace_base.specs.Calls.{SubscriberCall, NewSpan, Records, Follows, Event, Enter, Exit, CloneSpan, TryClose, after, with_span, entered, exited}
 use Rattle.trace_base.specs.Conditions.{Allowed, IsLive}
-use Rattle.trace_base.specs.Hooks.{one_if}
+use Rattle.trace_base.specs.layers.Hooks.{one_if}
 use Rattle.trace_base.proofs.Entering.{count_push, made_if_held, length_held, with_same, with_other}
 use Rattle.trace_base.proofs.Holding.{less_last, less_more, less_holds, holds_set, holds_other}
 use Rattle.trace_base.proofs.Moving.{entry_moves, exit_moves}

@@ -7,7 +7,7 @@ use Rattle.trace_base.specs.Calls.{with_span}
 use Rattle.trace_base.specs.Conditions.{HasOwnHold}
 use Rattle.trace_base.specs.Sound.{IsSound}
 use Rattle.trace_base.proofs.Entering.{count_push, no_entries}
-use Rattle.trace_base.specs.Hooks.{Seen}
+use Rattle.trace_base.specs.layers.Hooks.{Seen}
 use Rattle.span_registry.specs.Both.{InStep, KnowsNone}
 use Rattle.span_registry.specs.Stepping.{in_step_start}
 use Rattle.span_registry.specs.Tabling.{Tabled}

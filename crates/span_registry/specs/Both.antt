@@ -7,9 +7,9 @@ use Rattle.trace_base.specs.declared.subscriber.Interest.TheVariants as interest
 use Rattle.trace_base.specs.declared.lane.Lane.{Lane}
 use Rattle.trace_base.specs.Spans.{Spans, span_at, entries_on, times_in, current_of, place_on}
 use Rattle.trace_base.specs.Calls.{SubscriberCall, NewSpan, Records, Follows, Event, Enter, Exit, CloneSpan, TryClose}
-use Rattle.trace_base.specs.Hooks.{Hook, OnNewSpan, OnRecord, OnFollows, OnEvent, OnEnter, OnExit, OnClose, Seen}
-use Rattle.trace_base.specs.Contexts.{KeepsLive}
-use Rattle.trace_base.specs.Level.{greatest_verbosity}
+use Rattle.trace_base.specs.layers.Hooks.{Hook, OnNewSpan, OnRecord, OnFollows, OnEvent, OnEnter, OnExit, OnClose, Seen}
+use Rattle.trace_base.specs.lanes.Contexts.{KeepsLive}
+use Rattle.trace_base.specs.words.Level.{greatest_verbosity}
 
 -- the hook of the layer comes after the subscriber's call; at an entry the room on the lane was taken before
 pub record EntersBoth {S L : Type 0} (inner : S → SubscriberCall → S → Type 0) (outer : L → Hook → L → Type 0) (attaches : Bool) (s : S) (l : L) (id at : ℕ) (before later : Lane) (t : S) (m : L) : Type 0 where

@@ -2,7 +2,7 @@
 use Rattle.std.specs.Prelude.{◌≡◌, ℕ, ◌+◌, ◌<◌, ◌==◌, if◌then◌else◌, Bool, false, List, [], ◌∷◌, ◌++◌, length, fold, count_by, nat_lt, Option, Some, None, slice_index_or}
 use Rattle.trace_base.specs.Spans.{Spans, no_span, span_at, entries_on, first_entries, without_last, place_on, is_child_of, next_of}
 use Rattle.trace_base.specs.Calls.{SubscriberCall, NewSpan, Records, Follows, Event, Enter, Exit, CloneSpan, TryClose}
-use Rattle.trace_base.specs.Hooks.{one_if}
+use Rattle.trace_base.specs.layers.Hooks.{one_if}
 use Rattle.trace_base.specs.Sound.{OneEach}
 
 -- These calls were made of a subscriber, one after another, and no other call changed it; spare room may have grown.

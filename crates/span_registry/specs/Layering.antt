@@ -10,8 +10,8 @@ use Rattle.trace_base.specs.declared.lane.Lane.{Lane}
 use Rattle.trace_base.specs.Spans.{Spans, span_at, entries_on, place_on, current_of, released, held}
 use Rattle.trace_base.specs.Calls.{SubscriberCall, NewSpan, Records, Follows, Event, Enter, Exit, CloneSpan, TryClose, after, entered, exited}
 use Rattle.trace_base.specs.Conditions.{Allowed}
-use Rattle.trace_base.specs.Hooks.{Hook, OnNewSpan, OnFollows, OnEvent, OnEnter, OnExit, Seen, Sees, HookLanes}
-use Rattle.trace_base.specs.Contexts.{attached_as, attached_on, KeepsAttached, KeepsLane, KeepsLive, Lanes}
+use Rattle.trace_base.specs.layers.Hooks.{Hook, OnNewSpan, OnFollows, OnEvent, OnEnter, OnExit, Seen, Sees, HookLanes}
+use Rattle.trace_base.specs.lanes.Contexts.{attached_as, attached_on, KeepsAttached, KeepsLane, KeepsLive, Lanes}
 use Rattle.std.proofs.lemmas.List.{length-set}
 use Rattle.span_registry.specs.Both.{DoesBoth, EntersBoth, InStep, IsWholeBoth, picked_both, hint_both, enables_both, activates_both}
 use Rattle.span_registry.specs.Stepping.{in_step, tracks_new, tracks_record, tracks_follows, tracks_event, tracks_enter, tracks_exit, tracks_close, tracks_quiet, sees_quiet}

@@ -6,8 +6,8 @@ use Rattle.trace_base.specs.Calls.{SubscriberCall, NewSpan, Records, Follows, Ev
 use Rattle.trace_base.specs.Conditions.{Allowed}
 use Rattle.trace_base.specs.Sound.{IsSound}
 use Rattle.span_registry.specs.Tabling.{live_spans}
-use Rattle.trace_base.specs.Contexts.{Lanes}
-use Rattle.trace_base.specs.Unseeing.{left_as_it_is, nothing_kept}
+use Rattle.trace_base.specs.lanes.Contexts.{Lanes}
+use Rattle.trace_base.specs.layers.Unseeing.{left_as_it_is, nothing_kept}
 
 -- what a registry stands for: its spans, and how many slots it has for live ones
 pub record Registered : Type 0 where

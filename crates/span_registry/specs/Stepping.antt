@@ -10,7 +10,7 @@ use Rattle.trace_base.specs.declared.field.ValueSet.{ValueSet}
 use Rattle.trace_base.specs.Spans.{Span, Entries, Spans, span_at, entries_on, is_in, times_in, without_last, held, less_held, released, held_by_child}
 use Rattle.trace_base.specs.Calls.{with_span, entered, exited}
 use Rattle.trace_base.specs.Conditions.{IsLive, MayExit, HasOwnHold}
-use Rattle.trace_base.specs.Hooks.{Hook, OnNewSpan, OnRecord, OnFollows, OnEvent, OnEnter, OnExit, OnClose, Seen, Sees, makes, closes, comes, goes, one_if}
+use Rattle.trace_base.specs.layers.Hooks.{Hook, OnNewSpan, OnRecord, OnFollows, OnEvent, OnEnter, OnExit, OnClose, Seen, Sees, makes, closes, comes, goes, one_if}
 use Rattle.trace_base.proofs.Entering.{count_push, count_without_last, any_if_counted, with_same, with_other, made_if_held, length_held, no_entries}
 use Rattle.span_registry.specs.Both.{InStep, KnowsNone}
 

@@ -4,7 +4,7 @@ ghost use Rattle.trace_base.specs.Spans.{entries_on, place_on};
 ghost use Rattle.trace_base.specs.Sound.{IsSound};
 ghost use Rattle.span_registry.specs.Both.{DoesBoth, InStep, IsWholeBoth, KnowsNone, picked, picked_both, hint_both, enables_both, activates_both};
 ghost use Rattle.span_registry.specs.Layering.{kept_same, or_same, whole_both, in_step_same, both_same, both_allowed, both_shows, both_lanes, both_keep, both_in_step, gate_both, enables_same, activates_same, both_passive};
-ghost use Rattle.trace_base.specs.Hooks.{OnEnter};
+ghost use Rattle.trace_base.specs.layers.Hooks.{OnEnter};
 ghost use Rattle.std.specs.Borrow.{sem};
 ghost use Rattle.span_registry.specs.Lending.{LendsLayer, LendsInner};
 

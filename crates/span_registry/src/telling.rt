@@ -1,7 +1,7 @@
 //! What a layer keeps of its own, read through the layers over it.
 ghost use Rattle.std.specs.Prelude.{◌≡◌, Option, None};
 ghost use Rattle.std.proofs.Common.{refl};
-ghost use Rattle.trace_base.specs.Hooks.{Hook};
+ghost use Rattle.trace_base.specs.layers.Hooks.{Hook};
 ghost use Rattle.span_registry.specs.Hearing.{HearHooks, HearCalls, told_first, both_told, told_same};
 
 use crate::layered::Layered;

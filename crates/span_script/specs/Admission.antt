@@ -1,13 +1,13 @@
 -- What the texts of filters are read as. That this is what the forms of directives say, piece by piece, says `texts` of span_laws.
 use Rattle.std.specs.Prelude.{◌≡◌, ℕ, ◌+◌, List, [], ◌∷◌, if◌then◌else◌, Bool, true, false, Option, None, Some, Result, Ok, Err, IfSome, option_map}
 use Rattle.std.specs.Str.{trim}
-use Rattle.env_directives.specs.Reading.{Read, reading}
-use Rattle.env_directives.specs.Separators.{comma_pieces}
-use Rattle.env_directives.specs.Table.{empty_table}
+use Rattle.env_directives.specs.reading.Reading.{Read, reading}
+use Rattle.env_directives.specs.reading.Separators.{comma_pieces}
+use Rattle.env_directives.specs.orders.Table.{empty_table}
 use Rattle.env_directives.specs.declared.env.directive.Directive.{Directive}
 use Rattle.env_directives.specs.declared.directive.ParseError.{ParseError}
 use Rattle.env_filter.specs.Filtering.{Filtered, IsNew}
-use Rattle.env_filter.specs.Pieces.{is_memory}
+use Rattle.env_filter.specs.texts.Pieces.{is_memory}
 use Rattle.span_script.specs.declared.open_error.OpenError.{OpenError}
 use Rattle.span_script.specs.declared.open_error.OpenError.TheVariants as errors
 use Rattle.env_filter.specs.Tables.{statics_of, dynamics_of, with_tables}

@@ -13,12 +13,12 @@ use Rattle.otel_layer.specs.declared.tokens.Token.{Token}
 use Rattle.otel_layer.specs.Core.{is_token}
 use Rattle.otel_layer.specs.Table.{told_at}
 use Rattle.otel_layer.specs.Recording.{Recording, no_recording}
-use Rattle.env_directives.specs.Table.{Table}
+use Rattle.env_directives.specs.orders.Table.{Table}
 use Rattle.env_directives.specs.declared.directive.StaticDirective.{StaticDirective}
 use Rattle.env_directives.specs.declared.env.directive.Directive.{Directive}
 use Rattle.env_filter.specs.Filtering.{Filtered, IsNew, interest_in}
-use Rattle.env_filter.specs.Levels.{Opened}
-use Rattle.env_filter.specs.Watching.{Watched}
+use Rattle.env_filter.specs.spans.Levels.{Opened}
+use Rattle.env_filter.specs.spans.Watching.{Watched}
 use Rattle.span_handles.specs.Worlds.{Has, seen, spans_in, kept_in}
 use Rattle.span_handles.specs.Handles.{Handle, Held}
 use Rattle.otel_metrics.specs.declared.measure.Measure.{Measure}

@@ -1,12 +1,2 @@
-mod Admitting
-mod Beginning
-mod Counted
-mod Deciding
-mod Exchanging
-mod Forgetting
-mod Freshness
-mod Gauging
-mod Nesting
-mod Putting
-mod Taken
-mod Viewing
+mod worlds
+mod hooks

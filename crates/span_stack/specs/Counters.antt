@@ -4,10 +4,10 @@ use Rattle.std.specs.Prelude.{Option, Some, None, drop}
 use Rattle.otel_base.specs.Recorder.{Recorded}
 use Rattle.otel_base.specs.Tracer.{TracerCall}
 use Rattle.trace_base.specs.declared.callsite.Callsite.{Callsite}
-use Rattle.trace_base.specs.Hooks.{Hook}
+use Rattle.trace_base.specs.layers.Hooks.{Hook}
 use Rattle.otel_layer.specs.Core.{Core, Roomed}
 use Rattle.otel_layer.specs.Counting.{counted_events, counted_keep_own}
-use Rattle.otel_layer.specs.Keeping.{KeepsOwn, all_keep_own}
+use Rattle.otel_layer.specs.laws.HookLemmas.{KeepsOwn, all_keep_own}
 use Rattle.otel_layer.specs.Rooming.{same_core_does}
 use Rattle.otel_layer.specs.Steps.{Events, SameCore, DoesHook, all_events}
 use Rattle.span_stack.specs.declared.telemetry.Telemetry.{Telemetry}

@@ -5,7 +5,7 @@ use Rattle.trace_base.specs.declared.field.ValueSet.{ValueSet}
 use Rattle.trace_base.specs.Spans.{Spans, entries_on, place_on}
 use Rattle.trace_base.specs.Calls.{SubscriberCall, NewSpan, Records, Follows, Event, Enter, Exit, CloneSpan, TryClose}
 use Rattle.otel_state.specs.declared.op.Op.TheVariants as ops
-use Rattle.otel_state.specs.EventFields.{event_of}
+use Rattle.otel_state.specs.fields.EventFields.{event_of}
 use Rattle.otel_layer.specs.Recording.{Recording, with_applied, with_event, RecordsCall}
 use Rattle.env_filter.specs.Filtering.{Filtered, enables_in}
 

@@ -3,10 +3,10 @@ use Rattle.std.specs.Prelude.{◌≡◌, ◌==◌, ℕ, if◌then◌else◌, Opt
 use Rattle.std.specs.Option.{option_map}
 use Rattle.trace_base.specs.Spans.{Spans, span_at, entries_on, current_of, place_on}
 use Rattle.trace_base.specs.Calls.{SubscriberCall, NewSpan, Records, Follows, Event, Enter, Exit, CloneSpan, TryClose}
-use Rattle.trace_base.specs.Hooks.{OnNewSpan, OnRecord, OnFollows, OnEvent, OnEnter, OnExit}
+use Rattle.trace_base.specs.layers.Hooks.{OnNewSpan, OnRecord, OnFollows, OnEvent, OnEnter, OnExit}
 use Rattle.span_handles.specs.Worlds.{Released, closed_in}
 use Rattle.env_filter.specs.Filtering.{Filtered, after}
-use Rattle.env_filter.specs.Keyed.{put}
+use Rattle.env_filter.specs.spans.Keyed.{put}
 
 -- a span that closed is forgotten
 abbrev pub without_span : Filtered → ℕ → Filtered

@@ -8,7 +8,7 @@ ghost use Rattle.span_handles.specs.Worlds.{Replaced, Alike, Chain, spans_in};
 ghost use Rattle.otel_layer.specs.Parts.{PartCall};
 ghost use Rattle.otel_layer.specs.Table.{told_at};
 ghost use Rattle.otel_layer.specs.Recording.{RecordsChain, RecordsPart};
-ghost use Rattle.env_directives.specs.Choice.{admits};
+ghost use Rattle.env_directives.specs.orders.Choice.{admits};
 ghost use Rattle.env_filter.specs.Filtering.{Filtered, IsNew, enables_in};
 ghost use Rattle.span_stack.specs.Counting.{RecordsCallBy};
 ghost use Rattle.span_stack.specs.Filtered.{filter_after, FiltersChain};

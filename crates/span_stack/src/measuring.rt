@@ -2,10 +2,10 @@
 ghost use Rattle.std.specs.Prelude.{◌≡◌, [], ◌∷◌, ◌++◌, drop, false, None, MatchOption};
 ghost use Rattle.std.proofs.Common.{refl, ap, ◌∙◌};
 ghost use Rattle.trace_base.specs.declared.lane.Lane.{Lane};
-ghost use Rattle.trace_base.specs.Unseeing.{unseeing_sees, unseeing_lanes};
+ghost use Rattle.trace_base.specs.layers.Unseeing.{unseeing_sees, unseeing_lanes};
 ghost use Rattle.otel_metrics.specs.Waiting.{told_by};
 ghost use Rattle.otel_layer.specs.Parts.{TouchesNone};
-ghost use Rattle.otel_layer.specs.Touching.{still_layer};
+ghost use Rattle.otel_layer.specs.laws.CallsLemmas.{still_layer};
 
 use otel_base::context::Context;
 use otel_base::enter_error::EnterError;

@@ -3,7 +3,7 @@ ghost use Rattle.std.specs.Prelude.{◌≡◌, ◌^◌, ◌<◌, true, None, Som
 ghost use Rattle.std.proofs.Common.{refl};
 ghost use Rattle.std.proofs.lemmas.Bool.{true≢false};
 ghost use Rattle.otel_layer.specs.Parts.{Touches};
-ghost use Rattle.otel_layer.specs.Touching.{touches_tell, core_stays, layer_can_start};
+ghost use Rattle.otel_layer.specs.laws.CallsLemmas.{touches_tell, core_stays, layer_can_start};
 ghost use Rattle.span_stack.specs.Counters.{core_of, counter_of, taken_from};
 
 use otel_base::context::Context;

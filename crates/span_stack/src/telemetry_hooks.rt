@@ -5,9 +5,9 @@ ghost use Rattle.trace_base.specs.declared.subscriber.Interest.TheVariants as in
 ghost use Rattle.otel_layer.specs.Core.{seen_in, kept_in, IsWholeCore};
 ghost use Rattle.otel_layer.specs.Steps.{SameCore, DoesHook};
 ghost use Rattle.otel_layer.specs.Ready.{IsReadyOtel};
-ghost use Rattle.otel_layer.specs.Keeping.{does_whole, same_whole_core};
-ghost use Rattle.otel_layer.specs.Seeing.{does_sees};
-ghost use Rattle.otel_layer.specs.Laning.{does_lanes, does_passive, does_settings};
+ghost use Rattle.otel_layer.specs.laws.HookLemmas.{does_whole, same_whole_core};
+ghost use Rattle.otel_layer.specs.laws.KnownSpansLemmas.{does_sees};
+ghost use Rattle.otel_layer.specs.laws.LaneLemmas.{does_lanes, does_passive, does_settings};
 ghost use Rattle.otel_layer.specs.Rooming.{same_core_refl, same_core_trans};
 ghost use Rattle.span_stack.specs.Counters.{roomed_of, core_of, counter_of, events_by, keep_own_by, does_by};
 

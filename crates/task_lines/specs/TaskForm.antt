@@ -3,11 +3,11 @@ use Rattle.std.specs.Prelude.{ℕ, List, Option, Some, None, Result, ok_or, if�
 use Rattle.serde_json.specs.Data.{Data}
 use Rattle.trace_pipeline.specs.declared.told.Told.{Told}
 use Rattle.trace_pipeline.specs.declared.told.Told.TheVariants.{BadLine}
-use Rattle.trace_pipeline.specs.AttributeForm.{otel_value_of}
-use Rattle.trace_pipeline.specs.FieldForm.{fields_of}
-use Rattle.trace_pipeline.specs.Forms.{Form, ◌>>=◌, give, when, whole, text, member, array, each, object_of, all_of}
-use Rattle.trace_pipeline.specs.RequestForm.{fields_form}
-use Rattle.trace_pipeline.specs.Spelled.{spelled}
+use Rattle.trace_pipeline.specs.forms.AttributeForm.{otel_value_of}
+use Rattle.trace_pipeline.specs.forms.FieldForm.{fields_of}
+use Rattle.trace_pipeline.specs.forms.Forms.{Form, ◌>>=◌, give, when, whole, text, member, array, each, object_of, all_of}
+use Rattle.trace_pipeline.specs.forms.RequestForm.{fields_form}
+use Rattle.trace_pipeline.specs.reading.Spelled.{spelled}
 use Rattle.trace_tasks.specs.declared.script.Step.{Step}
 use Rattle.trace_tasks.specs.declared.script.Step.TheVariants as step
 use Rattle.trace_tasks.specs.declared.script.Task.{Task}

@@ -2,9 +2,9 @@
 ghost use Rattle.std.specs.Prelude.{◌≡◌, Ok, Err, IfOk, IsErrOf};
 ghost use Rattle.serde_json.specs.View.{view, items_view};
 ghost use Rattle.line_members.specs.Left.{left};
-ghost use Rattle.trace_pipeline.specs.Forms.{all_of, each};
-ghost use Rattle.trace_pipeline.specs.Gives.{Gives};
-ghost use Rattle.trace_pipeline.specs.Spelled.{spelled};
+ghost use Rattle.trace_pipeline.specs.forms.Forms.{all_of, each};
+ghost use Rattle.trace_pipeline.specs.reading.Gives.{Gives};
+ghost use Rattle.trace_pipeline.specs.reading.Spelled.{spelled};
 ghost use Rattle.trace_pipeline.specs.declared.told.Told.TheVariants as told;
 ghost use Rattle.task_lines.specs.TaskForm.{step_word, word_form, event_form, record_form, set_attribute_form, step_form_of, step_form, step_of, task_form, task_spelled};
 

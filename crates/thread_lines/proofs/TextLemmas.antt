@@ -2,16 +2,16 @@
 use Rattle.std.proofs.Common.{◌≡◌, ℕ, ◌+◌, List, [], ◌∷◌, ◌++◌, Bool, false, Ok, Err, refl, sym, ap, subst}
 use Rattle.std.specs.Prelude.{Option, ⊤}
 use Rattle.std.proofs.lemmas.Bool.{true≢false}
-use Rattle.env_directives.specs.Separators.{comma_pieces}
+use Rattle.env_directives.specs.reading.Separators.{comma_pieces}
 use Rattle.env_directives.specs.declared.directive.ParseError.{ParseError}
 use Rattle.env_directives.specs.declared.directive.ParseError.TheVariants as fault
 use Rattle.env_directives.specs.declared.env.directive.Directive.{Directive}
 use Rattle.env_filter.specs.declared.pieces.Ignored.{Ignored}
-use Rattle.env_filter.specs.Building.{Building, default_builder, filter_by}
-use Rattle.env_filter.specs.Pieces.{is_memory, Reads, ReadsAll, ReadsText, IsFirstFault}
+use Rattle.env_filter.specs.texts.Building.{Building, default_builder, filter_by}
+use Rattle.env_filter.specs.texts.Pieces.{is_memory, Reads, ReadsAll, ReadsText, IsFirstFault}
 use Rattle.span_script.specs.Admission.{TextRead, OpeningRead, text_read, judged, counting_read, first_fault, opening_read}
 use Rattle.span_script.specs.declared.open_error.OpenError.TheVariants as errors
-use Rattle.span_script.proofs.TextReads.{read_filter_is, unread_is}
+use Rattle.span_script.proofs.filter.TextsLemmas.{read_filter_is, unread_is}
 use Rattle.trace_pipeline.specs.declared.told.Told.{Told}
 use Rattle.trace_pipeline.specs.declared.told.Told.TheVariants as told
 use Rattle.thread_lines.specs.declared.stop.Stop.{Stop}

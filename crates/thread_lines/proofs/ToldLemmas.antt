@@ -13,9 +13,9 @@ use Rattle.span_script.specs.Effects.{is_bad_moment}
 use Rattle.span_script.specs.Setups.{span_site}
 use Rattle.trace_pipeline.specs.declared.told.Told.{Told}
 use Rattle.trace_pipeline.specs.declared.told.Told.TheVariants as told
-use Rattle.trace_pipeline.specs.Forms.{all_of}
+use Rattle.trace_pipeline.specs.forms.Forms.{all_of}
 use Rattle.trace_pipeline.specs.Lines.{is_blank}
-use Rattle.trace_pipeline.specs.Spelled.{spelled, settings_spelled}
+use Rattle.trace_pipeline.specs.reading.Spelled.{spelled, settings_spelled}
 use Rattle.thread_work.specs.declared.script.ThreadScript.{ThreadScript}
 use Rattle.thread_work.specs.declared.script.SharedLine.{SharedLine}
 use Rattle.thread_lines.specs.declared.limits.TheConstants.{MOST_WORKERS}

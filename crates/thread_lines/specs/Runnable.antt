@@ -1,7 +1,7 @@
 -- What is known of a script whose lines passed their tests.
 use Rattle.std.specs.Prelude.{◌≡◌, ℕ, ◌<◌, ◌≤◌, List, [], ◌∷◌, length, true, false, is_some}
 use Rattle.env_directives.specs.declared.env.directive.Directive.{Directive}
-use Rattle.env_filter.specs.Pieces.{ReadsText}
+use Rattle.env_filter.specs.texts.Pieces.{ReadsText}
 use Rattle.otel_state.specs.declared.times.TheConstants.{GREATEST}
 use Rattle.span_script.specs.Setups.{span_site}
 use Rattle.trace_base.specs.declared.callsite.Callsite.{Callsite}

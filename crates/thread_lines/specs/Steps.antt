@@ -18,9 +18,9 @@ use Rattle.span_script.specs.Fields.{all_values}
 use Rattle.span_script.specs.Setups.{span_site, event_site}
 use Rattle.trace_pipeline.specs.declared.told.Told.{Told}
 use Rattle.trace_pipeline.specs.declared.told.Told.TheVariants as told
-use Rattle.trace_pipeline.specs.Forms.{all_of}
+use Rattle.trace_pipeline.specs.forms.Forms.{all_of}
 use Rattle.trace_pipeline.specs.Lines.{is_blank}
-use Rattle.trace_pipeline.specs.Spelled.{spelled, settings_spelled}
+use Rattle.trace_pipeline.specs.reading.Spelled.{spelled, settings_spelled}
 use Rattle.thread_lines.specs.ThreadForm.{thread_form}
 use Rattle.trace_records.specs.declared.finished.RefusedLine.{RefusedLine}
 use Rattle.thread_lines.specs.declared.limits.TheConstants.{MOST_SPANS, MOST_WORKERS}

@@ -1,7 +1,7 @@
 //! Reading the lines of scripts for threads.
-ghost use Rattle.trace_pipeline.specs.Forms.{all_of};
-ghost use Rattle.trace_pipeline.specs.Gives.{Gives};
-ghost use Rattle.trace_pipeline.specs.Spelled.{spelled};
+ghost use Rattle.trace_pipeline.specs.forms.Forms.{all_of};
+ghost use Rattle.trace_pipeline.specs.reading.Gives.{Gives};
+ghost use Rattle.trace_pipeline.specs.reading.Spelled.{spelled};
 ghost use Rattle.line_members.specs.Left.{left};
 ghost use Rattle.thread_lines.specs.ThreadForm.{shared_form, thread_form, worker_of};
 ghost use Rattle.serde_json.specs.View.{view};

@@ -3,16 +3,16 @@ use Rattle.std.proofs.Common.{◌≡◌, ℕ, ◌+◌, List, [], ◌∷◌, ◌+
 use Rattle.std.specs.Prelude.{Result, ◌==◌, if◌then◌else◌}
 use Rattle.std.specs.Str.{trim}
 use Rattle.std.proofs.lemmas.Bool.{true≢false}
-use Rattle.env_directives.specs.Faults.{HasFault}
-use Rattle.env_directives.specs.Forms.{IsDirective}
-use Rattle.env_directives.specs.Reading.{Read, reading}
-use Rattle.env_directives.specs.Separators.{comma_pieces}
+use Rattle.env_directives.specs.reading.Faults.{HasFault}
+use Rattle.env_directives.specs.reading.Forms.{IsDirective}
+use Rattle.env_directives.specs.reading.Reading.{Read, reading}
+use Rattle.env_directives.specs.reading.Separators.{comma_pieces}
 use Rattle.env_directives.specs.declared.directive.ParseError.{ParseError}
 use Rattle.env_directives.specs.declared.directive.ParseError.TheVariants as fault
 use Rattle.env_directives.specs.declared.env.directive.Directive.{Directive}
-use Rattle.env_directives.proofs.Grammar.{directive_reads, level_told, field_told}
+use Rattle.env_directives.proofs.forms.GrammarLemmas.{directive_reads, level_told, field_told}
 use Rattle.env_filter.specs.declared.pieces.Ignored.{Ignored}
-use Rattle.env_filter.specs.Pieces.{is_memory, Reads, ReadsAll, IsFirstFault}
+use Rattle.env_filter.specs.texts.Pieces.{is_memory, Reads, ReadsAll, IsFirstFault}
 use Rattle.event_gate.specs.declared.error.GateError.{GateError}
 use Rattle.event_gate.specs.declared.error.GateError.TheVariants as error
 use Rattle.event_gate.specs.Rules.{IsRefused}

@@ -1,7 +1,7 @@
 -- What is written for a script for threads, and for one that breaks off.
 use Rattle.std.proofs.Common.{◌≡◌, ℕ, List, ◌++◌, Bool, true, false, refl, sym, ap, subst, ◌∙◌, inl, inr, Vec, Global}
 use Rattle.std.specs.Prelude.{Result, Ok, Err, is_ok, not, Option, Some, IfOk, IfErr, IfSome}
-use Rattle.trace_pipeline.specs.Texts.{refusal_text}
+use Rattle.trace_pipeline.specs.text.Texts.{refusal_text}
 use Rattle.trace_records.specs.declared.answer.Answer.{Answer}
 use Rattle.trace_records.specs.declared.finished.RefusedLine.{RefusedLine}
 use Rattle.trace_records.specs.Following.{are_blank}

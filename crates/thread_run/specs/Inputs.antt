@@ -1,6 +1,6 @@
 -- What is written for the lines of a script for threads.
 use Rattle.std.specs.Prelude.{◌≡◌, ℕ, List, Bool, Result, Ok, Err, is_ok}
-use Rattle.trace_pipeline.specs.Texts.{refusal_text}
+use Rattle.trace_pipeline.specs.text.Texts.{refusal_text}
 use Rattle.trace_records.specs.declared.finished.RefusedLine.{RefusedLine}
 use Rattle.thread_work.specs.declared.gather.Ended.{Ended}
 use Rattle.thread_work.specs.declared.script.ThreadScript.{ThreadScript}

@@ -1,9 +1,9 @@
 //! The lines of what came of a script for threads.
 ghost use Rattle.std.specs.Prelude.{◌≡◌, ◌++◌, ◌+◌, ◌<◌, ◌^◌, IfOk};
 ghost use Rattle.serde_json.specs.Written.{compact_text};
-ghost use Rattle.trace_pipeline.specs.Object.{array_of};
-ghost use Rattle.trace_pipeline.specs.Texts.{record_text};
-ghost use Rattle.trace_pipeline.specs.Writes.{Writes};
+ghost use Rattle.trace_pipeline.specs.reading.Object.{array_of};
+ghost use Rattle.trace_pipeline.specs.text.Texts.{record_text};
+ghost use Rattle.trace_pipeline.specs.text.Writes.{Writes};
 ghost use Rattle.thread_run.specs.Texts.{deed_data, entry_data, history_text, told_text, spans_text, all_text};
 
 use crate::entry::{Deed, EntryText, entry_texts};

@@ -7,8 +7,8 @@ use Rattle.trace_threads.specs.declared.turns.View.{View}
 use Rattle.trace_threads.specs.History.{Sum, start, entry, sum_of, after, written, entries_by}
 use Rattle.trace_threads.specs.Turns.{entries}
 use Rattle.trace_threads.specs.Calls.{Made}
-use Rattle.trace_threads.proofs.Beginnings.{entries_append}
-use Rattle.trace_threads.proofs.Passing.{entries_some}
+use Rattle.trace_threads.proofs.queue.FrontsLemmas.{entries_append}
+use Rattle.trace_threads.proofs.queue.PassesLemmas.{entries_some}
 use Rattle.thread_work.specs.Asks.{Ask, Follows}
 
 -- ---- lists of turns and entries

@@ -17,9 +17,9 @@ use Rattle.trace_threads.specs.History.{Sum, start, entry, after, may, is_legal,
 use Rattle.trace_threads.specs.Shared.{content_of}
 use Rattle.trace_threads.specs.Turns.{entries}
 use Rattle.trace_threads.specs.Handles.{Seen, ClosedAs}
-use Rattle.trace_threads.proofs.Beginnings.{prefix_trans, prefix_entries, comparable}
-use Rattle.trace_threads.proofs.Helds.{both}
-use Rattle.trace_threads.proofs.Histories.{Numbered, numbered, numbered_start, numbered_step, none_above, legal_first, legal_rest, tested, nothing_follows, whole_is_seen, ended_is_done}
+use Rattle.trace_threads.proofs.queue.FrontsLemmas.{prefix_trans, prefix_entries, comparable}
+use Rattle.trace_threads.proofs.histories.HoldersLemmas.{both}
+use Rattle.trace_threads.proofs.histories.HistoriesLemmas.{Numbered, numbered, numbered_start, numbered_step, none_above, legal_first, legal_rest, tested, nothing_follows, whole_is_seen, ended_is_done}
 use Rattle.thread_work.specs.declared.gather.Ended.{Ended}
 use Rattle.thread_work.specs.Asks.{Ask, Follows, opening, opening_from, DoesAll}
 use Rattle.thread_work.specs.Works.{IsLeft}

@@ -14,7 +14,7 @@ use Rattle.trace_threads.specs.History.{IsLegal, has, entries_by, opens}
 use Rattle.trace_threads.specs.Turns.{Turn, entries}
 use Rattle.trace_threads.specs.Calls.{Made, IsCloneOf}
 use Rattle.trace_threads.specs.Handles.{Held, Seen, open_of, Leaves, ClosedAs, IsSameHandle}
-use Rattle.trace_threads.proofs.Beginnings.{prefix_entries}
+use Rattle.trace_threads.proofs.queue.FrontsLemmas.{prefix_entries}
 use Rattle.thread_work.specs.Asks.{Ask, ask, Follows, clones_asked, numbers_from, opening}
 use Rattle.thread_work.specs.Works.{WasReleased}
 use Rattle.thread_work.specs.Shares.{IsFirst, numbers_of, AreOut, AreCloned, HasLearnt, HaveLearnt, IsFresh, IsShared}

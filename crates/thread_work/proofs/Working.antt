@@ -17,8 +17,8 @@ use Rattle.trace_threads.specs.Shared.{nothing}
 use Rattle.trace_threads.specs.Turns.{entries, first_view}
 use Rattle.trace_threads.specs.Calls.{Made}
 use Rattle.trace_threads.specs.Handles.{Held, open_of, ClosedAs}
-use Rattle.trace_threads.proofs.Helds.{both}
-use Rattle.trace_threads.proofs.Passing.{entries_some}
+use Rattle.trace_threads.proofs.histories.HoldersLemmas.{both}
+use Rattle.trace_threads.proofs.queue.PassesLemmas.{entries_some}
 use Rattle.thread_work.specs.declared.plan.Plan.{Plan}
 use Rattle.thread_work.specs.declared.script.SharedLine.{SharedLine}
 use Rattle.thread_work.specs.declared.script.WorkerOp.{WorkerOp}

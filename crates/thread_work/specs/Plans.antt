@@ -7,8 +7,8 @@ use Rattle.trace_base.specs.Field.{place_of}
 use Rattle.otel_state.specs.declared.op.Op.{Op}
 use Rattle.otel_state.specs.declared.op.Op.TheVariants.{Update}
 use Rattle.otel_state.specs.declared.times.TheConstants.{GREATEST}
-use Rattle.otel_state.specs.EventFields.{event_of}
-use Rattle.otel_state.specs.SpanFields.{span_update}
+use Rattle.otel_state.specs.fields.EventFields.{event_of}
+use Rattle.otel_state.specs.fields.SpanFields.{span_update}
 use Rattle.event_gate.specs.declared.levels.Levels.{Levels}
 use Rattle.event_gate.specs.Rules.{gate_rule, text_filter}
 use Rattle.trace_threads.specs.declared.history.What.TheVariants.{Call, Release}

@@ -7,7 +7,7 @@ use Rattle.std.specs.Str.{all_ascii_digits}
 use Rattle.std.specs.Str.Parse.{AllDigits, IsNumeral, digits_value, without_leading_plus}
 use Rattle.std.proofs.lemmas.Bool.{lt-ltb, ltb-true, cases_lt}
 use Rattle.std.proofs.lemmas.Grind.{common_steps}
-use Rattle.trace_base.specs.LevelWords.{digits_number, decimal_value, filter_of_number}
+use Rattle.trace_base.specs.words.LevelWords.{digits_number, decimal_value, filter_of_number}
 
 pub digits_pass : (ds : List ℕ) → AllDigits 10 ds → all_ascii_digits ds ≡ true
 digits_pass [] h = refl

@@ -2,7 +2,7 @@
 use Rattle.std.proofs.Common.{◌≡◌, ℕ, ◌+◌, ◌<◌, ◌≤◌, ◌≢◌, List, [], ◌∷◌, length, get_or, flat_map, encode_utf8, refl, sym, ap, ◌∙◌, arith, append-nil}
 use Rattle.std.proofs.lemmas.Grind.{common_steps}
 use Rattle.std.proofs.lemmas.Str.{encode_ascii, inside_one}
-use Rattle.trace_base.specs.Quote.{escaped}
+use Rattle.trace_base.specs.words.Quote.{escaped}
 
 as_it_stands : (b : ℕ) → 32 ≤ b → b ≢ 34 → b ≢ 92 → b ≢ 127 → escaped b ≡ b ∷ []
 unfolding escaped

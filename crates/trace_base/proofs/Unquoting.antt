@@ -5,7 +5,7 @@ use Rattle.std.proofs.lemmas.List.{append_cancel_left}
 use Rattle.std.proofs.lemmas.Bool.{cases_lt}
 use Rattle.std.proofs.lemmas.Fmt.{hex_one_digit, hex_two_digits}
 use Rattle.std.specs.Fmt.{digits, digit_glyph}
-use Rattle.trace_base.specs.Quote.{escaped, quoted}
+use Rattle.trace_base.specs.words.Quote.{escaped, quoted}
 
 -- the value of a digit in lower-case hex
 abbrev unglyph : ℕ → ℕ

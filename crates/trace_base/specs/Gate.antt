@@ -5,7 +5,7 @@ use Rattle.trace_base.specs.declared.level.Level.{Level}
 use Rattle.trace_base.specs.declared.level.LevelFilter.{LevelFilter}
 use Rattle.trace_base.specs.declared.subscriber.Interest.{Interest}
 use Rattle.trace_base.specs.declared.subscriber.Interest.TheVariants as interests
-use Rattle.trace_base.specs.Level.{is_within}
+use Rattle.trace_base.specs.words.Level.{is_within}
 
 -- a world: its callsites, its subscribers, the interest in each callsite of each subscriber as it was when it was
 -- registered, and the subscriber that serves lanes without their own

@@ -2,7 +2,7 @@
 ghost use Rattle.std.specs.Prelude.{◌≡◌, ◌≢◌, ◌↔◌, ◌<◌, Some, None, Err, OnOk, OnErr, length, codes};
 ghost use Rattle.std.specs.Fn.{FnOnceReturnsAtMut};
 ghost use Rattle.trace_base.specs.declared.dispatcher.TryInitError.TheVariants.{AlreadySet};
-ghost use Rattle.trace_base.specs.Default.{with_own};
+ghost use Rattle.trace_base.specs.lanes.Default.{with_own};
 ghost use Rattle.trace_base.specs.Gate.{IsOwn, dispatch_on};
 
 use crate::lane::Lane;

@@ -4,9 +4,9 @@ ghost use Rattle.trace_base.specs.Gate.{Worlds, Admits, AdmitsFresh, IsFresh};
 ghost use Rattle.trace_base.specs.declared.level.Level.{Level};
 ghost use Rattle.trace_base.specs.declared.level.LevelFilter.{LevelFilter};
 ghost use Rattle.trace_base.specs.declared.level.LevelFilter.TheVariants as filter;
-ghost use Rattle.trace_base.specs.Level.{level_text, filter_text};
-ghost use Rattle.trace_base.specs.LevelWords.{level_of, filter_of};
-ghost use Rattle.trace_base.specs.Quote.{quoted};
+ghost use Rattle.trace_base.specs.words.Level.{level_text, filter_text};
+ghost use Rattle.trace_base.specs.words.LevelWords.{level_of, filter_of};
+ghost use Rattle.trace_base.specs.words.Quote.{quoted};
 
 use crate::level::STATIC_MAX_LEVEL;
 use crate::subscriber::Subscriber;

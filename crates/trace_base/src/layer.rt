@@ -6,8 +6,8 @@ ghost use Rattle.trace_base.specs.declared.callsite.Callsite.{Callsite};
 ghost use Rattle.trace_base.specs.declared.lane.Lane.{Lane};
 ghost use Rattle.trace_base.specs.declared.level.LevelFilter.{LevelFilter};
 ghost use Rattle.trace_base.specs.declared.subscriber.Interest.{Interest};
-ghost use Rattle.trace_base.specs.Contexts.{AreAttached, KeepsLane, KeepsLive, IsFull};
-ghost use Rattle.trace_base.specs.Hooks.{Hook, OnNewSpan, OnRecord, OnFollows, OnEvent, OnEnter, OnExit, OnClose, Preparation, ForNewSpan, ForRecord, ForFollows, ForEvent, ForEnter, Seen, Sees, HookLanes};
+ghost use Rattle.trace_base.specs.lanes.Contexts.{AreAttached, KeepsLane, KeepsLive, IsFull};
+ghost use Rattle.trace_base.specs.layers.Hooks.{Hook, OnNewSpan, OnRecord, OnFollows, OnEvent, OnEnter, OnExit, OnClose, Preparation, ForNewSpan, ForRecord, ForFollows, ForEvent, ForEnter, Seen, Sees, HookLanes};
 
 use crate::callsite::Callsite;
 use crate::field::ValueSet;

@@ -8,8 +8,8 @@ ghost use Rattle.std.specs.Cmp.Rules.{comparing};
 ghost use Rattle.std.specs.Option.{option_and_then};
 ghost use Rattle.std.proofs.Common.{rules};
 ghost use Rattle.otel_base.specs.Words.{word_text};
-ghost use Rattle.trace_base.specs.Level.{verbosity, greatest_verbosity, is_within, level_text, filter_text, filter_of_level, level_of_filter};
-ghost use Rattle.trace_base.specs.LevelWords.{all_filters, filter_of_word, filter_of_number, decimal_value, named_filter, filter_of, level_of, IsReadAs};
+ghost use Rattle.trace_base.specs.words.Level.{verbosity, greatest_verbosity, is_within, level_text, filter_text, filter_of_level, level_of_filter};
+ghost use Rattle.trace_base.specs.words.LevelWords.{all_filters, filter_of_word, filter_of_number, decimal_value, named_filter, filter_of, level_of, IsReadAs};
 
 use otel_base::word::Word;
 use std::cmp::Ordering;
@@ -252,7 +252,7 @@ impl PartialOrd for LevelFilter {
     }
 }
 
-#[tactic(auto, unfolding(crate::specs::LevelWords::named_filter))]
+#[tactic(auto, unfolding(crate::specs::words::LevelWords::named_filter))]
 fn named_filter(text: &str) -> Option<LevelFilter>
     ensures { result ≡ named_filter text.now }
 {
@@ -297,7 +297,7 @@ fn filter_of_number(text: &str) -> Option<LevelFilter>
     }
 }
 
-#[tactic(auto, unfolding(crate::specs::LevelWords::filter_of_number))]
+#[tactic(auto, unfolding(crate::specs::words::LevelWords::filter_of_number))]
 fn with_verbosity(verbosity: u8) -> Option<LevelFilter>
     ensures { result ≡ filter_of_number verbosity }
 {

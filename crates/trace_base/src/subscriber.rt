@@ -10,7 +10,7 @@ ghost use Rattle.trace_base.specs.Spans.{Spans, span_at, current_on, next_of};
 ghost use Rattle.trace_base.specs.Calls.{SubscriberCall, NewSpan, Records, Follows, Event, Enter, Exit, CloneSpan, TryClose, after};
 ghost use Rattle.trace_base.specs.Conditions.{Allowed, IsLive, IsLivePlace, HasFewHolds, HasFewHoldsAbove, AreFew, MayExit, HasOwnHold};
 ghost use Rattle.trace_base.specs.Sound.{IsSound};
-ghost use Rattle.trace_base.specs.Contexts.{AreAttached, KeepsLane, KeepsLive, IsFull, Lanes};
+ghost use Rattle.trace_base.specs.lanes.Contexts.{AreAttached, KeepsLane, KeepsLive, IsFull, Lanes};
 
 use crate::callsite::{Callsite, SiteId};
 use crate::field::ValueSet;

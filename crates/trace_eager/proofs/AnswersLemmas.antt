@@ -12,7 +12,7 @@ use Rattle.trace_pipeline.specs.declared.signal.Signal.TheVariants as signal
 use Rattle.trace_pipeline.specs.declared.told.Told.{Told}
 use Rattle.trace_pipeline.specs.Lines.{is_blank}
 use Rattle.trace_pipeline.specs.Report.{Report, behind, told_step, effect_of_line, effect_of_request, following, report_on, answer_text, answer_count}
-use Rattle.trace_pipeline.specs.Spelled.{request_spelled}
+use Rattle.trace_pipeline.specs.reading.Spelled.{request_spelled}
 use Rattle.trace_eager.specs.Written.{answers_text, in_front, numbers_of, requests_of}
 
 module _ (setup : Setup) where

@@ -12,7 +12,7 @@ use Rattle.trace_pipeline.specs.declared.signal.Signal.TheVariants as signal
 use Rattle.trace_pipeline.specs.declared.told.Told.{Told}
 use Rattle.trace_pipeline.specs.Lines.{is_blank}
 use Rattle.trace_pipeline.specs.Report.{Report, accepts, opened, opening, report_from, report_on}
-use Rattle.trace_pipeline.specs.Spelled.{settings_spelled}
+use Rattle.trace_pipeline.specs.reading.Spelled.{settings_spelled}
 use Rattle.trace_eager.specs.Renamed.{IsRenamed, RenamesIds, Script, script_by, script_from}
 use Rattle.trace_eager.specs.Written.{answers_text, numbers_of, requests_of}
 use Rattle.trace_eager.proofs.AnswersLemmas.{text_of_answers}

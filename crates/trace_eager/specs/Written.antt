@@ -6,8 +6,8 @@ use Rattle.span_script.specs.declared.request.Request.{Request}
 use Rattle.trace_pipeline.specs.declared.told.Told.{Told}
 use Rattle.trace_pipeline.specs.Lines.{is_blank}
 use Rattle.trace_pipeline.specs.Report.{record_lines}
-use Rattle.trace_pipeline.specs.Spelled.{request_spelled}
-use Rattle.trace_pipeline.specs.Texts.{end_text, reply_text}
+use Rattle.trace_pipeline.specs.reading.Spelled.{request_spelled}
+use Rattle.trace_pipeline.specs.text.Texts.{end_text, reply_text}
 
 -- a request in front of others, where one is spelled
 abbrev pub in_front : Result Request Told → List Request → List Request

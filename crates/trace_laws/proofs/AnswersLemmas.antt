@@ -15,7 +15,7 @@ use Rattle.trace_pipeline.specs.declared.signal.Signal.TheVariants as signal
 use Rattle.trace_pipeline.specs.declared.told.Told.{Told}
 use Rattle.trace_pipeline.specs.Lines.{is_blank}
 use Rattle.trace_pipeline.specs.Report.{Report, behind, told_step, effect_of_line, effect_of_request, following, report_on, answer_text, answer_count}
-use Rattle.trace_pipeline.specs.Spelled.{request_spelled}
+use Rattle.trace_pipeline.specs.reading.Spelled.{request_spelled}
 use Rattle.trace_laws.specs.Written.{answer_lines, last_line, unread_from, unread_or}
 
 module _ (setup : Setup) where

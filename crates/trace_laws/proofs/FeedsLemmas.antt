@@ -14,10 +14,10 @@ use Rattle.serde_json.specs.Written.{comma_if, compact_text, items_text, members
 use Rattle.otel_base.specs.declared.record.Record.{Record}
 use Rattle.span_script.specs.declared.reply.Reply.{Reply}
 use Rattle.trace_pipeline.specs.Lines.{lines_of}
-use Rattle.trace_pipeline.specs.Object.{line_of}
-use Rattle.trace_pipeline.specs.RecordData.{record_data}
+use Rattle.trace_pipeline.specs.reading.Object.{line_of}
+use Rattle.trace_pipeline.specs.values.RecordData.{record_data}
 use Rattle.trace_pipeline.specs.Report.{record_lines}
-use Rattle.trace_pipeline.specs.Texts.{end_data, end_text, record_text, reply_data, reply_text}
+use Rattle.trace_pipeline.specs.text.Texts.{end_data, end_text, record_text, reply_data, reply_text}
 use Rattle.trace_laws.specs.Sums.{records_in}
 use Rattle.trace_laws.specs.Written.{answer_lines}
 

@@ -12,7 +12,7 @@ use Rattle.span_script.specs.Tables.{Effect, History, Tables, after, no_tables, 
 use Rattle.span_eager.specs.Early.{answers_from}
 use Rattle.span_laws.specs.Laws.{IsHistory, more}
 use Rattle.span_laws.specs.Records.{Each}
-use Rattle.span_laws.proofs.Exporting.{as_many_as_close}
+use Rattle.span_laws.proofs.records.RecordsLemmas.{as_many_as_close}
 use Rattle.trace_laws.specs.Headline.{AnswersEach, closed_by}
 
 -- the closed spans of the tables behind a history

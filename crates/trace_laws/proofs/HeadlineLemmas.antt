@@ -13,12 +13,12 @@ use Rattle.span_eager.specs.Early.{answers}
 use Rattle.span_laws.specs.Laws.{IsHistory, none, occurrences}
 use Rattle.span_laws.specs.Makings.{IsUnder}
 use Rattle.span_laws.specs.Records.{Each}
-use Rattle.span_laws.proofs.Children.{children_first}
-use Rattle.span_laws.proofs.Histories.{closed_once, closed_when_ended, only_made_closed}
-use Rattle.span_laws.proofs.MadeRecords.{IsStepOf, each_known}
-use Rattle.span_laws.proofs.MakingLemmas.{if_admitted}
-use Rattle.span_laws.proofs.OwnContexts.{is_under}
-use Rattle.span_laws.proofs.Legal.{scripts_are_legal}
+use Rattle.span_laws.proofs.spans.ChildrenLemmas.{children_first}
+use Rattle.span_laws.proofs.records.HistoriesLemmas.{closed_once, closed_when_ended, only_made_closed}
+use Rattle.span_laws.proofs.records.MadeRecordsLemmas.{IsStepOf, each_known}
+use Rattle.span_laws.proofs.spans.RequestedSpansLemmas.{if_admitted}
+use Rattle.span_laws.proofs.records.OwnContextsLemmas.{is_under}
+use Rattle.span_laws.proofs.steps.LegalLemmas.{scripts_are_legal}
 use Rattle.trace_base.specs.Spans.{is_in}
 use Rattle.trace_eager.specs.Renamed.{Script, script_from}
 use Rattle.trace_eager.specs.Written.{requests_of}

@@ -10,12 +10,12 @@ use Rattle.trace_eager.specs.Renamed.{script_by, script_from}
 use Rattle.trace_eager.specs.Written.{numbers_of, requests_of}
 use Rattle.trace_pipeline.specs.declared.signal.Signal.TheVariants as signal
 use Rattle.trace_pipeline.specs.declared.told.Told.TheVariants.{BadLine}
-use Rattle.trace_pipeline.specs.Forms.{all_of}
+use Rattle.trace_pipeline.specs.forms.Forms.{all_of}
 use Rattle.trace_pipeline.specs.Lines.{is_blank, lines_of}
 use Rattle.trace_pipeline.specs.Report.{opened, opening, output, report_from, report_on}
-use Rattle.trace_pipeline.specs.SettingsForm.{settings_form}
-use Rattle.trace_pipeline.specs.Spelled.{settings_spelled, spelled}
-use Rattle.trace_pipeline.specs.Texts.{refusal_text}
+use Rattle.trace_pipeline.specs.forms.SettingsForm.{settings_form}
+use Rattle.trace_pipeline.specs.reading.Spelled.{settings_spelled, spelled}
+use Rattle.trace_pipeline.specs.text.Texts.{refusal_text}
 use Rattle.trace_laws.specs.Written.{IsOutput, first_line, answer_lines, last_line, opened_text, unread_from}
 use Rattle.trace_laws.proofs.AnswersLemmas.{text_is}
 

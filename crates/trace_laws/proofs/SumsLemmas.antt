@@ -14,7 +14,7 @@ use Rattle.span_script.specs.Effects.{Resolved, effect_of, open_spans}
 use Rattle.span_script.specs.Outcomes.{history_from, history_of, outcome_of, records, refusal_at, refused_behind}
 use Rattle.span_script.specs.Setups.{Setup}
 use Rattle.span_script.specs.Tables.{Effect, History, Tables, after, no_tables, tables}
-use Rattle.span_script.proofs.Running.{goes_on_with}
+use Rattle.span_script.proofs.runs.RunLemmas.{goes_on_with}
 use Rattle.span_eager.specs.Early.{answers, answers_from}
 use Rattle.trace_eager.specs.Renamed.{Script, script_from}
 use Rattle.trace_eager.specs.Written.{numbers_of, requests_of}
@@ -24,8 +24,8 @@ use Rattle.trace_pipeline.specs.Generated.{made_lines, made_requests, made_scrip
 use Rattle.trace_pipeline.specs.Lines.{lines_of}
 use Rattle.trace_pipeline.specs.Replay.{busy_of, events_of, going_on, replayed, summary_of}
 use Rattle.trace_pipeline.specs.Report.{IsValid, Report, accepts, opened, output, report_on}
-use Rattle.trace_pipeline.specs.Texts.{end_text}
-use Rattle.trace_pipeline.proofs.MadeLines.{Each, HasLine, made_each, script_lines, settings_read}
+use Rattle.trace_pipeline.specs.text.Texts.{end_text}
+use Rattle.trace_pipeline.proofs.made.LinesLemmas.{Each, HasLine, made_each, script_lines, settings_read}
 use Rattle.trace_laws.specs.Sums.{Counts, records_in}
 use Rattle.trace_laws.specs.Written.{IsOutput, first_line, answer_lines, last_line, opened_text, outcome_text, unread_from}
 use Rattle.trace_laws.proofs.FeedsLemmas.{all_lines, end_line}

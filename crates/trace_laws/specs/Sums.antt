@@ -6,7 +6,7 @@ use Rattle.span_script.specs.declared.reply.Reply.{Reply}
 use Rattle.trace_pipeline.specs.declared.write.summary.Summary.{Summary}
 use Rattle.trace_pipeline.specs.Lines.{lines_of}
 use Rattle.trace_pipeline.specs.Replay.{busy_of, events_of}
-use Rattle.trace_pipeline.specs.Texts.{end_text}
+use Rattle.trace_pipeline.specs.text.Texts.{end_text}
 use Rattle.trace_laws.specs.Written.{answer_lines}
 
 -- the records of answers

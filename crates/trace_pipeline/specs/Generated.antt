@@ -16,8 +16,8 @@ use Rattle.span_script.specs.declared.request.Place.TheVariants as place
 use Rattle.span_script.specs.declared.request.Request.{Request}
 use Rattle.span_script.specs.declared.settings.Settings.{Settings}
 use Rattle.span_script.specs.Setups.{Setup, setup_by}
-use Rattle.trace_pipeline.specs.Object.{by_name, whole_number}
-use Rattle.trace_pipeline.specs.RequestData.{names, put_at, word_of, names_of}
+use Rattle.trace_pipeline.specs.reading.Object.{by_name, whole_number}
+use Rattle.trace_pipeline.specs.values.RequestData.{names, put_at, word_of, names_of}
 
 -- ---- the settings
 

@@ -11,7 +11,7 @@ use Rattle.span_script.specs.Tables.{History, Effect, tables}
 use Rattle.span_script.specs.Effects.{Resolved, effect_of, open_spans}
 use Rattle.span_script.specs.Outcomes.{records}
 use Rattle.serde_json.specs.Data.{Data, object}
-use Rattle.trace_pipeline.specs.Object.{by_name, whole_number, line_of}
+use Rattle.trace_pipeline.specs.reading.Object.{by_name, whole_number, line_of}
 use Rattle.trace_pipeline.specs.declared.write.summary.Summary.{Summary}
 
 -- goes on with an effect, if there is one

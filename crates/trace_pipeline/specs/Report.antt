@@ -15,8 +15,8 @@ use Rattle.span_script.specs.Setups.{Setup, setup_by}
 use Rattle.span_script.specs.Tables.{History, Effect, Tables, tables, records_of}
 use Rattle.span_script.specs.Effects.{Resolved, effect_of, open_spans}
 use Rattle.trace_pipeline.specs.Lines.{lines_of, is_blank}
-use Rattle.trace_pipeline.specs.Spelled.{settings_spelled, request_spelled}
-use Rattle.trace_pipeline.specs.Texts.{reply_text, record_text, measure_text, refusal_text, end_text, measures_end_text}
+use Rattle.trace_pipeline.specs.reading.Spelled.{settings_spelled, request_spelled}
+use Rattle.trace_pipeline.specs.text.Texts.{reply_text, record_text, measure_text, refusal_text, end_text, measures_end_text}
 
 -- what is written, and whether no line is refused
 pub record Report : Type 0 where

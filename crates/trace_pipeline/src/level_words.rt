@@ -1,6 +1,6 @@
 //! The words of levels and of kinds of callsites.
 ghost use Rattle.std.specs.Prelude.{◌≡◌};
-ghost use Rattle.trace_pipeline.specs.Words.{level_word, kind_word};
+ghost use Rattle.trace_pipeline.specs.text.Words.{level_word, kind_word};
 
 use trace_base::callsite::Kind;
 use trace_base::level::Level;

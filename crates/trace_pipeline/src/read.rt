@@ -2,11 +2,11 @@
 ghost use Rattle.std.specs.Prelude.{◌≡◌, map, true, Ok, Err, IfOk, IsErrOf, option_and_then};
 ghost use Rattle.serde_json.specs.View.{view};
 ghost use Rattle.span_script.specs.Setups.{HasOwnIds};
-ghost use Rattle.trace_pipeline.specs.Forms.{all_of};
-ghost use Rattle.trace_pipeline.specs.Gives.{Gives};
-ghost use Rattle.trace_pipeline.specs.RequestForm.{request_form};
-ghost use Rattle.trace_pipeline.specs.SettingsForm.{settings_form, ids, all_differ};
-ghost use Rattle.trace_pipeline.specs.Spelled.{line_value, line_members, settings_spelled, request_spelled};
+ghost use Rattle.trace_pipeline.specs.forms.Forms.{all_of};
+ghost use Rattle.trace_pipeline.specs.reading.Gives.{Gives};
+ghost use Rattle.trace_pipeline.specs.forms.RequestForm.{request_form};
+ghost use Rattle.trace_pipeline.specs.forms.SettingsForm.{settings_form, ids, all_differ};
+ghost use Rattle.trace_pipeline.specs.reading.Spelled.{line_value, line_members, settings_spelled, request_spelled};
 ghost use Rattle.trace_pipeline.specs.declared.told.Told.{Told};
 ghost use Rattle.trace_pipeline.specs.declared.read.LineError.TheVariants.{Memory};
 
@@ -91,7 +91,7 @@ fn request_of(alloc: Global, line: &[u8]) -> Result<Request, LineError>
 }
 
 /// Reads a settings line. `BadLine` where it is no JSON or no object or one of no form, `Memory` freely.
-#[tactic(auto, using(crate::proofs::OwnIds::own_ids), unfolding(crate::specs::Spelled::settings_spelled))]
+#[tactic(auto, using(crate::proofs::ids::PlacesLemmas::own_ids), unfolding(crate::specs::reading::Spelled::settings_spelled))]
 pub fn read_settings(alloc: Global, line: &[u8]) -> Result<Settings, LineError>
     ensures ok { IfOk result (λ settings. settings_spelled line.now ≡ Ok settings) }
     ensures lanes { IfOk result (λ settings. HasOwnIds (map (λ l. l.0) settings.lanes)) }
@@ -101,7 +101,7 @@ pub fn read_settings(alloc: Global, line: &[u8]) -> Result<Settings, LineError>
 }
 
 /// Reads a request line. `BadLine` where it is no JSON or no object or one of no form, `Memory` freely.
-#[tactic(auto, unfolding(crate::specs::Spelled::request_spelled))]
+#[tactic(auto, unfolding(crate::specs::reading::Spelled::request_spelled))]
 pub fn read_request(alloc: Global, line: &[u8]) -> Result<Request, LineError>
     ensures ok { IfOk result (λ request. request_spelled line.now ≡ Ok request) }
     ensures bad_line { IsErrOf result LineError.BadLine → request_spelled line.now ≡ Err Told.BadLine }

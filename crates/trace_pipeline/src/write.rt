@@ -2,9 +2,9 @@
 //! freely, and nothing else; the `append_` forms then drop what they were given. No Rust item stands behind these lines.
 ghost use Rattle.std.specs.Prelude.{◌≡◌, ◌≢◌, ◌++◌, IfOk, string_bytes};
 ghost use Rattle.std.specs.Str.{IsUtf8};
-ghost use Rattle.trace_pipeline.specs.Writes.{Writes};
+ghost use Rattle.trace_pipeline.specs.text.Writes.{Writes};
 ghost use Rattle.trace_pipeline.specs.Replay.{summary_text};
-ghost use Rattle.trace_pipeline.specs.Texts.{reply_text, record_text, measure_text, refusal_text, end_text, measures_end_text};
+ghost use Rattle.trace_pipeline.specs.text.Texts.{reply_text, record_text, measure_text, refusal_text, end_text, measures_end_text};
 ghost use Rattle.span_script.specs.declared.reply.Refusal.{Refusal};
 
 mod attribute;
@@ -103,7 +103,7 @@ fn add_summary_line(out: &mut Vec<u8>, summary: &Summary) -> Result<(), AllocErr
 }
 
 // The text that was written to a buffer of its own, without a copy.
-#[tactic(auto, using(crate::proofs::Hex::is_ok))]
+#[tactic(auto, using(crate::proofs::texts::HexLemmas::is_ok))]
 fn text_of(written: Vec<u8>) -> String
     requires { IsUtf8 written.items }
     ensures { string_bytes result ≡ written.items }

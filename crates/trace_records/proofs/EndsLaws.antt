@@ -8,12 +8,12 @@ use Rattle.span_script.specs.Effects.{open_spans}
 use Rattle.span_script.specs.Outcomes.{records}
 use Rattle.span_script.specs.Setups.{Setup, setup_by}
 use Rattle.span_script.specs.Tables.{History, Effect, no_tables, tables, records_of}
-use Rattle.span_script.proofs.Running.{records_push}
+use Rattle.span_script.proofs.runs.RunLemmas.{records_push}
 use Rattle.trace_pipeline.specs.declared.signal.Signal.TheVariants as signal
 use Rattle.trace_pipeline.specs.declared.told.Told.{Told}
 use Rattle.trace_pipeline.specs.Lines.{is_blank}
-use Rattle.trace_pipeline.specs.Spelled.{settings_spelled}
-use Rattle.trace_pipeline.specs.Texts.{end_text}
+use Rattle.trace_pipeline.specs.reading.Spelled.{settings_spelled}
+use Rattle.trace_pipeline.specs.text.Texts.{end_text}
 use Rattle.trace_pipeline.specs.Report.{Report, following, effect_of_line, answer_text, report_on, report_from, opening, opened}
 use Rattle.trace_records.specs.Scripts.{Run, going_on, setup_read, setup_of, setup_of_line, lanes_on, script_on, script_from, script_of}
 use Rattle.trace_records.specs.Inputs.{EndsWith, last_of}

@@ -9,11 +9,11 @@ use Rattle.span_script.specs.Tables.{History, Effect, Tables, no_tables, tables,
 use Rattle.span_script.specs.Effects.{open_spans}
 use Rattle.span_script.specs.Outcomes.{records}
 use Rattle.span_script.specs.Fits.{State, StandsFor}
-use Rattle.span_script.proofs.Running.{records_push}
+use Rattle.span_script.proofs.runs.RunLemmas.{records_push}
 use Rattle.trace_pipeline.specs.declared.told.Told.{Told}
 use Rattle.trace_pipeline.specs.declared.told.Told.TheVariants as told
 use Rattle.trace_pipeline.specs.Lines.{is_blank}
-use Rattle.trace_pipeline.specs.Spelled.{request_spelled}
+use Rattle.trace_pipeline.specs.reading.Spelled.{request_spelled}
 use Rattle.trace_pipeline.specs.Report.{effect_of_line}
 use Rattle.trace_records.specs.declared.finished.FinishedSpans.{FinishedSpans}
 use Rattle.trace_records.specs.declared.finished.RefusedLine.{RefusedLine}

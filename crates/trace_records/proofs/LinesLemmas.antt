@@ -15,7 +15,7 @@ use Rattle.span_script.specs.Fits.{State, StandsFor, Recorded, is_room}
 use Rattle.span_script.specs.Admission.{opening_read}
 use Rattle.trace_pipeline.specs.declared.told.Told.{Told}
 use Rattle.trace_pipeline.specs.declared.told.Told.TheVariants as told
-use Rattle.trace_pipeline.specs.Spelled.{settings_spelled, request_spelled}
+use Rattle.trace_pipeline.specs.reading.Spelled.{settings_spelled, request_spelled}
 use Rattle.trace_pipeline.specs.Report.{effect_of_line, effect_of_request}
 use Rattle.trace_records.specs.declared.line.Opened.{Opened}
 use Rattle.trace_records.specs.declared.line.Answered.{Answered}

@@ -17,12 +17,12 @@ use Rattle.span_script.specs.declared.reply.What.{What}
 use Rattle.span_script.specs.declared.reply.What.TheVariants as what
 use Rattle.span_script.specs.Effects.{Resolved, named, is_bad_moment, effect_of_call, effect_of}
 use Rattle.span_script.specs.Outcomes.{records}
-use Rattle.span_script.proofs.Running.{records_push}
+use Rattle.span_script.proofs.runs.RunLemmas.{records_push}
 use Rattle.span_laws.specs.Laws.{IsHistory, none, more}
 use Rattle.trace_pipeline.specs.declared.signal.Signal.TheVariants as signal
 use Rattle.trace_pipeline.specs.declared.told.Told.{Told}
 use Rattle.trace_pipeline.specs.Lines.{is_blank}
-use Rattle.trace_pipeline.specs.Spelled.{settings_spelled, request_spelled}
+use Rattle.trace_pipeline.specs.reading.Spelled.{settings_spelled, request_spelled}
 use Rattle.trace_pipeline.specs.Report.{Report, following, effect_of_line, effect_of_request, told_step, report_on, report_from, opening, opened, accepts, answer_count}
 use Rattle.trace_records.specs.Scripts.{Script, Run, going_on, setup_read, setup_of, setup_of_line, lane_in, lanes_on, script_on, script_from, script_of}
 

@@ -3,7 +3,7 @@ use Rattle.std.specs.Prelude.{◌≡◌, ℕ, List, ◌++◌, ◌⊎◌, length,
 use Rattle.span_script.specs.Effects.{open_spans}
 use Rattle.span_script.specs.Outcomes.{records}
 use Rattle.span_script.specs.Tables.{tables}
-use Rattle.trace_pipeline.specs.Texts.{refusal_text, end_text}
+use Rattle.trace_pipeline.specs.text.Texts.{refusal_text, end_text}
 use Rattle.trace_records.specs.declared.finished.RefusedLine.{RefusedLine}
 use Rattle.trace_records.specs.Scripts.{Script, Run, script_of}
 use Rattle.trace_records.specs.Following.{are_blank, IsStopped}

@@ -6,7 +6,7 @@ use Rattle.span_script.specs.Tables.{History, Effect, tables, records_of}
 use Rattle.span_script.specs.Fits.{State, StandsFor}
 use Rattle.trace_pipeline.specs.declared.told.Told.{Told}
 use Rattle.trace_pipeline.specs.declared.told.Told.TheVariants as told
-use Rattle.trace_pipeline.specs.Spelled.{request_spelled}
+use Rattle.trace_pipeline.specs.reading.Spelled.{request_spelled}
 use Rattle.trace_pipeline.specs.Report.{effect_of_line}
 use Rattle.trace_records.specs.declared.line.Opened.{Opened}
 use Rattle.trace_records.specs.declared.line.Answered.{Answered}

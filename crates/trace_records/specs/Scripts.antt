@@ -9,7 +9,7 @@ use Rattle.span_script.specs.Tables.{History, Effect, tables, records_of}
 use Rattle.trace_pipeline.specs.declared.told.Told.{Told}
 use Rattle.trace_pipeline.specs.declared.told.Told.TheVariants as told
 use Rattle.trace_pipeline.specs.Lines.{is_blank}
-use Rattle.trace_pipeline.specs.Spelled.{settings_spelled, request_spelled}
+use Rattle.trace_pipeline.specs.reading.Spelled.{settings_spelled, request_spelled}
 use Rattle.trace_pipeline.specs.Report.{effect_of_line}
 use Rattle.trace_records.specs.declared.finished.RefusedLine.{RefusedLine}
 

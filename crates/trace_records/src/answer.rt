@@ -1,6 +1,6 @@
 //! What is written for a whole input.
 ghost use Rattle.std.specs.Prelude.{◌≡◌, ◌≢◌, true, IfOk};
-ghost use Rattle.trace_pipeline.specs.Texts.{refusal_text};
+ghost use Rattle.trace_pipeline.specs.text.Texts.{refusal_text};
 
 use crate::finished::RefusedLine;
 use otel_base::memory::Memory;

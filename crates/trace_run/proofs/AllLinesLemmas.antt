@@ -11,10 +11,10 @@ use Rattle.trace_run.specs.declared.input.End.{End}
 use Rattle.trace_run.specs.declared.input.End.TheVariants as end
 use Rattle.trace_run.specs.declared.status.Status.TheVariants as ends
 use Rattle.trace_records.specs.Inputs.{Refuses, NoneRefused}
-use Rattle.trace_run.specs.AllLines.{writes_last, all_lines, AnswersCut, Tells, status_of}
-use Rattle.trace_run.specs.Breaks.{whole_part, whole_lines}
+use Rattle.trace_run.specs.reading.AllLines.{writes_last, all_lines, AnswersCut, Tells, status_of}
+use Rattle.trace_run.specs.reading.Breaks.{whole_part, whole_lines}
 use Rattle.trace_run.specs.Carries.{Causes, Carries}
-use Rattle.trace_run.specs.Reading.{HasRefused, PutsSome, Leaves, IsRefusedAt}
+use Rattle.trace_run.specs.reading.Reading.{HasRefused, PutsSome, Leaves, IsRefusedAt}
 use Rattle.trace_run.specs.Streams.{Streams, HasFault, MeetsEnd, Takes, Puts, PutsFront}
 use Rattle.trace_run.proofs.LinesLemmas.{lines_on}
 use Rattle.trace_run.proofs.ReadingLemmas.{split_at, all_read, reads_lines}

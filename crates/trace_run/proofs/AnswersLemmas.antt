@@ -14,8 +14,8 @@ use Rattle.trace_pipeline.specs.declared.signal.Signal.{Signal}
 use Rattle.trace_pipeline.specs.declared.told.Told.{Told}
 use Rattle.trace_pipeline.specs.declared.told.Told.TheVariants as told
 use Rattle.trace_pipeline.specs.Lines.{is_blank}
-use Rattle.trace_pipeline.specs.Spelled.{settings_spelled}
-use Rattle.trace_pipeline.specs.Texts.{refusal_text}
+use Rattle.trace_pipeline.specs.reading.Spelled.{settings_spelled}
+use Rattle.trace_pipeline.specs.text.Texts.{refusal_text}
 use Rattle.trace_pipeline.specs.Report as report
 use Rattle.trace_pipeline.specs.Report.{Report, behind, refused, effect_of_line, answer_text, answer_count, last_text, report_on, report_from}
 use Rattle.trace_records.specs.declared.line.Opened.{Opened}
@@ -27,7 +27,7 @@ use Rattle.trace_records.proofs.FollowingLemmas.{some_before, all_blank, one_not
 use Rattle.trace_run.specs.declared.answers.Stage.{Stage}
 use Rattle.trace_run.specs.declared.answers.Stage.TheVariants as stage
 use Rattle.trace_run.specs.declared.written.Written.{Written}
-use Rattle.trace_run.specs.Answers.{IsAnswered, Opens, Runs, Stops, AnswersAt, is_refused, Cuts}
+use Rattle.trace_run.specs.reading.Answers.{IsAnswered, Opens, Runs, Stops, AnswersAt, is_refused, Cuts}
 
 -- ---- what a settings line opens
 

@@ -12,12 +12,12 @@ use Rattle.trace_run.specs.declared.progress.Progress.{Progress}
 use Rattle.trace_run.specs.declared.status.Status.{Status}
 use Rattle.trace_run.specs.declared.status.Status.TheVariants as ends
 use Rattle.trace_run.specs.Streams.{Streams, HasFault, Takes, Puts, PutsFront}
-use Rattle.trace_run.specs.Breaks.{whole_lines, AnswersAll}
-use Rattle.trace_run.specs.Answers.{Stops, Cuts, is_refused}
+use Rattle.trace_run.specs.reading.Breaks.{whole_lines, AnswersAll}
+use Rattle.trace_run.specs.reading.Answers.{Stops, Cuts, is_refused}
 use Rattle.trace_run.specs.Commands.Run.{answered}
 use Rattle.trace_run.specs.Carries.{Causes, Carries}
 use Rattle.trace_run.specs.Commands.Make.{made_line, LeavesSum, CompletesSum, makes}
-use Rattle.trace_run.specs.Reading.{HasRefused, PutsWhole, PutsSome, Leaves, IsRefusedAt}
+use Rattle.trace_run.specs.reading.Reading.{HasRefused, PutsWhole, PutsSome, Leaves, IsRefusedAt}
 use Rattle.trace_run.specs.Progress.{Keeps, IsMidway, HasFront, Reports, last_status}
 use Rattle.trace_run.proofs.ReadingLemmas.{split_at, all_read, takes_none}
 use Rattle.trace_run.proofs.AnswersLemmas.{stops_end, cut_at}

@@ -19,7 +19,7 @@ use Rattle.trace_run.specs.Making.{SumsUp, IsMadeLine, with_records, of_requests
 use Rattle.trace_run.specs.Commands.Make.{line_if}
 use Rattle.trace_run.specs.declared.make.Totals.{Totals}
 use Rattle.trace_records.proofs.FollowingLemmas.{stands_beside}
-use Rattle.span_script.proofs.Running.{records_push}
+use Rattle.span_script.proofs.runs.RunLemmas.{records_push}
 
 -- ---- totals
 

@@ -7,8 +7,8 @@ use Rattle.trace_pipeline.specs.Lines.{lines_of}
 use Rattle.trace_pipeline.specs.declared.signal.Signal.{Signal}
 use Rattle.trace_pipeline.specs.Report.{Report, report_from, report, output}
 use Rattle.trace_run.specs.Streams.{IsFront, Puts, PutsFront}
-use Rattle.trace_run.specs.Breaks.{has_feed, whole_part, whole_lines}
-use Rattle.trace_run.specs.Answers.{AnswersTo, Stops, Cuts, is_refused}
+use Rattle.trace_run.specs.reading.Breaks.{has_feed, whole_part, whole_lines}
+use Rattle.trace_run.specs.reading.Answers.{AnswersTo, Stops, Cuts, is_refused}
 use Rattle.trace_run.specs.Progress.{Keeps, IsMidway, HasFront, Reports}
 use Rattle.trace_run.specs.declared.answers.Answers.{Answers}
 use Rattle.trace_run.specs.declared.progress.Progress.{Progress}

@@ -7,7 +7,7 @@ use Rattle.trace_run.specs.declared.status.Status.{Status}
 use Rattle.trace_run.specs.declared.status.Status.TheVariants as ends
 use Rattle.trace_run.specs.Streams.{Streams, MeetsEnd, Takes, Puts}
 use Rattle.trace_run.specs.Carries.{Causes, Carries}
-use Rattle.trace_run.specs.Reading.{Answering, PutsSome, Leaves, Completes, IsRefusedAt, ReadsLines, reading}
+use Rattle.trace_run.specs.reading.Reading.{Answering, PutsSome, Leaves, Completes, IsRefusedAt, ReadsLines, reading}
 use Rattle.trace_run.proofs.StreamsLemmas.{puts_none, takes_still}
 
 -- ---- what was read

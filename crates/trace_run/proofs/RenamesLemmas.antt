@@ -8,7 +8,7 @@ use Rattle.trace_pipeline.specs.declared.signal.Signal.TheVariants as signal
 use Rattle.trace_run.specs.Carries.{Carries}
 use Rattle.trace_run.specs.Commands.{meaning_by}
 use Rattle.trace_run.specs.Commands.Run.{answered, runs}
-use Rattle.trace_run.specs.Reading.{Leaves}
+use Rattle.trace_run.specs.reading.Reading.{Leaves}
 use Rattle.trace_run.specs.Renames.{RenamesIds}
 use Rattle.trace_run.specs.Streams.{Streams, Puts}
 use Rattle.trace_run.specs.declared.invocation.Invocation.{Invocation}

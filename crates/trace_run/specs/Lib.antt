@@ -1,12 +1,9 @@
 pub mod Streams
 pub mod Words
-pub mod Breaks
-pub mod Answers
 pub mod Progress
 pub mod Meaning
-pub mod Reading
-pub mod AllLines
 pub mod Commands
 pub mod Making
 pub mod Carries
 pub mod Renames
+pub mod reading

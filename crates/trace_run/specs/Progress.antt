@@ -3,8 +3,8 @@ use Rattle.std.specs.Prelude.{◌≡◌, ℕ, List, ◌++◌, Bool, true, false,
 use Rattle.trace_pipeline.specs.declared.signal.Signal.{Signal}
 use Rattle.trace_pipeline.specs.Report.{report, output}
 use Rattle.trace_run.specs.Streams.{Puts, PutsFront}
-use Rattle.trace_run.specs.Breaks.{has_feed, whole_part, whole_lines}
-use Rattle.trace_run.specs.Answers.{AnswersTo}
+use Rattle.trace_run.specs.reading.Breaks.{has_feed, whole_part, whole_lines}
+use Rattle.trace_run.specs.reading.Answers.{AnswersTo}
 use Rattle.trace_run.specs.declared.progress.Progress.{Progress}
 use Rattle.trace_run.specs.declared.status.Status.{Status}
 use Rattle.trace_run.specs.declared.status.Status.TheVariants as ends

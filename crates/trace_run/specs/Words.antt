@@ -5,7 +5,7 @@ use Rattle.trace_run.specs.declared.invocation.Invocation.{Invocation}
 use Rattle.trace_run.specs.declared.invocation.Invocation.TheVariants.{Script, Batch, Threads}
 use Rattle.trace_run.specs.declared.script.Command.TheVariants.{Run, Make, Tree, Tasks}
 use Rattle.trace_pipeline.specs.declared.generated.TheConstants.{MOST_ROUNDS}
-use Rattle.trace_pipeline.specs.Decimals.{u128_word}
+use Rattle.trace_pipeline.specs.text.Decimals.{u128_word}
 use Rattle.trace_pipeline.specs.declared.signal.Signal.TheVariants.{Traces, Metrics}
 use Rattle.trace_run.specs.declared.status.Status.{Status}
 use Rattle.trace_run.specs.declared.status.Status.TheVariants as ends

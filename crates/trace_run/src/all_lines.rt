@@ -2,7 +2,7 @@
 ghost use Rattle.std.specs.Prelude.{◌≡◌, ℕ, List, Bool, not, None, IfSome, IfOk};
 ghost use Rattle.trace_pipeline.specs.Lines.{lines_of};
 ghost use Rattle.trace_records.specs.Inputs.{Refuses, NoneRefused};
-ghost use Rattle.trace_run.specs.AllLines.{all_lines, AnswersCut, Tells, status_of};
+ghost use Rattle.trace_run.specs.reading.AllLines.{all_lines, AnswersCut, Tells, status_of};
 ghost use Rattle.trace_run.specs.Carries.{Carries};
 ghost use Rattle.trace_run.specs.Streams.{StopsReading, StopsWriting, seen};
 

@@ -2,7 +2,7 @@
 ghost use Rattle.std.specs.Prelude.{◌≡◌, ℕ, List, [], ◌∷◌, ◌++◌, ◌+◌, false, true, IfOk, OnOk};
 ghost use Rattle.trace_pipeline.specs.Lines.{is_blank};
 ghost use Rattle.trace_pipeline.specs.Report.{report_from};
-ghost use Rattle.trace_run.specs.Answers.{Opens, Runs, AnswersAt, Goes, AnswersTo, is_refused};
+ghost use Rattle.trace_run.specs.reading.Answers.{Opens, Runs, AnswersAt, Goes, AnswersTo, is_refused};
 
 use crate::written::Written;
 use otel_base::memory::Memory;

@@ -4,7 +4,7 @@
 ghost use Rattle.std.specs.Prelude.{◌≡◌, ◌<◌, ℕ, IfOk};
 ghost use Rattle.batch_lines.specs.Texts.{TellsAll};
 ghost use Rattle.trace_pipeline.specs.Lines.{lines_of};
-ghost use Rattle.trace_run.specs.AllLines.{AnswersCut, Tells};
+ghost use Rattle.trace_run.specs.reading.AllLines.{AnswersCut, Tells};
 ghost use Rattle.trace_run.specs.Carries.{Carries};
 ghost use Rattle.trace_run.specs.Commands.Batch.{accepts_few, batches};
 ghost use Rattle.trace_run.specs.Streams.{StopsReading, StopsWriting, seen};

@@ -1,6 +1,6 @@
 //! Where lines end.
 ghost use Rattle.std.specs.Prelude.{◌≡◌, ◌++◌, ◌∷◌, ◌<◌, length, false, None, IfSome};
-ghost use Rattle.trace_run.specs.Breaks.{has_feed, whole_part};
+ghost use Rattle.trace_run.specs.reading.Breaks.{has_feed, whole_part};
 
 use memchr::{memchr, memrchr};
 

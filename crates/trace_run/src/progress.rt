@@ -1,8 +1,8 @@
 //! Answering an input piece by piece, as it is read.
 ghost use Rattle.std.specs.Prelude.{◌≡◌, ◌++◌, ◌∷◌, ℕ, List, Option, [], false, IfOk, IfErr, OnOk, OnErr};
 ghost use Rattle.trace_pipeline.specs.Report.{report};
-ghost use Rattle.trace_run.specs.Answers.{is_refused};
-ghost use Rattle.trace_run.specs.Breaks.{has_feed};
+ghost use Rattle.trace_run.specs.reading.Answers.{is_refused};
+ghost use Rattle.trace_run.specs.reading.Breaks.{has_feed};
 ghost use Rattle.trace_run.specs.Streams.{HasFault, StopsWriting};
 ghost use Rattle.trace_run.specs.Progress.{IsMidway, Keeps, FeedsTo, Finishes};
 

@@ -1,11 +1,11 @@
 //! Running a script: its input is read in blocks, each line is answered once it is whole, and its answer is written before
 //! the next block is read.
 ghost use Rattle.std.specs.Prelude.{◌≡◌, ◌≢◌, ◌+◌, ◌<◌, ◌≤◌, [], false, length, IfSome};
-ghost use Rattle.trace_run.specs.Answers.{is_refused};
+ghost use Rattle.trace_run.specs.reading.Answers.{is_refused};
 ghost use Rattle.trace_run.specs.Carries.{Carries, Causes, IsOver};
 ghost use Rattle.trace_run.specs.Commands.Run.{answered, runs};
 ghost use Rattle.trace_run.specs.Progress.{Keeps};
-ghost use Rattle.trace_run.specs.Reading.{Leaves, PutsSome, IsRefusedAt};
+ghost use Rattle.trace_run.specs.reading.Reading.{Leaves, PutsSome, IsRefusedAt};
 ghost use Rattle.trace_run.specs.Streams.{MeetsEnd, StopsReading, StopsWriting, seen};
 
 use crate::failed::Failed;

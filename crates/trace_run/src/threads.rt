@@ -5,7 +5,7 @@
 ghost use Rattle.std.specs.Prelude.{◌≡◌, IfOk};
 ghost use Rattle.thread_run.specs.Inputs.{TellsThreads, accepts_threads};
 ghost use Rattle.trace_pipeline.specs.Lines.{lines_of};
-ghost use Rattle.trace_run.specs.AllLines.{AnswersCut, Tells};
+ghost use Rattle.trace_run.specs.reading.AllLines.{AnswersCut, Tells};
 ghost use Rattle.trace_run.specs.Carries.{Carries};
 ghost use Rattle.trace_run.specs.Commands.Threads.{works};
 ghost use Rattle.trace_run.specs.Streams.{StopsReading, StopsWriting, seen};

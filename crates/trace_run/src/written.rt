@@ -1,9 +1,9 @@
 //! What a run writes, line by line.
 ghost use Rattle.std.specs.Prelude.{◌≡◌, ◌≢◌, ◌++◌, ◌+◌, ◌≤◌, [], length, OnOk, OnErr};
 ghost use Rattle.trace_pipeline.specs.Report.{record_lines, measure_lines, last_text};
-ghost use Rattle.trace_pipeline.specs.Texts.{reply_text, refusal_text};
+ghost use Rattle.trace_pipeline.specs.text.Texts.{reply_text, refusal_text};
 ghost use Rattle.trace_records.specs.Following.{without_taken};
-ghost use Rattle.trace_run.specs.Answers.{IsAnswered};
+ghost use Rattle.trace_run.specs.reading.Answers.{IsAnswered};
 ghost use Rattle.trace_run.specs.Streams.{HasFault, Puts, PutsFront, StopsWriting};
 
 use crate::failed::Failed;

@@ -2,7 +2,7 @@
 use Rattle.std.specs.Prelude.{◌≡◌, false}
 use Rattle.std.proofs.Common.{subst}
 use Rattle.trace_base.specs.Calls.{SubscriberCall}
-use Rattle.trace_base.specs.Contexts.{Lanes}
+use Rattle.trace_base.specs.lanes.Contexts.{Lanes}
 use Rattle.span_registry.specs.Registering.{registry_lanes}
 use Rattle.trace_tape.specs.Taping.{Taped, DoesTape}
 

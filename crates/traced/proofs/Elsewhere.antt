@@ -5,7 +5,7 @@ use Rattle.std.specs.Option.{option_map_or}
 use Rattle.std.proofs.lemmas.Bool.{cond-true, cond-false, eq-eqb, ne_eqb}
 use Rattle.trace_base.specs.declared.lane.Lane.{Lane}
 use Rattle.trace_base.specs.declared.subscriber.Subscriber.{Ghosts}
-use Rattle.trace_base.specs.Contexts.{AreAttached, KeepsAttached, attached_as}
+use Rattle.trace_base.specs.lanes.Contexts.{AreAttached, KeepsAttached, attached_as}
 use Rattle.trace_base.specs.Gate.{Worlds}
 use Rattle.span_handles.specs.Worlds.{Has, Replaced, Alike, no_spans, spans_in, kept_in}
 use Rattle.traced.specs.Standing.{AreAtMost, IsApart, AreServed, Stands}

@@ -15,7 +15,7 @@ use Rattle.trace_base.specs.Gate.{Worlds, dispatch_on}
 use Rattle.trace_base.specs.Spans.{Span, Spans, no_span, span_at, entries_on, place_on}
 use Rattle.trace_base.specs.Calls.{SubscriberCall, NewSpan, Event, Enter, Exit, after}
 use Rattle.trace_base.specs.Conditions.{IsLive, IsLivePlace}
-use Rattle.trace_base.specs.Contexts.{KeepsAttached}
+use Rattle.trace_base.specs.lanes.Contexts.{KeepsAttached}
 use Rattle.trace_base.specs.Sound.{IsSound}
 use Rattle.trace_base.proofs.Sound.{place_live}
 use Rattle.span_handles.specs.Worlds.{Replaced, Shown, Alike, Chain, ChainShown, spans_in, kept_in, no_spans}

@@ -7,7 +7,7 @@ use Rattle.trace_base.specs.declared.span.Parent.{Parent}
 use Rattle.trace_base.specs.declared.span.Parent.TheVariants as parent
 use Rattle.trace_base.specs.declared.subscriber.Subscriber.{Ghosts}
 use Rattle.trace_base.specs.Conditions.{HasFewHolds, HasFewHoldsAbove, AreFew, IsLivePlace, MayExit}
-use Rattle.trace_base.specs.Contexts.{AreAttached}
+use Rattle.trace_base.specs.lanes.Contexts.{AreAttached}
 use Rattle.trace_base.specs.Gate.{Worlds, IsOwn, dispatch_on}
 use Rattle.trace_base.specs.Spans.{Spans, entries_on, times_in, place_on}
 use Rattle.trace_base.proofs.Entering.{any_if_counted}

@@ -3,7 +3,7 @@ use Rattle.std.specs.Prelude.{◌≡◌}
 use Rattle.trace_base.specs.declared.subscriber.Subscriber.{Ghosts}
 use Rattle.trace_base.specs.Calls.{SubscriberCall, after}
 use Rattle.trace_base.specs.Conditions.{Allowed}
-use Rattle.trace_base.specs.Contexts.{Lanes}
+use Rattle.trace_base.specs.lanes.Contexts.{Lanes}
 use Rattle.trace_base.specs.Sound.{IsSound}
 
 -- the laws of the trait, of one subscriber type

@@ -4,7 +4,7 @@ use Rattle.trace_base.specs.declared.lane.Lane.{Lane}
 use Rattle.trace_base.specs.declared.span.Parent.{Parent}
 use Rattle.trace_base.specs.declared.subscriber.Subscriber.{Ghosts}
 use Rattle.trace_base.specs.Conditions.{HasFewHolds, MayExit}
-use Rattle.trace_base.specs.Contexts.{AreAttached}
+use Rattle.trace_base.specs.lanes.Contexts.{AreAttached}
 use Rattle.trace_base.specs.Gate.{Worlds, IsOwn, dispatch_on}
 use Rattle.trace_base.specs.Spans.{Spans, span_at}
 use Rattle.span_registry.specs.Registering.{no_spans}

@@ -4,12 +4,12 @@ use Rattle.std.specs.Prelude.{◌⊎◌, Option, Some, None, Result, Ok, Err, is
 use Rattle.otel_base.specs.declared.record.Record.{Record}
 use Rattle.span_laws.specs.Laws.{IsHistory, occurrences}
 use Rattle.span_laws.specs.Telling.{id_of}
-use Rattle.span_laws.proofs.Occurrences.{occurs_cons}
+use Rattle.span_laws.proofs.spans.OccurrencesLemmas.{occurs_cons}
 use Rattle.span_script.specs.Outcomes.{records}
 use Rattle.span_script.specs.Setups.{Setup}
 use Rattle.span_script.specs.Tables.{History}
 use Rattle.trace_pipeline.specs.Report.{accepts}
-use Rattle.trace_pipeline.specs.Texts.{refusal_text}
+use Rattle.trace_pipeline.specs.text.Texts.{refusal_text}
 use Rattle.trace_records.specs.declared.answer.Answer.{Answer}
 use Rattle.trace_records.specs.declared.finished.FinishedSpans.{FinishedSpans}
 use Rattle.trace_records.specs.declared.finished.RefusedLine.{RefusedLine}

@@ -5,8 +5,8 @@ use Rattle.serde_json.specs.Data.{Data, boolean, string, object}
 use Rattle.span_script.specs.Effects.{open_spans}
 use Rattle.span_script.specs.Outcomes.{records}
 use Rattle.span_script.specs.Tables.{tables}
-use Rattle.trace_pipeline.specs.Hex.{hex16, hex32}
-use Rattle.trace_pipeline.specs.Object.{by_name, whole_number, line_of}
+use Rattle.trace_pipeline.specs.text.Hex.{hex16, hex32}
+use Rattle.trace_pipeline.specs.reading.Object.{by_name, whole_number, line_of}
 use Rattle.trace_records.specs.Inputs.{TellsRun}
 use Rattle.trace_records.specs.Scripts.{Script, script_of}
 use Rattle.trace_tree.specs.declared.node.Node.{Node}

@@ -3,9 +3,9 @@ ghost use Rattle.std.specs.Prelude.{◌≡◌, ◌==◌, length, IfOk, OnOk, OnE
 ghost use Rattle.std.specs.Iterator.{YieldsFirstRef, item_count};
 ghost use Rattle.std.specs.List.{filter};
 ghost use Rattle.std.specs.List.Sorted.{IsStrictlySortedBy};
-ghost use Rattle.env_directives.specs.Choice.{admits, admits_target};
+ghost use Rattle.env_directives.specs.orders.Choice.{admits, admits_target};
 ghost use Rattle.env_directives.specs.Iterators.{directives_left, caring_left};
-ghost use Rattle.env_directives.specs.Table.{empty_table, with_added, with_all_added, AddsSome, placed, more_verbose};
+ghost use Rattle.env_directives.specs.orders.Table.{empty_table, with_added, with_all_added, AddsSome, placed, more_verbose};
 
 use crate::directive::{Match, StaticDirective};
 use otel_base::memory::Memory;
@@ -28,7 +28,7 @@ pub struct DirectiveSet<T: Ord> {
 
 impl<T: Ord> Model for DirectiveSet<T> {
     ghost use Rattle.std.specs.List.Sorted.{IsStrictlySortedBy};
-    ghost use Rattle.env_directives.specs.Table.{Table};
+    ghost use Rattle.env_directives.specs.orders.Table.{Table};
 
     ghost Value = { Table T };
 

@@ -2,7 +2,7 @@
 ghost use Rattle.std.specs.Prelude.{◌≡◌, ◌<◌, true};
 ghost use Rattle.std.specs.List.{list_all};
 ghost use Rattle.std.specs.Prelude.{nat_lt};
-ghost use Rattle.env_directives.specs.Cuts.{cut, Pieces};
+ghost use Rattle.env_directives.specs.reading.Cuts.{cut, Pieces};
 
 /// A text in pieces: what stands before the byte that it is cut at, that byte if there is one, and what stands behind it.
 #[derive(Clone, Copy)]
@@ -13,7 +13,7 @@ pub struct Pieces<'t> {
 }
 
 /// Cuts a text at its first byte that is one of the stops, which are ASCII.
-#[tactic(auto, using(crate::proofs::Cutting::cut_step, crate::proofs::Cutting::cut_found))]
+#[tactic(auto, using(crate::proofs::cuts::CutsLemmas::cut_step, crate::proofs::cuts::CutsLemmas::cut_found))]
 pub fn cut<'t>(text: &'t str, stops: &[u8]) -> Pieces<'t>
     requires { list_all (λ s. nat_lt s 128) stops.now ≡ true }
     ensures front { result.front.now ≡ (cut stops.now text.now).front }

@@ -3,15 +3,15 @@ ghost use Rattle.std.specs.Prelude.{◌≡◌, [], ◌++◌, IfOk, Some, false, 
 ghost use Rattle.std.specs.Fmt.{WritesOnOk};
 ghost use Rattle.std.proofs.Common.{rules};
 ghost use Rattle.std.specs.Cmp.Rules.{comparing};
-ghost use Rattle.env_directives.specs.DirectiveOrder.{reach_cmp, parts_cmp};
-ghost use Rattle.env_directives.specs.Forms.{target_at, IsDirective};
-ghost use Rattle.env_directives.specs.Printed.{match_text, text_if_any, fields_text, has_bracket, bracket_text, equals_text, directive_text};
-ghost use Rattle.trace_base.specs.Level.{filter_of_level};
+ghost use Rattle.env_directives.specs.orders.DirectiveOrder.{reach_cmp, parts_cmp};
+ghost use Rattle.env_directives.specs.reading.Forms.{target_at, IsDirective};
+ghost use Rattle.env_directives.specs.printed.Printed.{match_text, text_if_any, fields_text, has_bracket, bracket_text, equals_text, directive_text};
+ghost use Rattle.trace_base.specs.words.Level.{filter_of_level};
 ghost use Rattle.trace_base.specs.declared.level.LevelFilter.TheVariants.{OFF};
 ghost use Rattle.std.specs.Option.{option_map_or};
 ghost use Rattle.env_directives.specs.Cares.{declares_all, cares_for_span};
 ghost use Rattle.std.specs.Str.{trim};
-ghost use Rattle.env_directives.specs.Faults.{HasFault};
+ghost use Rattle.env_directives.specs.reading.Faults.{HasFault};
 
 use crate::directive::{self, ParseError, begins_with};
 use crate::env::directive::parse::read;
@@ -292,8 +292,8 @@ fn write_more<W: fmt::Write>(f: &mut fmt::Formatter<W>, field: &Match) -> fmt::R
 impl PartialEq for Directive {
     ghost use Rattle.std.specs.Ordering.{eq_by_cmp};
     ghost use Rattle.std.specs.Cmp.{eq_by_cmp_equiv, partial_equiv_from_equiv};
-    ghost use Rattle.env_directives.specs.DirectiveOrder.{directive_cmp};
-    ghost use Rattle.env_directives.specs.DirectiveLaws.{directive_total};
+    ghost use Rattle.env_directives.specs.orders.DirectiveOrder.{directive_cmp};
+    ghost use Rattle.env_directives.specs.laws.DirectiveLemmas.{directive_total};
 
     ghost eq = { eq_by_cmp directive_cmp };
 
@@ -306,7 +306,7 @@ impl PartialEq for Directive {
 
 impl Eq for Directive {
     ghost use Rattle.std.specs.Cmp.{eq_by_cmp_equiv};
-    ghost use Rattle.env_directives.specs.DirectiveLaws.{directive_total};
+    ghost use Rattle.env_directives.specs.laws.DirectiveLemmas.{directive_total};
 
     ghost laws = { eq_by_cmp_equiv directive_total };
 }
@@ -314,8 +314,8 @@ impl Eq for Directive {
 /// The most specific directive is the least, and so a sort puts it first: the longer target, then a span name, then the
 /// more fields. The level isn't read.
 impl Ord for Directive {
-    ghost use Rattle.env_directives.specs.DirectiveOrder.{directive_cmp};
-    ghost use Rattle.env_directives.specs.DirectiveLaws.{directive_total};
+    ghost use Rattle.env_directives.specs.orders.DirectiveOrder.{directive_cmp};
+    ghost use Rattle.env_directives.specs.laws.DirectiveLemmas.{directive_total};
 
     ghost cmp = { directive_cmp };
 
@@ -333,8 +333,8 @@ impl Ord for Directive {
 impl PartialOrd for Directive {
     ghost use Rattle.std.specs.Ordering.{as_partial_cmp};
     ghost use Rattle.std.specs.Cmp.{partial_order_from_total};
-    ghost use Rattle.env_directives.specs.DirectiveOrder.{directive_cmp};
-    ghost use Rattle.env_directives.specs.DirectiveLaws.{directive_total};
+    ghost use Rattle.env_directives.specs.orders.DirectiveOrder.{directive_cmp};
+    ghost use Rattle.env_directives.specs.laws.DirectiveLemmas.{directive_total};
 
     ghost partial_cmp = { as_partial_cmp directive_cmp };
 

@@ -6,8 +6,8 @@ ghost use Rattle.std.specs.Ordering.{nat_cmp, as_partial_cmp};
 ghost use Rattle.std.specs.Cmp.{partial_order_from_own_ties};
 ghost use Rattle.std.specs.Cmp.Lexicographic.{slice_cmp};
 ghost use Rattle.env_directives.specs.Meeting.{meets, meets_truth, meets_u64, meets_i64, is_text, debug_text};
-ghost use Rattle.env_directives.specs.Printed.{match_text, value_text};
-ghost use Rattle.env_directives.specs.Values.{IsNoPatternField, IsNoPatternValue, field_of, value_of, plain_value, truth_of, u64_of, i64_of, IsPatternIfAny, MayFail};
+ghost use Rattle.env_directives.specs.printed.Printed.{match_text, value_text};
+ghost use Rattle.env_directives.specs.reading.Values.{IsNoPatternField, IsNoPatternValue, field_of, value_of, plain_value, truth_of, u64_of, i64_of, IsPatternIfAny, MayFail};
 
 use crate::directive::ParseError;
 use crate::env::cut::cut;
@@ -34,7 +34,7 @@ pub struct Match {
 
 impl Match {
     // Reads a name, or a name and a value behind `=`.
-    #[tactic(auto, unfolding(crate::specs::Values::field_of))]
+    #[tactic(auto, unfolding(crate::specs::reading::Values::field_of))]
     pub(crate) fn parse(alloc: Global, text: &str, patterns: bool) -> Result<Match, ParseError>
         ensures ok { IfOk result (λ m. m ≡ field_of patterns text.now) }
         ensures pattern { IfOk result (λ m. IfSome m.value IsPatternIfAny) }
@@ -65,8 +65,8 @@ impl fmt::Display for Match {
 
 /// Fields that ask for a value are greater, since they are more specific; then by name, then by value.
 impl Ord for Match {
-    ghost use Rattle.env_directives.specs.FieldOrder.{field_cmp};
-    ghost use Rattle.env_directives.specs.FieldLaws.{field_total, field_ties};
+    ghost use Rattle.env_directives.specs.orders.FieldOrder.{field_cmp};
+    ghost use Rattle.env_directives.specs.laws.FieldLemmas.{field_total, field_ties};
 
     ghost cmp = { field_cmp };
 
@@ -86,8 +86,8 @@ impl Ord for Match {
 
 impl PartialOrd for Match {
     ghost use Rattle.std.specs.Cmp.{partial_order_from_total};
-    ghost use Rattle.env_directives.specs.FieldOrder.{field_cmp};
-    ghost use Rattle.env_directives.specs.FieldLaws.{field_total, field_ties};
+    ghost use Rattle.env_directives.specs.orders.FieldOrder.{field_cmp};
+    ghost use Rattle.env_directives.specs.laws.FieldLemmas.{field_total, field_ties};
 
     ghost partial_cmp = { as_partial_cmp (field_cmp) };
 
@@ -191,7 +191,7 @@ fn meets_i64(wanted: i64, value: &Value) -> bool
 }
 
 // The truth value or number that a text writes.
-#[tactic(auto, unfolding(crate::specs::Values::plain_value))]
+#[tactic(auto, unfolding(crate::specs::reading::Values::plain_value))]
 fn plain_value(text: &str) -> Option<ValueMatch>
     ensures { result ≡ plain_value text.now }
 {
@@ -217,14 +217,14 @@ fn truth_of(text: &str) -> Option<bool>
     }
 }
 
-#[tactic(auto, using(crate::proofs::Numbers::u64_read, crate::proofs::Numbers::u64_unread))]
+#[tactic(auto, using(crate::proofs::forms::NumbersLemmas::u64_read, crate::proofs::forms::NumbersLemmas::u64_unread))]
 fn u64_of(text: &str) -> Option<u64>
     ensures { result ≡ u64_of text.now }
 {
     text.parse::<u64>().ok()
 }
 
-#[tactic(auto, using(crate::proofs::Numbers::i64_read, crate::proofs::Numbers::i64_unread))]
+#[tactic(auto, using(crate::proofs::forms::NumbersLemmas::i64_read, crate::proofs::forms::NumbersLemmas::i64_unread))]
 fn i64_of(text: &str) -> Option<i64>
     ensures { result ≡ i64_of text.now }
 {

@@ -7,7 +7,7 @@ ghost use Rattle.std.specs.Cmp.Rules.{comparing};
 ghost use Rattle.std.specs.Ordering.{nat_cmp, as_partial_cmp};
 ghost use Rattle.std.specs.Cmp.{partial_order_from_own_ties};
 ghost use Rattle.std.specs.Cmp.Lexicographic.{slice_cmp};
-ghost use Rattle.env_directives.specs.Values.{MayFail};
+ghost use Rattle.env_directives.specs.reading.Values.{MayFail};
 ghost use Rattle.env_directives.specs.Meeting.{is_matched_if_any, plain_text};
 ghost use Rattle.env_directives.specs.Patterns.{whole, is_matched, IsCompiled, IsPattern, IsRefused, IsNoPattern};
 

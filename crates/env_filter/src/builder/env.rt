@@ -1,8 +1,8 @@
 //! Filters from variables.
 ghost use Rattle.std.specs.Prelude.{◌≡◌, [], Some, None, IfOk, IfErr, option_map, string_bytes, codes};
-ghost use Rattle.env_filter.specs.Building.{default_builder, errors_builder, with_variable};
+ghost use Rattle.env_filter.specs.texts.Building.{default_builder, errors_builder, with_variable};
 ghost use Rattle.env_filter.specs.Filtering.{plain, IsNew};
-ghost use Rattle.env_filter.specs.FromVariables.{IsReadAs, IsSomeReadAs, IsOfVariable, IsRequiredAs, IsRefusedFrom, IsRefusedIn, IsRequiredFault, IsParsed, env_text};
+ghost use Rattle.env_filter.specs.texts.FromVariables.{IsReadAs, IsSomeReadAs, IsOfVariable, IsRequiredAs, IsRefusedFrom, IsRefusedIn, IsRequiredFault, IsParsed, env_text};
 ghost use Rattle.env_filter.specs.declared.builder.env.FromEnvError.TheVariants as fault;
 
 use crate::builder::Builder;

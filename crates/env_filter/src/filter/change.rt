@@ -1,6 +1,6 @@
 //! Filters that are made of tables, and filters with a directive more.
 ghost use Rattle.std.specs.Prelude.{◌≡◌, true, IfOk, IfErr, OnOk, OnErr};
-ghost use Rattle.env_directives.specs.Table.{empty_table};
+ghost use Rattle.env_directives.specs.orders.Table.{empty_table};
 ghost use Rattle.env_filter.specs.Filtering.{plain, fresh, AreWhole, IsNew};
 ghost use Rattle.env_filter.specs.Tables.{with_directive, placed_in, with_tables, has_none};
 

@@ -1,8 +1,8 @@
 //! The hooks of a filter.
 ghost use Rattle.std.specs.Prelude.{◌≡◌, ◌<◌, true};
-ghost use Rattle.trace_base.specs.Hooks.{OnNewSpan, OnRecord, OnEnter, OnExit, OnClose, ForNewSpan, ForRecord, ForEnter};
-ghost use Rattle.env_filter.specs.Keyed.{changed};
-ghost use Rattle.env_filter.specs.Kept.{is_watched, level_in, levels_in, room_in, opened, closed};
+ghost use Rattle.trace_base.specs.layers.Hooks.{OnNewSpan, OnRecord, OnEnter, OnExit, OnClose, ForNewSpan, ForRecord, ForEnter};
+ghost use Rattle.env_filter.specs.spans.Keyed.{changed};
+ghost use Rattle.env_filter.specs.spans.Kept.{is_watched, level_in, levels_in, room_in, opened, closed};
 ghost use Rattle.env_filter.specs.Filtering.{plain, after, IsReadyFilter};
 
 use crate::filter::EnvFilter;

@@ -3,9 +3,9 @@ ghost use Rattle.std.specs.Prelude.{◌≡◌, ◌<◌, false, true, Some, OnOk,
 ghost use Rattle.std.proofs.Common.{refl, ap, ◌∙◌};
 ghost use Rattle.otel_base.specs.declared.enter_error.EnterError.TheVariants.{Full};
 ghost use Rattle.trace_base.specs.declared.lane.Lane.{Lane};
-ghost use Rattle.env_filter.specs.Kept.{is_watched, levels_in, room_in};
+ghost use Rattle.env_filter.specs.spans.Kept.{is_watched, levels_in, room_in};
 ghost use Rattle.env_filter.specs.Filtering.{plain, AreWhole, seen_in, interest_in, hint_in, enables_in, DoesFilter, IsReadyFilter};
-ghost use Rattle.env_filter.specs.Hooking.{same_seen, same_does, filter_sees, filter_lanes, keeps_gate, keeps_whole, same_gate, same_enables, same_whole};
+ghost use Rattle.env_filter.specs.laws.HookLemmas.{same_seen, same_does, filter_sees, filter_lanes, keeps_gate, keeps_whole, same_gate, same_enables, same_whole};
 
 use crate::filter::EnvFilter;
 use crate::filter::hooks::Ready;

@@ -1,11 +1,11 @@
 //! Filters from texts, and the text of a filter.
 ghost use Rattle.std.specs.Prelude.{◌≡◌, ◌++◌, [], Some, codes, IfOk, IfErr};
 ghost use Rattle.std.specs.Fmt.{WritesOnOk};
-ghost use Rattle.env_directives.specs.Printed.{directive_text};
-ghost use Rattle.env_directives.specs.StaticPrinted.{static_text};
-ghost use Rattle.env_filter.specs.Building.{default_builder, errors_builder, IsFilterOf, IsSomeFilterOf, IsRefused};
+ghost use Rattle.env_directives.specs.printed.Printed.{directive_text};
+ghost use Rattle.env_directives.specs.printed.StaticPrinted.{static_text};
+ghost use Rattle.env_filter.specs.texts.Building.{default_builder, errors_builder, IsFilterOf, IsSomeFilterOf, IsRefused};
 ghost use Rattle.env_filter.specs.Filtering.{plain, IsNew};
-ghost use Rattle.env_filter.specs.Printing.{behind_commas, dynamics_text, filter_text};
+ghost use Rattle.env_filter.specs.texts.Printing.{behind_commas, dynamics_text, filter_text};
 
 use crate::builder::Builder;
 use crate::filter::EnvFilter;

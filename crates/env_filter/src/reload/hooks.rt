@@ -1,6 +1,6 @@
 //! The hooks of a layer that can be exchanged: those of the layer inside, or nothing.
 ghost use Rattle.std.specs.Prelude.{false, None};
-ghost use Rattle.trace_base.specs.Unseeing.{unseeing, LeavesLanes};
+ghost use Rattle.trace_base.specs.layers.Unseeing.{unseeing, LeavesLanes};
 ghost use Rattle.env_filter.specs.Reloading.{if_there, HoldsIfThere, Both, none_kept, sometimes, never_enabled, both_refl, both_trans, both_alike, both_keep, both_compose, both_see, both_lanes, both_passive};
 
 use crate::reload::Layer;

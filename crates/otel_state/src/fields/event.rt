@@ -1,7 +1,7 @@
 //! What the fields of an event tell.
 ghost use Rattle.std.specs.Prelude.{◌≡◌, ◌++◌, ◌∷◌, [], OnOk, IfOk};
-ghost use Rattle.otel_state.specs.Fields.{by_name};
-ghost use Rattle.otel_state.specs.EventFields.{begun_event, with_attribute, with_error, with_told, with_texts, with_printed, with_field, with_error_value, name_or, finished, event_of};
+ghost use Rattle.otel_state.specs.fields.Fields.{by_name};
+ghost use Rattle.otel_state.specs.fields.EventFields.{begun_event, with_attribute, with_error, with_told, with_texts, with_printed, with_field, with_error_value, name_or, finished, event_of};
 
 use crate::fields::first::{add_level, add_target};
 use crate::fields::{

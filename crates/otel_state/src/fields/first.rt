@@ -1,7 +1,7 @@
 //! The attributes that a span has from its making.
 ghost use Rattle.std.specs.Prelude.{◌≡◌, ◌++◌, OnOk, IfOk};
-ghost use Rattle.otel_state.specs.Fields.{wanted, level_attribute, target_attribute};
-ghost use Rattle.otel_state.specs.FirstAttributes.{first_attributes, lane_attributes};
+ghost use Rattle.otel_state.specs.fields.Fields.{wanted, level_attribute, target_attribute};
+ghost use Rattle.otel_state.specs.fields.FirstAttributes.{first_attributes, lane_attributes};
 
 use crate::fields::{add_known_text, add_location, add_text};
 use crate::settings::LayerSettings;

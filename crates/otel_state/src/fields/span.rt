@@ -1,7 +1,7 @@
 //! What the fields of a span write on it.
 ghost use Rattle.std.specs.Prelude.{◌≡◌, ◌++◌, ◌∷◌, [], OnOk, IfOk};
-ghost use Rattle.otel_state.specs.Fields.{by_name};
-ghost use Rattle.otel_state.specs.SpanFields.{special_of, kind_of_word, status_of_code, with_special, with_named, with_any_text, with_value, span_update};
+ghost use Rattle.otel_state.specs.fields.Fields.{by_name};
+ghost use Rattle.otel_state.specs.fields.SpanFields.{special_of, kind_of_word, status_of_code, with_special, with_named, with_any_text, with_value, span_update};
 
 use crate::fields::{add_error, add_exception, add_text, field_name, plain_text};
 use crate::settings::LayerSettings;

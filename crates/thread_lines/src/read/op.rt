@@ -1,9 +1,9 @@
 //! What a call of a worker spells.
 ghost use Rattle.std.specs.Prelude.{◌≡◌};
 ghost use Rattle.serde_json.specs.View.{view};
-ghost use Rattle.trace_pipeline.specs.AttributeForm.{attributes_form};
-ghost use Rattle.trace_pipeline.specs.ExtensionForm.{as_moment, time_form};
-ghost use Rattle.trace_pipeline.specs.Gives.{Gives};
+ghost use Rattle.trace_pipeline.specs.forms.AttributeForm.{attributes_form};
+ghost use Rattle.trace_pipeline.specs.forms.ExtensionForm.{as_moment, time_form};
+ghost use Rattle.trace_pipeline.specs.reading.Gives.{Gives};
 ghost use Rattle.line_members.specs.Left.{left};
 ghost use Rattle.thread_lines.specs.ThreadForm.{word_of_op, word_form, record_op_form, event_op_form, attribute_op_form, status_op_form, added_event_form, valid_context, link_op_form, call_form, op_form};
 

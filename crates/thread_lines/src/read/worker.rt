@@ -2,8 +2,8 @@
 ghost use Rattle.std.specs.Prelude.{option_and_then};
 ghost use Rattle.serde_json.specs.Find.{as_array};
 ghost use Rattle.serde_json.specs.View.{view, items_view};
-ghost use Rattle.trace_pipeline.specs.Forms.{each};
-ghost use Rattle.trace_pipeline.specs.Gives.{Gives};
+ghost use Rattle.trace_pipeline.specs.forms.Forms.{each};
+ghost use Rattle.trace_pipeline.specs.reading.Gives.{Gives};
 ghost use Rattle.thread_lines.specs.ThreadForm.{op_of};
 
 use crate::line::ThreadOp;

@@ -10,7 +10,7 @@ use Rattle.span_script.specs.Setups.{Setup, setup_by}
 use Rattle.span_script.specs.Tables.{History, Effect, tables, records_of}
 use Rattle.trace_pipeline.specs.Lines.{is_blank}
 use Rattle.span_script.specs.Admission.{OpeningRead, opening_read}
-use Rattle.trace_pipeline.specs.Spelled.{settings_spelled}
+use Rattle.trace_pipeline.specs.reading.Spelled.{settings_spelled}
 use Rattle.trace_pipeline.specs.Report.{Report, behind, answer_text, answer_count, effect_of_line, following, opened, opening, report_on, report_from, accepts}
 use Rattle.trace_pipeline.specs.Laws.{GoesOn}
 

@@ -6,7 +6,7 @@ ghost use Rattle.trace_pipeline.specs.Generated.{made_settings, made_setup, made
 ghost use Rattle.trace_pipeline.specs.Lines.{lines_of};
 ghost use Rattle.trace_pipeline.specs.Replay.{replayed};
 ghost use Rattle.trace_pipeline.specs.Report.{IsValid};
-ghost use Rattle.trace_pipeline.specs.Spelled.{settings_spelled, request_spelled};
+ghost use Rattle.trace_pipeline.specs.reading.Spelled.{settings_spelled, request_spelled};
 
 use crate::generated::MOST_ROUNDS;
 

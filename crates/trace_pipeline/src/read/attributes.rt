@@ -1,12 +1,12 @@
 //! Reading attributes and statuses.
 ghost use Rattle.std.specs.Prelude.{◌≡◌, option_map};
 ghost use Rattle.serde_json.specs.View.{view};
-ghost use Rattle.trace_pipeline.specs.AttributeForm.{list_of, otel_value_of, keyed, attribute_of, attributes_of, attributes_form, status_word, error_status_form, status_of};
-ghost use Rattle.trace_pipeline.specs.Compact.{plain_data};
-ghost use Rattle.trace_pipeline.specs.Forms.{each, pair_with, object_of};
-ghost use Rattle.trace_pipeline.specs.Gives.{Gives};
-ghost use Rattle.trace_pipeline.specs.Left.{value_data, left};
-ghost use Rattle.trace_pipeline.specs.Object.{items};
+ghost use Rattle.trace_pipeline.specs.forms.AttributeForm.{list_of, otel_value_of, keyed, attribute_of, attributes_of, attributes_form, status_word, error_status_form, status_of};
+ghost use Rattle.trace_pipeline.specs.text.Compact.{plain_data};
+ghost use Rattle.trace_pipeline.specs.forms.Forms.{each, pair_with, object_of};
+ghost use Rattle.trace_pipeline.specs.reading.Gives.{Gives};
+ghost use Rattle.trace_pipeline.specs.reading.Left.{value_data, left};
+ghost use Rattle.trace_pipeline.specs.reading.Object.{items};
 
 use crate::read::LineError;
 use crate::read::fields::{texts, two_of};
@@ -29,7 +29,7 @@ fn list_value(alloc: Global, value: Value<'_>) -> Result<OtelValue, LineError>
 }
 
 // The value of an attribute that a value of a text spells.
-#[tactic(auto, using(crate::proofs::Attributes::list_nested))]
+#[tactic(auto, using(crate::proofs::texts::AttributesLemmas::list_nested))]
 fn plain_value(alloc: Global, plain: Plain<'_>) -> Result<OtelValue, LineError>
     ensures { Gives (λ v. v) result (otel_value_of (plain_data plain.entry)) }
 {
@@ -73,7 +73,7 @@ pub(crate) fn otel_value_of(alloc: Global, value: Value<'_>) -> Result<OtelValue
 }
 
 // The attribute that a pair of a key and a value spells.
-#[tactic(auto, using(crate::proofs::Fields::no_pair))]
+#[tactic(auto, using(crate::proofs::texts::FieldsLemmas::no_pair))]
 fn keyed(alloc: Global, values: Vec<Value<'_>>) -> Result<KeyValue, LineError>
     ensures { Gives (λ a. a) result (option_map keyed (pair_with otel_value_of (items value_data values.entry.items))) }
 {
@@ -128,7 +128,7 @@ fn status_word(word: &str) -> Option<Status>
     }
 }
 
-#[tactic(auto, unfolding(crate::specs::AttributeForm::error_status_form))]
+#[tactic(auto, unfolding(crate::specs::forms::AttributeForm::error_status_form))]
 fn error_members(alloc: Global, object: &mut Object) -> Result<Status, LineError>
     ensures { Gives (λ s. (s, left object.new)) result (error_status_form (left object.old)) }
 {

@@ -1,6 +1,6 @@
 //! Numbers of 128 bits that are read from their decimals.
 ghost use Rattle.std.specs.Prelude.{◌≡◌, ◌≢◌, ◌∷◌, List, ℕ, Decides, MatchOption, decimal};
-ghost use Rattle.trace_pipeline.specs.Decimals.{u128_word, i128_word, below_zero, from_zero};
+ghost use Rattle.trace_pipeline.specs.text.Decimals.{u128_word, i128_word, below_zero, from_zero};
 
 use itoa::Buffer;
 
@@ -51,7 +51,7 @@ fn from_zero(number: u128) -> Option<i128>
 }
 
 /// The signed number of 128 bits whose decimal a text is.
-#[tactic(auto, using(crate::proofs::Decimals::with_minus, crate::proofs::Decimals::no_minus))]
+#[tactic(auto, using(crate::proofs::texts::DecimalsLemmas::with_minus, crate::proofs::texts::DecimalsLemmas::no_minus))]
 pub(crate) fn i128_of(word: &str) -> Option<i128>
     ensures { result ≡ i128_word word.now }
 {

@@ -1,7 +1,7 @@
 //! Reading the requests that follow spans, and that ask something of the span extension.
-ghost use Rattle.trace_pipeline.specs.ExtensionForm.{follows_form, set_parent_form, add_link_form, set_attribute_form, set_status_form, time_form, add_event_form};
-ghost use Rattle.trace_pipeline.specs.Gives.{Gives};
-ghost use Rattle.trace_pipeline.specs.Left.{left};
+ghost use Rattle.trace_pipeline.specs.forms.ExtensionForm.{follows_form, set_parent_form, add_link_form, set_attribute_form, set_status_form, time_form, add_event_form};
+ghost use Rattle.trace_pipeline.specs.reading.Gives.{Gives};
+ghost use Rattle.trace_pipeline.specs.reading.Left.{left};
 
 use crate::read::LineError;
 use crate::read::attributes::{given_attributes, otel_value_of, status_of};
@@ -10,7 +10,7 @@ use otel_base::record::Moment;
 use span_script::request::{Call, LAST_MOMENT};
 use std::alloc::Global;
 
-#[tactic(auto, unfolding(crate::specs::ExtensionForm::follows_form))]
+#[tactic(auto, unfolding(crate::specs::forms::ExtensionForm::follows_form))]
 pub(crate) fn follows_call(object: &mut Object) -> Result<Call, LineError>
     ensures { Gives (λ c. (c, left object.new)) result (follows_form (left object.old)) }
 {
@@ -19,7 +19,7 @@ pub(crate) fn follows_call(object: &mut Object) -> Result<Call, LineError>
     Ok(Call::Follows { handle, from })
 }
 
-#[tactic(auto, unfolding(crate::specs::ExtensionForm::set_parent_form))]
+#[tactic(auto, unfolding(crate::specs::forms::ExtensionForm::set_parent_form))]
 pub(crate) fn set_parent_call(object: &mut Object) -> Result<Call, LineError>
     ensures { Gives (λ c. (c, left object.new)) result (set_parent_form (left object.old)) }
 {
@@ -28,7 +28,7 @@ pub(crate) fn set_parent_call(object: &mut Object) -> Result<Call, LineError>
     Ok(Call::SetParent { handle, context })
 }
 
-#[tactic(auto, unfolding(crate::specs::ExtensionForm::add_link_form))]
+#[tactic(auto, unfolding(crate::specs::forms::ExtensionForm::add_link_form))]
 pub(crate) fn add_link_call(alloc: Global, object: &mut Object) -> Result<Call, LineError>
     ensures { Gives (λ c. (c, left object.new)) result (add_link_form (left object.old)) }
 {
@@ -42,7 +42,7 @@ pub(crate) fn add_link_call(alloc: Global, object: &mut Object) -> Result<Call, 
     })
 }
 
-#[tactic(auto, unfolding(crate::specs::ExtensionForm::set_attribute_form))]
+#[tactic(auto, unfolding(crate::specs::forms::ExtensionForm::set_attribute_form))]
 pub(crate) fn set_attribute_call(alloc: Global, object: &mut Object) -> Result<Call, LineError>
     ensures { Gives (λ c. (c, left object.new)) result (set_attribute_form (left object.old)) }
 {
@@ -52,7 +52,7 @@ pub(crate) fn set_attribute_call(alloc: Global, object: &mut Object) -> Result<C
     Ok(Call::SetAttribute { handle, key, value })
 }
 
-#[tactic(auto, unfolding(crate::specs::ExtensionForm::set_status_form))]
+#[tactic(auto, unfolding(crate::specs::forms::ExtensionForm::set_status_form))]
 pub(crate) fn set_status_call(alloc: Global, object: &mut Object) -> Result<Call, LineError>
     ensures { Gives (λ c. (c, left object.new)) result (set_status_form (left object.old)) }
 {
@@ -71,7 +71,7 @@ fn time(object: &mut Object) -> Result<Option<Moment>, LineError>
     }
 }
 
-#[tactic(auto, unfolding(crate::specs::ExtensionForm::add_event_form))]
+#[tactic(auto, unfolding(crate::specs::forms::ExtensionForm::add_event_form))]
 pub(crate) fn add_event_call(alloc: Global, object: &mut Object) -> Result<Call, LineError>
     ensures { Gives (λ c. (c, left object.new)) result (add_event_form (left object.old)) }
 {

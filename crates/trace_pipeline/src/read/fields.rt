@@ -4,12 +4,12 @@ ghost use Rattle.serde_json.specs.Data.{unsigned};
 ghost use Rattle.serde_json.specs.Data as json;
 ghost use Rattle.serde_json.specs.Find.{as_str, as_i64};
 ghost use Rattle.serde_json.specs.View.{view, number_view};
-ghost use Rattle.trace_pipeline.specs.Compact.{plain_data};
-ghost use Rattle.trace_pipeline.specs.Forms.{each, texts, pair_with, all_of};
-ghost use Rattle.trace_pipeline.specs.FieldForm.{whole_value, u64_of, i128_of, u128_of, debug_of, error_form, typed_form, value_of, field_of, fields_of};
-ghost use Rattle.trace_pipeline.specs.Gives.{Gives};
-ghost use Rattle.trace_pipeline.specs.Left.{value_data, left};
-ghost use Rattle.trace_pipeline.specs.Object.{items};
+ghost use Rattle.trace_pipeline.specs.text.Compact.{plain_data};
+ghost use Rattle.trace_pipeline.specs.forms.Forms.{each, texts, pair_with, all_of};
+ghost use Rattle.trace_pipeline.specs.forms.FieldForm.{whole_value, u64_of, i128_of, u128_of, debug_of, error_form, typed_form, value_of, field_of, fields_of};
+ghost use Rattle.trace_pipeline.specs.reading.Gives.{Gives};
+ghost use Rattle.trace_pipeline.specs.reading.Left.{value_data, left};
+ghost use Rattle.trace_pipeline.specs.reading.Object.{items};
 
 use crate::read::LineError;
 use crate::read::decimal::{i128_of, u128_of};
@@ -92,7 +92,7 @@ pub(crate) fn taken_texts(
     texts(alloc, object.array(alloc, name)?)
 }
 
-#[tactic(auto, unfolding(crate::specs::FieldForm::error_form))]
+#[tactic(auto, unfolding(crate::specs::forms::FieldForm::error_form))]
 fn error_members(alloc: Global, object: &mut Object) -> Result<FieldValue, LineError>
     ensures { Gives (λ v. (v, left object.new)) result (error_form (left object.old)) }
 {
@@ -102,7 +102,7 @@ fn error_members(alloc: Global, object: &mut Object) -> Result<FieldValue, LineE
 }
 
 // Takes the member that names the type of a value; an error has two.
-#[tactic(auto, unfolding(crate::specs::FieldForm::typed_form))]
+#[tactic(auto, unfolding(crate::specs::forms::FieldForm::typed_form))]
 fn typed_members(alloc: Global, object: &mut Object) -> Result<FieldValue, LineError>
     ensures { Gives (λ v. (v, left object.new)) result (typed_form (left object.old)) }
 {
@@ -122,7 +122,7 @@ fn typed_members(alloc: Global, object: &mut Object) -> Result<FieldValue, LineE
 }
 
 /// The value of a field that a value of a text spells.
-#[tactic(auto, using(crate::proofs::Fields::typed_nested))]
+#[tactic(auto, using(crate::proofs::texts::FieldsLemmas::typed_nested))]
 pub(crate) fn plain_value(alloc: Global, plain: Plain<'_>) -> Result<FieldValue, LineError>
     ensures { Gives (λ v. v) result (value_of (plain_data plain.entry)) }
 {
@@ -173,7 +173,7 @@ fn field_value(alloc: Global, value: Value<'_>) -> Result<FieldValue, LineError>
 }
 
 /// The values of an array that has two.
-#[tactic(auto, using(crate::proofs::Fields::only_two))]
+#[tactic(auto, using(crate::proofs::texts::FieldsLemmas::only_two))]
 pub(crate) fn two_of<'a>(values: Vec<Value<'a>>) -> Option<(Value<'a>, Value<'a>)>
     ensures some { IfSome result (λ two. values.entry.items ≡ two.0 ∷ two.1 ∷ []) }
     ensures none { result ≡ None → length values.entry.items ≢ 2 }
@@ -188,7 +188,7 @@ pub(crate) fn two_of<'a>(values: Vec<Value<'a>>) -> Option<(Value<'a>, Value<'a>
 }
 
 // The field that a pair of a name and a value spells.
-#[tactic(auto, using(crate::proofs::Fields::no_pair))]
+#[tactic(auto, using(crate::proofs::texts::FieldsLemmas::no_pair))]
 fn pair(alloc: Global, values: Vec<Value<'_>>) -> Result<(Text, FieldValue), LineError>
     ensures { Gives (λ f. f) result (pair_with value_of (items value_data values.entry.items)) }
 {
@@ -221,7 +221,7 @@ fn fields(alloc: Global, values: Vec<Value<'_>>) -> Result<Items<(Text, FieldVal
 }
 
 // The fields that a value spells, where they stand plainly.
-#[tactic(auto, using(crate::proofs::Fields::nested_fields))]
+#[tactic(auto, using(crate::proofs::texts::FieldsLemmas::nested_fields))]
 fn quick_fields(alloc: Global, value: &Value<'_>) -> Option<Items<(Text, FieldValue)>>
     ensures { IfSome result (λ fields. fields_of (value_data value.now) ≡ Some fields) }
 {

@@ -7,12 +7,12 @@ ghost use Rattle.std.specs.Str.{IsUtf8};
 ghost use Rattle.json.specs.Print.{quoted};
 ghost use Rattle.serde_json.specs.Data.{array, put};
 ghost use Rattle.serde_json.specs.Find.{get_member};
-ghost use Rattle.trace_pipeline.specs.Forms.{without};
-ghost use Rattle.trace_pipeline.specs.Object.{items};
-ghost use Rattle.trace_pipeline.specs.Spelled.{line_value, line_members};
-ghost use Rattle.trace_pipeline.specs.Compact.{plain_data, members_of, Begins};
-ghost use Rattle.trace_pipeline.specs.Left.{value_data};
-ghost use Rattle.trace_pipeline.specs.Placed.{Finds, FitsIn, InOrder, GoesLast};
+ghost use Rattle.trace_pipeline.specs.forms.Forms.{without};
+ghost use Rattle.trace_pipeline.specs.reading.Object.{items};
+ghost use Rattle.trace_pipeline.specs.reading.Spelled.{line_value, line_members};
+ghost use Rattle.trace_pipeline.specs.text.Compact.{plain_data, members_of, Begins};
+ghost use Rattle.trace_pipeline.specs.reading.Left.{value_data};
+ghost use Rattle.trace_pipeline.specs.reading.Placed.{Finds, FitsIn, InOrder, GoesLast};
 
 use crate::read::plain::Plain;
 use crate::read::scan::{DEEPEST, behind, text, value};
@@ -119,7 +119,7 @@ pub(crate) fn closes(rest: &[u8], bracket: u8) -> Option<()>
 
 // How two names compare. Mostly their first bytes tell.
 #[inline(always)]
-#[tactic(auto, using(crate::proofs::Ordered::first_less, crate::proofs::Ordered::first_greater))]
+#[tactic(auto, using(crate::proofs::readings::OrderLemmas::first_less, crate::proofs::readings::OrderLemmas::first_greater))]
 fn compare(one: &[u8], other: &[u8]) -> Ordering
     ensures { result ≡ slice_cmp nat_cmp one.now other.now }
 {
@@ -191,7 +191,7 @@ fn is_same(one: &[u8], other: &[u8]) -> bool
 
 // Where the member of a name stands.
 #[inline(always)]
-#[tactic(auto, using(crate::proofs::Placing::passed_first, crate::proofs::Placing::passed_more, crate::proofs::Placing::is_found, crate::proofs::Placing::not_found))]
+#[tactic(auto, using(crate::proofs::readings::PlacesLemmas::passed_first, crate::proofs::readings::PlacesLemmas::passed_more, crate::proofs::readings::PlacesLemmas::is_found, crate::proofs::readings::PlacesLemmas::not_found))]
 fn place_of(members: &[(&[u8], Plain<'_>)], name: &[u8]) -> Option<usize>
     ensures { Finds name.now members.now result }
 {
@@ -216,7 +216,7 @@ pub(crate) struct FlatMembers<'a> {
 impl<'a> FlatMembers<'a> {
     ghost use Rattle.std.specs.Prelude.{◌<◌, drop, get_or, remove};
     ghost use Rattle.std.specs.Borrow.{Bor};
-    ghost use Rattle.trace_pipeline.specs.Left.{flat_left};
+    ghost use Rattle.trace_pipeline.specs.reading.Left.{flat_left};
     ghost use Rattle.trace_pipeline.specs.declared.read.plain.Plain.{Plain as PlainData};
 
     /// Those of a list, of which none is taken.
@@ -243,7 +243,7 @@ impl<'a> FlatMembers<'a> {
 
     // Takes the first member that is left, with no move of the others.
     #[inline(always)]
-    #[tactic(auto, using(crate::proofs::Placing::first_left))]
+    #[tactic(auto, using(crate::proofs::readings::PlacesLemmas::first_left))]
     fn take_first(&mut self) -> Plain<'a>
         requires { 0 < length (flat_left self.old) }
         ensures plain { (e : Bor (List ℕ) × PlainData) → result ≡ (get_or (flat_left self.old) 0 e).1 }
@@ -256,7 +256,7 @@ impl<'a> FlatMembers<'a> {
 
     // Takes the member at a place among those that are left.
     #[inline(always)]
-    #[tactic(auto, using(crate::proofs::Placing::other_left))]
+    #[tactic(auto, using(crate::proofs::readings::PlacesLemmas::other_left))]
     fn take_at(&mut self, at: usize) -> Plain<'a>
         requires { at < length (flat_left self.old) }
         ensures plain { (e : Bor (List ℕ) × PlainData) → result ≡ (get_or (flat_left self.old) at e).1 }

@@ -2,8 +2,8 @@
 ghost use Rattle.std.specs.Prelude.{◌≡◌, ◌≤◌, ◌<◌, ◌^◌, IfSome, length, option_and_then};
 ghost use Rattle.serde_json.specs.Find.{as_str};
 ghost use Rattle.serde_json.specs.View.{view};
-ghost use Rattle.trace_pipeline.specs.Gives.{Gives};
-ghost use Rattle.trace_pipeline.specs.Hex.{digit_value, hex_word, id_word, long_id_word};
+ghost use Rattle.trace_pipeline.specs.reading.Gives.{Gives};
+ghost use Rattle.trace_pipeline.specs.text.Hex.{digit_value, hex_word, id_word, long_id_word};
 
 use crate::read::LineError;
 use serde_json::Value as Json;
@@ -21,7 +21,7 @@ fn digit_value(byte: u8) -> Option<u8>
 }
 
 // The number of so many lower case digits.
-#[tactic(auto, unfolding(crate::specs::Hex::hex_word))]
+#[tactic(auto, unfolding(crate::specs::text::Hex::hex_word))]
 fn number_of(size: usize, word: &[u8]) -> Option<u128>
     requires { size ≤ 32 }
     ensures value { result ≡ hex_word size word.now }

@@ -1,10 +1,10 @@
 //! What readers do by law: lines that are read out, and that each request can be read.
 ghost use Rattle.std.specs.Prelude.{◌≡◌, ℕ, [], ◌∷◌, false, Ok, Err, Some, None, codes};
 ghost use Rattle.otel_state.specs.Settings.{default_settings};
-ghost use Rattle.trace_pipeline.specs.Forms.{object_of};
-ghost use Rattle.trace_pipeline.specs.RequestData.{IsInRange, called, request_data};
-ghost use Rattle.trace_pipeline.specs.RequestForm.{request_form};
-ghost use Rattle.trace_pipeline.specs.Spelled.{settings_spelled, request_spelled};
+ghost use Rattle.trace_pipeline.specs.forms.Forms.{object_of};
+ghost use Rattle.trace_pipeline.specs.values.RequestData.{IsInRange, called, request_data};
+ghost use Rattle.trace_pipeline.specs.forms.RequestForm.{request_form};
+ghost use Rattle.trace_pipeline.specs.reading.Spelled.{settings_spelled, request_spelled};
 ghost use Rattle.trace_pipeline.specs.declared.told.Told.{Told};
 ghost use Rattle.span_script.specs.declared.request.Call.{Call as AnyCall};
 

@@ -1,11 +1,11 @@
 //! Objects that members are taken from, one after another.
 ghost use Rattle.std.specs.Prelude.{◌≡◌, ◌-◌, ◌^◌, option_map};
 ghost use Rattle.serde_json.specs.Find.{get_member, as_object};
-ghost use Rattle.trace_pipeline.specs.Gives.{Gives};
-ghost use Rattle.trace_pipeline.specs.Spelled.{line_members};
-ghost use Rattle.trace_pipeline.specs.Left.{value_data, left};
-ghost use Rattle.trace_pipeline.specs.Forms.{at_most};
-ghost use Rattle.trace_pipeline.specs.Object.{items};
+ghost use Rattle.trace_pipeline.specs.reading.Gives.{Gives};
+ghost use Rattle.trace_pipeline.specs.reading.Spelled.{line_members};
+ghost use Rattle.trace_pipeline.specs.reading.Left.{value_data, left};
+ghost use Rattle.trace_pipeline.specs.forms.Forms.{at_most};
+ghost use Rattle.trace_pipeline.specs.reading.Object.{items};
 
 use crate::read::LineError;
 use crate::read::flat::{self, FlatMembers};
@@ -56,7 +56,7 @@ pub(crate) fn tree_of(alloc: Global, line: &[u8]) -> Result<Object<'_>, LineErro
 
 impl<'a> Object<'a> {
     ghost use Rattle.std.specs.Prelude.{List, ℕ};
-    ghost use Rattle.trace_pipeline.specs.Forms.{without, member, optional, whole, whole_to, text, flag_or, array, optional_text, optional_u32, nothing};
+    ghost use Rattle.trace_pipeline.specs.forms.Forms.{without, member, optional, whole, whole_to, text, flag_or, array, optional_text, optional_u32, nothing};
 
     /// The object that a line is.
     pub(crate) fn open(alloc: Global, line: &'a [u8]) -> Result<Object<'a>, LineError>
@@ -69,7 +69,7 @@ impl<'a> Object<'a> {
     }
 
     /// The object that a value is.
-    #[tactic(auto, using(crate::proofs::Values::nested_object))]
+    #[tactic(auto, using(crate::proofs::readings::ValuesLemmas::nested_object))]
     pub(crate) fn of(alloc: Global, value: Value<'a>) -> Result<Object<'a>, LineError>
         ensures { Gives left result (as_object (value_data value.entry)) }
     {
@@ -82,7 +82,7 @@ impl<'a> Object<'a> {
 
     // Takes a member, if it is there.
     #[inline(always)]
-    #[tactic(auto, using(crate::proofs::Members::found, crate::proofs::Members::kept))]
+    #[tactic(auto, using(crate::proofs::readings::MembersLemmas::found, crate::proofs::readings::MembersLemmas::kept))]
     pub(crate) fn optional(&mut self, name: &str) -> Option<Value<'a>>
         ensures found { option_map value_data result ≡ get_member name.now (left self.old) }
         ensures left { left self.new ≡ without name.now (left self.old) }
@@ -175,7 +175,7 @@ impl<'a> Object<'a> {
     }
 
     /// Makes sure that no member is left.
-    #[tactic(auto, using(crate::proofs::Members::nothing_left, crate::proofs::Members::something_left, crate::proofs::Members::no_entry_left, crate::proofs::Members::some_entry_left))]
+    #[tactic(auto, using(crate::proofs::readings::MembersLemmas::nothing_left, crate::proofs::readings::MembersLemmas::something_left, crate::proofs::readings::MembersLemmas::no_entry_left, crate::proofs::readings::MembersLemmas::some_entry_left))]
     pub(crate) fn end(&self) -> Result<(), LineError>
         ensures { Gives (λ u. u) result (nothing (left self.now)) }
     {

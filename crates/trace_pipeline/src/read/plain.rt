@@ -1,8 +1,8 @@
 //! Values as they stand in a compact text, without a copy.
 ghost use Rattle.std.specs.Prelude.{◌≡◌, option_map};
 ghost use Rattle.serde_json.specs.Find.{as_str, as_bool};
-ghost use Rattle.trace_pipeline.specs.Forms.{as_whole};
-ghost use Rattle.trace_pipeline.specs.Compact.{plain_data};
+ghost use Rattle.trace_pipeline.specs.forms.Forms.{as_whole};
+ghost use Rattle.trace_pipeline.specs.text.Compact.{plain_data};
 
 /// A value that stands plainly in a text.
 #[derive(Clone, Copy, Drop)]
@@ -21,7 +21,7 @@ pub(crate) enum Plain<'a> {
 
 impl<'a> Plain<'a> {
     /// The whole number that the value is.
-    #[tactic(auto, using(crate::proofs::Values::no_number))]
+    #[tactic(auto, using(crate::proofs::readings::ValuesLemmas::no_number))]
     pub(crate) fn whole(self) -> Option<u64>
         ensures { result ≡ as_whole (plain_data self.entry) }
     {
@@ -35,7 +35,7 @@ impl<'a> Plain<'a> {
     }
 
     /// True or false, where the value is one of them.
-    #[tactic(auto, using(crate::proofs::Values::no_flag))]
+    #[tactic(auto, using(crate::proofs::readings::ValuesLemmas::no_flag))]
     pub(crate) fn flag(self) -> Option<bool>
         ensures { result ≡ as_bool (plain_data self.entry) }
     {
@@ -49,7 +49,7 @@ impl<'a> Plain<'a> {
     }
 
     /// The text that the value is.
-    #[tactic(auto, using(crate::proofs::Values::no_text))]
+    #[tactic(auto, using(crate::proofs::readings::ValuesLemmas::no_text))]
     pub(crate) fn word(self) -> Option<&'a str>
         ensures { option_map (λ words. words.now) result ≡ as_str (plain_data self.entry) }
     {

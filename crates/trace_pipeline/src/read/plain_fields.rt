@@ -1,9 +1,9 @@
 //! Fields that stand plainly in a text, read in one pass. None says nothing of what the text is.
 ghost use Rattle.std.specs.Prelude.{◌≡◌, ◌+◌, ◌++◌, [], ◌∷◌, Some, IfSome, option_and_then};
 ghost use Rattle.serde_json.specs.Data.{Data};
-ghost use Rattle.trace_pipeline.specs.Compact.{plain_data, Begins};
-ghost use Rattle.trace_pipeline.specs.FieldForm.{value_of, field_of, fields_of};
-ghost use Rattle.trace_pipeline.specs.Spelled.{line_value};
+ghost use Rattle.trace_pipeline.specs.text.Compact.{plain_data, Begins};
+ghost use Rattle.trace_pipeline.specs.forms.FieldForm.{value_of, field_of, fields_of};
+ghost use Rattle.trace_pipeline.specs.reading.Spelled.{line_value};
 
 use crate::read::fields::plain_value;
 use crate::read::flat::ends;

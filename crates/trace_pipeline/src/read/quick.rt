@@ -3,8 +3,8 @@
 //! None says nothing of what the line spells.
 ghost use Rattle.std.specs.Prelude.{◌≡◌, ◌<◌, ◌^◌, Ok, IfSome};
 ghost use Rattle.std.specs.Str.{IsUtf8};
-ghost use Rattle.trace_pipeline.specs.QuickLines.{fronted, two_numbers};
-ghost use Rattle.trace_pipeline.specs.Spelled.{request_spelled};
+ghost use Rattle.trace_pipeline.specs.text.QuickLines.{fronted, two_numbers};
+ghost use Rattle.trace_pipeline.specs.reading.Spelled.{request_spelled};
 
 use crate::read::flat::{closes, is_text};
 use crate::read::plain_fields::leading_fields;

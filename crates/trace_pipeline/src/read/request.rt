@@ -1,8 +1,8 @@
 //! Reading requests: a function for each word of `do`.
 ghost use Rattle.std.specs.Prelude.{◌≡◌};
-ghost use Rattle.trace_pipeline.specs.Gives.{Gives};
-ghost use Rattle.trace_pipeline.specs.Left.{value_data, left};
-ghost use Rattle.trace_pipeline.specs.RequestForm.{verb_word, verb_form, root_word, place_of, place_form, fields_form, new_form, clone_form, or_current_form, drop_form, enter_form, entered_form, exit_form, record_form, has_field_form, event_form, remote_form, context_form, attach_form, detach_form, call_form, request_form, enabled_form, reload_form};
+ghost use Rattle.trace_pipeline.specs.reading.Gives.{Gives};
+ghost use Rattle.trace_pipeline.specs.reading.Left.{value_data, left};
+ghost use Rattle.trace_pipeline.specs.forms.RequestForm.{verb_word, verb_form, root_word, place_of, place_form, fields_form, new_form, clone_form, or_current_form, drop_form, enter_form, entered_form, exit_form, record_form, has_field_form, event_form, remote_form, context_form, attach_form, detach_form, call_form, request_form, enabled_form, reload_form};
 
 use crate::read::LineError;
 use crate::read::extension::{
@@ -127,7 +127,7 @@ fn fields(alloc: Global, object: &mut Object) -> Result<Items<(Text, FieldValue)
     }
 }
 
-#[tactic(auto, unfolding(crate::specs::RequestForm::new_form))]
+#[tactic(auto, unfolding(crate::specs::forms::RequestForm::new_form))]
 fn new_call(alloc: Global, object: &mut Object) -> Result<Call, LineError>
     ensures { Gives (λ c. (c, left object.new)) result (new_form (left object.old)) }
 {
@@ -141,7 +141,7 @@ fn new_call(alloc: Global, object: &mut Object) -> Result<Call, LineError>
     })
 }
 
-#[tactic(auto, unfolding(crate::specs::RequestForm::clone_form))]
+#[tactic(auto, unfolding(crate::specs::forms::RequestForm::clone_form))]
 fn clone_call(object: &mut Object) -> Result<Call, LineError>
     ensures { Gives (λ c. (c, left object.new)) result (clone_form (left object.old)) }
 {
@@ -149,7 +149,7 @@ fn clone_call(object: &mut Object) -> Result<Call, LineError>
     Ok(Call::Clone { handle })
 }
 
-#[tactic(auto, unfolding(crate::specs::RequestForm::or_current_form))]
+#[tactic(auto, unfolding(crate::specs::forms::RequestForm::or_current_form))]
 fn or_current_call(object: &mut Object) -> Result<Call, LineError>
     ensures { Gives (λ c. (c, left object.new)) result (or_current_form (left object.old)) }
 {
@@ -157,7 +157,7 @@ fn or_current_call(object: &mut Object) -> Result<Call, LineError>
     Ok(Call::OrCurrent { handle })
 }
 
-#[tactic(auto, unfolding(crate::specs::RequestForm::drop_form))]
+#[tactic(auto, unfolding(crate::specs::forms::RequestForm::drop_form))]
 fn drop_call(object: &mut Object) -> Result<Call, LineError>
     ensures { Gives (λ c. (c, left object.new)) result (drop_form (left object.old)) }
 {
@@ -165,7 +165,7 @@ fn drop_call(object: &mut Object) -> Result<Call, LineError>
     Ok(Call::Drop { handle })
 }
 
-#[tactic(auto, unfolding(crate::specs::RequestForm::enter_form))]
+#[tactic(auto, unfolding(crate::specs::forms::RequestForm::enter_form))]
 fn enter_call(object: &mut Object) -> Result<Call, LineError>
     ensures { Gives (λ c. (c, left object.new)) result (enter_form (left object.old)) }
 {
@@ -173,7 +173,7 @@ fn enter_call(object: &mut Object) -> Result<Call, LineError>
     Ok(Call::Enter { handle })
 }
 
-#[tactic(auto, unfolding(crate::specs::RequestForm::entered_form))]
+#[tactic(auto, unfolding(crate::specs::forms::RequestForm::entered_form))]
 fn entered_call(object: &mut Object) -> Result<Call, LineError>
     ensures { Gives (λ c. (c, left object.new)) result (entered_form (left object.old)) }
 {
@@ -181,7 +181,7 @@ fn entered_call(object: &mut Object) -> Result<Call, LineError>
     Ok(Call::Entered { handle })
 }
 
-#[tactic(auto, unfolding(crate::specs::RequestForm::exit_form))]
+#[tactic(auto, unfolding(crate::specs::forms::RequestForm::exit_form))]
 fn exit_call(object: &mut Object) -> Result<Call, LineError>
     ensures { Gives (λ c. (c, left object.new)) result (exit_form (left object.old)) }
 {
@@ -189,7 +189,7 @@ fn exit_call(object: &mut Object) -> Result<Call, LineError>
     Ok(Call::Exit { guard })
 }
 
-#[tactic(auto, unfolding(crate::specs::RequestForm::context_form))]
+#[tactic(auto, unfolding(crate::specs::forms::RequestForm::context_form))]
 fn context_call(object: &mut Object) -> Result<Call, LineError>
     ensures { Gives (λ c. (c, left object.new)) result (context_form (left object.old)) }
 {
@@ -197,7 +197,7 @@ fn context_call(object: &mut Object) -> Result<Call, LineError>
     Ok(Call::Context { handle })
 }
 
-#[tactic(auto, unfolding(crate::specs::RequestForm::attach_form))]
+#[tactic(auto, unfolding(crate::specs::forms::RequestForm::attach_form))]
 fn attach_call(object: &mut Object) -> Result<Call, LineError>
     ensures { Gives (λ c. (c, left object.new)) result (attach_form (left object.old)) }
 {
@@ -205,7 +205,7 @@ fn attach_call(object: &mut Object) -> Result<Call, LineError>
     Ok(Call::Attach { context })
 }
 
-#[tactic(auto, unfolding(crate::specs::RequestForm::detach_form))]
+#[tactic(auto, unfolding(crate::specs::forms::RequestForm::detach_form))]
 fn detach_call(object: &mut Object) -> Result<Call, LineError>
     ensures { Gives (λ c. (c, left object.new)) result (detach_form (left object.old)) }
 {
@@ -213,7 +213,7 @@ fn detach_call(object: &mut Object) -> Result<Call, LineError>
     Ok(Call::Detach { guard })
 }
 
-#[tactic(auto, unfolding(crate::specs::RequestForm::record_form))]
+#[tactic(auto, unfolding(crate::specs::forms::RequestForm::record_form))]
 fn record_call(alloc: Global, object: &mut Object) -> Result<Call, LineError>
     ensures { Gives (λ c. (c, left object.new)) result (record_form (left object.old)) }
 {
@@ -222,7 +222,7 @@ fn record_call(alloc: Global, object: &mut Object) -> Result<Call, LineError>
     Ok(Call::Record { handle, fields })
 }
 
-#[tactic(auto, unfolding(crate::specs::RequestForm::has_field_form))]
+#[tactic(auto, unfolding(crate::specs::forms::RequestForm::has_field_form))]
 fn has_field_call(alloc: Global, object: &mut Object) -> Result<Call, LineError>
     ensures { Gives (λ c. (c, left object.new)) result (has_field_form (left object.old)) }
 {
@@ -231,7 +231,7 @@ fn has_field_call(alloc: Global, object: &mut Object) -> Result<Call, LineError>
     Ok(Call::HasField { handle, name })
 }
 
-#[tactic(auto, unfolding(crate::specs::RequestForm::event_form))]
+#[tactic(auto, unfolding(crate::specs::forms::RequestForm::event_form))]
 fn event_call(alloc: Global, object: &mut Object) -> Result<Call, LineError>
     ensures { Gives (λ c. (c, left object.new)) result (event_form (left object.old)) }
 {
@@ -245,7 +245,7 @@ fn event_call(alloc: Global, object: &mut Object) -> Result<Call, LineError>
     })
 }
 
-#[tactic(auto, unfolding(crate::specs::RequestForm::remote_form))]
+#[tactic(auto, unfolding(crate::specs::forms::RequestForm::remote_form))]
 fn remote_call(object: &mut Object) -> Result<Call, LineError>
     ensures { Gives (λ c. (c, left object.new)) result (remote_form (left object.old)) }
 {
@@ -255,7 +255,7 @@ fn remote_call(object: &mut Object) -> Result<Call, LineError>
     Ok(Call::Remote { ids })
 }
 
-#[tactic(auto, unfolding(crate::specs::RequestForm::enabled_form))]
+#[tactic(auto, unfolding(crate::specs::forms::RequestForm::enabled_form))]
 fn enabled_call(object: &mut Object) -> Result<Call, LineError>
     ensures { Gives (λ c. (c, left object.new)) result (enabled_form (left object.old)) }
 {
@@ -263,7 +263,7 @@ fn enabled_call(object: &mut Object) -> Result<Call, LineError>
     Ok(Call::Enabled { site })
 }
 
-#[tactic(auto, unfolding(crate::specs::RequestForm::reload_form))]
+#[tactic(auto, unfolding(crate::specs::forms::RequestForm::reload_form))]
 fn reload_call(alloc: Global, object: &mut Object) -> Result<Call, LineError>
     ensures { Gives (λ c. (c, left object.new)) result (reload_form (left object.old)) }
 {
@@ -302,7 +302,7 @@ fn call(alloc: Global, verb: Verb, object: &mut Object) -> Result<Call, LineErro
 }
 
 /// Takes the members of a request.
-#[tactic(auto, unfolding(crate::specs::RequestForm::request_form))]
+#[tactic(auto, unfolding(crate::specs::forms::RequestForm::request_form))]
 pub(crate) fn request_members(alloc: Global, object: &mut Object) -> Result<Request, LineError>
     ensures { Gives (λ r. (r, left object.new)) result (request_form (left object.old)) }
 {

@@ -4,7 +4,7 @@ ghost use Rattle.std.specs.Prelude.{◌≡◌, ◌<◌, ◌-◌, ◌^◌, ◌∷
 ghost use Rattle.json.specs.Print.{quoted};
 ghost use Rattle.serde_json.specs.Data.{Data, boolean};
 ghost use Rattle.serde_json.specs.Written.{compact_text};
-ghost use Rattle.trace_pipeline.specs.Compact.{plain_data, Begins, BeginsItems, BeginsMembers, BeginsNested};
+ghost use Rattle.trace_pipeline.specs.text.Compact.{plain_data, Begins, BeginsItems, BeginsMembers, BeginsNested};
 
 use crate::read::plain::Plain;
 use crate::write::escape::plain_run;
@@ -17,7 +17,7 @@ const MOST: u32 = 65_536;
 
 /// What stands behind a byte.
 #[inline(always)]
-#[tactic(auto, using(crate::proofs::Plainly::behind_byte))]
+#[tactic(auto, using(crate::proofs::readings::CompactLemmas::behind_byte))]
 pub(crate) fn behind(text: &[u8], byte: u8) -> Option<&[u8]>
     ensures { IfSome result (λ rest. text.now ≡ byte ∷ rest.now) }
 {
@@ -29,7 +29,7 @@ pub(crate) fn behind(text: &[u8], byte: u8) -> Option<&[u8]>
 
 /// A whole number as it is written, and what stands behind it.
 #[inline(always)]
-#[tactic(auto, using(crate::proofs::Digits::begun, crate::proofs::Digits::more))]
+#[tactic(auto, using(crate::proofs::texts::DigitsLemmas::begun, crate::proofs::texts::DigitsLemmas::more))]
 pub(crate) fn number(text: &[u8]) -> Option<(u64, &[u8])>
     ensures text { IfSome result (λ r. text.now ≡ decimal r.0 ++ r.1.now) }
     ensures fits { IfSome result (λ r. r.0 < 2 ^ 64) }
@@ -49,7 +49,7 @@ pub(crate) fn number(text: &[u8]) -> Option<(u64, &[u8])>
 
 /// A text with no escape, and what stands behind it.
 #[inline(always)]
-#[tactic(auto, using(crate::proofs::Plainly::quoted_text))]
+#[tactic(auto, using(crate::proofs::readings::CompactLemmas::quoted_text))]
 pub(crate) fn text(bytes: &[u8]) -> Option<(&[u8], &[u8])>
     ensures { IfSome result (λ r. bytes.now ≡ quoted r.0.now ++ r.1.now) }
 {
@@ -60,7 +60,7 @@ pub(crate) fn text(bytes: &[u8]) -> Option<(&[u8], &[u8])>
 }
 
 #[inline(always)]
-#[tactic(auto, using(crate::proofs::Plainly::text_begins))]
+#[tactic(auto, using(crate::proofs::readings::CompactLemmas::text_begins))]
 fn text_value(bytes: &[u8]) -> Option<(Plain<'_>, &[u8])>
     ensures { IfSome result (λ r. Begins 0 bytes.now (plain_data r.0) r.1.now) }
 {
@@ -70,7 +70,7 @@ fn text_value(bytes: &[u8]) -> Option<(Plain<'_>, &[u8])>
 }
 
 #[inline(always)]
-#[tactic(auto, using(crate::proofs::Plainly::whole_begins))]
+#[tactic(auto, using(crate::proofs::readings::CompactLemmas::whole_begins))]
 fn whole_value(bytes: &[u8]) -> Option<(Plain<'_>, &[u8])>
     ensures { IfSome result (λ r. Begins 0 bytes.now (plain_data r.0) r.1.now) }
 {
@@ -100,7 +100,7 @@ fn below_value(bytes: &[u8]) -> Option<(Plain<'_>, &[u8])>
     Some((Plain::Below(number), rest))
 }
 
-#[tactic(auto, using(crate::proofs::Plainly::flag_begins))]
+#[tactic(auto, using(crate::proofs::readings::CompactLemmas::flag_begins))]
 fn flag_value(bytes: &[u8]) -> Option<(Plain<'_>, &[u8])>
     ensures { IfSome result (λ r. Begins 0 bytes.now (plain_data r.0) r.1.now) }
 {
@@ -137,7 +137,7 @@ fn leaf(bytes: &[u8]) -> Option<(Plain<'_>, &[u8])>
 
 // What stands behind a value.
 #[cycle(past)]
-#[tactic(auto, using(crate::proofs::Plainly::leaf_is_value, crate::proofs::Plainly::nested_is_value))]
+#[tactic(auto, using(crate::proofs::readings::CompactLemmas::leaf_is_value, crate::proofs::readings::CompactLemmas::nested_is_value))]
 fn past_value(bytes: &[u8], deep: u32) -> Option<&[u8]>
     ensures { IfSome result (λ rest. (d : Data) × Begins deep bytes.now d rest.now) }
 {
@@ -150,7 +150,7 @@ fn past_value(bytes: &[u8], deep: u32) -> Option<&[u8]>
 
 // What stands behind an array or an object.
 #[cycle(past)]
-#[tactic(auto, using(crate::proofs::Plainly::array_begins, crate::proofs::Plainly::object_begins))]
+#[tactic(auto, using(crate::proofs::readings::CompactLemmas::array_begins, crate::proofs::readings::CompactLemmas::object_begins))]
 fn past_nested(bytes: &[u8], deep: u32) -> Option<&[u8]>
     ensures { IfSome result (λ rest. BeginsNested deep bytes.now rest.now) }
 {
@@ -166,7 +166,7 @@ fn past_nested(bytes: &[u8], deep: u32) -> Option<&[u8]>
 
 // What stands behind the items of an array.
 #[cycle(past)]
-#[tactic(auto, using(crate::proofs::Plainly::no_items_begin))]
+#[tactic(auto, using(crate::proofs::readings::CompactLemmas::no_items_begin))]
 fn past_items(bytes: &[u8], deep: u32) -> Option<&[u8]>
     ensures { IfSome result (λ rest. BeginsItems deep bytes.now rest.now) }
 {
@@ -189,7 +189,7 @@ fn past_items(bytes: &[u8], deep: u32) -> Option<&[u8]>
 
 // What stands behind the members of an object.
 #[cycle(past)]
-#[tactic(auto, using(crate::proofs::Plainly::no_members_begin))]
+#[tactic(auto, using(crate::proofs::readings::CompactLemmas::no_members_begin))]
 fn past_members(bytes: &[u8], deep: u32) -> Option<&[u8]>
     ensures { IfSome result (λ rest. BeginsMembers deep bytes.now rest.now) }
 {
@@ -224,7 +224,7 @@ fn nested_value(bytes: &[u8]) -> Option<(Plain<'_>, &[u8])>
 
 /// A value, and what stands behind it.
 #[inline(always)]
-#[tactic(auto, using(crate::proofs::Plainly::leaf_begins))]
+#[tactic(auto, using(crate::proofs::readings::CompactLemmas::leaf_begins))]
 pub(crate) fn value(bytes: &[u8]) -> Option<(Plain<'_>, &[u8])>
     ensures { IfSome result (λ r. Begins DEEPEST bytes.now (plain_data r.0) r.1.now) }
 {

@@ -1,10 +1,10 @@
 //! Reading settings: callsites, the texts of filters, lanes and the layer.
 ghost use Rattle.std.specs.Prelude.{◌≡◌, true, IfOk};
-ghost use Rattle.trace_pipeline.specs.Gives.{Gives};
-ghost use Rattle.trace_pipeline.specs.Left.{value_data, left};
-ghost use Rattle.trace_pipeline.specs.Forms.{each, object_of, provided};
-ghost use Rattle.trace_pipeline.specs.Object.{items};
-ghost use Rattle.trace_pipeline.specs.SettingsForm.{Lane, lane_form, level_form, kind_form, source_form, callsite_form, callsites_form, error_flags, span_flags, layer_form, lanes_form, given_layer, settings_form, ids, all_differ};
+ghost use Rattle.trace_pipeline.specs.reading.Gives.{Gives};
+ghost use Rattle.trace_pipeline.specs.reading.Left.{value_data, left};
+ghost use Rattle.trace_pipeline.specs.forms.Forms.{each, object_of, provided};
+ghost use Rattle.trace_pipeline.specs.reading.Object.{items};
+ghost use Rattle.trace_pipeline.specs.forms.SettingsForm.{Lane, lane_form, level_form, kind_form, source_form, callsite_form, callsites_form, error_flags, span_flags, layer_form, lanes_form, given_layer, settings_form, ids, all_differ};
 
 use crate::level_words::{kind_of, level_of};
 use crate::read::LineError;
@@ -23,7 +23,7 @@ use trace_base::level::Level;
 // The greatest id of a lane.
 const GREATEST_ID: u64 = 9_223_372_036_854_775_807;
 
-#[tactic(auto, unfolding(crate::specs::SettingsForm::lane_form))]
+#[tactic(auto, unfolding(crate::specs::forms::SettingsForm::lane_form))]
 fn lane_members(alloc: Global, object: &mut Object) -> Result<(u64, Option<Text>), LineError>
     ensures { Gives (λ l. (l, left object.new)) result (lane_form (left object.old)) }
 {
@@ -76,7 +76,7 @@ fn source(alloc: Global, object: &mut Object) -> Result<(Option<Text>, Option<Te
     Ok((file, module_path))
 }
 
-#[tactic(auto, unfolding(crate::specs::SettingsForm::callsite_form))]
+#[tactic(auto, unfolding(crate::specs::forms::SettingsForm::callsite_form))]
 fn callsite_members(alloc: Global, object: &mut Object) -> Result<Callsite, LineError>
     ensures { Gives (λ c. (c, left object.new)) result (callsite_form (left object.old)) }
 {
@@ -119,7 +119,7 @@ fn callsites(alloc: Global, values: Vec<Value<'_>>) -> Result<Items<Callsite>, L
 }
 
 // Takes what is told of errors.
-#[tactic(auto, unfolding(crate::specs::SettingsForm::error_flags))]
+#[tactic(auto, unfolding(crate::specs::forms::SettingsForm::error_flags))]
 fn error_flags(object: &mut Object, usual: LayerSettings) -> Result<LayerSettings, LineError>
     ensures { Gives (λ s. (s, left object.new)) result (error_flags usual (left object.old)) }
 {
@@ -149,7 +149,7 @@ fn error_flags(object: &mut Object, usual: LayerSettings) -> Result<LayerSetting
 }
 
 // Takes what is told of a span beside its fields.
-#[tactic(auto, unfolding(crate::specs::SettingsForm::span_flags))]
+#[tactic(auto, unfolding(crate::specs::forms::SettingsForm::span_flags))]
 fn span_flags(object: &mut Object, usual: LayerSettings) -> Result<LayerSettings, LineError>
     ensures { Gives (λ s. (s, left object.new)) result (span_flags usual (left object.old)) }
 {
@@ -166,7 +166,7 @@ fn span_flags(object: &mut Object, usual: LayerSettings) -> Result<LayerSettings
     })
 }
 
-#[tactic(auto, unfolding(crate::specs::SettingsForm::layer_form))]
+#[tactic(auto, unfolding(crate::specs::forms::SettingsForm::layer_form))]
 fn layer_members(object: &mut Object) -> Result<LayerSettings, LineError>
     ensures { Gives (λ s. (s, left object.new)) result (layer_form (left object.old)) }
 {
@@ -234,7 +234,7 @@ fn given_layer(alloc: Global, object: &mut Object) -> Result<LayerSettings, Line
 }
 
 /// Takes the members of settings.
-#[tactic(auto, unfolding(crate::specs::SettingsForm::settings_form))]
+#[tactic(auto, unfolding(crate::specs::forms::SettingsForm::settings_form))]
 pub(crate) fn settings_members(alloc: Global, object: &mut Object) -> Result<Settings, LineError>
     ensures form { Gives (λ s. (s, left object.new)) result (settings_form (left object.old)) }
     ensures differ { IfOk result (λ s. all_differ (ids s.lanes) ≡ true) }

@@ -2,11 +2,11 @@
 ghost use Rattle.std.specs.Prelude.{◌≡◌, Some, option_and_then};
 ghost use Rattle.serde_json.specs.Find.{as_str, as_bool, as_array};
 ghost use Rattle.serde_json.specs.View.{view, items_view};
-ghost use Rattle.trace_pipeline.specs.Forms.{as_whole};
-ghost use Rattle.trace_pipeline.specs.Gives.{Gives};
-ghost use Rattle.trace_pipeline.specs.Left.{value_data};
-ghost use Rattle.trace_pipeline.specs.Object.{items};
-ghost use Rattle.trace_pipeline.specs.Spelled.{line_value};
+ghost use Rattle.trace_pipeline.specs.forms.Forms.{as_whole};
+ghost use Rattle.trace_pipeline.specs.reading.Gives.{Gives};
+ghost use Rattle.trace_pipeline.specs.reading.Left.{value_data};
+ghost use Rattle.trace_pipeline.specs.reading.Object.{items};
+ghost use Rattle.trace_pipeline.specs.reading.Spelled.{line_value};
 
 use crate::read::plain::Plain;
 use crate::read::tree::value_of;
@@ -70,7 +70,7 @@ impl<'a> Value<'a> {
     }
 
     /// The items of the array that the value is.
-    #[tactic(auto, using(crate::proofs::Values::nested_array))]
+    #[tactic(auto, using(crate::proofs::readings::ValuesLemmas::nested_array))]
     pub(crate) fn into_array(self, alloc: Global) -> Result<Vec<Value<'a>>, LineError>
         ensures { Gives (λ v. items value_data v.items) result (as_array (value_data self.entry)) }
     {
@@ -84,7 +84,7 @@ impl<'a> Value<'a> {
 }
 
 // The items of a tree's array.
-#[tactic(auto, using(crate::proofs::Values::in_front_push, crate::proofs::Values::all_in_front))]
+#[tactic(auto, using(crate::proofs::readings::ValuesLemmas::in_front_push, crate::proofs::readings::ValuesLemmas::all_in_front))]
 fn trees_of<'a>(alloc: Global, trees: Vec<Json>) -> Result<Vec<Value<'a>>, LineError>
     ensures { Gives (λ v. items value_data v.items) result (Some (items_view trees.items)) }
 {

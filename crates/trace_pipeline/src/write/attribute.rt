@@ -2,9 +2,9 @@
 ghost use Rattle.std.specs.Prelude.{◌≡◌, ◌++◌};
 ghost use Rattle.serde_json.specs.Data.{string};
 ghost use Rattle.serde_json.specs.Written.{compact_text};
-ghost use Rattle.trace_pipeline.specs.Object.{array_of};
-ghost use Rattle.trace_pipeline.specs.RecordData.{attribute_value, attribute_data, attributes_data};
-ghost use Rattle.trace_pipeline.specs.Writes.{Writes};
+ghost use Rattle.trace_pipeline.specs.reading.Object.{array_of};
+ghost use Rattle.trace_pipeline.specs.values.RecordData.{attribute_value, attribute_data, attributes_data};
+ghost use Rattle.trace_pipeline.specs.text.Writes.{Writes};
 
 use super::pieces::{add, add_flag, add_integer, add_text, separator};
 use otel_base::text::Text;
@@ -40,7 +40,7 @@ fn add_attribute(out: &mut Vec<u8>, front: &str, attribute: &KeyValue) -> Result
     Ok(())
 }
 
-#[tactic(auto, using(crate::proofs::Written::integer_text))]
+#[tactic(auto, using(crate::proofs::texts::IntegersLemmas::integer_text))]
 fn add_value(out: &mut Vec<u8>, front: &str, value: &OtelValue) -> Result<(), AllocError>
     ensures { Writes result out.old out.new (front.now ++ compact_text (attribute_value value.now)) }
 {

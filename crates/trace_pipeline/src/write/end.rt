@@ -1,7 +1,7 @@
 //! End lines as JSON.
 ghost use Rattle.serde_json.specs.Written.{compact_text};
-ghost use Rattle.trace_pipeline.specs.Texts.{end_data, measures_end_data};
-ghost use Rattle.trace_pipeline.specs.Writes.{Writes};
+ghost use Rattle.trace_pipeline.specs.text.Texts.{end_data, measures_end_data};
+ghost use Rattle.trace_pipeline.specs.text.Writes.{Writes};
 
 use super::pieces::{add, add_number};
 use std::alloc::AllocError;

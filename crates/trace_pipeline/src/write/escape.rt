@@ -7,7 +7,7 @@ use std::alloc::AllocError;
 
 // Whether a byte stands for itself in a text.
 #[inline(always)]
-#[tactic(auto, using(crate::proofs::Escapes::plain_byte))]
+#[tactic(auto, using(crate::proofs::texts::EscapesLemmas::plain_byte))]
 fn is_plain(byte: u8) -> bool
     ensures { result ≡ true → escape_byte byte ≡ byte ∷ [] }
 {
@@ -25,7 +25,7 @@ fn is_plain(byte: u8) -> bool
 
 /// How many bytes at the front stand for themselves.
 #[inline(always)]
-#[tactic(auto, using(crate::proofs::Escapes::escape_step))]
+#[tactic(auto, using(crate::proofs::texts::EscapesLemmas::escape_step))]
 pub(crate) fn plain_run(bytes: &[u8]) -> usize
     ensures within { result ≤ length bytes.now }
     ensures plain { escape (take result bytes.now) ≡ take result bytes.now }

@@ -3,8 +3,8 @@ ghost use Rattle.std.specs.Prelude.{◌≡◌, ◌+◌, ◌<◌, ◌≤◌, ◌+
 ghost use Rattle.std.specs.Fmt.{digit_glyph};
 ghost use Rattle.std.specs.Str.{IsUtf8};
 ghost use Rattle.json.specs.Print.{escape, quoted};
-ghost use Rattle.trace_pipeline.specs.Hex.{hex16, hex32};
-ghost use Rattle.trace_pipeline.specs.Writes.{Writes};
+ghost use Rattle.trace_pipeline.specs.text.Hex.{hex16, hex32};
+ghost use Rattle.trace_pipeline.specs.text.Writes.{Writes};
 
 use super::pieces::add_plain;
 use std::alloc::AllocError;
@@ -28,7 +28,7 @@ pub fn add_long_id(out: &mut Vec<u8>, front: &str, id: u128) -> Result<(), Alloc
 }
 
 /// The digits as a text, without a copy.
-#[tactic(auto, using(crate::proofs::Hex::is_ok))]
+#[tactic(auto, using(crate::proofs::texts::HexLemmas::is_ok))]
 pub(crate) fn as_text(digits: &[u8]) -> &str
     requires { IsUtf8 digits.now }
     ensures { result.now ≡ digits.now }
@@ -37,7 +37,7 @@ pub(crate) fn as_text(digits: &[u8]) -> &str
 }
 
 /// The digits of an id of 64 bits.
-#[tactic(auto, using(crate::proofs::Hex::whole_list))]
+#[tactic(auto, using(crate::proofs::texts::HexLemmas::whole_list))]
 pub(crate) fn digits_of(id: u64) -> [u8; 16]
     ensures value { result ≡ hex16 id }
     ensures utf8 { IsUtf8 result }
@@ -49,7 +49,7 @@ pub(crate) fn digits_of(id: u64) -> [u8; 16]
 }
 
 /// The digits of an id of 128 bits.
-#[tactic(auto, using(crate::proofs::Hex::both_halves))]
+#[tactic(auto, using(crate::proofs::texts::HexLemmas::both_halves))]
 pub(crate) fn digits_of_long(id: u128) -> [u8; 32]
     ensures value { result ≡ hex32 id }
     ensures utf8 { IsUtf8 result }

@@ -1,8 +1,8 @@
 //! Measures as JSON.
 ghost use Rattle.std.specs.Prelude.{◌≡◌};
 ghost use Rattle.serde_json.specs.Written.{compact_text};
-ghost use Rattle.trace_pipeline.specs.MeasureData.{instrument_name, measure_data};
-ghost use Rattle.trace_pipeline.specs.Writes.{Writes};
+ghost use Rattle.trace_pipeline.specs.values.MeasureData.{instrument_name, measure_data};
+ghost use Rattle.trace_pipeline.specs.text.Writes.{Writes};
 
 use super::attribute::add_attributes;
 use super::pieces::{add, add_long_integer, add_number, add_text};

@@ -4,7 +4,7 @@ ghost use Rattle.std.specs.Fmt.{signed_decimal};
 ghost use Rattle.json.specs.Print.{escape, quoted};
 ghost use Rattle.serde_json.specs.Data.{boolean};
 ghost use Rattle.serde_json.specs.Written.{compact_text, comma_if};
-ghost use Rattle.trace_pipeline.specs.Writes.{Writes};
+ghost use Rattle.trace_pipeline.specs.text.Writes.{Writes};
 
 use super::escape::add_escaped;
 use itoa::Buffer;

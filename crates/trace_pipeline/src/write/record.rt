@@ -1,9 +1,9 @@
 //! Records as JSON.
 ghost use Rattle.std.specs.Prelude.{◌≡◌, ◌++◌};
 ghost use Rattle.serde_json.specs.Written.{compact_text};
-ghost use Rattle.trace_pipeline.specs.Object.{array_of};
-ghost use Rattle.trace_pipeline.specs.RecordData.{event_data, link_data, kind_name, status_data, lane_text, record_object};
-ghost use Rattle.trace_pipeline.specs.Writes.{Writes};
+ghost use Rattle.trace_pipeline.specs.reading.Object.{array_of};
+ghost use Rattle.trace_pipeline.specs.values.RecordData.{event_data, link_data, kind_name, status_data, lane_text, record_object};
+ghost use Rattle.trace_pipeline.specs.text.Writes.{Writes};
 
 use super::attribute::add_attributes;
 use super::hex::{add_id, add_long_id};
@@ -13,7 +13,7 @@ use otel_base::status::Status;
 use std::alloc::AllocError;
 
 /// Adds the record with a number, and its lane, if that is told.
-#[tactic(auto, unfolding(crate::specs::RecordData::record_object))]
+#[tactic(auto, unfolding(crate::specs::values::RecordData::record_object))]
 pub fn add_record(
     out: &mut Vec<u8>,
     number: u64,

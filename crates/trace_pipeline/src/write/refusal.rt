@@ -1,8 +1,8 @@
 //! Refusals as JSON.
 ghost use Rattle.std.specs.Prelude.{◌≡◌};
 ghost use Rattle.serde_json.specs.Written.{compact_text};
-ghost use Rattle.trace_pipeline.specs.Texts.{refusal_data, named_refusal, refusal_on, directive_refusal, text_name, what_name};
-ghost use Rattle.trace_pipeline.specs.Writes.{Writes};
+ghost use Rattle.trace_pipeline.specs.text.Texts.{refusal_data, named_refusal, refusal_on, directive_refusal, text_name, what_name};
+ghost use Rattle.trace_pipeline.specs.text.Writes.{Writes};
 
 use super::pieces::{add, add_number, add_text};
 use crate::told::Told;

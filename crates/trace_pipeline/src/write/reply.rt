@@ -1,8 +1,8 @@
 //! Replies as JSON.
 ghost use Rattle.std.specs.Prelude.{◌≡◌};
 ghost use Rattle.serde_json.specs.Written.{compact_text};
-ghost use Rattle.trace_pipeline.specs.Texts.{reply_data, set_name};
-ghost use Rattle.trace_pipeline.specs.Writes.{Writes};
+ghost use Rattle.trace_pipeline.specs.text.Texts.{reply_data, set_name};
+ghost use Rattle.trace_pipeline.specs.text.Writes.{Writes};
 
 use super::hex::{add_id, add_long_id};
 use super::pieces::{add, add_flag, add_number, add_text};

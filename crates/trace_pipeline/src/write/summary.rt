@@ -1,7 +1,7 @@
 //! What a run came to, in numbers, and its line.
 ghost use Rattle.serde_json.specs.Written.{compact_text};
 ghost use Rattle.trace_pipeline.specs.Replay.{summary_data};
-ghost use Rattle.trace_pipeline.specs.Writes.{Writes};
+ghost use Rattle.trace_pipeline.specs.text.Writes.{Writes};
 
 use super::pieces::{add, add_number};
 use std::alloc::AllocError;

@@ -2,10 +2,10 @@
 ghost use Rattle.std.specs.Prelude.{◌≡◌, IfOk};
 ghost use Rattle.serde_json.specs.Data.{Data, no_members, object, string};
 ghost use Rattle.serde_json.specs.View.{view};
-ghost use Rattle.trace_pipeline.specs.Building.{members_of, with_lane, HasMore};
-ghost use Rattle.trace_pipeline.specs.Hex.{hex16, hex32};
-ghost use Rattle.trace_pipeline.specs.Object.{whole_number};
-ghost use Rattle.trace_pipeline.specs.RecordData.{record_object};
+ghost use Rattle.trace_pipeline.specs.values.Building.{members_of, with_lane, HasMore};
+ghost use Rattle.trace_pipeline.specs.text.Hex.{hex16, hex32};
+ghost use Rattle.trace_pipeline.specs.reading.Object.{whole_number};
+ghost use Rattle.trace_pipeline.specs.values.RecordData.{record_object};
 
 use super::hex::{as_text, digits_of, digits_of_long};
 use super::record::name_of;
@@ -39,7 +39,7 @@ impl ToJson for Text {
 }
 
 impl<T: ToJson> ToJson for Items<T> {
-    ghost use Rattle.trace_pipeline.specs.Object.{array_of};
+    ghost use Rattle.trace_pipeline.specs.reading.Object.{array_of};
 
     ghost as_data = { array_of T.as_data };
 
@@ -53,7 +53,7 @@ impl<T: ToJson> ToJson for Items<T> {
 }
 
 impl ToJson for OtelValue {
-    ghost use Rattle.trace_pipeline.specs.RecordData.{attribute_value};
+    ghost use Rattle.trace_pipeline.specs.values.RecordData.{attribute_value};
 
     ghost as_data = { attribute_value };
 
@@ -68,7 +68,7 @@ impl ToJson for OtelValue {
 }
 
 impl ToJson for KeyValue {
-    ghost use Rattle.trace_pipeline.specs.RecordData.{attribute_data};
+    ghost use Rattle.trace_pipeline.specs.values.RecordData.{attribute_data};
 
     ghost as_data = { attribute_data };
 
@@ -81,7 +81,7 @@ impl ToJson for KeyValue {
 }
 
 impl ToJson for OtelEvent {
-    ghost use Rattle.trace_pipeline.specs.RecordData.{event_data};
+    ghost use Rattle.trace_pipeline.specs.values.RecordData.{event_data};
 
     ghost as_data = { event_data };
 
@@ -95,7 +95,7 @@ impl ToJson for OtelEvent {
 }
 
 impl ToJson for Link {
-    ghost use Rattle.trace_pipeline.specs.RecordData.{link_data};
+    ghost use Rattle.trace_pipeline.specs.values.RecordData.{link_data};
 
     ghost as_data = { link_data };
 
@@ -109,7 +109,7 @@ impl ToJson for Link {
 }
 
 impl ToJson for Status {
-    ghost use Rattle.trace_pipeline.specs.RecordData.{status_data};
+    ghost use Rattle.trace_pipeline.specs.values.RecordData.{status_data};
 
     ghost as_data = { status_data };
 

@@ -3,7 +3,7 @@ use Rattle.std.specs.Prelude.{ℕ, ◌<◌, ◌≤◌, List, Bool, Some}
 use Rattle.batch_lines.specs.Texts.{TellsAll}
 use Rattle.trace_batch.specs.declared.relay.TheConstants.{MOST_LANES}
 use Rattle.trace_records.specs.Inputs.{accepts_within}
-use Rattle.trace_run.specs.AllLines.{all_lines}
+use Rattle.trace_run.specs.reading.AllLines.{all_lines}
 use Rattle.trace_run.specs.Meaning.{Meaning}
 use Rattle.trace_run.specs.declared.batch.TheConstants.{MOST_ITEMS}
 

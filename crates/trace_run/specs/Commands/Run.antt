@@ -2,9 +2,9 @@
 use Rattle.std.specs.Prelude.{◌≡◌}
 use Rattle.trace_pipeline.specs.Report.{report_from, accepts}
 use Rattle.trace_pipeline.specs.declared.signal.Signal.{Signal}
-use Rattle.trace_run.specs.Breaks.{AnswersAll}
+use Rattle.trace_run.specs.reading.Breaks.{AnswersAll}
 use Rattle.trace_run.specs.Meaning.{Meaning}
-use Rattle.trace_run.specs.Reading.{Answering, reading}
+use Rattle.trace_run.specs.reading.Reading.{Answering, reading}
 
 -- The report on the lines is written; where they break off, all of it but an end line.
 abbrev pub answered : Signal → Answering

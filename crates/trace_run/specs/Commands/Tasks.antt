@@ -1,6 +1,6 @@
 -- What `tasks` does: it polls the tasks of a script in turn, and writes the records of their spans.
 use Rattle.task_runs.specs.Texts.{accepts_tasks, TellsTasks}
-use Rattle.trace_run.specs.AllLines.{all_lines}
+use Rattle.trace_run.specs.reading.AllLines.{all_lines}
 use Rattle.trace_run.specs.Meaning.{Meaning}
 
 abbrev pub tasks : Meaning

@@ -1,6 +1,6 @@
 -- The spans of a registry are sound, and such a layer knows none.
 use Rattle.std.proofs.Common.{refl}
-use Rattle.trace_base.specs.Unseeing.{unseeing}
+use Rattle.trace_base.specs.layers.Unseeing.{unseeing}
 use Rattle.span_registry.specs.Both.{InStep}
 use Rattle.span_registry.proofs.Sound.{sound_in_step}
 use Rattle.base_tests.proofs.hooks.whole.Goals as goal

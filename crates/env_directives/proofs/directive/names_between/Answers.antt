@@ -2,8 +2,8 @@ use Rattle.std.specs.Prelude.{◌≡◌, ◌∷◌, [], codes, is_some, true, fa
 use Rattle.std.specs.List.{ends_with}
 use Rattle.std.proofs.Common.{refl, sym, ◌∙◌}
 use Rattle.std.proofs.lemmas.Str.Pattern.{ends_text}
-use Rattle.env_directives.specs.Separators.{cut_once}
-use Rattle.env_directives.proofs.Separating.{contained, trimmed}
+use Rattle.env_directives.specs.reading.Separators.{cut_once}
+use Rattle.env_directives.proofs.cuts.SeparatorsLemmas.{contained, trimmed}
 use Rattle.env_directives.proofs.directive.names_between.Goals as goal
 
 pub returns-then-contains : goal.returns-then-contains

@@ -1,6 +1,6 @@
 use Rattle.std.specs.Prelude.{◌≡◌, ℕ, List, ◌++◌}
-use Rattle.env_directives.specs.Separators.{nonempty, comma_pieces}
-use Rattle.env_directives.proofs.Pieces.{Gives}
+use Rattle.env_directives.specs.reading.Separators.{nonempty, comma_pieces}
+use Rattle.env_directives.proofs.cuts.PiecesLemmas.{Gives}
 use Rattle.env_directives.proofs.directive.nonempty.Given as goal
 
 abbrev pub invariant-loop-name : goal.invariant-loop-name

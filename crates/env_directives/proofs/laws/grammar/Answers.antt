@@ -1,4 +1,4 @@
-use Rattle.env_directives.proofs.Readings.{read_exactly, refused_exactly}
+use Rattle.env_directives.proofs.forms.ReadingsLemmas.{read_exactly, refused_exactly}
 use Rattle.env_directives.proofs.laws.grammar.Goals as goal
 
 pub returns-clause-directive : goal.returns-clause-directive

@@ -1,4 +1,4 @@
-use Rattle.env_directives.proofs.Prefixes.{decides}
+use Rattle.env_directives.proofs.tables.PrefixesLemmas.{decides}
 use Rattle.env_directives.proofs.laws.prefixes.Goals as goal
 
 pub returns : goal.returns

@@ -1,10 +1,10 @@
 use Rattle.std.proofs.Common.{false, List, ℕ, sym, subst}
 use Rattle.std.specs.Str.{IsUtf8, trim}
-use Rattle.env_directives.specs.Forms.{IsDirective}
-use Rattle.env_directives.specs.Printed.{directive_text, HasNoMinusZero}
+use Rattle.env_directives.specs.reading.Forms.{IsDirective}
+use Rattle.env_directives.specs.printed.Printed.{directive_text, HasNoMinusZero}
 use Rattle.env_directives.specs.declared.env.directive.Directive.{Directive}
-use Rattle.env_directives.proofs.PrintedAgain.{printed_again}
-use Rattle.env_directives.proofs.Trimmed.{trim_utf8, printed_trimmed}
+use Rattle.env_directives.proofs.printed.DirectivesLemmas.{printed_again}
+use Rattle.env_directives.proofs.printed.TrimLemmas.{trim_utf8, printed_trimmed}
 use Rattle.env_directives.proofs.laws.printing.Goals as goal
 
 anew : (text : List ℕ) (d : Directive) → IsUtf8 text → IsUtf8 (directive_text d) → IsDirective false (trim text) d → HasNoMinusZero d.fields → IsDirective false (trim (directive_text d)) d

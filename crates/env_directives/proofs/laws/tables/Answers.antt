@@ -1,4 +1,4 @@
-use Rattle.env_directives.proofs.Tables.{kept, one_table}
+use Rattle.env_directives.proofs.tables.TablesLemmas.{kept, one_table}
 use Rattle.env_directives.proofs.laws.tables.Goals as goal
 
 pub returns-clause-kept : goal.returns-clause-kept

@@ -1,4 +1,4 @@
-use Rattle.env_directives.proofs.Ties.{directive_tie, tied_directives}
+use Rattle.env_directives.proofs.tables.TiesLemmas.{directive_tie, tied_directives}
 use Rattle.env_directives.proofs.laws.ties.Goals as goal
 
 pub returns : goal.returns

@@ -1,6 +1,6 @@
 use Rattle.std.specs.Prelude.{◌∷◌, take, map, flat_map}
 use Rattle.std.specs.Fmt.{HasWritten, IsPlainFormatter}
-use Rattle.env_directives.specs.StaticPrinted.{static_text}
+use Rattle.env_directives.specs.printed.StaticPrinted.{static_text}
 use Rattle.env_directives.proofs.targets.write_others.Given as goal
 
 abbrev pub invariant-loop-directive : goal.invariant-loop-directive

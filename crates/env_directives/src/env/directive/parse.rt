@@ -1,10 +1,10 @@
 //! Reading a directive from its text, one cut after the other.
 ghost use Rattle.std.specs.Prelude.{◌≡◌, [], IfOk, Some, false, true};
-ghost use Rattle.env_directives.specs.Forms.{begins, may_begin, head_alone, target_at, level_behind, unless_empty};
-ghost use Rattle.env_directives.specs.Reading.{Answers, read_last, read_level, LeadsToNoPattern, SpanLeadsToNoPattern, read_end, read_close, read_fields, read_fielded, read_bracket, reading};
+ghost use Rattle.env_directives.specs.reading.Forms.{begins, may_begin, head_alone, target_at, level_behind, unless_empty};
+ghost use Rattle.env_directives.specs.reading.Reading.{Answers, read_last, read_level, LeadsToNoPattern, SpanLeadsToNoPattern, read_end, read_close, read_fields, read_fielded, read_bracket, reading};
 ghost use Rattle.trace_base.specs.declared.level.LevelFilter.TheVariants.{TRACE};
-ghost use Rattle.env_directives.specs.Faults.{HasNoPattern};
-ghost use Rattle.env_directives.specs.Values.{HavePatterns};
+ghost use Rattle.env_directives.specs.reading.Faults.{HasNoPattern};
+ghost use Rattle.env_directives.specs.reading.Values.{HavePatterns};
 
 use crate::directive::ParseError;
 use crate::env::cut::cut;
@@ -18,7 +18,7 @@ use trace_base::level::LevelFilter;
 use unicode::properties::{GeneralCategory, GeneralCategoryGroup, is_alphabetic};
 
 // Reads a text without white space at its ends.
-#[tactic(auto, unfolding(crate::specs::Reading::reading))]
+#[tactic(auto, unfolding(crate::specs::reading::Reading::reading))]
 pub(super) fn read(alloc: Global, text: &str, patterns: bool) -> Result<Directive, ParseError>
     ensures is { Answers (λ d. d) patterns (HasNoPattern text.now) result (reading patterns text.now) }
     ensures patterns { IfOk result (λ d. HavePatterns d.fields) }
@@ -94,7 +94,7 @@ fn unless_empty(alloc: Global, text: &str) -> Result<Option<Text>, Memory>
 }
 
 // Nothing may stand behind a last comma.
-#[tactic(auto, unfolding(crate::specs::Reading::read_last))]
+#[tactic(auto, unfolding(crate::specs::reading::Reading::read_last))]
 fn read_last(directive: Directive, rest: &str) -> Result<Directive, ParseError>
     ensures { Answers (λ d. d) false ⊥ result (read_last directive rest.now) }
 {
@@ -106,7 +106,7 @@ fn read_last(directive: Directive, rest: &str) -> Result<Directive, ParseError>
 }
 
 // Behind `=`: a level, and perhaps a comma.
-#[tactic(auto, unfolding(crate::specs::Reading::read_level))]
+#[tactic(auto, unfolding(crate::specs::reading::Reading::read_level))]
 fn read_level(directive: Directive, text: &str) -> Result<Directive, ParseError>
     ensures { Answers (λ d. d) false ⊥ result (read_level directive text.now) }
 {
@@ -132,7 +132,7 @@ fn level_behind(text: &str) -> Option<LevelFilter>
 }
 
 // Behind a bracket: the end, or a level.
-#[tactic(auto, unfolding(crate::specs::Reading::read_end))]
+#[tactic(auto, unfolding(crate::specs::reading::Reading::read_end))]
 fn read_end(directive: Directive, rest: &str) -> Result<Directive, ParseError>
     ensures { Answers (λ d. d) false ⊥ result (read_end directive rest.now) }
 {
@@ -146,7 +146,7 @@ fn read_end(directive: Directive, rest: &str) -> Result<Directive, ParseError>
 }
 
 // Behind a closing brace: the closing bracket.
-#[tactic(auto, unfolding(crate::specs::Reading::read_close))]
+#[tactic(auto, unfolding(crate::specs::reading::Reading::read_close))]
 fn read_close(directive: Directive, rest: &str) -> Result<Directive, ParseError>
     ensures { Answers (λ d. d) false ⊥ result (read_close directive rest.now) }
 {
@@ -157,7 +157,7 @@ fn read_close(directive: Directive, rest: &str) -> Result<Directive, ParseError>
 }
 
 // Behind an opening bracket: the name of a span, perhaps fields, and the rest.
-#[tactic(auto, unfolding(crate::specs::Reading::read_bracket))]
+#[tactic(auto, unfolding(crate::specs::reading::Reading::read_bracket))]
 fn read_bracket(
     alloc: Global,
     directive: Directive,

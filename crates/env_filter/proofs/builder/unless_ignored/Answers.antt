@@ -1,6 +1,6 @@
 -- The first piece that is left out has the first fault.
 use Rattle.std.proofs.Common.{refl}
-use Rattle.env_filter.proofs.Refusals.{refused_first}
+use Rattle.env_filter.proofs.printed.RefusalsLemmas.{refused_first}
 use Rattle.env_filter.proofs.builder.unless_ignored.Goals as goal
 
 pub returns-in-Some-clause-refused : goal.returns-in-Some-clause-refused

@@ -1,7 +1,7 @@
 -- By the laws of the subscriber below.
 use Rattle.std.proofs.Common.{◌≡◌, false}
 use Rattle.env_filter.specs.Filtering.{Filtering, plain, after, DoesFilter}
-use Rattle.env_filter.proofs.Stacked.{over_all_calls, heard}
+use Rattle.env_filter.proofs.kept.StackedLemmas.{over_all_calls, heard}
 use Rattle.env_filter.proofs.laws.hears.Goals as goal
 
 pub returns : goal.returns

@@ -2,11 +2,11 @@
 use Rattle.std.proofs.Common.{◌≡◌, Option, Some, List, ap, refl, ◌∙◌, false}
 use Rattle.std.specs.Prelude.{fold}
 use Rattle.std.specs.Option.{option_map}
-use Rattle.trace_base.specs.Hooks.{Hook}
-use Rattle.trace_base.specs.Unseeing.{LeavesLanes}
+use Rattle.trace_base.specs.layers.Hooks.{Hook}
+use Rattle.trace_base.specs.layers.Unseeing.{LeavesLanes}
 use Rattle.env_filter.specs.Filtering.{Filtered, Filtering, plain, after, DoesFilter}
 use Rattle.env_filter.specs.Reloading.{Both, if_there}
-use Rattle.env_filter.proofs.Stacked.{over_all_calls, heard, step_in_place, does_in_place, same_in_place, fold_in_place}
+use Rattle.env_filter.proofs.kept.StackedLemmas.{over_all_calls, heard, step_in_place, does_in_place, same_in_place, fold_in_place}
 use Rattle.env_filter.proofs.laws.hears_in_place.Goals as goal
 
 pub returns : goal.returns

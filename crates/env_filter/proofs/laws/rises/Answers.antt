@@ -1,5 +1,5 @@
 -- What was met stays met.
-use Rattle.env_filter.proofs.Rising.{level_rises, level_stays}
+use Rattle.env_filter.proofs.kept.RisingLevelsLemmas.{level_rises, level_stays}
 use Rattle.env_filter.proofs.laws.rises.Goals as goal
 
 pub returns-clause-level : goal.returns-clause-level

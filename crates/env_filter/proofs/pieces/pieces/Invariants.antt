@@ -1,8 +1,8 @@
 -- The pieces that are there, and those that come.
 use Rattle.std.specs.Prelude.{◌≡◌, ℕ, List, ◌++◌}
-use Rattle.env_directives.specs.Separators.{comma_pieces}
-use Rattle.env_directives.proofs.Pieces.{Gives}
-use Rattle.env_filter.specs.Pieces.{shown}
+use Rattle.env_directives.specs.reading.Separators.{comma_pieces}
+use Rattle.env_directives.proofs.cuts.PiecesLemmas.{Gives}
+use Rattle.env_filter.specs.texts.Pieces.{shown}
 use Rattle.env_filter.proofs.pieces.pieces.Given as goal
 
 abbrev pub invariant-loop-piece : goal.invariant-loop-piece

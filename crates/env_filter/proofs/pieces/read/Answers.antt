@@ -1,8 +1,8 @@
 -- One piece more is read.
 use Rattle.std.proofs.Common.{List, ap, ◌∙◌, ℕ}
 use Rattle.std.specs.Borrow.{Bor}
-use Rattle.env_filter.specs.Pieces.{shown}
-use Rattle.env_filter.proofs.Readings.{reads_first, reads_more, reads_last}
+use Rattle.env_filter.specs.texts.Pieces.{shown}
+use Rattle.env_filter.proofs.printed.PiecesLemmas.{reads_first, reads_more, reads_last}
 use Rattle.env_filter.proofs.pieces.read.Goals as goal
 
 pub loop-at-init : goal.loop-at-init

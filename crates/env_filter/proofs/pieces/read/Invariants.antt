@@ -2,7 +2,7 @@
 use Rattle.std.proofs.Common.{ℕ, List, ◌+◌, ◌++◌, drop}
 use Rattle.env_directives.specs.declared.env.directive.Directive.{Directive}
 use Rattle.env_filter.specs.declared.pieces.Ignored.{Ignored}
-use Rattle.env_filter.specs.Pieces.{shown, ReadsAll, ReadsText}
+use Rattle.env_filter.specs.texts.Pieces.{shown, ReadsAll, ReadsText}
 use Rattle.env_filter.proofs.pieces.read.Given as goal
 
 abbrev pub invariant-loop-at : goal.invariant-loop-at

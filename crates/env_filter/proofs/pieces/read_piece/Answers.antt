@@ -1,7 +1,7 @@
 -- One piece is read.
 use Rattle.std.proofs.Common.{◌≡◌, ◌∷◌, ◌++◌, [], ◌+◌, sym, ◌∙◌, append-nil, refl}
 use Rattle.env_filter.specs.declared.pieces.Ignored.{Ignored}
-use Rattle.env_filter.proofs.Refusals.{reads_empty, reads_ignored}
+use Rattle.env_filter.proofs.printed.RefusalsLemmas.{reads_empty, reads_ignored}
 use Rattle.env_filter.proofs.pieces.read_piece.Goals as goal
 
 pub returns-then-is_empty : goal.returns-then-is_empty

@@ -1,6 +1,6 @@
 -- One field more is fixed.
 use Rattle.std.proofs.Common.{arith}
-use Rattle.env_filter.proofs.Fixing.{fixed_more}
+use Rattle.env_filter.proofs.kept.FieldsLemmas.{fixed_more}
 use Rattle.env_filter.proofs.tables.fix.Goals as goal
 
 pub loop-at-preserved : goal.loop-at-preserved

@@ -1,7 +1,7 @@
 -- One more is noted.
 use Rattle.std.proofs.Common.{sym, ◌∙◌, ap, List, Bool, false, get_or}
-use Rattle.env_filter.specs.Watching.{noted}
-use Rattle.env_filter.proofs.Watches.{more_none, noted_more}
+use Rattle.env_filter.specs.spans.Watching.{noted}
+use Rattle.env_filter.proofs.kept.WatchesLemmas.{more_none, noted_more}
 use Rattle.env_filter.proofs.watch.note.Goals as goal
 
 pub loop-at-init : goal.loop-at-init

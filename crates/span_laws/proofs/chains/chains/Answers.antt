@@ -1,5 +1,5 @@
-use Rattle.span_laws.proofs.Children.{children_first}
-use Rattle.span_laws.proofs.Chaining.{only_drops, one_chain}
+use Rattle.span_laws.proofs.spans.ChildrenLemmas.{children_first}
+use Rattle.span_laws.proofs.spans.ChainsLemmas.{only_drops, one_chain}
 use Rattle.span_laws.proofs.chains.chains.Goals as goal
 
 pub returns-clause-only_drops : goal.returns-clause-only_drops

@@ -1,5 +1,5 @@
-use Rattle.span_laws.proofs.Exporting.{as_many_as_closed, as_many_as_close}
-use Rattle.span_laws.proofs.MadeRecords.{contents}
+use Rattle.span_laws.proofs.records.RecordsLemmas.{as_many_as_closed, as_many_as_close}
+use Rattle.span_laws.proofs.records.MadeRecordsLemmas.{contents}
 use Rattle.span_laws.proofs.contents.contents.Goals as goal
 
 pub returns-clause-as_many_as_closed : goal.returns-clause-as_many_as_closed

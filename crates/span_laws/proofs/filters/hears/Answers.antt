@@ -1,5 +1,5 @@
 use Rattle.std.proofs.Common.{◌≡◌, Some, refl}
-use Rattle.trace_base.specs.Hooks.{Hook, OnNewSpan, OnRecord, OnFollows, OnEvent, OnEnter, OnExit, OnClose}
+use Rattle.trace_base.specs.layers.Hooks.{Hook, OnNewSpan, OnRecord, OnFollows, OnEvent, OnEnter, OnExit, OnClose}
 use Rattle.env_filter.specs.Filtering.{Filtered, after as after_hook}
 use Rattle.span_script.specs.Effects.{hook_of}
 use Rattle.span_script.specs.Tables.{Heard, HeardNew, HeardRecord, HeardEnter, HeardExit, HeardClose}

@@ -1,4 +1,4 @@
-use Rattle.span_laws.proofs.Levels.{span_is, lane_is}
+use Rattle.span_laws.proofs.levels.LevelsLemmas.{span_is, lane_is}
 use Rattle.span_laws.proofs.filters.levels.Goals as goal
 
 pub returns-clause-span : goal.returns-clause-span

@@ -1,7 +1,7 @@
 use Rattle.std.proofs.Common.{ap}
 use Rattle.std.specs.Prelude.{Bool}
 use Rattle.otel_metrics.specs.Measures.{measures}
-use Rattle.otel_state.specs.EventFields.{event_of}
+use Rattle.otel_state.specs.fields.EventFields.{event_of}
 use Rattle.span_script.specs.Effects.{if_told, all_on, counted, tells}
 use Rattle.span_script.specs.declared.reply.Reply.TheVariants as reply
 use Rattle.span_laws.proofs.filters.refused_events.Goals as goal

@@ -1,4 +1,4 @@
-use Rattle.span_laws.proofs.Levels.{level_never_falls, level_kept}
+use Rattle.span_laws.proofs.levels.LevelsLemmas.{level_never_falls, level_kept}
 use Rattle.span_laws.proofs.filters.rises.Goals as goal
 
 pub returns-clause-level : goal.returns-clause-level

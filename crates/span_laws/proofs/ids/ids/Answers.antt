@@ -1,5 +1,5 @@
-use Rattle.span_laws.proofs.Numbering.{started_once, from_one, of_open, of_records, no_two_alike, none_zero}
-use Rattle.span_laws.proofs.OrderOfMaking.{order_of_making, by_number}
+use Rattle.span_laws.proofs.spans.IdsLemmas.{started_once, from_one, of_open, of_records, no_two_alike, none_zero}
+use Rattle.span_laws.proofs.spans.MakingOrderLemmas.{order_of_making, by_number}
 use Rattle.span_laws.proofs.ids.ids.Goals as goal
 
 pub returns-clause-started_once : goal.returns-clause-started_once

@@ -1,6 +1,6 @@
 -- By what stands of each legal history.
-use Rattle.span_laws.proofs.Balance.{closed_and_open}
-use Rattle.span_laws.proofs.Histories.{closed_once, closed_when_ended, only_made_closed}
+use Rattle.span_laws.proofs.spans.AllSpansLemmas.{closed_and_open}
+use Rattle.span_laws.proofs.records.HistoriesLemmas.{closed_once, closed_when_ended, only_made_closed}
 use Rattle.span_laws.proofs.laws.records.Goals as goal
 
 pub returns-clause-recorded_once : goal.returns-clause-recorded_once

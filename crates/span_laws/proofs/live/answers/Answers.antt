@@ -1,5 +1,5 @@
 -- What is told is told of live spans.
-use Rattle.span_laws.proofs.Living.{part_answer}
+use Rattle.span_laws.proofs.levels.LiveSpansLemmas.{part_answer}
 use Rattle.span_laws.proofs.live.answers.Goals as goal
 
 pub returns : goal.returns

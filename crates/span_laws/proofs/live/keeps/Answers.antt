@@ -1,6 +1,6 @@
 -- Step by step.
 use Rattle.std.proofs.Common.{refl, Some}
-use Rattle.span_laws.proofs.Living.{kept, call_kept, call_kept_by, chain_kept, part_keys, begins_kept, world_kept}
+use Rattle.span_laws.proofs.levels.LiveSpansLemmas.{kept, call_kept, call_kept_by, chain_kept, part_keys, begins_kept, world_kept}
 use Rattle.span_laws.proofs.live.keeps.Goals as goal
 
 pub returns : goal.returns

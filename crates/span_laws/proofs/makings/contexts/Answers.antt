@@ -1,4 +1,4 @@
-use Rattle.span_laws.proofs.OwnContexts.{is_under, sees_own}
+use Rattle.span_laws.proofs.records.OwnContextsLemmas.{is_under, sees_own}
 use Rattle.span_laws.proofs.makings.contexts.Goals as goal
 
 pub returns-clause-under : goal.returns-clause-under

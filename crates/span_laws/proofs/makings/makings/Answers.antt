@@ -1,4 +1,4 @@
-use Rattle.span_laws.proofs.MakingLemmas.{if_admitted, made_by}
+use Rattle.span_laws.proofs.spans.RequestedSpansLemmas.{if_admitted, made_by}
 use Rattle.span_laws.proofs.makings.makings.Goals as goal
 
 pub returns-clause-admitted : goal.returns-clause-admitted

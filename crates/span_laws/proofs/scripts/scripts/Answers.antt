@@ -1,5 +1,5 @@
 -- The history of a script is legal.
-use Rattle.span_laws.proofs.Legal.{scripts_are_legal}
+use Rattle.span_laws.proofs.steps.LegalLemmas.{scripts_are_legal}
 use Rattle.span_laws.proofs.scripts.scripts.Goals as goal
 
 pub returns : goal.returns

@@ -1,4 +1,4 @@
-use Rattle.span_laws.proofs.TextLemmas.{read_exactly, refused_exactly}
+use Rattle.span_laws.proofs.levels.TextsLemmas.{read_exactly, refused_exactly}
 use Rattle.span_laws.proofs.texts.texts.Goals as goal
 
 pub returns-clause-read : goal.returns-clause-read

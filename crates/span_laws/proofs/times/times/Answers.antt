@@ -1,4 +1,4 @@
-use Rattle.span_laws.proofs.Exporting.{none_open, spans, add_up}
+use Rattle.span_laws.proofs.records.RecordsLemmas.{none_open, spans, add_up}
 use Rattle.span_laws.proofs.times.times.Goals as goal
 
 pub returns-clause-none_open : goal.returns-clause-none_open

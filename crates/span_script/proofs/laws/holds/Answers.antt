@@ -1,6 +1,6 @@
 -- By the balance of holds.
-use Rattle.span_script.proofs.Openness.{opens, closes_them}
-use Rattle.span_script.proofs.Ordering.{drop_order}
+use Rattle.span_script.proofs.spans.OpenSpansLemmas.{opens, closes_them}
+use Rattle.span_script.proofs.spans.ClosingOrderLemmas.{drop_order}
 use Rattle.span_script.proofs.laws.holds.Goals as goal
 
 pub returns-clause-open : goal.returns-clause-open

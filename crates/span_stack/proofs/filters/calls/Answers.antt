@@ -1,5 +1,5 @@
 -- A filter hears at each call the hook of that call.
-use Rattle.span_stack.proofs.Forgetting.{one_call, one_chain, one_room}
+use Rattle.span_stack.proofs.hooks.HeardSpansLemmas.{one_call, one_chain, one_room}
 use Rattle.span_stack.proofs.filters.calls.Goals as goal
 
 pub returns : goal.returns

@@ -1,5 +1,5 @@
 -- By the rule of the gate, since the lane that is asked for has this subscriber.
-use Rattle.span_stack.proofs.Admitting.{admits_by_rule}
+use Rattle.span_stack.proofs.hooks.AdmissionLemmas.{admits_by_rule}
 use Rattle.span_stack.proofs.gate.admits.Goals as goal
 
 pub returns : goal.returns

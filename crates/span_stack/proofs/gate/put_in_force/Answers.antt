@@ -2,11 +2,11 @@
 use Rattle.std.proofs.Common.{rules, None, []}
 use Rattle.trace_base.specs.Gate.{AreSame}
 use Rattle.otel_layer.specs.Recording.{no_recording}
-use Rattle.env_filter.proofs.Stacked.{same_in_place}
+use Rattle.env_filter.proofs.kept.StackedLemmas.{same_in_place}
 use Rattle.span_stack.specs.Measured.{waiting}
 use Rattle.span_stack.specs.Reading.{recorded, counts_by, measured, in_place}
-use Rattle.span_stack.proofs.Exchanging.{room_over, put_back, filter_put, read_put, rest_put, alike_put, read_left, alike_left}
-use Rattle.span_stack.proofs.Putting.{middle_room, middle_recorded, middle_counter, middle_same, middle_counts, middle_measures, current_left}
+use Rattle.span_stack.proofs.worlds.ExchangesLemmas.{room_over, put_back, filter_put, read_put, rest_put, alike_put, read_left, alike_left}
+use Rattle.span_stack.proofs.worlds.CacheLemmas.{middle_room, middle_recorded, middle_counter, middle_same, middle_counts, middle_measures, current_left}
 use Rattle.span_stack.proofs.gate.put_in_force.Goals as goal
 
 pub returns-in-Ok-clause-filter : goal.returns-in-Ok-clause-filter

@@ -1,5 +1,5 @@
 -- By the subscriber's laws.
-use Rattle.span_stack.proofs.Freshness.{fresh_later, chain_keeps}
+use Rattle.span_stack.proofs.worlds.FreshInterestsLemmas.{fresh_later, chain_keeps}
 use Rattle.span_stack.proofs.interests.stay_fresh.Goals as goal
 
 pub returns : goal.returns

@@ -9,9 +9,9 @@ use Rattle.span_stack.specs.Counters.{core_of}
 use Rattle.span_stack.specs.Measured.{waiting}
 use Rattle.span_stack.specs.Reading.{in_place, stack_interest, interest_over}
 use Rattle.span_stack.specs.Through.{below}
-use Rattle.span_stack.proofs.Counted.{plain_counter, base_recorded, base_counter, base_part}
-use Rattle.span_stack.proofs.Freshness.{fresh_later}
-use Rattle.span_stack.proofs.Viewing.{seen_below, seen_two, along_two, kept_place, read_two}
+use Rattle.span_stack.proofs.hooks.CountersLemmas.{plain_counter, base_recorded, base_counter, base_part}
+use Rattle.span_stack.proofs.worlds.FreshInterestsLemmas.{fresh_later}
+use Rattle.span_stack.proofs.worlds.ViewsLemmas.{seen_below, seen_two, along_two, kept_place, read_two}
 use Rattle.span_stack.proofs.laws.asks.Goals as goal
 
 pub returns : goal.returns

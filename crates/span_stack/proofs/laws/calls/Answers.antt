@@ -6,8 +6,8 @@ use Rattle.span_handles.specs.Worlds.{no_spans}
 use Rattle.span_stack.specs.Counting.{RecordsCallBy}
 use Rattle.span_stack.specs.Measured.{waiting, measured_by}
 use Rattle.span_stack.specs.Through.{below}
-use Rattle.span_stack.proofs.Counted.{base_spans, base_recorded, base_counter, base_records, counter_kept}
-use Rattle.span_stack.proofs.Viewing.{seen_below, seen_two, along_four, read_step, kept_place}
+use Rattle.span_stack.proofs.hooks.CountersLemmas.{base_spans, base_recorded, base_counter, base_records, counter_kept}
+use Rattle.span_stack.proofs.worlds.ViewsLemmas.{seen_below, seen_two, along_four, read_step, kept_place}
 use Rattle.span_stack.proofs.laws.calls.Goals as goal
 
 pub returns : goal.returns

@@ -4,9 +4,9 @@ use Rattle.otel_layer.specs.Recording.{no_recording, RecordsChain}
 use Rattle.span_handles.specs.Worlds.{no_spans}
 use Rattle.span_stack.specs.Measured.{waiting}
 use Rattle.span_stack.specs.Through.{below}
-use Rattle.span_stack.proofs.Counted.{BaseDoes, base_spans, base_recorded, base_counter, base_chain, counter_kept}
-use Rattle.span_stack.proofs.Freshness.{chain_keeps}
-use Rattle.span_stack.proofs.Viewing.{seen_below, seen_two, along_four, kept_place}
+use Rattle.span_stack.proofs.hooks.CountersLemmas.{BaseDoes, base_spans, base_recorded, base_counter, base_chain, counter_kept}
+use Rattle.span_stack.proofs.worlds.FreshInterestsLemmas.{chain_keeps}
+use Rattle.span_stack.proofs.worlds.ViewsLemmas.{seen_below, seen_two, along_four, kept_place}
 use Rattle.span_stack.proofs.laws.chains.Goals as goal
 
 pub returns : goal.returns

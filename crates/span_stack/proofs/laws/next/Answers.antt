@@ -5,8 +5,8 @@ use Rattle.span_handles.specs.Worlds.{no_spans}
 use Rattle.otel_layer.specs.Recording.{Recording, no_recording}
 use Rattle.otel_layer.specs.Table.{told_at}
 use Rattle.span_stack.specs.Reading.{Stacks, recorded}
-use Rattle.span_stack.proofs.Counted.{base_next}
-use Rattle.span_stack.proofs.Viewing.{see, along_two}
+use Rattle.span_stack.proofs.hooks.CountersLemmas.{base_next}
+use Rattle.span_stack.proofs.worlds.ViewsLemmas.{see, along_two}
 use Rattle.span_stack.proofs.laws.next.Goals as goal
 
 pub returns : goal.returns

@@ -3,8 +3,8 @@ use Rattle.std.proofs.Common.{None, [], sym, ◌∙◌}
 use Rattle.otel_layer.specs.Recording.{no_recording}
 use Rattle.span_stack.specs.Measured.{waiting}
 use Rattle.span_stack.specs.Through.{below}
-use Rattle.span_stack.proofs.Counted.{base_recorded, base_counter, base_same, counter_same}
-use Rattle.span_stack.proofs.Viewing.{seen_below, seen_two, kept_place}
+use Rattle.span_stack.proofs.hooks.CountersLemmas.{base_recorded, base_counter, base_same, counter_same}
+use Rattle.span_stack.proofs.worlds.ViewsLemmas.{seen_below, seen_two, kept_place}
 use Rattle.span_stack.proofs.laws.same.Goals as goal
 
 pub returns : goal.returns

@@ -1,14 +1,14 @@
 -- A record is all that is gone.
 use Rattle.std.proofs.Common.{◌≡◌, ℕ, ◌+◌, Bool, false, refl, ap, sym, subst, None}
 use Rattle.std.specs.Prelude.{◌||◌, ◌&&◌}
-use Rattle.trace_base.specs.Hooks.{Seen}
+use Rattle.trace_base.specs.layers.Hooks.{Seen}
 use Rattle.span_registry.specs.Both.{InStep}
 use Rattle.otel_layer.specs.Recording.{no_recording}
 use Rattle.env_filter.specs.Reloading.{if_there, none_kept}
 use Rattle.span_stack.specs.Reading.{recorded, counts_by, stack_interest, without_first}
-use Rattle.span_stack.proofs.Freshness.{fresh_later}
-use Rattle.span_stack.proofs.Taken.{one_less, taken_recorded, taken_counts_by, active_left, kept_left, seen_left, whole_left}
-use Rattle.span_stack.proofs.Viewing.{leave_alike, kept_place, read_two}
+use Rattle.span_stack.proofs.worlds.FreshInterestsLemmas.{fresh_later}
+use Rattle.span_stack.proofs.hooks.TakenRecordsLemmas.{one_less, taken_recorded, taken_counts_by, active_left, kept_left, seen_left, whole_left}
+use Rattle.span_stack.proofs.worlds.ViewsLemmas.{leave_alike, kept_place, read_two}
 use Rattle.span_stack.proofs.laws.takes.Goals as goal
 
 pub returns-clause-recording : goal.returns-clause-recording

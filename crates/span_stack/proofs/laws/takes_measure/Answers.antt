@@ -5,9 +5,9 @@ use Rattle.otel_layer.specs.Recording.{no_recording}
 use Rattle.env_filter.specs.declared.reload.Layer.{Layer}
 use Rattle.env_filter.specs.Filtering.{Filtering, plain}
 use Rattle.span_stack.specs.Reading.{recorded, counts_by, in_place, stack_interest, interest_over}
-use Rattle.span_stack.proofs.Counted.{Base, base_recorded, base_counter}
-use Rattle.span_stack.proofs.Freshness.{fresh_later}
-use Rattle.span_stack.proofs.Viewing.{kept_place}
+use Rattle.span_stack.proofs.hooks.CountersLemmas.{Base, base_recorded, base_counter}
+use Rattle.span_stack.proofs.worlds.FreshInterestsLemmas.{fresh_later}
+use Rattle.span_stack.proofs.worlds.ViewsLemmas.{kept_place}
 use Rattle.span_stack.proofs.laws.takes_measure.Goals as goal
 
 pub returns-clause-recording : goal.returns-clause-recording

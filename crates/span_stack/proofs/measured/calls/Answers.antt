@@ -1,5 +1,5 @@
 -- The layer hears at each call the hook of that call.
-use Rattle.span_stack.proofs.Gauging.{one_call, one_chain, one_room}
+use Rattle.span_stack.proofs.hooks.GaugesLemmas.{one_call, one_chain, one_room}
 use Rattle.span_stack.proofs.measured.calls.Goals as goal
 
 pub returns : goal.returns

@@ -1,6 +1,6 @@
 -- The part below is asked, where the outer one has no layer.
-use Rattle.span_stack.proofs.Nesting.{first_below}
-use Rattle.span_stack.proofs.Viewing.{replaced_below, replaced_as}
+use Rattle.span_stack.proofs.worlds.NestsLemmas.{first_below}
+use Rattle.span_stack.proofs.worlds.ViewsLemmas.{replaced_below, replaced_as}
 use Rattle.span_stack.proofs.through.asks.Goals as goal
 
 pub returns : goal.returns

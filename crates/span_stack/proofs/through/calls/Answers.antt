@@ -1,6 +1,6 @@
 -- What lies below is asked first, and the layer leaves lanes as they are.
-use Rattle.span_stack.proofs.Nesting.{both_below, chain_below}
-use Rattle.span_stack.proofs.Viewing.{replaced_below, has_below}
+use Rattle.span_stack.proofs.worlds.NestsLemmas.{both_below, chain_below}
+use Rattle.span_stack.proofs.worlds.ViewsLemmas.{replaced_below, has_below}
 use Rattle.span_stack.proofs.through.calls.Goals as goal
 
 pub returns : goal.returns

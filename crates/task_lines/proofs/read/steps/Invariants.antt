@@ -1,8 +1,8 @@
 -- The steps so far, in front of those that the values left spell.
 use Rattle.std.proofs.Common.{◌≡◌}
 use Rattle.serde_json.specs.View.{items_view}
-use Rattle.trace_pipeline.specs.Forms.{each}
-use Rattle.trace_pipeline.proofs.Items.{with_front}
+use Rattle.trace_pipeline.specs.forms.Forms.{each}
+use Rattle.trace_pipeline.proofs.readings.ItemsLemmas.{with_front}
 use Rattle.task_lines.specs.TaskForm.{step_of}
 use Rattle.task_lines.proofs.read.steps.Given as goal
 

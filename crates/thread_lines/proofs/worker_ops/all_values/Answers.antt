@@ -1,6 +1,6 @@
 use Rattle.std.proofs.Common.{Err, arith, sym, ap, length, ◌∙◌}
 use Rattle.span_script.specs.declared.reply.What.TheVariants.{Field}
-use Rattle.span_script.proofs.Declaring.{all_given, not_given}
+use Rattle.span_script.proofs.fields.FieldsLemmas.{all_given, not_given}
 use Rattle.thread_lines.specs.Steps.{named}
 use Rattle.thread_lines.proofs.worker_ops.all_values.Goals as goal
 

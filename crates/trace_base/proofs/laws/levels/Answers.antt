@@ -1,7 +1,7 @@
 use Rattle.std.proofs.Common.{refl}
 use Rattle.trace_base.specs.declared.level.Level.TheVariants as level
 use Rattle.trace_base.specs.declared.level.LevelFilter.TheVariants as filter
-use Rattle.trace_base.specs.LevelWords.{filter_of_word, named_filter}
+use Rattle.trace_base.specs.words.LevelWords.{filter_of_word, named_filter}
 use Rattle.trace_base.proofs.laws.levels.Goals as goal
 
 pub returns-clause-level : goal.returns-clause-level

@@ -1,5 +1,5 @@
 use Rattle.std.proofs.Common.{rules}
-use Rattle.trace_base.specs.LevelWords.{filter_of_word}
+use Rattle.trace_base.specs.words.LevelWords.{filter_of_word}
 use Rattle.trace_base.proofs.level.filter_of_word.Goals as goal
 
 pub loop-filter-init : goal.loop-filter-init

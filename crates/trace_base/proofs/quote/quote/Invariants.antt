@@ -1,6 +1,6 @@
 use Rattle.std.proofs.Common.{◌≡◌, ◌∷◌, ◌++◌, flat_map, string_bytes}
 use Rattle.std.specs.Str.Iter.{chars_rest}
-use Rattle.trace_base.specs.Quote.{escaped}
+use Rattle.trace_base.specs.words.Quote.{escaped}
 use Rattle.trace_base.proofs.quote.quote.Given as goal
 
 abbrev pub invariant-loop-c : goal.invariant-loop-c

@@ -1,7 +1,7 @@
 use Rattle.std.proofs.Common.{refl}
-use Rattle.trace_pipeline.specs.Object.{line_of}
-use Rattle.trace_pipeline.specs.Texts.{measures_end_text}
-use Rattle.trace_pipeline.proofs.Adding.{then, retold}
+use Rattle.trace_pipeline.specs.reading.Object.{line_of}
+use Rattle.trace_pipeline.specs.text.Texts.{measures_end_text}
+use Rattle.trace_pipeline.proofs.texts.AddsLemmas.{then, retold}
 use Rattle.trace_pipeline.proofs.write.add_measures_end_line.Goals as goal
 
 pub returns : goal.returns

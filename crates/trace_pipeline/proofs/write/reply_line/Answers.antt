@@ -1,5 +1,5 @@
 use Rattle.std.proofs.Common.{◌≡◌, [], ◌∙◌, rules}
-use Rattle.trace_pipeline.proofs.Adding.{alone, alone_utf8}
+use Rattle.trace_pipeline.proofs.texts.AddsLemmas.{alone, alone_utf8}
 use Rattle.trace_pipeline.proofs.write.reply_line.Goals as goal
 
 pub text_of-requires : goal.text_of-requires

@@ -1,6 +1,6 @@
 use Rattle.std.proofs.Common.{◌≡◌, ◌+◌, ◌-◌, [], List, ℕ, false, length, take}
 use Rattle.trace_pipeline.specs.declared.limits.TheConstants.{MAX_INPUT}
-use Rattle.trace_run.specs.Answers.{is_refused}
+use Rattle.trace_run.specs.reading.Answers.{is_refused}
 use Rattle.trace_run.specs.Progress.{IsMidway}
 use Rattle.trace_run.specs.Streams.{Takes}
 use Rattle.trace_run.proofs.run.run_blocks.Given as goal

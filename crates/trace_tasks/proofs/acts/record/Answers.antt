@@ -1,5 +1,5 @@
 -- Values were recorded, or memory was wanted.
-use Rattle.trace_tasks.proofs.Changing.{record_changes, tell_wants}
+use Rattle.trace_tasks.proofs.polls.ChangesLemmas.{record_changes, tell_wants}
 use Rattle.trace_tasks.proofs.acts.record.Goals as goal
 
 pub returns-clause-changes : goal.returns-clause-changes

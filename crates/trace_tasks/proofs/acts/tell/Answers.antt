@@ -1,5 +1,5 @@
 -- An event was told, or memory was wanted.
-use Rattle.trace_tasks.proofs.Changing.{tell_changes, tell_wants}
+use Rattle.trace_tasks.proofs.polls.ChangesLemmas.{tell_changes, tell_wants}
 use Rattle.trace_tasks.proofs.acts.tell.Goals as goal
 
 pub returns-clause-changes : goal.returns-clause-changes

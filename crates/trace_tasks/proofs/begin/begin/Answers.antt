@@ -2,7 +2,7 @@
 use Rattle.std.proofs.Common.{◌∙◌, ap, sym, subst, ℕ}
 use Rattle.span_handles.specs.Handles.{Handle, IsKnown}
 use Rattle.trace_tasks.specs.Begun.{MakesOne}
-use Rattle.trace_tasks.proofs.Beginning.{begins}
+use Rattle.trace_tasks.proofs.queues.NewTaskLemmas.{begins}
 use Rattle.trace_tasks.proofs.begin.begin.Goals as goal
 
 pub returns-in-Ok-clause-ok : goal.returns-in-Ok-clause-ok

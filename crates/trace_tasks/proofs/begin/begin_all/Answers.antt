@@ -8,8 +8,8 @@ use Rattle.trace_tasks.specs.Begun.{AllSited, AreBegun}
 use Rattle.trace_tasks.specs.Stops.{StopsBeginning}
 use Rattle.trace_tasks.specs.Turning.{serving}
 use Rattle.trace_tasks.specs.Waiting.{AllKnown}
-use Rattle.trace_tasks.proofs.Enqueueing.{on_err, none_begun, one_more_begun, known_stays}
-use Rattle.trace_tasks.proofs.Queueing.{all_known}
+use Rattle.trace_tasks.proofs.queues.BegunTasksLemmas.{on_err, none_begun, one_more_begun, known_stays}
+use Rattle.trace_tasks.proofs.queues.QueueLemmas.{all_known}
 use Rattle.trace_tasks.proofs.begin.begin_all.Goals as goal
 
 pub loop-task-init : goal.loop-task-init

@@ -2,7 +2,7 @@
 use Rattle.std.proofs.Common.{◌≡◌, ℕ, Bool, false, Option, Some, refl, subst, rules}
 use Rattle.trace_base.specs.Gate.{Admits, dispatch_on}
 use Rattle.trace_tasks.specs.Turning.{serving}
-use Rattle.trace_tasks.proofs.Beginning.{there, whole_made, wants_made}
+use Rattle.trace_tasks.proofs.queues.NewTaskLemmas.{there, whole_made, wants_made}
 use Rattle.trace_tasks.proofs.begin.make.Goals as goal
 
 pub returns-then-not-admits-clause-ok : goal.returns-then-not-admits-clause-ok

@@ -4,9 +4,9 @@ use Rattle.std.proofs.lemmas.Grind.{common_steps}
 use Rattle.span_futures.specs.declared.instrument.Instrumented.{Instrumented}
 use Rattle.trace_tasks.specs.declared.running.Running.{Running}
 use Rattle.trace_tasks.specs.Waiting.{AllKnown}
-use Rattle.trace_tasks.proofs.Closing.{closing_first, closing_more, closed_all}
-use Rattle.trace_tasks.proofs.Queueing.{known_after}
-use Rattle.trace_tasks.proofs.Turning.{closed_whole}
+use Rattle.trace_tasks.proofs.queues.LeftHandlesLemmas.{closing_first, closing_more, closed_all}
+use Rattle.trace_tasks.proofs.queues.QueueLemmas.{known_after}
+use Rattle.trace_tasks.proofs.polls.TurnLemmas.{closed_whole}
 use Rattle.trace_tasks.proofs.queue.close_all.Goals as goal
 
 pub loop-task-preserved : goal.loop-task-preserved

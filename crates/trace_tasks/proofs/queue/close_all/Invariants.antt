@@ -2,7 +2,7 @@
 use Rattle.std.proofs.Common.{length}
 use Rattle.span_futures.specs.Lent.{HasAll}
 use Rattle.trace_tasks.specs.Waiting.{AllKnown, AllStand}
-use Rattle.trace_tasks.proofs.Closing.{Closing}
+use Rattle.trace_tasks.proofs.queues.LeftHandlesLemmas.{Closing}
 use Rattle.trace_tasks.proofs.queue.close_all.Given as goal
 
 abbrev pub invariant-loop-task : goal.invariant-loop-task

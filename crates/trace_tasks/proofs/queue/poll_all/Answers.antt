@@ -7,8 +7,8 @@ use Rattle.span_futures.specs.declared.instrument.Instrumented.{Instrumented}
 use Rattle.trace_tasks.specs.declared.running.Running.{Running}
 use Rattle.trace_tasks.specs.Turning.{serving}
 use Rattle.trace_tasks.specs.Waiting.{AllWait, polls_in}
-use Rattle.trace_tasks.proofs.Queueing.{all_known, known_after, polls_after}
-use Rattle.trace_tasks.proofs.Taking.{Taking, taking_first, taking_more, taken, stops_turns}
+use Rattle.trace_tasks.proofs.queues.QueueLemmas.{all_known, known_after, polls_after}
+use Rattle.trace_tasks.proofs.queues.TurnsLemmas.{Taking, taking_first, taking_more, taken, stops_turns}
 use Rattle.trace_tasks.proofs.queue.poll_all.Goals as goal
 
 pub close_all-requires-clause-known : goal.close_all-requires-clause-known

@@ -1,6 +1,6 @@
 -- The makings and the turns are the flat list, or a front of it.
 use Rattle.std.proofs.Common.{refl}
-use Rattle.trace_tasks.proofs.Enqueueing.{few_polls, ran, answered, gave_up_if, gave_up_begun}
+use Rattle.trace_tasks.proofs.queues.BegunTasksLemmas.{few_polls, ran, answered, gave_up_if, gave_up_begun}
 use Rattle.trace_tasks.proofs.run.begin_and_poll.Goals as goal
 
 pub poll_all-requires-clause-few : goal.poll_all-requires-clause-few

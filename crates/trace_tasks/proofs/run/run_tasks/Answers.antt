@@ -1,5 +1,5 @@
 -- Where the tasks can't be copied, nothing was done.
-use Rattle.trace_tasks.proofs.Enqueueing.{gave_up_first}
+use Rattle.trace_tasks.proofs.queues.BegunTasksLemmas.{gave_up_first}
 use Rattle.trace_tasks.proofs.run.run_tasks.Goals as goal
 
 pub returns-in_default-clause-gives_up : goal.returns-in_default-clause-gives_up

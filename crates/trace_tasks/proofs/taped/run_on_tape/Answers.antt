@@ -1,7 +1,7 @@
 -- What a run over a new tape spells.
 use Rattle.std.proofs.Common.{length}
 use Rattle.trace_tasks.specs.Turning.{serving}
-use Rattle.trace_tasks.proofs.Runs.{few_new, never_full, spelled}
+use Rattle.trace_tasks.proofs.tapes.RunsLemmas.{few_new, never_full, spelled}
 use Rattle.trace_tasks.proofs.taped.run_on_tape.Goals as goal
 
 pub run_tasks-requires-clause-few : goal.run_tasks-requires-clause-few

@@ -1,7 +1,7 @@
 -- A poll of a task, and its end.
 use Rattle.futures.specs.declared.task.Poll.TheVariants as polls
-use Rattle.trace_tasks.proofs.Turning.{inside_of, pending, finished, closed_whole}
-use Rattle.trace_tasks.proofs.Stopping.{stops}
+use Rattle.trace_tasks.proofs.polls.TurnLemmas.{inside_of, pending, finished, closed_whole}
+use Rattle.trace_tasks.proofs.polls.RefusedPollLemmas.{stops}
 use Rattle.trace_tasks.proofs.turn.turn.Goals as goal
 
 pub returns-in-Ok-Pending-clause-ok : goal.returns-in-Ok-Pending-clause-ok

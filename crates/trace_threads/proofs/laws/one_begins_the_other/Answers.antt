@@ -1,4 +1,4 @@
-use Rattle.trace_threads.proofs.Beginnings.{one_begins_the_other}
+use Rattle.trace_threads.proofs.queue.FrontsLemmas.{one_begins_the_other}
 use Rattle.trace_threads.proofs.laws.one_begins_the_other.Goals as goal
 
 pub returns : goal.returns

@@ -1,5 +1,5 @@
 use Rattle.std.proofs.Common.{sym, ◌∙◌}
-use Rattle.env_directives.proofs.Cutting.{before_stop, behind_stop}
+use Rattle.env_directives.proofs.cuts.CutsLemmas.{before_stop, behind_stop}
 use Rattle.env_directives.proofs.env.cut.cut.Goals as goal
 
 pub range-requires-clause-end_boundary : goal.range-requires-clause-end_boundary

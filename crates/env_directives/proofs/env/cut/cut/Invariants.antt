@@ -1,6 +1,6 @@
 use Rattle.std.proofs.Common.{◌≡◌, drop, take}
-use Rattle.env_directives.specs.Cuts.{cut}
-use Rattle.env_directives.proofs.Cutting.{behind_front}
+use Rattle.env_directives.specs.reading.Cuts.{cut}
+use Rattle.env_directives.proofs.cuts.CutsLemmas.{behind_front}
 use Rattle.env_directives.proofs.env.cut.cut.Given as goal
 
 abbrev pub invariant-loop-at : goal.invariant-loop-at

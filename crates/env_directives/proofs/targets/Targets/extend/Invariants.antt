@@ -1,8 +1,8 @@
 use Rattle.std.specs.Prelude.{map}
 use Rattle.std.specs.Vec.Iter.{into_iter_items}
-use Rattle.env_directives.specs.StaticOrder.{most_specific_first}
+use Rattle.env_directives.specs.orders.StaticOrder.{most_specific_first}
 use Rattle.env_directives.specs.Targets.{pair_directive}
-use Rattle.env_directives.proofs.Adding.{Adding}
+use Rattle.env_directives.proofs.tables.AddsLemmas.{Adding}
 use Rattle.env_directives.proofs.targets.Targets.extend.Given as goal
 
 abbrev pub invariant-loop-target : goal.invariant-loop-target

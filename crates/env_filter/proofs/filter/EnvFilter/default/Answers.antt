@@ -2,7 +2,7 @@
 use Rattle.std.proofs.Common.{sym, subst, true, ap, ◌∙◌}
 use Rattle.env_directives.specs.declared.directive.StaticDirective.{StaticDirective}
 use Rattle.env_directives.specs.declared.env.directive.Directive.{Directive}
-use Rattle.env_directives.specs.Table.{Table, empty_table}
+use Rattle.env_directives.specs.orders.Table.{Table, empty_table}
 use Rattle.env_filter.specs.Filtering.{IsNew}
 use Rattle.env_filter.specs.Tables.{with_tables}
 use Rattle.env_filter.proofs.Wholes.{new_default}

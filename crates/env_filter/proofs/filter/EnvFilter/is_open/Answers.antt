@@ -4,8 +4,8 @@ use Rattle.std.specs.Prelude.{◌||◌}
 use Rattle.std.specs.List.{list_any}
 use Rattle.trace_base.specs.declared.level.Level.{Level}
 use Rattle.trace_base.specs.declared.level.LevelFilter.{LevelFilter}
-use Rattle.trace_base.specs.Level.{is_within}
-use Rattle.env_filter.specs.Levels.{Opened}
+use Rattle.trace_base.specs.words.Level.{is_within}
+use Rattle.env_filter.specs.spans.Levels.{Opened}
 use Rattle.env_filter.specs.Filtering.{is_open}
 use Rattle.env_filter.proofs.filter.EnvFilter.is_open.Goals as goal
 

@@ -1,7 +1,7 @@
 -- The calls tell what the filter keeps.
 use Rattle.std.proofs.Common.{◌∙◌, ap}
 use Rattle.env_filter.specs.Filtering.{Filtering, plain, span_level}
-use Rattle.env_filter.proofs.Told.{level_is_told}
+use Rattle.env_filter.proofs.kept.ToldLevelsLemmas.{level_is_told}
 use Rattle.env_filter.proofs.filter.EnvFilter.level.Goals as goal
 
 pub returns-clause-told : goal.returns-clause-told

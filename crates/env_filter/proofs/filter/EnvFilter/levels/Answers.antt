@@ -1,8 +1,8 @@
 -- The calls tell what the filter keeps.
 use Rattle.std.proofs.Common.{◌∙◌, ap, List, map}
-use Rattle.env_filter.specs.Levels.{Opened}
+use Rattle.env_filter.specs.spans.Levels.{Opened}
 use Rattle.env_filter.specs.Filtering.{Filtering, plain}
-use Rattle.env_filter.proofs.Told.{levels_are_told}
+use Rattle.env_filter.proofs.kept.ToldLevelsLemmas.{levels_are_told}
 use Rattle.env_filter.proofs.filter.EnvFilter.levels.Goals as goal
 
 pub returns-clause-told : goal.returns-clause-told

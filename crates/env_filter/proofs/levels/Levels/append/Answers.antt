@@ -1,8 +1,8 @@
 -- Both lists grow by one.
 use Rattle.std.proofs.Common.{◌∙◌, ap, List, ℕ, ◌++◌, ◌∷◌, []}
 use Rattle.trace_base.specs.declared.level.LevelFilter.{LevelFilter}
-use Rattle.env_filter.specs.Levels.{Opened, Leveled, paired}
-use Rattle.env_filter.proofs.Leveling.{pair_append}
+use Rattle.env_filter.specs.spans.Levels.{Opened, Leveled, paired}
+use Rattle.env_filter.proofs.kept.LevelsLemmas.{pair_append}
 use Rattle.env_filter.proofs.levels.Levels.append.Goals as goal
 
 pub returns : goal.returns

@@ -1,7 +1,7 @@
 -- The levels are those of the pairs.
 use Rattle.std.proofs.Common.{◌∙◌, ap, map}
-use Rattle.env_filter.specs.Levels.{Opened, Leveled}
-use Rattle.env_filter.proofs.Leveling.{pair_levels}
+use Rattle.env_filter.specs.spans.Levels.{Opened, Leveled}
+use Rattle.env_filter.proofs.kept.LevelsLemmas.{pair_levels}
 use Rattle.env_filter.proofs.levels.Levels.levels.Goals as goal
 
 pub returns : goal.returns

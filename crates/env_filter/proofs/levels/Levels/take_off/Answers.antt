@@ -3,8 +3,8 @@ use Rattle.std.proofs.Common.{◌∙◌, ap, refl, sym, List, ℕ}
 use Rattle.std.specs.List.{remove}
 use Rattle.trace_base.specs.declared.level.LevelFilter.{LevelFilter}
 use Rattle.trace_base.specs.Spans.{without_last}
-use Rattle.env_filter.specs.Levels.{Leveled, paired, is_of}
-use Rattle.env_filter.proofs.Leveling.{pair_none, pair_removed}
+use Rattle.env_filter.specs.spans.Levels.{Leveled, paired, is_of}
+use Rattle.env_filter.proofs.kept.LevelsLemmas.{pair_none, pair_removed}
 use Rattle.env_filter.proofs.levels.Levels.take_off.Goals as goal
 
 pub returns-in-Some : goal.returns-in-Some

@@ -1,6 +1,6 @@
 -- As many as before.
 use Rattle.std.proofs.Common.{◌∙◌, ap, length, List, Bool}
-use Rattle.env_filter.proofs.Watches.{length_more}
+use Rattle.env_filter.proofs.kept.WatchesLemmas.{length_more}
 use Rattle.env_filter.proofs.watch.Matches.note.Goals as goal
 
 pub invariant_of-self : goal.invariant_of-self

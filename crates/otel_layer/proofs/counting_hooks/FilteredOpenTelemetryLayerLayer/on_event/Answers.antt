@@ -1,8 +1,8 @@
 -- The op is the one that was prepared, at the hook's moment.
 use Rattle.std.proofs.Common.{ap, subst, sym, ◌∙◌, refl}
 use Rattle.std.specs.Prelude.{Some}
-use Rattle.trace_base.specs.Hooks.{OnEvent, ForEvent}
-use Rattle.otel_state.specs.EventFields.{event_of}
+use Rattle.trace_base.specs.layers.Hooks.{OnEvent, ForEvent}
+use Rattle.otel_state.specs.fields.EventFields.{event_of}
 use Rattle.otel_layer.specs.Counting.{counted_events}
 use Rattle.otel_layer.specs.Steps.{Step}
 use Rattle.otel_layer.specs.Ready.{IsReadyOtel, retimed}

@@ -1,6 +1,6 @@
 -- The op is the one that was prepared.
 use Rattle.std.proofs.Common.{subst}
-use Rattle.trace_base.specs.Hooks.{OnRecord, ForRecord}
+use Rattle.trace_base.specs.layers.Hooks.{OnRecord, ForRecord}
 use Rattle.otel_layer.specs.Steps.{all_events}
 use Rattle.otel_layer.specs.Ready.{IsReadyOtel}
 use Rattle.otel_layer.specs.Rooming.{stepped}

@@ -4,7 +4,7 @@ use Rattle.std.specs.Prelude.{IfOk}
 use Rattle.otel_state.specs.declared.op.Op.{Op}
 use Rattle.otel_state.specs.declared.op.Op.TheVariants as ops
 use Rattle.otel_state.specs.declared.settings.LayerSettings.{LayerSettings}
-use Rattle.otel_state.specs.SpanFields.{span_update}
+use Rattle.otel_state.specs.fields.SpanFields.{span_update}
 use Rattle.otel_layer.specs.Ready.{IsReadyOp}
 use Rattle.otel_layer.proofs.layer.OpenTelemetryLayer.prepare_update.Goals as goal
 

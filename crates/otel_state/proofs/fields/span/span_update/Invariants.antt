@@ -1,8 +1,8 @@
 -- The fields so far have been written.
 use Rattle.std.proofs.Common.{◌≡◌, take}
 use Rattle.std.specs.Prelude.{fold}
-use Rattle.otel_state.specs.Fields.{by_name}
-use Rattle.otel_state.specs.SpanFields.{with_value, no_update}
+use Rattle.otel_state.specs.fields.Fields.{by_name}
+use Rattle.otel_state.specs.fields.SpanFields.{with_value, no_update}
 use Rattle.otel_state.proofs.fields.span.span_update.Given as goal
 
 abbrev pub invariant-loop-pair : goal.invariant-loop-pair

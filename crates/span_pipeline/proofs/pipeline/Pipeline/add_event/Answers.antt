@@ -2,12 +2,12 @@
 use Rattle.std.proofs.Common.{rules, refl, ◌∙◌}
 use Rattle.otel_layer.specs.Asking.{event_at}
 use Rattle.span_script.specs.declared.request.Call.TheVariants as call
-use Rattle.span_script.proofs.Beside.{stack_same}
-use Rattle.span_script.proofs.Asking.{serves_event, keeps_op, left_state, left_kept}
-use Rattle.span_script.proofs.Keeping.{on_err}
-use Rattle.span_script.proofs.Refusing.{refuses_unknown}
-use Rattle.span_script.proofs.Requiring.{needs_there}
-use Rattle.span_script.proofs.Serving.{by_view}
+use Rattle.span_script.proofs.filter.CounterLemmas.{stack_same}
+use Rattle.span_script.proofs.links.ExtensionLemmas.{serves_event, keeps_op, left_state, left_kept}
+use Rattle.span_script.proofs.steps.LanesLemmas.{on_err}
+use Rattle.span_script.proofs.runs.RefusalsLemmas.{refuses_unknown}
+use Rattle.span_script.proofs.steps.RequiresLemmas.{needs_there}
+use Rattle.span_script.proofs.steps.ServesLemmas.{by_view}
 use Rattle.span_pipeline.specs.Contexts.{named_in}
 use Rattle.span_pipeline.proofs.pipeline.Pipeline.add_event.Goals as goal
 

@@ -1,12 +1,12 @@
 -- A link to what a context shows.
 use Rattle.std.proofs.Common.{rules, refl, ◌∙◌}
 use Rattle.span_script.specs.declared.request.Call.TheVariants as call
-use Rattle.span_script.proofs.Beside.{stack_same}
-use Rattle.span_script.proofs.Asking.{refuses_context, serves_link, keeps_link, left_link_state, left_link_kept}
-use Rattle.span_script.proofs.Keeping.{on_err}
-use Rattle.span_script.proofs.Refusing.{refuses_unknown}
-use Rattle.span_script.proofs.Requiring.{needs_there}
-use Rattle.span_script.proofs.Serving.{by_view, by_view_refused}
+use Rattle.span_script.proofs.filter.CounterLemmas.{stack_same}
+use Rattle.span_script.proofs.links.ExtensionLemmas.{refuses_context, serves_link, keeps_link, left_link_state, left_link_kept}
+use Rattle.span_script.proofs.steps.LanesLemmas.{on_err}
+use Rattle.span_script.proofs.runs.RefusalsLemmas.{refuses_unknown}
+use Rattle.span_script.proofs.steps.RequiresLemmas.{needs_there}
+use Rattle.span_script.proofs.steps.ServesLemmas.{by_view, by_view_refused}
 use Rattle.span_pipeline.specs.Contexts.{named_in}
 use Rattle.span_pipeline.proofs.pipeline.Pipeline.add_link.Goals as goal
 

@@ -1,9 +1,9 @@
 -- The attach.
 use Rattle.std.proofs.Common.{rules, ◌∙◌, refl, ap, Err}
 use Rattle.span_script.specs.declared.request.Call.TheVariants as call
-use Rattle.span_script.proofs.Attaches.{not_full, left_state, left_kept, refuses_attach, serves_attached, keeps_attached}
-use Rattle.span_script.proofs.Keeping.{within_view}
-use Rattle.span_script.proofs.Serving.{by_view, by_view_refused}
+use Rattle.span_script.proofs.lane_contexts.AttachesLemmas.{not_full, left_state, left_kept, refuses_attach, serves_attached, keeps_attached}
+use Rattle.span_script.proofs.steps.LanesLemmas.{within_view}
+use Rattle.span_script.proofs.steps.ServesLemmas.{by_view, by_view_refused}
 use Rattle.span_pipeline.specs.Contexts.{named_in}
 use Rattle.span_pipeline.proofs.pipeline.Pipeline.attach.Goals as goal
 

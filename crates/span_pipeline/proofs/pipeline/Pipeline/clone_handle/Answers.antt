@@ -1,10 +1,10 @@
 -- The clone.
 use Rattle.std.proofs.Common.{rules, refl}
 use Rattle.span_script.specs.declared.request.Call.TheVariants as call
-use Rattle.span_script.proofs.Requiring.{needs_known, needs_whole, needs_few}
-use Rattle.span_script.proofs.Refusing.{refuses_unknown}
-use Rattle.span_script.proofs.Serving.{by_view}
-use Rattle.span_script.proofs.Copies.{serves_cloned, keeps_cloned}
+use Rattle.span_script.proofs.steps.RequiresLemmas.{needs_known, needs_whole, needs_few}
+use Rattle.span_script.proofs.runs.RefusalsLemmas.{refuses_unknown}
+use Rattle.span_script.proofs.steps.ServesLemmas.{by_view}
+use Rattle.span_script.proofs.spans.ClonesLemmas.{serves_cloned, keeps_cloned}
 use Rattle.span_pipeline.specs.Contexts.{named_in}
 use Rattle.span_pipeline.proofs.pipeline.Pipeline.clone_handle.Goals as goal
 

@@ -3,10 +3,10 @@ use Rattle.std.proofs.Common.{rules, refl}
 use Rattle.trace_base.specs.declared.span.Parent.TheVariants as parent
 use Rattle.span_script.specs.declared.request.Place.TheVariants as place
 use Rattle.span_script.specs.declared.request.Call.TheVariants as call
-use Rattle.span_script.proofs.Keeping.{within_view}
-use Rattle.span_script.proofs.Making.{make_may}
-use Rattle.span_script.proofs.Serving.{by_view}
-use Rattle.span_script.proofs.Currents.{serves_current, keeps_current}
+use Rattle.span_script.proofs.steps.LanesLemmas.{within_view}
+use Rattle.span_script.proofs.spans.MakingsLemmas.{make_may}
+use Rattle.span_script.proofs.steps.ServesLemmas.{by_view}
+use Rattle.span_script.proofs.spans.CurrentsLemmas.{serves_current, keeps_current}
 use Rattle.span_pipeline.specs.Contexts.{named_in}
 use Rattle.span_pipeline.proofs.pipeline.Pipeline.current.Goals as goal
 

@@ -2,9 +2,9 @@
 use Rattle.std.proofs.Common.{rules, refl}
 use Rattle.span_script.specs.declared.request.Call.TheVariants as call
 use Rattle.span_script.specs.Fits.{stack_views}
-use Rattle.span_script.proofs.Detaches.{still_live, serves_detached, keeps_detached, keeps_tokens, none_more, filtered_keeps}
-use Rattle.span_script.proofs.Keeping.{within_view}
-use Rattle.span_script.proofs.Serving.{by_view}
+use Rattle.span_script.proofs.lane_contexts.DetachesLemmas.{still_live, serves_detached, keeps_detached, keeps_tokens, none_more, filtered_keeps}
+use Rattle.span_script.proofs.steps.LanesLemmas.{within_view}
+use Rattle.span_script.proofs.steps.ServesLemmas.{by_view}
 use Rattle.span_pipeline.specs.Contexts.{named_in}
 use Rattle.span_pipeline.proofs.pipeline.Pipeline.detach.Goals as goal
 

@@ -1,11 +1,11 @@
 -- The drop.
 use Rattle.std.proofs.Common.{rules, refl}
 use Rattle.span_script.specs.declared.request.Call.TheVariants as call
-use Rattle.span_script.proofs.Beside.{stack_same}
-use Rattle.span_script.proofs.Requiring.{needs_known, needs_whole}
-use Rattle.span_script.proofs.Refusing.{refuses_unknown}
-use Rattle.span_script.proofs.Serving.{by_view, by_view_refused}
-use Rattle.span_script.proofs.Dropped.{refuses_borrowed, serves_dropped, keeps_dropped}
+use Rattle.span_script.proofs.filter.CounterLemmas.{stack_same}
+use Rattle.span_script.proofs.steps.RequiresLemmas.{needs_known, needs_whole}
+use Rattle.span_script.proofs.runs.RefusalsLemmas.{refuses_unknown}
+use Rattle.span_script.proofs.steps.ServesLemmas.{by_view, by_view_refused}
+use Rattle.span_script.proofs.spans.DropsLemmas.{refuses_borrowed, serves_dropped, keeps_dropped}
 use Rattle.span_pipeline.specs.Contexts.{named_in}
 use Rattle.span_pipeline.proofs.pipeline.Pipeline.drop_handle.Goals as goal
 

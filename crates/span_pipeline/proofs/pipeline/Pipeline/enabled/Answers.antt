@@ -2,11 +2,11 @@
 use Rattle.std.proofs.Common.{rules, false, refl}
 use Rattle.span_stack.specs.Reading.{stack_interest}
 use Rattle.span_script.specs.declared.request.Call.TheVariants as call
-use Rattle.span_script.proofs.Filtering.{stack_shows}
-use Rattle.span_script.proofs.Gating.{is_current}
-use Rattle.span_script.proofs.Keeping.{within_view}
-use Rattle.span_script.proofs.Reloading.{serves_enabled, keeps_enabled}
-use Rattle.span_script.proofs.Serving.{by_view}
+use Rattle.span_script.proofs.filter.FilterLemmas.{stack_shows}
+use Rattle.span_script.proofs.filter.GateLemmas.{is_current}
+use Rattle.span_script.proofs.steps.LanesLemmas.{within_view}
+use Rattle.span_script.proofs.filter.ReloadsLemmas.{serves_enabled, keeps_enabled}
+use Rattle.span_script.proofs.steps.ServesLemmas.{by_view}
 use Rattle.span_pipeline.specs.Contexts.{named_in}
 use Rattle.span_pipeline.proofs.pipeline.Pipeline.enabled.Goals as goal
 

@@ -2,12 +2,12 @@
 use Rattle.std.proofs.Common.{rules, ◌∙◌, refl, sym, ap, Err}
 use Rattle.std.proofs.lemmas.Bool.{true≢false}
 use Rattle.span_stack.specs.Counters.{core_of}
-use Rattle.span_script.proofs.Beside.{stack_same}
-use Rattle.span_script.proofs.Requiring.{needs_known, needs_whole, needs_few}
-use Rattle.span_script.proofs.Keeping.{refused_kept, refused_state, within_view}
-use Rattle.span_script.proofs.Refusing.{refuses_unknown}
-use Rattle.span_script.proofs.Crowded.{layer_activates, filtered_activates, meets_not, refuses_entry}
-use Rattle.span_script.proofs.Entering.{by_view_opens, by_view_opens_refused, serves_entered, keeps_entered}
+use Rattle.span_script.proofs.filter.CounterLemmas.{stack_same}
+use Rattle.span_script.proofs.steps.RequiresLemmas.{needs_known, needs_whole, needs_few}
+use Rattle.span_script.proofs.steps.LanesLemmas.{refused_kept, refused_state, within_view}
+use Rattle.span_script.proofs.runs.RefusalsLemmas.{refuses_unknown}
+use Rattle.span_script.proofs.entries.FullLanesLemmas.{layer_activates, filtered_activates, meets_not, refuses_entry}
+use Rattle.span_script.proofs.entries.EntriesLemmas.{by_view_opens, by_view_opens_refused, serves_entered, keeps_entered}
 use Rattle.span_pipeline.specs.Contexts.{named_in}
 use Rattle.span_pipeline.proofs.pipeline.Pipeline.enter.Goals as goal
 

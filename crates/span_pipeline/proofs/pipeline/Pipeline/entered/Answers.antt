@@ -1,9 +1,9 @@
 -- The entry by a guard that owns its handle.
 use Rattle.std.proofs.Common.{rules, refl}
 use Rattle.span_script.specs.declared.request.Call.TheVariants as call
-use Rattle.span_script.proofs.Refusing.{refuses_unknown}
-use Rattle.span_script.proofs.Serving.{by_view_refused}
-use Rattle.span_script.proofs.Entering.{entered_is, entered_ok, entered_refused}
+use Rattle.span_script.proofs.runs.RefusalsLemmas.{refuses_unknown}
+use Rattle.span_script.proofs.steps.ServesLemmas.{by_view_refused}
+use Rattle.span_script.proofs.entries.EntriesLemmas.{entered_is, entered_ok, entered_refused}
 use Rattle.span_pipeline.proofs.pipeline.Pipeline.entered.Goals as goal
 
 pub returns-in_default-clause-refused : goal.returns-in_default-clause-refused

@@ -2,15 +2,15 @@
 use Rattle.std.proofs.Common.{rules, refl, ◌∙◌}
 use Rattle.span_script.specs.declared.request.Call.TheVariants as call
 use Rattle.span_stack.specs.Reading.{stack_interest}
-use Rattle.span_script.proofs.Beside.{stack_same}
-use Rattle.span_script.proofs.Filtering.{stack_shows}
-use Rattle.span_script.proofs.Gating.{is_current}
-use Rattle.span_script.proofs.Keeping.{within_view, on_err}
-use Rattle.span_script.proofs.Naming.{found_parent, found_nowhere}
-use Rattle.span_script.proofs.Serving.{by_view, by_view_refused}
-use Rattle.span_script.proofs.Declaring.{refuses_event}
-use Rattle.span_script.proofs.Making.{made_alike, tell_live}
-use Rattle.span_script.proofs.Telling.{serves_told, keeps_told}
+use Rattle.span_script.proofs.filter.CounterLemmas.{stack_same}
+use Rattle.span_script.proofs.filter.FilterLemmas.{stack_shows}
+use Rattle.span_script.proofs.filter.GateLemmas.{is_current}
+use Rattle.span_script.proofs.steps.LanesLemmas.{within_view, on_err}
+use Rattle.span_script.proofs.steps.SlotsLemmas.{found_parent, found_nowhere}
+use Rattle.span_script.proofs.steps.ServesLemmas.{by_view, by_view_refused}
+use Rattle.span_script.proofs.fields.FieldsLemmas.{refuses_event}
+use Rattle.span_script.proofs.spans.MakingsLemmas.{made_alike, tell_live}
+use Rattle.span_script.proofs.events.EventsLemmas.{serves_told, keeps_told}
 use Rattle.span_pipeline.specs.Contexts.{named_in}
 use Rattle.span_pipeline.proofs.Placing.{refuses_event_site, refuses_event_place}
 use Rattle.span_pipeline.proofs.pipeline.Pipeline.event.Goals as goal

@@ -1,10 +1,10 @@
 -- The exit.
 use Rattle.std.proofs.Common.{rules, refl}
-use Rattle.span_script.proofs.Requiring.{needs_there, needs_whole, exit_may, exit_still, guard_named, guard_entry}
-use Rattle.span_script.proofs.Keeping.{within_view}
+use Rattle.span_script.proofs.steps.RequiresLemmas.{needs_there, needs_whole, exit_may, exit_still, guard_named, guard_entry}
+use Rattle.span_script.proofs.steps.LanesLemmas.{within_view}
 use Rattle.span_script.specs.declared.request.Call.TheVariants as call
-use Rattle.span_script.proofs.Serving.{by_view, by_view_refused}
-use Rattle.span_script.proofs.Entering.{refuses_shared, refuses_wrong_lane, alone_at, serves_exited, keeps_exited}
+use Rattle.span_script.proofs.steps.ServesLemmas.{by_view, by_view_refused}
+use Rattle.span_script.proofs.entries.EntriesLemmas.{refuses_shared, refuses_wrong_lane, alone_at, serves_exited, keeps_exited}
 use Rattle.span_pipeline.specs.Contexts.{named_in}
 use Rattle.span_pipeline.proofs.pipeline.Pipeline.exit.Goals as goal
 

@@ -1,9 +1,9 @@
 -- Asking for a field.
 use Rattle.std.proofs.Common.{rules, refl, false}
 use Rattle.span_script.specs.declared.request.Call.TheVariants as call
-use Rattle.span_script.proofs.Refusing.{refuses_unknown}
-use Rattle.span_script.proofs.Serving.{by_view}
-use Rattle.span_script.proofs.Declaring.{needs_site, serves_asked, keeps_asked}
+use Rattle.span_script.proofs.runs.RefusalsLemmas.{refuses_unknown}
+use Rattle.span_script.proofs.steps.ServesLemmas.{by_view}
+use Rattle.span_script.proofs.fields.FieldsLemmas.{needs_site, serves_asked, keeps_asked}
 use Rattle.span_pipeline.specs.Contexts.{named_in}
 use Rattle.span_pipeline.proofs.pipeline.Pipeline.has_field.Goals as goal
 

@@ -2,14 +2,14 @@
 use Rattle.std.proofs.Common.{rules, refl, ◌∙◌}
 use Rattle.span_script.specs.declared.request.Call.TheVariants as call
 use Rattle.span_stack.specs.Reading.{stack_interest}
-use Rattle.span_script.proofs.Beside.{stack_same}
-use Rattle.span_script.proofs.Filtering.{stack_shows}
-use Rattle.span_script.proofs.Gating.{is_current}
-use Rattle.span_script.proofs.Keeping.{within_view, on_err}
-use Rattle.span_script.proofs.Naming.{found_place, found_nowhere}
-use Rattle.span_script.proofs.Serving.{by_view, by_view_refused}
-use Rattle.span_script.proofs.Declaring.{refuses_new, refuses_place}
-use Rattle.span_script.proofs.Making.{make_may, all_of, made_alike, serves_new, keeps_new}
+use Rattle.span_script.proofs.filter.CounterLemmas.{stack_same}
+use Rattle.span_script.proofs.filter.FilterLemmas.{stack_shows}
+use Rattle.span_script.proofs.filter.GateLemmas.{is_current}
+use Rattle.span_script.proofs.steps.LanesLemmas.{within_view, on_err}
+use Rattle.span_script.proofs.steps.SlotsLemmas.{found_place, found_nowhere}
+use Rattle.span_script.proofs.steps.ServesLemmas.{by_view, by_view_refused}
+use Rattle.span_script.proofs.fields.FieldsLemmas.{refuses_new, refuses_place}
+use Rattle.span_script.proofs.spans.MakingsLemmas.{make_may, all_of, made_alike, serves_new, keeps_new}
 use Rattle.span_pipeline.specs.Contexts.{named_in}
 use Rattle.span_pipeline.proofs.Placing.{refuses_span_site}
 use Rattle.span_pipeline.proofs.pipeline.Pipeline.make.Goals as goal

@@ -1,12 +1,12 @@
 -- Recording fields.
 use Rattle.std.proofs.Common.{rules, refl, ◌∙◌, false}
 use Rattle.span_script.specs.declared.request.Call.TheVariants as call
-use Rattle.span_script.proofs.Beside.{stack_same}
-use Rattle.span_script.proofs.Requiring.{needs_known, needs_whole}
-use Rattle.span_script.proofs.Refusing.{refuses_unknown}
-use Rattle.span_script.proofs.Serving.{by_view}
-use Rattle.span_script.proofs.Keeping.{on_err, same_state, same_kept}
-use Rattle.span_script.proofs.Declaring.{needs_site, serves_recorded, keeps_recorded}
+use Rattle.span_script.proofs.filter.CounterLemmas.{stack_same}
+use Rattle.span_script.proofs.steps.RequiresLemmas.{needs_known, needs_whole}
+use Rattle.span_script.proofs.runs.RefusalsLemmas.{refuses_unknown}
+use Rattle.span_script.proofs.steps.ServesLemmas.{by_view}
+use Rattle.span_script.proofs.steps.LanesLemmas.{on_err, same_state, same_kept}
+use Rattle.span_script.proofs.fields.FieldsLemmas.{needs_site, serves_recorded, keeps_recorded}
 use Rattle.span_pipeline.specs.Contexts.{named_in}
 use Rattle.span_pipeline.proofs.pipeline.Pipeline.record.Goals as goal
 

@@ -3,10 +3,10 @@ use Rattle.std.proofs.Common.{rules}
 use Rattle.env_filter.specs.Filtering.{plain}
 use Rattle.span_stack.specs.Reading.{stack_interest}
 use Rattle.span_script.specs.declared.request.Call.TheVariants as call
-use Rattle.span_script.proofs.Beside.{stack_same}
-use Rattle.span_script.proofs.Filtering.{stack_shows}
-use Rattle.span_script.proofs.Reloading.{serves_reloaded, keeps_reloaded}
-use Rattle.span_script.proofs.Serving.{by_view}
+use Rattle.span_script.proofs.filter.CounterLemmas.{stack_same}
+use Rattle.span_script.proofs.filter.FilterLemmas.{stack_shows}
+use Rattle.span_script.proofs.filter.ReloadsLemmas.{serves_reloaded, keeps_reloaded}
+use Rattle.span_script.proofs.steps.ServesLemmas.{by_view}
 use Rattle.span_pipeline.specs.Contexts.{named_in}
 use Rattle.span_pipeline.proofs.pipeline.Pipeline.reload.Goals as goal
 

@@ -1,8 +1,8 @@
 -- A context of ids that are given.
 use Rattle.std.proofs.Common.{rules, false, refl}
 use Rattle.span_script.specs.declared.request.Call.TheVariants as call
-use Rattle.span_script.proofs.Giving.{serves_remote, keeps_remote}
-use Rattle.span_script.proofs.Serving.{by_view}
+use Rattle.span_script.proofs.lane_contexts.ContextsLemmas.{serves_remote, keeps_remote}
+use Rattle.span_script.proofs.steps.ServesLemmas.{by_view}
 use Rattle.span_pipeline.specs.Contexts.{named_in}
 use Rattle.span_pipeline.proofs.pipeline.Pipeline.remote.Goals as goal
 

@@ -1,11 +1,11 @@
 -- A status.
 use Rattle.std.proofs.Common.{rules, refl}
 use Rattle.span_script.specs.declared.request.Call.TheVariants as call
-use Rattle.span_script.proofs.Beside.{stack_same}
-use Rattle.span_script.proofs.Asking.{serves_status, keeps_status}
-use Rattle.span_script.proofs.Refusing.{refuses_unknown}
-use Rattle.span_script.proofs.Requiring.{needs_there}
-use Rattle.span_script.proofs.Serving.{by_view}
+use Rattle.span_script.proofs.filter.CounterLemmas.{stack_same}
+use Rattle.span_script.proofs.links.ExtensionLemmas.{serves_status, keeps_status}
+use Rattle.span_script.proofs.runs.RefusalsLemmas.{refuses_unknown}
+use Rattle.span_script.proofs.steps.RequiresLemmas.{needs_there}
+use Rattle.span_script.proofs.steps.ServesLemmas.{by_view}
 use Rattle.span_pipeline.specs.Contexts.{named_in}
 use Rattle.span_pipeline.proofs.pipeline.Pipeline.set_status.Goals as goal
 

@@ -1,7 +1,7 @@
 -- The step.
 use Rattle.std.proofs.Common.{rules, refl}
 use Rattle.span_script.specs.Tables.{tables}
-use Rattle.span_script.proofs.Refusing.{effect_is, steps_ok, steps_refused}
+use Rattle.span_script.proofs.runs.RefusalsLemmas.{effect_is, steps_ok, steps_refused}
 use Rattle.span_pipeline.proofs.pipeline.Pipeline.step.Goals as goal
 
 pub returns-clause-ok : goal.returns-clause-ok

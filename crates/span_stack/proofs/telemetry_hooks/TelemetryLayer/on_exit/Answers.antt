@@ -1,6 +1,6 @@
 -- It is the one or the other.
 use Rattle.std.proofs.Common.{subst, ◌≡◌, true}
-use Rattle.trace_base.specs.Contexts.{AreAttached}
+use Rattle.trace_base.specs.lanes.Contexts.{AreAttached}
 use Rattle.otel_layer.specs.Core.{seen_in, kept_in}
 use Rattle.span_stack.specs.declared.telemetry.Telemetry.{Telemetry}
 use Rattle.span_stack.specs.Counters.{core_of}

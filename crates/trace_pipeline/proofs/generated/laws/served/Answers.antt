@@ -1,4 +1,4 @@
-use Rattle.trace_pipeline.proofs.MadeSteps.{made_replays}
+use Rattle.trace_pipeline.proofs.made.StepsLemmas.{made_replays}
 use Rattle.trace_pipeline.proofs.generated.laws.served.Goals as goal
 
 pub returns : goal.returns

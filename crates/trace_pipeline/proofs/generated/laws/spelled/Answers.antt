@@ -1,4 +1,4 @@
-use Rattle.trace_pipeline.proofs.MadeLines.{script_lines, requests_spelled, settings_read}
+use Rattle.trace_pipeline.proofs.made.LinesLemmas.{script_lines, requests_spelled, settings_read}
 use Rattle.trace_pipeline.proofs.generated.laws.spelled.Goals as goal
 
 pub returns-clause-lines : goal.returns-clause-lines

@@ -1,4 +1,4 @@
-use Rattle.trace_pipeline.proofs.MadeReport.{made_valid}
+use Rattle.trace_pipeline.proofs.made.ReportLemmas.{made_valid}
 use Rattle.trace_pipeline.proofs.generated.laws.valid.Goals as goal
 
 pub returns : goal.returns

@@ -1,5 +1,5 @@
 use Rattle.std.proofs.Common.{length, ◌-◌, arith}
-use Rattle.trace_pipeline.proofs.Ordered.{behind_last, behind_none}
+use Rattle.trace_pipeline.proofs.readings.OrderLemmas.{behind_last, behind_none}
 use Rattle.trace_pipeline.proofs.read.flat.is_last.Goals as goal
 
 pub returns-then-is_empty : goal.returns-then-is_empty

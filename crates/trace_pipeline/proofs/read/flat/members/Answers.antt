@@ -1,11 +1,11 @@
 use Rattle.std.proofs.Common.{◌≡◌, ◌++◌, [], ◌∷◌, Some, refl, ap, sym, subst, ◌∙◌, arith, rules}
 use Rattle.std.specs.Str.{IsUtf8}
 use Rattle.serde_json.specs.Data.{no_members, put}
-use Rattle.trace_pipeline.specs.Compact.{plain_data, members_of}
+use Rattle.trace_pipeline.specs.text.Compact.{plain_data, members_of}
 use Rattle.trace_pipeline.specs.declared.read.scan.TheConstants.{DEEPEST}
-use Rattle.trace_pipeline.specs.Placed.{InOrder}
-use Rattle.trace_pipeline.proofs.Ordered.{held_in_order}
-use Rattle.trace_pipeline.proofs.Plainly.{Named, AllNamed-push, held_push, members_first, members_on, members_text_end, object_read}
+use Rattle.trace_pipeline.specs.reading.Placed.{InOrder}
+use Rattle.trace_pipeline.proofs.readings.OrderLemmas.{held_in_order}
+use Rattle.trace_pipeline.proofs.readings.CompactLemmas.{Named, AllNamed-push, held_push, members_first, members_on, members_text_end, object_read}
 use Rattle.trace_pipeline.proofs.read.flat.members.Goals as goal
 
 pub loop-init : goal.loop-init

@@ -1,8 +1,8 @@
 use Rattle.std.proofs.Common.{◌≡◌, ◌++◌, [], ◌∷◌, List, ap, sym, subst, ◌∙◌, refl, rules}
-use Rattle.trace_pipeline.specs.Compact.{members_of}
-use Rattle.trace_pipeline.specs.Placed.{InOrder, GoesLast}
-use Rattle.trace_pipeline.proofs.Plainly.{Entry}
-use Rattle.trace_pipeline.proofs.Ordered.{put_at_end}
+use Rattle.trace_pipeline.specs.text.Compact.{members_of}
+use Rattle.trace_pipeline.specs.reading.Placed.{InOrder, GoesLast}
+use Rattle.trace_pipeline.proofs.readings.CompactLemmas.{Entry}
+use Rattle.trace_pipeline.proofs.readings.OrderLemmas.{put_at_end}
 use Rattle.trace_pipeline.proofs.read.flat.place.Goals as goal
 
 pub is_last-requires : goal.is_last-requires

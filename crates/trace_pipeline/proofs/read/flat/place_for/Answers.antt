@@ -1,5 +1,5 @@
 use Rattle.std.proofs.Common.{arith}
-use Rattle.trace_pipeline.proofs.Placing.{puts_more, puts_before, puts_last}
+use Rattle.trace_pipeline.proofs.readings.PlacesLemmas.{puts_more, puts_before, puts_last}
 use Rattle.trace_pipeline.proofs.read.flat.place_for.Goals as goal
 
 pub returns-in-Less : goal.returns-in-Less

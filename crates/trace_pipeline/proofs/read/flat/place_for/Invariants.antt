@@ -1,5 +1,5 @@
 use Rattle.std.proofs.Common.{◌≤◌, ◌-◌, length}
-use Rattle.trace_pipeline.proofs.Placing.{Puts}
+use Rattle.trace_pipeline.proofs.readings.PlacesLemmas.{Puts}
 use Rattle.trace_pipeline.proofs.read.flat.place_for.Given as goal
 
 abbrev pub invariant-loop-at : goal.invariant-loop-at

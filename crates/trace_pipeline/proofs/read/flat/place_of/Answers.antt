@@ -1,5 +1,5 @@
 use Rattle.std.proofs.Common.{true≢false, sym, ◌∙◌, arith}
-use Rattle.trace_pipeline.proofs.Placing.{is_found, passed_more}
+use Rattle.trace_pipeline.proofs.readings.PlacesLemmas.{is_found, passed_more}
 use Rattle.trace_pipeline.proofs.read.flat.place_of.Goals as goal
 
 pub returns-then-is_same : goal.returns-then-is_same

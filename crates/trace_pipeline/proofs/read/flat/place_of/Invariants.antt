@@ -1,5 +1,5 @@
 use Rattle.std.proofs.Common.{◌≤◌, ◌-◌, length}
-use Rattle.trace_pipeline.proofs.Placing.{Passed}
+use Rattle.trace_pipeline.proofs.readings.PlacesLemmas.{Passed}
 use Rattle.trace_pipeline.proofs.read.flat.place_of.Given as goal
 
 abbrev pub invariant-loop-at : goal.invariant-loop-at

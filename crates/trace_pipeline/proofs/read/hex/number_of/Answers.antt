@@ -1,6 +1,6 @@
 -- There is room for one digit more.
 use Rattle.std.proofs.Common.{arith}
-use Rattle.trace_pipeline.proofs.HexRead.{room}
+use Rattle.trace_pipeline.proofs.readings.IdsLemmas.{room}
 use Rattle.trace_pipeline.proofs.read.hex.number_of.Goals as goal
 
 pub overflow_mul-number : goal.overflow_mul-number

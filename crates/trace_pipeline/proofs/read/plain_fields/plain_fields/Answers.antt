@@ -1,7 +1,7 @@
 use Rattle.std.proofs.Common.{ap, sym, option_and_then, ◌∙◌, arith, rules}
 use Rattle.std.specs.Str.{IsUtf8}
-use Rattle.trace_pipeline.specs.FieldForm.{fields_of}
-use Rattle.trace_pipeline.proofs.Plainly.{whole_text_read}
+use Rattle.trace_pipeline.specs.forms.FieldForm.{fields_of}
+use Rattle.trace_pipeline.proofs.readings.CompactLemmas.{whole_text_read}
 use Rattle.trace_pipeline.proofs.read.plain_fields.plain_fields.Goals as goal
 
 pub returns : goal.returns

@@ -1,4 +1,4 @@
-use Rattle.trace_pipeline.proofs.QuickLines.{drop_read, drop_read_late}
+use Rattle.trace_pipeline.proofs.readings.QuickLinesLemmas.{drop_read, drop_read_late}
 use Rattle.trace_pipeline.proofs.read.quick.drop_line.Goals as goal
 
 pub returns-in-Some : goal.returns-in-Some

@@ -1,4 +1,4 @@
-use Rattle.trace_pipeline.proofs.QuickLines.{enter_read, enter_read_late}
+use Rattle.trace_pipeline.proofs.readings.QuickLinesLemmas.{enter_read, enter_read_late}
 use Rattle.trace_pipeline.proofs.read.quick.enter_line.Goals as goal
 
 pub returns-in-Some : goal.returns-in-Some

@@ -1,4 +1,4 @@
-use Rattle.trace_pipeline.proofs.QuickLines.{event_fields_read}
+use Rattle.trace_pipeline.proofs.readings.QuickLinesLemmas.{event_fields_read}
 use Rattle.trace_pipeline.proofs.read.quick.event_fields_line.Goals as goal
 
 pub returns : goal.returns

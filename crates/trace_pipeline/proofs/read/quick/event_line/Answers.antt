@@ -1,4 +1,4 @@
-use Rattle.trace_pipeline.proofs.QuickLines.{event_read, event_root_read}
+use Rattle.trace_pipeline.proofs.readings.QuickLinesLemmas.{event_read, event_root_read}
 use Rattle.trace_pipeline.proofs.read.quick.event_line.Goals as goal
 
 pub returns-in-Some : goal.returns-in-Some

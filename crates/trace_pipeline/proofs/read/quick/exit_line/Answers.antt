@@ -1,4 +1,4 @@
-use Rattle.trace_pipeline.proofs.QuickLines.{exit_read, exit_read_late}
+use Rattle.trace_pipeline.proofs.readings.QuickLinesLemmas.{exit_read, exit_read_late}
 use Rattle.trace_pipeline.proofs.read.quick.exit_line.Goals as goal
 
 pub returns-in-Some : goal.returns-in-Some

@@ -1,4 +1,4 @@
-use Rattle.trace_pipeline.proofs.QuickLines.{new_fields_read}
+use Rattle.trace_pipeline.proofs.readings.QuickLinesLemmas.{new_fields_read}
 use Rattle.trace_pipeline.proofs.read.quick.new_fields_line.Goals as goal
 
 pub returns : goal.returns

@@ -1,4 +1,4 @@
-use Rattle.trace_pipeline.proofs.QuickLines.{new_read, new_root_read}
+use Rattle.trace_pipeline.proofs.readings.QuickLinesLemmas.{new_read, new_root_read}
 use Rattle.trace_pipeline.proofs.read.quick.new_line.Goals as goal
 
 pub returns-in-Some : goal.returns-in-Some

@@ -1,6 +1,6 @@
 -- A value's items and members nest less deep than it does.
 use Rattle.std.proofs.Common.{◌+◌, ◌*◌, List}
-use Rattle.trace_pipeline.proofs.Plainly.{Pair, AllRead, GoesItems, Named, AllNamed, GoesMembers}
+use Rattle.trace_pipeline.proofs.readings.CompactLemmas.{Pair, AllRead, GoesItems, Named, AllNamed, GoesMembers}
 use Rattle.trace_pipeline.proofs.read.scan.+past.Given as goal
 
 abbrev pub decreases-past_nested : goal.decreases-past_nested

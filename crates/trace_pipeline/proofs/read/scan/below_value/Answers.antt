@@ -1,8 +1,8 @@
 use Rattle.std.proofs.Common.{◌≡◌, ◌-◌, suc, sym, subst, ◌∙◌, arith, FitsSigned, w64}
 use Rattle.std.proofs.Math.Facts.{to_z-of_z}
 use Rattle.serde_json.specs.Data.{number, negative}
-use Rattle.trace_pipeline.specs.Compact.{Begins}
-use Rattle.trace_pipeline.proofs.Plainly.{below_begins}
+use Rattle.trace_pipeline.specs.text.Compact.{Begins}
+use Rattle.trace_pipeline.proofs.readings.CompactLemmas.{below_begins}
 use Rattle.trace_pipeline.proofs.read.scan.below_value.Goals as goal
 
 pub returns : goal.returns

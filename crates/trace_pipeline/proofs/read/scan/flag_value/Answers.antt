@@ -1,5 +1,5 @@
 use Rattle.std.proofs.Common.{true, false}
-use Rattle.trace_pipeline.proofs.Plainly.{flag_begins}
+use Rattle.trace_pipeline.proofs.readings.CompactLemmas.{flag_begins}
 use Rattle.trace_pipeline.proofs.read.scan.flag_value.Goals as goal
 
 pub returns-in-Some : goal.returns-in-Some

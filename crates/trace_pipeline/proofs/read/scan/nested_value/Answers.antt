@@ -2,7 +2,7 @@
 use Rattle.std.proofs.Common.{◌≡◌, ◌∙◌, ◌++◌, ◌-◌, ap, sym, arith, rules, take, length}
 use Rattle.std.specs.Str.{IsUtf8}
 use Rattle.serde_json.specs.Written.{compact_text}
-use Rattle.trace_pipeline.proofs.Plainly.{nested_begins, cut_front}
+use Rattle.trace_pipeline.proofs.readings.CompactLemmas.{nested_begins, cut_front}
 use Rattle.trace_pipeline.proofs.read.scan.nested_value.Goals as goal
 
 pub returns : goal.returns

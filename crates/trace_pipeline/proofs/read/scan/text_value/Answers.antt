@@ -1,6 +1,6 @@
 use Rattle.std.proofs.Common.{◌≡◌, ◌∙◌, ap, ◌++◌, sym, rules}
 use Rattle.json.specs.Print.{quoted}
-use Rattle.trace_pipeline.proofs.Plainly.{text_begins}
+use Rattle.trace_pipeline.proofs.readings.CompactLemmas.{text_begins}
 use Rattle.trace_pipeline.proofs.read.scan.text_value.Goals as goal
 
 pub returns : goal.returns

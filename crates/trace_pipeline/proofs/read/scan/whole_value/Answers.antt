@@ -1,4 +1,4 @@
-use Rattle.trace_pipeline.proofs.Plainly.{whole_begins}
+use Rattle.trace_pipeline.proofs.readings.CompactLemmas.{whole_begins}
 use Rattle.trace_pipeline.proofs.read.scan.whole_value.Goals as goal
 
 pub returns : goal.returns

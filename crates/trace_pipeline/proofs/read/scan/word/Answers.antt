@@ -1,4 +1,4 @@
-use Rattle.trace_pipeline.proofs.Plainly.{word_is}
+use Rattle.trace_pipeline.proofs.readings.CompactLemmas.{word_is}
 use Rattle.trace_pipeline.proofs.read.scan.word.Goals as goal
 
 pub returns : goal.returns

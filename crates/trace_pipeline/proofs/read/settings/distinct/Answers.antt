@@ -3,9 +3,9 @@ use Rattle.std.proofs.Common.{nat_cmp, ap, ◌∙◌, sym, arith}
 use Rattle.std.specs.BTreeSet.{contains}
 use Rattle.std.specs.BTreeMap.{is_at}
 use Rattle.std.specs.List.{list_any}
-use Rattle.trace_pipeline.specs.Forms.{provided}
-use Rattle.trace_pipeline.specs.SettingsForm.{ids}
-use Rattle.trace_pipeline.proofs.Distinct.{begins, next_lane, same_lane}
+use Rattle.trace_pipeline.specs.forms.Forms.{provided}
+use Rattle.trace_pipeline.specs.forms.SettingsForm.{ids}
+use Rattle.trace_pipeline.proofs.ids.DistinctLemmas.{begins, next_lane, same_lane}
 use Rattle.trace_pipeline.proofs.read.settings.distinct.Goals as goal
 
 pub loop-lane-init : goal.loop-lane-init

@@ -1,7 +1,7 @@
 use Rattle.std.proofs.Common.{◌≡◌, drop, nat_cmp}
 use Rattle.std.specs.BTreeSet.{contains}
-use Rattle.trace_pipeline.specs.SettingsForm.{ids, all_differ}
-use Rattle.trace_pipeline.proofs.Distinct.{still_differ}
+use Rattle.trace_pipeline.specs.forms.SettingsForm.{ids, all_differ}
+use Rattle.trace_pipeline.proofs.ids.DistinctLemmas.{still_differ}
 use Rattle.trace_pipeline.proofs.read.settings.distinct.Given as goal
 
 abbrev pub invariant-loop-lane : goal.invariant-loop-lane

@@ -2,7 +2,7 @@
 use Rattle.std.proofs.Common.{◌≡◌}
 use Rattle.std.specs.Vec.Iter.{into_iter_items}
 use Rattle.serde_json.specs.View.{items_view}
-use Rattle.trace_pipeline.proofs.Values.{in_front}
+use Rattle.trace_pipeline.proofs.readings.ValuesLemmas.{in_front}
 use Rattle.trace_pipeline.proofs.read.value.trees_of.Given as goal
 
 abbrev pub invariant-loop-tree : goal.invariant-loop-tree

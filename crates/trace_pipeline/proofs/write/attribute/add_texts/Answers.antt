@@ -1,8 +1,8 @@
 use Rattle.std.proofs.Common.{◌++◌, [], ◌∷◌, false, refl, ap, arith}
 use Rattle.serde_json.specs.Written.{compact_text, comma_if, items_text}
-use Rattle.trace_pipeline.specs.Object.{items}
+use Rattle.trace_pipeline.specs.reading.Object.{items}
 use Rattle.serde_json.specs.Data.{string}
-use Rattle.trace_pipeline.proofs.Adding.{begun, then, retold, item_added, items_added}
+use Rattle.trace_pipeline.proofs.texts.AddsLemmas.{begun, then, retold, item_added, items_added}
 use Rattle.trace_pipeline.proofs.write.attribute.add_texts.Goals as goal
 
 pub loop-text-init : goal.loop-text-init

@@ -1,7 +1,7 @@
 use Rattle.std.proofs.Common.{◌≡◌, ◌++◌, arith, get_or, take, rules}
 use Rattle.json.specs.Print.{escape, escape_byte}
 use Rattle.std.proofs.lemmas.List.{take_rest}
-use Rattle.trace_pipeline.proofs.Escapes.{run_added, all_added}
+use Rattle.trace_pipeline.proofs.texts.EscapesLemmas.{run_added, all_added}
 use Rattle.trace_pipeline.proofs.write.escape.add_escaped.Goals as goal
 
 pub loop-run-preserved : goal.loop-run-preserved

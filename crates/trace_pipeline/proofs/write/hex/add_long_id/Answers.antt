@@ -1,5 +1,5 @@
 use Rattle.std.proofs.Common.{refl}
-use Rattle.trace_pipeline.proofs.Adding.{retold}
+use Rattle.trace_pipeline.proofs.texts.AddsLemmas.{retold}
 use Rattle.trace_pipeline.proofs.write.hex.add_long_id.Goals as goal
 
 pub add_plain-requires : goal.add_plain-requires

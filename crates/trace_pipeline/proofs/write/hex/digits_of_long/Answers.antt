@@ -1,6 +1,6 @@
 -- What the buffer holds is UTF-8, and needs no escape.
 use Rattle.std.proofs.Common.{arith}
-use Rattle.trace_pipeline.proofs.Hex.{long_buffer_utf8, long_buffer_plain}
+use Rattle.trace_pipeline.proofs.texts.HexLemmas.{long_buffer_utf8, long_buffer_plain}
 use Rattle.trace_pipeline.proofs.write.hex.digits_of_long.Goals as goal
 
 pub returns-clause-utf8 : goal.returns-clause-utf8

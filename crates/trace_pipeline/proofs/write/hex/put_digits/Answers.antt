@@ -1,7 +1,7 @@
 -- Each turn puts down one digit, and the last leaves none.
 use Rattle.std.proofs.Common.{◌∙◌, sym, arith}
 use Rattle.std.proofs.Math.ListN.{length-set}
-use Rattle.trace_pipeline.proofs.Hex.{digit_put, all_put, last_digits-onto}
+use Rattle.trace_pipeline.proofs.texts.HexLemmas.{digit_put, all_put, last_digits-onto}
 use Rattle.trace_pipeline.proofs.write.hex.put_digits.Goals as goal
 
 pub loop-at-preserved : goal.loop-at-preserved

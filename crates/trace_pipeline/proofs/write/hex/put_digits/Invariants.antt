@@ -1,6 +1,6 @@
 -- what is written, with the digits that are left in front of it, is all
 use Rattle.std.proofs.Common.{◌≡◌, ◌+◌, ◌-◌, ◌≤◌, drop, length}
-use Rattle.trace_pipeline.proofs.Hex.{last_digits}
+use Rattle.trace_pipeline.proofs.texts.HexLemmas.{last_digits}
 use Rattle.trace_pipeline.proofs.write.hex.put_digits.Given as goal
 
 abbrev pub invariant-loop-at : goal.invariant-loop-at

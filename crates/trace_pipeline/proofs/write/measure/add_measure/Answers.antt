@@ -3,9 +3,9 @@ use Rattle.std.specs.Fmt.{signed_decimal}
 use Rattle.json.specs.Print.{escape_byte}
 use Rattle.serde_json.specs.Find.{of_integer}
 use Rattle.serde_json.specs.Written.{number_text}
-use Rattle.trace_pipeline.specs.Writes.{Adds}
-use Rattle.trace_pipeline.proofs.Adding.{then, retold}
-use Rattle.trace_pipeline.proofs.Written.{integer_text}
+use Rattle.trace_pipeline.specs.text.Writes.{Adds}
+use Rattle.trace_pipeline.proofs.texts.AddsLemmas.{then, retold}
+use Rattle.trace_pipeline.proofs.texts.IntegersLemmas.{integer_text}
 use Rattle.trace_pipeline.proofs.write.measure.add_measure.Goals as goal
 
 pub returns : goal.returns

@@ -1,6 +1,6 @@
 use Rattle.std.proofs.Common.{◌≡◌, refl, rules}
 use Rattle.std.specs.Fmt.{signed_decimal}
-use Rattle.trace_pipeline.proofs.Adding.{then, retold}
+use Rattle.trace_pipeline.proofs.texts.AddsLemmas.{then, retold}
 use Rattle.trace_pipeline.proofs.write.pieces.add_integer.Goals as goal
 
 pub returns : goal.returns

@@ -1,5 +1,5 @@
 use Rattle.std.proofs.Common.{refl}
-use Rattle.trace_pipeline.proofs.Adding.{then, retold}
+use Rattle.trace_pipeline.proofs.texts.AddsLemmas.{then, retold}
 use Rattle.trace_pipeline.proofs.write.pieces.add_number.Goals as goal
 
 pub returns : goal.returns

@@ -1,5 +1,5 @@
 use Rattle.std.proofs.Common.{◌≡◌, ◌++◌, [], ◌∷◌, rules}
-use Rattle.trace_pipeline.proofs.Adding.{quoted_plain}
+use Rattle.trace_pipeline.proofs.texts.AddsLemmas.{quoted_plain}
 use Rattle.trace_pipeline.proofs.write.pieces.add_plain.Goals as goal
 
 pub returns : goal.returns

@@ -1,6 +1,6 @@
 use Rattle.std.proofs.Common.{◌≡◌, ◌++◌, [], ◌∷◌, rules}
 use Rattle.json.specs.Print.{escape}
-use Rattle.trace_pipeline.proofs.Adding.{quoted_added}
+use Rattle.trace_pipeline.proofs.texts.AddsLemmas.{quoted_added}
 use Rattle.trace_pipeline.proofs.write.pieces.add_text.Goals as goal
 
 pub returns : goal.returns

@@ -1,8 +1,8 @@
 use Rattle.std.proofs.Common.{◌++◌, [], ◌∷◌, false, refl, ap, arith}
 use Rattle.serde_json.specs.Written.{compact_text, comma_if, items_text}
-use Rattle.trace_pipeline.specs.Object.{items}
-use Rattle.trace_pipeline.specs.RecordData.{link_data}
-use Rattle.trace_pipeline.proofs.Adding.{begun, then, retold, item_added, items_added}
+use Rattle.trace_pipeline.specs.reading.Object.{items}
+use Rattle.trace_pipeline.specs.values.RecordData.{link_data}
+use Rattle.trace_pipeline.proofs.texts.AddsLemmas.{begun, then, retold, item_added, items_added}
 use Rattle.trace_pipeline.proofs.write.record.add_links.Goals as goal
 
 pub loop-link-init : goal.loop-link-init

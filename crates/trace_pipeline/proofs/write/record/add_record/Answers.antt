@@ -3,11 +3,11 @@ use Rattle.std.proofs.Common.{◌≡◌, ℕ, List, ◌++◌, codes, decimal, re
 use Rattle.otel_base.specs.declared.record.Record.{Record}
 use Rattle.json.specs.Print.{escape_byte, quoted}
 use Rattle.serde_json.specs.Written.{compact_text}
-use Rattle.trace_pipeline.specs.Hex.{hex16, hex32}
-use Rattle.trace_pipeline.specs.Object.{array_of}
-use Rattle.trace_pipeline.specs.RecordData.{attributes_data, event_data, kind_name, link_data, status_data, lane_text, record_object}
-use Rattle.trace_pipeline.specs.Writes.{Adds}
-use Rattle.trace_pipeline.proofs.Adding.{then, retold}
+use Rattle.trace_pipeline.specs.text.Hex.{hex16, hex32}
+use Rattle.trace_pipeline.specs.reading.Object.{array_of}
+use Rattle.trace_pipeline.specs.values.RecordData.{attributes_data, event_data, kind_name, link_data, status_data, lane_text, record_object}
+use Rattle.trace_pipeline.specs.text.Writes.{Adds}
+use Rattle.trace_pipeline.proofs.texts.AddsLemmas.{then, retold}
 use Rattle.trace_pipeline.proofs.write.record.add_record.Goals as goal
 
 -- the pieces of a record, whose parts are told by their texts

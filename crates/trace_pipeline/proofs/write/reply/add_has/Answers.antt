@@ -1,6 +1,6 @@
 use Rattle.std.proofs.Common.{refl}
 use Rattle.json.specs.Print.{escape_byte}
-use Rattle.trace_pipeline.proofs.Adding.{then, retold}
+use Rattle.trace_pipeline.proofs.texts.AddsLemmas.{then, retold}
 use Rattle.trace_pipeline.proofs.write.reply.add_has.Goals as goal
 
 pub returns : goal.returns

@@ -2,7 +2,7 @@ use Rattle.std.proofs.Common.{rules, ◌≡◌, ◌<◌, ◌++◌, [], ◌∷◌
 use Rattle.std.specs.Prelude.{IfOk}
 use Rattle.trace_pipeline.specs.Lines.{lines_of}
 use Rattle.trace_pipeline.specs.Report.{report_from}
-use Rattle.trace_run.specs.Breaks.{whole_lines}
+use Rattle.trace_run.specs.reading.Breaks.{whole_lines}
 use Rattle.trace_run.proofs.ProgressLemmas.{lines_kept}
 use Rattle.trace_run.proofs.progress.Progress.end.Goals as goal
 

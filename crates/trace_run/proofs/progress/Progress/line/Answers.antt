@@ -1,7 +1,7 @@
 use Rattle.std.proofs.Common.{rules, ◌≡◌, ◌++◌, [], ◌∷◌, ℕ, List, length, subst, ◌∙◌}
 use Rattle.std.proofs.lemmas.List.{nil_from_length}
-use Rattle.trace_run.specs.Answers.{AnswersTo}
-use Rattle.trace_run.specs.Breaks.{whole_lines}
+use Rattle.trace_run.specs.reading.Answers.{AnswersTo}
+use Rattle.trace_run.specs.reading.Breaks.{whole_lines}
 use Rattle.trace_run.proofs.ProgressLemmas.{ended, ended_whole, on_ok_then}
 use Rattle.trace_run.proofs.progress.Progress.line.Goals as goal
 

@@ -3,7 +3,7 @@ use Rattle.std.proofs.Common.{inl, inr, sym, subst, ◌∙◌, refl}
 use Rattle.std.proofs.lemmas.Bool.{true≢false}
 use Rattle.futures.specs.Task.{Holds}
 use Rattle.futures.specs.declared.task.context.Context.{Context}
-use Rattle.trace_tasks.proofs.Polling.{IsAct, act_or, polling_more, lent_more, called_more, polling_first, polled_wants}
+use Rattle.trace_tasks.proofs.polls.StepsSoFarLemmas.{IsAct, act_or, polling_more, lent_more, called_more, polling_first, polled_wants}
 use Rattle.trace_tasks.proofs.running.RunningTracedFuture.poll_in.Goals as goal
 use Rattle.trace_tasks.proofs.running.RunningTracedFuture.poll_in.Goals.{in-Yield, in_default-matches}
 

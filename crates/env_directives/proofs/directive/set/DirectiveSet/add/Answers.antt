@@ -1,4 +1,4 @@
-use Rattle.env_directives.proofs.Placed.{sorted_placed}
+use Rattle.env_directives.proofs.tables.PlacesLemmas.{sorted_placed}
 use Rattle.env_directives.proofs.directive.set.DirectiveSet.add.Goals as goal
 
 pub invariant_of-self-2 : goal.invariant_of-self-2

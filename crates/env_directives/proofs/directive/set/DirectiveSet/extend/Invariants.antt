@@ -1,5 +1,5 @@
 use Rattle.std.specs.Vec.Iter.{into_iter_items}
-use Rattle.env_directives.proofs.Adding.{Adding}
+use Rattle.env_directives.proofs.tables.AddsLemmas.{Adding}
 use Rattle.env_directives.proofs.directive.set.DirectiveSet.extend.Given as goal
 
 abbrev pub invariant-loop-directive : goal.invariant-loop-directive

@@ -1,5 +1,5 @@
 use Rattle.std.specs.Str.{trim}
-use Rattle.env_directives.proofs.Readings.{answer_is, fault_is}
+use Rattle.env_directives.proofs.forms.ReadingsLemmas.{answer_is, fault_is}
 use Rattle.env_directives.proofs.env.directive.Directive.parse.Goals as goal
 
 pub returns-clause-ok : goal.returns-clause-ok

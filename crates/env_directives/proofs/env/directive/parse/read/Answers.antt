@@ -1,6 +1,6 @@
 use Rattle.std.proofs.Common.{sym, ◌∙◌}
-use Rattle.env_directives.proofs.BracketsCut.{bracket_answers}
-use Rattle.env_directives.proofs.Patterned.{head_patterned, last_patterned, level_patterned}
+use Rattle.env_directives.proofs.cuts.BracketsLemmas.{bracket_answers}
+use Rattle.env_directives.proofs.forms.KeptPatternsLemmas.{head_patterned, last_patterned, level_patterned}
 use Rattle.env_directives.proofs.env.directive.parse.read.Goals as goal
 
 pub returns-in_ok-target-in-Some-clause-is : goal.returns-in_ok-target-in-Some-clause-is

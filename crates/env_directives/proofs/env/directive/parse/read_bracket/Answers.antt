@@ -1,6 +1,6 @@
 use Rattle.std.proofs.Common.{sym, ◌∙◌}
-use Rattle.env_directives.proofs.BracketsCut.{span_answers}
-use Rattle.env_directives.proofs.Patterned.{end_patterned}
+use Rattle.env_directives.proofs.cuts.BracketsLemmas.{span_answers}
+use Rattle.env_directives.proofs.forms.KeptPatternsLemmas.{end_patterned}
 use Rattle.env_directives.proofs.env.directive.parse.read_bracket.Goals as goal
 
 pub returns-in-Some-clause-is : goal.returns-in-Some-clause-is

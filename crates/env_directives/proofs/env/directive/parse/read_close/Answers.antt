@@ -1,4 +1,4 @@
-use Rattle.env_directives.proofs.Behind.{no_bracket}
+use Rattle.env_directives.proofs.cuts.BehindLemmas.{no_bracket}
 use Rattle.env_directives.proofs.env.directive.parse.read_close.Goals as goal
 
 pub returns-in-None : goal.returns-in-None

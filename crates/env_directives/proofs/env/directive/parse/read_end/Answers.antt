@@ -1,5 +1,5 @@
 use Rattle.std.proofs.Common.{sym, ◌∙◌}
-use Rattle.env_directives.proofs.Behind.{no_level}
+use Rattle.env_directives.proofs.cuts.BehindLemmas.{no_level}
 use Rattle.env_directives.proofs.env.directive.parse.read_end.Goals as goal
 
 pub returns-in-None : goal.returns-in-None

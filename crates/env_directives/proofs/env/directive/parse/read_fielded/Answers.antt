@@ -1,4 +1,4 @@
-use Rattle.env_directives.proofs.Patterned.{close_patterned}
+use Rattle.env_directives.proofs.forms.KeptPatternsLemmas.{close_patterned}
 use Rattle.env_directives.proofs.env.directive.parse.read_fielded.Goals as goal
 
 pub returns-clause-patterns : goal.returns-clause-patterns

@@ -2,10 +2,10 @@ use Rattle.std.proofs.Common.{◌≡◌, List, ℕ, [], ◌++◌, length}
 use Rattle.std.specs.List.{AllByRecursion}
 use denote.Text.{Utf8}
 use denote.Shadow.{shadow}
-use Rattle.env_directives.specs.Forms.{each_with_comma, IsField}
-use Rattle.env_directives.specs.Reading.{read_fields}
-use Rattle.env_directives.specs.Values.{HavePatterns}
-use Rattle.env_directives.proofs.FieldsCut.{after_fields}
+use Rattle.env_directives.specs.reading.Forms.{each_with_comma, IsField}
+use Rattle.env_directives.specs.reading.Reading.{read_fields}
+use Rattle.env_directives.specs.reading.Values.{HavePatterns}
+use Rattle.env_directives.proofs.cuts.FieldsLemmas.{after_fields}
 use Rattle.env_directives.proofs.env.directive.parse.read_fields.Given as goal
 
 abbrev pub invariant-fields : goal.invariant-fields

@@ -1,5 +1,5 @@
 use Rattle.std.proofs.Common.{sym, ◌∙◌}
-use Rattle.env_directives.proofs.Patterned.{plain_patterned}
+use Rattle.env_directives.proofs.forms.KeptPatternsLemmas.{plain_patterned}
 use Rattle.env_directives.proofs.env.field.ValueMatch.parse.Goals as goal
 
 pub returns-in-Some-clause-pattern : goal.returns-in-Some-clause-pattern

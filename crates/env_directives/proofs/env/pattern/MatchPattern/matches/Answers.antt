@@ -3,7 +3,7 @@ use Rattle.regex.specs.Patterns.{find_str}
 use Rattle.regex.specs.Strings.{regex_pattern}
 use Rattle.regex.specs.declared.string.regex.Regex.{Regex}
 use Rattle.env_directives.specs.Patterns.{IsCompiled}
-use Rattle.env_directives.proofs.Matching.{found_as_matched}
+use Rattle.env_directives.proofs.forms.PatternsLemmas.{found_as_matched}
 use Rattle.env_directives.proofs.env.pattern.MatchPattern.matches.Goals as goal
 
 pub returns : goal.returns

@@ -1,6 +1,6 @@
 -- The layer is there.
 use Rattle.std.proofs.Common.{subst, Option, ◌≡◌, true, ℕ}
-use Rattle.trace_base.specs.Unseeing.{unseeing}
+use Rattle.trace_base.specs.layers.Unseeing.{unseeing}
 use Rattle.env_filter.specs.Reloading.{if_there}
 use Rattle.env_filter.proofs.reload.hooks.LayerLayer.on_close.Goals as goal
 

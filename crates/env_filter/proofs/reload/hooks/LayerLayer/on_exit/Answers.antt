@@ -1,7 +1,7 @@
 -- The layer is there.
 use Rattle.std.proofs.Common.{subst, Option, ◌≡◌, true}
-use Rattle.trace_base.specs.Unseeing.{unseeing}
-use Rattle.trace_base.specs.Contexts.{AreAttached}
+use Rattle.trace_base.specs.layers.Unseeing.{unseeing}
+use Rattle.trace_base.specs.lanes.Contexts.{AreAttached}
 use Rattle.env_filter.specs.Reloading.{if_there, none_kept}
 use Rattle.env_filter.proofs.reload.hooks.LayerLayer.on_exit.Goals as goal
 

@@ -1,7 +1,7 @@
 use Rattle.std.proofs.Common.{◌∙◌, ap, sym, get_or, List, Some}
 use Rattle.serde_json.specs.Find.{get_member}
-use Rattle.trace_pipeline.specs.Compact.{plain_data, members_of}
-use Rattle.trace_pipeline.proofs.Plainly.{Entry}
+use Rattle.trace_pipeline.specs.text.Compact.{plain_data, members_of}
+use Rattle.trace_pipeline.proofs.readings.CompactLemmas.{Entry}
 use Rattle.trace_pipeline.proofs.read.flat.FlatMembers.take.Goals as goal
 
 pub returns-in-Some-clause-found : goal.returns-in-Some-clause-found

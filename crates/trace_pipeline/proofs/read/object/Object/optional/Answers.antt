@@ -1,7 +1,7 @@
 use Rattle.std.proofs.Common.{◌∙◌, Some, ap, sym}
 use Rattle.serde_json.specs.Find.{get_member}
-use Rattle.trace_pipeline.specs.Left.{left}
-use Rattle.trace_pipeline.proofs.Members.{found}
+use Rattle.trace_pipeline.specs.reading.Left.{left}
+use Rattle.trace_pipeline.proofs.readings.MembersLemmas.{found}
 use Rattle.trace_pipeline.proofs.read.object.Object.optional.Goals as goal
 
 pub returns-in-Some-remove-clause-found : goal.returns-in-Some-remove-clause-found

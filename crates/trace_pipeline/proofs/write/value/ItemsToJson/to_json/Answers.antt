@@ -2,7 +2,7 @@
 use Rattle.std.proofs.Common.{map, ap, ◌∙◌, arith}
 use Rattle.std.proofs.lemmas.List.{take_all}
 use Rattle.serde_json.proofs.Views.{view-Array}
-use Rattle.trace_pipeline.proofs.Objects.{array_of_values}
+use Rattle.trace_pipeline.proofs.readings.ObjectsLemmas.{array_of_values}
 use Rattle.trace_pipeline.proofs.write.value.ItemsToJson.to_json.Goals as goal
 
 pub returns : goal.returns

@@ -1,0 +1,97 @@
+-- Heads and brackets that are read one cut after the other.
+use Rattle.std.proofs.Common.{◌≡◌, ℕ, Bool, true, List, [], ◌∷◌, ◌++◌, Some, Option, Result, Ok, Err, refl, sym, ap, ◌∙◌, arith, subst, codes}
+use Rattle.std.specs.Prelude.{IfSome}
+use Rattle.std.proofs.lemmas.Bool.Decides.{nat_tests}
+use Rattle.trace_base.specs.declared.level.LevelFilter.TheVariants.{TRACE}
+use Rattle.env_directives.specs.reading.Cuts.{cut, is_among, lacks}
+use Rattle.env_directives.specs.reading.Faults.{HasNoPattern}
+use Rattle.env_directives.specs.reading.Forms.{begins, unless_empty, target_at}
+use Rattle.env_directives.specs.reading.Reading.{Answers, read_fields, read_fielded, read_bracket, reading, LeadsToNoPattern, SpanLeadsToNoPattern}
+use Rattle.env_directives.specs.declared.directive.ParseError.{ParseError}
+use Rattle.env_directives.specs.declared.directive.ParseError.TheVariants.{Shape, Level, Field, Pattern, Equals, Fields, Memory}
+use Rattle.env_directives.specs.declared.env.directive.Directive.{Directive}
+use Rattle.env_directives.proofs.cuts.CutsLemmas.{cut_joined, cut_front, cut_stop, cut_off}
+
+-- what a cut gives: the text is joined of its pieces, and these are a front without stops and a stop
+module _ (stops text front rest : List ℕ) (stop : ℕ) (is_front : front ≡ (cut stops text).front) (is_stop : Some stop ≡ (cut stops text).stop)
+    (is_rest : rest ≡ (cut stops text).rest) where
+  pub pieces_joined : text ≡ front ++ stop ∷ rest
+  pieces_joined = rw (is_front, is_rest) (subst (λ (o : Option ℕ). text ≡ (cut stops text).front ++ cut_off o (cut stops text).rest) (sym is_stop) (cut_joined stops text))
+
+  pub piece_among : is_among stops stop ≡ true
+  piece_among = subst (λ (o : Option ℕ). IfSome o (λ s. is_among stops s ≡ true)) (sym is_stop) (cut_stop stops text)
+
+  pub piece_lacks : lacks stops front ≡ true
+  piece_lacks = subst (λ (f : List ℕ). lacks stops f ≡ true) (sym is_front) (cut_front stops text)
+
+-- behind a span's name stands an opening brace
+module _ (patterns : Bool) (d : Directive) (text front rest : List ℕ) (stop : ℕ) (is_front : front ≡ (cut (codes "]{") text).front)
+    (is_stop : Some stop ≡ (cut (codes "]{") text).stop) (is_rest : rest ≡ (cut (codes "]{") text).rest) (other : stop ≡ 93 → ⊥) where
+  brace : stop ≡ 123
+  brace = let among : is_among (codes "]{") stop ≡ true = piece_among (codes "]{") text front rest stop is_front is_stop is_rest in grind (arith, nat_tests)
+
+  pub span_cut : read_bracket patterns d text ≡ read_fielded (record d { in_span = unless_empty front }) (read_fields patterns [] rest)
+  unfolding read_bracket
+  span_cut = rw (← is_front, ← is_stop, ← is_rest, brace) refl
+
+  pub span_leads : LeadsToNoPattern rest → SpanLeadsToNoPattern text
+  span_leads leads = record {
+    span = front;
+    more = rest;
+    part = piece_lacks (codes "]{") text front rest stop is_front is_stop is_rest;
+    whole = subst (λ (s : ℕ). text ≡ front ++ s ∷ rest) brace (pieces_joined (codes "]{") text front rest stop is_front is_stop is_rest);
+    leads = leads;
+  }
+
+  -- what is answered to fields
+  pub span_answers : (r : Result Directive ParseError) →
+      Answers (λ d. d) patterns (LeadsToNoPattern rest) r (read_fielded (record d { in_span = unless_empty front }) (read_fields patterns [] rest)) →
+      Answers (λ d. d) patterns (SpanLeadsToNoPattern text) r (read_bracket patterns d text)
+  span_answers (Ok read) h = span_cut ∙ h
+  span_answers (Err Memory) h = tt
+  span_answers (Err Pattern) h = (h.0, span_leads h.1)
+  span_answers (Err Shape) h = span_cut ∙ h
+  span_answers (Err Level) h = span_cut ∙ h
+  span_answers (Err Field) h = span_cut ∙ h
+  span_answers (Err Equals) h = span_cut ∙ h
+  span_answers (Err (Fields many)) h = span_cut ∙ h
+
+-- behind a head stands an opening bracket
+module _ (patterns : Bool) (text front rest : List ℕ) (stop : ℕ) (start : begins text ≡ true) (is_front : front ≡ (cut (codes "=[,") text).front)
+    (is_stop : Some stop ≡ (cut (codes "=[,") text).stop) (is_rest : rest ≡ (cut (codes "=[,") text).rest)
+    (no_comma : stop ≡ 44 → ⊥) (no_level : stop ≡ 61 → ⊥) where
+  bracket : stop ≡ 91
+  bracket = let among : is_among (codes "=[,") stop ≡ true = piece_among (codes "=[,") text front rest stop is_front is_stop is_rest in grind (arith, nat_tests)
+
+  head_cut : reading patterns text ≡ read_bracket patterns (target_at front TRACE) rest
+  unfolding reading
+  head_cut = rw (start, ← is_front, ← is_stop, ← is_rest, bracket) refl
+
+  head_leads : SpanLeadsToNoPattern rest → HasNoPattern text
+  head_leads inner = record {
+    start = start;
+    head = front;
+    span = inner.span;
+    earlier = inner.leads.earlier;
+    field = inner.leads.field;
+    stop = inner.leads.stop;
+    more = inner.leads.more;
+    parts = (piece_lacks (codes "=[,") text front rest stop is_front is_stop is_rest, inner.part, inner.leads.parts);
+    part = inner.leads.part;
+    stops = inner.leads.stops;
+    whole =
+        subst (λ (s : ℕ). text ≡ front ++ s ∷ rest) bracket (pieces_joined (codes "=[,") text front rest stop is_front is_stop is_rest)
+        ∙ ap (λ (t : List ℕ). front ++ 91 ∷ t) (inner.whole ∙ ap (λ (t : List ℕ). inner.span ++ 123 ∷ t) inner.leads.whole);
+    value = inner.leads.value;
+  }
+
+  pub bracket_answers : (r : Result Directive ParseError) → Answers (λ d. d) patterns (SpanLeadsToNoPattern rest) r (read_bracket patterns (target_at front TRACE) rest) →
+      Answers (λ d. d) patterns (HasNoPattern text) r (reading patterns text)
+  bracket_answers (Ok d) h = head_cut ∙ h
+  bracket_answers (Err Memory) h = tt
+  bracket_answers (Err Pattern) h = (h.0, head_leads h.1)
+  bracket_answers (Err Shape) h = head_cut ∙ h
+  bracket_answers (Err Level) h = head_cut ∙ h
+  bracket_answers (Err Field) h = head_cut ∙ h
+  bracket_answers (Err Equals) h = head_cut ∙ h
+  bracket_answers (Err (Fields many)) h = head_cut ∙ h

@@ -1,0 +1,2 @@
+-- What the traits of layers ask to be shown.
+pub mod HookLemmas

@@ -1,0 +1,138 @@
+-- What the calls so far say of a span's level and of a lane's levels.
+use Rattle.std.specs.Prelude.{◌≡◌, ℕ, ◌≤◌, ◌==◌, if◌then◌else◌, Bool, false, List, [], ◌∷◌, ◌++◌, Option, Some, None, is_some, flat_map, fold}
+use Rattle.std.specs.List.{list_any, list_all, filter}
+use Rattle.trace_base.specs.declared.callsite.Callsite.{Callsite}
+use Rattle.trace_base.specs.declared.field.Value.{Value}
+use Rattle.trace_base.specs.declared.level.LevelFilter.{LevelFilter}
+use Rattle.trace_base.specs.declared.level.LevelFilter.TheVariants.{OFF}
+use Rattle.trace_base.specs.words.Level.{greatest_verbosity}
+use Rattle.trace_base.specs.layers.Hooks.{Hook, OnNewSpan, OnRecord, OnFollows, OnEvent, OnEnter, OnExit, OnClose}
+use Rattle.env_directives.specs.declared.env.directive.Directive.{Directive}
+use Rattle.env_directives.specs.orders.Table.{more_verbose}
+use Rattle.env_filter.specs.declared.watch.Care.{Care}
+use Rattle.env_filter.specs.spans.Levels.{Opened, levels_of}
+use Rattle.env_filter.specs.Filtering.{Filtered, fresh, after}
+use Rattle.env_filter.specs.spans.Kept.{opened, closed}
+use Rattle.env_filter.specs.spans.Watching.{is_given, cares_of}
+
+-- the callsite of a span, if the call makes it
+abbrev pub makes_of : ℕ → Hook → Option Callsite
+makes_of q (OnNewSpan id lane at parent current callsite values) = if id == q then Some callsite else None
+makes_of q (OnRecord id at callsite values) = None
+makes_of q (OnFollows id from at) = None
+makes_of q (OnEvent reached lane at callsite values) = None
+makes_of q (OnEnter id at before later) = None
+makes_of q (OnExit id at before later) = None
+makes_of q (OnClose id at) = None
+
+-- the values that a call gives a span, at its making or by a record
+abbrev pub gives : ℕ → Hook → List (ℕ × Value)
+gives q (OnNewSpan id lane at parent current callsite values) = if id == q then values.pairs else []
+gives q (OnRecord id at callsite values) = if id == q then values.pairs else []
+gives q (OnFollows id from at) = []
+gives q (OnEvent reached lane at callsite values) = []
+gives q (OnEnter id at before later) = []
+gives q (OnExit id at before later) = []
+gives q (OnClose id at) = []
+
+-- whether a call closes a span
+abbrev pub ends : ℕ → Hook → Bool
+ends q (OnClose id at) = id == q
+ends q (OnNewSpan id lane at parent current callsite values) = false
+ends q (OnRecord id at callsite values) = false
+ends q (OnFollows id from at) = false
+ends q (OnEvent reached lane at callsite values) = false
+ends q (OnEnter id at before later) = false
+ends q (OnExit id at before later) = false
+
+-- the callsite by which a span was made under the filter, if it was
+abbrev pub made_by : ℕ → List Hook → Option Callsite
+made_by q [] = None
+made_by q (call ∷ calls) = if is_some (makes_of q call) then makes_of q call else made_by q calls
+
+-- all values given to a span so far
+abbrev pub given : ℕ → List Hook → List (ℕ × Value)
+given q calls = flat_map (gives q) calls
+
+abbrev pub is_ended : ℕ → List Hook → Bool
+is_ended q calls = list_any (ends q) calls
+
+-- the greatest level of some directives, no less than one
+abbrev pub most_from : LevelFilter → List Care → LevelFilter
+most_from now [] = now
+most_from now (care ∷ cares) = most_from (more_verbose now care.level) cares
+
+-- a directive is met once each value that it asks for was given
+abbrev pub is_met : List (ℕ × Value) → Care → Bool
+is_met values care = list_all (is_given values) care.asks
+
+-- the greatest level of those met, else OFF; no level where no directive cares
+abbrev pub level_by : List (ℕ × Value) → List Care → Option LevelFilter
+level_by values [] = None
+level_by values (care ∷ cares) = Some (most_from OFF (filter (is_met values) (care ∷ cares)))
+
+-- the level by the callsite of a making, and none where there was none
+abbrev pub level_if : List Directive → Option Callsite → List (ℕ × Value) → Option LevelFilter
+level_if ds None values = None
+level_if ds (Some c) values = level_by values (cares_of c ds)
+
+-- a span's level after some calls
+abbrev pub level_told : List Directive → ℕ → List Hook → Option LevelFilter
+level_told ds q calls = if is_ended q calls then None else level_if ds (made_by q calls) (given q calls)
+
+-- what a call makes of a lane's levels: an entry of a span that has a level appends its level of that moment, an exit
+-- takes off the newest that an entry of that span appended
+abbrev pub moved : List Directive → ℕ → List Hook → Hook → List Opened → List Opened
+moved ds lane past (OnEnter id at before later) now = if lane == before.id then opened (level_told ds id past) id now else now
+moved ds lane past (OnExit id at before later) now = if lane == before.id then closed (is_some (level_told ds id past)) id now else now
+moved ds lane past (OnNewSpan id l at parent current callsite values) now = now
+moved ds lane past (OnRecord id at callsite values) now = now
+moved ds lane past (OnFollows id from at) now = now
+moved ds lane past (OnEvent reached l at callsite values) now = now
+moved ds lane past (OnClose id at) now = now
+
+abbrev pub levels_from : List Directive → ℕ → List Hook → List Hook → List Opened → List Opened
+levels_from ds lane past [] now = now
+levels_from ds lane past (call ∷ calls) now = levels_from ds lane (past ++ call ∷ []) calls (moved ds lane past call now)
+
+-- a lane's levels after some calls
+abbrev pub levels_told : List Directive → ℕ → List Hook → List Opened
+levels_told ds lane calls = levels_from ds lane [] calls []
+
+-- no call so far was of the span
+pub record IsNew (q : ℕ) (past : List Hook) : Type 0 where
+  pub unmade : made_by q past ≡ None
+  pub nothing : given q past ≡ []
+  pub not_ended : is_ended q past ≡ false
+
+abbrev pub IsNext : List Hook → Hook → Type 0
+IsNext past (OnNewSpan id lane at parent current callsite values) = IsNew id past
+IsNext past (OnRecord id at callsite values) = Unit {0}
+IsNext past (OnFollows id from at) = Unit {0}
+IsNext past (OnEvent reached lane at callsite values) = Unit {0}
+IsNext past (OnEnter id at before later) = Unit {0}
+IsNext past (OnExit id at before later) = Unit {0}
+IsNext past (OnClose id at) = Unit {0}
+
+-- each span is made once, before any other call of it
+abbrev pub AreInOrder : List Hook → List Hook → Type 0
+AreInOrder past [] = Unit {0}
+AreInOrder past (call ∷ calls) = IsNext past call × AreInOrder (past ++ call ∷ []) calls
+
+-- the calls since a filter had no span
+pub record HasHeard (f : Filtered) (calls : List Hook) : Type 0 where
+  pub order : AreInOrder [] calls
+  pub now : f ≡ fold after (fresh f) calls
+
+-- a span's level, and a lane's levels, are what those calls tell
+abbrev pub IsLevelTold : Filtered → ℕ → Option LevelFilter → Type 0
+IsLevelTold f id level = (calls : List Hook) → HasHeard f calls → level ≡ level_told f.dynamics.directives id calls
+
+abbrev pub AreLevelsTold : Filtered → ℕ → List LevelFilter → Type 0
+AreLevelsTold f lane levels =
+    (calls : List Hook) → HasHeard f calls → levels ≡ levels_of (levels_told f.dynamics.directives lane calls)
+
+-- where a level is there before and later, it isn't lower later
+abbrev pub NeverFalls : Option LevelFilter → Option LevelFilter → Type 0
+NeverFalls before later =
+    (l m : LevelFilter) → before ≡ Some l → later ≡ Some m → greatest_verbosity l ≤ greatest_verbosity m

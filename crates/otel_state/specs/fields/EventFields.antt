@@ -1,0 +1,93 @@
+-- What the fields of an event tell, of the event and on its span, a row for each case.
+use Rattle.std.specs.Prelude.{ℕ, List, [], ◌∷◌, ◌++◌, Bool, true, false, Option, None, Some, if◌then◌else◌, codes, bytes_eq, fold, ◌&&◌}
+use Rattle.std.specs.Fmt.{signed_decimal}
+use Rattle.otel_base.specs.declared.status.Status.TheVariants.{Error}
+use Rattle.otel_base.specs.declared.value.KeyValue.{KeyValue}
+use Rattle.otel_base.specs.declared.value.OtelValue.TheVariants as told
+use Rattle.trace_base.specs.declared.callsite.Callsite.{Callsite}
+use Rattle.trace_base.specs.declared.field.Value.{Value}
+use Rattle.trace_base.specs.declared.field.Value.TheVariants as given
+use Rattle.trace_base.specs.declared.field.ValueSet.{ValueSet}
+use Rattle.trace_base.specs.declared.level.Level.{Level}
+use Rattle.trace_base.specs.declared.level.Level.TheVariants as level
+use Rattle.otel_state.specs.declared.fields.event.Event.{Event}
+use Rattle.otel_state.specs.declared.op.Op.{Op}
+use Rattle.otel_state.specs.declared.op.Op.TheVariants as ops
+use Rattle.otel_state.specs.declared.settings.LayerSettings.{LayerSettings}
+use Rattle.otel_state.specs.fields.Fields.{by_name, with_text, with_number, wanted, location, level_attribute, target_attribute, plain_text, debug_text, as_exception, as_field}
+
+-- each event tells its level and its target first; the name is empty while there is none
+abbrev pub begun_event : Callsite → Event
+begun_event c = record {
+  name = [];
+  attributes = level_attribute c ++ target_attribute c;
+  status = None;
+  on_span = [];
+}
+
+abbrev pub with_attribute : Event → KeyValue → Event
+with_attribute e attribute = record e { attributes = e.attributes ++ attribute ∷ [] }
+
+abbrev pub no_name : List ℕ → Bool
+no_name [] = true
+no_name (b ∷ bs) = false
+
+-- the special error, whose description is in debug form
+abbrev pub with_error : LayerSettings → Event → List ℕ → Event
+with_error settings e description = record e {
+  name = if settings.error_events_to_exceptions then codes "exception" else e.name;
+  attributes = e.attributes ++ with_text (if settings.error_events_to_exceptions then codes "exception.message" else codes "error") description ∷ [];
+  status = if settings.error_events_to_status then Some (Error description) else e.status;
+}
+
+-- the field `message` names the event, and `error` is special while it has no name
+abbrev pub with_told : LayerSettings → Event → List ℕ → (text debug : List ℕ) → Event
+with_told settings e name text debug =
+    if bytes_eq name (codes "message") then record e { name = text } else
+    if bytes_eq name (codes "error") && no_name e.name then with_error settings e debug else
+    with_attribute e (with_text name text)
+
+abbrev pub with_texts : LayerSettings → Event → List ℕ → Option (List ℕ) → Option (List ℕ) → Event
+with_texts settings e name (Some text) (Some debug) = with_told settings e name text debug
+with_texts settings e name _ _ = e
+
+-- a truth value or a number: its own print names the event, or it is an attribute
+abbrev pub with_printed : Event → KeyValue → List ℕ → Event
+with_printed e attribute printed = if bytes_eq attribute.key (codes "message") then record e { name = printed } else with_attribute e attribute
+
+abbrev pub bool_text : Bool → List ℕ
+bool_text true = codes "true"
+bool_text false = codes "false"
+
+-- an error under any name, which may be an exception of the event and of the span
+abbrev pub with_error_value : LayerSettings → Event → (name message : List ℕ) → List (List ℕ) → Event
+with_error_value settings e name message chain = record e {
+  attributes = e.attributes ++ wanted settings.error_fields_to_exceptions (as_exception message chain) ++ as_field name message chain;
+  on_span = e.on_span ++ wanted settings.error_records_to_exceptions (as_exception message chain);
+}
+
+-- what a value tells under a name
+abbrev pub with_field : LayerSettings → Event → List ℕ → Value → Event
+with_field settings e name (given.Bool b) = with_printed e (record { key = name; value = told.Bool b }) (bool_text b)
+with_field settings e name (given.I64 n) = with_printed e (with_number name n) (signed_decimal n)
+with_field settings e name (given.Error message chain) = with_error_value settings e name message chain
+with_field settings e name value = with_texts settings e name (plain_text value) (debug_text value)
+
+abbrev pub is_error : Level → Bool
+is_error level.ERROR = true
+is_error _ = false
+
+-- a name, or another where it is empty
+abbrev pub name_or : List ℕ → List ℕ → List ℕ
+name_or name other = if no_name name then other else name
+
+-- the op of an event: without a name it has that of its callsite, and the location comes last
+abbrev pub finished : Event → Callsite → LayerSettings → ℕ → Op
+finished e c settings at =
+    ops.Event (is_error c.level)
+    (record { name = None; kind = None; status = e.status; attributes = e.on_span })
+    (record { name = name_or e.name c.name; time = at; attributes = e.attributes ++ wanted settings.location (location c) })
+
+-- what an event of a callsite with some fields does at a moment
+abbrev pub event_of : Callsite → ValueSet → LayerSettings → ℕ → Op
+event_of c values settings at = finished (fold (by_name (with_field settings) c) (begun_event c) values.pairs) c settings at

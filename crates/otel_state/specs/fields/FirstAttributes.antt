@@ -1,0 +1,19 @@
+-- The attributes that a span has from its making.
+use Rattle.std.specs.Prelude.{pos, List, ◌∷◌, ◌++◌, codes, min}
+use Rattle.otel_base.specs.declared.value.KeyValue.{KeyValue}
+use Rattle.trace_base.specs.declared.callsite.Callsite.{Callsite}
+use Rattle.trace_base.specs.declared.lane.Lane.{Lane}
+use Rattle.otel_state.specs.declared.times.TheConstants.{GREATEST}
+use Rattle.otel_state.specs.declared.settings.LayerSettings.{LayerSettings}
+use Rattle.otel_state.specs.fields.Fields.{with_number, wanted, known_text, location, level_attribute, target_attribute}
+
+-- a lane's id, which stands still at the greatest number of 63 bits, and its name if it has one
+abbrev pub lane_attributes : Lane → List KeyValue
+lane_attributes lane = with_number (codes "thread.id") (pos (min lane.id GREATEST)) ∷ known_text (codes "thread.name") lane.name
+
+abbrev pub first_attributes : Callsite → Lane → LayerSettings → List KeyValue
+first_attributes c lane settings =
+    wanted settings.location (location c)
+    ++ wanted settings.threads (lane_attributes lane)
+    ++ wanted settings.level (level_attribute c)
+    ++ wanted settings.target (target_attribute c)

@@ -1,0 +1,59 @@
+-- What a span's record tells, by its ops in the history.
+use Rattle.std.proofs.Common.{◌≡◌, ℕ, List, [], ◌∷◌, ◌++◌, Bool, refl, sym, ap, subst, ◌∙◌, append_assoc}
+use Rattle.std.specs.Prelude.{IsTrue, is_some}
+use Rattle.std.proofs.lemmas.List.{append-nil}
+use Rattle.otel_base.specs.declared.context.SpanContext.{SpanContext}
+use Rattle.otel_base.specs.declared.record.Record.{Record}
+use Rattle.otel_base.specs.declared.value.KeyValue.{KeyValue}
+use Rattle.otel_state.specs.Content.{attributes_of, counted_of, closing_count, closing_times}
+use Rattle.otel_state.specs.Deeds.{Stamped}
+use Rattle.otel_state.specs.Laws.{TellsTimes, was_entered}
+use Rattle.otel_state.specs.States.{Told, with_all}
+use Rattle.otel_state.specs.Times.{busy_of, last_exit, idle_of}
+use Rattle.otel_state.proofs.AddingUp.{tells_times}
+use Rattle.span_script.specs.Setups.{Setup}
+use Rattle.span_laws.specs.Records.{all_ops}
+use Rattle.span_laws.specs.Telling.{TellsSpan, TellsAttributes}
+use Rattle.span_laws.proofs.records.StoriesLemmas.{IsEnding}
+
+with_all_is : {A : Type 0} (xs ys : List A) → with_all xs ys ≡ xs ++ ys
+with_all_is xs [] = sym (append-nil xs)
+with_all_is xs (y ∷ ys) = refl
+
+module _ (setup : Setup) (first : Told) (done : SpanContext → List Stamped) (place at : ℕ) (r : Record) (rec : IsEnding setup first done place at r) where
+  abbrev all : List Stamped
+  all = all_ops rec.making rec.began.update (done r.context)
+
+  pub span_told : TellsSpan first.made (last_exit (done r.context)) at r
+  span_told = record {
+    start = ap (λ (r : Record). r.start) rec.ends.is ∙ sym (ap (λ (t : Told). t.made) rec.began.is);
+    end = ap (λ (r : Record). r.end) rec.ends.is;
+  }
+
+  pub times_told : IsTrue setup.layer.inactivity → TellsTimes (was_entered (done r.context)) (last_exit (done r.context)) r
+  times_told tracked =
+      let times = tells_times rec.making all at (subst IsTrue (sym rec.began.tracked) tracked) rec.ends.in_order rec.ends.shut in
+      subst (λ (x : Record). TellsTimes (was_entered (done r.context)) (last_exit (done r.context)) x) (sym rec.ends.is) times
+
+  first_attributes_are : first.attributes ≡ rec.making.first ++ rec.began.update.attributes
+  first_attributes_are = ap (λ (t : Told). t.attributes) rec.began.is ∙ with_all_is rec.making.first rec.began.update.attributes
+
+  regroup : (a b c d e : List KeyValue) → a ++ (b ++ c) ++ d ++ e ≡ (a ++ b) ++ c ++ d ++ e
+  regroup a b c d e = simp append_assoc
+
+  pub attributes_told : TellsAttributes setup first.attributes (attributes_of (done r.context)) (counted_of (done r.context)) r
+  attributes_told =
+      let busy = busy_of rec.making.made all in
+      let idle = idle_of (last_exit all) rec.making.made busy in
+      let count = closing_count (is_some setup.counting) (counted_of (done r.context)) in
+      let closing = closing_times setup.layer.inactivity busy idle in
+      record {
+        busy = busy;
+        idle = idle;
+        told =
+            ap (λ (r : Record). r.attributes) rec.ends.is
+            ∙ ap (λ (counting : Bool). rec.making.first ++ attributes_of all ++ closing_count counting (counted_of all) ++ closing_times rec.making.inactivity busy idle) rec.began.counting_is
+            ∙ ap (λ (tracked : Bool). rec.making.first ++ attributes_of all ++ count ++ closing_times tracked busy idle) rec.began.tracked
+            ∙ regroup rec.making.first rec.began.update.attributes (attributes_of (done r.context)) count closing
+            ∙ ap (λ (xs : List KeyValue). xs ++ attributes_of (done r.context) ++ count ++ closing) (sym first_attributes_are);
+      }

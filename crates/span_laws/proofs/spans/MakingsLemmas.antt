@@ -1,0 +1,97 @@
+-- A span that is made begins its story.
+use Rattle.std.proofs.Common.{◌≡◌, ℕ, ◌<◌, ◌≤◌, ◌==◌, List, [], ◌∷◌, ◌++◌, length, Bool, true, fold, Option, Some, None, refl, sym, ap, subst, ◌∙◌, arith, inl, inr}
+use Rattle.std.specs.List.{AllByRecursion}
+use Rattle.std.proofs.lemmas.List.{length_push, get_or_push}
+use Rattle.std.proofs.lemmas.Bool.{cases_eq, eq-eqb, ne_eqb, cond-true, cond-false}
+use Rattle.otel_base.specs.declared.context.SpanContext.{SpanContext}
+use Rattle.otel_state.specs.declared.op.Op.TheVariants as ops
+use Rattle.otel_state.specs.declared.times.TheConstants.{GREATEST}
+use Rattle.otel_state.specs.Content.{Making}
+use Rattle.otel_state.specs.Deeds.{Stamped}
+use Rattle.otel_state.specs.States.{Told, begun, changed}
+use Rattle.otel_layer.specs.Table.{told_at, with_span}
+use Rattle.otel_layer.specs.Recording.{Recording}
+use Rattle.otel_layer.proofs.Finding.{told_at_made}
+use Rattle.span_script.specs.Setups.{Setup}
+use Rattle.span_script.specs.Tables.{Made, with_new, made_of, no_making, with_made}
+use Rattle.span_laws.specs.Records.{Began}
+use Rattle.span_laws.specs.Starts.{with_started, place_in}
+use Rattle.span_laws.proofs.spans.OccurrencesLemmas.{get_push_other}
+use Rattle.span_laws.proofs.spans.PlacesLemmas.{place_none}
+use Rattle.span_laws.proofs.records.RecordingLemmas.{AreStories}
+use Rattle.span_laws.proofs.steps.StepsLemmas.{Begins}
+use Rattle.span_laws.proofs.records.StoriesLemmas.{IsStory, HasId}
+
+-- what spans were made with
+abbrev pub first_of : List Made → ℕ → Told
+first_of ms s = (made_of ms s).told
+
+-- the story of a span that was just made
+begins : (setup : Setup) (told : Told) (done : SpanContext → List Stamped) (opened at : ℕ) (making : Making) → Began setup at told making → ((own : SpanContext) → done own ≡ []) → at ≤ GREATEST → IsStory setup (Some told) told 0 done opened at
+begins setup told done opened at making b undone most = record {
+  told = told;
+  is = refl;
+  making = making;
+  began = record { update = b.update; is = at_making ∙ ap (λ n. changed (begun making) n (ops.Update b.update)) (sym moment); made = sym moment; tracked = b.tracked; counting_is = b.counting_is };
+  later = [];
+  stands = at_making;
+  in_order = (omega arith, let same = b.made in omega (arith, same, most));
+  last = let same = b.made in omega (arith, same);
+  rest = λ own mine. sym (undone own);
+  has_id = subst (λ (t : Told). HasId t.own 0 t.parent) (sym b.is) refl;
+  within = subst (λ (t : Told). t.entries ≤ opened) (sym b.is) (omega arith);
+}
+  where
+    moment : told.made ≡ making.made
+    moment = ap (λ (t : Told). t.made) b.is
+
+    at_making : told ≡ changed (begun making) making.made (ops.Update b.update)
+    at_making = b.is ∙ ap (λ n. changed (begun making) n (ops.Update b.update)) (sym b.made)
+
+-- starts of other spans give no place
+pub starts_spare : (order ids : List ℕ) (n : ℕ) → AllByRecursion (λ s. s < n) ids → place_in (fold with_started order ids) n ≡ place_in order n
+starts_spare order [] n below = refl
+starts_spare order (id ∷ ids) n below =
+    let less : id < n = below.0 in
+    starts_spare (with_started order id) ids n below.1 ∙ place_none order id n (λ e. absurd (omega (arith, e, less)))
+
+module _ (setup : Setup) (order : List ℕ) (done : ℕ → SpanContext → List Stamped) (opened : ℕ → ℕ) (at : ℕ) (most : at ≤ GREATEST) (ms : List Made) (r : Recording) (k : ℕ → Bool) (stories : AreStories setup (first_of ms) order done opened at k (length ms) r)
+    (unplaced : place_in order (length ms) ≡ 0) (undone : (own : SpanContext) → done (length ms) own ≡ []) where
+  pub made_stories : (o : Option Made) → Begins setup at o → (later : ℕ → Bool) → ((s : ℕ) → later s ≡ true → s < length (with_new ms o)) → ((s : ℕ) → later s ≡ true → s < length ms → k s ≡ true)
+      → AreStories setup (first_of (with_new ms o)) order done opened at later (length (with_new ms o)) (with_made (length ms) o r)
+  made_stories None begun later below known = record {
+    each = λ s is. stories.each s (known s is (below s is));
+    fresh = stories.fresh;
+    count = stories.count;
+    settings_are = stories.settings_are;
+    counting_is = stories.counting_is;
+  }
+  made_stories (Some m) begun later below known = record {
+    each = λ s is. elim (cases_eq s (length ms)) [
+      | inl same ↦ subst (λ (q : ℕ). IsStory setup (told_at q (with_span (length ms) m.told r.spans)) (first_of (ms ++ m ∷ []) q) (place_in order q) (done q) (opened q) at) (sym same) mine
+      | inr other ↦ (
+          let count = length_push ms m in
+          let within = below s is in
+          let old : s < length ms = omega (arith, count, within, other) in
+          let read = told_at_made (length ms) s m.told r.spans fresh ∙ cond-false {A = Option Told} (s == length ms) (Some m.told) (told_at s r.spans) (ne_eqb s (length ms) other) in
+          let first = ap (λ (made : Made). made.told) (get_push_other ms m no_making s other) in
+          rw (read, first) (stories.each s (known s is old)))
+    ];
+    fresh = λ s above.
+        let count = length_push ms m in
+        let other : (s ≡ length ms → ⊥) = λ e. absurd (omega (arith, count, above, e)) in
+        told_at_made (length ms) s m.told r.spans fresh ∙ cond-false {A = Option Told} (s == length ms) (Some m.told) (told_at s r.spans) (ne_eqb s (length ms) other)
+        ∙ stories.fresh s (omega (arith, count, above));
+    count = stories.count;
+    settings_are = stories.settings_are;
+    counting_is = stories.counting_is;
+  }
+    where
+      fresh : told_at (length ms) r.spans ≡ None
+      fresh = stories.fresh (length ms) (omega arith)
+
+      mine : IsStory setup (told_at (length ms) (with_span (length ms) m.told r.spans)) (first_of (ms ++ m ∷ []) (length ms)) (place_in order (length ms)) (done (length ms)) (opened (length ms)) at
+      mine =
+          let read = told_at_made (length ms) (length ms) m.told r.spans fresh ∙ cond-true {A = Option Told} (length ms == length ms) (Some m.told) (told_at (length ms) r.spans) (eq-eqb (length ms) (length ms) refl) in
+          let first = ap (λ (made : Made). made.told) (get_or_push ms m no_making (length ms) refl) in
+          rw (read, first, unplaced) (begins setup m.told (done (length ms)) (opened (length ms)) at begun.0 begun.1 undone most)

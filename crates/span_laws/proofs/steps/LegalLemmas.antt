@@ -1,0 +1,23 @@
+-- The history of a script is legal.
+use Rattle.std.proofs.Common.{◌≡◌, List, [], ◌∷◌, ◌++◌, Ok, Err, refl, sym, subst}
+use Rattle.std.proofs.lemmas.List.{append-nil}
+use Rattle.span_script.specs.declared.request.Request.{Request}
+use Rattle.span_script.specs.Setups.{Setup}
+use Rattle.span_script.specs.Tables.{Effect, History, tables}
+use Rattle.span_script.specs.Effects.{Resolved, effect_of}
+use Rattle.span_script.specs.Outcomes.{history_from, history_of}
+use Rattle.span_script.proofs.runs.RunLemmas.{goes_on_with, stays_with}
+use Rattle.span_laws.specs.Laws.{IsHistory, none, more}
+
+legal_by : (setup : Setup) (h : History) (request : Request) (requests : List Request) (r : Resolved) → effect_of setup (tables setup h) request ≡ r → IsHistory setup h
+    → ((e : Effect) → IsHistory setup (h ++ e ∷ []) → IsHistory setup ((h ++ e ∷ []) ++ history_from setup (tables setup (h ++ e ∷ [])) requests))
+    → IsHistory setup (h ++ history_from setup (tables setup h) (request ∷ requests))
+legal_by setup h request requests (Ok e) is legal behind = subst (IsHistory setup) (sym (goes_on_with setup h request requests e is)) (behind e (more h request e legal is))
+legal_by setup h request requests (Err refusal) is legal behind = subst (IsHistory setup) (sym (stays_with setup h request requests refusal is)) legal
+
+legal_from : (setup : Setup) (requests : List Request) (h : History) → IsHistory setup h → IsHistory setup (h ++ history_from setup (tables setup h) requests)
+legal_from setup [] h legal = subst (IsHistory setup) (sym (append-nil h)) legal
+legal_from setup (request ∷ requests) h legal = legal_by setup h request requests (effect_of setup (tables setup h) request) refl legal (λ e. legal_from setup requests (h ++ e ∷ []))
+
+pub scripts_are_legal : (setup : Setup) (requests : List Request) → IsHistory setup (history_of setup requests)
+scripts_are_legal setup requests = legal_from setup requests [] none

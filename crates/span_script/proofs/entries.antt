@@ -1,0 +1,4 @@
+-- Entries and exits.
+pub mod EntriesLemmas
+pub mod EntriesFitLemmas
+pub mod FullLanesLemmas

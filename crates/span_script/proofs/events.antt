@@ -1,0 +1,2 @@
+-- Events, and ops on spans that leave all else as it is.
+pub mod EventsLemmas

@@ -1,0 +1,2 @@
+-- Fields of spans.
+pub mod FieldsLemmas

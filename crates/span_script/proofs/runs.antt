@@ -1,0 +1,5 @@
+-- Pipelines from their beginning to a whole script.
+pub mod BeginLemmas
+pub mod RefusalsLemmas
+pub mod RunLemmas
+pub mod TakeLemmas

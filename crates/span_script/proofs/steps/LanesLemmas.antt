@@ -1,0 +1,210 @@
+-- Lanes, and what every pipeline keeps.
+use Rattle.std.proofs.Common.{◌≡◌, ℕ, Bool, false, zero, suc, ◌<◌, ◌≤◌, List, [], ◌∷◌, length, count_by, get_or, set, Option, Some, None, map, refl, sym, ap, subst, ◌∙◌, arith, inl, inr}
+use Rattle.std.specs.Prelude.{Result, Ok, Err, OnErr, ◌==◌}
+use Rattle.std.proofs.lemmas.Bool.{cases_eq, eq-eqb, ne_eqb, cond-true, cond-false}
+use Rattle.std.proofs.lemmas.List.{length-set, length-map, map-set, get_or-set_same, get_or-set_other}
+use Rattle.trace_base.specs.declared.lane.Lane.{Lane}
+use Rattle.trace_base.specs.Gate.{Worlds}
+use Rattle.trace_base.specs.Spans.{Spans}
+use Rattle.trace_base.specs.lanes.Contexts.{attached_as, AreAttached, KeepsAttached}
+use Rattle.span_handles.specs.Worlds.{Has, Alike, Replaced, seen, spans_in, kept_in}
+use Rattle.span_handles.specs.Handles.{Handle, Held, ReplacedOn}
+use Rattle.span_handles.specs.Entries.{LeavesLane}
+use Rattle.otel_base.specs.declared.context.Context.{Context}
+use Rattle.span_script.specs.declared.slots.Guard.{Guard}
+use Rattle.span_script.specs.declared.contexts.Attach.{Attach}
+use Rattle.otel_layer.specs.Recording.{no_recording}
+use Rattle.span_script.specs.Tables.{Scope, slot_at}
+use Rattle.span_script.proofs.filter.CounterLemmas.{Adds, aside_in, adds_nothing, adds_same}
+use Rattle.span_script.proofs.steps.SlotsLemmas.{find, held_slot}
+use Rattle.span_script.specs.declared.settings.Texts.{Texts}
+use Rattle.span_script.specs.Setups.{id_at, name_at}
+use Rattle.span_script.specs.Fits.{Views, Named, State, state_of, Laned, laned, no_lane, lane_at, held_by, LanesFit, IsKept, held_of}
+
+pub on_err : {T E : Type 0} (result : Result T E) (P : Type 0) → P → OnErr result P
+on_err (Ok v) P p = tt
+on_err (Err e) P p = p
+
+pub within_view : (view k : State) (lanes : List Lane) (n : ℕ) → view ≡ k → view.lanes ≡ map laned lanes → n < length k.lanes → n < length lanes
+within_view view k lanes n same is within = (let a = ap (λ (x : State). length x.lanes) same in let b = ap length is in let c = length-map lanes laned in omega (arith, a, b, c, within))
+
+-- the lane that was written, seen without its room
+pub lane_seen : (lanes : List Lane) (n : ℕ) (before : Lane) → n < length lanes → before ≡ get_or lanes n before → lane_at (map laned lanes) n ≡ laned before
+lane_seen [] n before within is = absurd (omega (arith, within))
+lane_seen (x ∷ xs) zero before within is = ap laned (sym is)
+lane_seen (x ∷ xs) (suc n) before within is = lane_seen xs n before (omega (arith, within)) is
+
+pub lanes_same : (lanes : List Lane) (n : ℕ) (before later : Lane) → n < length lanes → before ≡ get_or lanes n before → laned later ≡ laned before → map laned (set lanes n later) ≡ map laned lanes
+lanes_same [] n before later within is same = refl
+lanes_same (x ∷ xs) zero before later within is same = ap (λ (l : Laned). l ∷ map laned xs) (same ∙ ap laned is)
+lanes_same (x ∷ xs) (suc n) before later within is same = ap (λ (ls : List Laned). laned x ∷ ls) (lanes_same xs n before later (omega (arith, within)) is same)
+
+pub same_lane : (before later : Lane) → later.id ≡ before.id → later.contexts.live ≡ before.contexts.live → laned later ≡ laned before
+same_lane before later id live = rw (id, live) refl
+
+live_count : ℕ → Laned → ℕ
+live_count number l = count_by (λ item. item.0 == number) l.live
+
+-- the id of a lane, as the setup tells it
+pub id_seen : (lanes : List Lane) (n : ℕ) (before : Lane) → n < length lanes → before ≡ get_or lanes n before → before.id ≡ id_at (map (λ (l : Lane). l.id) lanes) n
+id_seen [] n before within is = absurd (omega (arith, within))
+id_seen (x ∷ xs) zero before within is = ap (λ (l : Lane). l.id) is
+id_seen (x ∷ xs) (suc n) before within is = id_seen xs n before (omega (arith, within)) is
+
+pub ids_same : (lanes : List Lane) (n : ℕ) (before later : Lane) → n < length lanes → before ≡ get_or lanes n before → later.id ≡ before.id → map (λ (l : Lane). l.id) (set lanes n later) ≡ map (λ (l : Lane). l.id) lanes
+ids_same [] n before later within is same = refl
+ids_same (x ∷ xs) zero before later within is same = ap (λ (i : ℕ). i ∷ map (λ (l : Lane). l.id) xs) (same ∙ ap (λ (l : Lane). l.id) is)
+ids_same (x ∷ xs) (suc n) before later within is same = ap (λ (is : List ℕ). x.id ∷ is) (ids_same xs n before later (omega (arith, within)) is same)
+
+pub names_same : (lanes : List Lane) (n : ℕ) (before later : Lane) → n < length lanes → before ≡ get_or lanes n before → later.name ≡ before.name → map (λ (l : Lane). l.name) (set lanes n later) ≡ map (λ (l : Lane). l.name) lanes
+names_same [] n before later within is same = refl
+names_same (x ∷ xs) zero before later within is same = ap (λ i. i ∷ map (λ (l : Lane). l.name) xs) (same ∙ ap (λ (l : Lane). l.name) is)
+names_same (x ∷ xs) (suc n) before later within is same = ap (λ is. x.name ∷ is) (names_same xs n before later (omega (arith, within)) is same)
+
+pub name_seen : (lanes : List Lane) (n : ℕ) (before : Lane) → n < length lanes → before ≡ get_or lanes n before → before.name ≡ name_at (map (λ (l : Lane). l.name) lanes) n
+name_seen [] n before within is = absurd (omega (arith, within))
+name_seen (x ∷ xs) zero before within is = ap (λ (l : Lane). l.name) is
+name_seen (x ∷ xs) (suc n) before within is = name_seen xs n before (omega (arith, within)) is
+
+pub are_attached : (kept : ℕ → ℕ → ℕ) (lanes : List Lane) (n : ℕ) (before : Lane) → n < length lanes → before ≡ get_or lanes n before → LanesFit kept (map laned lanes) → AreAttached kept before
+are_attached kept lanes n before within is fits number =
+    let at = lane_seen lanes n before within is in
+    let a = fits.attached n number (let k = length-map lanes laned in omega (arith, within, k)) in
+    let w = ap (λ (l : Laned). count_by (λ item. item.0 == number) l.live) at in
+    let k = ap (λ (l : Laned). kept l.id number) at in
+    omega (arith, a, w, k)
+
+-- what is kept on a lane that was written, and on the others
+pub lanes_after : (kept now : ℕ → ℕ → ℕ) (lanes : List Lane) (n : ℕ) (before later : Lane) → n < length lanes → before ≡ get_or lanes n before → LanesFit kept (map laned lanes) → later.id ≡ before.id
+    → ((number : ℕ) → now before.id number ≤ attached_as number later) → ((lane number : ℕ) → (before.id ≡ lane → ⊥) → now lane number ≡ kept lane number) → LanesFit now (map laned (set lanes n later))
+lanes_after kept now lanes n before later within is fits same most others =
+    let ls = map laned lanes in
+    let ls' = map laned (set lanes n later) in
+    let at = lane_seen lanes n before within is in
+    let inside : n < length ls = (let k = length-map lanes laned in omega (arith, within, k)) in
+    let counts : length ls' ≡ length ls = length-map (set lanes n later) laned ∙ length-set lanes n later ∙ sym (length-map lanes laned) in
+    let written = map-set laned lanes n later in
+    let here : lane_at ls' n ≡ laned later = ap (λ (xs : List Laned). lane_at xs n) written ∙ get_or-set_same ls n (laned later) no_lane inside in
+    let there : (m : ℕ) → (m ≡ n → ⊥) → lane_at ls' m ≡ lane_at ls m = λ m other. ap (λ (xs : List Laned). lane_at xs m) written ∙ get_or-set_other ls n m (laned later) no_lane other in
+    let ids : (m : ℕ) → (lane_at ls' m).id ≡ (lane_at ls m).id = λ m. elim (cases_eq m n) [
+      | inl e ↦ ap (λ (k : ℕ). (lane_at ls' k).id) e ∙ ap (λ (l : Laned). l.id) here ∙ same ∙ ap (λ (l : Laned). l.id) (sym at) ∙ ap (λ (k : ℕ). (lane_at ls k).id) (sym e)
+      | inr other ↦ ap (λ (l : Laned). l.id) (there m other)
+    ] in
+    let mine : before.id ≡ (lane_at ls n).id = ap (λ (l : Laned). l.id) (sym at) in
+    record {
+      differ = λ a b ina inb e. fits.differ a b (omega (arith, ina, counts)) (omega (arith, inb, counts)) (sym (ids a) ∙ e ∙ ids b);
+      attached = λ m number below. (
+          let q = ap (λ (x : ℕ). now x number) (ids m) in
+          elim (cases_eq m n) [
+            | inl e ↦ (
+                let k = most number in
+                let p = ap (λ (x : ℕ). now x number) (mine ∙ ap (λ (x : ℕ). (lane_at ls x).id) (sym e)) in
+                let z = ap (λ (x : ℕ). count_by (λ item. item.0 == number) (lane_at ls' x).live) e ∙ ap (λ (l : Laned). count_by (λ item. item.0 == number) l.live) here in
+                omega (arith, k, p, z, q))
+            | inr other ↦ (
+                let f = fits.attached m number (omega (arith, below, counts)) in
+                let k = others (lane_at ls m).id number (λ e. other (fits.differ m n (omega (arith, below, counts)) inside (sym e ∙ mine))) in
+                let w = ap (λ (l : Laned). count_by (λ item. item.0 == number) l.live) (there m other) in
+                omega (arith, k, f, w, q))
+          ]);
+    }
+
+-- where a call keeps what it attached
+pub lanes_step : (kept now : ℕ → ℕ → ℕ) (lanes : List Lane) (n : ℕ) (before later : Lane) → n < length lanes → before ≡ get_or lanes n before → LanesFit kept (map laned lanes) → later.id ≡ before.id → KeepsAttached kept before later now
+    → LanesFit now (map laned (set lanes n later))
+lanes_step kept now lanes n before later within is fits same keeps = lanes_after kept now lanes n before later within is fits same
+    (λ number. (
+    let k = keeps before.id number in
+    let still = are_attached kept lanes n before within is fits number in
+    let a = cond-true {A = ℕ} (before.id == before.id) (attached_as number before) 0 (eq-eqb before.id before.id refl) in
+    let b = cond-true {A = ℕ} (later.id == before.id) (attached_as number later) 0 (eq-eqb later.id before.id same) in
+    omega (arith, k, still, a, b)))
+    (λ lane number apart. (
+    let k = keeps lane number in
+    let a = cond-false {A = ℕ} (before.id == lane) (attached_as number before) 0 (ne_eqb before.id lane apart) in
+    let b = cond-false {A = ℕ} (later.id == lane) (attached_as number later) 0 (ne_eqb later.id lane (λ e. apart (sym same ∙ e))) in
+    omega (arith, k, a, b)))
+
+module _ {S : Type 0} (spans : S → Spans) (views : Views S) (attaches : S → Bool) (kept : S → ℕ → ℕ → ℕ) (is_whole : S → Type 0) where
+  abbrev pub AlikeOn : Worlds S → Worlds S → ℕ → Scope → Type 0
+  AlikeOn old new dispatch [] = new ≡ old
+  AlikeOn old new dispatch (s ∷ up) = Alike spans attaches kept is_whole old new dispatch × (new.sites ≡ old.sites) × (seen views.recorded no_recording new dispatch ≡ seen views.recorded no_recording old dispatch) × (seen views.filtered None new dispatch ≡ seen views.filtered None old dispatch) × (new.cached ≡ old.cached) × Adds (aside_in views old dispatch) (aside_in views new dispatch) []
+
+  abbrev pub SameRecorded : (S → S → Type 0) → Type 0
+  SameRecorded same = (old new : Worlds S) (dispatch : ℕ) → Replaced same old new dispatch
+      → (seen views.recorded no_recording new dispatch ≡ seen views.recorded no_recording old dispatch) × (seen views.filtered None new dispatch ≡ seen views.filtered None old dispatch)
+      × Adds (aside_in views old dispatch) (aside_in views new dispatch) []
+
+  pub alike_on : (same : S → S → Type 0) → ((old new : Worlds S) (dispatch : ℕ) → Replaced same old new dispatch → Alike spans attaches kept is_whole old new dispatch) → SameRecorded same
+      → (old new : Worlds S) (dispatch : ℕ) (line : Scope) (held : Held) → held ≡ held_of dispatch line → ReplacedOn (λ id s t. same s t) old new held → AlikeOn old new dispatch line
+  alike_on same law records old new dispatch [] held is did = subst (λ (h : Held). ReplacedOn (λ id s t. same s t) old new h) is did
+  alike_on same law records old new dispatch (s ∷ up) held is did =
+      let r = subst (λ (h : Held). ReplacedOn (λ id s t. same s t) old new h) is did in
+      let told = records old new dispatch r in
+      (law old new dispatch r, ap (λ (w : Worlds S). w.sites) r.others, told.0, told.1, ap (λ (w : Worlds S). w.cached) r.others, told.2)
+
+  pub alike_line : (old new : Worlds S) (dispatch : ℕ) (line : Scope) → AlikeOn old new dispatch line → Alike spans attaches kept is_whole old new dispatch × (new.sites ≡ old.sites) × (seen views.recorded no_recording new dispatch ≡ seen views.recorded no_recording old dispatch) × (seen views.filtered None new dispatch ≡ seen views.filtered None old dispatch) × (new.cached ≡ old.cached) × Adds (aside_in views old dispatch) (aside_in views new dispatch) []
+  alike_line old new dispatch [] same = (
+    record {
+      spans_same = ap (λ (w : Worlds S). spans_in spans w dispatch) same;
+      attaches_same = ap (λ (w : Worlds S). seen attaches false w dispatch) same;
+      kept_same = ap (λ (w : Worlds S). kept_in kept w dispatch) same;
+      count = ap (λ (w : Worlds S). length w.subscribers) same;
+      whole = λ has. subst (λ (w : Worlds S). Has is_whole w dispatch) (sym same) has;
+    },
+    ap (λ (w : Worlds S). w.sites) same,
+    ap (λ (w : Worlds S). seen views.recorded no_recording w dispatch) same,
+    ap (λ (w : Worlds S). seen views.filtered None w dispatch) same,
+    ap (λ (w : Worlds S). w.cached) same,
+    adds_same views old new dispatch same,
+  )
+  alike_line old new dispatch (s ∷ up) same = same
+
+  -- after a refusal for want of memory
+  pub state_alike : (old new : Worlds S) (dispatch : ℕ) (opening : Texts) (lanes : List Lane) (hs : List (Option Handle)) (gs gs' : List (Option Guard)) (made : List Context) (ks ks' : List (Option Attach)) (moment : ℕ) → Alike spans attaches kept is_whole old new dispatch → new.sites ≡ old.sites → seen views.recorded no_recording new dispatch ≡ seen views.recorded no_recording old dispatch → seen views.filtered None new dispatch ≡ seen views.filtered None old dispatch → new.cached ≡ old.cached → Adds (aside_in views old dispatch) (aside_in views new dispatch) []
+      → (n : ℕ) (before later : Lane) → n < length lanes → before ≡ get_or lanes n before → later.id ≡ before.id → later.name ≡ before.name → later.contexts.live ≡ before.contexts.live → gs' ≡ gs → ks' ≡ ks
+      → state_of spans views new dispatch opening (set lanes n later) hs gs' (record { made = made; attaches = ks' }) moment ≡ state_of spans views old dispatch opening lanes hs gs (record { made = made; attaches = ks }) moment
+  state_alike old new dispatch opening lanes hs gs gs' made ks ks' moment same sites records filters cached aside n before later within is id name live guards_same attaches_same =
+      let still = adds_nothing (aside_in views old dispatch) (aside_in views new dispatch) aside in
+      rw (same.spans_same, sites, records, filters, cached, still.0, still.1, lanes_same lanes n before later within is (same_lane before later id live), ids_same lanes n before later within is id, names_same lanes n before later within is name, guards_same, attaches_same) refl
+
+  pub kept_alike : (old new : Worlds S) (k next : State) → IsKept kept is_whole old k → next ≡ k → Alike spans attaches kept is_whole old new k.dispatch → IsKept kept is_whole new next
+  kept_alike old new k next inv same alike = subst (λ (x : State). IsKept kept is_whole new x) (sym same) (record {
+    there = (let c = alike.count in let b = inv.there in omega (arith, c, b));
+    alone = alike.count ∙ inv.alone;
+    whole = alike.whole inv.whole;
+    lanes = subst (λ (f : ℕ → ℕ → ℕ). LanesFit f k.lanes) (sym alike.kept_same) inv.lanes;
+    tables = inv.tables;
+    fits = inv.fits;
+    recording = inv.recording;
+    filtering = inv.filtering;
+  })
+
+  -- after a refusal for want of room what is kept is as it was
+  module _ (same : S → S → Type 0) (law : (old new : Worlds S) (dispatch : ℕ) → Replaced same old new dispatch → Alike spans attaches kept is_whole old new dispatch) (records : SameRecorded same)
+      (old new : Worlds S) (dispatch : ℕ) (opening : Texts) (lanes : List Lane) (hs : List (Option Handle)) (gs gs' : List (Option Guard)) (made : List Context) (ks ks' : List (Option Attach)) (m : ℕ) (inv : IsKept kept is_whole old (state_of spans views old dispatch opening lanes hs gs (record { made = made; attaches = ks }) m))
+      (handle : ℕ) (named : Handle) (found : slot_at hs handle ≡ Some named) (did : ReplacedOn (λ id s t. same s t) old new named.held)
+      (n : ℕ) (before later : Lane) (within : n < length lanes) (seen_is : before ≡ get_or lanes n before) (lane : LeavesLane before later) (guards_same : gs' ≡ gs) (attaches_same : ks' ≡ ks) where
+    its_alike : Alike spans attaches kept is_whole old new dispatch × (new.sites ≡ old.sites) × (seen views.recorded no_recording new dispatch ≡ seen views.recorded no_recording old dispatch) × (seen views.filtered None new dispatch ≡ seen views.filtered None old dispatch) × (new.cached ≡ old.cached) × Adds (aside_in views old dispatch) (aside_in views new dispatch) []
+    its_alike = let line = find (held_of dispatch) (map held_by hs) inv.tables.handles handle named.held inv.fits.handle_slots (held_slot hs handle named found) in alike_line old new dispatch line.at (alike_on same law records old new dispatch line.at named.held line.is did)
+
+    pub refused_state : state_of spans views new dispatch opening (set lanes n later) hs gs' (record { made = made; attaches = ks' }) m ≡ state_of spans views old dispatch opening lanes hs gs (record { made = made; attaches = ks }) m
+    refused_state = state_alike old new dispatch opening lanes hs gs gs' made ks ks' m its_alike.0 its_alike.1 its_alike.2 its_alike.3 its_alike.4 its_alike.5 n before later within seen_is lane.id lane.name lane.live guards_same attaches_same
+
+    pub refused_kept : IsKept kept is_whole new (state_of spans views new dispatch opening (set lanes n later) hs gs' (record { made = made; attaches = ks' }) m)
+    refused_kept = kept_alike old new (state_of spans views old dispatch opening lanes hs gs (record { made = made; attaches = ks }) m) _ inv refused_state its_alike.0
+
+  -- the same where neither lanes nor guards were touched
+  module _ (same : S → S → Type 0) (law : (old new : Worlds S) (dispatch : ℕ) → Replaced same old new dispatch → Alike spans attaches kept is_whole old new dispatch) (records : SameRecorded same)
+      (old new : Worlds S) (dispatch : ℕ) (opening : Texts) (lanes : List Lane) (hs : List (Option Handle)) (gs : List (Option Guard)) (cs : Named) (m : ℕ) (inv : IsKept kept is_whole old (state_of spans views old dispatch opening lanes hs gs cs m))
+      (handle : ℕ) (named : Handle) (found : slot_at hs handle ≡ Some named) (did : ReplacedOn (λ id s t. same s t) old new named.held) where
+    still_alike : Alike spans attaches kept is_whole old new dispatch × (new.sites ≡ old.sites) × (seen views.recorded no_recording new dispatch ≡ seen views.recorded no_recording old dispatch) × (seen views.filtered None new dispatch ≡ seen views.filtered None old dispatch) × (new.cached ≡ old.cached) × Adds (aside_in views old dispatch) (aside_in views new dispatch) []
+    still_alike = let line = find (held_of dispatch) (map held_by hs) inv.tables.handles handle named.held inv.fits.handle_slots (held_slot hs handle named found) in alike_line old new dispatch line.at (alike_on same law records old new dispatch line.at named.held line.is did)
+
+    pub same_state : state_of spans views new dispatch opening lanes hs gs cs m ≡ state_of spans views old dispatch opening lanes hs gs cs m
+    same_state =
+        let still = adds_nothing (aside_in views old dispatch) (aside_in views new dispatch) still_alike.5 in
+        rw (still_alike.0.spans_same, still_alike.1, still_alike.2, still_alike.3, still_alike.4, still.0, still.1) refl
+
+    pub same_kept : IsKept kept is_whole new (state_of spans views new dispatch opening lanes hs gs cs m)
+    same_kept = kept_alike old new (state_of spans views old dispatch opening lanes hs gs cs m) _ inv same_state still_alike.0

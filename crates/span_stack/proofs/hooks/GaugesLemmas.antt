@@ -1,0 +1,75 @@
+-- What a layer of metrics over a subscriber hears of calls.
+use Rattle.std.proofs.Common.{◌≡◌, ℕ, List, [], ◌++◌, Bool, false, Option, Some, refl, sym, ap, ◌∙◌, inl, inr}
+use Rattle.std.proofs.lemmas.Bool.{cases_eq}
+use Rattle.std.proofs.lemmas.List.{append-nil}
+use Rattle.trace_base.specs.Gate.{Worlds}
+use Rattle.trace_base.specs.Spans.{Spans, next_of, span_at}
+use Rattle.trace_base.specs.Calls.{SubscriberCall, NewSpan, Records, Follows, Event, Enter, Exit, CloneSpan, TryClose}
+use Rattle.trace_base.specs.lanes.Contexts.{Lanes}
+use Rattle.trace_base.specs.layers.Hooks.{Hook}
+use Rattle.trace_base.specs.layers.Unseeing.{LeavesLanes}
+use Rattle.span_registry.specs.declared.layered.Layered.{Layered}
+use Rattle.span_registry.specs.Both.{DoesBoth}
+use Rattle.span_registry.specs.Hearing.{HearsCall}
+use Rattle.span_handles.specs.Worlds.{Replaced, Chain, ended, closes, seen}
+use Rattle.span_handles.proofs.Showing.{seen_before, seen_later}
+use Rattle.otel_metrics.specs.declared.measure.Measure.{Measure}
+use Rattle.otel_metrics.specs.Waiting.{Tells, told_by}
+use Rattle.env_filter.proofs.kept.StackedLemmas.{Steps, over_hears}
+use Rattle.span_stack.specs.declared.measuring.Measuring.{Measuring}
+use Rattle.span_stack.specs.Measured.{waiting, measured_by}
+use Rattle.span_stack.proofs.worlds.ViewsLemmas.{kept_place}
+
+abbrev pub measures_at : Measuring → Hook → Measuring → Type 0
+measures_at l hook m = Tells l.layer hook m.layer × LeavesLanes hook
+
+abbrev pub unchanged : Measuring → Measuring → Type 0
+unchanged l m = m.layer.measures ≡ l.layer.measures
+
+abbrev attaches_no : Measuring → Bool
+attaches_no l = false
+
+abbrev kept : Measuring → List Measure
+kept l = l.layer.measures
+
+abbrev behind : List Measure → Hook → List Measure
+behind ms hook = ms ++ told_by hook
+
+from_heard : (spans : Spans) (call : SubscriberCall) (a b : List Measure) → HearsCall (Steps behind) spans a call b → b ≡ a ++ measured_by call
+from_heard spans (NewSpan lane at place site callsite values) a b h = h
+from_heard spans (Records id at callsite values) a b h = h
+from_heard spans (Follows id from at) a b h = h
+from_heard spans (Event lane at place site callsite values) a b h = h
+from_heard spans (Enter id at before later) a b h = h.heard
+from_heard spans (Exit id at before later) a b h = h.heard
+from_heard spans (CloneSpan id) a b h = h ∙ sym (append-nil a)
+from_heard spans (TryClose id at) a b h = elim (cases_eq (span_at spans.made id).holds 1) [ inl last ↦ h.closed last | inr several ↦ h.open_still several ∙ sym (append-nil a) ]
+
+abbrev Whole : Type 0 → Type 0
+Whole S = Layered Measuring S
+
+abbrev does_over : {S : Type 0} → (S → Spans) → (S → SubscriberCall → S → Type 0) → Whole S → SubscriberCall → Whole S → Type 0
+does_over spans inner = λ p call q. DoesBoth spans inner measures_at unchanged attaches_no p.inner p.layer call q.inner q.layer
+
+pub one_call : {S : Type 0} (spans : S → Spans) (inner : S → SubscriberCall → S → Type 0) (attaches : S → Bool) (held : S → ℕ → ℕ → ℕ) → ((s : S) (c : SubscriberCall) (t : S) → inner s c t → Lanes (attaches s) (held s) c (held t))
+    → (old new : Worlds (Whole S)) (dispatch : ℕ) (call : SubscriberCall) → Replaced (λ p q. does_over spans inner p call q) old new dispatch → seen waiting [] new dispatch ≡ seen waiting [] old dispatch ++ measured_by call
+one_call {S} spans inner attaches held lanes old new dispatch call r =
+    let R : Whole S → Whole S → Type 0 = λ p q. does_over spans inner p call q in
+    let p = r.before in
+    let q = r.later in
+    let h = over_hears spans inner measures_at unchanged attaches_no behind kept (λ l hook m d. d.0) (λ l m e. e) p.inner q.inner p.layer q.layer call (attaches p.inner) (held p.inner) (held q.inner) (λ c. lanes p.inner c q.inner) r.did in
+    seen_later R old new dispatch r waiting [] ∙ from_heard (spans p.inner) call (kept p.layer) (kept q.layer) h ∙ ap (λ (ms : List Measure). ms ++ measured_by call) (sym (seen_before R old new dispatch r waiting []))
+
+pub one_room : {S : Type 0} (same : S → S → Type 0) (old new : Worlds (Whole S)) (dispatch : ℕ) → Replaced (λ p q. same p.inner q.inner × unchanged p.layer q.layer) old new dispatch → seen waiting [] new dispatch ≡ seen waiting [] old dispatch
+one_room same old new dispatch r = kept_place waiting [] (λ p q h. h.1) old new dispatch r
+
+closing_keeps : {S : Type 0} (spans : S → Spans) (inner : S → SubscriberCall → S → Type 0) (p : Whole S) (id at : ℕ) (q : Whole S) → does_over spans inner p (TryClose id at) q → waiting q ≡ waiting p
+closing_keeps spans inner p id at q d = elim (cases_eq (span_at (spans p.inner).made id).holds 1) [ inl last ↦ (d.closed last).0 ∙ append-nil (waiting p) | inr several ↦ d.open_still several ]
+
+chain_keeps : {S : Type 0} (spans : S → Spans) (inner : S → SubscriberCall → S → Type 0) (at : ℕ) (next : Option ℕ) (p q : Whole S) → Chain (λ (s : Whole S). spans s.inner) (does_over spans inner) at next p q → waiting q ≡ waiting p
+chain_keeps spans inner at _ _ _ (ended p) = refl
+chain_keeps spans inner at _ _ _ (closes id p m q did rest) = chain_keeps spans inner at (next_of (spans p.inner).made id) m q rest ∙ closing_keeps spans inner p id at m did
+
+pub one_chain : {S : Type 0} (spans : S → Spans) (inner : S → SubscriberCall → S → Type 0) (at : ℕ) (old new : Worlds (Whole S)) (dispatch id : ℕ) → Replaced (λ p q. Chain (λ (s : Whole S). spans s.inner) (does_over spans inner) at (Some id) p q) old new dispatch
+    → seen waiting [] new dispatch ≡ seen waiting [] old dispatch
+one_chain spans inner at old new dispatch id r = kept_place waiting [] (λ p q d. chain_keeps spans inner at (Some id) p q d) old new dispatch r

@@ -1,0 +1,3 @@
+-- Layers over a subscriber.
+pub mod Hooks
+pub mod Unseeing

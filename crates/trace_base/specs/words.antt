@@ -1,0 +1,4 @@
+-- Levels and texts.
+pub mod Level
+pub mod LevelWords
+pub mod Quote

@@ -1,0 +1,3 @@
+-- Ids that are told apart.
+pub mod DistinctLemmas
+pub mod PlacesLemmas

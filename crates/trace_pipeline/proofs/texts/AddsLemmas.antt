@@ -1,0 +1,54 @@
+-- Texts that are added one after another.
+use Rattle.std.proofs.Common.{◌≡◌, ℕ, ◌+◌, ◌<◌, ◌≤◌, List, [], ◌∷◌, ◌++◌, length, get_or, drop, drop_of_length-le, Bool, true, sym, ap, subst, ◌∙◌, append_assoc, append-nil}
+use Rattle.std.specs.Str.{IsUtf8}
+use Rattle.std.proofs.lemmas.Str.{IsUtf8-append, IsUtf8-nil}
+use Rattle.std.proofs.lemmas.List.{drop_more}
+use Rattle.json.specs.Print.{escape, quoted}
+use Rattle.json.proofs.Printed.Utf8.{IsUtf8-quoted}
+use Rattle.serde_json.specs.Data.{Data}
+use Rattle.serde_json.specs.Written.{compact_text, items_text, comma_if}
+use Rattle.trace_pipeline.specs.reading.Object.{items}
+use Rattle.trace_pipeline.specs.text.Writes.{Adds}
+
+pub begun : (old : List ℕ) → Adds old old []
+begun old = (sym (append-nil old), IsUtf8-nil)
+
+pub then : (old mid new s t : List ℕ) → Adds old mid s → Adds mid new t → Adds old new (s ++ t)
+then old mid new s t x y = (y.0 ∙ ap (λ (l : List ℕ). l ++ t) x.0 ∙ append_assoc old s t, IsUtf8-append s t x.1 y.1)
+
+-- the same text, told otherwise
+pub retold : (old new s t : List ℕ) → Adds old new s → s ≡ t → Adds old new t
+retold old new s t x same = (x.0 ∙ ap (λ (l : List ℕ). old ++ l) same, subst IsUtf8 same x.1)
+
+pub quoted_added : (old a b d new front s : List ℕ) → Adds old a front → b ≡ a ++ 34 ∷ [] → d ≡ b ++ escape s → new ≡ d ++ 34 ∷ [] → IsUtf8 s → Adds old new (front ++ quoted s)
+quoted_added old a b d new front s x begin body close utf8 =
+    (close ∙ ap (λ (l : List ℕ). l ++ 34 ∷ []) (body ∙ ap (λ (l : List ℕ). l ++ escape s) (begin ∙ ap (λ (l : List ℕ). l ++ 34 ∷ []) x.0)) ∙ parts old front (escape s), IsUtf8-append front (quoted s) x.1 (IsUtf8-quoted s utf8))
+  where
+    parts : (old front body : List ℕ) → (((old ++ front) ++ 34 ∷ []) ++ body) ++ 34 ∷ [] ≡ old ++ (front ++ 34 ∷ (body ++ 34 ∷ []))
+    parts old front body = simp append_assoc
+
+-- the same of a text that needs no escape
+pub quoted_plain : (old a b d new front s : List ℕ) → Adds old a front → b ≡ a ++ 34 ∷ [] → Adds b d s → new ≡ d ++ 34 ∷ [] → escape s ≡ s → Adds old new (front ++ quoted s)
+quoted_plain old a b d new front s x begin body close plain =
+    quoted_added old a b d new front s x begin (body.0 ∙ ap (λ (l : List ℕ). b ++ l) (sym plain)) close body.1
+
+-- a text that was added to none
+pub alone : (old new s : List ℕ) → old ≡ [] → Adds old new s → new ≡ s
+alone old new s none x = x.0 ∙ ap (λ (l : List ℕ). l ++ s) none
+
+pub alone_utf8 : (old new s : List ℕ) → old ≡ [] → Adds old new s → IsUtf8 new
+alone_utf8 old new s none x = subst IsUtf8 (sym (alone old new s none x)) x.1
+
+-- one item more of an array
+pub item_added : {A : Type 0} (f : A → Data) (xs : List A) (i : ℕ) (x : A) (later : Bool) (w all : List ℕ) → i < length xs → x ≡ get_or xs i x → w ++ items_text later (items f (drop i xs)) ≡ all
+    → (w ++ (comma_if later ++ compact_text (f x))) ++ items_text true (items f (drop (i + 1) xs)) ≡ all
+item_added f xs i x later w all within is rest =
+    append_assoc w (comma_if later ++ compact_text (f x)) (items_text true (items f (drop (i + 1) xs)))
+    ∙ ap (λ (l : List ℕ). w ++ l) (append_assoc (comma_if later) (compact_text (f x)) (items_text true (items f (drop (i + 1) xs))))
+    ∙ ap (λ y. w ++ (comma_if later ++ (compact_text (f y) ++ items_text true (items f (drop (i + 1) xs))))) is
+    ∙ ap (λ ys. w ++ items_text later (items f ys)) (sym (drop_more xs i x within))
+    ∙ rest
+
+-- the last item of an array was added
+pub items_added : {A : Type 0} (f : A → Data) (xs : List A) (i : ℕ) (later : Bool) (w all : List ℕ) → length xs ≤ i → w ++ items_text later (items f (drop i xs)) ≡ all → w ++ 93 ∷ [] ≡ all
+items_added f xs i later w all past rest = ap (λ ys. w ++ items_text later (items f ys)) (sym (drop_of_length-le xs past)) ∙ rest

@@ -1,0 +1,14 @@
+-- Attributes that stand in a text.
+use Rattle.std.proofs.Common.{◌≡◌, refl}
+use Rattle.serde_json.specs.Data.{Data, null, boolean, number, string, array, object}
+use Rattle.trace_pipeline.specs.forms.AttributeForm.{list_of, otel_value_of}
+use Rattle.trace_pipeline.specs.text.Compact.{nested}
+
+-- a value that nests is a list, or none of an attribute
+pub list_nested : (d : Data) → otel_value_of (nested d) ≡ list_of (nested d)
+list_nested null = refl
+list_nested (boolean b) = refl
+list_nested (number n) = refl
+list_nested (string s) = refl
+list_nested (array ds) = refl
+list_nested (object ms) = refl

@@ -1,0 +1,63 @@
+-- The value that fields are read from: their form in the other direction.
+use Rattle.std.specs.Prelude.{◌<◌, ◌^◌, ℕ, ℤ, pos, negsuc, List, [], ◌∷◌, codes, decimal}
+use Rattle.std.specs.Fmt.{signed_decimal}
+use Rattle.serde_json.specs.Data.{Data, boolean, number, string, array, object, unsigned, no_items, item, no_members, member}
+use Rattle.serde_json.specs.Find.{of_integer}
+use Rattle.otel_base.specs.declared.value.KeyValue.{KeyValue}
+use Rattle.otel_base.specs.declared.value.OtelValue.{OtelValue}
+use Rattle.otel_base.specs.declared.value.OtelValue.TheVariants as otel
+use Rattle.trace_base.specs.declared.field.Value.{Value}
+use Rattle.trace_base.specs.declared.field.Value.TheVariants.{Bool, I64, U64, I128, U128, Str, Debug, Error}
+use Rattle.trace_pipeline.specs.reading.Object.{by_name, array_of}
+
+-- a value whose type is named by its member
+abbrev pub typed : List ℕ → Data → Data
+typed name d = object (member name d no_members)
+
+-- a value
+abbrev pub written_value : Value → Data
+written_value (Bool b) = boolean b
+written_value (I64 z) = number (of_integer z)
+written_value (U64 n) = typed (codes "u64") (number (unsigned n))
+written_value (I128 z) = typed (codes "i128") (string (signed_decimal z))
+written_value (U128 n) = typed (codes "u128") (string (decimal n))
+written_value (Str s) = string s
+written_value (Debug s) = typed (codes "debug") (string s)
+written_value (Error message chain) =
+    object (by_name ((codes "error", string message) ∷ (codes "chain", array_of string chain) ∷ []))
+
+-- a field: its name and its value
+abbrev pub written_field : List ℕ × Value → Data
+written_field field = array (item (string field.0) (item (written_value field.1) no_items))
+
+-- a signed number, of so many bits beside its sign
+abbrev pub HasBits : ℕ → ℤ → Type 0
+HasBits bits (pos n) = n < 2 ^ bits
+HasBits bits (negsuc n) = n < 2 ^ bits
+
+-- a number has the bits of its type
+abbrev pub IsValue : Value → Type 0
+IsValue (Bool b) = Unit {0}
+IsValue (I64 z) = HasBits 63 z
+IsValue (U64 n) = n < 2 ^ 64
+IsValue (I128 z) = HasBits 127 z
+IsValue (U128 n) = n < 2 ^ 128
+IsValue (Str s) = Unit {0}
+IsValue (Debug s) = Unit {0}
+IsValue (Error message chain) = Unit {0}
+
+abbrev pub AreValues : List (List ℕ × Value) → Type 0
+AreValues [] = Unit {0}
+AreValues (field ∷ fields) = IsValue field.1 × AreValues fields
+
+-- ---- attributes
+
+abbrev pub IsOtelValue : OtelValue → Type 0
+IsOtelValue (otel.Bool b) = Unit {0}
+IsOtelValue (otel.I64 z) = HasBits 63 z
+IsOtelValue (otel.Str s) = Unit {0}
+IsOtelValue (otel.List texts) = Unit {0}
+
+abbrev pub AreAttributes : List KeyValue → Type 0
+AreAttributes [] = Unit {0}
+AreAttributes (attribute ∷ attributes) = IsOtelValue attribute.value × AreAttributes attributes

@@ -1,0 +1,7 @@
+-- What a poll does.
+pub mod EntryLemmas
+pub mod StepsSoFarLemmas
+pub mod StepLemmas
+pub mod RefusedPollLemmas
+pub mod TurnLemmas
+pub mod ChangesLemmas

@@ -1,0 +1,103 @@
+-- A poll of a task's steps, so far.
+use Rattle.std.proofs.Common.{◌≡◌, ℕ, List, [], ◌∷◌, ◌++◌, Bool, Option, Ok, Err, refl, sym, ap, subst, ◌∙◌, ◌⊎◌, inl, inr, append_assoc}
+use Rattle.std.proofs.lemmas.List.{append-nil}
+use Rattle.otel_base.specs.declared.enter_error.EnterError.TheVariants as faults
+use Rattle.futures.specs.declared.task.Poll.TheVariants as polls
+use Rattle.trace_base.specs.declared.callsite.Callsite.{Callsite}
+use Rattle.trace_base.specs.declared.lane.Lane.{Lane}
+use Rattle.trace_base.specs.declared.level.LevelFilter.{LevelFilter}
+use Rattle.trace_base.specs.Gate.{Worlds}
+use Rattle.trace_base.specs.Spans.{Spans}
+use Rattle.trace_base.specs.Calls.{SubscriberCall, after}
+use Rattle.trace_base.specs.lanes.Contexts.{Lanes}
+use Rattle.span_futures.specs.Calling.{CallsBy}
+use Rattle.span_futures.specs.Lent.{KeepsLent}
+use Rattle.span_futures.proofs.Calling.{calls_none, calls_then}
+use Rattle.span_futures.proofs.Inside.{keeps_nothing}
+use Rattle.otel_layer.specs.Parts.{PartCall, StaysStack}
+use Rattle.trace_tasks.specs.declared.script.Step.{Step}
+use Rattle.trace_tasks.specs.declared.script.Step.TheVariants as step
+use Rattle.trace_tasks.specs.Acts.{now_of, left_of, StepOn, StepsOn, PollsSteps, Changes, Asks, Wants}
+use Rattle.trace_tasks.proofs.polls.ChangesLemmas.{lent_then, changes_keep, changes_call}
+
+-- a step that doesn't end the poll
+abbrev pub IsAct : Step → Type 0
+IsAct step.Yield = ⊥
+IsAct (step.Event site fields) = Unit {0}
+IsAct (step.Record fields) = Unit {0}
+IsAct (step.SetAttribute key value) = Unit {0}
+
+pub act_or : (s : Step) → (s ≡ step.Yield) ⊎ IsAct s
+act_or step.Yield = inl refl
+act_or (step.Event site fields) = inr tt
+act_or (step.Record fields) = inr tt
+act_or (step.SetAttribute key value) = inr tt
+
+module _ {S : Type 0} (spans : S → Spans) (hint : S → Option LevelFilter) (enables : S → ℕ → Callsite → Bool) (attaches : S → Bool) (kept : S → ℕ → ℕ → ℕ) (is_whole : S → Type 0) (does : S → SubscriberCall → S → Type 0) (touches : S → PartCall → S → Type 0) (same : S → S → Type 0) (lane : Lane) (at : ℕ) where
+  pub record Polling (first steps : List Step) (old world : Worlds S) : Type 0 where
+    pub lent : KeepsLent spans kept is_whole old world lane lane
+    pub called : CallsBy does (Asks touches) same at old world
+    pub left : left_of steps ≡ left_of first
+    pub done : List Step
+    pub split : done ++ now_of steps ≡ now_of first
+    pub did : StepsOn spans hint enables does touches lane at done old world
+
+  -- one step more at the end
+  did_more : (done : List Step) (s : Step) (old world next : Worlds S) → StepsOn spans hint enables does touches lane at done old world → StepOn spans hint enables does touches lane at s world next → StepsOn spans hint enables does touches lane at (done ++ s ∷ []) old next
+  did_more [] s old world next is on = (next, subst (λ (w : Worlds S). StepOn spans hint enables does touches lane at s w next) is on, refl)
+  did_more (x ∷ done) s old world next (w, first, rest) on = (w, first, did_more done s w world next rest on)
+
+  module _ (same_refl : (s : S) → same s s) (same_trans : (s t u : S) → same s t → same t u → same s u) where
+    pub polling_first : (steps : List Step) (world : Worlds S) → Polling steps steps world world
+    polling_first steps world = record { lent = keeps_nothing spans kept is_whole world lane; called = calls_none does (Asks touches) same same_refl same_trans at world; left = refl; done = []; split = refl; did = refl }
+
+    module _ (same_spans : (s t : S) → same s t → spans t ≡ spans s) (same_kept : (s t : S) → same s t → kept t ≡ kept s) (same_whole : (s t : S) → same s t → is_whole s → is_whole t)
+        (shows : (s : S) (call : SubscriberCall) (t : S) → does s call t → spans t ≡ after (spans s) call) (lanes : (s : S) (call : SubscriberCall) (t : S) → does s call t → Lanes (attaches s) (kept s) call (kept t))
+        (keeps_whole : (s : S) (call : SubscriberCall) (t : S) → does s call t → is_whole s → is_whole t)
+        (stays : (s : S) (call : PartCall) (t : S) → touches s call t → StaysStack spans kept attaches is_whole s t) where
+      pub lent_more : (first steps : List Step) (old world next : Worlds S) → Polling first steps old world → Changes spans hint enables does touches same at world next → KeepsLent spans kept is_whole old next lane lane
+      lent_more first steps old world next so_far changes =
+          lent_then spans kept is_whole old world next lane lane lane so_far.lent
+          (changes_keep spans hint enables attaches kept is_whole does touches same same_spans same_kept same_whole shows lanes keeps_whole stays at world next lane changes)
+
+      pub called_more : (first steps : List Step) (old world next : Worlds S) → Polling first steps old world → Changes spans hint enables does touches same at world next → CallsBy does (Asks touches) same at old next
+      called_more first steps old world next so_far changes =
+          calls_then does (Asks touches) same same_refl same_trans at old world next so_far.called
+          (changes_call spans hint enables attaches kept is_whole does touches same same_refl same_trans at world next changes)
+
+      next_left : (s : Step) (steps : List Step) → IsAct s → left_of (s ∷ steps) ≡ left_of steps
+      next_left step.Yield steps act = absurd act
+      next_left (step.Event site fields) steps act = refl
+      next_left (step.Record fields) steps act = refl
+      next_left (step.SetAttribute key value) steps act = refl
+
+      next_now : (s : Step) (steps : List Step) → IsAct s → now_of (s ∷ steps) ≡ s ∷ now_of steps
+      next_now step.Yield steps act = absurd act
+      next_now (step.Event site fields) steps act = refl
+      next_now (step.Record fields) steps act = refl
+      next_now (step.SetAttribute key value) steps act = refl
+
+      pub polling_more : (first all : List Step) (s : Step) (steps : List Step) (old world next : Worlds S) → Polling first all old world → all ≡ s ∷ steps → IsAct s → StepOn spans hint enables does touches lane at s world next
+          → Changes spans hint enables does touches same at world next → Polling first steps old next
+      polling_more first all s steps old world next so_far is act on changes = record {
+        lent = lent_more first all old world next so_far changes;
+        called = called_more first all old world next so_far changes;
+        left = sym (next_left s steps act) ∙ sym (ap left_of is) ∙ so_far.left;
+        done = so_far.done ++ s ∷ [];
+        split = append_assoc so_far.done (s ∷ []) (now_of steps) ∙ ap (λ (xs : List Step). so_far.done ++ xs) (sym (ap now_of is ∙ next_now s steps act)) ∙ so_far.split;
+        did = did_more so_far.done s old world next so_far.did on;
+      }
+
+  all_done : (first all : List Step) (old world : Worlds S) (so_far : Polling first all old world) → now_of all ≡ [] → StepsOn spans hint enables does touches lane at (now_of first) old world
+  all_done first all old world so_far none =
+      subst (λ (xs : List Step). StepsOn spans hint enables does touches lane at xs old world) (sym (append-nil so_far.done) ∙ ap (λ (xs : List Step). so_far.done ++ xs) (sym none) ∙ so_far.split) so_far.did
+
+  pub polled_pending : (first all steps : List Step) (old world : Worlds S) → Polling first all old world → all ≡ step.Yield ∷ steps → PollsSteps spans hint enables does touches same first old lane at (Ok polls.Pending) steps world lane
+  polled_pending first all steps old world so_far is = (refl, sym so_far.left ∙ ap left_of is, all_done first all old world so_far (ap now_of is))
+
+  pub polled_ready : (first all steps : List Step) (old world : Worlds S) → Polling first all old world → all ≡ [] → PollsSteps spans hint enables does touches same first old lane at (Ok (polls.Ready tt)) steps world lane
+  polled_ready first all steps old world so_far is = (refl, sym so_far.left ∙ ap left_of is, all_done first all old world so_far (ap now_of is))
+
+  -- a step wanted memory
+  pub polled_wants : (first all steps : List Step) (old world next : Worlds S) → Polling first all old world → Wants spans hint enables does touches same at world next → PollsSteps spans hint enables does touches same first old lane at (Err faults.Memory) steps next lane
+  polled_wants first all steps old world next so_far wants = (refl, refl, record { done = so_far.done; others = now_of all; within = so_far.split; world = world; did = so_far.did; wants = wants })

@@ -1,0 +1,319 @@
+-- A run over a new tape spells the flat list.
+use Rattle.std.proofs.Common.{◌≡◌, ℕ, zero, suc, ◌+◌, ◌<◌, ◌^◌, List, [], ◌∷◌, ◌++◌, length, Bool, true, false, Option, Some, None, Result, Ok, Err, refl, sym, ap, subst, ◌∙◌, arith, slice_get, append_assoc}
+use Rattle.std.proofs.lemmas.List.{append-nil}
+use Rattle.std.specs.Prelude.{IfOk, IfErr, slice_index_or}
+use Rattle.std.proofs.lemmas.Bool.{true≢false}
+use Rattle.otel_base.specs.declared.enter_error.EnterError.{EnterError}
+use Rattle.otel_base.specs.declared.enter_error.EnterError.TheVariants as faults
+use Rattle.std.specs.List.{list_all}
+use Rattle.std.specs.Option.{option_map, option_map_or}
+use Rattle.trace_base.specs.declared.callsite.Callsite.{Callsite}
+use Rattle.trace_base.specs.declared.lane.Lane.{Lane}
+use Rattle.trace_base.specs.declared.span.Parent.TheVariants as parent
+use Rattle.trace_base.specs.Calls.{SubscriberCall, NewSpan, with_span}
+use Rattle.trace_base.specs.Gate.{Worlds, cached_at, gate}
+use Rattle.trace_base.specs.Spans.{Span, Spans, no_span, span_at, entries_on, place_on}
+use Rattle.span_handles.specs.Worlds.{Replaced, spans_in, no_spans}
+use Rattle.span_handles.specs.Handles.{Handle, handle_of}
+use Rattle.span_script.specs.declared.request.Call.TheVariants as call
+use Rattle.span_script.specs.declared.request.Place.TheVariants as place
+use Rattle.span_script.specs.declared.request.Request.{Request}
+use Rattle.trace_tape.specs.Taping.{Taped, DoesTape, on_lane, named, handles_of}
+use Rattle.trace_tape.specs.Touching.{TouchesTape}
+use Rattle.trace_tasks.specs.declared.script.Step.{Step}
+use Rattle.trace_tasks.specs.declared.script.Step.TheVariants as step
+use Rattle.trace_tasks.specs.Acts.{left_of}
+use Rattle.trace_tasks.specs.Carrying.{Stage, MakesGated, Made}
+use Rattle.span_script.specs.Fields.{Fields, declares, values_of}
+use Rattle.trace_tasks.specs.Flat.{Left, poll, polled, requeue, turns, rounds, begun, makings, all_polls, flat}
+use Rattle.trace_tasks.specs.Spelled.{tape_spans, CarriesTape, IsDeclared, IsTested, AreTested, IsNewTape}
+use Rattle.trace_tasks.specs.Begun.{Ran}
+use Rattle.trace_tasks.specs.Stops.{GaveUp}
+use Rattle.trace_tasks.specs.Turning.{Ready, alone, serving}
+use Rattle.trace_tasks.specs.declared.script.Task.{Task}
+use Rattle.trace_tasks.proofs.tapes.PollsLemmas.{Calm, Held_once, Polled, poll_spells, split}
+use Rattle.trace_tasks.proofs.polls.EntryLemmas.{get_push}
+use Rattle.trace_tasks.proofs.tapes.RoundsLemmas.{rounds_are_turns}
+use Rattle.trace_tasks.proofs.tapes.SpelledLemmas.{named_back, one_call}
+
+the_rest : (a b : List Step) → ◌≡◌ {A = Option (List Step)} (Some a) (Some b) → a ≡ b
+the_rest a b e = cc e
+
+tested_left : (sites : List Callsite) (steps rest : List Step) → IsTested sites steps → left_of steps ≡ Some rest → IsTested sites rest
+tested_left sites [] rest tested is = absurd (cc is)
+tested_left sites (step.Yield ∷ steps) rest tested is = subst (λ (xs : List Step). IsTested sites xs) (the_rest steps rest is) tested
+tested_left sites (step.Event site fields ∷ steps) rest tested is = tested_left sites steps rest tested.1 is
+tested_left sites (step.Record fields ∷ steps) rest tested is = tested_left sites steps rest tested is
+tested_left sites (step.SetAttribute key value ∷ steps) rest tested is = tested_left sites steps rest tested is
+
+-- a task that waits on a tape, with steps that were tested
+pub record Fit (d : ℕ) (sites : List Callsite) (s : Stage Taped) (tape : Taped) (t : Left) : Type 0 where
+  pub waits : Held_once d s tape t
+  pub callsite : Callsite
+  pub is : slice_get sites t.site ≡ Some callsite
+  pub tested : IsTested sites t.steps
+
+abbrev pub Differs : Left → List Left → Type 0
+Differs t [] = Unit {0}
+Differs t (u ∷ us) = (u.number ≡ t.number → ⊥) × Differs t us
+
+abbrev pub AllFit : ℕ → List Callsite → Stage Taped → Taped → List Left → Type 0
+AllFit d sites s tape [] = Unit {0}
+AllFit d sites s tape (t ∷ ts) = Fit d sites s tape t × Differs t ts × AllFit d sites s tape ts
+
+differs_push : (t : Left) (ts : List Left) (u : Left) → Differs t ts → (u.number ≡ t.number → ⊥) → Differs t (ts ++ u ∷ [])
+differs_push t [] u all one = (one, tt)
+differs_push t (x ∷ ts) u all one = (all.0, differs_push t ts u all.1 one)
+
+fit_push : (d : ℕ) (sites : List Callsite) (s : Stage Taped) (tape : Taped) (ts : List Left) (u : Left) → AllFit d sites s tape ts → Differs u ts → Fit d sites s tape u → AllFit d sites s tape (ts ++ u ∷ [])
+fit_push d sites s tape [] u all differs one = (one, tt, tt)
+fit_push d sites s tape (t ∷ ts) u all differs one = (all.0, differs_push t ts u all.1 (λ e. differs.0 (sym e)), fit_push d sites s tape ts u all.2 differs.1 one)
+
+-- a poll of another task leaves a task as it is
+others_fit : (d : ℕ) (sites : List Callsite) (k : ℕ) (t : Left) (s m : Stage Taped) (tape : Taped) (p : Polled d sites k t s m tape) (ts : List Left) → Differs t ts → AllFit d sites s tape ts → AllFit d sites m p.now ts
+others_fit d sites k t s m tape p [] differs all = tt
+others_fit d sites k t s m tape p (u ∷ ts) differs all = (
+  record {
+    waits = record {
+      handle = ap (λ (hs : List Handle). slice_get hs u.number) p.handles ∙ all.0.waits.handle;
+      lone = (p.others u.number differs.0).0 ∙ all.0.waits.lone;
+      once = (p.others u.number differs.0).1 ∙ all.0.waits.once;
+    };
+    callsite = all.0.callsite;
+    is = all.0.is;
+    tested = all.0.tested;
+  },
+  all.1,
+  others_fit d sites k t s m tape p ts differs.1 all.2,
+)
+
+fit_after : (d : ℕ) (sites : List Callsite) (k : ℕ) (t : Left) (s m : Stage Taped) (tape : Taped) (p : Polled d sites k t s m tape) (ts : List Left) → AllFit d sites s tape (t ∷ ts) → (o : Option (List Step)) → left_of t.steps ≡ o
+    → AllFit d sites m p.now (requeue ts (option_map (λ steps. record t { steps = steps }) o))
+fit_after d sites k t s m tape p ts all None is = others_fit d sites k t s m tape p ts all.1 all.2
+fit_after d sites k t s m tape p ts all (Some rest) is =
+    let u : Left = record t { steps = rest } in
+    let same = p.left rest is in
+    fit_push d sites m p.now ts u (others_fit d sites k t s m tape p ts all.1 all.2) all.1 (record {
+      waits = record {
+        handle = ap (λ (hs : List Handle). slice_get hs t.number) p.handles ∙ all.0.waits.handle;
+        lone = ap (λ (made : List Span). span_at made t.number) same.0 ∙ all.0.waits.lone;
+        once = ap (λ (hs : List ℕ). handles_of hs t.number) same.1 ∙ all.0.waits.once;
+      };
+      callsite = all.0.callsite;
+      is = all.0.is;
+      tested = tested_left sites t.steps rest all.0.tested is;
+    })
+
+-- turns spell their requests
+pub turns_spell : (d : ℕ) (sites : List Callsite) (n k : ℕ) (ts : List Left) (s m : Stage Taped) (tape : Taped) → k + n < 2 ^ 63 → Calm d sites k s tape → AllFit d sites s tape ts → CarriesTape d (turns sites n k ts) s m
+    → (now : Taped) × (slice_get m.world.subscribers d ≡ Some now) × (now.requests ≡ tape.requests ++ turns sites n k ts)
+turns_spell d sites zero k ts s m tape few calm all did = (tape, ap (λ (x : Stage Taped). slice_get x.world.subscribers d) did ∙ calm.there, sym (append-nil tape.requests))
+turns_spell d sites (suc n) k [] s m tape few calm all did = (tape, ap (λ (x : Stage Taped). slice_get x.world.subscribers d) did ∙ calm.there, sym (append-nil tape.requests))
+turns_spell d sites (suc n) k (t ∷ ts) s m tape few calm all did =
+    let parts = split d (poll sites k t) (turns sites n (k + 1) (requeue ts (polled t))) s m did in
+    let p = poll_spells d sites k t (omega (arith, few)) all.0.callsite all.0.is all.0.tested s parts.0 tape calm all.0.waits parts.1 in
+    let rest = turns_spell d sites n (k + 1) (requeue ts (polled t)) parts.0 m p.now (omega (arith, few)) p.calm (fit_after d sites k t s parts.0 tape p ts all (left_of t.steps) refl) parts.2 in
+    (rest.0, rest.1, rest.2 ∙ ap (λ (qs : List Request). qs ++ turns sites n (k + 1) (requeue ts (polled t))) p.requests ∙ append_assoc tape.requests (poll sites k t) (turns sites n (k + 1) (requeue ts (polled t))))
+
+-- ---- the makings
+
+the_handle : (a b : Handle) → ◌≡◌ {A = Option Handle} (Some a) (Some b) → a ≡ b
+the_handle a b e = cc e
+
+-- a tape on which some spans were made and nothing else
+pub record Making (d : ℕ) (sites : List Callsite) (i : ℕ) (s : Stage Taped) (tape : Taped) : Type 0 where
+  pub calm : Calm d sites 0 s tape
+  pub made : length tape.below.spans.made ≡ i
+  pub handles : length tape.handles ≡ i
+  pub table : length s.handles ≡ i
+
+get_before : {X : Type 0} (xs : List X) (x y : X) (n : ℕ) → slice_get xs n ≡ Some y → slice_get (xs ++ x ∷ []) n ≡ Some y
+get_before [] x y n is = absurd (cc is)
+get_before (z ∷ xs) x y zero is = is
+get_before (z ∷ xs) x y (suc n) is = get_before xs x y n is
+
+at_push : {X : Type 0} (xs : List X) (x d : X) (n : ℕ) → length xs ≡ n → slice_index_or (xs ++ x ∷ []) n d ≡ x
+at_push [] x d zero is = refl
+at_push [] x d (suc n) is = absurd (omega (arith, is))
+at_push (y ∷ xs) x d zero is = absurd (omega (arith, is))
+at_push (y ∷ xs) x d (suc n) is = at_push xs x d n (omega (arith, is))
+
+at_before : {X : Type 0} (xs : List X) (x d : X) (n : ℕ) → n < length xs → slice_index_or (xs ++ x ∷ []) n d ≡ slice_index_or xs n d
+at_before [] x d n less = absurd (omega (arith, less))
+at_before (y ∷ xs) x d zero less = refl
+at_before (y ∷ xs) x d (suc n) less = at_before xs x d n (omega (arith, less))
+
+longer : {X : Type 0} (xs : List X) (x : X) → length (xs ++ x ∷ []) ≡ length xs + 1
+longer [] x = refl
+longer (y ∷ xs) x = (let r = longer xs x in omega (arith, r))
+
+-- one making
+pub record MadeOne (d : ℕ) (sites : List Callsite) (i site : ℕ) (fields : Fields) (s m : Stage Taped) (tape : Taped) : Type 0 where
+  pub now : Taped
+  pub making : Making d sites (i + 1) m now
+  pub requests : now.requests ≡ tape.requests ++ on_lane 0 (call.New site place.Contextual fields) ∷ []
+  pub handle : slice_get m.handles i ≡ Some (handle_of d i site)
+  pub lone : span_at now.below.spans.made i ≡ alone site
+  pub once : handles_of now.handles i ≡ 1
+  pub earlier : (n : ℕ) → n < i → (span_at now.below.spans.made n ≡ span_at tape.below.spans.made n) × (handles_of now.handles n ≡ handles_of tape.handles n)
+  pub before : (n : ℕ) (h : Handle) → slice_get s.handles n ≡ Some h → slice_get m.handles n ≡ Some h
+
+make_spells : (d : ℕ) (sites : List Callsite) (i site : ℕ) (fields : Fields) (s m : Stage Taped) (tape : Taped) → Making d sites i s tape → IsDeclared (slice_get sites site) fields
+    → Made tape_spans (λ x. None) (λ x lane c. true) DoesTape TouchesTape d 0 site fields s m → MadeOne d sites i site fields s m tape
+make_spells d sites i site fields s m tape making declared new =
+    let calm = making.calm in
+    let c : Callsite = new.callsite in
+    let found : slice_get sites site ≡ Some c = ap (λ (xs : List Callsite). slice_get xs site) (sym calm.sites_are) ∙ new.is in
+    let through : new.admitted ≡ true = new.gate tape c calm.there new.is ∙ ap (λ i. gate i None true c.level) (calm.cached site (within sites site c found)) in
+    let one_made : MakesGated tape_spans (λ x. None) (λ x lane c. true) DoesTape TouchesTape d true s.world m.world s.lane 0 site c fields new.handle = subst (λ (b : Bool). MakesGated tape_spans (λ x. None) (λ x lane c. true) DoesTape TouchesTape d b s.world m.world s.lane 0 site c fields new.handle) through new.made in
+    let r = one_made.made in
+    let sc : SubscriberCall = NewSpan s.lane 0 parent.Current site one_made.callsite (values_of c fields) in
+    let q : Replaced (λ x y. DoesTape x sc y) s.world m.world d = record { before = r.before; later = r.later; there = r.there; did = r.did.1; others = r.others } in
+    let one = one_call s.world m.world d tape sc calm.there q in
+    let same_site : one_made.callsite ≡ c = the_callsite one_made.callsite c (sym one_made.is ∙ new.is) in
+    let before_is : r.before ≡ tape = the_tape r.before tape (sym r.there ∙ calm.there) in
+    let id_is : one_made.id ≡ i = r.did.0 ∙ ap (λ (x : Taped). length x.below.spans.made) before_is ∙ making.made in
+    let grown : one.now.below.spans ≡ record tape.below.spans { made = tape.below.spans.made ++ alone site ∷ [] } = one.spans_are ∙ ap (λ (ids : List ℕ). with_span tape.below.spans (place_on ids parent.Current) site) calm.none_open in
+    let made_is : one.now.below.spans.made ≡ tape.below.spans.made ++ alone site ∷ [] = ap (λ (x : Spans). x.made) grown in
+    let held_is : one.now.handles ≡ tape.handles ++ 1 ∷ [] = ap (λ (x : Taped). x.handles) one.is in
+    let handle_is : new.handle ≡ handle_of d i site = one_made.handle_is ∙ ap (λ (n : ℕ). handle_of d n site) id_is in
+    record {
+      now = one.now;
+      making = record {
+        calm = record {
+          there = one.there;
+          sites_are = one.sites ∙ calm.sites_are;
+          cached = λ n less. ap (λ x. cached_at x d n) one.cached ∙ calm.cached n less;
+          no_due = ap (λ (x : Taped). x.due) one.is ∙ calm.no_due;
+          no_entries = ap (λ (x : Taped). x.entries) one.is ∙ calm.no_entries;
+          guards = ap (λ (x : Taped). x.guards) one.is ∙ calm.guards;
+          guard_count = ap (λ gs. length gs) new.guards ∙ calm.guard_count;
+          none_open = ap (λ (l : Lane). entries_on l.id one.now.below.spans.lanes) new.lane ∙ ap (λ (x : Spans). entries_on s.lane.id x.lanes) grown ∙ calm.none_open;
+        };
+        made = ap (λ (xs : List Span). length xs) made_is ∙ longer tape.below.spans.made (alone site) ∙ ap (λ (n : ℕ). n + 1) making.made;
+        handles = ap (λ (xs : List ℕ). length xs) held_is ∙ longer tape.handles 1 ∙ ap (λ (n : ℕ). n + 1) making.handles;
+        table = ap (λ (xs : List Handle). length xs) new.handles ∙ longer s.handles new.handle ∙ ap (λ (n : ℕ). n + 1) making.table;
+      };
+      requests = ap (λ (x : Taped). x.requests) one.is ∙ ap (λ (fs : Fields). tape.requests ++ on_lane 0 (call.New site place.Contextual fs) ∷ []) (ap (λ (x : Callsite). named x (values_of c fields)) same_site ∙ named_back c fields (declared_by_it declared));
+      handle = ap (λ (hs : List Handle). slice_get hs i) new.handles ∙ get_push s.handles new.handle i making.table ∙ ap (λ (h : Handle). Some h) handle_is;
+      lone = ap (λ (xs : List Span). span_at xs i) made_is ∙ at_push tape.below.spans.made (alone site) no_span i making.made;
+      once = ap (λ (xs : List ℕ). handles_of xs i) held_is ∙ at_push tape.handles 1 0 i making.handles;
+      earlier = λ n less. (
+        ap (λ (xs : List Span). span_at xs n) made_is ∙ at_before tape.below.spans.made (alone site) no_span n (let e = making.made in omega (arith, e, less)),
+        ap (λ (xs : List ℕ). handles_of xs n) held_is ∙ at_before tape.handles 1 0 n (let e = making.handles in omega (arith, e, less)),
+      );
+      before = λ n h is. ap (λ (hs : List Handle). slice_get hs n) new.handles ∙ get_before s.handles new.handle h n is;
+    } where
+      the_callsite : (a b : Callsite) → ◌≡◌ {A = Option Callsite} (Some a) (Some b) → a ≡ b
+      the_callsite a b e = cc e
+
+      the_tape : (a b : Taped) → ◌≡◌ {A = Option Taped} (Some a) (Some b) → a ≡ b
+      the_tape a b e = cc e
+
+      within : {X : Type 0} (xs : List X) (n : ℕ) (x : X) → slice_get xs n ≡ Some x → n < length xs
+      within [] n x is = absurd (cc is)
+      within (y ∷ xs) zero x is = omega arith
+      within (y ∷ xs) (suc n) x is = (let r = within xs n x is in omega (arith, r))
+
+      declared_by_it : IsDeclared (slice_get sites site) fields → list_all (λ field. declares new.callsite field.0) fields ≡ true
+      declared_by_it declared = subst (λ (o : Option Callsite). IsDeclared o fields) (ap (λ (xs : List Callsite). slice_get xs site) (sym making.calm.sites_are) ∙ new.is) declared
+
+-- the makings of tasks that were tested
+pub record MadeAll (d : ℕ) (sites : List Callsite) (i : ℕ) (tasks : List Task) (s m : Stage Taped) (tape : Taped) : Type 0 where
+  pub now : Taped
+  pub calm : Calm d sites 0 m now
+  pub requests : now.requests ≡ tape.requests ++ makings tasks
+  pub fit : AllFit d sites m now (begun i tasks)
+  pub earlier : (n : ℕ) → n < i → (span_at now.below.spans.made n ≡ span_at tape.below.spans.made n) × (handles_of now.handles n ≡ handles_of tape.handles n)
+  pub before : (n : ℕ) (h : Handle) → slice_get s.handles n ≡ Some h → slice_get m.handles n ≡ Some h
+
+later_numbers : (j i : ℕ) (tasks : List Task) (t : Left) → t.number ≡ j → j < i → Differs t (begun i tasks)
+later_numbers j i [] t is less = tt
+later_numbers j i (x ∷ tasks) t is less = ((λ e. absurd (omega (arith, e, is, less))), later_numbers j (i + 1) tasks t is (omega (arith, less)))
+
+pub makings_spell : (d : ℕ) (sites : List Callsite) (i : ℕ) (tasks : List Task) (s m : Stage Taped) (tape : Taped) → Making d sites i s tape → AreTested sites tasks → CarriesTape d (makings tasks) s m → MadeAll d sites i tasks s m tape
+makings_spell d sites i [] s m tape making tested did = record {
+  now = tape;
+  calm = subst (λ (x : Stage Taped). Calm d sites 0 x tape) (sym did) making.calm;
+  requests = sym (append-nil tape.requests);
+  fit = tt;
+  earlier = λ n less. (refl, refl);
+  before = λ n h is. ap (λ (x : Stage Taped). slice_get x.handles n) did ∙ is;
+}
+makings_spell d sites i (t ∷ tasks) s m tape making tested (x, new, rest) =
+    let one = make_spells d sites i t.site t.fields s x tape making tested.0 new in
+    let all = makings_spell d sites (i + 1) tasks x m one.now one.making tested.2 rest in
+    let u : Left = record { number = i; site = t.site; steps = t.steps } in
+    let here : i < i + 1 = omega arith in
+    record {
+      now = all.now;
+      calm = all.calm;
+      requests = all.requests ∙ ap (λ (qs : List Request). qs ++ makings tasks) one.requests ∙ append_assoc tape.requests (on_lane 0 (call.New t.site place.Contextual t.fields) ∷ []) (makings tasks);
+      fit = (
+        record {
+          waits = record {
+            handle = all.before i (handle_of d i t.site) one.handle;
+            lone = (all.earlier i here).0 ∙ one.lone;
+            once = (all.earlier i here).1 ∙ one.once;
+          };
+          callsite = new.callsite;
+          is = ap (λ (xs : List Callsite). slice_get xs t.site) (sym making.calm.sites_are) ∙ new.is;
+          tested = tested.1;
+        },
+        later_numbers i (i + 1) tasks u refl here,
+        all.fit,
+      );
+      earlier = λ n less. (let more : n < i + 1 = omega (arith, less) in ((all.earlier n more).0 ∙ (one.earlier n less).0, (all.earlier n more).1 ∙ (one.earlier n less).1));
+      before = λ n h is. all.before n h (one.before n h is);
+    }
+
+-- a run over a new tape leaves the flat list
+pub run_spells : (d : ℕ) (sites : List Callsite) (tasks : List Task) (s m : Stage Taped) (tape : Taped) → all_polls (begun 0 tasks) < 2 ^ 63 → IsNewTape s.world d tape → s.world.sites ≡ sites → s.handles ≡ [] → s.guards ≡ []
+    → entries_on s.lane.id tape.below.spans.lanes ≡ [] → AreTested sites tasks → CarriesTape d (flat sites tasks) s m → (now : Taped) × (slice_get m.world.subscribers d ≡ Some now) × (now.requests ≡ flat sites tasks)
+run_spells d sites tasks s m tape few new same no_handles no_guards none_open tested did =
+    let ts : List Left = begun 0 tasks in
+    let parts = split d (makings tasks) (rounds sites (all_polls ts) 0 ts) s m did in
+    let all = makings_spell d sites 0 tasks s parts.0 tape (record {
+      calm = record {
+        there = new.there;
+        sites_are = same;
+        cached = λ n less. new.cached n (subst (λ (xs : List Callsite). n < length xs) (sym same) less);
+        no_due = new.no_due;
+        no_entries = new.no_entries;
+        guards = new.no_guards;
+        guard_count = ap (λ gs. length gs) no_guards;
+        none_open = none_open;
+      };
+      made = ap (λ (xs : List Span). length xs) new.no_spans;
+      handles = ap (λ (xs : List ℕ). length xs) new.no_handles;
+      table = ap (λ (xs : List Handle). length xs) no_handles;
+    }) tested parts.1 in
+    let as_turns : rounds sites (all_polls ts) 0 ts ≡ turns sites (all_polls ts) 0 ts = rounds_are_turns sites (all_polls ts) 0 ts (omega arith) in
+    let end = turns_spell d sites (all_polls ts) 0 ts parts.0 m all.now (omega (arith, few)) all.calm all.fit (subst (λ (rs : List Request). CarriesTape d rs parts.0 m) as_turns parts.2) in (
+      end.0,
+      end.1,
+      end.2 ∙ ap (λ (qs : List Request). qs ++ turns sites (all_polls ts) 0 ts) (all.requests ∙ ap (λ (qs : List Request). qs ++ makings tasks) new.no_requests) ∙ ap (λ (rs : List Request). makings tasks ++ rs) (sym as_turns),
+    )
+
+-- ---- as the function says it
+
+spans_there : (world : Worlds Taped) (d : ℕ) (tape : Taped) → IsNewTape world d tape → spans_in tape_spans world d ≡ tape.below.spans
+spans_there world d tape new = ap (λ (o : Option Taped). option_map_or tape_spans o no_spans) new.there
+
+pub few_new : (world : Worlds Taped) (d n : ℕ) (tape : Taped) → IsNewTape world d tape → n < 2 ^ 63 → length (spans_in tape_spans world d).made + n < 2 ^ 63
+few_new world d n tape new few = (let e = ap (λ (x : Spans). length x.made) (spans_there world d tape new) in let z = ap (λ (xs : List Span). length xs) new.no_spans in omega (arith, e, z, few))
+
+pub spelled : (sites : List Callsite) (tasks : List Task) (old new : Worlds Taped) (before later : Lane) (tape : Taped) (result : Result ℕ EnterError) → IsNewTape old (serving before) tape → Ready tape_spans (λ s lane number. 0) (λ s. Unit {0}) old before
+    → old.sites ≡ sites → AreTested sites tasks → all_polls (begun 0 tasks) < 2 ^ 60 → IfOk result (λ polls. Ran tape_spans (λ s. None) (λ s lane c. true) DoesTape TouchesTape sites tasks old new before later polls)
+    → IfOk result (λ polls. (now : Taped) × (slice_get new.subscribers (serving before) ≡ Some now) × (now.requests ≡ flat sites tasks))
+spelled sites tasks old new before later tape (Err e) is_new ready same tested few ran = tt
+spelled sites tasks old new before later tape (Ok polls) is_new ready same tested few ran =
+    let s : Stage Taped = record { world = old; lane = before; handles = []; guards = [] } in
+    run_spells (serving before) sites tasks s (record { world = new; lane = later; handles = ran.handles; guards = ran.guards }) tape (omega (arith, few)) is_new same refl refl
+    (sym (ap (λ (x : Spans). entries_on before.id x.lanes) (spans_there old (serving before) tape is_new)) ∙ ready.none_open) tested ran.carried
+
+-- a tape attaches nothing, so no lane is full for it
+pub never_full : (d : ℕ) (sites : List Callsite) (tasks : List Task) (s : Stage Taped) (new : Worlds Taped) (later : Lane) (result : Result ℕ EnterError)
+    → IfErr result (λ e. GaveUp tape_spans (λ s. None) (λ s lane c. true) (λ s id. false) DoesTape TouchesTape (λ s t. t ≡ s) d sites tasks e s new later) → result ≡ Err faults.Full → ⊥
+never_full d sites tasks s new later (Ok polls) gave is = absurd (cc is)
+never_full d sites tasks s new later (Err e) gave is = (let full = gave.stopped.full (cc is) in absurd (true≢false (sym full.attaches)))
