@@ -30,11 +30,11 @@ use std::sync::Wait;
 use std::test::Fail;
 use std::thread::Threads;
 use steps::{STEPS, stepped};
-use trace_run::sink::{MemSink, Sink, StdSink};
-use trace_run::source::{MemSource, Source, StdSource};
-use trace_run::status::Status;
 use trace_run::top::top;
-use trace_run::turns::Turn;
+use trace_stream::sink::{MemSink, Sink, StdSink};
+use trace_stream::source::{MemSource, Source, StdSource};
+use trace_stream::status::Status;
+use trace_stream::turns::Turn;
 use whole_runs::{WHOLE_RUNS, at_once};
 
 const SETTINGS: &str =

@@ -1,9 +1,5 @@
-pub mod StreamsLemmas
-pub mod LinesLemmas
-pub mod ReadingLemmas
-pub mod AllLinesLemmas
-pub mod AnswersLemmas
-pub mod ProgressLemmas
-pub mod EndsLemmas
+pub mod SumsLemmas
 pub mod MakingLemmas
 pub mod RenamesLemmas
+pub mod ThreadsLemmas
+pub mod ScriptsLemmas

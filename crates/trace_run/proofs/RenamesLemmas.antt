@@ -5,15 +5,15 @@ use Rattle.trace_eager.specs.Renamed.{IsRenamed}
 use Rattle.trace_eager.proofs.RenamedLemmas.{is_renamed}
 use Rattle.trace_pipeline.specs.Lines.{lines_of}
 use Rattle.trace_pipeline.specs.declared.signal.Signal.TheVariants as signal
-use Rattle.trace_run.specs.Carries.{Carries}
+use Rattle.trace_stream.specs.Carries.{Carries}
 use Rattle.trace_run.specs.Commands.{meaning_by}
-use Rattle.trace_run.specs.Commands.Run.{answered, runs}
-use Rattle.trace_run.specs.reading.Reading.{Leaves}
+use Rattle.trace_stream.specs.Runs.{answered, runs}
+use Rattle.trace_stream.specs.reading.Reading.{Leaves}
 use Rattle.trace_run.specs.Renames.{RenamesIds}
-use Rattle.trace_run.specs.Streams.{Streams, Puts}
+use Rattle.trace_stream.specs.Streams.{Streams, Puts}
 use Rattle.trace_run.specs.declared.invocation.Invocation.{Invocation}
-use Rattle.trace_run.specs.declared.status.Status.{Status}
-use Rattle.trace_run.specs.declared.status.Status.TheVariants as ends
+use Rattle.trace_stream.specs.declared.status.Status.{Status}
+use Rattle.trace_stream.specs.declared.status.Status.TheVariants as ends
 
 by_left : (before now : Streams) (left : Option (List ℕ)) → IfSome left (λ bytes. Leaves (answered signal.Traces) ends.Ok bytes now.left before.held now.held)
     → IfSome left (λ bytes. (text : List ℕ) × IsRenamed (lines_of bytes) text × Puts before.held now.held text)

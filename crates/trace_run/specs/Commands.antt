@@ -1,17 +1,16 @@
 -- What each command does: a row for each.
 use Rattle.std.specs.Prelude.{ℕ}
-use Rattle.trace_run.specs.Commands.Run.{runs}
+use Rattle.trace_stream.specs.Runs.{runs}
 use Rattle.trace_run.specs.Commands.Make.{makes}
 use Rattle.trace_run.specs.Commands.Tree.{trees}
 use Rattle.trace_run.specs.Commands.Tasks.{tasks}
 use Rattle.trace_run.specs.Commands.Batch.{batches}
 use Rattle.trace_run.specs.Commands.Threads.{works}
-use Rattle.trace_run.specs.Meaning.{Meaning}
+use Rattle.trace_stream.specs.Meaning.{Meaning}
 use Rattle.trace_run.specs.declared.invocation.Invocation.{Invocation}
 use Rattle.trace_run.specs.declared.invocation.Invocation.TheVariants as invocation
 use Rattle.trace_run.specs.declared.script.Command.{Command}
 use Rattle.trace_run.specs.declared.script.Command.TheVariants as command
-pub mod Run
 pub mod Make
 pub mod Tree
 pub mod Tasks

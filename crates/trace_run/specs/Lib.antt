@@ -1,9 +1,4 @@
-pub mod Streams
 pub mod Words
-pub mod Progress
-pub mod Meaning
 pub mod Commands
 pub mod Making
-pub mod Carries
 pub mod Renames
-pub mod reading

@@ -3,12 +3,12 @@ use Rattle.std.specs.Prelude.{◌≡◌, ℕ, List, IfSome}
 use Rattle.trace_eager.specs.Renamed.{IsRenamed}
 use Rattle.trace_pipeline.specs.Lines.{lines_of}
 use Rattle.trace_pipeline.specs.declared.signal.Signal.TheVariants as signal
-use Rattle.trace_run.specs.Streams.{Streams, Puts}
+use Rattle.trace_stream.specs.Streams.{Streams, Puts}
 use Rattle.trace_run.specs.declared.invocation.Invocation.{Invocation}
 use Rattle.trace_run.specs.declared.invocation.Invocation.TheVariants as invocation
 use Rattle.trace_run.specs.declared.script.Command.TheVariants as command
-use Rattle.trace_run.specs.declared.status.Status.{Status}
-use Rattle.trace_run.specs.declared.status.Status.TheVariants as ends
+use Rattle.trace_stream.specs.declared.status.Status.{Status}
+use Rattle.trace_stream.specs.declared.status.Status.TheVariants as ends
 
 -- On Ok of `run` the sink gained a text that is, where spans start early and that changes ids alone, the one of the same
 -- script without that, with each id replaced by the number of its span's making.

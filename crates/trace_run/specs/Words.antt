@@ -1,4 +1,4 @@
--- What the words of an invocation ask for, and the numbers that it ends with.
+-- What the words of an invocation ask for.
 use Rattle.std.specs.Prelude.{ℕ, List, [], ◌∷◌, if◌then◌else◌, Option, Some, None, option_map, option_and_then, ◌&&◌, nat_le, codes, bytes_eq}
 use Rattle.trace_run.specs.declared.batch.TheConstants.{MOST_ITEMS}
 use Rattle.trace_run.specs.declared.invocation.Invocation.{Invocation}
@@ -7,8 +7,6 @@ use Rattle.trace_run.specs.declared.script.Command.TheVariants.{Run, Make, Tree,
 use Rattle.trace_pipeline.specs.declared.generated.TheConstants.{MOST_ROUNDS}
 use Rattle.trace_pipeline.specs.text.Decimals.{u128_word}
 use Rattle.trace_pipeline.specs.declared.signal.Signal.TheVariants.{Traces, Metrics}
-use Rattle.trace_run.specs.declared.status.Status.{Status}
-use Rattle.trace_run.specs.declared.status.Status.TheVariants as ends
 
 -- a number from 1 to a greatest one, by its decimal
 abbrev pub number_up_to : ℕ → List ℕ → Option ℕ
@@ -34,13 +32,3 @@ invocation_of [] = None
 invocation_of (word ∷ []) = invocation_by word
 invocation_of (word ∷ number ∷ []) = invocation_with word number
 invocation_of (word ∷ number ∷ other ∷ more) = None
-
--- the number of a status
-abbrev pub number_of : Status → ℕ
-number_of ends.Ok = 0
-number_of ends.Usage = 1
-number_of ends.Refused = 2
-number_of ends.ReadFault = 3
-number_of ends.WriteFault = 4
-number_of ends.Memory = 5
-number_of ends.TooLong = 6

@@ -1,28 +1,30 @@
 //! The command `batch`: a script is run, and the records of its finished spans are written in batches.
 //!
 //! Its answers are made in threads, so it may wait, which an `AllLines` may not; it goes the same way as `answer_all`.
-ghost use Rattle.std.specs.Prelude.{◌≡◌, ◌<◌, ℕ, IfOk};
-ghost use Rattle.batch_lines.specs.Texts.{TellsAll};
+ghost use Rattle.std.specs.Prelude.{◌≡◌, ◌<◌, ℕ, not, Some, IfOk};
+ghost use Rattle.trace_batch.specs.declared.relay.TheConstants.{MOST_LANES};
 ghost use Rattle.trace_pipeline.specs.Lines.{lines_of};
-ghost use Rattle.trace_run.specs.reading.AllLines.{AnswersCut, Tells};
-ghost use Rattle.trace_run.specs.Carries.{Carries};
-ghost use Rattle.trace_run.specs.Commands.Batch.{accepts_few, batches};
-ghost use Rattle.trace_run.specs.Streams.{StopsReading, StopsWriting, seen};
+ghost use Rattle.trace_stream.specs.reading.AllLines.{AnswersCut, Tells};
+ghost use Rattle.trace_stream.specs.Carries.{Carries};
+ghost use Rattle.trace_run.specs.Commands.Batch.{TellsAll, accepts_few, batches};
+ghost use Rattle.trace_stream.specs.Streams.{StopsReading, StopsWriting, seen};
 
-use crate::all_lines::status_of;
-use crate::failed::Failed;
-use crate::input::{End, Input, read_all};
-use crate::lines::whole_part;
-use crate::sink::{Sink, write_all};
-use crate::source::Source;
-use crate::status::Status;
-use batch_lines::{batch_answer, batch_refusal};
+use batch_lines::batches_text;
 use otel_base::memory::Memory;
+use otel_base::record::Record;
 use std::alloc::Global;
 use std::sync::Wait;
 use std::thread::Threads;
+use trace_batch::relay::MOST_LANES;
 use trace_pipeline::limits::MAX_INPUT;
-use trace_records::Answer;
+use trace_records::{Answer, FinishedSpans, follow_lines, refusal_of, refused_answer};
+use trace_stream::all_lines::status_of;
+use trace_stream::failed::Failed;
+use trace_stream::input::{End, Input, read_all};
+use trace_stream::lines::whole_part;
+use trace_stream::sink::{Sink, write_all};
+use trace_stream::source::Source;
+use trace_stream::status::Status;
 use turnstile::Turnstile;
 
 /// How many records a batch has at most.
@@ -77,12 +79,49 @@ fn batch_input<H: Threads + Wait + Sync, T: Turnstile + Sync>(
     }
 }
 
+// What is written for all lines of an input, which are these bytes.
+fn batch_answer<H: Threads + Wait + Sync, T: Turnstile + Sync>(
+    rt: &H,
+    alloc: Global,
+    turns: &T,
+    size: u64,
+    bytes: &[u8],
+) -> Result<Answer, Memory>
+    requires { 0 < size }
+    ensures text { IfOk result (λ answer. TellsAll size (lines_of bytes.now) answer.text.items) }
+    ensures refused { IfOk result (λ answer. accepts_few (lines_of bytes.now) ≡ not answer.refused) }
+{
+    match follow_lines::<Record>(alloc, Some(MOST_LANES), bytes)?.end()? {
+        Ok(finished) => {
+            let FinishedSpans {
+                spans,
+                lanes,
+                lane_count,
+                open_spans,
+            } = finished;
+            let text = batches_text(
+                rt,
+                alloc,
+                turns,
+                size,
+                spans,
+                lanes.as_slice(),
+                lane_count,
+                open_spans,
+            )?;
+            let refused = false;
+            Ok(Answer { text, refused })
+        }
+        Err(line) => refused_answer(alloc, line),
+    }
+}
+
 // What is written for whole lines at which an input breaks off, whatever the size.
 fn batch_cut(alloc: Global, part: &[u8]) -> Result<Answer, Memory>
     ensures { (size : ℕ) → IfOk result (λ answer. AnswersCut accepts_few (TellsAll size)
         answer.refused (lines_of part.now) answer.text.items) }
 {
-    match batch_refusal(alloc, part)? {
+    match refusal_of(alloc, Some(MOST_LANES), part)? {
         Some(text) => Ok(Answer {
             text,
             refused: true,

@@ -6,11 +6,8 @@ ghost use Rattle.trace_pipeline.specs.Replay.{busy_in, busy_of};
 ghost use Rattle.trace_records.specs.Following.{without_taken};
 ghost use Rattle.trace_run.specs.Commands.Make.{LeavesSum, CompletesSum};
 ghost use Rattle.trace_run.specs.Making.{SumsUp, IsMadeLine, with_records, Counts, Serves};
-ghost use Rattle.trace_run.specs.Streams.{HasFault, StopsWriting};
+ghost use Rattle.trace_stream.specs.Streams.{HasFault, StopsWriting};
 
-use crate::failed::Failed;
-use crate::sink::{Sink, write_all};
-use crate::status::Status;
 use otel_base::memory::Memory;
 use otel_base::record::Record;
 use otel_base::value::{KeyValue, OtelValue};
@@ -22,6 +19,9 @@ use trace_pipeline::generated::laws::valid;
 use trace_pipeline::generated::{MOST_ROUNDS, made_settings, round};
 use trace_pipeline::write::append_summary;
 use trace_pipeline::write::summary::Summary;
+use trace_stream::failed::Failed;
+use trace_stream::sink::{Sink, write_all};
+use trace_stream::status::Status;
 
 /// Runs the script of so many rounds, and writes its summary. It reads nothing; nothing is written where no memory
 /// was to be had.

@@ -1,22 +1,22 @@
 //! The commands of the program, over any source and any sink.
 ghost use Rattle.std.specs.Prelude.{◌≡◌, false};
-ghost use Rattle.trace_run.specs.Carries.{Carries};
+ghost use Rattle.trace_stream.specs.Carries.{Carries};
 ghost use Rattle.trace_run.specs.Commands.{meaning_of};
 ghost use Rattle.trace_run.specs.Renames.{RenamesIds};
-ghost use Rattle.trace_run.specs.Streams.{StopsReading, StopsWriting, seen};
+ghost use Rattle.trace_stream.specs.Streams.{StopsReading, StopsWriting, seen};
 ghost use Rattle.trace_run.specs.declared.invocation.Invocation.TheVariants.{Script};
 
-use crate::all_lines::answer_all;
 use crate::make::make;
-use crate::run::run;
-use crate::sink::Sink;
-use crate::source::Source;
-use crate::status::Status;
 use crate::tasks::Tasks;
 use crate::tree::Tree;
 use std::alloc::{AllocGlobal, Global};
 use std::random::RandomSource;
 use trace_pipeline::Signal;
+use trace_stream::all_lines::answer_all;
+use trace_stream::run::run;
+use trace_stream::sink::Sink;
+use trace_stream::source::Source;
+use trace_stream::status::Status;
 
 /// What the program does without threads.
 #[derive(Clone, Copy, Debug, PartialEq, Eq)]

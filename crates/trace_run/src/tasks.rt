@@ -1,12 +1,12 @@
 //! The command `tasks`: a script of tasks is read, its tasks are polled in turn, and the records of their spans are written.
 ghost use Rattle.task_runs.specs.Texts.{accepts_tasks, TellsTasks};
 
-use crate::all_lines::AllLines;
 use otel_base::memory::Memory;
 use std::alloc::{AllocGlobal, Global};
 use std::random::RandomSource;
 use task_runs::{tasks_answer, tasks_refusal};
 use trace_records::Answer;
+use trace_stream::all_lines::AllLines;
 
 /// The command, with the runtime that polls need.
 #[derive_where(Clone, Copy)]

@@ -5,68 +5,76 @@
 ghost use Rattle.std.specs.Prelude.{◌≡◌, IfOk};
 ghost use Rattle.thread_run.specs.Inputs.{TellsThreads, accepts_threads};
 ghost use Rattle.trace_pipeline.specs.Lines.{lines_of};
-ghost use Rattle.trace_run.specs.reading.AllLines.{AnswersCut, Tells};
-ghost use Rattle.trace_run.specs.Carries.{Carries};
-ghost use Rattle.trace_run.specs.Commands.Threads.{works};
-ghost use Rattle.trace_run.specs.Streams.{StopsReading, StopsWriting, seen};
+ghost use Rattle.trace_stream.specs.reading.AllLines.{AnswersCut, Tells};
+ghost use Rattle.trace_stream.specs.Carries.{Carries};
+ghost use Rattle.trace_run.specs.Commands.Threads.{AnswersEnded, ComesOf, works};
+ghost use Rattle.trace_stream.specs.Streams.{StopsReading, StopsWriting, seen};
 
-use crate::all_lines::status_of;
-use crate::failed::Failed;
-use crate::input::{End, Input, read_all};
-use crate::lines::whole_part;
-use crate::sink::{Sink, write_all};
-use crate::source::Source;
-use crate::status::Status;
 use otel_base::memory::Memory;
 use std::alloc::Global;
 use std::sync::Wait;
 use std::thread::Threads;
-use thread_run::{threads_answer, threads_refusal};
+use thread_run::{Outcome, threads_answer, threads_refusal};
+use thread_work::Ended;
 use trace_pipeline::limits::MAX_INPUT;
 use trace_records::Answer;
+use trace_stream::all_lines::status_of;
+use trace_stream::failed::Failed;
+use trace_stream::input::{End, Input, read_all};
+use trace_stream::lines::whole_part;
+use trace_stream::sink::{Sink, write_all};
+use trace_stream::source::Source;
+use trace_stream::status::Status;
 use turnstile::Turnstile;
 
 /// Runs a script for threads. All its lines are tested before any thread starts. It waits for the threads of its workers;
-/// `turns` is called round each of their calls.
-pub fn run_threads<H: Threads + Wait + Sync, T: Turnstile + Sync, R: Source, W: Sink>(
+/// `turns` is called round each of their calls. Beside its status it answers, at `Ok`, what came of each shared span: a
+/// history that fits, its record, and the pass that has seen it.
+pub fn run_threads<H: Threads + Wait + Sync, R: Source, W: Sink, T: Turnstile + Sync>(
     rt: &H,
     alloc: Global,
-    turns: &T,
     source: &mut R,
     sink: &mut W,
-) -> Status
+    turns: &T,
+) -> (Status, Vec<Ended>)
     ensures carries { let at = seen R.remaining R.ends R.faults W.holds W.faults in
-        Carries works result (at source.old sink.old) (at source.new sink.new) }
-    ensures read_stops { result ≡ Status.ReadFault → StopsReading R.faults R.remaining source.old source.new }
-    ensures write_stops { result ≡ Status.WriteFault → StopsWriting W.faults W.holds sink.old sink.new }
+        Carries works result.0 (at source.old sink.old) (at source.new sink.new) }
+    ensures ended { let at = seen R.remaining R.ends R.faults W.holds W.faults in
+        AnswersEnded result.0 result.1.items (at source.old sink.old) (at source.new sink.new) }
+    ensures read_stops { result.0 ≡ Status.ReadFault → StopsReading R.faults R.remaining source.old source.new }
+    ensures write_stops { result.0 ≡ Status.WriteFault → StopsWriting W.faults W.holds sink.old sink.new }
 {
     let Ok(input) = read_all(alloc, source) else {
-        return Status::Memory;
+        return (Status::Memory, Vec::new(alloc));
     };
-    let Ok(answer) = threads_input(rt, alloc, turns, &input) else {
-        return Status::Memory;
+    let Ok(outcome) = threads_input(rt, alloc, &input, turns) else {
+        return (Status::Memory, Vec::new(alloc));
     };
-    match write_all(sink, answer.text.as_slice()) {
-        Ok(()) => status_of(answer.refused, input.end),
-        Err(Failed) => Status::WriteFault,
+    match write_all(sink, outcome.answer.text.as_slice()) {
+        Ok(()) => (status_of(outcome.answer.refused, input.end), outcome.ended),
+        Err(Failed) => (Status::WriteFault, Vec::new(alloc)),
     }
 }
 
-// What is written for what was read: all of it, or its whole lines that end within the longest input.
+// What comes of what was read: of all of it, or of its whole lines that end within the longest input.
 fn threads_input<H: Threads + Wait + Sync, T: Turnstile + Sync>(
     rt: &H,
     alloc: Global,
-    turns: &T,
     input: &Input,
-) -> Result<Answer, Memory>
-    ensures { IfOk result (λ answer.
-        Tells accepts_threads TellsThreads input.now.end input.now.bytes.items answer) }
+    turns: &T,
+) -> Result<Outcome, Memory>
+    ensures tells { IfOk result (λ outcome.
+        Tells accepts_threads TellsThreads input.now.end input.now.bytes.items outcome.answer) }
+    ensures ended { IfOk result (λ outcome.
+        ComesOf input.now.end input.now.bytes.items outcome.ended.items outcome.answer.text.items) }
 {
     match input.end {
         End::Whole => threads_answer(rt, alloc, turns, input.bytes.as_slice()),
         End::Fault | End::TooLong => {
             let most = input.bytes.len().min(MAX_INPUT);
-            threads_cut(alloc, whole_part(&input.bytes[..most]))
+            let answer = threads_cut(alloc, whole_part(&input.bytes[..most]))?;
+            let ended = Vec::new(alloc);
+            Ok(Outcome { answer, ended })
         }
     }
 }

@@ -1,22 +1,22 @@
 //! The entry point of the program, over any source and any sink.
 ghost use Rattle.std.specs.Prelude.{◌≡◌, ◌↔◌, map, false, None, IfSome, string_bytes};
-ghost use Rattle.trace_run.specs.Carries.{Carries};
+ghost use Rattle.trace_stream.specs.Carries.{Carries};
 ghost use Rattle.trace_run.specs.Commands.{meaning_by};
 ghost use Rattle.trace_run.specs.Renames.{RenamesIds};
-ghost use Rattle.trace_run.specs.Streams.{StopsReading, StopsWriting, seen};
+ghost use Rattle.trace_stream.specs.Streams.{StopsReading, StopsWriting, seen};
 ghost use Rattle.trace_run.specs.Words.{invocation_of};
 
 use crate::batch::run_batch;
 use crate::invocation::{Invocation, invocation_of};
 use crate::script::run_script;
-use crate::sink::Sink;
-use crate::source::Source;
-use crate::status::Status;
 use crate::threads::run_threads;
 use std::alloc::{AllocGlobal, Global};
 use std::random::RandomSource;
 use std::sync::Wait;
 use std::thread::Threads;
+use trace_stream::sink::Sink;
+use trace_stream::source::Source;
+use trace_stream::status::Status;
 use turnstile::OpenTurnstile;
 
 /// Carries out what the words ask for, and answers how it ended. Words that ask for nothing touch neither source
@@ -53,7 +53,7 @@ pub fn top<H: Threads + Wait + Sync + RandomSource + AllocGlobal, R: Source, W: 
             source,
             sink,
         ),
-        Some(Invocation::Threads) => run_threads(rt, alloc, &OpenTurnstile, source, sink),
+        Some(Invocation::Threads) => run_threads(rt, alloc, source, sink, &OpenTurnstile).0,
         None => Status::Usage,
     }
 }

@@ -1,12 +1,15 @@
 //! The command `tree`: a script is run, and its finished spans are written as trees.
+ghost use Rattle.std.specs.Prelude.{None};
 ghost use Rattle.trace_pipeline.specs.Report.{accepts};
-ghost use Rattle.tree_lines.specs.Texts.{TellsTrees};
+ghost use Rattle.trace_run.specs.Commands.Tree.{TellsTrees};
 
-use crate::all_lines::AllLines;
 use otel_base::memory::Memory;
+use span_laws::ids::ids;
 use std::alloc::Global;
-use trace_records::Answer;
-use tree_lines::{tree_answer, tree_refusal};
+use trace_records::{Answer, follow_lines, refusal_of, refused_answer};
+use trace_stream::all_lines::AllLines;
+use trace_tree::TreeSpan;
+use tree_lines::tree_text;
 
 /// The command.
 #[derive(Clone, Copy)]
@@ -18,10 +21,19 @@ impl AllLines for Tree {
     ghost writes = { λ _. TellsTrees };
 
     fn answer(&mut self, alloc: Global, bytes: &[u8]) -> Result<Answer, Memory> {
-        tree_answer(alloc, bytes)
+        match follow_lines::<TreeSpan>(alloc, None, bytes)?.end()? {
+            Ok(finished) => {
+                // The spans' ids differ, which their forest asks for.
+                ids();
+                let text = tree_text(alloc, finished.spans.as_slice(), finished.open_spans)?;
+                let refused = false;
+                Ok(Answer { text, refused })
+            }
+            Err(line) => refused_answer(alloc, line),
+        }
     }
 
     fn refusal(&mut self, alloc: Global, bytes: &[u8]) -> Result<Option<Vec<u8>>, Memory> {
-        tree_refusal(alloc, bytes)
+        refusal_of(alloc, None, bytes)
     }
 }

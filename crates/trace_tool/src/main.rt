@@ -5,7 +5,7 @@ use std::env;
 use std::io::{self, ErrorKind};
 use std::process::ExitCode;
 use trace_run::top::top;
-use trace_run::{Status, StdSink, StdSource};
+use trace_stream::{Status, StdSink, StdSource};
 
 fn main(rt: HostRuntime) -> ExitCode {
     let status = match words(&rt) {

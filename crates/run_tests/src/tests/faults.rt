@@ -5,8 +5,11 @@ use std::sync::Wait;
 use std::test::Fail;
 use std::thread::Threads;
 use trace_pipeline::limits::MAX_INPUT;
-use trace_run::status::Status;
-use trace_run::turns::Turn;
+use trace_stream::status::Status;
+use trace_stream::turns::Turn;
+
+// The line of a span that threads share, and that of a worker.
+const SHARED: &str = "{\"at\":0,\"shared\":0}\n{\"worker\":[]}\n";
 
 // How many bytes the first lines have.
 fn size_of_lines(text: &str, lines: usize) -> usize {
@@ -105,29 +108,33 @@ fn breaks_off(rt: HostRuntime) -> Result<(), Fail> {
     Ok(())
 }
 
-// What `tree` writes of a script behind whose second line the reading fails.
-fn broken_tree<H: Threads + Wait + Sync + RandomSource + AllocGlobal>(
+// What the command of a word writes of a script behind whose second line the reading fails.
+fn broken<H: Threads + Wait + Sync + RandomSource + AllocGlobal>(
     rt: &H,
+    word: &str,
     rest: &str,
 ) -> Result<String, Fail> {
     let input = script(rt, rest)?;
     let most = size_of_lines(input.as_str(), 2);
     let reads = [Turn::Moves { most }, Turn::Fails];
-    ran_as(rt, "tree", input.as_bytes(), &reads, &[])
+    ran_as(rt, word, input.as_bytes(), &reads, &[])
 }
 
 // A command that reads all lines before it writes leaves nothing of an input that breaks off, but for a refused line.
 #[test]
-fn writes_no_tree_of_a_broken_input(rt: HostRuntime) -> Result<(), Fail> {
-    assert_eq!(rt; broken_tree(&rt, FIRST)?.as_str(), "= 3\n");
+fn writes_nothing_of_a_broken_input(rt: HostRuntime) -> Result<(), Fail> {
     let refused = "{\"line\":2,\"refused\":\"BadLine\"}\n= 2\n";
-    assert_eq!(rt; broken_tree(&rt, "7\n8\n")?.as_str(), refused);
+    for (word, rest) in [("tree", FIRST), ("threads", SHARED)] {
+        assert_eq!(rt; broken(&rt, word, rest)?.as_str(), "= 3\n");
+        assert_eq!(rt; broken(&rt, word, "7\n8\n")?.as_str(), refused);
+    }
     Ok(())
 }
 
-// Whether a text that is filled up with blanks to so many bytes is answered so.
+// Whether a text that is filled up with blanks to so many bytes is answered so by the command of a word.
 fn fills<H: Threads + Wait + Sync + RandomSource + AllocGlobal>(
     rt: &H,
+    word: &str,
     text: &str,
     size: usize,
     wanted: &str,
@@ -135,18 +142,20 @@ fn fills<H: Threads + Wait + Sync + RandomSource + AllocGlobal>(
     let mut input = Vec::new(rt.alloc());
     input.extend_from_slice(text.as_bytes())?;
     input.resize(size, b' ')?;
-    Ok(ran(rt, input.as_slice(), &[], &[])?.as_str() == wanted)
+    Ok(ran_as(rt, word, input.as_slice(), &[], &[])?.as_str() == wanted)
 }
 
 #[test]
 fn tells_a_long_input(rt: HostRuntime) -> Result<(), Fail> {
     let refused = "{\"line\":1,\"refused\":\"BadLine\"}\n= 2\n";
-    assert!(rt; fills(&rt, "7\n", MAX_INPUT + 2, refused)?);
+    assert!(rt; fills(&rt, "run", "7\n", MAX_INPUT + 2, refused)?);
     let longest = "{\"done\":true,\"open\":0,\"records\":0}\n= 0\n";
-    assert!(rt; fills(&rt, SETTINGS, MAX_INPUT, longest)?);
+    assert!(rt; fills(&rt, "run", SETTINGS, MAX_INPUT, longest)?);
     let made = script(&rt, "{\"at\":0,\"do\":\"new\",\"lane\":0,\"site\":0}\n")?;
     let over = "{\"enabled\":true,\"handle\":0,\"reply\":2}\n= 6\n";
-    assert!(rt; fills(&rt, made.as_str(), MAX_INPUT + 1, over)?);
+    assert!(rt; fills(&rt, "run", made.as_str(), MAX_INPUT + 1, over)?);
+    let shared = script(&rt, SHARED)?;
+    assert!(rt; fills(&rt, "threads", shared.as_str(), MAX_INPUT + 1, "= 6\n")?);
     Ok(())
 }
 

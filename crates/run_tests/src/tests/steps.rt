@@ -3,8 +3,8 @@ use span_pipeline::Pipeline;
 use std::test::Fail;
 use trace_base::discard::Discard;
 use trace_pipeline::Signal;
-use trace_run::answers::{Stage, answer, open};
-use trace_run::written::Written;
+use trace_stream::answers::{Stage, answer, open};
+use trace_stream::written::Written;
 
 /// Scripts, written as the runs are, but that `~` ends them. The request `?` asks how many spans are open.
 pub const STEPS: &str = r#"

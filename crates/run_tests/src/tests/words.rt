@@ -4,9 +4,9 @@ use std::random::RandomSource;
 use std::sync::Wait;
 use std::test::Fail;
 use std::thread::Threads;
-use trace_run::sink::SureSink;
-use trace_run::source::SureSource;
 use trace_run::top::top;
+use trace_stream::sink::SureSink;
+use trace_stream::source::SureSource;
 
 // Words that ask for nothing, with a stroke between them.
 const UNKNOWN: &str =

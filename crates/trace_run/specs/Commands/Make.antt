@@ -6,10 +6,10 @@ use Rattle.trace_pipeline.specs.declared.generated.TheConstants.{MOST_ROUNDS}
 use Rattle.trace_pipeline.specs.Generated.{made_setup, made_requests, made_script}
 use Rattle.trace_pipeline.specs.Replay.{replayed, summary_of, summary_text}
 use Rattle.trace_pipeline.specs.Report.{IsValid}
-use Rattle.trace_run.specs.Meaning.{Meaning}
-use Rattle.trace_run.specs.Streams.{Streams, IsQuiet, Puts, PutsFront}
-use Rattle.trace_run.specs.declared.status.Status.{Status}
-use Rattle.trace_run.specs.declared.status.Status.TheVariants as ends
+use Rattle.trace_stream.specs.Meaning.{Meaning}
+use Rattle.trace_stream.specs.Streams.{Streams, IsQuiet, Puts, PutsFront}
+use Rattle.trace_stream.specs.declared.status.Status.{Status}
+use Rattle.trace_stream.specs.declared.status.Status.TheVariants as ends
 
 -- the line of what a history comes to, if it is there
 abbrev pub line_if : Option History → List ℕ

@@ -1,7 +1,6 @@
 use Rattle.std.proofs.Common.{◌∙◌}
-use Rattle.batch_lines.specs.Texts.{TellsAll}
-use Rattle.trace_run.specs.Commands.Batch.{accepts_few}
-use Rattle.trace_run.proofs.AllLinesLemmas.{tells_cut}
+use Rattle.trace_run.specs.Commands.Batch.{TellsAll, accepts_few}
+use Rattle.trace_stream.proofs.AllLinesLemmas.{tells_cut}
 use Rattle.trace_run.proofs.batch.batch_input.Goals as goal
 
 pub returns-in-Fault : goal.returns-in-Fault

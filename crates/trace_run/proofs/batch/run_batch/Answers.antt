@@ -1,8 +1,7 @@
 use Rattle.std.proofs.Common.{sym, ◌∙◌}
-use Rattle.batch_lines.specs.Texts.{TellsAll}
-use Rattle.trace_run.specs.Commands.Batch.{accepts_few}
-use Rattle.trace_run.specs.Streams.{Streams, seen}
-use Rattle.trace_run.proofs.AllLinesLemmas.{IsRead, carries_whole, carries_broken, fault_of}
+use Rattle.trace_run.specs.Commands.Batch.{TellsAll, accepts_few}
+use Rattle.trace_stream.specs.Streams.{Streams, seen}
+use Rattle.trace_stream.proofs.AllLinesLemmas.{IsRead, carries_whole, carries_broken, fault_of}
 use Rattle.trace_run.proofs.batch.run_batch.Goals as goal
 
 pub returns-in-Ok-write_all-clause-carries : goal.returns-in-Ok-write_all-clause-carries

@@ -1,6 +1,6 @@
 use Rattle.std.proofs.Common.{refl}
-use Rattle.trace_run.specs.Streams.{Streams, seen}
-use Rattle.trace_run.proofs.EndsLemmas.{carries_made}
+use Rattle.trace_stream.specs.Streams.{Streams, seen}
+use Rattle.trace_run.proofs.SumsLemmas.{carries_made}
 use Rattle.trace_run.proofs.RenamesLemmas.{renames_ids}
 use Rattle.trace_run.specs.declared.invocation.Invocation.TheVariants as invocation
 use Rattle.trace_run.specs.declared.script.Command.TheVariants as command

@@ -1,7 +1,8 @@
 use Rattle.std.proofs.Common.{sym, ◌∙◌}
 use Rattle.thread_run.specs.Inputs.{accepts_threads, TellsThreads}
-use Rattle.trace_run.specs.Streams.{Streams, seen}
-use Rattle.trace_run.proofs.AllLinesLemmas.{IsRead, carries_whole, carries_broken, fault_of}
+use Rattle.trace_stream.specs.Streams.{Streams, seen}
+use Rattle.trace_stream.proofs.AllLinesLemmas.{IsRead, carries_whole, carries_broken, fault_of}
+use Rattle.trace_run.proofs.ThreadsLemmas.{ended_of, accepted_of}
 use Rattle.trace_run.proofs.threads.run_threads.Goals as goal
 
 pub returns-in-Ok-write_all-clause-carries : goal.returns-in-Ok-write_all-clause-carries
@@ -21,12 +22,23 @@ returns-in-Ok-write_all-clause-carries g c =
       end_once = read.end_once;
     } in
     let did = carries_whole accepts_threads TellsThreads c.in-Ok.input.end before now
-    c.in-Ok.input.bytes.items c.in-Ok-threads_input.answer is c.in-Ok-threads_input.ensures (rw c.as_slice.ensures.value at c.in-Ok-write_all.ensures.ok) in
+    c.in-Ok.input.bytes.items c.in-Ok-threads_input.outcome.answer is c.in-Ok-threads_input.ensures.tells (rw c.as_slice.ensures.value at c.in-Ok-write_all.ensures.ok) in
     rw c.status_of.ensures (record { does = did.does; ended = did.ended })
+
+pub returns-in-Ok-write_all-clause-ended : goal.returns-in-Ok-write_all-clause-ended
+returns-in-Ok-write_all-clause-ended g c =
+    let read = c.in-Ok.ensures in
+    let before : Streams = seen g.R.Source.remaining g.R.Source.ends g.R.Source.faults g.W.Sink.holds g.W.Sink.faults c.args.source.now c.args.sink.now in
+    let now : Streams = seen g.R.Source.remaining g.R.Source.ends g.R.Source.faults g.W.Sink.holds g.W.Sink.faults c.read_all.new.source c.write_all.new.sink in
+    let o = c.in-Ok-threads_input.outcome in
+    rw c.status_of.ensures
+    (ended_of o.answer.refused c.in-Ok.input.end before now c.in-Ok.input.bytes.items o.answer.text.items o.ended.items read.bytes read.whole
+    (accepted_of c.in-Ok.input.end c.in-Ok.input.bytes.items o c.in-Ok-threads_input.ensures.tells)
+    c.in-Ok-threads_input.ensures.ended (rw c.as_slice.ensures.value at c.in-Ok-write_all.ensures.ok))
 
 pub returns-in-Ok-write_all-clause-read_stops : goal.returns-in-Ok-write_all-clause-read_stops
 returns-in-Ok-write_all-clause-read_stops g c =
-    λ told. c.in-Ok.ensures.stops (fault_of c.in-Ok-threads_input.answer.refused c.in-Ok.input.end (sym c.status_of.ensures ∙ told))
+    λ told. c.in-Ok.ensures.stops (fault_of c.in-Ok-threads_input.outcome.answer.refused c.in-Ok.input.end (sym c.status_of.ensures ∙ told))
 
 pub returns-clause-carries : goal.returns-clause-carries
 returns-clause-carries g c =
@@ -34,6 +46,6 @@ returns-clause-carries g c =
     let before : Streams = seen g.R.Source.remaining g.R.Source.ends g.R.Source.faults g.W.Sink.holds g.W.Sink.faults c.args.source.now c.args.sink.now in
     let now : Streams = seen g.R.Source.remaining g.R.Source.ends g.R.Source.faults g.W.Sink.holds g.W.Sink.faults c.read_all.new.source c.write_all.new.sink in
     let did = carries_broken accepts_threads TellsThreads c.in-Ok.input.end before now
-    c.in-Ok.input.bytes.items c.in-Ok-threads_input.answer read.bytes read.whole c.in-Ok-threads_input.ensures
+    c.in-Ok.input.bytes.items c.in-Ok-threads_input.outcome.answer read.bytes read.whole c.in-Ok-threads_input.ensures.tells
     (rw c.as_slice.ensures.value at c.in-Err.ensures.err) c.in-Err.ensures.cause read.end_once in
     record { does = did.does; ended = did.ended }

@@ -1,4 +1,0 @@
-use Rattle.trace_run.proofs.input.read_all.Goals as goal
-
-pub returns-in-Err-clause-stops : goal.returns-in-Err-clause-stops
-returns-in-Err-clause-stops g c = λ fault. (c.loop-block.source, c.loop-block.invariant.sure, c.in-Err.ensures.kept)

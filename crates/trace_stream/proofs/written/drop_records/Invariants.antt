@@ -1,0 +1,12 @@
+use Rattle.std.proofs.Common.{◌≡◌, length}
+use Rattle.trace_records.specs.Following.{without_taken}
+use Rattle.trace_stream.proofs.written.drop_records.Given as goal
+
+abbrev pub invariant-loop : goal.invariant-loop
+invariant-loop l = record {
+  measures : l.pipeline.measures ≡ l.initial.pipeline.measures;
+  state : without_taken l.pipeline ≡ without_taken l.initial.pipeline;
+}
+
+abbrev pub decreases-loop : goal.decreases-loop
+decreases-loop l = length l.pipeline.recording.finished

@@ -1,0 +1,18 @@
+-- What `run` and `metrics` do: they run a script, and answer its lines as they come.
+use Rattle.std.specs.Prelude.{◌≡◌}
+use Rattle.trace_pipeline.specs.Report.{report_from, accepts}
+use Rattle.trace_pipeline.specs.declared.signal.Signal.{Signal}
+use Rattle.trace_stream.specs.reading.Breaks.{AnswersAll}
+use Rattle.trace_stream.specs.Meaning.{Meaning}
+use Rattle.trace_stream.specs.reading.Reading.{Answering, reading}
+
+-- The report on the lines is written; where they break off, all of it but an end line.
+abbrev pub answered : Signal → Answering
+answered signal = record {
+  accepts = accepts;
+  Whole = λ lines text. text ≡ (report_from signal 0 lines).written;
+  Broken = AnswersAll signal;
+}
+
+abbrev pub runs : Signal → Meaning
+runs signal = reading (answered signal)

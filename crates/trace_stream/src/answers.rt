@@ -1,0 +1,197 @@
+//! Answering lines one after another, whichever lines follow them.
+ghost use Rattle.std.specs.Prelude.{◌≡◌, ℕ, List, [], ◌∷◌, ◌++◌, ◌+◌, false, true, IfOk, OnOk};
+ghost use Rattle.trace_pipeline.specs.Lines.{is_blank};
+ghost use Rattle.trace_pipeline.specs.Report.{report_from};
+ghost use Rattle.trace_stream.specs.reading.Answers.{Opens, Runs, AnswersAt, Goes, AnswersTo, is_refused};
+
+use crate::written::Written;
+use otel_base::memory::Memory;
+use span_pipeline::pipeline::Pipeline;
+use std::alloc::Global;
+use std::mem;
+use trace_base::discard::Discard;
+use trace_pipeline::{Signal, Told};
+use trace_records::line::{Opened, answer_line, open_line};
+use trace_records::lines::is_blank;
+
+/// Where a run stands between two lines.
+pub enum Stage {
+    /// No settings line came: each line so far is blank.
+    Opening,
+    /// The settings line came, and each request is answered.
+    Running { pipeline: Pipeline },
+    /// A line was refused, and its refusal line is the last that is written.
+    Refused,
+}
+
+/// The pipeline is given up, if there is one.
+impl Discard for Stage {
+    fn discard(self) {
+        match self {
+            Stage::Opening | Stage::Refused => {}
+            Stage::Running { pipeline } => pipeline.discard(),
+        }
+    }
+}
+
+/// What the lines so far are answered. It has to be spent.
+pub struct Answers {
+    /// What is written for them.
+    pub written: Written,
+    /// How many they are, blank ones included.
+    pub lines: u64,
+    /// Where the run stands.
+    pub stage: Stage,
+}
+
+/// What is written is dropped.
+impl Discard for Answers {
+    fn discard(self) {
+        let Answers {
+            written: _,
+            lines: _,
+            stage,
+        } = self;
+        stage.discard();
+    }
+}
+
+// Goes on to another stage.
+fn go_on(stage: &mut Stage, next: Stage)
+    ensures { stage.new ≡ next }
+{
+    mem::replace(stage, next).discard();
+}
+
+impl Answers {
+    /// The answers to no line, whatever is told.
+    pub fn new(alloc: Global) -> Answers
+        ensures answers { (signal : Signal) → AnswersTo signal [] [] result }
+        ensures text { result.written.text.items ≡ [] }
+        ensures going { is_refused result.stage ≡ false }
+    {
+        Answers {
+            written: Written::new(alloc),
+            lines: 0,
+            stage: Stage::Opening,
+        }
+    }
+
+    /// Answers one line more. Behind a refused line nothing is written. `Memory` freely; what is left then answers
+    /// no lines.
+    pub fn line(&mut self, alloc: Global, signal: Signal, line: &[u8]) -> Result<(), Memory>
+        ensures { (put : List ℕ) (lines : List (List ℕ)) → AnswersTo signal put lines self.old
+            → OnOk result (AnswersTo signal put (lines ++ line.now ∷ []) self.new) }
+    {
+        // No input has so many lines that the sum wraps.
+        let number = self.lines.checked_add(1).ok_or(Memory)?;
+        self.lines = number;
+        if is_blank(line) {
+            return Ok(());
+        }
+        match &mut self.stage {
+            Stage::Opening => {
+                let next = open(alloc, signal, &mut self.written, number, line)?;
+                go_on(&mut self.stage, next);
+                Ok(())
+            }
+            Stage::Running { pipeline } => {
+                let served = answer(alloc, signal, pipeline, &mut self.written, number, line)?;
+                if !served {
+                    go_on(&mut self.stage, Stage::Refused);
+                }
+                Ok(())
+            }
+            Stage::Refused => Ok(()),
+        }
+    }
+
+    /// Whether a line was refused.
+    pub fn is_refused(&self) -> bool
+        ensures { result ≡ is_refused self.now.stage }
+    {
+        match &self.stage {
+            Stage::Opening | Stage::Running { .. } => false,
+            Stage::Refused => true,
+        }
+    }
+
+    /// Answers that no line follows: the end line comes last, or the refusal of an input without a settings line.
+    /// Whether the lines are accepted is told. `Memory` freely.
+    pub fn end(&mut self, alloc: Global, signal: Signal) -> Result<bool, Memory>
+        ensures { (put : List ℕ) (lines : List (List ℕ)) → AnswersTo signal put lines self.old
+            → IfOk result (λ accepted. report_from signal 0 lines
+            ≡ record { written = put ++ self.new.written.text.items; accepted = accepted }) }
+    {
+        match &self.stage {
+            Stage::Opening => {
+                // No input has so many lines that the sum wraps.
+                let end = self.lines.checked_add(1).ok_or(Memory)?;
+                self.written.refuse(alloc, end, &Told::BadLine)?;
+                Ok(false)
+            }
+            Stage::Running { pipeline } => {
+                let spans = pipeline.open_spans();
+                self.written.end(alloc, signal, spans)?;
+                Ok(true)
+            }
+            Stage::Refused => Ok(false),
+        }
+    }
+}
+
+/// Opens the run at the first line that isn't blank, and tells where it stands then.
+pub fn open(
+    alloc: Global,
+    signal: Signal,
+    written: &mut Written,
+    lines: u64,
+    line: &[u8],
+) -> Result<Stage, Memory>
+    ensures { (put : List ℕ) (before : List (List ℕ)) (count : ℕ)
+        → Opens signal before count (put ++ written.old.text.items) written.old.count → lines ≡ count + 1
+        → is_blank line.now ≡ false
+        → IfOk result (λ stage. AnswersAt signal stage (before ++ line.now ∷ []) lines
+        (put ++ written.new.text.items) written.new.count) }
+{
+    match open_line(alloc, None, line)? {
+        Ok(opened) => {
+            let Opened {
+                pipeline,
+                lane_count: _,
+            } = opened;
+            Ok(Stage::Running { pipeline })
+        }
+        Err(told) => {
+            written.refuse(alloc, lines, &told)?;
+            Ok(Stage::Refused)
+        }
+    }
+}
+
+/// Answers the request on a line, and tells whether it was served.
+pub fn answer(
+    alloc: Global,
+    signal: Signal,
+    pipeline: &mut Pipeline,
+    written: &mut Written,
+    lines: u64,
+    line: &[u8],
+) -> Result<bool, Memory>
+    ensures { (put : List ℕ) (before : List (List ℕ)) (count : ℕ)
+        → Runs signal before count pipeline.old (put ++ written.old.text.items) written.old.count
+        → lines ≡ count + 1 → is_blank line.now ≡ false
+        → IfOk result (λ served. Goes signal served (before ++ line.now ∷ []) lines pipeline.new
+        (put ++ written.new.text.items) written.new.count) }
+{
+    match answer_line(alloc, pipeline, line)? {
+        Ok(answered) => {
+            written.answer(alloc, signal, lines, &answered.reply, pipeline)?;
+            Ok(true)
+        }
+        Err(told) => {
+            written.refuse(alloc, lines, &told)?;
+            Ok(false)
+        }
+    }
+}

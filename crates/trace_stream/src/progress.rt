@@ -1,0 +1,181 @@
+//! Answering an input piece by piece, as it is read.
+ghost use Rattle.std.specs.Prelude.{◌≡◌, ◌++◌, ◌∷◌, ℕ, List, Option, [], false, IfOk, IfErr, OnOk, OnErr};
+ghost use Rattle.trace_pipeline.specs.Report.{report};
+ghost use Rattle.trace_stream.specs.reading.Answers.{is_refused};
+ghost use Rattle.trace_stream.specs.reading.Breaks.{has_feed};
+ghost use Rattle.trace_stream.specs.Streams.{HasFault, StopsWriting};
+ghost use Rattle.trace_stream.specs.Progress.{IsMidway, Keeps, FeedsTo, Finishes};
+
+use crate::answers::Answers;
+use crate::failed::Failed;
+use crate::lines::cut_line;
+use crate::sink::Sink;
+use otel_base::memory::Memory;
+use std::alloc::Global;
+use trace_base::discard::Discard;
+use trace_pipeline::Signal;
+
+// How many bytes are kept before they are written.
+const FULL: usize = 65_536;
+
+/// A run under way: what the lines that came whole are answered, and what came of the next line. It has to be spent.
+pub struct Progress {
+    /// The answers to the lines that came whole.
+    pub answers: Answers,
+    /// What came of the next line.
+    pub kept: Vec<u8>,
+}
+
+/// What is kept is dropped.
+impl Discard for Progress {
+    fn discard(self) {
+        let Progress { answers, kept: _ } = self;
+        answers.discard();
+    }
+}
+
+/// Why a run can't go on.
+#[derive(Clone, Copy, Debug, PartialEq, Eq)]
+pub enum Stop {
+    /// No memory was to be had.
+    Memory,
+    /// A write failed.
+    Write,
+}
+
+impl Progress {
+    /// A run before its first byte.
+    pub fn new(alloc: Global) -> Progress
+        ensures keeps { (signal : Signal) → Keeps signal [] [] result }
+        ensures text { result.answers.written.text.items ≡ [] }
+        ensures going { is_refused result.answers.stage ≡ false }
+    {
+        Progress {
+            answers: Answers::new(alloc),
+            kept: Vec::new(alloc),
+        }
+    }
+
+    // Answers the line that these bytes end. `Memory` freely.
+    fn line(&mut self, alloc: Global, signal: Signal, line: &[u8]) -> Result<(), Memory>
+        requires { has_feed line.now ≡ false }
+        ensures { (put front : List ℕ) → Keeps signal put front self.old
+            → OnOk result (Keeps signal put (front ++ line.now ++ 10 ∷ []) self.new) }
+    {
+        if self.kept.is_empty() {
+            return self.answers.line(alloc, signal, line);
+        }
+        self.kept.extend_from_slice(line)?;
+        self.answers.line(alloc, signal, self.kept.as_slice())?;
+        self.kept.clear();
+        Ok(())
+    }
+
+    // Hands what is answered to the sink.
+    fn flush<W: Sink>(&mut self, sink: &mut W) -> Result<(), Failed>
+        ensures midway { (signal : Signal) (before : Option (List ℕ)) (front : List ℕ)
+            → IsMidway signal before (W.holds sink.old) front self.old
+            → FeedsTo signal result before (W.holds sink.new) front self.new }
+        ensures empty { OnOk result (self.new.answers.written.text.items ≡ []) }
+        ensures sure { OnOk result (W.faults sink.new ≡ W.faults sink.old) }
+        ensures cause { OnErr result (HasFault (W.faults sink.old) (W.faults sink.new)) }
+        ensures stops { OnErr result (StopsWriting W.faults W.holds sink.old sink.new) }
+    {
+        match self.answers.written.flush(sink) {
+            Ok(()) => Ok(()),
+            Err(Failed) => Err(Failed),
+        }
+    }
+
+    // The same, once there is much of it.
+    fn relieve<W: Sink>(&mut self, sink: &mut W) -> Result<(), Failed>
+        ensures midway { (signal : Signal) (before : Option (List ℕ)) (front : List ℕ)
+            → IsMidway signal before (W.holds sink.old) front self.old
+            → FeedsTo signal result before (W.holds sink.new) front self.new }
+        ensures sure { OnOk result (W.faults sink.new ≡ W.faults sink.old) }
+        ensures cause { OnErr result (HasFault (W.faults sink.old) (W.faults sink.new)) }
+        ensures stops { OnErr result (StopsWriting W.faults W.holds sink.old sink.new) }
+    {
+        if self.answers.written.text.len() < FULL {
+            return Ok(());
+        }
+        self.flush(sink)
+    }
+
+    /// Takes in a piece of the input: answers the lines that it ends, and writes their answers. It stops at a fault of
+    /// the sink, or for want of memory.
+    pub fn feed<W: Sink>(
+        &mut self,
+        alloc: Global,
+        signal: Signal,
+        piece: &[u8],
+        sink: &mut W,
+    ) -> Result<(), Stop>
+        ensures midway { (before : Option (List ℕ)) (front : List ℕ)
+            → IsMidway signal before (W.holds sink.old) front self.old
+            → FeedsTo signal result before (W.holds sink.new) (front ++ piece.now) self.new }
+        ensures empty { OnOk result (self.new.answers.written.text.items ≡ []) }
+        ensures sure { OnOk result (W.faults sink.new ≡ W.faults sink.old) }
+        ensures cause { IfErr result (λ why. why ≡ Stop.Write
+            → HasFault (W.faults sink.old) (W.faults sink.new)) }
+        ensures stops { IfErr result (λ why. why ≡ Stop.Write
+            → StopsWriting W.faults W.holds sink.old sink.new) }
+    {
+        let mut rest = piece;
+        while let Some((line, after)) = cut_line(rest) {
+            let Ok(()) = self.line(alloc, signal, line) else {
+                return Err(Stop::Memory);
+            };
+            let Ok(()) = self.relieve(sink) else {
+                return Err(Stop::Write);
+            };
+            rest = after;
+        }
+        let Ok(()) = self.kept.extend_from_slice(rest) else {
+            return Err(Stop::Memory);
+        };
+        let Ok(()) = self.flush(sink) else {
+            return Err(Stop::Write);
+        };
+        Ok(())
+    }
+
+    // Answers what came of the last line, and that no line follows. Whether the lines are accepted is told. `Memory` freely.
+    fn end(&mut self, alloc: Global, signal: Signal) -> Result<bool, Memory>
+        ensures { (put front : List ℕ) → Keeps signal put front self.old
+            → IfOk result (λ accepted. report signal front
+            ≡ record { written = put ++ self.new.answers.written.text.items; accepted = accepted }) }
+    {
+        if self.kept.is_empty() {
+            return self.answers.end(alloc, signal);
+        }
+        self.answers.line(alloc, signal, self.kept.as_slice())?;
+        self.answers.end(alloc, signal)
+    }
+
+    /// Ends a run of which all is written that was answered: answers what came of the last line, and that no line follows,
+    /// and writes that. Whether the lines are accepted is told. It stops as `feed` does.
+    pub fn finish<W: Sink>(
+        &mut self,
+        alloc: Global,
+        signal: Signal,
+        sink: &mut W,
+    ) -> Result<bool, Stop>
+        requires { self.old.answers.written.text.items ≡ [] }
+        ensures ends { (before : Option (List ℕ)) (front : List ℕ)
+            → IsMidway signal before (W.holds sink.old) front self.old
+            → Finishes signal result before (W.holds sink.new) front }
+        ensures cause { IfErr result (λ why. why ≡ Stop.Write
+            → HasFault (W.faults sink.old) (W.faults sink.new)) }
+        ensures stops { IfErr result (λ why. why ≡ Stop.Write
+            → StopsWriting W.faults W.holds sink.old sink.new) }
+    {
+        let Ok(accepted) = self.end(alloc, signal) else {
+            return Err(Stop::Memory);
+        };
+        let Ok(()) = self.answers.written.flush(sink) else {
+            return Err(Stop::Write);
+        };
+        Ok(accepted)
+    }
+}

@@ -1,0 +1,168 @@
+//! What a run writes, line by line.
+ghost use Rattle.std.specs.Prelude.{◌≡◌, ◌≢◌, ◌++◌, ◌+◌, ◌≤◌, [], length, OnOk, OnErr};
+ghost use Rattle.trace_pipeline.specs.Report.{record_lines, measure_lines, last_text};
+ghost use Rattle.trace_pipeline.specs.text.Texts.{reply_text, refusal_text};
+ghost use Rattle.trace_records.specs.Following.{without_taken};
+ghost use Rattle.trace_stream.specs.reading.Answers.{IsAnswered};
+ghost use Rattle.trace_stream.specs.Streams.{HasFault, Puts, PutsFront, StopsWriting};
+
+use crate::failed::Failed;
+use crate::sink::{Sink, write_all};
+use otel_base::memory::Memory;
+use span_pipeline::pipeline::Pipeline;
+use std::alloc::Global;
+use std::mem;
+use trace_pipeline::write::{
+    append_end, append_measure, append_measures_end, append_record, append_refusal, append_reply,
+};
+use trace_pipeline::{Refusal, Reply, Signal, Told};
+use trace_records::finished::drop_measures;
+
+/// What is written so far.
+#[derive(Drop)]
+pub struct Written {
+    /// The lines, each with its line feed.
+    pub text: Vec<u8>,
+    /// How many records or measures are among them.
+    pub count: u64,
+}
+
+impl Written {
+    /// Nothing is written yet.
+    pub fn new(alloc: Global) -> Written
+        ensures text { result.text.items ≡ [] }
+        ensures count { result.count ≡ 0 }
+    {
+        Written {
+            text: Vec::new(alloc),
+            count: 0,
+        }
+    }
+
+    /// Writes the refusal line of a line.
+    pub fn refuse(&mut self, alloc: Global, line: u64, told: &Told) -> Result<(), Memory>
+        requires { told.now ≢ Told.Step Refusal.Memory }
+        ensures text { OnOk result (self.new.text.items ≡ self.old.text.items ++ refusal_text line told.now) }
+        ensures count { self.new.count ≡ self.old.count }
+    {
+        let text = mem::replace(&mut self.text, Vec::new(alloc));
+        self.text = append_refusal(text, line, told)?;
+        Ok(())
+    }
+
+    /// Writes what is told of the request on a line that was served, and takes the records and the measures that wait.
+    pub fn answer(
+        &mut self,
+        alloc: Global,
+        signal: Signal,
+        line: u64,
+        reply: &Reply,
+        pipeline: &mut Pipeline,
+    ) -> Result<(), Memory>
+        ensures { OnOk result (IsAnswered signal line reply.now pipeline.old pipeline.new self.old self.new) }
+    {
+        match signal {
+            Signal::Traces => {
+                self.write_reply(alloc, line, reply)?;
+                self.write_records(alloc, pipeline)?;
+                drop_measures(pipeline);
+                Ok(())
+            }
+            Signal::Metrics => {
+                self.write_measures(alloc, line, pipeline)?;
+                drop_records(pipeline);
+                Ok(())
+            }
+        }
+    }
+
+    // Writes the reply line of a line.
+    fn write_reply(&mut self, alloc: Global, line: u64, reply: &Reply) -> Result<(), Memory>
+        ensures text { OnOk result (self.new.text.items ≡ self.old.text.items ++ reply_text line reply.now) }
+        ensures count { self.new.count ≡ self.old.count }
+    {
+        let text = mem::replace(&mut self.text, Vec::new(alloc));
+        self.text = append_reply(text, line, reply)?;
+        Ok(())
+    }
+
+    // Takes the records, and writes their lines.
+    fn write_records(&mut self, alloc: Global, pipeline: &mut Pipeline) -> Result<(), Memory>
+        ensures lines { OnOk result (self.new.text.items
+            ≡ self.old.text.items ++ record_lines (self.old.count + 1) pipeline.old.recording.finished) }
+        ensures count { OnOk result (
+            self.new.count ≡ self.old.count + length pipeline.old.recording.finished) }
+        ensures taken { OnOk result (pipeline.new.recording.finished ≡ []) }
+        ensures state { without_taken pipeline.new ≡ without_taken pipeline.old }
+    {
+        while let Some(finished) = pipeline.take_record() {
+            // No run has so many records that the sum wraps.
+            let number = self.count.checked_add(1).ok_or(Memory)?;
+            let text = mem::replace(&mut self.text, Vec::new(alloc));
+            self.text = append_record(text, number, &finished)?;
+            self.count = number;
+        }
+        Ok(())
+    }
+
+    // Takes the measures of the event on a line, and writes their lines.
+    fn write_measures(
+        &mut self,
+        alloc: Global,
+        line: u64,
+        pipeline: &mut Pipeline,
+    ) -> Result<(), Memory>
+        ensures lines { OnOk result (
+            self.new.text.items ≡ self.old.text.items ++ measure_lines line pipeline.old.measures) }
+        ensures count { OnOk result (self.new.count ≡ self.old.count + length pipeline.old.measures) }
+        ensures taken { OnOk result (pipeline.new.measures ≡ []) }
+        ensures state { without_taken pipeline.new ≡ without_taken pipeline.old }
+    {
+        while let Some(measure) = pipeline.take_measure() {
+            // No run has so many measures that the sum wraps.
+            let count = self.count.checked_add(1).ok_or(Memory)?;
+            let text = mem::replace(&mut self.text, Vec::new(alloc));
+            self.text = append_measure(text, line, &measure)?;
+            self.count = count;
+        }
+        Ok(())
+    }
+
+    /// Writes the end line, for a run that leaves so many spans open.
+    pub fn end(&mut self, alloc: Global, signal: Signal, spans: u64) -> Result<(), Memory>
+        ensures { OnOk result (
+            self.new.text.items ≡ self.old.text.items ++ last_text signal spans self.old.count) }
+    {
+        let text = mem::replace(&mut self.text, Vec::new(alloc));
+        self.text = match signal {
+            Signal::Traces => append_end(text, spans, self.count)?,
+            Signal::Metrics => append_measures_end(text, self.count)?,
+        };
+        Ok(())
+    }
+
+    /// Hands what is written to the sink, and begins anew behind it. Where that fails, the sink has a front of it.
+    pub fn flush<W: Sink>(&mut self, sink: &mut W) -> Result<(), Failed>
+        ensures ok { OnOk result (Puts (W.holds sink.old) (W.holds sink.new) self.old.text.items) }
+        ensures err { OnErr result (PutsFront (W.holds sink.old) (W.holds sink.new) self.old.text.items) }
+        ensures empty { OnOk result (self.new.text.items ≡ []) }
+        ensures told { self.new.count ≡ self.old.count }
+        ensures sure { OnOk result (W.faults sink.new ≡ W.faults sink.old) }
+        ensures count { W.faults sink.old ≤ W.faults sink.new }
+        ensures cause { OnErr result (HasFault (W.faults sink.old) (W.faults sink.new)) }
+        ensures stops { OnErr result (StopsWriting W.faults W.holds sink.old sink.new) }
+    {
+        write_all(sink, self.text.as_slice())?;
+        self.text.clear();
+        Ok(())
+    }
+}
+
+// Takes the records, and drops them.
+fn drop_records(pipeline: &mut Pipeline)
+    ensures taken { pipeline.new.recording.finished ≡ [] }
+    ensures measures { pipeline.new.measures ≡ pipeline.old.measures }
+    ensures state { without_taken pipeline.new ≡ without_taken pipeline.old }
+{
+    while pipeline.take_record().is_some() {}
+}
