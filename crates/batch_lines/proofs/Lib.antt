@@ -1,3 +1,2 @@
 pub mod ListsLemmas
 pub mod LinesLemmas
-pub mod InputLemmas

@@ -1,18 +1,12 @@
 -- The lines of the command `batch`.
-use Rattle.std.specs.Prelude.{◌≡◌, ℕ, ◌+◌, List, [], ◌∷◌, ◌++◌, map, length, codes, decimal, Bool, true, false, Some}
+use Rattle.std.specs.Prelude.{◌≡◌, ℕ, ◌+◌, List, [], ◌∷◌, ◌++◌, map, length, codes, decimal, Bool, true, false}
 use Rattle.serde_json.specs.Data.{Data, boolean, object}
 use Rattle.serde_json.specs.Written.{comma_if}
 use Rattle.otel_base.specs.declared.record.Record.{Record}
-use Rattle.span_script.specs.Effects.{open_spans}
-use Rattle.span_script.specs.Outcomes.{records}
-use Rattle.span_script.specs.Tables.{tables}
 use Rattle.trace_pipeline.specs.reading.Object.{by_name, whole_number, line_of}
 use Rattle.trace_batch.specs.declared.item.Sent.{Sent}
-use Rattle.trace_batch.specs.declared.relay.TheConstants.{MOST_LANES}
 use Rattle.trace_batch.specs.Cuts.{IsCut}
 use Rattle.trace_batch.specs.Merges.{of_lane, sent_of}
-use Rattle.trace_records.specs.Inputs.{TellsRun}
-use Rattle.trace_records.specs.Scripts.{Script, script_of}
 use Rattle.batch_lines.specs.Items.{object_text, items_of, on_lane}
 
 -- the texts of items, with commas between them
@@ -53,14 +47,3 @@ pub record TellsBatches (n : ℕ) (records : List Record) (lanes : List ℕ) (op
   pub batches : List (List Sent)
   pub cut : IsCut n sent batches
   pub text_is : text ≡ batch_lines 0 batches ++ batches_end_text (length batches) open_spans (length records)
-
--- ---- a script
-
--- the records of a script, in batches of n
-abbrev pub TellsScript : ℕ → Script → List ℕ → Type 0
-TellsScript n script text =
-    TellsBatches n (records script.setup script.history) script.lanes (open_spans (tables script.setup script.history)) text
-
--- the records of the script of at most eight lanes that lines come to, in batches of n, or the refusal line alone
-abbrev pub TellsAll : ℕ → List (List ℕ) → List ℕ → Type 0
-TellsAll n lines text = TellsRun (TellsScript n) (script_of (Some MOST_LANES) lines) text

@@ -1,12 +1,14 @@
 -- What the writer has of the lanes, after each of its steps.
-use Rattle.std.proofs.Common.{◌≡◌, ◌≢◌, ℕ, zero, suc, ◌+◌, ◌-◌, ◌≤◌, List, [], ◌∷◌, ◌++◌, map, take, drop, length, get_or, refl, ap, sym, ◌∙◌, arith}
+use Rattle.std.proofs.Common.{◌≡◌, ◌≢◌, ℕ, zero, suc, ◌+◌, ◌-◌, ◌≤◌, List, [], ◌∷◌, ◌++◌, map, take, drop, length, get_or, refl, ap, sym, subst, ◌∙◌, arith, Vec, Global}
+use Rattle.std.specs.Prelude.{false, Result, Ok, Err, IfOk}
 use Rattle.std.proofs.lemmas.List.{append-nil, get_or_past}
+use Rattle.crossbeam_queue.specs.Passes.{view}
 use Rattle.trace_batch.specs.declared.item.Item.{Item}
 use Rattle.trace_batch.specs.declared.item.Sent.{Sent}
 use Rattle.trace_batch.specs.declared.writer.Writer.{Writer}
 use Rattle.trace_batch.specs.Merges.{sent_of, of_lane, texts, IsMerge}
-use Rattle.trace_batch.specs.Rule.{writer, known_at, Told}
-use Rattle.trace_batch.specs.Serving.{HasServed}
+use Rattle.trace_batch.specs.Rule.{writer, known_at, lanes_of, Told}
+use Rattle.trace_batch.specs.Serving.{HasServed, Serving}
 use Rattle.trace_batch.proofs.Lanes.{of_append}
 use Rattle.trace_batch.proofs.Texts.{sent_all, AllOf, of_own_texts, of_other_texts, all_drop}
 
@@ -69,3 +71,12 @@ module _ {F : Type 0} (text : F → ℕ → ℕ → List ℕ) where
       ∙ ap (λ (ys : List Sent). of_lane l ys ++ of_lane l w.late) (k.taken ∙ sym (append-nil got))
       ∙ ap (λ (ys : List Sent). ys ++ of_lane l w.late) (told l (omega arith))
       ∙ k.late l (omega arith)
+
+  -- what the writer has when all senders have ended, and the queue is empty
+  pub all_merged : {E : Type 0} (lists : List (List (Item F))) (old w : Writer) (r : Result (Vec Sent Global) E) → Serving text lists 0 old → lanes_of (view w.pass) ≡ lanes_of (view old.pass)
+      → Serving text lists (lanes_of (view w.pass)) w → Told (view w.pass) [] → IfOk r (λ v. (w.lacks_memory ≡ false) × (v.items ≡ w.taken ++ w.late)) → IfOk r (λ v. IsMerge text lists v.items)
+  all_merged lists old w (Ok v) before same s told all =
+      let none : lanes_of (view w.pass) ≡ 0 = same ∙ ap lanes_of before.knows in
+      let now : Serving text lists 0 w = subst (λ n. Serving text lists n w) none s in
+      merged lists now.known now.got v.items w (now.kept all.0) (subst (λ u. Told u []) now.knows told) all.1
+  all_merged lists old w (Err why) before same s told all = tt

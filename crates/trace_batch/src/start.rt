@@ -17,7 +17,7 @@ use std::thread::{Promise, Scope, Threads};
 use turnstile::Turnstile;
 
 /// What the sender of a lane promises.
-#[derive(Clone, Copy)]
+#[derive(Drop)]
 pub struct SenderPromise<'a, F> {
     /// The queue that it puts into.
     pub queue: &'a Queue,

@@ -1,18 +1,12 @@
 -- The lines of the command `tree`.
-use Rattle.std.specs.Prelude.{◌≡◌, ℕ, List, [], ◌∷◌, ◌++◌, codes, decimal, length, map, true, None, unwrap_or, option_map, slice_get}
+use Rattle.std.specs.Prelude.{◌≡◌, ℕ, List, [], ◌∷◌, ◌++◌, codes, decimal, length, true, unwrap_or, option_map, slice_get}
 use Rattle.std.specs.List.{flat_map}
 use Rattle.serde_json.specs.Data.{Data, boolean, string, object}
-use Rattle.span_script.specs.Effects.{open_spans}
-use Rattle.span_script.specs.Outcomes.{records}
-use Rattle.span_script.specs.Tables.{tables}
 use Rattle.trace_pipeline.specs.text.Hex.{hex16, hex32}
 use Rattle.trace_pipeline.specs.reading.Object.{by_name, whole_number, line_of}
-use Rattle.trace_records.specs.Inputs.{TellsRun}
-use Rattle.trace_records.specs.Scripts.{Script, script_of}
 use Rattle.trace_tree.specs.declared.node.Node.{Node}
 use Rattle.trace_tree.specs.declared.span.TreeSpan.{TreeSpan}
 use Rattle.trace_tree.specs.declared.totals.TraceTotal.{TraceTotal}
-use Rattle.trace_tree.specs.Busy.{tree_span}
 use Rattle.trace_tree.specs.Paths.{IsForest}
 use Rattle.trace_tree.specs.Totals.{IsTotals}
 
@@ -63,14 +57,3 @@ pub record TellsTree (rs : List TreeSpan) (open_spans : ℕ) (text : List ℕ) :
   pub totals : List TraceTotal
   pub sums : IsTotals rs totals
   pub text_is : text ≡ flat_map (node_line rs) nodes ++ flat_map total_text totals ++ tree_end_text open_spans (length rs) (length totals)
-
--- ---- a script
-
--- the trees of the records of a script, of each of which they tell what trees need
-abbrev pub TellsScript : Script → List ℕ → Type 0
-TellsScript script text =
-    TellsTree (map tree_span (records script.setup script.history)) (open_spans (tables script.setup script.history)) text
-
--- the trees of the script that lines come to, or the refusal line alone
-abbrev pub TellsTrees : List (List ℕ) → List ℕ → Type 0
-TellsTrees lines text = TellsRun TellsScript (script_of None lines) text
