@@ -1,18 +1,16 @@
 //! Reading task lines.
 ghost use Rattle.std.specs.Prelude.{◌≡◌, Ok, Err, IfOk, IsErrOf};
-ghost use Rattle.serde_json.specs.View.{view, items_view};
-ghost use Rattle.line_members.specs.Left.{left};
 ghost use Rattle.trace_pipeline.specs.forms.Forms.{all_of, each};
 ghost use Rattle.trace_pipeline.specs.reading.Gives.{Gives};
+ghost use Rattle.trace_pipeline.specs.reading.Left.{value_data, left};
+ghost use Rattle.trace_pipeline.specs.reading.Object.{items};
 ghost use Rattle.trace_pipeline.specs.reading.Spelled.{spelled};
 ghost use Rattle.trace_pipeline.specs.declared.told.Told.TheVariants as told;
 ghost use Rattle.task_lines.specs.TaskForm.{step_word, word_form, event_form, record_form, set_attribute_form, step_form_of, step_form, step_of, task_form, task_spelled};
 
-use line_members::Members;
 use otel_base::list::Items;
-use serde_json::Value as Json;
 use std::alloc::Global;
-use trace_pipeline::{LineError, read_attribute_value, read_fields, read_value};
+use trace_pipeline::{LineError, Object, Value, fields_of, given_fields, otel_value_of};
 use trace_tasks::script::{Step, Task};
 
 /// The words of `do` that steps have.
@@ -37,74 +35,72 @@ fn step_word(word: &str) -> Option<StepWord>
 }
 
 // Takes what is to be done.
-fn taken_word(members: &mut Members) -> Result<StepWord, LineError>
-    ensures { Gives (λ w. (w, left members.new)) result (word_form (left members.old)) }
+fn taken_word(object: &mut Object) -> Result<StepWord, LineError>
+    ensures { Gives (λ w. (w, left object.new)) result (word_form (left object.old)) }
 {
-    let word = members.text("do")?;
-    step_word(word.as_str()).ok_or(LineError::BadLine)
+    let word = object.member("do")?;
+    step_word(word.word()?).ok_or(LineError::BadLine)
 }
 
 #[tactic(auto, unfolding(crate::specs::TaskForm::event_form))]
-fn event_step(alloc: Global, members: &mut Members) -> Result<Step, LineError>
-    ensures { Gives (λ s. (s, left members.new)) result (event_form (left members.old)) }
+fn event_step(alloc: Global, object: &mut Object) -> Result<Step, LineError>
+    ensures { Gives (λ s. (s, left object.new)) result (event_form (left object.old)) }
 {
-    let site = members.whole("site")?;
-    let fields = members.given_fields(alloc)?;
+    let site = object.whole("site")?;
+    let fields = given_fields(alloc, object)?;
     Ok(Step::Event { site, fields })
 }
 
 #[tactic(auto, unfolding(crate::specs::TaskForm::record_form))]
-fn record_step(alloc: Global, members: &mut Members) -> Result<Step, LineError>
-    ensures { Gives (λ s. (s, left members.new)) result (record_form (left members.old)) }
+fn record_step(alloc: Global, object: &mut Object) -> Result<Step, LineError>
+    ensures { Gives (λ s. (s, left object.new)) result (record_form (left object.old)) }
 {
-    let value = members.member("fields")?;
-    let fields = read_fields(alloc, &value)?;
+    let fields = fields_of(alloc, object.member("fields")?)?;
     Ok(Step::Record { fields })
 }
 
 #[tactic(auto, unfolding(crate::specs::TaskForm::set_attribute_form))]
-fn set_attribute_step(alloc: Global, members: &mut Members) -> Result<Step, LineError>
-    ensures { Gives (λ s. (s, left members.new)) result (set_attribute_form (left members.old)) }
+fn set_attribute_step(alloc: Global, object: &mut Object) -> Result<Step, LineError>
+    ensures { Gives (λ s. (s, left object.new)) result (set_attribute_form (left object.old)) }
 {
-    let key = members.text("key")?;
-    let told = members.member("value")?;
-    let value = read_attribute_value(alloc, &told)?;
+    let key = object.text(alloc, "key")?;
+    let value = otel_value_of(alloc, object.member("value")?)?;
     Ok(Step::SetAttribute { key, value })
 }
 
-fn step_by(alloc: Global, word: StepWord, members: &mut Members) -> Result<Step, LineError>
-    ensures { Gives (λ s. (s, left members.new)) result (step_form_of word (left members.old)) }
+fn step_by(alloc: Global, word: StepWord, object: &mut Object) -> Result<Step, LineError>
+    ensures { Gives (λ s. (s, left object.new)) result (step_form_of word (left object.old)) }
 {
     match word {
-        StepWord::Event => event_step(alloc, members),
-        StepWord::Record => record_step(alloc, members),
-        StepWord::SetAttribute => set_attribute_step(alloc, members),
+        StepWord::Event => event_step(alloc, object),
+        StepWord::Record => record_step(alloc, object),
+        StepWord::SetAttribute => set_attribute_step(alloc, object),
         StepWord::Yield => Ok(Step::Yield),
     }
 }
 
 // Takes the members of a step.
 #[tactic(auto, unfolding(crate::specs::TaskForm::step_form))]
-fn step_members(alloc: Global, members: &mut Members) -> Result<Step, LineError>
-    ensures { Gives (λ s. (s, left members.new)) result (step_form (left members.old)) }
+fn step_members(alloc: Global, object: &mut Object) -> Result<Step, LineError>
+    ensures { Gives (λ s. (s, left object.new)) result (step_form (left object.old)) }
 {
-    let word = taken_word(members)?;
-    step_by(alloc, word, members)
+    let word = taken_word(object)?;
+    step_by(alloc, word, object)
 }
 
 // The step that a value spells.
-fn step_of(alloc: Global, value: Json) -> Result<Step, LineError>
-    ensures { Gives (λ s. s) result (step_of (view value)) }
+fn step_of(alloc: Global, value: Value<'_>) -> Result<Step, LineError>
+    ensures { Gives (λ s. s) result (step_of (value_data value.entry)) }
 {
-    let mut members = Members::of(value)?;
-    let step = step_members(alloc, &mut members)?;
-    members.end()?;
+    let mut object = Object::of(alloc, value)?;
+    let step = step_members(alloc, &mut object)?;
+    object.end()?;
     Ok(step)
 }
 
 // The steps that the items of an array spell.
-fn steps(alloc: Global, values: Vec<Json>) -> Result<Items<Step>, LineError>
-    ensures { Gives (λ l. l) result (each step_of (items_view values.items)) }
+fn steps(alloc: Global, values: Vec<Value<'_>>) -> Result<Items<Step>, LineError>
+    ensures { Gives (λ l. l) result (each step_of (items value_data values.entry.items)) }
 {
     let mut steps = Items::new(alloc);
     for value in values {
@@ -115,12 +111,12 @@ fn steps(alloc: Global, values: Vec<Json>) -> Result<Items<Step>, LineError>
 
 // Takes the members of a task.
 #[tactic(auto, unfolding(crate::specs::TaskForm::task_form))]
-fn task_members(alloc: Global, members: &mut Members) -> Result<Task, LineError>
-    ensures { Gives (λ t. (t, left members.new)) result (task_form (left members.old)) }
+fn task_members(alloc: Global, object: &mut Object) -> Result<Task, LineError>
+    ensures { Gives (λ t. (t, left object.new)) result (task_form (left object.old)) }
 {
-    let site = members.whole("site")?;
-    let fields = members.given_fields(alloc)?;
-    let values = members.array("task")?;
+    let site = object.whole("site")?;
+    let fields = given_fields(alloc, object)?;
+    let values = object.array(alloc, "task")?;
     let steps = steps(alloc, values)?;
     Ok(Task {
         site,
@@ -132,9 +128,9 @@ fn task_members(alloc: Global, members: &mut Members) -> Result<Task, LineError>
 fn task_of(alloc: Global, line: &[u8]) -> Result<Task, LineError>
     ensures { Gives (λ t. t) result (spelled (all_of task_form) line.now) }
 {
-    let mut members = Members::of(read_value(alloc, line)?)?;
-    let task = task_members(alloc, &mut members)?;
-    members.end()?;
+    let mut object = Object::open(alloc, line)?;
+    let task = task_members(alloc, &mut object)?;
+    object.end()?;
     Ok(task)
 }
 

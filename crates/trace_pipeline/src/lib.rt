@@ -14,8 +14,9 @@ pub mod write;
 
 pub use limits::MAX_INPUT;
 pub use read::{
-    LineError, read_attribute_value, read_attributes, read_fields, read_request, read_settings,
-    read_span_id, read_status, read_trace_id, read_value,
+    LineError, Object, Value, fields_of, given_fields, otel_value_of, read_attribute_value,
+    read_attributes, read_fields, read_request, read_settings, read_span_id, read_status,
+    read_trace_id, read_value,
 };
 pub use signal::Signal;
 pub use span_script::{Call, LAST_MOMENT, Place, Refusal, Reply, Request, Settings, What};

@@ -27,16 +27,18 @@ mod settings;
 mod tree;
 mod value;
 
-pub use attributes::{read_attribute_value, read_attributes, read_status};
+pub use attributes::{otel_value_of, read_attribute_value, read_attributes, read_status};
 pub use decimal::u128_of;
-pub use fields::read_fields;
+pub use fields::{fields_of, read_fields};
 pub use hex::{read_span_id, read_trace_id};
-use object::Object;
+pub use object::Object;
 use otel_base::memory;
+pub use request::fields as given_fields;
 use serde_json::Value as Json;
 use span_script::request::Request;
 use span_script::settings::Settings;
 use std::alloc::{AllocError, AllocFailed, Global};
+pub use value::Value;
 
 /// Why a line gives no value.
 #[derive(Clone, Copy, Debug, PartialEq, Eq)]

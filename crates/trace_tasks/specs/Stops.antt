@@ -2,7 +2,7 @@
 use Rattle.std.specs.Prelude.{◌≡◌, ℕ, zero, suc, List, [], ◌∷◌, ◌++◌, map, length, slice_get, Bool, true, Option, Some}
 use Rattle.std.proofs.Common.{◌⊎◌}
 use Rattle.otel_base.specs.declared.enter_error.EnterError.{EnterError}
-use Rattle.otel_base.specs.declared.enter_error.EnterError.TheVariants.{Full}
+use Rattle.otel_base.specs.declared.enter_error.EnterError.TheVariants.{Full, Memory}
 use Rattle.trace_base.specs.declared.callsite.Callsite.{Callsite}
 use Rattle.trace_base.specs.declared.lane.Lane.{Lane}
 use Rattle.trace_base.specs.declared.level.LevelFilter.{LevelFilter}
@@ -42,6 +42,11 @@ drops at left = map (λ t. on_lane at (call.Drop t.number)) left
 abbrev pub leavings : ℕ → ℕ → List Request → List Left → List Request
 leavings at k part left = exit_if at k part ++ drops at left
 
+-- where a run stops: in the poll after so many polls, at whose moment it does, with all tasks begun; or at 0, as spans are made,
+-- where memory is wanted
+abbrev pub StopsAt : (tasks first : List Task) (polls : ℕ) (part : List Request) → EnterError → ℕ → Type 0
+StopsAt tasks first polls part e at = ((at ≡ moment_of polls) × (first ≡ tasks)) ⊎ ((at ≡ 0) × (polls ≡ 0) × (part ≡ []) × (e ≡ Memory))
+
 module _ {S : Type 0} (spans : S → Spans) (hint : S → Option LevelFilter) (enables : S → ℕ → Callsite → Bool) (activates : S → ℕ → Bool) (does : S → SubscriberCall → S → Type 0) (touches : S → PartCall → S → Type 0) (same : S → S → Type 0) (d : ℕ) where
   -- memory was wanted, or a full lane was met: nothing more than room and a denied op tells the stages apart
   pub record Fails (at : ℕ) (s t : Stage S) : Type 0 where
@@ -74,6 +79,7 @@ module _ {S : Type 0} (spans : S → Spans) (hint : S → Option LevelFilter) (e
     pub part : List Request
     pub others : List Request
     pub within : part ++ others ≡ poll sites k t
+    pub not_entered : e ≡ Full → part ≡ []
     pub stopped : Stopped part (leavings at k part (t ∷ [])) at e s new later
     pub handles : stopped.failed.handles ≡ s.handles
 
@@ -86,10 +92,11 @@ module _ {S : Type 0} (spans : S → Spans) (hint : S → Option LevelFilter) (e
     pub part : List Request
     pub others : List Request
     pub within : turns sites polls 0 ts ++ part ++ others ≡ turns sites (all_polls ts) 0 ts
+    pub not_entered : e ≡ Full → part ≡ []
     pub stopped : Stopped (turns sites polls 0 ts ++ part) (leavings (moment_of polls) polls part (t ∷ waiting)) (moment_of polls) e s new later
 
   -- A run that was refused, as it made spans or in a poll: a front of the flat list was carried out, and then the handles of
-  -- all tasks that were begun and not finished were dropped, at once.
+  -- all tasks that were begun and not finished were dropped, at once. With Full nothing of the poll was carried out.
   pub record GaveUp (sites : List Callsite) (tasks : List Task) (e : EnterError) (s : Stage S) (new : Worlds S) (later : Lane) : Type 0 where
     pub first : List Task
     pub polls : ℕ
@@ -97,7 +104,8 @@ module _ {S : Type 0} (spans : S → Spans) (hint : S → Option LevelFilter) (e
     pub others : List Request
     pub within : makings first ++ turns sites polls 0 (begun 0 first) ++ part ++ others ≡ flat sites tasks
     pub at : ℕ
-    pub moment : (at ≡ moment_of polls) ⊎ ((at ≡ 0) × (polls ≡ 0))
+    pub moment : StopsAt tasks first polls part e at
+    pub not_entered : e ≡ Full → part ≡ []
     pub stopped : Stopped (makings first ++ turns sites polls 0 (begun 0 first) ++ part) (leavings at polls part (left_after polls (begun 0 first))) at e s new later
 
 -- the first of some tasks were begun, and the next one wanted memory

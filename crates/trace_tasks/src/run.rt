@@ -8,13 +8,11 @@ ghost use Rattle.trace_tasks.specs.Stops.{GaveUp};
 ghost use Rattle.trace_tasks.specs.Turning.{Ready, serving};
 
 use crate::begin::begin_all;
-use crate::copies::copied_tasks;
 use crate::queue::{close_all, poll_all};
 use crate::running::Running;
 use crate::script::{Task, TaskScript};
 use futures::task::Context;
 use otel_base::enter_error::EnterError;
-use otel_base::list::Items;
 use otel_base::memory::Memory;
 use otel_layer::part::OtelSubscriber;
 use span_futures::instrument::Instrumented;
@@ -47,9 +45,7 @@ pub fn run_tasks<S: OtelSubscriber>(
         (record { world = world.old; lane = lane.old; handles = []; guards = [] }) world.new lane.new) }
     ensures context { Keeps cx.old cx.new }
 {
-    let Ok(tasks) = copied_tasks(alloc, script.tasks.as_slice()) else {
-        return Err(EnterError::Memory);
-    };
+    let tasks = script.tasks.as_slice();
     let mut queue = VecDeque::new(alloc);
     let answer = begin_and_poll(alloc, tasks, &mut queue, world, lane, cx);
     queue.destroy_empty();
@@ -57,25 +53,25 @@ pub fn run_tasks<S: OtelSubscriber>(
 }
 
 // Begins tasks, and polls them until none is left.
-fn begin_and_poll<S: OtelSubscriber>(
+fn begin_and_poll<'a, S: OtelSubscriber>(
     alloc: Global,
-    tasks: Items<Task>,
-    queue: &mut VecDeque<Instrumented<Running>>,
+    tasks: &'a [Task],
+    queue: &mut VecDeque<Instrumented<Running<'a>>>,
     world: &mut World<S>,
     lane: &mut Lane,
     cx: &mut Context<'_>,
 ) -> Result<u64, EnterError>
     requires none { queue.old.items ≡ [] }
     requires ready { Ready S.Subscriber.spans S.Subscriber.kept S.Subscriber.is_whole world.old lane.old }
-    requires sited { AllSited (length world.old.sites) tasks }
-    requires few { length (spans_in S.Subscriber.spans world.old (serving lane.old)).made + length tasks < 2 ^ 63 }
-    requires few_polls { all_polls (begun 0 tasks) < 2 ^ 60 }
+    requires sited { AllSited (length world.old.sites) tasks.now }
+    requires few { length (spans_in S.Subscriber.spans world.old (serving lane.old)).made + length tasks.now < 2 ^ 63 }
+    requires few_polls { all_polls (begun 0 tasks.now) < 2 ^ 60 }
     ensures ok { IfOk result (Ran S.Subscriber.spans S.Subscriber.hint S.Subscriber.enables S.Subscriber.does
-        S.OtelPart.touches world.old.sites tasks world.old world.new lane.old lane.new) }
-    ensures answer { IfOk result (λ polls. polls ≡ sum_by (λ t. yields t.steps) tasks + length tasks) }
+        S.OtelPart.touches world.old.sites tasks.now world.old world.new lane.old lane.new) }
+    ensures answer { IfOk result (λ polls. polls ≡ sum_by (λ t. yields t.steps) tasks.now + length tasks.now) }
     ensures gives_up { IfErr result (λ e.
         GaveUp S.Subscriber.spans S.Subscriber.hint S.Subscriber.enables S.Subscriber.activates S.Subscriber.does
-        S.OtelPart.touches S.Subscriber.same (serving lane.old) world.old.sites tasks e
+        S.OtelPart.touches S.Subscriber.same (serving lane.old) world.old.sites tasks.now e
         (record { world = world.old; lane = lane.old; handles = []; guards = [] }) world.new lane.new) }
     ensures empty { queue.new.items ≡ [] }
     ensures context { Keeps cx.old cx.new }

@@ -10,20 +10,19 @@ use otel_base::memory::Memory;
 use otel_layer::part::OtelSubscriber;
 use span_futures::traced_future::TracedFuture;
 use std::alloc::Global;
-use std::collections::VecDeque;
 use trace_base::lane::Lane;
 use trace_base::world::World;
 
 /// The steps of a task that are left. A poll does those up to a yield, or up to the end.
 #[derive(Drop)]
-pub struct Running {
+pub struct Running<'a> {
     /// The allocator of what its steps give.
     pub alloc: Global,
     /// The steps, the next one first.
-    pub steps: VecDeque<Step>,
+    pub steps: &'a [Step],
 }
 
-impl<S: OtelSubscriber> TracedFuture<S> for Running {
+impl<'a, S: OtelSubscriber> TracedFuture<S> for Running<'a> {
     type Output = ();
 
     ghost can_poll = { λ f. Unit {0} };
@@ -38,7 +37,7 @@ impl<S: OtelSubscriber> TracedFuture<S> for Running {
 
     ghost polls = { λ f world lane at r g new later.
         PollsSteps S.Subscriber.spans S.Subscriber.hint S.Subscriber.enables S.Subscriber.does S.OtelPart.touches
-        S.Subscriber.same f.steps.items world lane at r g.steps.items new later };
+        S.Subscriber.same f.steps.now world lane at r g.steps.now new later };
 
     ghost besides = { Asks S.OtelPart.touches };
 
@@ -51,9 +50,11 @@ impl<S: OtelSubscriber> TracedFuture<S> for Running {
         at: u64,
         cx: &mut Context<'_>,
     ) -> Result<Poll<()>, EnterError> {
-        while let Some(step) = self.steps.pop_front() {
+        while !self.steps.is_empty() {
+            let steps = self.steps;
+            let step = &steps[0];
+            self.steps = &steps[1..];
             if matches!(step, Step::Yield) {
-                drop(step);
                 return Ok(cx.yield_now());
             }
             match act(self.alloc, world, lane, at, step) {

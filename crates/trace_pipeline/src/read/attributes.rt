@@ -63,7 +63,7 @@ fn tree_value(alloc: Global, tree: Json) -> Result<OtelValue, LineError>
 }
 
 /// The value of an attribute that a value spells.
-pub(crate) fn otel_value_of(alloc: Global, value: Value<'_>) -> Result<OtelValue, LineError>
+pub fn otel_value_of(alloc: Global, value: Value<'_>) -> Result<OtelValue, LineError>
     ensures { Gives (λ v. v) result (otel_value_of (value_data value.entry)) }
 {
     match value {

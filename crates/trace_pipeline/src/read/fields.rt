@@ -232,10 +232,7 @@ fn quick_fields(alloc: Global, value: &Value<'_>) -> Option<Items<(Text, FieldVa
 }
 
 /// The fields that a value spells.
-pub(crate) fn fields_of(
-    alloc: Global,
-    value: Value<'_>,
-) -> Result<Items<(Text, FieldValue)>, LineError>
+pub fn fields_of(alloc: Global, value: Value<'_>) -> Result<Items<(Text, FieldValue)>, LineError>
     ensures { Gives (λ f. f) result (fields_of (value_data value.entry)) }
 {
     match quick_fields(alloc, &value) {

@@ -207,7 +207,7 @@ fn place_of(members: &[(&[u8], Plain<'_>)], name: &[u8]) -> Option<usize>
 
 /// The members of an object that are left, in the order of their names.
 #[derive(Drop)]
-pub(crate) struct FlatMembers<'a> {
+pub struct FlatMembers<'a> {
     members: Vec<(&'a [u8], Plain<'a>)>,
     // How many at the front are taken.
     taken: usize,

@@ -19,7 +19,7 @@ use std::alloc::Global;
 
 /// The members that a JSON object has left.
 #[derive(Drop)]
-pub(crate) enum Object<'a> {
+pub enum Object<'a> {
     /// They stand plainly in the text.
     Flat(FlatMembers<'a>),
     /// They were read to a tree.
@@ -59,7 +59,7 @@ impl<'a> Object<'a> {
     ghost use Rattle.trace_pipeline.specs.forms.Forms.{without, member, optional, whole, whole_to, text, flag_or, array, optional_text, optional_u32, nothing};
 
     /// The object that a line is.
-    pub(crate) fn open(alloc: Global, line: &'a [u8]) -> Result<Object<'a>, LineError>
+    pub fn open(alloc: Global, line: &'a [u8]) -> Result<Object<'a>, LineError>
         ensures { Gives left result (line_members line.now) }
     {
         match flat::members(alloc, line) {
@@ -70,7 +70,7 @@ impl<'a> Object<'a> {
 
     /// The object that a value is.
     #[tactic(auto, using(crate::proofs::readings::ValuesLemmas::nested_object))]
-    pub(crate) fn of(alloc: Global, value: Value<'a>) -> Result<Object<'a>, LineError>
+    pub fn of(alloc: Global, value: Value<'a>) -> Result<Object<'a>, LineError>
         ensures { Gives left result (as_object (value_data value.entry)) }
     {
         match value {
@@ -83,7 +83,7 @@ impl<'a> Object<'a> {
     // Takes a member, if it is there.
     #[inline(always)]
     #[tactic(auto, using(crate::proofs::readings::MembersLemmas::found, crate::proofs::readings::MembersLemmas::kept))]
-    pub(crate) fn optional(&mut self, name: &str) -> Option<Value<'a>>
+    pub fn optional(&mut self, name: &str) -> Option<Value<'a>>
         ensures found { option_map value_data result ≡ get_member name.now (left self.old) }
         ensures left { left self.new ≡ without name.now (left self.old) }
     {
@@ -101,7 +101,7 @@ impl<'a> Object<'a> {
 
     /// Takes a member.
     #[inline(always)]
-    pub(crate) fn member(&mut self, name: &str) -> Result<Value<'a>, LineError>
+    pub fn member(&mut self, name: &str) -> Result<Value<'a>, LineError>
         ensures { Gives (λ v. (value_data v, left self.new)) result (member name.now (left self.old)) }
     {
         match self.optional(name) {
@@ -112,7 +112,7 @@ impl<'a> Object<'a> {
 
     /// Takes a whole number.
     #[inline(always)]
-    pub(crate) fn whole(&mut self, name: &str) -> Result<u64, LineError>
+    pub fn whole(&mut self, name: &str) -> Result<u64, LineError>
         ensures { Gives (λ n. (n, left self.new)) result (whole name.now (left self.old)) }
     {
         self.member(name)?.whole()
@@ -126,7 +126,7 @@ impl<'a> Object<'a> {
     }
 
     /// Takes a text, to be kept.
-    pub(crate) fn text(&mut self, alloc: Global, name: &str) -> Result<Text, LineError>
+    pub fn text(&mut self, alloc: Global, name: &str) -> Result<Text, LineError>
         ensures { Gives (λ t. (t, left self.new)) result (text name.now (left self.old)) }
     {
         self.member(name)?.into_text(alloc)
@@ -143,7 +143,7 @@ impl<'a> Object<'a> {
     }
 
     /// Takes an array.
-    pub(crate) fn array(&mut self, alloc: Global, name: &str) -> Result<Vec<Value<'a>>, LineError>
+    pub fn array(&mut self, alloc: Global, name: &str) -> Result<Vec<Value<'a>>, LineError>
         ensures { Gives (λ v. (items value_data v.items, left self.new)) result
             (array name.now (left self.old)) }
     {
@@ -176,7 +176,7 @@ impl<'a> Object<'a> {
 
     /// Makes sure that no member is left.
     #[tactic(auto, using(crate::proofs::readings::MembersLemmas::nothing_left, crate::proofs::readings::MembersLemmas::something_left, crate::proofs::readings::MembersLemmas::no_entry_left, crate::proofs::readings::MembersLemmas::some_entry_left))]
-    pub(crate) fn end(&self) -> Result<(), LineError>
+    pub fn end(&self) -> Result<(), LineError>
         ensures { Gives (λ u. u) result (nothing (left self.now)) }
     {
         let done = match self {

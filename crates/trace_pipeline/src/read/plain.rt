@@ -6,7 +6,7 @@ ghost use Rattle.trace_pipeline.specs.text.Compact.{plain_data};
 
 /// A value that stands plainly in a text.
 #[derive(Clone, Copy, Drop)]
-pub(crate) enum Plain<'a> {
+pub enum Plain<'a> {
     /// A whole number.
     Whole(u64),
     /// A number below zero.

@@ -117,8 +117,8 @@ fn place(object: &mut Object) -> Result<Place, LineError>
     }
 }
 
-// Takes the fields that are given, which are none where nothing is said.
-fn fields(alloc: Global, object: &mut Object) -> Result<Items<(Text, FieldValue)>, LineError>
+/// Takes the fields that are given, which are none where nothing is said.
+pub fn fields(alloc: Global, object: &mut Object) -> Result<Items<(Text, FieldValue)>, LineError>
     ensures { Gives (λ fields. (fields, left object.new)) result (fields_form (left object.old)) }
 {
     match object.optional("fields") {

@@ -17,7 +17,7 @@ use std::alloc::Global;
 
 /// A value of JSON.
 #[derive(Drop)]
-pub(crate) enum Value<'a> {
+pub enum Value<'a> {
     /// It stands plainly in the text.
     Plain(Plain<'a>),
     /// It was read to a tree.
@@ -46,7 +46,7 @@ impl<'a> Value<'a> {
     }
 
     /// The text that the value is, as it stands.
-    pub(crate) fn word(&self) -> Result<&str, LineError>
+    pub fn word(&self) -> Result<&str, LineError>
         ensures { Gives (λ word. word.now) result (as_str (value_data self.now)) }
     {
         match self {

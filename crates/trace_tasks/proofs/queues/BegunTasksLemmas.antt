@@ -23,7 +23,6 @@ use Rattle.span_script.specs.declared.request.Request.{Request}
 use Rattle.trace_tape.specs.Taping.{on_lane}
 use Rattle.trace_tasks.specs.declared.running.Running.{Running}
 use Rattle.trace_tasks.specs.declared.script.Task.{Task}
-use Rattle.trace_tasks.specs.Acts.{untouched}
 use Rattle.trace_tasks.specs.Begun.{Begins, AreBegun, Ran}
 use Rattle.trace_tasks.specs.Carrying.{Stage, Carries}
 use Rattle.trace_tasks.specs.Flat.{Left, yields, polls_left, all_polls, begun, makings, moment_of, rounds, turns}
@@ -155,7 +154,7 @@ same_polls handles [] (f ∷ fs) all = absurd all
 same_polls handles (t ∷ ts) [] all = absurd all
 same_polls handles (t ∷ ts) (f ∷ fs) all = (
     let a = sum_by-cons polls_left t ts in
-    let b = sum_by-cons (λ (g : Instrumented Running). yields g.inner.steps.items + 1) f fs in
+    let b = sum_by-cons (λ (g : Instrumented Running). yields g.inner.steps.now + 1) f fs in
     let e = ap yields all.0.steps in
     let r = same_polls handles ts fs all.1 in
     omega (arith, a, b, e, r))
@@ -211,7 +210,8 @@ module _ {S : Type 0} (spans : S → Spans) (hint : S → Option LevelFilter) (e
         within = append_assoc (makings tasks ++ front) stop.part stop.others ∙ append_assoc (makings tasks) front (stop.part ++ stop.others)
             ∙ ap (λ (rs : List Request). makings tasks ++ rs) (sym (append_assoc front stop.part stop.others) ∙ stop.within ∙ sym (rounds_are_turns sites (all_polls ts) 0 ts (omega arith)));
         at = moment_of stop.polls;
-        moment = inl refl;
+        moment = inl (refl, refl);
+        not_entered = stop.not_entered;
         stopped = record {
           here = st.here;
           carried = subst (λ (rs : List Request). Carries spans hint enables does touches d rs start st.here) (sym (append_assoc (makings tasks) front stop.part)) (after_all d (makings tasks) (front ++ stop.part) start middle st.here all.carried st.carried);
@@ -245,7 +245,8 @@ module _ {S : Type 0} (spans : S → Spans) (hint : S → Option LevelFilter) (e
         within = ap (λ (rs : List Request). rs ++ (makings stop.others ++ later)) none ∙ sym (append_assoc made (makings stop.others) later)
             ∙ ap (λ (rs : List Request). rs ++ later) (sym (makings_both stop.first stop.others) ∙ ap makings stop.within);
         at = 0;
-        moment = inr (refl, refl);
+        moment = inr (refl, refl, refl, refl);
+        not_entered = λ is_full. refl;
         stopped = record {
           here = middle;
           carried = subst (λ (rs : List Request). Carries spans hint enables does touches d rs start middle) (sym none) b.carried;
@@ -256,15 +257,6 @@ module _ {S : Type 0} (spans : S → Spans) (hint : S → Option LevelFilter) (e
           full = λ is_full. absurd (cc is_full);
         };
       }
-
-  -- a run that was refused before it made a span
-  pub gave_up_first : (activates : S → ℕ → Bool) (same : S → S → Type 0) (sites : List Callsite) (tasks : List Task) (lane : Lane) (old : Worlds S) → Ready spans kept is_whole old lane
-      → GaveUp spans hint enables activates does touches same (serving lane) sites tasks faults.Memory (record { world = old; lane = lane; handles = []; guards = [] }) old lane
-  gave_up_first activates same sites tasks lane old ready =
-      gave_up_begun activates same sites tasks lane old old old [] (record { first = []; others = tasks; within = refl; world = old; so_far = none_begun spans hint enables kept is_whole does touches lane old ready; wants = untouched refl }) closes where
-        closes : (handles : List Handle) (ts : List Left) → AllStand handles ts [] → (d : ℕ) (on : Lane) (gs : List Held) → Carries spans hint enables does touches d (drops 0 ts) (record { world = old; lane = on; handles = handles; guards = gs }) (record { world = old; lane = on; handles = handles; guards = gs })
-        closes handles [] stand d on gs = refl
-        closes handles (t ∷ ts) stand d on gs = absurd stand
 
   pub gave_up_if : (activates : S → ℕ → Bool) (same : S → S → Type 0) (sites : List Callsite) (tasks : List Task) (lane later : Lane) (old world new : Worlds S) (fs : List (Instrumented Running)) (result : Result ℕ EnterError) → old.sites ≡ sites
       → AreBegun spans hint enables kept is_whole does touches tasks lane old world fs

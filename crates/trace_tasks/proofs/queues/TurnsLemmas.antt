@@ -162,6 +162,7 @@ module _ {S : Type 0} (spans : S → Spans) (hint : S → Option LevelFilter) (e
           within = append_assoc (turns old.sites polls 0 ts) one.part (one.others ++ more)
               ∙ ap (λ (rs : List Request). turns old.sites polls 0 ts ++ rs) (sym (append_assoc one.part one.others more) ∙ ap (λ (rs : List Request). rs ++ more) one.within)
               ∙ sym whole;
+          not_entered = one.not_entered;
           stopped = record {
             here = st.here;
             carried = carry_after d (turns old.sites polls 0 ts) one.part first start st.here s.carried st.carried;
