@@ -22,6 +22,6 @@ pub fn fits<R: Threads + Wait + Sync>(
     ensures { IfOk result (λ yes. yes ≡ true → TellsThreads (lines_of script.now) output.now) }
 {
     let replay = Replay::of(alloc, script, output)?;
-    let answer = threads_answer(rt, alloc, &replay, script)?;
-    Ok(answer.text.as_slice() == output)
+    let outcome = threads_answer(rt, alloc, &replay, script)?;
+    Ok(outcome.answer.text.as_slice() == output)
 }

@@ -1,8 +1,7 @@
 -- What is written for a script for threads, and for one that breaks off.
-use Rattle.std.proofs.Common.{◌≡◌, ℕ, List, ◌++◌, Bool, true, false, refl, sym, ap, subst, ◌∙◌, inl, inr, Vec, Global}
-use Rattle.std.specs.Prelude.{Result, Ok, Err, is_ok, not, Option, Some, IfOk, IfErr, IfSome}
+use Rattle.std.proofs.Common.{◌≡◌, ℕ, List, [], ◌++◌, Bool, true, false, refl, sym, ap, subst, ◌∙◌, inl, inr}
+use Rattle.std.specs.Prelude.{Result, Ok, Err, is_ok, not, IfOk, IfErr}
 use Rattle.trace_pipeline.specs.text.Texts.{refusal_text}
-use Rattle.trace_records.specs.declared.answer.Answer.{Answer}
 use Rattle.trace_records.specs.declared.finished.RefusedLine.{RefusedLine}
 use Rattle.trace_records.specs.Following.{are_blank}
 use Rattle.trace_records.specs.Inputs.{Refuses, NoneRefused}
@@ -14,7 +13,7 @@ use Rattle.thread_lines.specs.Steps.{script_of}
 use Rattle.thread_lines.proofs.StoppedLemmas.{script_stays}
 use Rattle.thread_run.specs.Fits.{AllFit}
 use Rattle.thread_run.specs.Texts.{all_text}
-use Rattle.thread_run.specs.Inputs.{accepts_threads, TellsEnded, TellsScript, TellsThreads}
+use Rattle.thread_run.specs.Inputs.{accepts_threads, TellsOf, TellsEnded, TellsThreads}
 
 -- what the lines come to, as it was read
 abbrev Read : Type 0
@@ -29,44 +28,43 @@ pub accepted : (lines : List (List ℕ)) (read : Read) (script : ThreadScript) �
 accepted lines read script of_lines is = ap is_ok (sym of_lines ∙ is)
 
 pub tells_ended : (lines : List (List ℕ)) (read : Read) (script : ThreadScript) (es slice : List Ended) (text : List ℕ) → read ≡ script_of lines → read ≡ Ok script → AllFit script es → slice ≡ es → text ≡ all_text slice
-    → TellsThreads lines text
+    → TellsEnded lines es text
 tells_ended lines read script es slice text of_lines is fits same text_is =
-    subst (λ (r : Read). TellsScript r text) (sym is ∙ of_lines) (record { ended = es; fits = fits; text_is = text_is ∙ ap all_text same })
+    subst (λ (r : Read). TellsOf r es text) (sym is ∙ of_lines) (fits, text_is ∙ ap all_text same)
 
 -- ---- a refused line
 
 pub told_of : (read : Read) (refused : RefusedLine) → read ≡ Err refused → IfErr read (λ (w : RefusedLine). IsTold w.told) → IsTold refused.told
 told_of read refused is known = subst (λ (r : Read). IfErr r (λ (w : RefusedLine). IsTold w.told)) is known
 
-tells_refused : (lines : List (List ℕ)) (refused : RefusedLine) (text : List ℕ) → Err refused ≡ script_of lines → text ≡ refusal_text refused.line refused.told → TellsThreads lines text
-tells_refused lines refused text is text_is = subst (λ (r : Read). TellsScript r text) is text_is
+pub tells_refused : (lines : List (List ℕ)) (read : Read) (refused : RefusedLine) (es : List Ended) (text : List ℕ) → read ≡ script_of lines → read ≡ Err refused → es ≡ []
+    → text ≡ refusal_text refused.line refused.told → TellsEnded lines es text
+tells_refused lines read refused es text of_lines is none text_is = subst (λ (r : Read). TellsOf r es text) (sym is ∙ of_lines) (none, text_is)
 
-not_accepted : (lines : List (List ℕ)) (refused : RefusedLine) → Err refused ≡ script_of lines → accepts_threads lines ≡ false
-not_accepted lines refused is = ap is_ok (sym is)
+pub not_accepted : (lines : List (List ℕ)) (read : Read) (refused : RefusedLine) (flag : Bool) → read ≡ script_of lines → read ≡ Err refused → flag ≡ true → accepts_threads lines ≡ not flag
+not_accepted lines read refused flag of_lines is set = ap is_ok (sym of_lines ∙ is) ∙ sym (ap not set)
 
-pub answer_text : {E : Type 0} (lines : List (List ℕ)) (read : Read) (refused : RefusedLine) (r : Result Answer E) → read ≡ script_of lines → read ≡ Err refused
-    → IfOk r (λ a. a.text.items ≡ refusal_text refused.line refused.told) → IfOk r (λ a. TellsThreads lines a.text.items)
-answer_text lines read refused (Ok a) of_lines is text_is = tells_refused lines refused a.text.items (sym is ∙ of_lines) text_is
-answer_text lines read refused (Err why) of_lines is text_is = tt
+none_came : (read : Read) (es : List Ended) (text : List ℕ) → TellsOf read es text → is_ok read ≡ false → es ≡ []
+none_came (Ok script) es text told is = cc
+none_came (Err refused) es text told is = told.0
 
-pub answer_refused : {E : Type 0} (lines : List (List ℕ)) (read : Read) (refused : RefusedLine) (r : Result Answer E) → read ≡ script_of lines → read ≡ Err refused
-    → IfOk r (λ a. a.refused ≡ true) → IfOk r (λ a. accepts_threads lines ≡ not a.refused)
-answer_refused lines read refused (Ok a) of_lines is flag = not_accepted lines refused (sym is ∙ of_lines) ∙ sym (ap not flag)
-answer_refused lines read refused (Err why) of_lines is flag = tt
+-- nothing comes of spans where a line is refused
+pub none_refused : (lines : List (List ℕ)) (es : List Ended) (text : List ℕ) → TellsEnded lines es text → accepts_threads lines ≡ false → es ≡ []
+none_refused lines es text told is = none_came (script_of lines) es text told is
 
 -- ---- where the input breaks off
 
-refuses_by : (lines : List (List ℕ)) (refused : RefusedLine) (text : List ℕ) → are_blank lines ≡ false → Err refused ≡ script_of lines → text ≡ refusal_text refused.line refused.told
+refuses_by : (lines : List (List ℕ)) (refused : RefusedLine) (text : List ℕ) → are_blank lines ≡ false → script_of lines ≡ Err refused → text ≡ refusal_text refused.line refused.told
     → Refuses accepts_threads TellsThreads lines text
 refuses_by lines refused text some is text_is = record {
   some = some;
-  refused = λ more. not_accepted (lines ++ more) refused (sym (script_stays lines more refused some (sym is)));
-  whole = λ more. tells_refused (lines ++ more) refused text (sym (script_stays lines more refused some (sym is))) text_is;
+  refused = λ more. ap is_ok (script_stays lines more refused some is);
+  whole = λ more. ([], tells_refused (lines ++ more) (Err refused) refused [] text (sym (script_stays lines more refused some is)) refl refl text_is);
 }
 
 pub refuses : (lines : List (List ℕ)) (blank : Bool) (read : Read) (refused : RefusedLine) (text : List ℕ) → blank ≡ are_blank lines → blank ≡ false → read ≡ script_of lines → read ≡ Err refused
     → text ≡ refusal_text refused.line refused.told → Refuses accepts_threads TellsThreads lines text
-refuses lines blank read refused text of_lines some of_read is text_is = refuses_by lines refused text (sym of_lines ∙ some) (sym is ∙ of_read) text_is
+refuses lines blank read refused text of_lines some of_read is text_is = refuses_by lines refused text (sym of_lines ∙ some) (sym of_read ∙ is) text_is
 
 pub none_accepted : (lines : List (List ℕ)) (read : Read) (script : ThreadScript) → read ≡ script_of lines → read ≡ Ok script → NoneRefused accepts_threads lines
 none_accepted lines read script of_lines is = inr (accepted lines read script of_lines is)

@@ -1,5 +1,5 @@
 -- What is written for the lines of a script for threads.
-use Rattle.std.specs.Prelude.{◌≡◌, ℕ, List, Bool, Result, Ok, Err, is_ok}
+use Rattle.std.specs.Prelude.{◌≡◌, ℕ, List, [], Bool, Result, Ok, Err, is_ok}
 use Rattle.trace_pipeline.specs.text.Texts.{refusal_text}
 use Rattle.trace_records.specs.declared.finished.RefusedLine.{RefusedLine}
 use Rattle.thread_work.specs.declared.gather.Ended.{Ended}
@@ -12,16 +12,16 @@ use Rattle.thread_run.specs.Texts.{all_text}
 abbrev pub accepts_threads : List (List ℕ) → Bool
 accepts_threads lines = is_ok (script_of lines)
 
--- Of each shared span a history that fits the script and its record are written, and then the end line.
-pub record TellsEnded (script : ThreadScript) (text : List ℕ) : Type 0 where
-  pub ended : List Ended
-  pub fits : AllFit script ended
-  pub text_is : text ≡ all_text ended
+-- Each shared span of a script has a history that fits and its record, and the text is their lines and the end line; or nothing
+-- came of a refused line, and the text is the refusal line alone.
+abbrev pub TellsOf : Result ThreadScript RefusedLine → List Ended → List ℕ → Type 0
+TellsOf (Ok script) ended text = AllFit script ended × (text ≡ all_text ended)
+TellsOf (Err refused) ended text = (ended ≡ []) × (text ≡ refusal_text refused.line refused.told)
 
--- what is written of a script, or the refusal line alone
-abbrev pub TellsScript : Result ThreadScript RefusedLine → List ℕ → Type 0
-TellsScript (Ok script) text = TellsEnded script text
-TellsScript (Err refused) text = text ≡ refusal_text refused.line refused.told
+-- the text is written for the lines, where this came of their spans
+abbrev pub TellsEnded : List (List ℕ) → List Ended → List ℕ → Type 0
+TellsEnded lines ended text = TellsOf (script_of lines) ended text
 
+-- whatever came of them
 abbrev pub TellsThreads : List (List ℕ) → List ℕ → Type 0
-TellsThreads lines text = TellsScript (script_of lines) text
+TellsThreads lines text = (ended : List Ended) × TellsEnded lines ended text

@@ -2,7 +2,7 @@
 ghost use Rattle.std.specs.Prelude.{◌≡◌, not, None, IfSome, IfOk};
 ghost use Rattle.trace_pipeline.specs.Lines.{lines_of};
 ghost use Rattle.trace_records.specs.Inputs.{Refuses, NoneRefused};
-ghost use Rattle.thread_run.specs.Inputs.{TellsThreads, accepts_threads};
+ghost use Rattle.thread_run.specs.Inputs.{TellsEnded, TellsThreads, accepts_threads};
 
 use crate::run::run_script;
 use crate::text::ended_text;
@@ -11,29 +11,46 @@ use std::alloc::Global;
 use std::sync::Wait;
 use std::thread::Threads;
 use thread_lines::{are_blank, read_script};
+use thread_work::Ended;
 use trace_records::{Answer, refused_answer};
 use turnstile::Turnstile;
 
+/// What comes of an input.
+#[derive(Drop)]
+pub struct Outcome {
+    /// All that is written.
+    pub answer: Answer,
+    /// What came of each shared span, in order; of none where a line is refused.
+    pub ended: Vec<Ended>,
+}
+
 /// What comes of the script for threads that these bytes are, or its refusal line alone. It waits for the threads of its
 /// workers, and `turns` is called round each of their calls. `Memory` freely.
-#[tactic(auto, using(crate::proofs::InputLemmas::runnable, crate::proofs::InputLemmas::accepted, crate::proofs::InputLemmas::tells_ended, crate::proofs::InputLemmas::told_of, crate::proofs::InputLemmas::answer_text, crate::proofs::InputLemmas::answer_refused))]
+#[tactic(auto, using(crate::proofs::InputLemmas::runnable, crate::proofs::InputLemmas::accepted, crate::proofs::InputLemmas::tells_ended, crate::proofs::InputLemmas::told_of, crate::proofs::InputLemmas::tells_refused, crate::proofs::InputLemmas::not_accepted))]
 pub fn threads_answer<R: Threads + Wait + Sync, T: Turnstile + Sync>(
     rt: &R,
     alloc: Global,
     turns: &T,
     bytes: &[u8],
-) -> Result<Answer, Memory>
-    ensures text { IfOk result (λ answer. TellsThreads (lines_of bytes.now) answer.text.items) }
-    ensures refused { IfOk result (λ answer. accepts_threads (lines_of bytes.now) ≡ not answer.refused) }
+) -> Result<Outcome, Memory>
+    ensures told { IfOk result (λ outcome.
+        TellsEnded (lines_of bytes.now) outcome.ended.items outcome.answer.text.items) }
+    ensures refused { IfOk result (λ outcome.
+        accepts_threads (lines_of bytes.now) ≡ not outcome.answer.refused) }
 {
     match read_script(alloc, bytes)? {
         Ok(script) => {
             let ended = run_script(rt, alloc, script, turns)?;
             let text = ended_text(alloc, ended.as_slice())?;
             let refused = false;
-            Ok(Answer { text, refused })
+            let answer = Answer { text, refused };
+            Ok(Outcome { answer, ended })
         }
-        Err(line) => refused_answer(alloc, line),
+        Err(line) => {
+            let answer = refused_answer(alloc, line)?;
+            let ended = Vec::new(alloc);
+            Ok(Outcome { answer, ended })
+        }
     }
 }
 

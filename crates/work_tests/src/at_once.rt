@@ -4,6 +4,7 @@ use std::alloc::{AllocError, Global};
 use std::sync::atomic::{AtomicU64, Ordering};
 use std::test::{Fail, *};
 use std::thread::yield_now;
+use trace_stream::status::Status;
 use turnstile::{OpenTurnstile, Turnstile};
 
 // How often worker 0 looks at most whether worker 1's call was answered.
@@ -53,7 +54,8 @@ fn two_workers_at_once(rt: HostRuntime) -> Result<(), Fail> {
     };
     let lines =
         "{\"at\":5,\"shared\":0}\n{\"worker\":[{\"at\":7,\"do\":\"record\",\"fields\":[[\"a\",1]],\"span\":0}]}\n{\"worker\":[{\"at\":8,\"do\":\"record\",\"fields\":[[\"b\",1]],\"span\":0}]}\n";
-    let ended = run(&rt, rt.alloc(), lines, &hold)?;
+    let (status, ended) = run(&rt, rt.alloc(), lines, &hold)?;
+    assert!(rt; status == Status::Ok);
     assert!(rt; hold.reached.load(Ordering::SeqCst) == 1);
     assert!(rt; hold.missed.load(Ordering::SeqCst) == 0);
     assert!(rt; ended.len() == 1);
@@ -99,8 +101,8 @@ fn push_calls(alloc: Global, text: &mut String, spans: u64, rounds: u64) -> Resu
 #[test]
 fn eight_workers_on_64_spans(rt: HostRuntime) -> Result<(), Fail> {
     let lines = many(rt.alloc(), 64, 8, 500)?;
-    let ended = run(&rt, rt.alloc(), lines.as_str(), &OpenTurnstile)?;
-    assert!(rt; ended.len() == 64);
+    let (status, ended) = run(&rt, rt.alloc(), lines.as_str(), &OpenTurnstile)?;
+    assert!(rt; status == Status::Ok && ended.len() == 64);
     let mut entries = 0usize;
     for one in ended.as_slice() {
         entries = entries.saturating_add(one.history.as_slice().len());
@@ -111,8 +113,8 @@ fn eight_workers_on_64_spans(rt: HostRuntime) -> Result<(), Fail> {
 
 #[test]
 fn no_worker(rt: HostRuntime) -> Result<(), Fail> {
-    let ended = run(&rt, rt.alloc(), "{\"at\":3,\"shared\":0}\n", &OpenTurnstile)?;
-    assert!(rt; ended.len() == 1);
+    let (status, ended) = run(&rt, rt.alloc(), "{\"at\":3,\"shared\":0}\n", &OpenTurnstile)?;
+    assert!(rt; status == Status::Ok && ended.len() == 1);
     for one in ended.as_slice() {
         assert!(rt; one.history.as_slice().len() == 1 && one.finished.end == 3);
     }

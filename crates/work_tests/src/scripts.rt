@@ -7,8 +7,11 @@ use std::alloc::Global;
 use std::sync::Wait;
 use std::thread::Threads;
 use thread_lines::read_script;
-use thread_run::run_script;
 use thread_work::{Ended, ThreadScript};
+use trace_run::threads::run_threads;
+use trace_stream::sink::SureSink;
+use trace_stream::source::SureSource;
+use trace_stream::status::Status;
 use trace_threads::history::{Entry, What};
 use turnstile::Turnstile;
 
@@ -29,15 +32,18 @@ pub fn script(alloc: Global, lines: &str) -> Result<Option<ThreadScript>, Memory
     }
 }
 
-/// What comes of the script of some lines behind the settings, none of which is refused.
+/// What the command `threads` answers for some lines behind the settings.
 pub fn run<R: Threads + Wait + Sync, T: Turnstile + Sync>(
     rt: &R,
     alloc: Global,
     lines: &str,
     turns: &T,
-) -> Result<Vec<Ended>, Memory> {
-    let script = script(alloc, lines)?.ok_or(Memory)?;
-    run_script(rt, alloc, script, turns)
+) -> Result<(Status, Vec<Ended>), Memory> {
+    let mut text = String::from_str(alloc, SETTINGS)?;
+    text.push_str(lines)?;
+    let mut source = SureSource::new(text.as_bytes());
+    let mut sink = SureSink::new(alloc);
+    Ok(run_threads(rt, alloc, &mut source, &mut sink, turns))
 }
 
 /// How many calls of a handle a history has.
