@@ -41,9 +41,10 @@ impl TextFilter {
         ensures ok { IfOk result (λ t. t ≡ text.now) }
         ensures refused { IsRefused text.now result }
     {
+        // The text comes first: it is let go more cheaply than a filter.
+        let kept = Text::from(String::from_str(alloc, text)?);
         let filter = filter_of(alloc, text)?;
-        let text = Text::from(String::from_str(alloc, text)?);
-        Ok(TextFilter { text, filter })
+        Ok(TextFilter { text: kept, filter })
     }
 
     /// The text.

@@ -1,18 +1,38 @@
-//! What the gates of the tests are asked about.
+//! What the gates of the tests are asked, and how one learns what its writer tells.
+ghost use Rattle.std.specs.Prelude.{◌≡◌};
+
 use event_gate::{Admission, Levels};
 use otel_base::list::Items;
 use otel_base::memory::Memory;
 use otel_base::text::Text;
+use shared_gate::{GateWriter, SharedGate};
 use std::alloc::Global;
 use trace_base::callsite::{Callsite, Kind};
 use trace_base::level::{Level, LevelFilter};
 
-fn text(alloc: Global, text: &str) -> Result<Text, Memory> {
-    Ok(Text::from(String::from_str(alloc, text)?))
+// An event at INFO, and levels of a text that let it through wherever they count.
+#[derive(Drop)]
+pub struct Question {
+    pub event: Callsite,
+    pub levels: Levels,
 }
 
-// An event at INFO.
-pub fn event(alloc: Global) -> Result<Callsite, Memory> {
+// With levels of the text of this number.
+pub fn make_question(alloc: Global, number: u64) -> Result<Question, Memory> {
+    let levels = info(alloc, number)?;
+    Ok(Question {
+        event: event(alloc)?,
+        levels,
+    })
+}
+
+fn info(alloc: Global, reload: u64) -> Result<Levels, Memory> {
+    let mut list = Items::new(alloc);
+    list.push(LevelFilter::INFO)?;
+    Ok(Levels { reload, list })
+}
+
+fn event(alloc: Global) -> Result<Callsite, Memory> {
     Ok(Callsite {
         name: text(alloc, "e")?,
         target: text(alloc, "app")?,
@@ -25,21 +45,22 @@ pub fn event(alloc: Global) -> Result<Callsite, Memory> {
     })
 }
 
-// No levels, of the opening text.
-pub fn none(alloc: Global) -> Levels {
-    Levels {
-        reload: 0,
-        list: Items::new(alloc),
-    }
-}
-
-// Levels of a text: INFO alone.
-pub fn info(alloc: Global, reload: u64) -> Result<Levels, Memory> {
-    let mut list = Items::new(alloc);
-    list.push(LevelFilter::INFO)?;
-    Ok(Levels { reload, list })
+fn text(alloc: Global, text: &str) -> Result<Text, Memory> {
+    Ok(Text::from(String::from_str(alloc, text)?))
 }
 
 pub fn answer(yes: bool, reload: u64) -> Admission {
     Admission { yes, reload }
+}
+
+// Has a gate learn what its writer tells, and answers the number of the last text then.
+pub fn learn(writer: &mut GateWriter, gate: &mut SharedGate) -> Option<u64>
+    requires { gate.old.table ≡ writer.old.table }
+    ensures same { writer.new ≡ writer.old }
+    ensures table { gate.new.table ≡ gate.old.table }
+{
+    let note = writer.tell().ok()?;
+    let number = note.reload();
+    gate.learn(note).ok()?;
+    Some(number)
 }

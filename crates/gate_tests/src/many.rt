@@ -3,15 +3,12 @@ ghost use Rattle.std.specs.Prelude.{◌≡◌, ◌<◌, ◌≤◌, All, option_t
 ghost use Rattle.std.specs.Thread.{IsSync};
 ghost use Rattle.shared_gate.specs.declared.writer.TheConstants.{MOST_GATES};
 
-use crate::asked::{answer, event, none};
-use event_gate::Levels;
-use otel_base::memory::Memory;
+use crate::asked::{Question, answer, learn, make_question};
 use shared_gate::{GateNote, GateWriter, SharedGate};
 use std::alloc::Global;
 use std::sync::Wait;
 use std::test::{Fail, *};
 use std::thread::{Threads, join_mut};
-use trace_base::callsite::Callsite;
 
 // How many texts are put in force before each gate starts to be asked, the number past the last one, and how often a gate is
 // asked in its thread.
@@ -20,13 +17,6 @@ const STEP: u64 = 25;
 const END: u64 = 1001;
 
 const ASKS: u64 = 3000;
-
-// What is asked.
-#[derive(Drop)]
-struct Question {
-    event: Callsite,
-    levels: Levels,
-}
 
 // The text of an odd number lets the event through, and that of an even one nothing.
 fn is_through(number: u64) -> bool {
@@ -93,15 +83,10 @@ fn ends_by_last(writer: &mut GateWriter, gate: &mut SharedGate, question: &Quest
     requires { gate.old.table ≡ writer.old.table }
     ensures { writer.new ≡ writer.old }
 {
-    match writer.tell() {
-        Ok(note) => {
-            let is_learnt = gate.learn(note).is_ok();
-            let last = END - 1;
-            let asked = gate.enabled(&question.event, &question.levels);
-            is_learnt && asked == answer(is_through(last), last)
-        }
-        Err(Memory) => false,
-    }
+    let reload = END - 1;
+    let told = learn(writer, gate);
+    let asked = gate.enabled(&question.event, &question.levels);
+    told == Some(reload) && asked == answer(is_through(reload), reload)
 }
 
 // Asks each gate in a thread of its own, while texts are put in force for the next one and for all.
@@ -153,17 +138,10 @@ fn are_asked<R: Threads + Wait + Sync>(
     }
 }
 
-fn make_question(alloc: Global) -> Result<Question, Memory> {
-    Ok(Question {
-        event: event(alloc)?,
-        levels: none(alloc),
-    })
-}
-
-// After 1,000 texts, of which each gate saw some while they were put in force, each has the last one.
+// After 1,000 texts, of which each gate saw some while they were put in force, each has the last one. The levels are of none.
 #[test]
 fn eight_gates_are_asked(rt: HostRuntime) -> Result<(), Fail> {
-    let question = make_question(rt.alloc())?;
+    let question = make_question(rt.alloc(), END)?;
     assert!(rt; are_asked(&rt, rt.alloc(), 8, &question));
     Ok(())
 }

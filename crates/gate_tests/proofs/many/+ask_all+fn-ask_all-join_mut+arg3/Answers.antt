@@ -4,7 +4,7 @@ use denote.Param.Send.{param_send, arg_send, mut_send, shr_send}
 use Rattle.std.proofs.option.Option.TheSendSync as option
 use Rattle.shared_gate.specs.contracts.note.GateNote as note
 use Rattle.shared_gate.proofs.Crossing.{gate_send, note_send, closure_send}
-use Rattle.gate_tests.proofs.many.Question.TheSendSync as question
+use Rattle.gate_tests.proofs.asked.Question.TheSendSync as question
 use Rattle.gate_tests.proofs.many.+ask_all+fn-ask_all-join_mut+arg3.Goals as goal
 
 pub join_mut-asked-requires-send-F : goal.join_mut-asked-requires-send-F
