@@ -1,3 +1,4 @@
+pub mod Around
 pub mod Asking
 pub mod Begins
 pub mod Held

@@ -42,6 +42,7 @@ pub fn answer<S: Stack>(
         "admits" => admits(alloc, scene, name, words),
         "lane" => turn(alloc, scene, handles, name),
         "fill" => polls::filled(alloc, scene),
+        "around" => polls::around(alloc, scene, handles, at, name),
         "inside" => inside::told(alloc, scene.dispatch),
         "poll" => polls::polled(alloc, scene, handles, at, name, words, cx),
         _ => one(alloc, scene, handles, at, call, name, words),

@@ -1,10 +1,12 @@
 //! Futures that are polled under the spans of handles, and full lanes.
-ghost use Rattle.std.specs.Prelude.{◌≡◌, ◌≤◌, ℕ, IfSome};
-ghost use Rattle.trace_base.specs.Conditions.{HasFewHolds};
+ghost use Rattle.std.specs.Prelude.{◌≡◌, ◌≤◌, ℕ, Some, IfSome};
+ghost use Rattle.trace_base.specs.declared.span.Parent.TheVariants as parent;
+ghost use Rattle.trace_base.specs.Conditions.{HasFewHolds, HasFewHoldsAbove};
 ghost use Rattle.trace_base.specs.lanes.Contexts.{attached_as};
 ghost use Rattle.trace_base.specs.Gate.{dispatch_on};
 ghost use Rattle.span_handles.specs.Handles.{IsKnown, HasOn};
-ghost use Rattle.span_handles.specs.Knowing.{KeepsKnown};
+ghost use Rattle.span_handles.specs.Knowing.{KeepsKnown, KeepsHandles, KeepsOthers, GainsOne, LosesOne};
+ghost use Rattle.span_handles.specs.Worlds.{Has};
 ghost use Rattle.explain_stack.specs.Looking.{looks};
 ghost use Rattle.explain_stack.specs.Order.{InOrder, IsHeld};
 ghost use Rattle.explain_stack.specs.Places.{AreHeld};
@@ -17,7 +19,7 @@ use futures::task::{Context, Poll};
 use otel_base::context::Context as OtelContext;
 use otel_base::enter_error::EnterError;
 use otel_base::memory::Memory;
-use span_futures::instrument::Instrument;
+use span_futures::instrument::{Instrument, Instrumented};
 use span_futures::traced_future::TracedFuture;
 use span_futures::with_dispatch::WithSubscriber;
 use span_handles::span::Span;
@@ -126,6 +128,51 @@ impl<S: Stack> Scene<S> {
         (span, polled)
     }
 
+    /// Puts a future under the lane's current span, and answers whether that is the span of a handle; none where the stack
+    /// doesn't serve the lane, or that span has too many holds.
+    #[tactic(auto, using(crate::proofs::Around::known_again))]
+    fn is_around(&mut self, at: u64, span: &Span) -> Option<bool>
+        requires order { InOrder S.spans S.kept S.is_whole self.old }
+        ensures order { InOrder S.spans S.kept S.is_whole self.new }
+        ensures known { KeepsKnown S.spans self.old.world self.new.world }
+        ensures sites { self.new.sites ≡ self.old.sites }
+    {
+        if get_default(&self.world, &self.lane) != Some(self.dispatch) || !self.has_room_around() {
+            return None;
+        }
+        let future = self.put_around();
+        let is_around = future.span().same_span(span);
+        self.take_back(at, future);
+        Some(is_around)
+    }
+
+    // A future under the lane's current span.
+    fn put_around(&mut self) -> Instrumented<Looks>
+        requires order { InOrder S.spans S.kept S.is_whole self.old }
+        requires served { dispatch_on self.old.lane.default self.old.world.global ≡ Some self.old.dispatch }
+        requires few { Has (λ s. HasFewHoldsAbove (S.spans s) self.old.lane.id parent.Current) self.old.world
+            self.old.dispatch }
+        ensures order { InOrder S.spans S.kept S.is_whole self.new }
+        ensures held { IsKnown S.spans self.new.world result.span.held }
+        ensures keeps { KeepsHandles S.spans self.old.world self.new.world }
+        ensures more { GainsOne S.spans self.old.world self.new.world result.span.held }
+        ensures sites { self.new.sites ≡ self.old.sites }
+    {
+        Looks { is_ready: false }.in_current_span(&mut self.world, &self.lane)
+    }
+
+    // Closes the handle of a future.
+    fn take_back(&mut self, at: u64, future: Instrumented<Looks>)
+        requires order { InOrder S.spans S.kept S.is_whole self.old }
+        requires known { IsKnown S.spans self.old.world future.span.held }
+        ensures order { InOrder S.spans S.kept S.is_whole self.new }
+        ensures others { KeepsOthers S.spans self.old.world self.new.world future.span.held }
+        ensures fewer { LosesOne S.spans self.old.world self.new.world future.span.held }
+        ensures sites { self.new.sites ≡ self.old.sites }
+    {
+        future.into_inner(&mut self.world, at);
+    }
+
     /// Attaches empty contexts to the lane until it is full.
     fn fill(&mut self) -> Result<(), Memory>
         requires order { InOrder S.spans S.kept S.is_whole self.old }
@@ -173,6 +220,31 @@ pub fn filled<S: Stack>(alloc: Global, scene: &mut Scene<S>) -> Result<String, M
 {
     scene.fill()?;
     told::done(alloc, true)
+}
+
+/// Whether a future under the lane's current span is under that of a handle.
+#[tactic(auto, using(crate::proofs::Held::takes_held, crate::proofs::Held::puts_held, crate::proofs::Held::still_held))]
+pub fn around<S: Stack>(
+    alloc: Global,
+    scene: &mut Scene<S>,
+    handles: &mut Handles,
+    at: u64,
+    name: &str,
+) -> Result<String, Memory>
+    requires order { InOrder S.spans S.kept S.is_whole scene.old }
+    requires held { AreHeld S.spans scene.old.sites scene.old.world handles.old }
+    ensures order { InOrder S.spans S.kept S.is_whole scene.new }
+    ensures held { AreHeld S.spans scene.new.sites scene.new.world handles.new }
+{
+    let Some(slot) = handles.take(name) else {
+        return told::refused(alloc);
+    };
+    let is_around = scene.is_around(at, slot.span());
+    handles.put(name, slot);
+    match is_around {
+        Some(is_around) => Ok(format!(in alloc; "  around {is_around}\n")?),
+        None => told::refused(alloc),
+    }
 }
 
 /// Polls a future under the span of a handle: one that is pending, one that is ready, or one that is ready and served by the

@@ -1,16 +1,18 @@
 //! Scripts: a stack, callsites, and calls.
-ghost use Rattle.std.specs.Prelude.{◌≡◌, ℕ, [], length};
+ghost use Rattle.std.specs.Prelude.{◌≡◌, ℕ, [], false, length};
+ghost use Rattle.span_registry.specs.Both.{KnowsNone};
 ghost use Rattle.span_registry.specs.Registering.{no_spans};
 ghost use Rattle.explain_stack.specs.Order.{InOrder};
 ghost use Rattle.explain_stack.specs.Places.{AreHeld};
 
 use crate::handles::Handles;
 use crate::scene::Scene;
-use crate::stack::Stack;
+use crate::stack::{Judge, Stack};
 use crate::tally::Tally;
 use crate::{play, told, words};
 use env_directives::targets::Targets;
 use env_filter::filter::EnvFilter;
+use env_filter::reload;
 use futures::task::Context;
 use otel_base::memory::Memory;
 use otel_base::recorder::Recorder;
@@ -38,7 +40,12 @@ pub fn run(
             Ok(targets) => run_counting(alloc, targets, lines, cx),
             Err(_) => told::refused(alloc),
         },
-        "filtered" => run_filtered(alloc, words, lines, cx),
+        "filtered" => run_judged(alloc, EnvFilter::new(alloc, words)?, lines, cx),
+        "below" => match Targets::from_str(alloc, words) {
+            Ok(targets) => run_judged(alloc, targets, lines, cx),
+            Err(_) => told::refused(alloc),
+        },
+        "exchanged" => run_exchanged(alloc, words, lines, cx),
         _ => run_on(alloc, Registry::new(alloc), lines, cx),
     }
 }
@@ -74,21 +81,45 @@ fn run_counting<F: Filter + Drop>(
     run_on(alloc, Registry::new(alloc).with(layer), lines, cx)
 }
 
-// Runs them under the filter of some words, over the layer.
-fn run_filtered(
+// Runs them under a layer that judges, over the layer.
+fn run_judged<J: Judge>(
+    alloc: Global,
+    judge: J,
+    lines: &[String],
+    cx: &mut Context<'_>,
+) -> Result<String, Memory>
+    requires whole { J.is_whole judge }
+    requires new { KnowsNone (J.seen judge) × (J.attaches judge ≡ false) }
+    requires kept { (lane number : ℕ) → J.kept judge lane number ≡ 0 }
+{
+    let layer = OpenTelemetryLayer::new(alloc, Recorder::new(alloc));
+    run_on(
+        alloc,
+        Registry::new(alloc).with(layer).with(judge),
+        lines,
+        cx,
+    )
+}
+
+// Runs them under targets that were exchanged for others, over the layer; the words are both.
+fn run_exchanged(
     alloc: Global,
     words: &str,
     lines: &[String],
     cx: &mut Context<'_>,
 ) -> Result<String, Memory> {
-    let filter = EnvFilter::new(alloc, words)?;
-    let layer = OpenTelemetryLayer::new(alloc, Recorder::new(alloc));
-    run_on(
-        alloc,
-        Registry::new(alloc).with(layer).with(filter),
-        lines,
-        cx,
-    )
+    let (first, next) = words.split_once(' ').unwrap_or((words, ""));
+    let Ok(first) = Targets::from_str(alloc, first) else {
+        return told::refused(alloc);
+    };
+    let Ok(next) = Targets::from_str(alloc, next) else {
+        return told::refused(alloc);
+    };
+    let mut judge = reload::Layer::new(first);
+    if judge.reload(next).is_err() {
+        return told::refused(alloc);
+    }
+    run_judged(alloc, judge, lines, cx)
 }
 
 // Runs them on a stack that knows no span.

@@ -2,13 +2,15 @@
 ghost use Rattle.std.specs.Prelude.{◌≡◌};
 
 use crate::tally::Tally;
+use env_directives::targets::Targets;
 use env_filter::filter::EnvFilter;
+use env_filter::reload;
 use otel_base::record::Record;
 use otel_base::recorder::Recorder;
 use otel_base::tracer::Tracer;
 use otel_layer::counting::FilteredOpenTelemetryLayer;
 use otel_layer::layer::OpenTelemetryLayer;
-use otel_layer::part::OtelSubscriber;
+use otel_layer::part::{OtelLayer, OtelSubscriber};
 use span_registry::layered::Layered;
 use span_registry::registry::Registry;
 use trace_base::discard::Discard;
@@ -113,7 +115,31 @@ impl<F: Filter + Drop> Stack for Layered<FilteredOpenTelemetryLayer<Recorder, F>
     }
 }
 
-impl<S: Stack> Stack for Layered<EnvFilter, S> {
+/// A layer that judges what is told to the stack below it.
+pub trait Judge: OtelLayer + Discard {
+    /// The filter that it is, if it is one.
+    fn filter(&self) -> Option<&EnvFilter>;
+}
+
+impl Judge for EnvFilter {
+    fn filter(&self) -> Option<&EnvFilter> {
+        Some(self)
+    }
+}
+
+impl Judge for Targets {
+    fn filter(&self) -> Option<&EnvFilter> {
+        None
+    }
+}
+
+impl Judge for reload::Layer<Targets> {
+    fn filter(&self) -> Option<&EnvFilter> {
+        None
+    }
+}
+
+impl<J: Judge, S: Stack> Stack for Layered<J, S> {
     fn registry(&self) -> &Registry {
         self.inner().registry()
     }
@@ -123,7 +149,7 @@ impl<S: Stack> Stack for Layered<EnvFilter, S> {
     }
 
     fn filter(&self) -> Option<&EnvFilter> {
-        Some(self.layer())
+        self.layer().filter()
     }
 
     fn counts(&mut self) -> Option<(u64, u64)> {
