@@ -1,5 +1,5 @@
 -- What a world begins with, of which a stack that knows no span was added.
-use Rattle.std.proofs.Common.{◌≡◌, ℕ, ◌<◌, ◌≤◌, List, [], ◌∷◌, ◌++◌, length, Option, Some, Result, Ok, Err, refl, sym, ap, subst, ◌∙◌, arith, slice_get}
+use Rattle.std.proofs.Common.{◌≡◌, ℕ, ◌+◌, ◌<◌, ◌≤◌, List, [], ◌∷◌, ◌++◌, length, Option, Some, Result, Ok, Err, refl, sym, ap, subst, ◌∙◌, arith, slice_get}
 use Rattle.std.specs.Prelude.{IfOk, OnOk}
 use Rattle.std.specs.Option.{option_map_or}
 use Rattle.std.proofs.lemmas.List.{length-append}
@@ -48,6 +48,11 @@ pub begins_if : {S E : Type 0} (sub : Ghosts S) (law : IsLawful sub) (first : S)
     → IfOk result (λ dispatch. dispatch ≡ length before.subscribers) → world.sites ≡ before.sites → IfOk result (λ dispatch. (sites : ℕ) (lanes : List Lane) → sites ≤ length before.sites → AreAssigned world.global dispatch lanes → Stands sub 0 dispatch sites world lanes)
 begins_if sub law first whole none nothing before world (Ok dispatch) are is same = λ sites lanes within on. begins sub law first whole none nothing before.subscribers world are sites (let e = ap (λ (cs : List Callsite). length cs) same in omega (arith, e, within)) dispatch is lanes on
 begins_if sub law first whole none nothing before world (Err refused) are is same = tt
+
+-- it is one subscriber more
+pub one_more : {S E : Type 0} (sub : Ghosts S) (first : S) (before world : Worlds S) (result : Result ℕ E) → OnOk result (AreSame sub.same (before.subscribers ++ first ∷ []) world.subscribers) → OnOk result (length world.subscribers ≡ length before.subscribers + 1)
+one_more sub first before world (Ok dispatch) are = (let c = are.count in omega (arith, c, length-append before.subscribers (first ∷ [])))
+one_more sub first before world (Err refused) are = tt
 
 -- the first stack of a world serves two lanes with ids of their own
 pub first_two : {S : Type 0} {sub : Ghosts S} {world : Worlds S} {dispatch : ℕ} {front back : Lane} (old : Worlds S) (sites : ℕ) → dispatch ≡ 0 → sites ≤ length old.sites → front.default ≡ Some dispatch → back.default ≡ Some dispatch → (back.id ≡ front.id → ⊥)

@@ -1,5 +1,5 @@
 -- What one call on a subscriber makes of what is read of any.
-use Rattle.std.proofs.Common.{◌≡◌, ℕ, zero, suc, List, [], ◌∷◌, length, false, Option, refl, sym, ap, ◌∙◌, subst, arith, slice_get, slice_set}
+use Rattle.std.proofs.Common.{◌≡◌, ℕ, zero, suc, List, [], ◌∷◌, length, false, Option, Some, None, refl, sym, ap, ◌∙◌, subst, arith, slice_get, slice_set}
 use Rattle.std.specs.Prelude.{◌==◌}
 use Rattle.std.specs.Option.{option_map_or}
 use Rattle.std.proofs.lemmas.Bool.{cond-true, cond-false, eq-eqb, ne_eqb}
@@ -8,6 +8,8 @@ use Rattle.trace_base.specs.declared.subscriber.Subscriber.{Ghosts}
 use Rattle.trace_base.specs.lanes.Contexts.{AreAttached, KeepsAttached, attached_as}
 use Rattle.trace_base.specs.Gate.{Worlds}
 use Rattle.span_handles.specs.Worlds.{Has, Replaced, Alike, no_spans, spans_in, kept_in}
+use Rattle.span_handles.specs.Handles.{Held, ReplacedOn}
+use Rattle.span_handles.proofs.Showing.{as_many}
 use Rattle.traced.specs.Standing.{AreAtMost, IsApart, AreServed, Stands}
 
 get_other : {X : Type 0} (xs : List X) (n m : ℕ) (y : X) → (m ≡ n → ⊥) → slice_get (slice_set xs n y) m ≡ slice_get xs m
@@ -27,6 +29,11 @@ module _ {S : Type 0} (R : S → S → Type 0) (old new : Worlds S) (dispatch : 
 
   pub same_global : new.global ≡ old.global
   same_global = ap (λ (w : Worlds S). w.global) r.others
+
+-- one call leaves as many subscribers
+pub count_on : {S : Type 0} (R : ℕ → S → S → Type 0) (old new : Worlds S) (held : Held) → ReplacedOn R old new held → length new.subscribers ≡ length old.subscribers
+count_on {S} R old new None r = ap (λ (w : Worlds S). length w.subscribers) r
+count_on R old new (Some h) r = as_many (R h.1) old new h.0 r
 
 -- what is read of a subscriber that is the same
 pub alike_there : {S : Type 0} (sub : Ghosts S) (old new : Worlds S) (d : ℕ) → slice_get new.subscribers d ≡ slice_get old.subscribers d → length new.subscribers ≡ length old.subscribers → Alike sub.spans sub.attaches sub.kept sub.is_whole old new d

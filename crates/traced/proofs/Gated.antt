@@ -17,7 +17,7 @@ use Rattle.traced.specs.Standing.{CanMake, CanTell}
 use Rattle.traced.specs.Gating.{Answers, MakesOne, TellsIf, TellsOne}
 use Rattle.traced.specs.Making.{MakesIfAnswered}
 use Rattle.traced.proofs.Restored.{unchanged}
-use Rattle.traced.proofs.Moves.{get_there, later, made, made_one, made_global, made_can_close, none_made}
+use Rattle.traced.proofs.Moves.{get_there, later, made, made_one, made_global, made_count, made_can_close, none_made}
 
 -- the gate has one answer
 pub one_answer : {S : Type 0} (hint : S → Option LevelFilter) (enables : S → ℕ → Callsite → Bool) (world : Worlds S) (lane site : ℕ) (o : Option ℕ) (a b : Bool) → IsOwn world o → site < length world.sites → Admits hint enables world lane site o a → Admits hint enables world lane site o b → a ≡ b
@@ -52,6 +52,7 @@ module _ {S : Type 0} (sub : Ghosts S) (old new : Worlds S) (lane : Lane) (at : 
         refused = λ back. absurd (true≢false (not_both true can answer false back));
         stands = λ most dispatch sites lanes stands. made sub law most dispatch sites old new lanes lane at place site values o result did left stands;
         global = made_global sub law old new lane at place site values o result did left;
+        count = made_count sub law old new lane at place site values o result did left;
         closes = made_can_close sub law old new lane at place site values o result did known can.may;
         newest = λ dispatch serves. made_one sub law dispatch old new lane at place site values o result did known keeps serves;
         memory_leaves = none_made sub law old new o result left;
@@ -64,6 +65,7 @@ module _ {S : Type 0} (sub : Ghosts S) (old new : Worlds S) (lane : Lane) (at : 
     refused = λ back. (refl, refl);
     stands = λ most dispatch sites lanes stands. later sub most (most + 1) dispatch sites old lanes (omega arith) stands;
     global = refl;
+    count = refl;
     closes = record { known = tt; whole = tt };
     newest = λ dispatch serves. record {
       known = λ held known. known;

@@ -32,7 +32,7 @@ use Rattle.traced.specs.Moving.{Enters, Refuses}
 use Rattle.traced.specs.Staying.{Stays}
 use Rattle.traced.proofs.Counts.{more, with_new, with_entry, with_exit, with_closes}
 use Rattle.traced.proofs.Restored.{unchanged, closes, exits, IsReleasedOn, IsExitedOn}
-use Rattle.traced.proofs.Elsewhere.{beside, same_sites, same_global, alike_there, others_served, still_apart, attached_on_lane, stands_after}
+use Rattle.traced.proofs.Elsewhere.{beside, same_sites, same_global, alike_there, count_on, others_served, still_apart, attached_on_lane, stands_after}
 
 -- what is within a list is there
 pub get_there : {X : Type 0} (xs : List X) (n : ℕ) → n < length xs → (x : X) × (slice_get xs n ≡ Some x)
@@ -181,6 +181,11 @@ module _ {S : Type 0} (sub : Ghosts S) (law : IsLawful sub) where
   made_global old new lane at place site values (Some e) (Ok handle) did left = ap (λ (w : Worlds S). w.global) did.made.others
   made_global old new lane at place site values o (Err memory) did left = (room_stays_if old new o left).global
 
+  pub made_count : (old new : Worlds S) (lane : Lane) (at : ℕ) (place : Parent) (site : ℕ) (values : ValueSet) (o : Option ℕ) (result : Result Handle Memory) → IfOk result (MakesIf sub.spans sub.does old new lane at place site values o) → OnErr result (ReplacedIf sub.same old new o) → length new.subscribers ≡ length old.subscribers
+  made_count old new lane at place site values None (Ok handle) did left = ap (λ (w : Worlds S). length w.subscribers) did.1
+  made_count old new lane at place site values (Some e) (Ok handle) did left = as_many _ old new e did.made
+  made_count old new lane at place site values o (Err memory) did left = ((room_stays_if old new o left).alike 0).count
+
   -- its handle can be closed
   pub made_can_close : (old new : Worlds S) (lane : Lane) (at : ℕ) (place : Parent) (site : ℕ) (values : ValueSet) (o : Option ℕ) (result : Result Handle Memory) → IfOk result (MakesIf sub.spans sub.does old new lane at place site values o)
       → IfOk result (λ handle. IsKnown sub.spans new handle.held) → MayMakeIf sub.spans sub.is_whole old lane.id place o → IfOk result (CanClose sub new)
@@ -302,10 +307,10 @@ module _ {S : Type 0} (sub : Ghosts S) (law : IsLawful sub) where
       let r : Replaced (λ s t. sub.does s call t) old new dispatch = subst (λ (d : ℕ). Replaced (λ s t. sub.does s call t) old new d) own did in
       unchanged _ _ (by_call old new dispatch call r).spans_after
 
-  pub has_entered : (dispatch : ℕ) (old new : Worlds S) (before left : Lane) (at : ℕ) (handle : Handle) (guard : Opened) → guard ≡ record { span = handle; lane = before.id } → IsHeld sub dispatch old handle → IsKnown sub.spans new handle.held → KeepsHandles sub.spans old new
+  pub has_entered : (dispatch : ℕ) (old new : Worlds S) (before left : Lane) (at : ℕ) (handle : Handle) (guard : Opened) → guard ≡ record { span = handle; lane = before.id } → IsHeld sub dispatch old handle → IsKnown sub.spans new handle.held → KeepsKnown sub.spans old new
       → ReplacedOn (λ id s t. sub.does s (Enter id at before left) t) old new handle.held → HasEntered sub dispatch old new guard
   has_entered dispatch old new before left at handle guard is held known keeps did = subst (λ (o : Opened). HasEntered sub dispatch old new o) (sym is) (record {
-    known = keeps.known;
+    known = keeps;
     held = record { known = known; own = held.own };
     live = live_on sub dispatch old handle.held held.own held.known;
     entered_once = entered_spans dispatch old new before left at handle.held held.own did;
@@ -316,16 +321,18 @@ module _ {S : Type 0} (sub : Ghosts S) (law : IsLawful sub) where
   enters old new before left at handle (Err error) is known keeps did none = tt
   enters old new before left at handle (Ok guard) is known keeps did none = record {
     lane_id = lane_same old new before left at handle.held did none;
+    count = count_on _ old new handle.held did;
     of = ap (λ (o : Opened). o.span) is;
     on = ap (λ (o : Opened). o.lane) is;
     stands = λ most dispatch sites others held stands. entered_on most dispatch sites old new before left others at handle.held held.own did none stands;
-    entered = λ dispatch held. has_entered dispatch old new before left at handle guard is held known keeps did;
+    entered = λ dispatch held. has_entered dispatch old new before left at handle guard is held known keeps.known did;
   }
 
   pub refuses : (old new : Worlds S) (before left : Lane) (held : Held) (result : Result Opened EnterError) → OnErr result (ReplacedOn (λ id s t. sub.same s t) old new held) → OnErr result (LeavesLane before left) → OnErr result (Refuses sub old new before left)
   refuses old new before left held (Ok guard) same leaves = tt
   refuses old new before left held (Err error) same leaves = record {
     lane_id = leaves.id;
+    count = count_on _ old new held same;
     stands = λ most dispatch sites others stands. refused_on most dispatch sites old new before left others held same leaves stands;
     as_before = λ dispatch. stays_as_before sub dispatch old new (room_stays_on old new held same);
   }
@@ -352,9 +359,9 @@ module _ {S : Type 0} (sub : Ghosts S) (law : IsLawful sub) where
       let r : Replaced (λ s t. sub.does s call t) old new dispatch = subst (λ (d : ℕ). Replaced (λ s t. sub.does s call t) old new d) own did in
       (by_call old new dispatch call r).spans_after
 
-  pub exited_again : (dispatch : ℕ) (start old new : Worlds S) (before left : Lane) (at : ℕ) (guard : Opened) → before.id ≡ guard.lane → ReplacedOn (λ id s t. sub.does s (Exit id at before left) t) old new guard.span.held → KeepsHandles sub.spans old new → HasEntered sub dispatch start old guard → IsAsBefore sub dispatch start new
+  pub exited_again : (dispatch : ℕ) (start old new : Worlds S) (before left : Lane) (at : ℕ) (guard : Opened) → before.id ≡ guard.lane → ReplacedOn (λ id s t. sub.does s (Exit id at before left) t) old new guard.span.held → KeepsKnown sub.spans old new → HasEntered sub dispatch start old guard → IsAsBefore sub dispatch start new
   exited_again dispatch start old new before left at guard on did keeps entered = record {
-    known = λ q known. keeps.known q (entered.known q known);
+    known = λ q known. keeps q (entered.known q known);
     as_before = exits guard.span.held (spans_in sub.spans start dispatch) (spans_in sub.spans old dispatch) (spans_in sub.spans new dispatch) guard.lane entered.live entered.entered_once
         (subst (λ (l : ℕ). IsExitedOn guard.span.held l (spans_in sub.spans old dispatch) (spans_in sub.spans new dispatch)) on (exited_spans dispatch old new before left at guard.span.held entered.held.own did));
   }

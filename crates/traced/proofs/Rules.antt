@@ -33,7 +33,7 @@ on_held : {S : Type 0} (P : S → ℕ → Type 0) (world : Worlds S) (dispatch :
 on_held P world dispatch None own has = tt
 on_held {S} P world dispatch (Some h) own has = subst (λ (d : ℕ). Has (λ s. P s h.1) world d) (sym own) (has h.1)
 
-own_there : {S : Type 0} (world : Worlds S) (dispatch : ℕ) (o global : Option ℕ) → dispatch < length world.subscribers → dispatch_on o global ≡ Some dispatch → IsOwn world o
+pub own_there : {S : Type 0} (world : Worlds S) (dispatch : ℕ) (o global : Option ℕ) → dispatch < length world.subscribers → dispatch_on o global ≡ Some dispatch → IsOwn world o
 own_there world dispatch None global there served = tt
 own_there {S} world dispatch (Some d) global there served = (let e : d ≡ dispatch = cc served in subst (λ (k : ℕ). k < length world.subscribers) (sym e) there)
 

@@ -1,5 +1,5 @@
 -- What the calls that make spans promise alike.
-use Rattle.std.specs.Prelude.{◌≡◌, ◌+◌, ℕ, List, Some, Result, Ok, true, false, IfOk, OnErr}
+use Rattle.std.specs.Prelude.{◌≡◌, ◌+◌, ℕ, List, length, Some, Result, Ok, true, false, IfOk, OnErr}
 use Rattle.otel_base.specs.declared.memory.Memory.{Memory}
 use Rattle.trace_base.specs.declared.field.ValueSet.{ValueSet}
 use Rattle.trace_base.specs.declared.lane.Lane.{Lane}
@@ -18,6 +18,7 @@ pub record MakesIfAnswered {S : Type 0} (sub : Ghosts S) (old new : Worlds S) (l
   pub refused : Answers sub old lane site false → (result ≡ Ok no_handle) × (new ≡ old)
   pub stands : (most dispatch sites : ℕ) (lanes : List Lane) → Stands sub most dispatch sites old lanes → Stands sub (most + 1) dispatch sites new lanes
   pub global : new.global ≡ old.global
+  pub count : length new.subscribers ≡ length old.subscribers
   pub closes : IfOk result (CanClose sub new)
   pub newest : (dispatch : ℕ) → dispatch_on lane.default old.global ≡ Some dispatch → IfOk result (HasMade sub dispatch old new)
   pub memory_leaves : OnErr result ((dispatch : ℕ) → IsAsBefore sub dispatch old new)

@@ -1,0 +1,22 @@
+-- What the calls of a desk keep.
+use Rattle.std.specs.Prelude.{◌≡◌, ◌<◌, ℕ, [], ◌∷◌, length}
+use Rattle.trace_base.specs.declared.subscriber.Subscriber.{Ghosts}
+use Rattle.traced.specs.Standing.{Stands}
+use Rattle.example_desk.specs.declared.desk.Desk.{Desk}
+use Rattle.example_desk.specs.declared.sites.Sites.{Sites}
+
+-- the five callsites
+pub record AreThere (sites : Sites) : Type 0 where
+  pub order : sites.order < 5
+  pub pay : sites.pay < 5
+  pub pack : sites.pack < 5
+  pub failed : sites.failed < 5
+  pub paid : sites.paid < 5
+
+-- calls of the one stack can be made on both lanes, with at most so many spans, and holds of each
+pub record InOrder {S : Type 0} (sub : Ghosts S) (most : ℕ) (desk : Desk S) : Type 0 where
+  pub stands : Stands sub most 0 5 desk.world (desk.front ∷ desk.back ∷ [])
+  pub alone : length desk.world.subscribers ≡ 1
+  pub first : desk.dispatch ≡ 0
+  pub front : desk.front.id ≡ 1
+  pub sites : AreThere desk.sites

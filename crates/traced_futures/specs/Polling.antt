@@ -1,0 +1,35 @@
+-- Polls inside spans, in a world that stands.
+use Rattle.std.specs.Prelude.{◌≡◌, ◌+◌, ◌⊎◌, ℕ, List, ◌∷◌, length, IsOk}
+use Rattle.trace_base.specs.declared.lane.Lane.{Lane}
+use Rattle.trace_base.specs.declared.subscriber.Subscriber.{Ghosts}
+use Rattle.trace_base.specs.Gate.{Worlds, IsOwn}
+use Rattle.span_handles.specs.Handles.{Handle}
+use Rattle.span_futures.specs.declared.instrument.Instrumented.{Instrumented}
+use Rattle.span_futures.specs.Lent.{HasAll, AreAllAttached}
+use Rattle.span_futures.specs.Polls.{Polled, IsRefused, IsInside}
+use Rattle.traced.specs.Standing.{Stands, IsHeld}
+use Rattle.traced.specs.AsBefore.{IsAsBefore}
+
+-- A world and a lane can be lent to a future, which may call any subscriber: each is whole, and what it keeps attached to
+-- the lane is attached there.
+pub record CanLend {S : Type 0} (sub : Ghosts S) (world : Worlds S) (lane : Lane) : Type 0 where
+  pub whole : HasAll sub.is_whole world
+  pub own : IsOwn world lane.default
+  pub still : AreAllAttached sub.kept world lane
+
+-- a poll that leaves world and lane alone
+abbrev pub LeavesAll : {T S A : Type 0} → T → Worlds S → Lane → ℕ → Polled A → T → Worlds S → Lane → Type 0
+LeavesAll future old before at result next new later = (new ≡ old) × (later ≡ before) × IsOk result
+
+-- such a future was polled inside its span, or that couldn't be entered and the future wasn't polled
+abbrev pub PollsPlain : {T S A : Type 0} → Ghosts S → Instrumented T → Worlds S → Lane → ℕ → Polled A → Instrumented T → Worlds S → Lane → Type 0
+PollsPlain sub future old before at result next new later =
+    IsRefused sub.same sub.activates future old before result next new later
+    ⊎ IsInside sub.does sub.activates LeavesAll future old before at result next new later
+
+-- A poll leaves all as it was. The world stands with an entry more.
+pub record Polls {S : Type 0} (sub : Ghosts S) (old new : Worlds S) (before left : Lane) (handle : Handle) : Type 0 where
+  pub lane_id : left.id ≡ before.id
+  pub count : length new.subscribers ≡ length old.subscribers
+  pub stands : (most dispatch sites : ℕ) (others : List Lane) → IsHeld sub dispatch old handle → Stands sub most dispatch sites old (before ∷ others) → Stands sub (most + 1) dispatch sites new (left ∷ others)
+  pub as_before : (dispatch : ℕ) → IsHeld sub dispatch old handle → IsAsBefore sub dispatch old new
