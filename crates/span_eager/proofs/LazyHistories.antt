@@ -10,7 +10,8 @@ use Rattle.otel_layer.specs.Table.{told_at}
 use Rattle.span_script.specs.declared.request.Request.{Request}
 use Rattle.span_script.specs.Setups.{Setup}
 use Rattle.span_script.specs.Tables.{Made, Effect, History, Tables, no_tables, tables, done_by, after}
-use Rattle.span_script.specs.Effects.{Resolved, effect_of}
+use Rattle.span_script.specs.calls.Here.{Resolved}
+use Rattle.span_script.specs.Effects.{effect_of}
 use Rattle.span_script.specs.Outcomes.{followed_by, history_from}
 use Rattle.span_laws.specs.Closes.{is_drop}
 use Rattle.span_laws.specs.Laws.{IsHistory, more, occurrences}

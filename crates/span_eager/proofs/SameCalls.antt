@@ -1,6 +1,6 @@
 -- What a request changes where spans start at their making is what it changes where they don't, with other ids.
 use Rattle.std.proofs.Common.{◌≡◌, ℕ, zero, suc, ◌≤◌, ◌==◌, ◌&&◌, List, [], ◌∷◌, length, map, fold, min, max, Bool, true, false, Option, Some, None, Ok, Err, IfSome, refl, sym, ap, subst, subst₂, ◌∙◌, arith}
-use Rattle.std.specs.Prelude.{if◌then◌else◌, is_some, option_map, slice_get, option_and_then}
+use Rattle.std.specs.Prelude.{if◌then◌else◌, is_some, option_map, slice_get, option_and_then, not}
 use Rattle.std.specs.List.{AllByRecursion}
 use Rattle.std.specs.Option.{option_to_list}
 use Rattle.std.proofs.lemmas.List.{length-map}
@@ -43,9 +43,17 @@ use Rattle.span_script.specs.declared.request.Call.TheVariants as call
 use Rattle.span_script.specs.declared.request.Request.{Request}
 use Rattle.span_script.specs.Admission.{TextRead, text_read, text_filter}
 use Rattle.span_script.specs.Fields.{Fields, all_values, declared_by}
-use Rattle.span_script.specs.Setups.{Setup, id_at, span_site, event_site}
+use Rattle.span_script.specs.Setups.{Setup, span_site, event_site}
+use Rattle.span_script.specs.calls.Here.{Here, here_at, Resolved, refuse_if, ◌>>=◌, need, op_on, ops_on, ops_effect}
+use Rattle.span_script.specs.Effects.{effect_of_call, is_bad_moment, effect_of}
+use Rattle.span_script.specs.calls.Contexts.{context_effect, own_context, attach_effect, detach_effect}
+use Rattle.span_script.specs.calls.Entries.{active, enter_effect, is_full, meets_full, entry_call, exit_effect, is_shared, attached_by as attaches_by}
+use Rattle.span_script.specs.calls.Events.{if_told, counted_ops, event_effect}
+use Rattle.span_script.specs.calls.Fields.{callsite_of, update_ops, heard_values, record_effect}
+use Rattle.span_script.specs.calls.Filter.{admitted, enabled_effect, reload_by}
+use Rattle.span_script.specs.calls.Links.{follow_effect, set_while, is_set, link_ops, happens_at}
+use Rattle.span_script.specs.calls.Spans.{scope_at, disabled_effect, parent_at, last_attached, context_around, lane_in, span_effect, new_effect, clone_effect, drop_effect, is_borrowed, current_scope, scope_or_current, exchange_effect}
 use Rattle.span_script.specs.Tables.{Scope, Done, Made, EntryOf, Attached, HeardNew, Tables, slot_at, own, site_of, scope_of, made_of, begun_by, quiet}
-use Rattle.span_script.specs.Effects.{Resolved, named, admitted, scope_at, declines, parent_at, last_attached, context_around, lane_in, makes_span, makes, clones, drops, drops_unless, is_borrowed, current_scope, scope_or_current, exchanges, on, all_on, active, enters, is_full, meets_full, enters_unless, opens, exits, is_shared, unless_shared, exits_on, if_told, counted, tells, events, callsite_of, updates, heard_values, records, asks, reloads_if, gives, own_context, attached_by as attaches_by, attaches, detaches, follows, set_while, is_set, links, happens_at, effect_of_call, is_bad_moment, effect_of}
 use Rattle.span_eager.specs.Early.{lazy, IsSettled, is_far, gives_far}
 use Rattle.span_eager.specs.Renaming.{ids_by, context_by, reply_by}
 use Rattle.span_eager.proofs.SameSpan.{Ids, early_ids, op_by, told_by, valid_by, ids_of_by}
@@ -105,18 +113,25 @@ module _ (f : Ids) (setup : Setup) (eager : setup.layer.eager ≡ true) (t : Tab
   abbrev P : Resolved → Type 0
   P = IsReady f setup.layer (length t.made) at r t.recording
 
-  abbrev id : ℕ
-  id = id_at setup.ids lane
+  -- where the request stands, with spans that start early and without
+  abbrev he : Here
+  he = here_at setup te at lane
 
-  named_agrees : {X : Type 0} (w : What) (o : Option X) (g h : X → Resolved) → P (named w o h) → ((x : X) → P (h x) → A (g x) (h x)) → A (named w o g) (named w o h)
+  abbrev hl : Here
+  hl = here_at (lazy setup) t at lane
+
+  abbrev id : ℕ
+  id = hl.lane
+
+  named_agrees : {X : Type 0} (w : What) (o : Option X) (g h : X → Resolved) → P (need w o >>= h) → ((x : X) → P (h x) → A (g x) (h x)) → A (need w o >>= g) (need w o >>= h)
   named_agrees w None g h ready each = refl
   named_agrees w (Some x) g h ready each = each x ready
 
-  if_agrees : (b : Bool) (why : Refusal) (g h : Resolved) → P (if b then Err why else h) → (P h → A g h) → A (if b then Err why else g) (if b then Err why else h)
+  if_agrees : (b : Bool) (why : Refusal) (g h : Resolved) → P (refuse_if b why h) → (P h → A g h) → A (refuse_if b why g) (refuse_if b why h)
   if_agrees true why g h ready rest = refl
   if_agrees false why g h ready rest = rest ready
 
-  else_agrees : (b : Bool) (why : Refusal) (g h : Resolved) → P (if b then h else Err why) → (P h → A g h) → A (if b then g else Err why) (if b then h else Err why)
+  else_agrees : (b : Bool) (why : Refusal) (g h : Resolved) → P (refuse_if (not b) why h) → (P h → A g h) → A (refuse_if (not b) why g) (refuse_if (not b) why h)
   else_agrees true why g h ready rest = rest ready
   else_agrees false why g h ready rest = refl
 
@@ -144,15 +159,15 @@ module _ (f : Ids) (setup : Setup) (eager : setup.layer.eager ≡ true) (t : Tab
 
   -- ---- handles
 
-  clones_agree : (scope : Scope) → A (Ok (clones te at id scope)) (Ok (clones t at id scope))
+  clones_agree : (scope : Scope) → A (Ok (clone_effect he scope)) (Ok (clone_effect hl scope))
   clones_agree scope = (refl, record { at_is = refl; begins = refl; made = tt; starts_none = tt })
 
-  drops_agree : (handle : ℕ) (scope : Scope) → A (Ok (drops te at id handle scope)) (Ok (drops t at id handle scope))
+  drops_agree : (handle : ℕ) (scope : Scope) → A (Ok (drop_effect he handle scope)) (Ok (drop_effect hl handle scope))
   drops_agree handle scope = (refl, record { at_is = refl; begins = refl; made = tt; starts_none = tt })
 
-  exchanges_agree : (handle : ℕ) (scope now : Scope) → now ≡ scope → A (Ok (exchanges te at id handle now)) (Ok (exchanges t at id handle scope))
+  exchanges_agree : (handle : ℕ) (scope now : Scope) → now ≡ scope → A (Ok (exchange_effect he handle now)) (Ok (exchange_effect hl handle scope))
   exchanges_agree handle scope now same =
-      subst (λ (x : Scope). A (Ok (exchanges te at id handle x)) (Ok (exchanges t at id handle scope))) (sym same) (refl, record { at_is = refl; begins = refl; made = tt; starts_none = tt })
+      subst (λ (x : Scope). A (Ok (exchange_effect he handle x)) (Ok (exchange_effect hl handle scope))) (sym same) (refl, record { at_is = refl; begins = refl; made = tt; starts_none = tt })
 
   or_current_by : (scope : Scope) → scope_or_current te id scope ≡ scope_or_current t id scope
   or_current_by [] = scoped f.new t.made (current_of (t.entries id))
@@ -163,24 +178,24 @@ module _ (f : Ids) (setup : Setup) (eager : setup.layer.eager ≡ true) (t : Tab
   abbrev plain_of : List Done → Type 0
   plain_of done = AllByRecursion (λ (d : Done). (deed d.op).own ≡ None) done
 
-  on_by : (scope : Scope) (op : Op) → on scope (op_by f.new op) ≡ map (done_with f.new) (on scope op)
+  on_by : (scope : Scope) (op : Op) → op_on scope (op_by f.new op) ≡ map (done_with f.new) (op_on scope op)
   on_by [] op = refl
   on_by (s ∷ up) op = refl
 
-  on_plain : (scope : Scope) (op : Op) → (deed op).own ≡ None → plain_of (on scope op)
+  on_plain : (scope : Scope) (op : Op) → (deed op).own ≡ None → plain_of (op_on scope op)
   on_plain [] op none = tt
   on_plain (s ∷ up) op none = (none, tt)
 
   entered_agrees : (handle : ℕ) (owns : Bool) (scope : Scope) (o : Option ℕ)
-      → P (Ok (record (enters (lazy setup) t at lane handle owns scope) { starts = option_to_list o; attach = attaches_by t.recording at o }))
-      → A (Ok (record (enters setup te at lane handle owns scope) { starts = option_to_list o; attach = attaches_by r at o }))
-      (Ok (record (enters (lazy setup) t at lane handle owns scope) { starts = option_to_list o; attach = attaches_by t.recording at o }))
+      → P (Ok (record (enter_effect hl handle owns scope) { starts = option_to_list o; attach = attaches_by t.recording at o }))
+      → A (Ok (record (enter_effect he handle owns scope) { starts = option_to_list o; attach = attaches_by r at o }))
+      (Ok (record (enter_effect hl handle owns scope) { starts = option_to_list o; attach = attaches_by t.recording at o }))
   entered_agrees handle owns scope None ready = (
-    (λ i. record (enters setup te at lane handle owns scope) { starts = []; attach = None; ops = on_by scope ops.Enter i }),
+    (λ i. record (enter_effect he handle owns scope) { starts = []; attach = None; ops = on_by scope ops.Enter i }),
     record { at_is = refl; begins = refl; made = tt; starts_none = on_plain scope ops.Enter refl },
   )
   entered_agrees handle owns scope (Some s) ready = (
-    (λ i. record (enters setup te at lane handle owns scope) {
+    (λ i. record (enter_effect he handle owns scope) {
       starts = s ∷ [];
       attach = Some (record { owner = EntryOf s; context = context_alike (ready refl).0.0 s empty_context empty_context (ready refl).0.1 refl i });
       ops = on_by scope ops.Enter i;
@@ -191,19 +206,19 @@ module _ (f : Ids) (setup : Setup) (eager : setup.layer.eager ≡ true) (t : Tab
   full_by : is_full (te.contexts id) ≡ is_full (t.contexts id)
   full_by = ap (λ (k : ℕ). k == MOST) (length-map (t.contexts id) (attached_by f.new))
 
-  opens_agree : (handle : ℕ) (owns : Bool) → P (opens (lazy setup) t at lane handle owns) → A (opens setup te at lane handle owns) (opens (lazy setup) t at lane handle owns)
+  opens_agree : (handle : ℕ) (owns : Bool) → P (entry_call hl handle owns) → A (entry_call he handle owns) (entry_call hl handle owns)
   opens_agree handle owns ready =
       named_agrees what.Handle (slot_at t.handles handle)
-      (λ scope. enters_unless (meets_full setup.layer.activation scope (te.contexts id)) lane (enters setup te at lane handle owns scope))
-      (λ scope. enters_unless (meets_full setup.layer.activation scope (t.contexts id)) lane (enters (lazy setup) t at lane handle owns scope)) ready
-      (λ scope given. subst (λ (b : Bool). A (enters_unless (is_some (active setup.layer.activation scope) && b) lane (enters setup te at lane handle owns scope)) (enters_unless (meets_full setup.layer.activation scope (t.contexts id)) lane (enters (lazy setup) t at lane handle owns scope)))
+      (λ scope. refuse_if (meets_full setup.layer.activation scope (te.contexts id)) (refusal.Full lane) (Ok (enter_effect he handle owns scope)))
+      (λ scope. refuse_if (meets_full setup.layer.activation scope (t.contexts id)) (refusal.Full lane) (Ok (enter_effect hl handle owns scope))) ready
+      (λ scope given. subst (λ (b : Bool). A (refuse_if (is_some (active setup.layer.activation scope) && b) (refusal.Full lane) (Ok (enter_effect he handle owns scope))) (refuse_if (meets_full setup.layer.activation scope (t.contexts id)) (refusal.Full lane) (Ok (enter_effect hl handle owns scope))))
       (sym full_by)
-      (if_agrees (meets_full setup.layer.activation scope (t.contexts id)) (refusal.Full lane) (Ok (enters setup te at lane handle owns scope)) (Ok (enters (lazy setup) t at lane handle owns scope)) given
+      (if_agrees (meets_full setup.layer.activation scope (t.contexts id)) (refusal.Full lane) (Ok (enter_effect he handle owns scope)) (Ok (enter_effect hl handle owns scope)) given
       (λ go. entered_agrees handle owns scope (active setup.layer.activation scope) go)))
 
-  exits_agree : (guard : ℕ) (scope : Scope) → A (Ok (exits setup at id guard scope)) (Ok (exits (lazy setup) at id guard scope))
+  exits_agree : (guard : ℕ) (scope : Scope) → A (Ok (exit_effect he guard scope)) (Ok (exit_effect hl guard scope))
   exits_agree guard scope = (
-    (λ i. record (exits setup at id guard scope) { ops = on_by scope ops.Exit i }),
+    (λ i. record (exit_effect he guard scope) { ops = on_by scope ops.Exit i }),
     record { at_is = refl; begins = refl; made = tt; starts_none = on_plain scope ops.Exit refl },
   )
 
@@ -211,9 +226,9 @@ module _ (f : Ids) (setup : Setup) (eager : setup.layer.eager ≡ true) (t : Tab
 
   -- ops on one span that a start settles nothing of
   tells_agree : (scope : Scope) (op : Op) → (deed op).own ≡ None → (answer : Reply) → reply_by f.new answer ≡ answer
-      → A (Ok (tells at id answer (on scope (op_by f.new op)))) (Ok (tells at id answer (on scope op)))
+      → A (Ok (ops_effect hl answer (op_on scope (op_by f.new op)))) (Ok (ops_effect hl answer (op_on scope op)))
   tells_agree scope op none answer same = (
-    (λ i. record (tells at id (sym same i) (on scope (op_by f.new op))) { ops = on_by scope op i }),
+    (λ i. record (ops_effect hl (sym same i) (op_on scope (op_by f.new op))) { ops = on_by scope op i }),
     record { at_is = refl; begins = refl; made = tt; starts_none = on_plain scope op none },
   )
 
@@ -221,22 +236,22 @@ module _ (f : Ids) (setup : Setup) (eager : setup.layer.eager ≡ true) (t : Tab
   callsite_by scope = ap (option_and_then (λ (site : ℕ). slice_get setup.sites site)) (sited f.new t.made scope)
 
   records_agree : (scope : Scope) (fields : Fields) (c : Option Callsite)
-      → A (Ok (record (tells at id reply.Done (updates setup.layer scope fields c)) { heard = heard_values scope fields c }))
-      (Ok (record (tells at id reply.Done (updates (lazy setup).layer scope fields c)) { heard = heard_values scope fields c }))
+      → A (Ok (record (ops_effect hl reply.Done (update_ops setup.layer scope fields c)) { heard = heard_values scope fields c }))
+      (Ok (record (ops_effect hl reply.Done (update_ops (lazy setup).layer scope fields c)) { heard = heard_values scope fields c }))
   records_agree scope fields None = (refl, record { at_is = refl; begins = refl; made = tt; starts_none = tt })
   records_agree [] fields (Some c) = (refl, record { at_is = refl; begins = refl; made = tt; starts_none = tt })
   records_agree (s ∷ up) fields (Some c) = (refl, record { at_is = refl; begins = refl; made = tt; starts_none = (refl, tt) })
 
   events_agree : (c : Callsite) (values : ValueSet) (enabled : Bool) (reached : Scope) (counting : Option (List ℕ))
-      → A (Ok (record (tells at id (reply.Enabled enabled) (if_told enabled (all_on reached (counted counting c (event_of c values setup.layer at))))) { measures = if_told enabled (measures c values) }))
-      (Ok (record (tells at id (reply.Enabled enabled) (if_told enabled (all_on reached (counted counting c (event_of c values (lazy setup).layer at))))) { measures = if_told enabled (measures c values) }))
+      → A (Ok (record (ops_effect hl (reply.Enabled enabled) (if_told enabled (ops_on reached (counted_ops counting c (event_of c values setup.layer at))))) { measures = if_told enabled (measures c values) }))
+      (Ok (record (ops_effect hl (reply.Enabled enabled) (if_told enabled (ops_on reached (counted_ops counting c (event_of c values (lazy setup).layer at))))) { measures = if_told enabled (measures c values) }))
   events_agree c values false reached counting = (refl, record { at_is = refl; begins = refl; made = tt; starts_none = tt })
   events_agree c values true [] counting = (refl, record { at_is = refl; begins = refl; made = tt; starts_none = tt })
   events_agree c values true (s ∷ up) None = (refl, record { at_is = refl; begins = refl; made = tt; starts_none = (refl, tt) })
   events_agree c values true (s ∷ up) (Some text) = by_test (admits (text_filter text).statics.directives c)
     where
-      by_test : (b : Bool) → A (Ok (record (tells at id (reply.Enabled true) (all_on (s ∷ up) (ops.Counted ∷ if_told b (event_of c values setup.layer at ∷ [])))) { measures = measures c values }))
-          (Ok (record (tells at id (reply.Enabled true) (all_on (s ∷ up) (ops.Counted ∷ if_told b (event_of c values (lazy setup).layer at ∷ [])))) { measures = measures c values }))
+      by_test : (b : Bool) → A (Ok (record (ops_effect hl (reply.Enabled true) (ops_on (s ∷ up) (ops.Counted ∷ if_told b (event_of c values setup.layer at ∷ [])))) { measures = measures c values }))
+          (Ok (record (ops_effect hl (reply.Enabled true) (ops_on (s ∷ up) (ops.Counted ∷ if_told b (event_of c values (lazy setup).layer at ∷ [])))) { measures = measures c values }))
       by_test true = (refl, record { at_is = refl; begins = refl; made = tt; starts_none = (refl, (refl, tt)) })
       by_test false = (refl, record { at_is = refl; begins = refl; made = tt; starts_none = (refl, tt) })
 
@@ -247,16 +262,16 @@ module _ (f : Ids) (setup : Setup) (eager : setup.layer.eager ≡ true) (t : Tab
 
   -- ---- contexts
 
-  gives_agree : (starting : Option ℕ) (d c : Context) → d ≡ context_by f.new c → A (Ok (gives te at id starting d)) (Ok (gives t at id starting c))
+  gives_agree : (starting : Option ℕ) (d c : Context) → d ≡ context_by f.new c → A (Ok (context_effect he starting d)) (Ok (context_effect hl starting c))
   gives_agree starting d c same = (
-    (λ i. record (gives t at id starting c) {
+    (λ i. record (context_effect hl starting c) {
       new_context = Some (same i);
       reply = reply.Context (length-map t.named (context_by f.new) i) ((ap ids_of same ∙ ids_of_by f c) i);
     }),
     record { at_is = refl; begins = refl; made = tt; starts_none = tt },
   )
 
-  context_agrees : (scope : Scope) → P (Ok (gives t at id (own scope) (own_context t.recording at scope))) → A (Ok (gives te at id (own scope) (own_context r at scope))) (Ok (gives t at id (own scope) (own_context t.recording at scope)))
+  context_agrees : (scope : Scope) → P (Ok (context_effect hl (own scope) (own_context t.recording at scope))) → A (Ok (context_effect he (own scope) (own_context r at scope))) (Ok (context_effect hl (own scope) (own_context t.recording at scope)))
   context_agrees [] ready = gives_agree None empty_context empty_context refl
   context_agrees (s ∷ up) ready =
       gives_agree (Some s) (own_context r at (s ∷ up)) (own_context t.recording at (s ∷ up)) (context_alike (ready refl).0.0 s empty_context empty_context (ready refl).0.1 refl)
@@ -265,30 +280,30 @@ module _ (f : Ids) (setup : Setup) (eager : setup.layer.eager ≡ true) (t : Tab
   far_and true b is = (refl, is)
   far_and false b is = absurd (cc is)
 
-  remote_agrees : (ids : SpanContext) → (is_far f.many ids.trace && is_far f.many ids.span) ≡ true → A (Ok (gives te at id None (record { span = Some ids }))) (Ok (gives t at id None (record { span = Some ids })))
+  remote_agrees : (ids : SpanContext) → (is_far f.many ids.trace && is_far f.many ids.span) ≡ true → A (Ok (context_effect he None (record { span = Some ids }))) (Ok (context_effect hl None (record { span = Some ids })))
   remote_agrees ids far =
       let both = far_and (is_far f.many ids.trace) (is_far f.many ids.span) far in
       gives_agree None (record { span = Some ids }) (record { span = Some ids }) (λ i. record { span = Some (record { trace = sym (f.far ids.trace both.0) i; span = sym (f.far ids.span both.1) i }) })
 
-  attaches_agree : (given : Context) → A (Ok (attaches setup te at lane (context_by f.new given))) (Ok (attaches (lazy setup) t at lane given))
+  attaches_agree : (given : Context) → A (Ok (attach_effect he (context_by f.new given))) (Ok (attach_effect hl given))
   attaches_agree given = (refl, record { at_is = refl; begins = refl; made = tt; starts_none = tt })
 
   -- ---- what is asked of spans from outside
 
-  follows_agree : (scope from : Scope) → P (Ok (follows t at id scope from)) → A (Ok (follows te at id scope from)) (Ok (follows t at id scope from))
+  follows_agree : (scope from : Scope) → P (Ok (follow_effect hl scope from)) → A (Ok (follow_effect he scope from)) (Ok (follow_effect hl scope from))
   follows_agree [] from ready = (refl, record { at_is = refl; begins = refl; made = tt; starts_none = tt })
   follows_agree (s ∷ up) [] ready = (refl, record { at_is = refl; begins = refl; made = tt; starts_none = tt })
   follows_agree (s ∷ up) (q ∷ over) ready =
       let same = context_alike (ready refl).0.0 q empty_context empty_context (ready refl).0.1 refl in (
-        (λ i. record (follows t at id (s ∷ up) (q ∷ over)) { ops = on (s ∷ up) (link_of ((ap ids_of same ∙ ids_of_by f (own_context t.recording at (q ∷ over))) i) []) }),
+        (λ i. record (follow_effect hl (s ∷ up) (q ∷ over)) { ops = op_on (s ∷ up) (link_of ((ap ids_of same ∙ ids_of_by f (own_context t.recording at (q ∷ over))) i) []) }),
         record { at_is = refl; begins = refl; made = tt; starts_none = (refl, tt) },
       )
 
-  sets_agree : (scope : Scope) (given : Context) → P (Ok (tells at id (reply.Set (is_set t.recording scope)) (on scope (ops.SetParent given))))
-      → A (Ok (tells at id (reply.Set (is_set r scope)) (on scope (ops.SetParent (context_by f.new given))))) (Ok (tells at id (reply.Set (is_set t.recording scope)) (on scope (ops.SetParent given))))
+  sets_agree : (scope : Scope) (given : Context) → P (Ok (ops_effect hl (reply.Set (is_set t.recording scope)) (op_on scope (ops.SetParent given))))
+      → A (Ok (ops_effect he (reply.Set (is_set r scope)) (op_on scope (ops.SetParent (context_by f.new given))))) (Ok (ops_effect hl (reply.Set (is_set t.recording scope)) (op_on scope (ops.SetParent given))))
   sets_agree [] given ready = (refl, record { at_is = refl; begins = refl; made = tt; starts_none = tt })
   sets_agree (s ∷ up) given ready = (
-    (λ i. record (tells at id (reply.Set (set_while (waits_not i))) (on (s ∷ up) (ops.SetParent given))) { ops = on (s ∷ up) (ops.SetParent (context_by f.new given)) }),
+    (λ i. record (ops_effect hl (reply.Set (set_while (waits_not i))) (op_on (s ∷ up) (ops.SetParent given))) { ops = op_on (s ∷ up) (ops.SetParent (context_by f.new given)) }),
     record { at_is = refl; begins = refl; made = tt; starts_none = (refl, tt) },
   )
     where
@@ -298,7 +313,7 @@ module _ (f : Ids) (setup : Setup) (eager : setup.layer.eager ≡ true) (t : Tab
           ∙ sym (ready refl).1.0
 
   links_agree : (scope : Scope) (given : SpanContext) (attributes : List KeyValue) (b : Bool)
-      → A (Ok (tells at id reply.Done (if b then on scope (link_of (ids_by f.new given) attributes) else []))) (Ok (tells at id reply.Done (if b then on scope (link_of given attributes) else [])))
+      → A (Ok (ops_effect hl reply.Done (if b then op_on scope (link_of (ids_by f.new given) attributes) else []))) (Ok (ops_effect hl reply.Done (if b then op_on scope (link_of given attributes) else [])))
   links_agree scope given attributes true = tells_agree scope (link_of given attributes) refl reply.Done refl
   links_agree scope given attributes false = (refl, record { at_is = refl; begins = refl; made = tt; starts_none = tt })
 
@@ -326,14 +341,14 @@ module _ (f : Ids) (setup : Setup) (eager : setup.layer.eager ≡ true) (t : Tab
       (ap (λ (y : Recording). y.settings) still ∙ ready.e_settings) ready.l_settings
       (ap (λ (y : Recording). y.counting) still ∙ ready.counting)
 
-  spans_agree : (site : ℕ) (c : Callsite) (values : ValueSet) (under : Place) (up : Scope) → P (Ok (makes_span (lazy setup) t at lane site c values under up))
-      → A (Ok (makes_span setup te at lane site c values under up)) (Ok (makes_span (lazy setup) t at lane site c values under up))
+  spans_agree : (site : ℕ) (c : Callsite) (values : ValueSet) (under : Place) (up : Scope) → P (Ok (span_effect hl site c values under up))
+      → A (Ok (span_effect he site c values under up)) (Ok (span_effect hl site c values under up))
   spans_agree site c values under up ready =
       let k : length te.made ≡ length t.made = length-map t.made (made_by f.new) in
       let p = parent_at under up in
       let source = above setup.layer.activation p (current_of (t.entries id)) in
-      let told = made_agrees c (lane_in setup lane) values (context_around (te.contexts id) p) (context_around (t.contexts id) p) source (ready refl).0.0 (around_by f.new (t.contexts id) p) (ready refl).0.1 in (
-        (λ i. record (makes_span (lazy setup) t at lane site c values under up) {
+      let told = made_agrees c (lane_in hl) values (context_around (te.contexts id) p) (context_around (t.contexts id) p) source (ready refl).0.0 (around_by f.new (t.contexts id) p) (ready refl).0.1 in (
+        (λ i. record (span_effect hl site c values under up) {
           new_handle = Some (k i ∷ up);
           made = Some (record { site = site; scope = k i ∷ up; told = told i });
           begins = source_of (eager i) (k i);
@@ -343,8 +358,8 @@ module _ (f : Ids) (setup : Setup) (eager : setup.layer.eager ≡ true) (t : Tab
       )
 
   makes_agree : (site : ℕ) (c : Callsite) (values : ValueSet) (under : Place) (up : Scope) (b : Bool)
-      → P (Ok (if b then makes_span (lazy setup) t at lane site c values under up else declines t at id))
-      → A (Ok (if b then makes_span setup te at lane site c values under up else declines te at id)) (Ok (if b then makes_span (lazy setup) t at lane site c values under up else declines t at id))
+      → P (Ok (if b then span_effect hl site c values under up else disabled_effect hl))
+      → A (Ok (if b then span_effect he site c values under up else disabled_effect he)) (Ok (if b then span_effect hl site c values under up else disabled_effect hl))
   makes_agree site c values under up true ready = spans_agree site c values under up ready
   makes_agree site c values under up false ready = (refl, record { at_is = refl; begins = refl; made = tt; starts_none = tt })
 
@@ -353,46 +368,46 @@ module _ (f : Ids) (setup : Setup) (eager : setup.layer.eager ≡ true) (t : Tab
   pub call_agrees : (c : Call) → gives_far f.many c ≡ true → P (effect_of_call (lazy setup) t at lane c) → A (effect_of_call setup te at lane c) (effect_of_call (lazy setup) t at lane c)
   call_agrees (call.New site under fields) far ready =
       named_agrees what.Site (span_site setup.sites site)
-      (λ c. named what.Handle (scope_at te id under) (λ up. named what.Field (all_values c fields) (λ values. Ok (makes setup te at lane site c values under up))))
-      (λ c. named what.Handle (scope_at t id under) (λ up. named what.Field (all_values c fields) (λ values. Ok (makes (lazy setup) t at lane site c values under up)))) ready
-      (λ c given. subst (λ (o : Option Scope). A (named what.Handle o (λ up. named what.Field (all_values c fields) (λ values. Ok (makes setup te at lane site c values under up))))
-      (named what.Handle (scope_at t id under) (λ up. named what.Field (all_values c fields) (λ values. Ok (makes (lazy setup) t at lane site c values under up)))))
+      (λ c. need what.Handle (scope_at te id under) >>= (λ up. need what.Field (all_values c fields) >>= (λ values. Ok (new_effect he site c values under up))))
+      (λ c. need what.Handle (scope_at t id under) >>= (λ up. need what.Field (all_values c fields) >>= (λ values. Ok (new_effect hl site c values under up)))) ready
+      (λ c given. subst (λ (o : Option Scope). A (need what.Handle o >>= (λ up. need what.Field (all_values c fields) >>= (λ values. Ok (new_effect he site c values under up))))
+      (need what.Handle (scope_at t id under) >>= (λ up. need what.Field (all_values c fields) >>= (λ values. Ok (new_effect hl site c values under up)))))
       (sym (scope_at_by under))
       (named_agrees what.Handle (scope_at t id under)
-      (λ up. named what.Field (all_values c fields) (λ values. Ok (makes setup te at lane site c values under up)))
-      (λ up. named what.Field (all_values c fields) (λ values. Ok (makes (lazy setup) t at lane site c values under up))) given
-      (λ up more. named_agrees what.Field (all_values c fields) (λ values. Ok (makes setup te at lane site c values under up)) (λ values. Ok (makes (lazy setup) t at lane site c values under up)) more
+      (λ up. need what.Field (all_values c fields) >>= (λ values. Ok (new_effect he site c values under up)))
+      (λ up. need what.Field (all_values c fields) >>= (λ values. Ok (new_effect hl site c values under up))) given
+      (λ up more. named_agrees what.Field (all_values c fields) (λ values. Ok (new_effect he site c values under up)) (λ values. Ok (new_effect hl site c values under up)) more
       (λ values last. makes_agree site c values under up (admitted setup t id c) last))))
   call_agrees (call.Clone handle) far ready =
-      named_agrees what.Handle (slot_at t.handles handle) (λ scope. Ok (clones te at id scope)) (λ scope. Ok (clones t at id scope)) ready (λ scope given. clones_agree scope)
+      named_agrees what.Handle (slot_at t.handles handle) (λ scope. Ok (clone_effect he scope)) (λ scope. Ok (clone_effect hl scope)) ready (λ scope given. clones_agree scope)
   call_agrees (call.Drop handle) far ready =
       named_agrees what.Handle (slot_at t.handles handle)
-      (λ scope. drops_unless (is_borrowed t.guards handle) (drops te at id handle scope)) (λ scope. drops_unless (is_borrowed t.guards handle) (drops t at id handle scope)) ready
-      (λ scope given. if_agrees (is_borrowed t.guards handle) refusal.InUse (Ok (drops te at id handle scope)) (Ok (drops t at id handle scope)) given (λ go. drops_agree handle scope))
+      (λ scope. refuse_if (is_borrowed t.guards handle) refusal.InUse (Ok (drop_effect he handle scope))) (λ scope. refuse_if (is_borrowed t.guards handle) refusal.InUse (Ok (drop_effect hl handle scope))) ready
+      (λ scope given. if_agrees (is_borrowed t.guards handle) refusal.InUse (Ok (drop_effect he handle scope)) (Ok (drop_effect hl handle scope)) given (λ go. drops_agree handle scope))
   call_agrees (call.Enter handle) far ready = opens_agree handle false ready
   call_agrees (call.Exit guard) far ready =
       named_agrees what.Guard (slot_at t.guards guard)
-      (λ g. unless_shared (is_shared t.guards g) (exits_on g.lane lane (exits setup at id guard g.scope)))
-      (λ g. unless_shared (is_shared t.guards g) (exits_on g.lane lane (exits (lazy setup) at id guard g.scope))) ready
-      (λ g given. if_agrees (is_shared t.guards g) refusal.InUse (exits_on g.lane lane (exits setup at id guard g.scope)) (exits_on g.lane lane (exits (lazy setup) at id guard g.scope)) given
-      (λ go. else_agrees (g.lane == lane) (refusal.WrongLane g.lane) (Ok (exits setup at id guard g.scope)) (Ok (exits (lazy setup) at id guard g.scope)) go (λ last. exits_agree guard g.scope)))
+      (λ g. refuse_if (is_shared t.guards g) refusal.InUse (refuse_if (not (g.lane == lane)) (refusal.WrongLane g.lane) (Ok (exit_effect he guard g.scope))))
+      (λ g. refuse_if (is_shared t.guards g) refusal.InUse (refuse_if (not (g.lane == lane)) (refusal.WrongLane g.lane) (Ok (exit_effect hl guard g.scope)))) ready
+      (λ g given. if_agrees (is_shared t.guards g) refusal.InUse (refuse_if (not (g.lane == lane)) (refusal.WrongLane g.lane) (Ok (exit_effect he guard g.scope))) (refuse_if (not (g.lane == lane)) (refusal.WrongLane g.lane) (Ok (exit_effect hl guard g.scope))) given
+      (λ go. else_agrees (g.lane == lane) (refusal.WrongLane g.lane) (Ok (exit_effect he guard g.scope)) (Ok (exit_effect hl guard g.scope)) go (λ last. exits_agree guard g.scope)))
   call_agrees call.Current far ready =
-      subst (λ (scope : Scope). A (Ok (clones te at id scope)) (Ok (clones t at id (current_scope t id)))) (sym (scoped f.new t.made (current_of (t.entries id)))) (clones_agree (current_scope t id))
+      subst (λ (scope : Scope). A (Ok (clone_effect he scope)) (Ok (clone_effect hl (current_scope t id)))) (sym (scoped f.new t.made (current_of (t.entries id)))) (clones_agree (current_scope t id))
   call_agrees (call.OrCurrent handle) far ready =
       named_agrees what.Handle (slot_at t.handles handle)
-      (λ scope. drops_unless (is_borrowed t.guards handle) (exchanges te at id handle (scope_or_current te id scope)))
-      (λ scope. drops_unless (is_borrowed t.guards handle) (exchanges t at id handle (scope_or_current t id scope))) ready
-      (λ scope given. if_agrees (is_borrowed t.guards handle) refusal.InUse (Ok (exchanges te at id handle (scope_or_current te id scope))) (Ok (exchanges t at id handle (scope_or_current t id scope))) given
+      (λ scope. refuse_if (is_borrowed t.guards handle) refusal.InUse (Ok (exchange_effect he handle (scope_or_current te id scope))))
+      (λ scope. refuse_if (is_borrowed t.guards handle) refusal.InUse (Ok (exchange_effect hl handle (scope_or_current t id scope)))) ready
+      (λ scope given. if_agrees (is_borrowed t.guards handle) refusal.InUse (Ok (exchange_effect he handle (scope_or_current te id scope))) (Ok (exchange_effect hl handle (scope_or_current t id scope))) given
       (λ go. exchanges_agree handle (scope_or_current t id scope) (scope_or_current te id scope) (or_current_by scope)))
   call_agrees (call.Entered handle) far ready =
       named_agrees what.Handle (slot_at t.handles handle)
-      (λ scope. if is_borrowed t.guards handle then Err refusal.InUse else opens setup te at lane handle true)
-      (λ scope. if is_borrowed t.guards handle then Err refusal.InUse else opens (lazy setup) t at lane handle true) ready
-      (λ scope given. if_agrees (is_borrowed t.guards handle) refusal.InUse (opens setup te at lane handle true) (opens (lazy setup) t at lane handle true) given (λ go. opens_agree handle true go))
+      (λ scope. refuse_if (is_borrowed t.guards handle) refusal.InUse (entry_call he handle true))
+      (λ scope. refuse_if (is_borrowed t.guards handle) refusal.InUse (entry_call hl handle true)) ready
+      (λ scope given. if_agrees (is_borrowed t.guards handle) refusal.InUse (entry_call he handle true) (entry_call hl handle true) given (λ go. opens_agree handle true go))
   call_agrees (call.Record handle fields) far ready =
       named_agrees what.Handle (slot_at t.handles handle)
-      (λ scope. Ok (records setup te at id scope fields)) (λ scope. Ok (records (lazy setup) t at id scope fields)) ready
-      (λ scope given. subst (λ (c : Option Callsite). A (Ok (record (tells at id reply.Done (updates setup.layer scope fields c)) { heard = heard_values scope fields c })) (Ok (records (lazy setup) t at id scope fields)))
+      (λ scope. Ok (record_effect he scope fields)) (λ scope. Ok (record_effect hl scope fields)) ready
+      (λ scope given. subst (λ (c : Option Callsite). A (Ok (record (ops_effect hl reply.Done (update_ops setup.layer scope fields c)) { heard = heard_values scope fields c })) (Ok (record_effect hl scope fields)))
       (sym (callsite_by scope)) (records_agree scope fields (callsite_of (lazy setup) t scope)))
   call_agrees (call.HasField handle name) far ready =
       named_agrees what.Handle (slot_at t.handles handle)
@@ -401,82 +416,82 @@ module _ (f : Ids) (setup : Setup) (eager : setup.layer.eager ≡ true) (t : Tab
       (sym (callsite_by scope)) (refl, record { at_is = refl; begins = refl; made = tt; starts_none = tt }))
   call_agrees (call.Event site under fields) far ready =
       named_agrees what.Site (event_site setup.sites site)
-      (λ c. named what.Handle (scope_at te id under) (λ reached. named what.Field (all_values c fields) (λ values. Ok (events setup te at id c values reached))))
-      (λ c. named what.Handle (scope_at t id under) (λ reached. named what.Field (all_values c fields) (λ values. Ok (events (lazy setup) t at id c values reached)))) ready
-      (λ c given. subst (λ (o : Option Scope). A (named what.Handle o (λ reached. named what.Field (all_values c fields) (λ values. Ok (events setup te at id c values reached))))
-      (named what.Handle (scope_at t id under) (λ reached. named what.Field (all_values c fields) (λ values. Ok (events (lazy setup) t at id c values reached)))))
+      (λ c. need what.Handle (scope_at te id under) >>= (λ reached. need what.Field (all_values c fields) >>= (λ values. Ok (event_effect he c values reached))))
+      (λ c. need what.Handle (scope_at t id under) >>= (λ reached. need what.Field (all_values c fields) >>= (λ values. Ok (event_effect hl c values reached)))) ready
+      (λ c given. subst (λ (o : Option Scope). A (need what.Handle o >>= (λ reached. need what.Field (all_values c fields) >>= (λ values. Ok (event_effect he c values reached))))
+      (need what.Handle (scope_at t id under) >>= (λ reached. need what.Field (all_values c fields) >>= (λ values. Ok (event_effect hl c values reached)))))
       (sym (scope_at_by under))
       (named_agrees what.Handle (scope_at t id under)
-      (λ reached. named what.Field (all_values c fields) (λ values. Ok (events setup te at id c values reached)))
-      (λ reached. named what.Field (all_values c fields) (λ values. Ok (events (lazy setup) t at id c values reached))) given
-      (λ reached more. named_agrees what.Field (all_values c fields) (λ values. Ok (events setup te at id c values reached)) (λ values. Ok (events (lazy setup) t at id c values reached)) more
+      (λ reached. need what.Field (all_values c fields) >>= (λ values. Ok (event_effect he c values reached)))
+      (λ reached. need what.Field (all_values c fields) >>= (λ values. Ok (event_effect hl c values reached))) given
+      (λ reached more. named_agrees what.Field (all_values c fields) (λ values. Ok (event_effect he c values reached)) (λ values. Ok (event_effect hl c values reached)) more
       (λ values last. events_agree c values (admitted setup t id c) reached setup.counting))))
   call_agrees (call.Remote ids) far ready = remote_agrees ids far
   call_agrees (call.Context handle) far ready =
       named_agrees what.Handle (slot_at t.handles handle)
-      (λ scope. Ok (gives te at id (own scope) (own_context r at scope))) (λ scope. Ok (gives t at id (own scope) (own_context t.recording at scope))) ready
+      (λ scope. Ok (context_effect he (own scope) (own_context r at scope))) (λ scope. Ok (context_effect hl (own scope) (own_context t.recording at scope))) ready
       (λ scope given. context_agrees scope given)
   call_agrees (call.Attach context) far ready =
-      subst₂ (λ (o : Option Context) (b : Bool). A (named what.Context o (λ given. enters_unless b lane (attaches setup te at lane given))) (effect_of_call (lazy setup) t at lane (call.Attach context)))
+      subst₂ (λ (o : Option Context) (b : Bool). A (need what.Context o >>= (λ given. refuse_if b (refusal.Full lane) (Ok (attach_effect he given)))) (effect_of_call (lazy setup) t at lane (call.Attach context)))
       (sym (slice_get-map (context_by f.new) t.named context)) (sym full_by) (by_slot (slice_get t.named context) ready)
     where
-      by_slot : (o : Option Context) → P (named what.Context o (λ given. enters_unless (is_full (t.contexts id)) lane (attaches (lazy setup) t at lane given)))
-          → A (named what.Context (option_map (context_by f.new) o) (λ given. enters_unless (is_full (t.contexts id)) lane (attaches setup te at lane given))) (named what.Context o (λ given. enters_unless (is_full (t.contexts id)) lane (attaches (lazy setup) t at lane given)))
+      by_slot : (o : Option Context) → P (need what.Context o >>= (λ given. refuse_if (is_full (t.contexts id)) (refusal.Full lane) (Ok (attach_effect hl given))))
+          → A (need what.Context (option_map (context_by f.new) o) >>= (λ given. refuse_if (is_full (t.contexts id)) (refusal.Full lane) (Ok (attach_effect he given)))) (need what.Context o >>= (λ given. refuse_if (is_full (t.contexts id)) (refusal.Full lane) (Ok (attach_effect hl given))))
       by_slot None ready = refl
-      by_slot (Some given) ready = if_agrees (is_full (t.contexts id)) (refusal.Full lane) (Ok (attaches setup te at lane (context_by f.new given))) (Ok (attaches (lazy setup) t at lane given)) ready (λ go. attaches_agree given)
+      by_slot (Some given) ready = if_agrees (is_full (t.contexts id)) (refusal.Full lane) (Ok (attach_effect he (context_by f.new given))) (Ok (attach_effect hl given)) ready (λ go. attaches_agree given)
   call_agrees (call.Detach guard) far ready =
       named_agrees what.Guard (slot_at t.attaches guard)
-      (λ mine. exits_on mine lane (detaches at id guard)) (λ mine. exits_on mine lane (detaches at id guard)) ready
-      (λ mine given. else_agrees (mine == lane) (refusal.WrongLane mine) (Ok (detaches at id guard)) (Ok (detaches at id guard)) given (λ go. (refl, record { at_is = refl; begins = refl; made = tt; starts_none = tt })))
+      (λ mine. refuse_if (not (mine == lane)) (refusal.WrongLane mine) (Ok (detach_effect hl guard))) (λ mine. refuse_if (not (mine == lane)) (refusal.WrongLane mine) (Ok (detach_effect hl guard))) ready
+      (λ mine given. else_agrees (mine == lane) (refusal.WrongLane mine) (Ok (detach_effect hl guard)) (Ok (detach_effect hl guard)) given (λ go. (refl, record { at_is = refl; begins = refl; made = tt; starts_none = tt })))
   call_agrees (call.Follows handle from) far ready =
       named_agrees what.Handle (slot_at t.handles handle)
-      (λ scope. named what.Handle (slot_at t.handles from) (λ followed. Ok (follows te at id scope followed))) (λ scope. named what.Handle (slot_at t.handles from) (λ followed. Ok (follows t at id scope followed))) ready
-      (λ scope given. named_agrees what.Handle (slot_at t.handles from) (λ followed. Ok (follows te at id scope followed)) (λ followed. Ok (follows t at id scope followed)) given
+      (λ scope. need what.Handle (slot_at t.handles from) >>= (λ followed. Ok (follow_effect he scope followed))) (λ scope. need what.Handle (slot_at t.handles from) >>= (λ followed. Ok (follow_effect hl scope followed))) ready
+      (λ scope given. named_agrees what.Handle (slot_at t.handles from) (λ followed. Ok (follow_effect he scope followed)) (λ followed. Ok (follow_effect hl scope followed)) given
       (λ followed last. follows_agree scope followed last))
   call_agrees (call.SetParent handle context) far ready =
       named_agrees what.Handle (slot_at t.handles handle)
-      (λ scope. named what.Context (slice_get te.named context) (λ given. Ok (tells at id (reply.Set (is_set r scope)) (on scope (ops.SetParent given)))))
-      (λ scope. named what.Context (slice_get t.named context) (λ given. Ok (tells at id (reply.Set (is_set t.recording scope)) (on scope (ops.SetParent given))))) ready
-      (λ scope more. subst (λ (o : Option Context). A (named what.Context o (λ given. Ok (tells at id (reply.Set (is_set r scope)) (on scope (ops.SetParent given)))))
-      (named what.Context (slice_get t.named context) (λ given. Ok (tells at id (reply.Set (is_set t.recording scope)) (on scope (ops.SetParent given))))))
+      (λ scope. need what.Context (slice_get te.named context) >>= (λ given. Ok (ops_effect he (reply.Set (is_set r scope)) (op_on scope (ops.SetParent given)))))
+      (λ scope. need what.Context (slice_get t.named context) >>= (λ given. Ok (ops_effect hl (reply.Set (is_set t.recording scope)) (op_on scope (ops.SetParent given))))) ready
+      (λ scope more. subst (λ (o : Option Context). A (need what.Context o >>= (λ given. Ok (ops_effect he (reply.Set (is_set r scope)) (op_on scope (ops.SetParent given)))))
+      (need what.Context (slice_get t.named context) >>= (λ given. Ok (ops_effect hl (reply.Set (is_set t.recording scope)) (op_on scope (ops.SetParent given))))))
       (sym (slice_get-map (context_by f.new) t.named context)) (by_slot scope (slice_get t.named context) more))
     where
-      by_slot : (scope : Scope) (o : Option Context) → P (named what.Context o (λ given. Ok (tells at id (reply.Set (is_set t.recording scope)) (on scope (ops.SetParent given)))))
-          → A (named what.Context (option_map (context_by f.new) o) (λ given. Ok (tells at id (reply.Set (is_set r scope)) (on scope (ops.SetParent given)))))
-          (named what.Context o (λ given. Ok (tells at id (reply.Set (is_set t.recording scope)) (on scope (ops.SetParent given)))))
+      by_slot : (scope : Scope) (o : Option Context) → P (need what.Context o >>= (λ given. Ok (ops_effect hl (reply.Set (is_set t.recording scope)) (op_on scope (ops.SetParent given)))))
+          → A (need what.Context (option_map (context_by f.new) o) >>= (λ given. Ok (ops_effect he (reply.Set (is_set r scope)) (op_on scope (ops.SetParent given)))))
+          (need what.Context o >>= (λ given. Ok (ops_effect hl (reply.Set (is_set t.recording scope)) (op_on scope (ops.SetParent given)))))
       by_slot scope None ready = refl
       by_slot scope (Some given) ready = sets_agree scope given ready
   call_agrees (call.AddLink handle context attributes) far ready =
       named_agrees what.Handle (slot_at t.handles handle)
-      (λ scope. named what.Context (slice_get te.named context) (λ given. Ok (tells at id reply.Done (links scope (ids_of given) attributes))))
-      (λ scope. named what.Context (slice_get t.named context) (λ given. Ok (tells at id reply.Done (links scope (ids_of given) attributes)))) ready
-      (λ scope more. subst (λ (o : Option Context). A (named what.Context o (λ given. Ok (tells at id reply.Done (links scope (ids_of given) attributes))))
-      (named what.Context (slice_get t.named context) (λ given. Ok (tells at id reply.Done (links scope (ids_of given) attributes)))))
+      (λ scope. need what.Context (slice_get te.named context) >>= (λ given. Ok (ops_effect hl reply.Done (link_ops scope (ids_of given) attributes))))
+      (λ scope. need what.Context (slice_get t.named context) >>= (λ given. Ok (ops_effect hl reply.Done (link_ops scope (ids_of given) attributes)))) ready
+      (λ scope more. subst (λ (o : Option Context). A (need what.Context o >>= (λ given. Ok (ops_effect hl reply.Done (link_ops scope (ids_of given) attributes))))
+      (need what.Context (slice_get t.named context) >>= (λ given. Ok (ops_effect hl reply.Done (link_ops scope (ids_of given) attributes)))))
       (sym (slice_get-map (context_by f.new) t.named context)) (by_slot scope (slice_get t.named context)))
     where
       by_slot : (scope : Scope) (o : Option Context)
-          → A (named what.Context (option_map (context_by f.new) o) (λ given. Ok (tells at id reply.Done (links scope (ids_of given) attributes)))) (named what.Context o (λ given. Ok (tells at id reply.Done (links scope (ids_of given) attributes))))
+          → A (need what.Context (option_map (context_by f.new) o) >>= (λ given. Ok (ops_effect hl reply.Done (link_ops scope (ids_of given) attributes)))) (need what.Context o >>= (λ given. Ok (ops_effect hl reply.Done (link_ops scope (ids_of given) attributes))))
       by_slot scope None = refl
       by_slot scope (Some given) =
-          subst₂ (λ (ids : SpanContext) (b : Bool). A (Ok (tells at id reply.Done (if b then on scope (link_of ids attributes) else []))) (Ok (tells at id reply.Done (links scope (ids_of given) attributes))))
+          subst₂ (λ (ids : SpanContext) (b : Bool). A (Ok (ops_effect hl reply.Done (if b then op_on scope (link_of ids attributes) else []))) (Ok (ops_effect hl reply.Done (link_ops scope (ids_of given) attributes))))
           (sym (ids_of_by f given)) (sym (ap is_valid (ids_of_by f given) ∙ valid_by f (ids_of given))) (links_agree scope (ids_of given) attributes (is_valid (ids_of given)))
   call_agrees (call.SetAttribute handle key value) far ready =
       named_agrees what.Handle (slot_at t.handles handle)
-      (λ scope. Ok (tells at id reply.Done (on scope (ops.SetAttribute (record { key = key; value = value }))))) (λ scope. Ok (tells at id reply.Done (on scope (ops.SetAttribute (record { key = key; value = value }))))) ready
+      (λ scope. Ok (ops_effect hl reply.Done (op_on scope (ops.SetAttribute (record { key = key; value = value }))))) (λ scope. Ok (ops_effect hl reply.Done (op_on scope (ops.SetAttribute (record { key = key; value = value }))))) ready
       (λ scope given. tells_agree scope (ops.SetAttribute (record { key = key; value = value })) refl reply.Done refl)
   call_agrees (call.SetStatus handle status) far ready =
       named_agrees what.Handle (slot_at t.handles handle)
-      (λ scope. Ok (tells at id reply.Done (on scope (ops.SetStatus status)))) (λ scope. Ok (tells at id reply.Done (on scope (ops.SetStatus status)))) ready
+      (λ scope. Ok (ops_effect hl reply.Done (op_on scope (ops.SetStatus status)))) (λ scope. Ok (ops_effect hl reply.Done (op_on scope (ops.SetStatus status)))) ready
       (λ scope given. tells_agree scope (ops.SetStatus status) refl reply.Done refl)
   call_agrees (call.AddEvent handle name attributes time) far ready =
       named_agrees what.Handle (slot_at t.handles handle)
-      (λ scope. Ok (tells at id reply.Done (on scope (event_at name (happens_at at time) attributes)))) (λ scope. Ok (tells at id reply.Done (on scope (event_at name (happens_at at time) attributes)))) ready
+      (λ scope. Ok (ops_effect hl reply.Done (op_on scope (event_at name (happens_at at time) attributes)))) (λ scope. Ok (ops_effect hl reply.Done (op_on scope (event_at name (happens_at at time) attributes)))) ready
       (λ scope given. tells_agree scope (event_at name (happens_at at time) attributes) refl reply.Done refl)
   call_agrees (call.Enabled site) far ready =
-      named_agrees what.Site (slice_get setup.sites site) (λ c. Ok (asks setup te at id c)) (λ c. Ok (asks (lazy setup) t at id c)) ready (λ c given. (refl, record { at_is = refl; begins = refl; made = tt; starts_none = tt }))
+      named_agrees what.Site (slice_get setup.sites site) (λ c. Ok (enabled_effect he c)) (λ c. Ok (enabled_effect hl c)) ready (λ c given. (refl, record { at_is = refl; begins = refl; made = tt; starts_none = tt }))
   call_agrees (call.Reload text) far ready = by_read (text_read text)
     where
-      by_read : (read : TextRead) → A (reloads_if at id text read) (reloads_if at id text read)
+      by_read : (read : TextRead) → A (reload_by hl text read) (reload_by hl text read)
       by_read (Ok ds) = (refl, record { at_is = refl; begins = refl; made = tt; starts_none = tt })
       by_read (Err piece) = refl
 
@@ -487,8 +502,8 @@ pub request_agrees : (f : Ids) (setup : Setup) → setup.layer.eager ≡ true �
     → Agrees f.new (length t.made) request.at (effect_of setup (tables_by f.new r t) request) (effect_of (lazy setup) t request)
 request_agrees f setup eager t r request far ready =
     if_agrees f setup eager t r request.at request.lane (is_bad_moment t.moment request.at) (refusal.BadMoment t.moment request.at)
-    (named what.Lane (slice_get setup.ids request.lane) (λ id. effect_of_call setup (tables_by f.new r t) request.at request.lane request.call))
-    (named what.Lane (slice_get setup.ids request.lane) (λ id. effect_of_call (lazy setup) t request.at request.lane request.call)) ready
+    (need what.Lane (slice_get setup.ids request.lane) >>= (λ id. effect_of_call setup (tables_by f.new r t) request.at request.lane request.call))
+    (need what.Lane (slice_get setup.ids request.lane) >>= (λ id. effect_of_call (lazy setup) t request.at request.lane request.call)) ready
     (λ go. named_agrees f setup eager t r request.at request.lane what.Lane (slice_get setup.ids request.lane)
     (λ id. effect_of_call setup (tables_by f.new r t) request.at request.lane request.call) (λ id. effect_of_call (lazy setup) t request.at request.lane request.call) go
     (λ id given. call_agrees f setup eager t r request.at request.lane request.call far given))

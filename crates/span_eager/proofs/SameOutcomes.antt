@@ -10,7 +10,7 @@ use Rattle.span_script.specs.declared.reply.Reply.{Reply}
 use Rattle.span_script.specs.declared.request.Request.{Request}
 use Rattle.span_script.specs.Setups.{Setup}
 use Rattle.span_script.specs.Tables.{Effect, History, Tables, no_tables, nothing_recorded, tables, after}
-use Rattle.span_script.specs.Effects.{is_open, open_spans}
+use Rattle.span_script.specs.calls.Spans.{is_open, open_spans}
 use Rattle.span_script.specs.Outcomes.{history_of, outcome_of}
 use Rattle.span_laws.specs.Laws.{none}
 use Rattle.span_laws.specs.Starts.{started}

@@ -14,7 +14,8 @@ use Rattle.span_script.specs.declared.reply.What.TheVariants as what
 use Rattle.span_script.specs.declared.request.Request.{Request}
 use Rattle.span_script.specs.Setups.{Setup}
 use Rattle.span_script.specs.Tables.{Effect, History, Tables, done_by, recorded_by, open_part, records_of, after}
-use Rattle.span_script.specs.Effects.{Resolved, named, effect_of, effect_of_call, is_bad_moment}
+use Rattle.span_script.specs.calls.Here.{Resolved, ◌>>=◌, need}
+use Rattle.span_script.specs.Effects.{effect_of, effect_of_call, is_bad_moment}
 use Rattle.span_script.specs.Outcomes.{followed_by, history_from, records_from, refusal_at}
 use Rattle.span_laws.proofs.spans.StartOrdersLemmas.{starts_from, closes_from}
 use Rattle.span_eager.specs.Early.{lazy, answers_from, AreSettled, AreFar}
@@ -55,7 +56,7 @@ or_none false b is = (refl, is)
 
 good_moment : (setup : Setup) (t : Tables) (request : Request) (e : Effect) → effect_of setup t request ≡ Ok e → (t.moment ≤ request.at) × (request.at ≤ GREATEST)
 good_moment setup t request e is =
-    let good = no_bad (is_bad_moment t.moment request.at) (refusal.BadMoment t.moment request.at) (named what.Lane (slice_get setup.ids request.lane) (λ id. effect_of_call setup t request.at request.lane request.call)) e is in
+    let good = no_bad (is_bad_moment t.moment request.at) (refusal.BadMoment t.moment request.at) (need what.Lane (slice_get setup.ids request.lane) >>= (λ id. effect_of_call setup t request.at request.lane request.call)) e is in
     let parts = or_none (nat_lt request.at t.moment) (nat_lt GREATEST request.at) good in
     let first = parts.0 in
     let last = parts.1 in

@@ -2,7 +2,7 @@
 use Rattle.std.specs.Prelude.{Option, Some, None}
 use Rattle.trace_base.specs.layers.Hooks.{Hook, OnNewSpan, OnRecord, OnFollows, OnEvent, OnEnter, OnExit, OnClose}
 use Rattle.env_filter.specs.Filtering.{Filtered}
-use Rattle.span_script.specs.Effects.{hears}
+use Rattle.span_script.specs.calls.Filter.{hears}
 use Rattle.span_script.specs.Tables.{Heard, HeardNew, HeardRecord, HeardEnter, HeardExit, HeardClose}
 
 -- no moment, parent or current span, of a lane the id alone, and nothing of events and of what follows what

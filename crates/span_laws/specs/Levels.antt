@@ -6,7 +6,7 @@ use Rattle.trace_base.specs.layers.Hooks.{Hook}
 use Rattle.env_directives.specs.declared.env.directive.Directive.{Directive}
 use Rattle.env_filter.specs.Filtering.{span_level}
 use Rattle.span_script.specs.Admission.{text_filter}
-use Rattle.span_script.specs.Effects.{hook_of, in_force, filter_at}
+use Rattle.span_script.specs.calls.Filter.{hook_of, in_force, filter_at}
 use Rattle.span_script.specs.Setups.{Setup}
 use Rattle.span_script.specs.Tables.{Effect, History, tables}
 

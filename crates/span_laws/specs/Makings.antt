@@ -17,9 +17,13 @@ use Rattle.span_script.specs.declared.request.Call.TheVariants as call
 use Rattle.span_script.specs.declared.request.Place.{Place}
 use Rattle.span_script.specs.declared.request.Place.TheVariants as place
 use Rattle.span_script.specs.declared.request.Request.{Request}
-use Rattle.span_script.specs.Effects.{admitted, effect_of, lane_in, last_attached, own_context, scope_at}
+use Rattle.span_script.specs.calls.Here.{here_at}
+use Rattle.span_script.specs.Effects.{effect_of}
+use Rattle.span_script.specs.calls.Contexts.{own_context}
+use Rattle.span_script.specs.calls.Filter.{admitted}
+use Rattle.span_script.specs.calls.Spans.{lane_in, last_attached, scope_at}
 use Rattle.span_script.specs.Fields.{Fields, all_values}
-use Rattle.span_script.specs.Setups.{Setup, id_at, span_site}
+use Rattle.span_script.specs.Setups.{Setup, span_site}
 use Rattle.span_script.specs.Tables.{Effect, History, Made, Scope, Tables, own, tables}
 use Rattle.span_laws.specs.Records.{Began, IsRecord, closed_at, ops_of}
 use Rattle.span_laws.specs.Starts.{place_in, started}
@@ -31,7 +35,7 @@ asks_admitted setup t id _ = false
 
 -- so does a request
 abbrev pub is_making : Setup → Tables → Request → Bool
-is_making setup t request = asks_admitted setup t (id_at setup.ids request.lane) request.call
+is_making setup t request = asks_admitted setup t (here_at setup t request.at request.lane).lane request.call
 
 -- the own context of a span, which has started by then, if one is named; else the one that was attached last to the lane of an id
 abbrev pub context_of_lane : Tables → ℕ → ℕ → Option ℕ → Context
@@ -54,13 +58,13 @@ pub record IsMadeBy (setup : Setup) (t : Tables) (at lane : ℕ) (what_for : Cal
   pub values : ValueSet
   pub asked : what_for ≡ call.New m.site under fields
   pub site : span_site setup.sites m.site ≡ Some callsite
-  pub parent : scope_at t (id_at setup.ids lane) under ≡ Some up
+  pub parent : scope_at t (here_at setup t at lane).lane under ≡ Some up
   pub given : all_values callsite fields ≡ Some values
   pub scope : m.scope ≡ length t.made ∷ up
   pub making : Making
   pub name : making.name ≡ callsite.name
-  pub context : making.parent ≡ parent_context setup t at (id_at setup.ids lane) under up
-  pub first : making.first ≡ first_attributes callsite (lane_in setup lane) setup.layer
+  pub context : making.parent ≡ parent_context setup t at (here_at setup t at lane).lane under up
+  pub first : making.first ≡ first_attributes callsite (lane_in (here_at setup t at lane)) setup.layer
   pub began : Began setup at m.told making
   pub written : began.update ≡ span_update callsite values setup.layer
 
@@ -91,7 +95,7 @@ context_span activation place.Contextual up current = if activation then None el
 -- what is put under a span is put under the context of the span's record
 abbrev pub IsUnder : Setup → History → ℕ → Record → Type 0
 IsUnder setup h p r = (s : ℕ) (fore : History) (request : Request) (made : MakesSpan setup h s fore request)
-    → context_span setup.layer.activation made.by.under made.by.up (current_of ((tables setup fore).entries (id_at setup.ids request.lane))) ≡ Some p
+    → context_span setup.layer.activation made.by.under made.by.up (current_of ((tables setup fore).entries (here_at setup (tables setup fore) request.at request.lane).lane)) ≡ Some p
     → made.by.making.parent ≡ record { span = Some r.context }
 
 -- and so what any request sees of a span's own context that starts the span, or finds it started

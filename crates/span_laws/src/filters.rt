@@ -7,9 +7,11 @@ ghost use Rattle.trace_base.specs.Spans.{is_in};
 ghost use Rattle.env_filter.specs.Filtering.{Filtered, after as after_hook, is_admitted};
 ghost use Rattle.env_filter.specs.spans.Histories.{NeverFalls, level_told, levels_told};
 ghost use Rattle.span_script.specs.Admission.{text_filter};
-ghost use Rattle.span_script.specs.Effects.{admitted, events, filter_at, hook_of, reloads};
+ghost use Rattle.span_script.specs.calls.Here.{Here, answer_effect};
+ghost use Rattle.span_script.specs.calls.Events.{event_effect};
+ghost use Rattle.span_script.specs.calls.Filter.{admitted, filter_at, hook_of, reload_effect};
 ghost use Rattle.span_script.specs.Setups.{Setup};
-ghost use Rattle.span_script.specs.Tables.{Heard, History, Scope, Tables, after, quiet, tables};
+ghost use Rattle.span_script.specs.Tables.{Heard, History, Scope, Tables, after, tables};
 ghost use Rattle.span_script.specs.declared.reply.Reply.TheVariants as reply;
 ghost use Rattle.span_laws.specs.Hearing.{heard_of, hears_if};
 ghost use Rattle.span_laws.specs.Laws.{IsHistory};
@@ -18,18 +20,18 @@ ghost use Rattle.span_laws.specs.Levels.{HasNoReload, directives_in, hooks_in, l
 /// After a reload the gate speaks of the new text alone, whatever came before. All else is as it was: spans that were made
 /// stay, whatever the new text says of them.
 pub fn reloads()
-    ensures gate { (setup : Setup) (t : Tables) (at on lane : ℕ) (text : List ℕ) (c : Callsite)
-        → admitted setup (after t (reloads at on text)) lane c ≡ is_admitted (text_filter text) lane c }
-    ensures others { (setup : Setup) (h : History) (at on : ℕ) (text : List ℕ) → IsHistory setup h
-        → after (tables setup h) (reloads at on text)
-        ≡ record (tables setup h) { filter = Some text; heard = []; moment = at } }
+    ensures gate { (setup : Setup) (t : Tables) (stands : Here) (lane : ℕ) (text : List ℕ) (c : Callsite)
+        → admitted setup (after t (reload_effect stands text)) lane c ≡ is_admitted (text_filter text) lane c }
+    ensures others { (setup : Setup) (h : History) (stands : Here) (text : List ℕ) → IsHistory setup h
+        → after (tables setup h) (reload_effect stands text)
+        ≡ record (tables setup h) { filter = Some text; heard = []; moment = stands.at } }
 {}
 
 /// An event that isn't let through leaves nothing but its answer.
 pub fn refused_events()
-    ensures { (setup : Setup) (t : Tables) (at lane : ℕ) (c : Callsite) (values : ValueSet) (reached : Scope)
-        → admitted setup t lane c ≡ false
-        → events setup t at lane c values reached ≡ quiet at lane (reply.Enabled false) }
+    ensures { (stands : Here) (c : Callsite) (values : ValueSet) (reached : Scope)
+        → admitted stands.setup stands.script stands.lane c ≡ false
+        → event_effect stands c values reached ≡ answer_effect stands (reply.Enabled false) }
 {}
 
 /// A filter hears of a making the span, its callsite and its values, of a record the values that it gives, of an entry and an

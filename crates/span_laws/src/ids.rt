@@ -2,7 +2,7 @@
 ghost use Rattle.std.specs.Prelude.{◌≡◌, ◌≤◌, ◌<◌, ◌+◌, ℕ, true, length, map};
 ghost use Rattle.std.specs.List.{range_with_len};
 ghost use Rattle.otel_layer.specs.Table.{told_at};
-ghost use Rattle.span_script.specs.Effects.{is_open};
+ghost use Rattle.span_script.specs.calls.Spans.{is_open};
 ghost use Rattle.span_script.specs.Setups.{Setup};
 ghost use Rattle.span_script.specs.Tables.{History, tables};
 ghost use Rattle.span_laws.specs.Laws.{IsHistory, occurrences};

@@ -13,7 +13,10 @@ use Rattle.span_script.specs.declared.request.Place.TheVariants as place
 use Rattle.span_script.specs.Setups.{id_at, span_site, event_site}
 use Rattle.span_script.specs.Tables.{Scope, Tables, slot_at}
 use Rattle.span_script.specs.Fields.{Fields, all_values}
-use Rattle.span_script.specs.Effects.{Resolved, named, effect_of_call, scope_at, makes, events}
+use Rattle.span_script.specs.calls.Here.{here_at, Resolved, ◌>>=◌, need}
+use Rattle.span_script.specs.Effects.{effect_of_call}
+use Rattle.span_script.specs.calls.Events.{event_effect}
+use Rattle.span_script.specs.calls.Spans.{scope_at, new_effect}
 use Rattle.span_script.specs.Slots.{place_for}
 use Rattle.span_script.specs.Fits.{State, Fits, held_of}
 
@@ -28,14 +31,14 @@ no_scope k t fits lane (place.Under handle) is = by_slot (slot_at t.handles hand
     by_slot (Some scope) e = absurd (cc e)
 
 pub refuses_span_site : (k : State) (t : Tables) → Fits k t → (at lane site : ℕ) (under : Place) (fields : Fields) → span_site k.setup.sites site ≡ None → effect_of_call k.setup t at lane (call.New site under fields) ≡ Err (refusal.UnknownName what.Site)
-refuses_span_site k t fits at lane site under fields none = ap (λ o. named what.Site o (λ c. named what.Handle (scope_at t (id_at k.setup.ids lane) under) (λ up. named what.Field (all_values c fields) (λ v. Ok (makes k.setup t at lane site c v under up))))) none
+refuses_span_site k t fits at lane site under fields none = ap (λ o. need what.Site o >>= (λ c. need what.Handle (scope_at t (id_at k.setup.ids lane) under) >>= (λ up. need what.Field (all_values c fields) >>= (λ v. Ok (new_effect (here_at k.setup t at lane) site c v under up))))) none
 
 -- what an event does at its callsite
 abbrev at_site : State → Tables → ℕ → ℕ → Place → Fields → Callsite → Resolved
-at_site k t at lane under fields c = named what.Handle (scope_at t (id_at k.setup.ids lane) under) (λ reached. named what.Field (all_values c fields) (λ v. Ok (events k.setup t at (id_at k.setup.ids lane) c v reached)))
+at_site k t at lane under fields c = need what.Handle (scope_at t (id_at k.setup.ids lane) under) >>= (λ reached. need what.Field (all_values c fields) >>= (λ v. Ok (event_effect (here_at k.setup t at lane) c v reached)))
 
 pub refuses_event_site : (k : State) (t : Tables) → Fits k t → (at lane site : ℕ) (under : Place) (fields : Fields) → event_site k.setup.sites site ≡ None → effect_of_call k.setup t at lane (call.Event site under fields) ≡ Err (refusal.UnknownName what.Site)
-refuses_event_site k t fits at lane site under fields none = ap (λ o. named what.Site o (at_site k t at lane under fields)) none
+refuses_event_site k t fits at lane site under fields none = ap (λ o. need what.Site o >>= (at_site k t at lane under fields)) none
 
 pub refuses_event_place : (k : State) (t : Tables) → Fits k t → (at lane site : ℕ) (under : Place) (fields : Fields) → is_some (event_site k.setup.sites site) ≡ true → place_for k.handles under ≡ None
     → effect_of_call k.setup t at lane (call.Event site under fields) ≡ Err (refusal.UnknownName what.Handle)
@@ -44,5 +47,5 @@ refuses_event_place k t fits at lane site under fields evented gone = by_site (e
     by_site : (o : Option Callsite) → event_site k.setup.sites site ≡ o → is_some o ≡ true → effect_of_call k.setup t at lane (call.Event site under fields) ≡ Err (refusal.UnknownName what.Handle)
     by_site None is e = absurd (true≢false (sym e))
     by_site (Some c) is e =
-        ap (λ o. named what.Site o (at_site k t at lane under fields)) is
-        ∙ ap (λ o. named what.Handle o (λ reached. named what.Field (all_values c fields) (λ v. Ok (events k.setup t at (id_at k.setup.ids lane) c v reached)))) (no_scope k t fits (id_at k.setup.ids lane) under gone)
+        ap (λ o. need what.Site o >>= (at_site k t at lane under fields)) is
+        ∙ ap (λ o. need what.Handle o >>= (λ reached. need what.Field (all_values c fields) >>= (λ v. Ok (event_effect (here_at k.setup t at lane) c v reached)))) (no_scope k t fits (id_at k.setup.ids lane) under gone)

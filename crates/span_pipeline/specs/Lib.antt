@@ -1,3 +1,4 @@
 pub mod Asked
 pub mod Contexts
 pub mod Guards
+pub mod Parts

@@ -12,12 +12,12 @@ mod contexts;
 mod fields;
 mod filters;
 mod guards;
+mod laws;
 mod names;
 mod opening;
 pub mod pipeline;
 mod records;
 mod runs;
-mod shown;
 mod sites;
 
 pub use filters::read_texts;

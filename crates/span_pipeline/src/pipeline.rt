@@ -9,8 +9,7 @@ ghost use Rattle.span_script.specs.Effects.{is_bad_moment};
 use crate::contexts::Contexts;
 use crate::filters::read_texts;
 use crate::guards::Guards;
-use crate::opening;
-use crate::shown::same;
+use crate::{laws, opening};
 use env_filter::filter::EnvFilter;
 use otel_base::memory::Memory;
 use otel_base::record::Moment;
@@ -19,7 +18,7 @@ use span_script::open_error::OpenError;
 use span_script::reply::{Refusal, Reply, What};
 use span_script::request::{Call, LAST_MOMENT, Request};
 use span_script::settings::{Settings, Texts};
-use span_stack::{Stack, laws, new_stack};
+use span_stack::{Stack, new_stack};
 use sparse_slots::Slots;
 use std::alloc::Global;
 use std::marker::Model;
@@ -45,17 +44,14 @@ pub struct Pipeline {
 
 impl Model for Pipeline {
     ghost use Rattle.span_script.specs.Fits.{State, state_of, stack_views, IsKept};
-    ghost use Rattle.span_pipeline.specs.Contexts.{named_in};
+    ghost use Rattle.span_pipeline.specs.Parts.{parts_of};
 
     ghost Value = { State };
 
-    ghost view = { λ p. state_of ⟦<Stack as Subscriber>⟧.spans stack_views
-        p.world p.dispatch p.opening p.lanes.items p.handles.items p.guards.items (named_in p.contexts) p.moment };
+    ghost view = { λ p. state_of ⟦<Stack as Subscriber>⟧.spans stack_views (parts_of p) };
 
-    ghost invariant = { λ p. IsKept ⟦<Stack as Subscriber>⟧.kept
-        ⟦<Stack as Subscriber>⟧.is_whole p.world
-        (state_of ⟦<Stack as Subscriber>⟧.spans stack_views
-        p.world p.dispatch p.opening p.lanes.items p.handles.items p.guards.items (named_in p.contexts) p.moment) };
+    ghost invariant = { λ p. IsKept ⟦<Stack as Subscriber>⟧.spans stack_views ⟦<Stack as Subscriber>⟧.kept
+        ⟦<Stack as Subscriber>⟧.is_whole (parts_of p) };
 }
 
 /// What isn't spent is given up.
@@ -88,20 +84,24 @@ fn is_bad_moment(before: Moment, given: Moment) -> bool
 }
 
 impl Pipeline {
-    ghost use Rattle.span_script.specs.Tables.{Tables, History, tables};
-    ghost use Rattle.span_script.specs.Effects.{effect_of, effect_of_call};
-    ghost use Rattle.span_script.specs.Fits.{StandsFor, Served, Recorded, IsRefusal};
-    ghost use Rattle.span_script.specs.Refusals.{takes_no_memory};
+    ghost use Rattle.span_script.specs.Tables.{History, tables};
+    ghost use Rattle.span_script.specs.Effects.{effect_of};
+    ghost use Rattle.span_script.specs.Fits.{StandsFor, Serves, Recorded, IsRefusal};
+    ghost use Rattle.span_script.specs.calls.Refusals.{takes_no_memory};
     ghost use Rattle.span_script.specs.declared.reply.Refusal.TheVariants.{Memory as NoMemory};
 
     /// A pipeline for the settings, before any request. `Directive` where a piece of the filter's text is none, or else one
     /// of the text for counting; it may answer `Memory`.
     pub fn open(alloc: Global, settings: Settings) -> Result<Pipeline, OpenError>
         requires { HasOwnIds (map (λ l. l.0) settings.lanes) }
+
+        // A new pipeline stands for the empty history of its settings.
         ensures setup { IfOk result (λ pipeline. pipeline.setup ≡ setup_by settings) }
         ensures stands { IfOk result (λ pipeline. StandsFor pipeline (tables (setup_by settings) [])) }
         ensures records { IfOk result (λ pipeline. pipeline.recording.finished ≡ []) }
         ensures measures { IfOk result (λ pipeline. pipeline.measures ≡ []) }
+
+        // Both texts are read before anything is made.
         ensures read { OnOk result (opening_read settings.filter settings.counting ≡ Ok tt) }
         ensures refused { IfErr result (IsUnread (opening_read settings.filter settings.counting)) }
     {
@@ -123,12 +123,12 @@ impl Pipeline {
         requires gate { IsTextFilter settings.filter (plain gate) }
         requires new { IsNew (plain gate) }
         requires counter { IsCounter settings.counting (option_map plain counter) }
+
         ensures setup { IfOk result (λ pipeline. pipeline.setup ≡ setup_by settings) }
         ensures stands { IfOk result (λ pipeline. StandsFor pipeline (tables (setup_by settings) [])) }
         ensures records { IfOk result (λ pipeline. pipeline.recording.finished ≡ []) }
         ensures measures { IfOk result (λ pipeline. pipeline.measures ≡ []) }
     {
-        same();
         laws::same();
         let Settings {
             filter,
@@ -163,6 +163,8 @@ impl Pipeline {
             → IfOk result (Recorded (effect_of self.old.setup (tables self.old.setup h) request) h self.old self.new) }
         ensures refused { (h : History) → StandsFor self.old (tables self.old.setup h)
             → IfErr result (IsRefusal (effect_of self.old.setup (tables self.old.setup h) request)) }
+
+        // After any refusal, one for want of memory too, the pipeline is as it was.
         ensures err { OnErr result (self.new ≡ self.old) }
         ensures room { takes_no_memory request.call ≡ true → ¬ (result ≡ Err NoMemory) }
     {
@@ -183,12 +185,7 @@ impl Pipeline {
     #[inline(always)]
     fn call(&mut self, at: Moment, lane: u64, call: Call) -> Result<Reply, Refusal>
         requires { lane < length self.old.lanes }
-        ensures ok { (t : Tables) → StandsFor self.old t
-            → IfOk result (Served (effect_of_call self.old.setup t at lane call) t self.old self.new) }
-        ensures refused { (t : Tables) → StandsFor self.old t
-            → IfErr result (IsRefusal (effect_of_call self.old.setup t at lane call)) }
-        ensures err { OnErr result (self.new ≡ self.old) }
-        ensures room { takes_no_memory call ≡ true → ¬ (result ≡ Err NoMemory) }
+        ensures { Serves self.old at lane call result self.new }
     {
         match call {
             Call::Clone { handle } => self.clone_handle(at, lane, handle),

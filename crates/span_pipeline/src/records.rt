@@ -26,7 +26,7 @@ fn count_open(registry: &Registry, ids: u64) -> u64
 
 impl Pipeline {
     ghost use Rattle.span_script.specs.Tables.{Tables};
-    ghost use Rattle.span_script.specs.Effects.{open_spans};
+    ghost use Rattle.span_script.specs.calls.Spans.{open_spans};
     ghost use Rattle.span_script.specs.Fits.{StandsFor, without_first, without_first_measure};
 
     /// The oldest record that hasn't been taken, if there is one: what an `opentelemetry_sdk::trace::SpanExporter`

@@ -33,6 +33,8 @@ impl Pipeline {
         ensures ok { IfOk result (λ outcome. outcome ≡ outcome_of (setup_by settings) requests) }
         ensures replies { IfOk result (HasReplies requests) }
         ensures not_memory { IfOk result (λ outcome. IfSome outcome.refused (λ refused. refused.1 ≢ Refusal.Memory)) }
+
+        // Texts that are read are refused for want of memory alone.
         ensures read { OnOk result (opening_read settings.filter settings.counting ≡ Ok tt) }
         ensures refused { IfErr result (IsUnread (opening_read settings.filter settings.counting)) }
         ensures complete { opening_read settings.filter settings.counting ≡ Ok tt

@@ -5,16 +5,16 @@ use span_stack::Stack;
 use trace_base::callsite::{Callsite, SiteId};
 use trace_base::world::World;
 
-/// The callsite at a place, if there is one.
-pub fn site_at(world: &World<Stack>, place: u64) -> Option<SiteId>
-    ensures some { IfSome result (λ site. (site ≡ place) × (place < length world.now.sites)) }
-    ensures none { result ≡ None → length world.now.sites ≤ place }
+/// The callsite of a number, if there is one.
+pub fn site_at(world: &World<Stack>, site: u64) -> Option<SiteId>
+    ensures some { IfSome result (λ found. (found ≡ site) × (site < length world.now.sites)) }
+    ensures none { result ≡ None → length world.now.sites ≤ site }
 {
-    world.site_at(place)
+    world.site_at(site)
 }
 
 /// A callsite.
-pub fn site(world: &World<Stack>, site: SiteId) -> &Callsite
+pub fn callsite_at(world: &World<Stack>, site: SiteId) -> &Callsite
     requires { site < length world.now.sites }
     ensures { slice_get world.now.sites site ≡ Some result.now }
 {

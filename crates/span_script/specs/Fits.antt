@@ -1,5 +1,5 @@
 -- What a pipeline keeps, and when it fits the tables of a history.
-use Rattle.std.specs.Prelude.{◌≡◌, ℕ, zero, suc, ◌+◌, ◌<◌, ◌≤◌, ◌==◌, ◌≢◌, Bool, true, false, List, [], ◌∷◌, ◌++◌, length, drop, map, filter, if◌then◌else◌, count_by, Option, Some, None, option_map, IfSome, Ok, Err, slice_index_or}
+use Rattle.std.specs.Prelude.{◌≡◌, ℕ, zero, suc, ◌+◌, ◌<◌, ◌≤◌, ◌==◌, ◌≢◌, Bool, true, false, List, [], ◌∷◌, ◌++◌, length, drop, map, filter, if◌then◌else◌, count_by, Option, Some, None, option_map, IfSome, IfOk, IfErr, OnErr, Result, Ok, Err, slice_index_or}
 use Rattle.otel_base.specs.declared.context.Context.{Context}
 use Rattle.trace_base.specs.declared.lane.Lane.{Lane}
 use Rattle.trace_base.specs.declared.callsite.Callsite.{Callsite}
@@ -25,16 +25,19 @@ use Rattle.otel_metrics.specs.declared.measure.Measure.{Measure}
 use Rattle.span_stack.specs.Reading.{Stacks, recorded, in_place, counts_by, measured}
 use Rattle.span_script.specs.declared.slots.Guard.{Guard}
 use Rattle.span_script.specs.declared.contexts.Attach.{Attach}
-use Rattle.span_script.specs.declared.contexts.Contexts.{Contexts}
 use Rattle.span_script.specs.declared.reply.Reply.{Reply}
 use Rattle.span_script.specs.declared.reply.Refusal.{Refusal}
 use Rattle.span_script.specs.declared.reply.Refusal.TheVariants as refusal
+use Rattle.span_script.specs.declared.request.Call.{Call}
 use Rattle.span_script.specs.declared.settings.Texts.{Texts}
 use Rattle.span_script.specs.Admission.{text_filter}
 use Rattle.span_script.specs.Setups.{Setup}
 use Rattle.span_script.specs.Balance.{Balanced, named_by, opened_by}
 use Rattle.span_script.specs.Tables.{Scope, Made, Owner, EntryOf, GuardOf, Attached, is_by, Guarded, Effect, Tables, History, tables, after, open_part, records_of, slot_at, own, site_of, made_of}
-use Rattle.span_script.specs.Effects.{Resolved, filter_at}
+use Rattle.span_script.specs.calls.Here.{Resolved}
+use Rattle.span_script.specs.Effects.{effect_of_call}
+use Rattle.span_script.specs.calls.Filter.{filter_at}
+use Rattle.span_script.specs.calls.Refusals.{takes_no_memory}
 
 -- a lane, without its room
 pub record Laned : Type 0 where
@@ -54,9 +57,6 @@ lane_at lanes n = slice_index_or lanes n no_lane
 pub record Named : Type 0 where
   pub made : List Context
   pub attaches : List (Option Attach)
-
-abbrev pub named_in : Contexts → Named
-named_in contexts = record { made = contexts.made.items; attaches = contexts.attaches.items }
 
 -- how what was recorded, the filter that is in place, the filter that counts and the measures that wait are read of a subscriber
 pub record Views (S : Type 0) : Type 0 where
@@ -111,22 +111,34 @@ site_by slot = option_map (λ h. h.site) slot
 abbrev pub setup_of : List Callsite → List Lane → Texts → LayerSettings → Setup
 setup_of sites lanes opening layer = record { sites = sites; ids = map (λ l. l.id) lanes; names = map (λ l. l.name) lanes; filter = opening.filter; counting = opening.counting; layer = layer }
 
-abbrev pub state_of : {S : Type 0} → (S → Spans) → Views S → Worlds S → ℕ → Texts → List Lane → List (Option Handle) → List (Option Guard) → Named → ℕ → State
-state_of spans views world dispatch opening lanes handles guards contexts moment = record {
-  setup = setup_of world.sites lanes opening (seen views.recorded no_recording world dispatch).settings;
-  spans = spans_in spans world dispatch;
-  lanes = map laned lanes;
-  recording = seen views.recorded no_recording world dispatch;
-  filter = option_map (shown_of (length (spans_in spans world dispatch).made) (map (λ l. l.id) lanes)) (seen views.filtered None world dispatch);
-  cached = world.cached;
-  counter = option_map (shown_of 0 (map (λ l. l.id) lanes)) (seen views.counter None world dispatch);
-  measures = seen views.measured [] world dispatch;
-  dispatch = dispatch;
-  handles = map held_by handles;
-  handle_sites = map site_by handles;
-  guards = guards;
-  contexts = contexts;
-  moment = moment;
+-- what a pipeline is made of
+pub record Parts (S : Type 0) : Type 0 where
+  pub world : Worlds S
+  pub dispatch : ℕ
+  pub opening : Texts
+  pub lanes : List Lane
+  pub handles : List (Option Handle)
+  pub guards : List (Option Guard)
+  pub contexts : Named
+  pub moment : ℕ
+
+-- what it keeps, read off its parts
+abbrev pub state_of : {S : Type 0} → (S → Spans) → Views S → Parts S → State
+state_of spans views parts = record {
+  setup = setup_of parts.world.sites parts.lanes parts.opening (seen views.recorded no_recording parts.world parts.dispatch).settings;
+  spans = spans_in spans parts.world parts.dispatch;
+  lanes = map laned parts.lanes;
+  recording = seen views.recorded no_recording parts.world parts.dispatch;
+  filter = option_map (shown_of (length (spans_in spans parts.world parts.dispatch).made) (map (λ l. l.id) parts.lanes)) (seen views.filtered None parts.world parts.dispatch);
+  cached = parts.world.cached;
+  counter = option_map (shown_of 0 (map (λ l. l.id) parts.lanes)) (seen views.counter None parts.world parts.dispatch);
+  measures = seen views.measured [] parts.world parts.dispatch;
+  dispatch = parts.dispatch;
+  handles = map held_by parts.handles;
+  handle_sites = map site_by parts.handles;
+  guards = parts.guards;
+  contexts = parts.contexts;
+  moment = parts.moment;
 }
 
 -- what a handle of a scope stands for, and what a guard keeps
@@ -257,16 +269,14 @@ without_first k = record k { recording = record k.recording { finished = drop 1 
 abbrev pub without_first_measure : State → State
 without_first_measure k = record k { measures = drop 1 k.measures }
 
--- What every pipeline keeps: it is alone in its world, whole, and fits some tables.
-pub record IsKept {S : Type 0} (kept : S → ℕ → ℕ → ℕ) (is_whole : S → Type 0) (world : Worlds S) (k : State) : Type 0 where
-  pub there : k.dispatch < length world.subscribers
-  pub alone : length world.subscribers ≡ 1
-  pub whole : Has is_whole world k.dispatch
-  pub lanes : LanesFit (kept_in kept world k.dispatch) k.lanes
+-- What every pipeline keeps: it is alone in its world, whole, and stands for a history with some tables.
+pub record IsKept {S : Type 0} (spans : S → Spans) (views : Views S) (kept : S → ℕ → ℕ → ℕ) (is_whole : S → Type 0) (parts : Parts S) : Type 0 where
+  pub there : parts.dispatch < length parts.world.subscribers
+  pub alone : length parts.world.subscribers ≡ 1
+  pub whole : Has is_whole parts.world parts.dispatch
+  pub lanes : LanesFit (kept_in kept parts.world parts.dispatch) (map laned parts.lanes)
   pub tables : Tables
-  pub fits : Fits k tables
-  pub recording : RecordingFits k tables
-  pub filtering : FilteringFits k tables
+  pub stands : StandsFor (state_of spans views parts) tables
 
 -- A reply is served where the request has an effect: the reply is the effect's, the records
 -- are those of the spans that close, the measures are the effect's, and what is kept stands for one effect more.
@@ -292,6 +302,19 @@ is_room (refusal.Directive piece) = false
 -- Any other is the one that was resolved.
 abbrev pub IsRefusal : Resolved → Refusal → Type 0
 IsRefusal resolved given = is_room given ≡ false → resolved ≡ Err given
+
+-- What a pipeline promises of what is resolved on the tables of each history that it stands for: the effect is served, or the
+-- refusal is the first that applies and what is kept is as it was; and a call that takes no memory doesn't want it.
+pub record ServesResolved (resolved : Tables → Resolved) (takes_none : Bool) (old : State) (result : Result Reply Refusal) (new : State) : Type 0 where
+  pub ok : (t : Tables) → StandsFor old t → IfOk result (Served (resolved t) t old new)
+  pub refused : (t : Tables) → StandsFor old t → IfErr result (IsRefusal (resolved t))
+  pub err : OnErr result (new ≡ old)
+  pub room : takes_none ≡ true → result ≡ Err refusal.Memory → ⊥
+
+-- and so of a call, at a moment on the lane at a place
+abbrev pub Serves : State → ℕ → ℕ → Call → Result Reply Refusal → State → Type 0
+Serves old at lane request result new =
+    ServesResolved (λ t. effect_of_call old.setup t at lane request) (takes_no_memory request) old result new
 
 -- The same of a history.
 pub record Recorded (resolved : Resolved) (h : History) (old new : State) (reply : Reply) : Type 0 where

@@ -4,7 +4,8 @@ pub mod Effects
 pub mod Fields
 pub mod Fits
 pub mod Outcomes
-pub mod Refusals
 pub mod Setups
 pub mod Slots
+pub mod SubscriberLaws
 pub mod Tables
+pub mod calls

@@ -7,7 +7,9 @@ use Rattle.span_script.specs.declared.request.Request.{Request}
 use Rattle.span_script.specs.declared.outcome.Outcome.{Outcome}
 use Rattle.span_script.specs.Setups.{Setup}
 use Rattle.span_script.specs.Tables.{Effect, History, Tables, no_tables, tables, after, records_of}
-use Rattle.span_script.specs.Effects.{Resolved, effect_of, open_spans}
+use Rattle.span_script.specs.calls.Here.{Resolved}
+use Rattle.span_script.specs.Effects.{effect_of}
+use Rattle.span_script.specs.calls.Spans.{open_spans}
 use Rattle.span_script.specs.Fits.{State, StandsFor}
 
 -- an effect, and those of the requests behind it; none from a refused request on

@@ -1,10 +1,5 @@
-//! Contexts by their numbers, and the guards of attaches.
-ghost use Rattle.std.specs.Prelude.{◌≡◌, []};
-ghost use Rattle.span_script.specs.Fits.{named_in};
-
-use otel_base::context::Context;
+//! The guards of attaches.
 use otel_base::stack::Attached;
-use std::alloc::Global;
 use trace_base::discard::Discard;
 
 /// What the guard of an attach keeps.
@@ -20,33 +15,5 @@ impl Discard for Attach {
     fn discard(self) {
         let Attach { lane: _, attached } = self;
         attached.discard();
-    }
-}
-
-/// The contexts that a script names, which are never spent, and the guards of its attaches.
-pub struct Contexts {
-    /// The contexts, in the order of making.
-    pub made: Vec<Context>,
-    /// The guards, by the numbers that they share with those of entries: none where one is spent, or is an entry's.
-    pub attaches: Vec<Option<Attach>>,
-}
-
-impl Contexts {
-    /// No contexts, and no guards.
-    pub fn new(alloc: Global) -> Contexts
-        ensures { named_in result ≡ record { made = []; attaches = [] } }
-    {
-        Contexts {
-            made: Vec::new(alloc),
-            attaches: Vec::new(alloc),
-        }
-    }
-}
-
-/// What its guards attached stays attached for good.
-impl Discard for Contexts {
-    fn discard(self) {
-        let Contexts { made: _, attaches } = self;
-        attaches.discard();
     }
 }

@@ -3,7 +3,8 @@ ghost use Rattle.std.specs.Prelude.{◌≡◌, ℕ, ◌∷◌, ◌&&◌, not, na
 ghost use Rattle.trace_base.specs.Spans.{span_at, is_in};
 ghost use Rattle.span_handles.specs.Worlds.{Released, closed_in};
 ghost use Rattle.span_script.specs.Tables.{Tables, Scope, slot_at, after};
-ghost use Rattle.span_script.specs.Effects.{is_open, closed_of, drops};
+ghost use Rattle.span_script.specs.calls.Here.{Here};
+ghost use Rattle.span_script.specs.calls.Spans.{is_open, closed_of, drop_effect};
 ghost use Rattle.span_script.specs.Fits.{State, Fits};
 
 /// A span has a hold exactly while some unspent handle names it or one of its descendants, and a drop closes those that
@@ -11,12 +12,14 @@ ghost use Rattle.span_script.specs.Fits.{State, Fits};
 pub fn holds()
     ensures open { (k : State) (t : Tables) → Fits k t → (s : ℕ)
         → nat_lt 0 (span_at k.spans.made s).holds ≡ is_open t.handles s }
-    ensures closes { (k next : State) (t : Tables) (at lane handle : ℕ) (scope : Scope) → Fits k t
-        → slot_at t.handles handle ≡ Some scope → Fits next (after t (drops t at lane handle scope)) → (s : ℕ)
-        → is_in s (closed_of (slice_set t.handles handle None) scope)
+    ensures closes { (k next : State) (stands : Here) (handle : ℕ) (scope : Scope) → Fits k stands.script
+        → slot_at stands.script.handles handle ≡ Some scope
+        → Fits next (after stands.script (drop_effect stands handle scope)) → (s : ℕ)
+        → is_in s (closed_of (slice_set stands.script.handles handle None) scope)
         ≡ (nat_lt 0 (span_at k.spans.made s).holds && not (nat_lt 0 (span_at next.spans.made s).holds)) }
-    ensures order { (k next : State) (t : Tables) (at lane handle s : ℕ) (up : Scope) → Fits k t
-        → slot_at t.handles handle ≡ Some (s ∷ up) → Fits next (after t (drops t at lane handle (s ∷ up)))
+    ensures order { (k next : State) (stands : Here) (handle s : ℕ) (up : Scope) → Fits k stands.script
+        → slot_at stands.script.handles handle ≡ Some (s ∷ up)
+        → Fits next (after stands.script (drop_effect stands handle (s ∷ up)))
         → (r : Released (Some s) k.spans next.spans)
-        → closed_in (Some s) k.spans next.spans r ≡ closed_of (slice_set t.handles handle None) (s ∷ up) }
+        → closed_in (Some s) k.spans next.spans r ≡ closed_of (slice_set stands.script.handles handle None) (s ∷ up) }
 {}

@@ -1,6 +1,6 @@
 //! What requests are answered, and why they are refused.
 ghost use Rattle.std.specs.Prelude.{◌≡◌};
-ghost use Rattle.span_script.specs.Refusals.{refused_entry, refused_text};
+ghost use Rattle.span_script.specs.calls.Refusals.{refused_entry, refused_text};
 ghost use Rattle.span_script.specs.declared.reply.Refusal.TheVariants.{Memory as NoMemory};
 
 use crate::open_error::OpenError;

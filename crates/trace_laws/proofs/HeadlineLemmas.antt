@@ -5,7 +5,7 @@ use Rattle.std.proofs.lemmas.Bool.{cases_lt, lt-ltb, le-ltb}
 use Rattle.otel_base.specs.declared.record.Record.{Record}
 use Rattle.span_script.specs.declared.request.Request.{Request}
 use Rattle.span_script.specs.Admission.{opening_read}
-use Rattle.span_script.specs.Effects.{is_open}
+use Rattle.span_script.specs.calls.Spans.{is_open}
 use Rattle.span_script.specs.Outcomes.{history_of, records}
 use Rattle.span_script.specs.Setups.{Setup, setup_by}
 use Rattle.span_script.specs.Tables.{Effect, History, no_tables, tables}

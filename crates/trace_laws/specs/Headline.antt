@@ -3,7 +3,8 @@ use Rattle.std.specs.Prelude.{◌≡◌, ℕ, ◌≤◌, List, [], ◌∷◌, �
 use Rattle.otel_base.specs.declared.record.Record.{Record}
 use Rattle.span_script.specs.declared.reply.Reply.{Reply}
 use Rattle.span_script.specs.declared.request.Request.{Request}
-use Rattle.span_script.specs.Effects.{effect_of, is_open}
+use Rattle.span_script.specs.Effects.{effect_of}
+use Rattle.span_script.specs.calls.Spans.{is_open}
 use Rattle.span_script.specs.Outcomes.{history_of, outcome_of}
 use Rattle.span_script.specs.Setups.{Setup, setup_by}
 use Rattle.span_script.specs.Tables.{Effect, History, made_of, tables}

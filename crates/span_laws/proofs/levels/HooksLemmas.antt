@@ -12,7 +12,9 @@ use Rattle.env_filter.specs.spans.Histories.{IsNext, AreInOrder}
 use Rattle.env_filter.proofs.kept.StackedLemmas.{IsBefore}
 use Rattle.span_script.specs.Fields.{Fields}
 use Rattle.span_script.specs.Tables.{Scope, Made, Heard, HeardNew, HeardRecord, HeardEnter, HeardExit, HeardClose, slot_at}
-use Rattle.span_script.specs.Effects.{is_open, closed_of, hook_of, heard_on, heard_values}
+use Rattle.span_script.specs.calls.Fields.{heard_values}
+use Rattle.span_script.specs.calls.Filter.{hook_of, heard_on}
+use Rattle.span_script.specs.calls.Spans.{is_open, closed_of}
 use Rattle.span_laws.proofs.spans.OccurrencesLemmas.{is_in_counted, occurs_filter}
 use Rattle.span_script.proofs.spans.OpenSpansLemmas.{slot_open}
 

@@ -16,7 +16,8 @@ use Rattle.env_filter.proofs.kept.RisingLevelsLemmas.{level_rises, level_stays}
 use Rattle.env_filter.proofs.kept.StackedLemmas.{IsBefore, all_more, all_push, new_if, in_order}
 use Rattle.env_filter.proofs.kept.ToldLevelsLemmas.{level_is_told, levels_are_told}
 use Rattle.span_script.specs.Admission.{TextRead, filter_if, text_read, text_filter}
-use Rattle.span_script.specs.Effects.{hook_of, hears, is_open, in_force, filter_at}
+use Rattle.span_script.specs.calls.Filter.{hook_of, hears, in_force, filter_at}
+use Rattle.span_script.specs.calls.Spans.{is_open}
 use Rattle.span_script.specs.Setups.{Setup}
 use Rattle.span_script.specs.Tables.{Scope, Made, Heard, HeardNew, HeardRecord, HeardEnter, HeardExit, HeardClose, Effect, History, Tables, with_new, no_tables, after, tables, newer, heard_since}
 use Rattle.span_laws.specs.Laws.{IsHistory, none, more}

@@ -18,7 +18,7 @@ use Rattle.trace_base.specs.Spans.{is_in}
 use Rattle.span_script.specs.Setups.{Setup}
 use Rattle.span_script.specs.Tables.{Scope, Made, Done, Effect, History, Tables, with_new, no_tables, after, tables, no_making, with_made, recorded_by, open_part, records_of, slot_at}
 use Rattle.span_script.specs.Tables as table
-use Rattle.span_script.specs.Effects.{holds, is_open}
+use Rattle.span_script.specs.calls.Spans.{holds, is_open}
 use Rattle.span_script.proofs.steps.RecordingLemmas.{starts_fold}
 use Rattle.span_script.proofs.runs.RunLemmas.{records_push}
 use Rattle.span_laws.specs.Closes.{is_drop}

@@ -23,8 +23,10 @@ use Rattle.trace_base.specs.Spans.{current_of, is_in}
 use Rattle.span_script.specs.declared.request.Place.{Place}
 use Rattle.span_script.specs.declared.request.Place.TheVariants as place
 use Rattle.span_script.specs.declared.request.Request.{Request}
-use Rattle.span_script.specs.Effects.{effect_of, is_open, parent_at}
-use Rattle.span_script.specs.Setups.{Setup, id_at}
+use Rattle.span_script.specs.calls.Here.{here_at}
+use Rattle.span_script.specs.Effects.{effect_of}
+use Rattle.span_script.specs.calls.Spans.{is_open, parent_at}
+use Rattle.span_script.specs.Setups.{Setup}
 use Rattle.span_script.specs.Tables.{Effect, History, Made, Scope, Tables, after, made_of, no_tables, tables}
 use Rattle.span_laws.specs.Closes.{is_drop}
 use Rattle.span_laws.specs.Laws.{IsHistory, occurrences}
@@ -253,7 +255,7 @@ is_under setup h legal = each_map (IsClosed setup (tables setup h).made h) (IsUn
     put : (p : ℕ) (r : Record) → 0 < occurrences p (tables setup h).closed → IsClosed setup (tables setup h).made h p r → IsUnder setup h p r
     put p r some c s fore request made is =
         let t = tables setup fore in
-        let id = id_at setup.ids request.lane in
+        let id = (here_at setup t request.at request.lane).lane in
         let current = current_of (t.entries id) in
         let before = (legal_step setup h legal fore made.rest made.e made.is).2 in
         let fit = fits setup fore (whole setup fore before) in

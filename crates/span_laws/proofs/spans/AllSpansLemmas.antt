@@ -7,7 +7,7 @@ use Rattle.std.proofs.lemmas.Bool.Decides.{nat_tests}
 use Rattle.trace_base.specs.Spans.{is_in}
 use Rattle.span_script.specs.Setups.{Setup}
 use Rattle.span_script.specs.Tables.{Scope, History, tables}
-use Rattle.span_script.specs.Effects.{is_open, open_spans}
+use Rattle.span_script.specs.calls.Spans.{is_open, open_spans}
 use Rattle.span_laws.specs.Laws.{IsHistory, occurrences}
 use Rattle.span_laws.specs.Starts.{started}
 use Rattle.span_laws.proofs.spans.IdsLemmas.{started_once}

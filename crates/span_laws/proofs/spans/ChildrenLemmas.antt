@@ -5,7 +5,7 @@ use Rattle.std.proofs.lemmas.List.Sums.{fold_push}
 use Rattle.std.proofs.lemmas.Bool.{cases_eq, eq-eqb, eqb-true, or_right}
 use Rattle.std.proofs.lemmas.Bool.Decides.{nat_tests}
 use Rattle.trace_base.specs.Spans.{is_in}
-use Rattle.span_script.specs.Effects.{is_open}
+use Rattle.span_script.specs.calls.Spans.{is_open}
 use Rattle.span_script.specs.Setups.{Setup}
 use Rattle.span_script.specs.Tables.{Scope, Made, Guarded, History, Tables, with_new, spend, no_making, made_of, no_tables, after, tables}
 use Rattle.span_laws.specs.Closes.{BeginsWith, is_drop}

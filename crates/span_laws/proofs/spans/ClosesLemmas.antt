@@ -9,7 +9,7 @@ use Rattle.trace_base.proofs.Entering.{counted_if_any}
 use Rattle.trace_base.proofs.Holding.{current_in}
 use Rattle.span_script.specs.Setups.{Setup}
 use Rattle.span_script.specs.Tables.{Scope, Made, Guarded, Effect, Tables, with_new, spend, slot_at, no_making, made_of, scope_of, no_tables, after}
-use Rattle.span_script.specs.Effects.{holds, is_open, closed_of, current_scope}
+use Rattle.span_script.specs.calls.Spans.{holds, is_open, closed_of, current_scope}
 use Rattle.span_laws.specs.Laws.{occurrences}
 use Rattle.span_laws.proofs.steps.GuardsLemmas.{IsGuarded}
 use Rattle.span_laws.proofs.steps.GuardsLemmas as guarding

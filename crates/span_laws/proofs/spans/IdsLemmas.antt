@@ -10,7 +10,7 @@ use Rattle.otel_base.specs.declared.record.Record.{Record}
 use Rattle.otel_base.specs.Ids.{ids_or_zeros}
 use Rattle.otel_layer.specs.Table.{told_at}
 use Rattle.trace_base.specs.Spans.{is_in}
-use Rattle.span_script.specs.Effects.{is_open}
+use Rattle.span_script.specs.calls.Spans.{is_open}
 use Rattle.span_script.specs.Setups.{Setup}
 use Rattle.span_script.specs.Tables.{History, tables}
 use Rattle.span_laws.specs.Laws.{IsHistory, occurrences}

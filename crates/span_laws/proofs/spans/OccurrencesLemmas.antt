@@ -6,7 +6,7 @@ use Rattle.std.proofs.lemmas.Bool.{cases_eq, cases_Bool}
 use Rattle.std.proofs.lemmas.Bool.Decides.{nat_tests}
 use Rattle.trace_base.specs.Spans.{is_in}
 use Rattle.span_script.specs.Tables.{Scope, slot_at}
-use Rattle.span_script.specs.Effects.{holds}
+use Rattle.span_script.specs.calls.Spans.{holds}
 use Rattle.span_laws.specs.Laws.{occurrences}
 use Rattle.span_script.proofs.steps.SlotsLemmas.{named_within}
 use Rattle.span_script.proofs.spans.OpenSpansLemmas.{any_counted}

@@ -1,6 +1,6 @@
 -- A span is made exactly by a request for one that is admitted, and as that says.
 use Rattle.std.proofs.Common.{◌≡◌, ℕ, [], ◌∷◌, length, Bool, true, false, cond, Option, Some, None, Ok, Err, refl, sym, ap, subst, ◌∙◌}
-use Rattle.std.specs.Prelude.{is_some, slice_get, ◌==◌, if◌then◌else◌}
+use Rattle.std.specs.Prelude.{is_some, slice_get, ◌==◌, if◌then◌else◌, not}
 use Rattle.std.specs.Option.{option_map_or, option_to_list}
 use Rattle.otel_state.specs.declared.settings.LayerSettings.{LayerSettings}
 use Rattle.otel_state.specs.fields.FirstAttributes.{first_attributes}
@@ -18,9 +18,15 @@ use Rattle.span_script.specs.declared.request.Request.{Request}
 use Rattle.span_script.specs.declared.reply.Refusal.TheVariants as refusal
 use Rattle.span_script.specs.declared.reply.What.TheVariants as what
 use Rattle.span_script.specs.Admission.{TextRead, text_read}
-use Rattle.span_script.specs.Effects.{Resolved, admitted, attaches, context_around, declines, detaches, drops, effect_of, effect_of_call, enters, exchanges, exits, exits_on, follows, is_bad_moment, is_borrowed, is_full, is_shared, lane_in, made_at, makes_span, meets_full, named, opens, parent_at, reloads_if, scope_at, scope_or_current}
+use Rattle.span_script.specs.calls.Here.{Resolved, refuse_if, Here, here_at, ◌>>=◌, need}
+use Rattle.span_script.specs.Effects.{effect_of, effect_of_call, is_bad_moment}
+use Rattle.span_script.specs.calls.Contexts.{attach_effect, detach_effect}
+use Rattle.span_script.specs.calls.Entries.{enter_effect, exit_effect, is_full, is_shared, meets_full, entry_call}
+use Rattle.span_script.specs.calls.Filter.{admitted, reload_by}
+use Rattle.span_script.specs.calls.Links.{follow_effect}
+use Rattle.span_script.specs.calls.Spans.{context_around, disabled_effect, drop_effect, exchange_effect, is_borrowed, lane_in, made_at, span_effect, parent_at, scope_at, scope_or_current}
 use Rattle.span_script.specs.Fields.{Fields, all_values}
-use Rattle.span_script.specs.Setups.{Setup, event_site, id_at, span_site}
+use Rattle.span_script.specs.Setups.{Setup, event_site, span_site}
 use Rattle.span_script.specs.Tables.{Effect, History, Made, Scope, Tables, slot_at, tables}
 use Rattle.span_laws.specs.Laws.{IsHistory}
 use Rattle.span_laws.specs.Makings.{IsMadeBy, asks_admitted, context_of_lane, is_making, parent_context}
@@ -41,15 +47,18 @@ context_is false (Some s) t at id place.Contextual up setup active now =
     ap (context_of_lane t at id) (sym now) ∙ ap (λ (b : Bool). context_of_lane t at id (if b then None else current_of (t.entries id))) (sym active)
 
 module _ (setup : Setup) (t : Tables) (fit : IsFit setup t) where
+  abbrev here : ℕ → ℕ → Here
+  here at lane = here_at setup t at lane
+
   -- what a call makes, if it does
   abbrev Makes : ℕ → ℕ → Call → Option Made → Type 0
-  Makes at lane what_for None = asks_admitted setup t (id_at setup.ids lane) what_for ≡ false
-  Makes at lane what_for (Some m) = (asks_admitted setup t (id_at setup.ids lane) what_for ≡ true) × IsMadeBy setup t at lane what_for m
+  Makes at lane what_for None = asks_admitted setup t (here at lane).lane what_for ≡ false
+  Makes at lane what_for (Some m) = (asks_admitted setup t (here at lane).lane what_for ≡ true) × IsMadeBy setup t at lane what_for m
 
   module _ (at lane site : ℕ) (under : Place) (fields : Fields) (callsite : Callsite) (up : Scope) (values : ValueSet) (there : span_site setup.sites site ≡ Some callsite)
-      (placed : scope_at t (id_at setup.ids lane) under ≡ Some up) (read : all_values callsite fields ≡ Some values) where
+      (placed : scope_at t (here at lane).lane under ≡ Some up) (read : all_values callsite fields ≡ Some values) where
     abbrev id : ℕ
-    id = id_at setup.ids lane
+    id = (here at lane).lane
 
     abbrev source : Option ℕ
     source = above setup.layer.activation (parent_at under up) (current_of (t.entries id))
@@ -60,7 +69,7 @@ module _ (setup : Setup) (t : Tables) (fit : IsFit setup t) where
     settings : r.settings ≡ setup.layer
     settings = (starts_keep source at t.recording).0 ∙ fit.settings_are
 
-    made_so : IsMadeBy setup t at lane (call.New site under fields) (record { site = site; scope = length t.made ∷ up; told = made_at setup t at lane callsite values (parent_at under up) })
+    made_so : IsMadeBy setup t at lane (call.New site under fields) (record { site = site; scope = length t.made ∷ up; told = made_at (here at lane) callsite values (parent_at under up) })
     made_so = record {
       under = under;
       fields = fields;
@@ -72,29 +81,29 @@ module _ (setup : Setup) (t : Tables) (fit : IsFit setup t) where
       parent = placed;
       given = read;
       scope = refl;
-      making = record { name = callsite.name; parent = context_from r.spans (context_around (t.contexts id) (parent_at under up)) source; made = at; first = first_attributes callsite (lane_in setup lane) r.settings; counting = r.counting; inactivity = r.settings.inactivity };
+      making = record { name = callsite.name; parent = context_from r.spans (context_around (t.contexts id) (parent_at under up)) source; made = at; first = first_attributes callsite (lane_in (here at lane)) r.settings; counting = r.counting; inactivity = r.settings.inactivity };
       name = refl;
       context = context_is setup.layer.activation (current_of (t.entries id)) t at id under up setup refl refl;
-      first = ap (first_attributes callsite (lane_in setup lane)) settings;
+      first = ap (first_attributes callsite (lane_in (here at lane))) settings;
       began = record { update = span_update callsite values r.settings; is = refl; made = refl; tracked = ap (λ (s : LayerSettings). s.inactivity) settings; counting_is = (starts_keep source at t.recording).1 ∙ fit.counting_is };
       written = ap (span_update callsite values) settings;
     }
 
-    by_gate : (b : Bool) → admitted setup t id callsite ≡ b → Makes at lane (call.New site under fields) (cond b (makes_span setup t at lane site callsite values under up) (declines t at id)).made
+    by_gate : (b : Bool) → admitted setup t id callsite ≡ b → Makes at lane (call.New site under fields) (cond b (span_effect (here at lane) site callsite values under up) (disabled_effect (here at lane))).made
     by_gate true gate = (ap (λ (o : Option Callsite). option_map_or (admitted setup t id) o false) there ∙ gate, made_so)
     by_gate false gate = ap (λ (o : Option Callsite). option_map_or (admitted setup t id) o false) there ∙ gate
 
   -- an effect that makes none
-  nothing : (at lane : ℕ) (what_for : Call) (a e : Effect) → ◌≡◌ {A = Resolved} (Ok a) (Ok e) → a.made ≡ None → asks_admitted setup t (id_at setup.ids lane) what_for ≡ false → Makes at lane what_for e.made
+  nothing : (at lane : ℕ) (what_for : Call) (a e : Effect) → ◌≡◌ {A = Resolved} (Ok a) (Ok e) → a.made ≡ None → asks_admitted setup t (here at lane).lane what_for ≡ false → Makes at lane what_for e.made
   nothing at lane what_for a e is none unasked = subst (λ (x : Effect). Makes at lane what_for x.made) (the_effect setup t fit a e is) (subst (Makes at lane what_for) (sym none) unasked)
 
-  opens_none : (at lane handle : ℕ) (owns : Bool) (what_for : Call) (e : Effect) → opens setup t at lane handle owns ≡ Ok e → asks_admitted setup t (id_at setup.ids lane) what_for ≡ false → Makes at lane what_for e.made
+  opens_none : (at lane handle : ℕ) (owns : Bool) (what_for : Call) (e : Effect) → entry_call (here at lane) handle owns ≡ Ok e → asks_admitted setup t (here at lane).lane what_for ≡ false → Makes at lane what_for e.made
   opens_none at lane handle owns what_for e is unasked =
       let there = found setup t fit what.Handle (slot_at t.handles handle) _ e is in
-      let room = unrefused setup t fit (meets_full setup.layer.activation there.0 (t.contexts (id_at setup.ids lane))) (refusal.Full lane) (Ok (enters setup t at lane handle owns there.0)) e there.2 in
+      let room = unrefused setup t fit (meets_full setup.layer.activation there.0 (t.contexts (here at lane).lane)) (refusal.Full lane) (Ok (enter_effect (here at lane) handle owns there.0)) e there.2 in
       nothing at lane what_for _ e room.1 refl unasked
 
-  follows_none : (at lane : ℕ) (scope from : Scope) → (follows t at lane scope from).made ≡ None
+  follows_none : (at lane : ℕ) (scope from : Scope) → (follow_effect (here at lane) scope from).made ≡ None
   follows_none at lane [] from = refl
   follows_none at lane (s ∷ up) [] = refl
   follows_none at lane (s ∷ up) (f ∷ above) = refl
@@ -102,36 +111,36 @@ module _ (setup : Setup) (t : Tables) (fit : IsFit setup t) where
   by_call : (at lane : ℕ) (what_for : Call) (e : Effect) → effect_of_call setup t at lane what_for ≡ Ok e → Makes at lane what_for e.made
   by_call at lane (call.New site under fields) e is =
       let callsite = found setup t fit what.Site (span_site setup.sites site) _ e is in
-      let up = found setup t fit what.Handle (scope_at t (id_at setup.ids lane) under) _ e callsite.2 in
+      let up = found setup t fit what.Handle (scope_at t (here at lane).lane under) _ e callsite.2 in
       let values = found setup t fit what.Field (all_values callsite.0 fields) _ e up.2 in
       subst (λ (x : Effect). Makes at lane (call.New site under fields) x.made) (the_effect setup t fit _ e values.2)
-      (by_gate at lane site under fields callsite.0 up.0 values.0 callsite.1 up.1 values.1 (admitted setup t (id_at setup.ids lane) callsite.0) refl)
+      (by_gate at lane site under fields callsite.0 up.0 values.0 callsite.1 up.1 values.1 (admitted setup t (here at lane).lane callsite.0) refl)
   by_call at lane (call.Clone handle) e is =
       let there = found setup t fit what.Handle (slot_at t.handles handle) _ e is in
       nothing at lane (call.Clone handle) _ e there.2 refl refl
   by_call at lane (call.Drop handle) e is =
       let there = found setup t fit what.Handle (slot_at t.handles handle) _ e is in
-      let free = unrefused setup t fit (is_borrowed t.guards handle) refusal.InUse (Ok (drops t at (id_at setup.ids lane) handle there.0)) e there.2 in
+      let free = unrefused setup t fit (is_borrowed t.guards handle) refusal.InUse (Ok (drop_effect (here at lane) handle there.0)) e there.2 in
       nothing at lane (call.Drop handle) _ e free.1 refl refl
   by_call at lane (call.Enter handle) e is = opens_none at lane handle false (call.Enter handle) e is refl
   by_call at lane (call.Exit guard) e is =
       let there = found setup t fit what.Guard (slot_at t.guards guard) _ e is in
-      let leaves = exits setup at (id_at setup.ids lane) guard there.0.scope in
-      let alone = unrefused setup t fit (is_shared t.guards there.0) refusal.InUse (exits_on there.0.lane lane leaves) e there.2 in
+      let leaves = exit_effect (here at lane) guard there.0.scope in
+      let alone = unrefused setup t fit (is_shared t.guards there.0) refusal.InUse (refuse_if (not (there.0.lane == lane)) (refusal.WrongLane there.0.lane) (Ok leaves)) e there.2 in
       let mine = allowed setup t fit (there.0.lane == lane) (refusal.WrongLane there.0.lane) (Ok leaves) e alone.1 in
       nothing at lane (call.Exit guard) _ e mine.1 refl refl
   by_call at lane call.Current e is = nothing at lane call.Current _ e is refl refl
   by_call at lane (call.OrCurrent handle) e is =
       let there = found setup t fit what.Handle (slot_at t.handles handle) _ e is in
-      let free = unrefused setup t fit (is_borrowed t.guards handle) refusal.InUse (Ok (exchanges t at (id_at setup.ids lane) handle (scope_or_current t (id_at setup.ids lane) there.0))) e there.2 in
+      let free = unrefused setup t fit (is_borrowed t.guards handle) refusal.InUse (Ok (exchange_effect (here at lane) handle (scope_or_current t (here at lane).lane there.0))) e there.2 in
       nothing at lane (call.OrCurrent handle) _ e free.1 refl refl
   by_call at lane (call.Entered handle) e is =
       let there = found setup t fit what.Handle (slot_at t.handles handle) _ e is in
-      let free = unrefused setup t fit (is_borrowed t.guards handle) refusal.InUse (opens setup t at lane handle true) e there.2 in
+      let free = unrefused setup t fit (is_borrowed t.guards handle) refusal.InUse (entry_call (here at lane) handle true) e there.2 in
       opens_none at lane handle true (call.Entered handle) e free.1 refl
   by_call at lane (call.Event site under fields) e is =
       let there = found setup t fit what.Site (event_site setup.sites site) _ e is in
-      let reached = found setup t fit what.Handle (scope_at t (id_at setup.ids lane) under) _ e there.2 in
+      let reached = found setup t fit what.Handle (scope_at t (here at lane).lane under) _ e there.2 in
       let values = found setup t fit what.Field (all_values there.0 fields) _ e reached.2 in
       nothing at lane (call.Event site under fields) _ e values.2 refl refl
   by_call at lane (call.Record handle fields) e is =
@@ -146,16 +155,16 @@ module _ (setup : Setup) (t : Tables) (fit : IsFit setup t) where
       nothing at lane (call.Context handle) _ e there.2 refl refl
   by_call at lane (call.Attach context) e is =
       let there = found setup t fit what.Context (slice_get t.named context) _ e is in
-      let room = unrefused setup t fit (is_full (t.contexts (id_at setup.ids lane))) (refusal.Full lane) (Ok (attaches setup t at lane there.0)) e there.2 in
+      let room = unrefused setup t fit (is_full (t.contexts (here at lane).lane)) (refusal.Full lane) (Ok (attach_effect (here at lane) there.0)) e there.2 in
       nothing at lane (call.Attach context) _ e room.1 refl refl
   by_call at lane (call.Detach guard) e is =
       let there = found setup t fit what.Guard (slot_at t.attaches guard) _ e is in
-      let mine = allowed setup t fit (there.0 == lane) (refusal.WrongLane there.0) (Ok (detaches at (id_at setup.ids lane) guard)) e there.2 in
+      let mine = allowed setup t fit (there.0 == lane) (refusal.WrongLane there.0) (Ok (detach_effect (here at lane) guard)) e there.2 in
       nothing at lane (call.Detach guard) _ e mine.1 refl refl
   by_call at lane (call.Follows handle from) e is =
       let there = found setup t fit what.Handle (slot_at t.handles handle) _ e is in
       let followed = found setup t fit what.Handle (slot_at t.handles from) _ e there.2 in
-      nothing at lane (call.Follows handle from) _ e followed.2 (follows_none at (id_at setup.ids lane) there.0 followed.0) refl
+      nothing at lane (call.Follows handle from) _ e followed.2 (follows_none at lane there.0 followed.0) refl
   by_call at lane (call.SetParent handle context) e is =
       let there = found setup t fit what.Handle (slot_at t.handles handle) _ e is in
       let given = found setup t fit what.Context (slice_get t.named context) _ e there.2 in
@@ -178,14 +187,14 @@ module _ (setup : Setup) (t : Tables) (fit : IsFit setup t) where
       nothing at lane (call.Enabled site) _ e there.2 refl refl
   by_call at lane (call.Reload text) e is = by_read (text_read text) is
     where
-      by_read : (r : TextRead) → reloads_if at (id_at setup.ids lane) text r ≡ Ok e → Makes at lane (call.Reload text) e.made
+      by_read : (r : TextRead) → reload_by (here at lane) text r ≡ Ok e → Makes at lane (call.Reload text) e.made
       by_read (Ok ds) read = nothing at lane (call.Reload text) _ e read refl refl
       by_read (Err piece) read = absurd (cc read)
 
   -- the effect of a request is that of its call
   call_of : (request : Request) (e : Effect) → effect_of setup t request ≡ Ok e → effect_of_call setup t request.at request.lane request.call ≡ Ok e
   call_of request e is =
-      let by_name = named what.Lane (slice_get setup.ids request.lane) (λ id. effect_of_call setup t request.at request.lane request.call) in
+      let by_name = (need what.Lane (slice_get setup.ids request.lane) >>= (λ id. effect_of_call setup t request.at request.lane request.call)) in
       let passed = unrefused setup t fit (is_bad_moment t.moment request.at) (refusal.BadMoment t.moment request.at) by_name e is in
       let lane = found setup t fit what.Lane (slice_get setup.ids request.lane) (λ id. effect_of_call setup t request.at request.lane request.call) e passed.1 in
       lane.2
@@ -193,24 +202,24 @@ module _ (setup : Setup) (t : Tables) (fit : IsFit setup t) where
   by_request : (request : Request) (e : Effect) → effect_of setup t request ≡ Ok e → Makes request.at request.lane request.call e.made
   by_request request e is = by_call request.at request.lane request.call e (call_of request e is)
 
-  by_made : (at lane : ℕ) (what_for : Call) (o : Option Made) → Makes at lane what_for o → is_some o ≡ asks_admitted setup t (id_at setup.ids lane) what_for
+  by_made : (at lane : ℕ) (what_for : Call) (o : Option Made) → Makes at lane what_for o → is_some o ≡ asks_admitted setup t (here at lane).lane what_for
   by_made at lane what_for None unasked = sym unasked
   by_made at lane what_for (Some m) made = sym made.0
 
 -- what starts before a span is made
 pub starts_before : (setup : Setup) (t : Tables) (fit : IsFit setup t) (request : Request) (e : Effect) (m : Made) → effect_of setup t request ≡ Ok e → e.made ≡ Some m → (by : IsMadeBy setup t request.at request.lane request.call m)
-    → e.starts ≡ option_to_list (above setup.layer.activation (parent_at by.under by.up) (current_of (t.entries (id_at setup.ids request.lane))))
+    → e.starts ≡ option_to_list (above setup.layer.activation (parent_at by.under by.up) (current_of (t.entries (here_at setup t request.at request.lane).lane)))
 starts_before setup t fit request e m is made by =
     let named_call = ap (effect_of_call setup t request.at request.lane) (sym by.asked) ∙ call_of setup t fit request e is in
     let callsite = found setup t fit what.Site (span_site setup.sites m.site) _ e named_call in
-    let up = found setup t fit what.Handle (scope_at t (id_at setup.ids request.lane) by.under) _ e callsite.2 in
+    let up = found setup t fit what.Handle (scope_at t (here_at setup t request.at request.lane).lane by.under) _ e callsite.2 in
     let values = found setup t fit what.Field (all_values callsite.0 by.fields) _ e up.2 in
     let same : up.0 ≡ by.up = cc (sym up.1 ∙ by.parent) in
-    by_gate callsite.0 up.0 values.0 (admitted setup t (id_at setup.ids request.lane) callsite.0) (the_effect setup t fit _ e values.2)
-    ∙ ap (λ (scope : Scope). option_to_list (above setup.layer.activation (parent_at by.under scope) (current_of (t.entries (id_at setup.ids request.lane))))) same
+    by_gate callsite.0 up.0 values.0 (admitted setup t (here_at setup t request.at request.lane).lane callsite.0) (the_effect setup t fit _ e values.2)
+    ∙ ap (λ (scope : Scope). option_to_list (above setup.layer.activation (parent_at by.under scope) (current_of (t.entries (here_at setup t request.at request.lane).lane)))) same
   where
-    by_gate : (callsite : Callsite) (up : Scope) (values : ValueSet) (b : Bool) → cond b (makes_span setup t request.at request.lane m.site callsite values by.under up) (declines t request.at (id_at setup.ids request.lane)) ≡ e
-        → e.starts ≡ option_to_list (above setup.layer.activation (parent_at by.under up) (current_of (t.entries (id_at setup.ids request.lane))))
+    by_gate : (callsite : Callsite) (up : Scope) (values : ValueSet) (b : Bool) → cond b (span_effect (here_at setup t request.at request.lane) m.site callsite values by.under up) (disabled_effect (here_at setup t request.at request.lane)) ≡ e
+        → e.starts ≡ option_to_list (above setup.layer.activation (parent_at by.under up) (current_of (t.entries (here_at setup t request.at request.lane).lane)))
     by_gate callsite up values true is = ap (λ (x : Effect). x.starts) (sym is)
     by_gate callsite up values false is = (let none : ◌≡◌ {A = Option Made} None (Some m) = ap (λ (x : Effect). x.made) is ∙ made in absurd (cc none))
 

@@ -8,7 +8,7 @@ use Rattle.trace_base.specs.Spans.{is_in}
 use Rattle.trace_base.proofs.Entering.{count_push}
 use Rattle.otel_state.specs.Deeds.{deed}
 use Rattle.span_script.specs.Tables.{Scope, Done, Guarded, either_after, slot_at, own}
-use Rattle.span_script.specs.Effects.{is_open}
+use Rattle.span_script.specs.calls.Spans.{is_open}
 use Rattle.span_laws.proofs.steps.GuardsLemmas.{IsGuarded, Enters, no_entry, skips, enters_by, exits_by}
 use Rattle.span_laws.proofs.records.RecordingLemmas.{turned_by}
 use Rattle.span_laws.proofs.steps.StepsLemmas.{IsCalm, Turns}

@@ -9,7 +9,7 @@ use Rattle.trace_base.proofs.Holding.{times_without}
 use Rattle.span_script.specs.Setups.{id_at}
 use Rattle.span_script.specs.Balance.{guards, opened_by}
 use Rattle.span_script.specs.Tables.{Scope, Guarded, with_new, either_after, slot_at, own, with_entry, with_exit}
-use Rattle.span_script.specs.Effects.{borrows, is_borrowed}
+use Rattle.span_script.specs.calls.Spans.{borrows, is_borrowed}
 use Rattle.span_laws.proofs.spans.OccurrencesLemmas.{slot_push, slot_kept}
 use Rattle.span_script.proofs.spans.OpenSpansLemmas.{pick}
 use Rattle.span_script.proofs.steps.SlotsLemmas.{named_push, named_set, named_within, some_is}

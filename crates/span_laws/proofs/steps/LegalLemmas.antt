@@ -4,7 +4,8 @@ use Rattle.std.proofs.lemmas.List.{append-nil}
 use Rattle.span_script.specs.declared.request.Request.{Request}
 use Rattle.span_script.specs.Setups.{Setup}
 use Rattle.span_script.specs.Tables.{Effect, History, tables}
-use Rattle.span_script.specs.Effects.{Resolved, effect_of}
+use Rattle.span_script.specs.calls.Here.{Resolved}
+use Rattle.span_script.specs.Effects.{effect_of}
 use Rattle.span_script.specs.Outcomes.{history_from, history_of}
 use Rattle.span_script.proofs.runs.RunLemmas.{goes_on_with, stays_with}
 use Rattle.span_laws.specs.Laws.{IsHistory, none, more}

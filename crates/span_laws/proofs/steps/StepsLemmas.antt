@@ -36,10 +36,17 @@ use Rattle.span_script.specs.declared.reply.Refusal.{Refusal}
 use Rattle.span_script.specs.declared.reply.Refusal.TheVariants as refusal
 use Rattle.span_script.specs.declared.reply.What.{What}
 use Rattle.span_script.specs.declared.reply.What.TheVariants as what
-use Rattle.span_script.specs.Setups.{Setup, id_at, span_site, event_site}
+use Rattle.span_script.specs.Setups.{Setup, span_site, event_site}
+use Rattle.span_script.specs.calls.Here.{Here, here_at, Resolved, refuse_if, ◌>>=◌, need, op_on, ops_effect}
+use Rattle.span_script.specs.Effects.{is_bad_moment, effect_of, effect_of_call}
+use Rattle.span_script.specs.calls.Contexts.{context_effect, own_context, attach_effect, detach_effect}
+use Rattle.span_script.specs.calls.Entries.{active, enter_effect, meets_full, entry_call, exit_effect, is_shared, is_full}
+use Rattle.span_script.specs.calls.Fields.{callsite_of, update_ops, heard_values}
+use Rattle.span_script.specs.calls.Filter.{admitted, reload_by}
+use Rattle.span_script.specs.calls.Links.{follow_effect, happens_at}
+use Rattle.span_script.specs.calls.Spans.{is_open, holds, closed_of, is_borrowed, scope_at, parent_at, lane_in, made_at, span_effect, disabled_effect, clone_effect, drop_effect, current_scope, scope_or_current, exchange_effect}
 use Rattle.span_script.specs.Tables.{Scope, Made, Done, Guarded, Heard, Effect, Tables, with_new, either_after, slot_at, own}
 use Rattle.span_script.specs.Fields.{Fields, all_values, values_of}
-use Rattle.span_script.specs.Effects.{Resolved, named, is_open, holds, closed_of, is_borrowed, scope_at, parent_at, lane_in, made_at, makes_span, declines, clones, drops, current_scope, scope_or_current, exchanges, on, active, enters, meets_full, opens, exits, exits_on, is_shared, callsite_of, updates, tells, is_full, gives, own_context, attaches, detaches, follows, happens_at, is_bad_moment, effect_of, effect_of_call, admitted, reloads_if, heard_values}
 use Rattle.span_script.specs.Admission.{TextRead, text_read}
 use Rattle.span_laws.specs.Closes.{is_drop}
 use Rattle.span_laws.specs.Laws.{occurrences}
@@ -155,6 +162,9 @@ module _ (setup : Setup) (t : Tables) (fit : IsFit setup t) where
   abbrev Step : ℕ → Bool → Effect → Type 0
   Step at is_drop e = IsStep setup t at is_drop e
 
+  abbrev here : ℕ → ℕ → Here
+  here at lane = here_at setup t at lane
+
   abbrev Open : List ℕ → Type 0
   Open spans = AllByRecursion (λ s. is_open t.handles s ≡ true) spans
 
@@ -181,46 +191,46 @@ module _ (setup : Setup) (t : Tables) (fit : IsFit setup t) where
   active_open true (s ∷ up) known = (own_open (s ∷ up) known s up refl, tt)
 
   -- what ops are done to is open
-  on_reached : (scope : Scope) (op : Op) → IsKnown t.handles scope → (deed op).own ≡ None → AllByRecursion (IsReached t.handles) (on scope op)
+  on_reached : (scope : Scope) (op : Op) → IsKnown t.handles scope → (deed op).own ≡ None → AllByRecursion (IsReached t.handles) (op_on scope op)
   on_reached [] op known unstarted = tt
   on_reached (s ∷ up) op known unstarted = (record { there = own_open (s ∷ up) known s up refl; unstarted = unstarted }, tt)
 
   reaches : (scope : Scope) → IsKnown t.handles scope → (s : ℕ) (up : Scope) (op : Op) → scope ≡ s ∷ up → IsUnstarted op → IsReached t.handles (record { span = s; op = op })
   reaches scope known s up op is unstarted = record { there = own_open scope known s up is; unstarted = unstarted }
 
-  enters_on : (scope : Scope) → Turns (own scope) None (on scope ops.Enter)
+  enters_on : (scope : Scope) → Turns (own scope) None (op_on scope ops.Enter)
   enters_on [] = tt
   enters_on (s ∷ up) = refl
 
-  exits_on_own : (scope : Scope) → Turns None (own scope) (on scope ops.Exit)
+  exits_on_own : (scope : Scope) → Turns None (own scope) (op_on scope ops.Exit)
   exits_on_own [] = tt
   exits_on_own (s ∷ up) = refl
 
-  declined : (at lane : ℕ) → Step at false (declines t at lane)
+  declined : (at lane : ℕ) → Step at false (disabled_effect (here at lane))
   declined at lane = record { moment = refl; names = another [] no_scope; enters = no_entry; spends = no_spending; begins = tt; early = refl; starts = tt; reached = tt; turns = tt; closing = λ no. refl; heard = of_open None [] tt }
 
-  made_span : (at lane site : ℕ) (callsite : Callsite) (values : ValueSet) (under : Place) (up : Scope) → IsKnown t.handles up → Step at false (makes_span setup t at lane site callsite values under up)
+  made_span : (at lane site : ℕ) (callsite : Callsite) (values : ValueSet) (under : Place) (up : Scope) → IsKnown t.handles up → Step at false (span_effect (here at lane) site callsite values under up)
   made_span at lane site callsite values under up known =
-      let source = above setup.layer.activation (parent_at under up) (current_of (t.entries (id_at setup.ids lane))) in
+      let source = above setup.layer.activation (parent_at under up) (current_of (t.entries (here at lane).lane)) in
       let keep = starts_keep source at t.recording in
       record {
         moment = refl;
-        names = new_span (record { site = site; scope = length t.made ∷ up; told = made_at setup t at lane callsite values (parent_at under up) }) up known refl;
+        names = new_span (record { site = site; scope = length t.made ∷ up; told = made_at (here at lane) callsite values (parent_at under up) }) up known refl;
         enters = no_entry;
         spends = no_spending;
-        begins = told_begins setup (with_starts source at t.recording).settings callsite (lane_in setup lane) values _ at (with_starts source at t.recording).counting (keep.0 ∙ fit.settings_are) (keep.1 ∙ fit.counting_is);
+        begins = told_begins setup (with_starts source at t.recording).settings callsite (lane_in (here at lane)) values _ at (with_starts source at t.recording).counting (keep.0 ∙ fit.settings_are) (keep.1 ∙ fit.counting_is);
         early = refl;
-        starts = source_open setup.layer.activation under up (id_at setup.ids lane) known;
+        starts = source_open setup.layer.activation under up (here at lane).lane known;
         reached = tt;
         turns = tt;
         closing = λ no. refl;
         heard = of_making _ callsite values;
       }
 
-  cloned : (at lane : ℕ) (scope : Scope) → IsKnown t.handles scope → Step at false (clones t at lane scope)
+  cloned : (at lane : ℕ) (scope : Scope) → IsKnown t.handles scope → Step at false (clone_effect (here at lane) scope)
   cloned at lane scope known = record { moment = refl; names = another scope known; enters = no_entry; spends = no_spending; begins = tt; early = refl; starts = tt; reached = tt; turns = tt; closing = λ no. refl; heard = of_open None [] tt }
 
-  dropped : (at lane handle : ℕ) (scope : Scope) → slot_at t.handles handle ≡ Some scope → is_borrowed t.guards handle ≡ false → Step at true (drops t at lane handle scope)
+  dropped : (at lane handle : ℕ) (scope : Scope) → slot_at t.handles handle ≡ Some scope → is_borrowed t.guards handle ≡ false → Step at true (drop_effect (here at lane) handle scope)
   dropped at lane handle scope there free = record {
     moment = refl;
     names = no_name;
@@ -235,12 +245,12 @@ module _ (setup : Setup) (t : Tables) (fit : IsFit setup t) where
     heard = of_open None _ (heard_close t.handles handle scope there);
   }
 
-  exchanged : (at lane handle : ℕ) (scope : Scope) → slot_at t.handles handle ≡ Some scope → is_borrowed t.guards handle ≡ false → Step at false (exchanges t at lane handle (scope_or_current t lane scope))
+  exchanged : (at lane handle : ℕ) (scope : Scope) → slot_at t.handles handle ≡ Some scope → is_borrowed t.guards handle ≡ false → Step at false (exchange_effect (here at lane) handle (scope_or_current t (here at lane).lane scope))
   exchanged at lane handle [] there free = record {
     moment = refl;
-    names = another (current_scope t lane) (fit.currents lane);
+    names = another (current_scope t (here at lane).lane) (fit.currents (here at lane).lane);
     enters = no_entry;
-    spends = one_spent handle [] [] (slot_push t.handles (Some (current_scope t lane)) handle [] there) free refl;
+    spends = one_spent handle [] [] (slot_push t.handles (Some (current_scope t (here at lane).lane)) handle [] there) free refl;
     begins = tt;
     early = refl;
     starts = tt;
@@ -264,7 +274,7 @@ module _ (setup : Setup) (t : Tables) (fit : IsFit setup t) where
     heard = of_open None [] tt;
   }
 
-  entered : (at lane handle : ℕ) (owns : Bool) (scope : Scope) → slot_at t.handles handle ≡ Some scope → Step at false (enters setup t at lane handle owns scope)
+  entered : (at lane handle : ℕ) (owns : Bool) (scope : Scope) → slot_at t.handles handle ≡ Some scope → Step at false (enter_effect (here at lane) handle owns scope)
   entered at lane handle owns scope there = record {
     moment = refl;
     names = no_name;
@@ -276,14 +286,14 @@ module _ (setup : Setup) (t : Tables) (fit : IsFit setup t) where
     reached = on_reached scope ops.Enter (of_handle handle scope there) refl;
     turns = enters_on scope;
     closing = λ no. refl;
-    heard = of_open None _ (heard_entry t.handles [] scope (id_at setup.ids lane));
+    heard = of_open None _ (heard_entry t.handles [] scope (here at lane).lane);
   }
 
-  exited : (at lane guard : ℕ) (g : Guarded) → slot_at t.guards guard ≡ Some g → lane ≡ id_at setup.ids g.lane → Step at false (exits setup at lane guard g.scope)
+  exited : (at lane guard : ℕ) (g : Guarded) → slot_at t.guards guard ≡ Some g → g.lane ≡ lane → Step at false (exit_effect (here at lane) guard g.scope)
   exited at lane guard g there on = record {
     moment = refl;
     names = no_name;
-    enters = exits_by guard g there on;
+    enters = exits_by guard g there (ap (λ (place : ℕ). (here at place).lane) (sym on));
     spends = no_spending;
     begins = tt;
     early = refl;
@@ -291,31 +301,31 @@ module _ (setup : Setup) (t : Tables) (fit : IsFit setup t) where
     reached = on_reached g.scope ops.Exit (of_handle g.handle g.scope (fit.still guard g there)) refl;
     turns = exits_on_own g.scope;
     closing = λ no. refl;
-    heard = of_open None _ (heard_exit t.handles [] g.scope lane);
+    heard = of_open None _ (heard_exit t.handles [] g.scope (here at lane).lane);
   }
 
-  on_calm : (scope : Scope) (op : Op) → (deed op).enters ≡ false → (deed op).exits ≡ false → AllByRecursion IsCalm (on scope op)
+  on_calm : (scope : Scope) (op : Op) → (deed op).enters ≡ false → (deed op).exits ≡ false → AllByRecursion IsCalm (op_on scope op)
   on_calm [] op unentered unleft = tt
   on_calm (s ∷ up) op unentered unleft = ((unentered, unleft), tt)
 
   -- fields of a callsite, if it is there
-  updates_reached : (scope : Scope) (fields : Fields) (callsite : Option Callsite) → IsKnown t.handles scope → AllByRecursion (IsReached t.handles) (updates setup.layer scope fields callsite)
+  updates_reached : (scope : Scope) (fields : Fields) (callsite : Option Callsite) → IsKnown t.handles scope → AllByRecursion (IsReached t.handles) (update_ops setup.layer scope fields callsite)
   updates_reached scope fields None known = tt
   updates_reached scope fields (Some callsite) known = on_reached scope (ops.Update (span_update callsite (values_of callsite fields) setup.layer)) known refl
 
-  updates_calm : (scope : Scope) (fields : Fields) (callsite : Option Callsite) → AllByRecursion IsCalm (updates setup.layer scope fields callsite)
+  updates_calm : (scope : Scope) (fields : Fields) (callsite : Option Callsite) → AllByRecursion IsCalm (update_ops setup.layer scope fields callsite)
   updates_calm scope fields None = tt
   updates_calm scope fields (Some callsite) = on_calm scope (ops.Update (span_update callsite (values_of callsite fields) setup.layer)) refl refl
 
-  told : (at lane : ℕ) (answer : Reply) (done : List Done) → AllByRecursion (IsReached t.handles) done → AllByRecursion IsCalm done → Step at false (tells at lane answer done)
+  told : (at lane : ℕ) (answer : Reply) (done : List Done) → AllByRecursion (IsReached t.handles) done → AllByRecursion IsCalm done → Step at false (ops_effect (here at lane) answer done)
   told at lane answer done reached calm = record { moment = refl; names = no_name; enters = no_entry; spends = no_spending; begins = tt; early = refl; starts = tt; reached = reached; turns = calm; closing = λ no. refl; heard = of_open None [] tt }
 
   -- one op on a known scope's own span
-  one_told : (at lane : ℕ) (answer : Reply) (scope : Scope) (op : Op) → IsKnown t.handles scope → (deed op).own ≡ None → (deed op).enters ≡ false → (deed op).exits ≡ false → Step at false (tells at lane answer (on scope op))
-  one_told at lane answer scope op known unstarted unentered unleft = told at lane answer (on scope op) (on_reached scope op known unstarted) (on_calm scope op unentered unleft)
+  one_told : (at lane : ℕ) (answer : Reply) (scope : Scope) (op : Op) → IsKnown t.handles scope → (deed op).own ≡ None → (deed op).enters ≡ false → (deed op).exits ≡ false → Step at false (ops_effect (here at lane) answer (op_on scope op))
+  one_told at lane answer scope op known unstarted unentered unleft = told at lane answer (op_on scope op) (on_reached scope op known unstarted) (on_calm scope op unentered unleft)
 
   -- the followed span starts, and the other one is linked
-  follower : (at lane : ℕ) (scope from : Scope) → IsKnown t.handles scope → IsKnown t.handles from → Step at false (follows t at lane scope from)
+  follower : (at lane : ℕ) (scope from : Scope) → IsKnown t.handles scope → IsKnown t.handles from → Step at false (follow_effect (here at lane) scope from)
   follower at lane [] from known other = told at lane reply.Done [] tt tt
   follower at lane (s ∷ up) [] known other = told at lane reply.Done [] tt tt
   follower at lane (s ∷ up) (f ∷ above) known other = (let op = link_of (ids_of (own_context t.recording at (f ∷ above))) [] in record {
@@ -337,13 +347,13 @@ module _ (setup : Setup) (t : Tables) (fit : IsFit setup t) where
       → Step at false (record e { filter = text; heard = heard; measures = added })
   beside at e text heard added hears s = record { moment = s.moment; names = s.names; enters = s.enters; spends = s.spends; begins = s.begins; early = s.early; starts = s.starts; reached = s.reached; turns = s.turns; closing = s.closing; heard = hears }
 
-  given : (at lane : ℕ) (starting : Option ℕ) (context : Context) → Open (option_to_list starting) → Step at false (gives t at lane starting context)
+  given : (at lane : ℕ) (starting : Option ℕ) (context : Context) → Open (option_to_list starting) → Step at false (context_effect (here at lane) starting context)
   given at lane starting context held = record { moment = refl; names = no_name; enters = no_entry; spends = no_spending; begins = tt; early = refl; starts = held; reached = tt; turns = tt; closing = λ no. refl; heard = of_open None [] tt }
 
-  attached : (at lane : ℕ) (context : Context) → Step at false (attaches setup t at lane context)
+  attached : (at lane : ℕ) (context : Context) → Step at false (attach_effect (here at lane) context)
   attached at lane context = record { moment = refl; names = no_name; enters = skips lane; spends = no_spending; begins = tt; early = refl; starts = tt; reached = tt; turns = tt; closing = λ no. refl; heard = of_open None [] tt }
 
-  detached : (at lane guard : ℕ) → Step at false (detaches at lane guard)
+  detached : (at lane guard : ℕ) → Step at false (detach_effect (here at lane) guard)
   detached at lane guard = record { moment = refl; names = no_name; enters = no_entry; spends = no_spending; begins = tt; early = refl; starts = tt; reached = tt; turns = tt; closing = λ no. refl; heard = of_open None [] tt }
 
   if_both : (at : ℕ) (b : Bool) (x y : Effect) → Step at false x → Step at false y → Step at false (cond b x y)
@@ -351,17 +361,17 @@ module _ (setup : Setup) (t : Tables) (fit : IsFit setup t) where
   if_both at false x y one two = two
 
   -- an effect comes from no refusal
-  pub unrefused : (b : Bool) (why : Refusal) (rest : Resolved) (e : Effect) → cond b (Err why) rest ≡ Ok e → (b ≡ false) × (rest ≡ Ok e)
+  pub unrefused : (b : Bool) (why : Refusal) (rest : Resolved) (e : Effect) → refuse_if b why rest ≡ Ok e → (b ≡ false) × (rest ≡ Ok e)
   unrefused true why rest e is = absurd (cc is)
   unrefused false why rest e is = (refl, is)
 
   -- nor where a test has to pass
-  pub allowed : (b : Bool) (why : Refusal) (rest : Resolved) (e : Effect) → cond b rest (Err why) ≡ Ok e → (b ≡ true) × (rest ≡ Ok e)
+  pub allowed : (b : Bool) (why : Refusal) (rest : Resolved) (e : Effect) → refuse_if (not b) why rest ≡ Ok e → (b ≡ true) × (rest ≡ Ok e)
   allowed true why rest e is = (refl, is)
   allowed false why rest e is = absurd (cc is)
 
   -- nor from a name that names nothing
-  pub found : {A : Type 0} (unknown : What) (o : Option A) (go : A → Resolved) (e : Effect) → named unknown o go ≡ Ok e → (x : A) × (o ≡ Some x) × (go x ≡ Ok e)
+  pub found : {A : Type 0} (unknown : What) (o : Option A) (go : A → Resolved) (e : Effect) → (need unknown o >>= go) ≡ Ok e → (x : A) × (o ≡ Some x) × (go x ≡ Ok e)
   found unknown None go e is = absurd (cc is)
   found unknown (Some x) go e is = (x, refl, is)
 
@@ -380,113 +390,113 @@ module _ (setup : Setup) (t : Tables) (fit : IsFit setup t) where
       the_scope a b e = cc e
   known_place lane (place.Under handle) up is = of_handle handle up is
 
-  opened : (at lane handle : ℕ) (owns : Bool) (e : Effect) → opens setup t at lane handle owns ≡ Ok e → Step at false e
+  opened : (at lane handle : ℕ) (owns : Bool) (e : Effect) → entry_call (here at lane) handle owns ≡ Ok e → Step at false e
   opened at lane handle owns e is =
       let there = found what.Handle (slot_at t.handles handle) _ e is in
-      let room = unrefused (meets_full setup.layer.activation there.0 (t.contexts (id_at setup.ids lane))) (refusal.Full lane) (Ok (enters setup t at lane handle owns there.0)) e there.2 in
+      let room = unrefused (meets_full setup.layer.activation there.0 (t.contexts (here at lane).lane)) (refusal.Full lane) (Ok (enter_effect (here at lane) handle owns there.0)) e there.2 in
       subst (Step at false) (the_effect _ e room.1) (entered at lane handle owns there.0 there.1)
 
   by_call : (at lane : ℕ) (what_for : Call) (e : Effect) → effect_of_call setup t at lane what_for ≡ Ok e → Step at (is_drop what_for) e
   by_call at lane (call.New site under fields) e is =
       let callsite = found what.Site (span_site setup.sites site) _ e is in
-      let up = found what.Handle (scope_at t (id_at setup.ids lane) under) _ e callsite.2 in
+      let up = found what.Handle (scope_at t (here at lane).lane under) _ e callsite.2 in
       let values = found what.Field (all_values callsite.0 fields) _ e up.2 in
       subst (Step at false) (the_effect _ e values.2)
-      (if_both at (admitted setup t (id_at setup.ids lane) callsite.0) _ _
-      (made_span at lane site callsite.0 values.0 under up.0 (known_place (id_at setup.ids lane) under up.0 up.1)) (declined at (id_at setup.ids lane)))
+      (if_both at (admitted setup t (here at lane).lane callsite.0) _ _
+      (made_span at lane site callsite.0 values.0 under up.0 (known_place (here at lane).lane under up.0 up.1)) (declined at lane))
   by_call at lane (call.Clone handle) e is =
       let there = found what.Handle (slot_at t.handles handle) _ e is in
-      subst (Step at false) (the_effect _ e there.2) (cloned at (id_at setup.ids lane) there.0 (of_handle handle there.0 there.1))
+      subst (Step at false) (the_effect _ e there.2) (cloned at lane there.0 (of_handle handle there.0 there.1))
   by_call at lane (call.Drop handle) e is =
       let there = found what.Handle (slot_at t.handles handle) _ e is in
-      let free = unrefused (is_borrowed t.guards handle) refusal.InUse (Ok (drops t at (id_at setup.ids lane) handle there.0)) e there.2 in
-      subst (Step at true) (the_effect _ e free.1) (dropped at (id_at setup.ids lane) handle there.0 there.1 free.0)
+      let free = unrefused (is_borrowed t.guards handle) refusal.InUse (Ok (drop_effect (here at lane) handle there.0)) e there.2 in
+      subst (Step at true) (the_effect _ e free.1) (dropped at lane handle there.0 there.1 free.0)
   by_call at lane (call.Enter handle) e is = opened at lane handle false e is
   by_call at lane (call.Exit guard) e is =
       let there = found what.Guard (slot_at t.guards guard) _ e is in
-      let leaves = exits setup at (id_at setup.ids lane) guard there.0.scope in
-      let alone = unrefused (is_shared t.guards there.0) refusal.InUse (exits_on there.0.lane lane leaves) e there.2 in
+      let leaves = exit_effect (here at lane) guard there.0.scope in
+      let alone = unrefused (is_shared t.guards there.0) refusal.InUse (refuse_if (not (there.0.lane == lane)) (refusal.WrongLane there.0.lane) (Ok leaves)) e there.2 in
       let mine = allowed (there.0.lane == lane) (refusal.WrongLane there.0.lane) (Ok leaves) e alone.1 in
-      subst (Step at false) (the_effect _ e mine.1) (exited at (id_at setup.ids lane) guard there.0 there.1 (ap (id_at setup.ids) (sym (eqb-true there.0.lane lane mine.0))))
-  by_call at lane call.Current e is = subst (Step at false) (the_effect _ e is) (cloned at (id_at setup.ids lane) (current_scope t (id_at setup.ids lane)) (fit.currents (id_at setup.ids lane)))
+      subst (Step at false) (the_effect _ e mine.1) (exited at lane guard there.0 there.1 (eqb-true there.0.lane lane mine.0))
+  by_call at lane call.Current e is = subst (Step at false) (the_effect _ e is) (cloned at lane (current_scope t (here at lane).lane) (fit.currents (here at lane).lane))
   by_call at lane (call.OrCurrent handle) e is =
       let there = found what.Handle (slot_at t.handles handle) _ e is in
-      let free = unrefused (is_borrowed t.guards handle) refusal.InUse (Ok (exchanges t at (id_at setup.ids lane) handle (scope_or_current t (id_at setup.ids lane) there.0))) e there.2 in
-      subst (Step at false) (the_effect _ e free.1) (exchanged at (id_at setup.ids lane) handle there.0 there.1 free.0)
+      let free = unrefused (is_borrowed t.guards handle) refusal.InUse (Ok (exchange_effect (here at lane) handle (scope_or_current t (here at lane).lane there.0))) e there.2 in
+      subst (Step at false) (the_effect _ e free.1) (exchanged at lane handle there.0 there.1 free.0)
   by_call at lane (call.Entered handle) e is =
       let there = found what.Handle (slot_at t.handles handle) _ e is in
-      let free = unrefused (is_borrowed t.guards handle) refusal.InUse (opens setup t at lane handle true) e there.2 in
+      let free = unrefused (is_borrowed t.guards handle) refusal.InUse (entry_call (here at lane) handle true) e there.2 in
       opened at lane handle true e free.1
   by_call at lane (call.Event site under fields) e is =
       let there = found what.Site (event_site setup.sites site) _ e is in
-      let reached = found what.Handle (scope_at t (id_at setup.ids lane) under) _ e there.2 in
+      let reached = found what.Handle (scope_at t (here at lane).lane under) _ e there.2 in
       let values = found what.Field (all_values there.0 fields) _ e reached.2 in
       let op = event_of there.0 values.0 setup.layer at in
-      let enabled = admitted setup t (id_at setup.ids lane) there.0 in
-      let known = known_place (id_at setup.ids lane) under reached.0 reached.1 in
+      let enabled = admitted setup t (here at lane).lane there.0 in
+      let known = known_place (here at lane).lane under reached.0 reached.1 in
       subst (Step at false) (the_effect _ e values.2)
-      (beside at (tells at (id_at setup.ids lane) (reply.Enabled enabled) _) None [] _ (of_open None [] tt)
-      (told at (id_at setup.ids lane) (reply.Enabled enabled) _
+      (beside at (ops_effect (here at lane) (reply.Enabled enabled) _) None [] _ (of_open None [] tt)
+      (told at lane (reply.Enabled enabled) _
       (each_told _ enabled _ (each_on IsUnstarted _ reached.0 _ (reaches reached.0 known) (each_counted IsUnstarted refl setup.counting there.0 op refl)))
       (each_told _ enabled _ (each_on IsCalmOp _ reached.0 _ (λ s up o is calm. calm) (each_counted IsCalmOp (refl, refl) setup.counting there.0 op (refl, refl))))))
   by_call at lane (call.Record handle fields) e is =
       let there = found what.Handle (slot_at t.handles handle) _ e is in
       let callsite = callsite_of setup t there.0 in
       subst (Step at false) (the_effect _ e there.2)
-      (beside at (tells at (id_at setup.ids lane) reply.Done (updates setup.layer there.0 fields callsite)) None (heard_values there.0 fields callsite) []
+      (beside at (ops_effect (here at lane) reply.Done (update_ops setup.layer there.0 fields callsite)) None (heard_values there.0 fields callsite) []
       (of_open None _ (heard_record t.handles [] there.0 fields callsite (own_open there.0 (of_handle handle there.0 there.1))))
-      (told at (id_at setup.ids lane) reply.Done _ (updates_reached there.0 fields callsite (of_handle handle there.0 there.1)) (updates_calm there.0 fields callsite)))
+      (told at lane reply.Done _ (updates_reached there.0 fields callsite (of_handle handle there.0 there.1)) (updates_calm there.0 fields callsite)))
   by_call at lane (call.HasField handle name) e is =
       let there = found what.Handle (slot_at t.handles handle) _ e is in
-      subst (Step at false) (the_effect _ e there.2) (told at (id_at setup.ids lane) (reply.Has _) [] tt tt)
-  by_call at lane (call.Remote ids) e is = subst (Step at false) (the_effect _ e is) (given at (id_at setup.ids lane) None _ tt)
+      subst (Step at false) (the_effect _ e there.2) (told at lane (reply.Has _) [] tt tt)
+  by_call at lane (call.Remote ids) e is = subst (Step at false) (the_effect _ e is) (given at lane None _ tt)
   by_call at lane (call.Context handle) e is =
       let there = found what.Handle (slot_at t.handles handle) _ e is in
-      subst (Step at false) (the_effect _ e there.2) (given at (id_at setup.ids lane) (own there.0) _ (active_open true there.0 (of_handle handle there.0 there.1)))
+      subst (Step at false) (the_effect _ e there.2) (given at lane (own there.0) _ (active_open true there.0 (of_handle handle there.0 there.1)))
   by_call at lane (call.Attach context) e is =
       let there = found what.Context (slice_get t.named context) _ e is in
-      let room = unrefused (is_full (t.contexts (id_at setup.ids lane))) (refusal.Full lane) (Ok (attaches setup t at lane there.0)) e there.2 in
+      let room = unrefused (is_full (t.contexts (here at lane).lane)) (refusal.Full lane) (Ok (attach_effect (here at lane) there.0)) e there.2 in
       subst (Step at false) (the_effect _ e room.1) (attached at lane there.0)
   by_call at lane (call.Detach guard) e is =
       let there = found what.Guard (slot_at t.attaches guard) _ e is in
-      let mine = allowed (there.0 == lane) (refusal.WrongLane there.0) (Ok (detaches at (id_at setup.ids lane) guard)) e there.2 in
-      subst (Step at false) (the_effect _ e mine.1) (detached at (id_at setup.ids lane) guard)
+      let mine = allowed (there.0 == lane) (refusal.WrongLane there.0) (Ok (detach_effect (here at lane) guard)) e there.2 in
+      subst (Step at false) (the_effect _ e mine.1) (detached at lane guard)
   by_call at lane (call.Follows handle from) e is =
       let there = found what.Handle (slot_at t.handles handle) _ e is in
       let followed = found what.Handle (slot_at t.handles from) _ e there.2 in
-      subst (Step at false) (the_effect _ e followed.2) (follower at (id_at setup.ids lane) there.0 followed.0 (of_handle handle there.0 there.1) (of_handle from followed.0 followed.1))
+      subst (Step at false) (the_effect _ e followed.2) (follower at lane there.0 followed.0 (of_handle handle there.0 there.1) (of_handle from followed.0 followed.1))
   by_call at lane (call.SetParent handle context) e is =
       let there = found what.Handle (slot_at t.handles handle) _ e is in
       let given = found what.Context (slice_get t.named context) _ e there.2 in
-      subst (Step at false) (the_effect _ e given.2) (one_told at (id_at setup.ids lane) _ there.0 (ops.SetParent given.0) (of_handle handle there.0 there.1) refl refl refl)
+      subst (Step at false) (the_effect _ e given.2) (one_told at lane _ there.0 (ops.SetParent given.0) (of_handle handle there.0 there.1) refl refl refl)
   by_call at lane (call.AddLink handle context attributes) e is =
       let there = found what.Handle (slot_at t.handles handle) _ e is in
       let given = found what.Context (slice_get t.named context) _ e there.2 in
       let op = link_of (ids_of given.0) attributes in
       let valid = is_valid (ids_of given.0) in
       let known = of_handle handle there.0 there.1 in
-      subst (Step at false) (the_effect _ e given.2) (told at (id_at setup.ids lane) reply.Done _ (each_told _ valid _ (on_reached there.0 op known refl)) (each_told _ valid _ (on_calm there.0 op refl refl)))
+      subst (Step at false) (the_effect _ e given.2) (told at lane reply.Done _ (each_told _ valid _ (on_reached there.0 op known refl)) (each_told _ valid _ (on_calm there.0 op refl refl)))
   by_call at lane (call.SetAttribute handle key value) e is =
       let there = found what.Handle (slot_at t.handles handle) _ e is in
-      subst (Step at false) (the_effect _ e there.2) (one_told at (id_at setup.ids lane) _ there.0 (ops.SetAttribute (record { key = key; value = value })) (of_handle handle there.0 there.1) refl refl refl)
+      subst (Step at false) (the_effect _ e there.2) (one_told at lane _ there.0 (ops.SetAttribute (record { key = key; value = value })) (of_handle handle there.0 there.1) refl refl refl)
   by_call at lane (call.SetStatus handle status) e is =
       let there = found what.Handle (slot_at t.handles handle) _ e is in
-      subst (Step at false) (the_effect _ e there.2) (one_told at (id_at setup.ids lane) _ there.0 (ops.SetStatus status) (of_handle handle there.0 there.1) refl refl refl)
+      subst (Step at false) (the_effect _ e there.2) (one_told at lane _ there.0 (ops.SetStatus status) (of_handle handle there.0 there.1) refl refl refl)
   by_call at lane (call.AddEvent handle name attributes time) e is =
       let there = found what.Handle (slot_at t.handles handle) _ e is in
-      subst (Step at false) (the_effect _ e there.2) (one_told at (id_at setup.ids lane) _ there.0 (event_at name (happens_at at time) attributes) (of_handle handle there.0 there.1) refl refl refl)
+      subst (Step at false) (the_effect _ e there.2) (one_told at lane _ there.0 (event_at name (happens_at at time) attributes) (of_handle handle there.0 there.1) refl refl refl)
   by_call at lane (call.Enabled site) e is =
       let there = found what.Site (slice_get setup.sites site) _ e is in
-      subst (Step at false) (the_effect _ e there.2) (told at (id_at setup.ids lane) (reply.Enabled _) [] tt tt)
+      subst (Step at false) (the_effect _ e there.2) (told at lane (reply.Enabled _) [] tt tt)
   by_call at lane (call.Reload text) e is = by_read (text_read text) is
     where
-      by_read : (r : TextRead) → reloads_if at (id_at setup.ids lane) text r ≡ Ok e → Step at false e
-      by_read (Ok ds) read = subst (Step at false) (the_effect _ e read) (beside at (tells at (id_at setup.ids lane) reply.Done []) (Some text) [] [] (of_open None [] tt) (told at (id_at setup.ids lane) reply.Done [] tt tt))
+      by_read : (r : TextRead) → reload_by (here at lane) text r ≡ Ok e → Step at false e
+      by_read (Ok ds) read = subst (Step at false) (the_effect _ e read) (beside at (ops_effect (here at lane) reply.Done []) (Some text) [] [] (of_open None [] tt) (told at lane reply.Done [] tt tt))
       by_read (Err piece) read = absurd (cc read)
 
   pub step_of : (request : Request) (e : Effect) → effect_of setup t request ≡ Ok e → IsTimed t.moment e.at × IsStep setup t request.at (is_drop request.call) e
   step_of request e is =
-      let by_name = named what.Lane (slice_get setup.ids request.lane) (λ id. effect_of_call setup t request.at request.lane request.call) in
+      let by_name = (need what.Lane (slice_get setup.ids request.lane) >>= (λ id. effect_of_call setup t request.at request.lane request.call)) in
       let passed = unrefused (is_bad_moment t.moment request.at) (refusal.BadMoment t.moment request.at) by_name e is in
       let lane = found what.Lane (slice_get setup.ids request.lane) (λ id. effect_of_call setup t request.at request.lane request.call) e passed.1 in
       let step = by_call request.at request.lane request.call e lane.2 in

@@ -1,22 +1,20 @@
 //! Contexts: making them, attaching them to a lane, and detaching them again.
-ghost use Rattle.std.specs.Prelude.{◌≡◌, ◌↔◌, ◌<◌, ◌++◌, [], ◌∷◌, true, false, length, IfOk, IfErr, OnErr, Err};
+ghost use Rattle.std.specs.Prelude.{◌≡◌, ◌↔◌, ◌<◌, ◌++◌, [], ◌∷◌, true, false, length, IfOk, OnErr};
 ghost use Rattle.otel_base.specs.Stack.{has, without};
 ghost use Rattle.otel_base.specs.declared.stack.TheConstants.{MOST as MOST_CONTEXTS};
 ghost use Rattle.otel_base.specs.declared.enter_error.EnterError.TheVariants.{Full};
-ghost use Rattle.span_script.specs.declared.reply.Refusal.TheVariants.{Memory as NoMemory};
 ghost use Rattle.span_script.specs.declared.request.Call.{Call};
 
 use crate::asked::context_of;
+use crate::laws;
 use crate::names::{add, context_at};
 use crate::pipeline::{MOST, Pipeline};
-use crate::shown::leaves;
 use otel_base::context::{Context, SpanContext};
 use otel_base::enter_error::EnterError;
 use otel_base::record::Moment;
 use otel_base::stack::Attached;
 use span_script::contexts::Attach;
 use span_script::reply::{Refusal, Reply, What};
-use span_stack::laws;
 use trace_base::lane::Lane;
 
 // Attaches a context to a lane above all others.
@@ -42,9 +40,7 @@ fn detach_from(lane: &mut Lane, attached: Attached)
 }
 
 impl Pipeline {
-    ghost use Rattle.span_script.specs.Tables.{Tables};
-    ghost use Rattle.span_script.specs.Effects.{effect_of_call};
-    ghost use Rattle.span_script.specs.Fits.{StandsFor, Served, IsRefusal};
+    ghost use Rattle.span_script.specs.Fits.{Serves};
 
     pub(crate) fn remote(
         &mut self,
@@ -52,11 +48,7 @@ impl Pipeline {
         lane: u64,
         ids: SpanContext,
     ) -> Result<Reply, Refusal>
-        ensures ok { (t : Tables) → StandsFor self.old t
-            → IfOk result (Served (effect_of_call self.old.setup t at lane (Call.Remote ids)) t self.old self.new) }
-        ensures refused { (t : Tables) → StandsFor self.old t
-            → IfErr result (IsRefusal (effect_of_call self.old.setup t at lane (Call.Remote ids))) }
-        ensures err { OnErr result (self.new ≡ self.old) }
+        ensures { Serves self.old at lane (Call.Remote ids) result self.new }
     {
         let context = self.contexts.made.len() as u64;
         self.contexts.made.push(Context { span: Some(ids) })?;
@@ -65,13 +57,8 @@ impl Pipeline {
     }
 
     pub(crate) fn context(&mut self, at: Moment, lane: u64, handle: u64) -> Result<Reply, Refusal>
-        ensures ok { (t : Tables) → StandsFor self.old t
-            → IfOk result (Served (effect_of_call self.old.setup t at lane (Call.Context handle)) t self.old self.new) }
-        ensures refused { (t : Tables) → StandsFor self.old t
-            → IfErr result (IsRefusal (effect_of_call self.old.setup t at lane (Call.Context handle))) }
-        ensures err { OnErr result (self.new ≡ self.old) }
+        ensures { Serves self.old at lane (Call.Context handle) result self.new }
     {
-        leaves();
         laws::asks();
         let Some(span) = self.handles.get(handle) else {
             return Err(Refusal::UnknownName { what: What::Handle });
@@ -89,11 +76,7 @@ impl Pipeline {
 
     pub(crate) fn attach(&mut self, at: Moment, lane: u64, context: u64) -> Result<Reply, Refusal>
         requires { lane < length self.old.lanes }
-        ensures ok { (t : Tables) → StandsFor self.old t
-            → IfOk result (Served (effect_of_call self.old.setup t at lane (Call.Attach context)) t self.old self.new) }
-        ensures refused { (t : Tables) → StandsFor self.old t
-            → IfErr result (IsRefusal (effect_of_call self.old.setup t at lane (Call.Attach context))) }
-        ensures err { OnErr result (self.new ≡ self.old) }
+        ensures { Serves self.old at lane (Call.Attach context) result self.new }
     {
         if self.guards.len() >= MOST {
             return Err(Refusal::Memory);
@@ -118,12 +101,7 @@ impl Pipeline {
 
     pub(crate) fn detach(&mut self, at: Moment, lane: u64, guard: u64) -> Result<Reply, Refusal>
         requires { lane < length self.old.lanes }
-        ensures ok { (t : Tables) → StandsFor self.old t
-            → IfOk result (Served (effect_of_call self.old.setup t at lane (Call.Detach guard)) t self.old self.new) }
-        ensures refused { (t : Tables) → StandsFor self.old t
-            → IfErr result (IsRefusal (effect_of_call self.old.setup t at lane (Call.Detach guard))) }
-        ensures err { OnErr result (self.new ≡ self.old) }
-        ensures room { ¬ (result ≡ Err NoMemory) }
+        ensures { Serves self.old at lane (Call.Detach guard) result self.new }
     {
         let Some(named) = self.contexts.attaches.get(guard) else {
             return Err(Refusal::UnknownName { what: What::Guard });

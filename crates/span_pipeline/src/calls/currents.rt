@@ -1,28 +1,20 @@
 //! Handles of the span that is current on a lane.
-ghost use Rattle.std.specs.Prelude.{◌≡◌, ◌<◌, length, IfOk, IfErr, OnErr};
+ghost use Rattle.std.specs.Prelude.{◌<◌, length};
 ghost use Rattle.span_script.specs.declared.request.Call.TheVariants as request;
 
+use crate::laws;
 use crate::pipeline::{MOST, Pipeline};
-use crate::shown::calls;
 use otel_base::record::Moment;
 use span_handles::span::Span;
 use span_script::reply::{Refusal, Reply, What};
-use span_stack::laws;
 
 impl Pipeline {
-    ghost use Rattle.span_script.specs.Tables.{Tables};
-    ghost use Rattle.span_script.specs.Effects.{effect_of_call};
-    ghost use Rattle.span_script.specs.Fits.{StandsFor, Served, IsRefusal};
+    ghost use Rattle.span_script.specs.Fits.{Serves};
 
     pub(crate) fn current(&mut self, at: Moment, lane: u64) -> Result<Reply, Refusal>
         requires { lane < length self.old.lanes }
-        ensures ok { (t : Tables) → StandsFor self.old t
-            → IfOk result (Served (effect_of_call self.old.setup t at lane request.Current) t self.old self.new) }
-        ensures refused { (t : Tables) → StandsFor self.old t
-            → IfErr result (IsRefusal (effect_of_call self.old.setup t at lane request.Current)) }
-        ensures err { OnErr result (self.new ≡ self.old) }
+        ensures { Serves self.old at lane request.Current result self.new }
     {
-        calls();
         laws::calls();
         if self.handles.len() >= MOST || self.guards.len() >= MOST {
             return Err(Refusal::Memory);
@@ -49,13 +41,8 @@ impl Pipeline {
         handle: u64,
     ) -> Result<Reply, Refusal>
         requires { lane < length self.old.lanes }
-        ensures ok { (t : Tables) → StandsFor self.old t
-            → IfOk result (Served (effect_of_call self.old.setup t at lane (request.OrCurrent handle)) t self.old self.new) }
-        ensures refused { (t : Tables) → StandsFor self.old t
-            → IfErr result (IsRefusal (effect_of_call self.old.setup t at lane (request.OrCurrent handle))) }
-        ensures err { OnErr result (self.new ≡ self.old) }
+        ensures { Serves self.old at lane (request.OrCurrent handle) result self.new }
     {
-        calls();
         laws::calls();
         if self.handles.len() >= MOST || self.guards.len() >= MOST {
             return Err(Refusal::Memory);

@@ -1,19 +1,17 @@
 //! Entering the span of a handle, and exiting it again.
-ghost use Rattle.std.specs.Prelude.{◌≡◌, ◌<◌, length, IfOk, IfErr, OnErr, Err};
-ghost use Rattle.span_script.specs.declared.reply.Refusal.TheVariants.{Memory as NoMemory};
+ghost use Rattle.std.specs.Prelude.{◌<◌, length, false};
 ghost use Rattle.span_script.specs.declared.request.Call.{Call};
 
+use crate::laws;
 use crate::pipeline::{MOST, Pipeline};
-use crate::shown::{calls, same};
 use otel_base::record::Moment;
 use span_script::reply::{Refusal, Reply, What};
 use span_script::slots::Guard;
-use span_stack::laws;
 
 impl Pipeline {
-    ghost use Rattle.span_script.specs.Tables.{Tables};
-    ghost use Rattle.span_script.specs.Effects.{effect_of_call, opens};
-    ghost use Rattle.span_script.specs.Fits.{StandsFor, Served, IsRefusal};
+    ghost use Rattle.span_script.specs.calls.Here.{here_at};
+    ghost use Rattle.span_script.specs.calls.Entries.{entry_call};
+    ghost use Rattle.span_script.specs.Fits.{Serves, ServesResolved};
 
     /// Enters the span of a handle, which the guard owns or not.
     pub(crate) fn enter(
@@ -24,15 +22,9 @@ impl Pipeline {
         owns: bool,
     ) -> Result<Reply, Refusal>
         requires { lane < length self.old.lanes }
-        ensures ok { (t : Tables) → StandsFor self.old t
-            → IfOk result (Served (opens self.old.setup t at lane handle owns) t self.old self.new) }
-        ensures refused { (t : Tables) → StandsFor self.old t
-            → IfErr result (IsRefusal (opens self.old.setup t at lane handle owns)) }
-        ensures err { OnErr result (self.new ≡ self.old) }
+        ensures { ServesResolved (λ t. entry_call (here_at self.old.setup t at lane) handle owns) false self.old result self.new }
     {
-        calls();
         laws::calls();
-        same();
         laws::same();
         if self.handles.len() >= MOST || self.guards.len() >= MOST {
             return Err(Refusal::Memory);
@@ -60,11 +52,7 @@ impl Pipeline {
 
     pub(crate) fn entered(&mut self, at: Moment, lane: u64, handle: u64) -> Result<Reply, Refusal>
         requires { lane < length self.old.lanes }
-        ensures ok { (t : Tables) → StandsFor self.old t
-            → IfOk result (Served (effect_of_call self.old.setup t at lane (Call.Entered handle)) t self.old self.new) }
-        ensures refused { (t : Tables) → StandsFor self.old t
-            → IfErr result (IsRefusal (effect_of_call self.old.setup t at lane (Call.Entered handle))) }
-        ensures err { OnErr result (self.new ≡ self.old) }
+        ensures { Serves self.old at lane (Call.Entered handle) result self.new }
     {
         let Some(_named) = self.handles.get(handle) else {
             return Err(Refusal::UnknownName { what: What::Handle });
@@ -77,14 +65,8 @@ impl Pipeline {
 
     pub(crate) fn exit(&mut self, at: Moment, lane: u64, guard: u64) -> Result<Reply, Refusal>
         requires { lane < length self.old.lanes }
-        ensures ok { (t : Tables) → StandsFor self.old t
-            → IfOk result (Served (effect_of_call self.old.setup t at lane (Call.Exit guard)) t self.old self.new) }
-        ensures refused { (t : Tables) → StandsFor self.old t
-            → IfErr result (IsRefusal (effect_of_call self.old.setup t at lane (Call.Exit guard))) }
-        ensures err { OnErr result (self.new ≡ self.old) }
-        ensures room { ¬ (result ≡ Err NoMemory) }
+        ensures { Serves self.old at lane (Call.Exit guard) result self.new }
     {
-        calls();
         laws::calls();
         let Some(named) = self.guards.at(guard) else {
             return Err(Refusal::UnknownName { what: What::Guard });

@@ -1,13 +1,12 @@
 //! What is asked of the span extension: parents, attributes, statuses and events.
-ghost use Rattle.std.specs.Prelude.{◌≡◌, IfOk, IfErr, OnErr, Err};
-ghost use Rattle.span_script.specs.declared.reply.Refusal.TheVariants.{Memory as NoMemory};
+ghost use Rattle.std.specs.Prelude.{◌≡◌};
 ghost use Rattle.span_script.specs.declared.request.Call.{Call};
-ghost use Rattle.span_script.specs.Effects.{happens_at};
+ghost use Rattle.span_script.specs.calls.Links.{happens_at};
 
 use crate::asked::{Asked, ask};
+use crate::laws;
 use crate::names::context_at;
 use crate::pipeline::Pipeline;
-use crate::shown::leaves;
 use otel_base::list::Items;
 use otel_base::record::Moment;
 use otel_base::status::Status;
@@ -15,7 +14,6 @@ use otel_base::text::Text;
 use otel_base::value::{KeyValue, OtelValue};
 use otel_layer::span_ext::OpenTelemetrySpanExt;
 use span_script::reply::{Refusal, Reply, What};
-use span_stack::laws;
 
 // When an event happens: at its time, else at the request's moment.
 fn happens_at(at: Moment, time: Option<Moment>) -> Moment
@@ -28,9 +26,7 @@ fn happens_at(at: Moment, time: Option<Moment>) -> Moment
 }
 
 impl Pipeline {
-    ghost use Rattle.span_script.specs.Tables.{Tables};
-    ghost use Rattle.span_script.specs.Effects.{effect_of_call};
-    ghost use Rattle.span_script.specs.Fits.{StandsFor, Served, IsRefusal};
+    ghost use Rattle.span_script.specs.Fits.{Serves};
 
     pub(crate) fn set_parent(
         &mut self,
@@ -39,14 +35,8 @@ impl Pipeline {
         handle: u64,
         context: u64,
     ) -> Result<Reply, Refusal>
-        ensures ok { (t : Tables) → StandsFor self.old t
-            → IfOk result (Served (effect_of_call self.old.setup t at lane (Call.SetParent handle context)) t self.old self.new) }
-        ensures refused { (t : Tables) → StandsFor self.old t
-            → IfErr result (IsRefusal (effect_of_call self.old.setup t at lane (Call.SetParent handle context))) }
-        ensures err { OnErr result (self.new ≡ self.old) }
-        ensures room { ¬ (result ≡ Err NoMemory) }
+        ensures { Serves self.old at lane (Call.SetParent handle context) result self.new }
     {
-        leaves();
         laws::asks();
         let Some(span) = self.handles.get(handle) else {
             return Err(Refusal::UnknownName { what: What::Handle });
@@ -69,13 +59,8 @@ impl Pipeline {
         key: Text,
         value: OtelValue,
     ) -> Result<Reply, Refusal>
-        ensures ok { (t : Tables) → StandsFor self.old t
-            → IfOk result (Served (effect_of_call self.old.setup t at lane (Call.SetAttribute handle key value)) t self.old self.new) }
-        ensures refused { (t : Tables) → StandsFor self.old t
-            → IfErr result (IsRefusal (effect_of_call self.old.setup t at lane (Call.SetAttribute handle key value))) }
-        ensures err { OnErr result (self.new ≡ self.old) }
+        ensures { Serves self.old at lane (Call.SetAttribute handle key value) result self.new }
     {
-        leaves();
         laws::asks();
         let Some(span) = self.handles.get(handle) else {
             return Err(Refusal::UnknownName { what: What::Handle });
@@ -92,14 +77,8 @@ impl Pipeline {
         handle: u64,
         status: Status,
     ) -> Result<Reply, Refusal>
-        ensures ok { (t : Tables) → StandsFor self.old t
-            → IfOk result (Served (effect_of_call self.old.setup t at lane (Call.SetStatus handle status)) t self.old self.new) }
-        ensures refused { (t : Tables) → StandsFor self.old t
-            → IfErr result (IsRefusal (effect_of_call self.old.setup t at lane (Call.SetStatus handle status))) }
-        ensures err { OnErr result (self.new ≡ self.old) }
-        ensures room { ¬ (result ≡ Err NoMemory) }
+        ensures { Serves self.old at lane (Call.SetStatus handle status) result self.new }
     {
-        leaves();
         laws::asks();
         let Some(span) = self.handles.get(handle) else {
             return Err(Refusal::UnknownName { what: What::Handle });
@@ -119,13 +98,8 @@ impl Pipeline {
         attributes: Items<KeyValue>,
         time: Option<Moment>,
     ) -> Result<Reply, Refusal>
-        ensures ok { (t : Tables) → StandsFor self.old t
-            → IfOk result (Served (effect_of_call self.old.setup t at lane (Call.AddEvent handle name attributes time)) t self.old self.new) }
-        ensures refused { (t : Tables) → StandsFor self.old t
-            → IfErr result (IsRefusal (effect_of_call self.old.setup t at lane (Call.AddEvent handle name attributes time))) }
-        ensures err { OnErr result (self.new ≡ self.old) }
+        ensures { Serves self.old at lane (Call.AddEvent handle name attributes time) result self.new }
     {
-        leaves();
         laws::asks();
         let Some(span) = self.handles.get(handle) else {
             return Err(Refusal::UnknownName { what: What::Handle });

@@ -1,6 +1,5 @@
 //! Asking the gate, and putting another filter in force.
-ghost use Rattle.std.specs.Prelude.{◌≡◌, ◌<◌, length, IfOk, IfErr, OnErr, Err};
-ghost use Rattle.span_script.specs.declared.reply.Refusal.TheVariants.{Memory as NoMemory};
+ghost use Rattle.std.specs.Prelude.{◌<◌, length};
 ghost use Rattle.span_script.specs.declared.request.Call.{Call};
 
 use crate::filters::read_filter;
@@ -13,33 +12,27 @@ use span_script::reply::{Refusal, Reply, What};
 use span_stack::{admits, put_in_force};
 
 impl Pipeline {
-    ghost use Rattle.span_script.specs.Tables.{Tables};
-    ghost use Rattle.span_script.specs.Effects.{effect_of_call};
-    ghost use Rattle.span_script.specs.Fits.{StandsFor, Served, IsRefusal};
+    ghost use Rattle.span_script.specs.Fits.{Serves};
 
-    pub(crate) fn enabled(&mut self, at: Moment, lane: u64, place: u64) -> Result<Reply, Refusal>
+    pub(crate) fn enabled(&mut self, at: Moment, lane: u64, site: u64) -> Result<Reply, Refusal>
         requires { lane < length self.old.lanes }
-        ensures ok { (t : Tables) → StandsFor self.old t
-            → IfOk result (Served (effect_of_call self.old.setup t at lane (Call.Enabled place)) t self.old self.new) }
-        ensures refused { (t : Tables) → StandsFor self.old t
-            → IfErr result (IsRefusal (effect_of_call self.old.setup t at lane (Call.Enabled place))) }
-        ensures err { OnErr result (self.new ≡ self.old) }
-        ensures room { ¬ (result ≡ Err NoMemory) }
+        ensures { Serves self.old at lane (Call.Enabled site) result self.new }
     {
-        let Some(site) = site_at(&self.world, place) else {
+        let Some(found) = site_at(&self.world, site) else {
             return Err(Refusal::UnknownName { what: What::Site });
         };
-        let enabled = admits(&self.world, self.dispatch, &self.lanes[lane as usize], site);
+        let enabled = admits(
+            &self.world,
+            self.dispatch,
+            &self.lanes[lane as usize],
+            found,
+        );
         self.moment = at;
         Ok(Reply::Enabled { enabled })
     }
 
     pub(crate) fn reload(&mut self, at: Moment, lane: u64, text: Text) -> Result<Reply, Refusal>
-        ensures ok { (t : Tables) → StandsFor self.old t
-            → IfOk result (Served (effect_of_call self.old.setup t at lane (Call.Reload text)) t self.old self.new) }
-        ensures refused { (t : Tables) → StandsFor self.old t
-            → IfErr result (IsRefusal (effect_of_call self.old.setup t at lane (Call.Reload text))) }
-        ensures err { OnErr result (self.new ≡ self.old) }
+        ensures { Serves self.old at lane (Call.Reload text) result self.new }
     {
         let filter = match read_filter(*self.lanes.allocator(), false, text.as_str()) {
             Ok(filter) => filter,

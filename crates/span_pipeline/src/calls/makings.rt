@@ -1,5 +1,5 @@
 //! Making spans.
-ghost use Rattle.std.specs.Prelude.{◌≡◌, ◌<◌, length, true, is_some, None, IfSome, IfOk, IfErr, OnErr};
+ghost use Rattle.std.specs.Prelude.{◌≡◌, ◌<◌, length, true, is_some, None, IfSome, IfOk, OnErr};
 ghost use Rattle.span_handles.specs.Worlds.{Replaced};
 ghost use Rattle.span_handles.specs.Handles.{MayMake};
 ghost use Rattle.span_script.specs.declared.request.Call.{Call};
@@ -7,10 +7,10 @@ ghost use Rattle.span_script.specs.Setups.{span_site};
 ghost use Rattle.span_script.specs.Slots.{parent_of, IsAbove, MakesOnly};
 
 use crate::fields::all_values;
+use crate::laws;
 use crate::names::place_above;
 use crate::pipeline::{MOST, Pipeline};
-use crate::shown::{calls, same};
-use crate::sites::{site, site_at};
+use crate::sites::{callsite_at, site_at};
 use otel_base::list::Items;
 use otel_base::memory::Memory;
 use otel_base::record::Moment;
@@ -19,7 +19,7 @@ use span_handles::span::Span;
 use span_script::reply::{Refusal, Reply, What};
 use span_script::request::Place;
 use span_script::slots::Above;
-use span_stack::{Stack, admits, laws};
+use span_stack::{Stack, admits};
 use trace_base::callsite::{Kind, SiteId};
 use trace_base::dispatcher::Dispatch;
 use trace_base::field::{Value, ValueSet};
@@ -27,14 +27,14 @@ use trace_base::lane::Lane;
 use trace_base::subscriber::Subscriber;
 use trace_base::world::World;
 
-// The callsite at a place, if it makes spans.
-fn span_site(world: &World<Stack>, place: u64) -> Option<SiteId>
-    ensures none { result ≡ None → span_site world.now.sites place ≡ None }
-    ensures some { IfSome result (λ found. (found ≡ place) × (place < length world.now.sites)
-        × (is_some (span_site world.now.sites place) ≡ true)) }
+// The callsite of a number, if it makes spans.
+fn span_site(world: &World<Stack>, site: u64) -> Option<SiteId>
+    ensures none { result ≡ None → span_site world.now.sites site ≡ None }
+    ensures some { IfSome result (λ found. (found ≡ site) × (site < length world.now.sites)
+        × (is_some (span_site world.now.sites site) ≡ true)) }
 {
-    let found = site_at(world, place)?;
-    match site(world, found).kind {
+    let found = site_at(world, site)?;
+    match callsite_at(world, found).kind {
         Kind::Span => Some(found),
         Kind::Event => None,
     }
@@ -72,41 +72,33 @@ fn make_if<S: Subscriber>(
 }
 
 impl Pipeline {
-    ghost use Rattle.span_script.specs.Tables.{Tables};
-    ghost use Rattle.span_script.specs.Effects.{effect_of_call};
-    ghost use Rattle.span_script.specs.Fits.{StandsFor, Served, IsRefusal};
+    ghost use Rattle.span_script.specs.Fits.{Serves};
 
     pub(crate) fn make(
         &mut self,
         at: Moment,
         lane: u64,
-        place: u64,
-        under: Place,
+        site: u64,
+        parent: Place,
         fields: Items<(Text, Value)>,
     ) -> Result<Reply, Refusal>
         requires { lane < length self.old.lanes }
-        ensures ok { (t : Tables) → StandsFor self.old t
-            → IfOk result (Served (effect_of_call self.old.setup t at lane (Call.New place under fields)) t self.old self.new) }
-        ensures refused { (t : Tables) → StandsFor self.old t
-            → IfErr result (IsRefusal (effect_of_call self.old.setup t at lane (Call.New place under fields))) }
-        ensures err { OnErr result (self.new ≡ self.old) }
+        ensures { Serves self.old at lane (Call.New site parent fields) result self.new }
     {
-        calls();
         laws::calls();
-        same();
         laws::same();
         if self.handles.len() >= MOST || self.guards.len() >= MOST {
             return Err(Refusal::Memory);
         }
         let number = self.handles.len() as u64;
-        let Some(found) = span_site(&self.world, place) else {
+        let Some(found) = span_site(&self.world, site) else {
             return Err(Refusal::UnknownName { what: What::Site });
         };
         self.handles.reserve()?;
-        let Some(above) = place_above(&self.handles, under) else {
+        let Some(above) = place_above(&self.handles, parent) else {
             return Err(Refusal::UnknownName { what: What::Handle });
         };
-        let callsite = site(&self.world, found);
+        let callsite = callsite_at(&self.world, found);
         let Some(values) = all_values(*self.lanes.allocator(), callsite, fields)? else {
             return Err(Refusal::UnknownName { what: What::Field });
         };

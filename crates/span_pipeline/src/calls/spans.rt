@@ -1,18 +1,13 @@
 //! Handles of spans, and dropping these.
-ghost use Rattle.std.specs.Prelude.{◌≡◌, IfOk, IfErr, OnErr, Err};
-ghost use Rattle.span_script.specs.declared.reply.Refusal.TheVariants.{Memory as NoMemory};
 ghost use Rattle.span_script.specs.declared.request.Call.{Call};
 
+use crate::laws;
 use crate::pipeline::{MOST, Pipeline};
-use crate::shown::{calls, chains};
 use otel_base::record::Moment;
 use span_script::reply::{Refusal, Reply, What};
-use span_stack::laws;
 
 impl Pipeline {
-    ghost use Rattle.span_script.specs.Tables.{Tables};
-    ghost use Rattle.span_script.specs.Effects.{effect_of_call};
-    ghost use Rattle.span_script.specs.Fits.{StandsFor, Served, IsRefusal};
+    ghost use Rattle.span_script.specs.Fits.{Serves};
 
     pub(crate) fn clone_handle(
         &mut self,
@@ -20,13 +15,8 @@ impl Pipeline {
         lane: u64,
         handle: u64,
     ) -> Result<Reply, Refusal>
-        ensures ok { (t : Tables) → StandsFor self.old t
-            → IfOk result (Served (effect_of_call self.old.setup t at lane (Call.Clone handle)) t self.old self.new) }
-        ensures refused { (t : Tables) → StandsFor self.old t
-            → IfErr result (IsRefusal (effect_of_call self.old.setup t at lane (Call.Clone handle))) }
-        ensures err { OnErr result (self.new ≡ self.old) }
+        ensures { Serves self.old at lane (Call.Clone handle) result self.new }
     {
-        calls();
         laws::calls();
         if self.handles.len() >= MOST || self.guards.len() >= MOST {
             return Err(Refusal::Memory);
@@ -52,14 +42,8 @@ impl Pipeline {
         lane: u64,
         handle: u64,
     ) -> Result<Reply, Refusal>
-        ensures ok { (t : Tables) → StandsFor self.old t
-            → IfOk result (Served (effect_of_call self.old.setup t at lane (Call.Drop handle)) t self.old self.new) }
-        ensures refused { (t : Tables) → StandsFor self.old t
-            → IfErr result (IsRefusal (effect_of_call self.old.setup t at lane (Call.Drop handle))) }
-        ensures err { OnErr result (self.new ≡ self.old) }
-        ensures room { ¬ (result ≡ Err NoMemory) }
+        ensures { Serves self.old at lane (Call.Drop handle) result self.new }
     {
-        chains();
         laws::chains();
         let Some(_named) = self.handles.get(handle) else {
             return Err(Refusal::UnknownName { what: What::Handle });

@@ -1,6 +1,6 @@
 -- Entries and exits, served.
-use Rattle.std.specs.Prelude.{Result, IfOk, IfErr, ◌==◌, ◌≢◌, ◌&&◌, nat_lt, count_by, if◌then◌else◌}
-use Rattle.std.proofs.Common.{◌≡◌, ℕ, ◌+◌, ◌<◌, List, [], ◌∷◌, ◌++◌, length, Bool, true, false, fold, get_or, set, slice_set, Option, Some, None, option_map, map, refl, sym, ap, subst, ◌∙◌, arith, inl, inr, cond, Err}
+use Rattle.std.specs.Prelude.{Result, IfOk, IfErr, ◌==◌, ◌≢◌, ◌&&◌, nat_lt, count_by, if◌then◌else◌, not}
+use Rattle.std.proofs.Common.{◌≡◌, ℕ, ◌+◌, ◌<◌, List, [], ◌∷◌, ◌++◌, length, Bool, true, false, fold, get_or, set, slice_set, Option, Some, None, option_map, map, refl, sym, ap, subst, ◌∙◌, arith, inl, inr, cond, Ok, Err}
 use Rattle.std.proofs.lemmas.Bool.{cases_eq, cases_Bool, eq-eqb, ne_eqb, cond-true, cond-false}
 use Rattle.std.proofs.lemmas.List.{length-set, length-map, length_push, map_push}
 use Rattle.trace_base.specs.declared.lane.Lane.{Lane}
@@ -18,7 +18,6 @@ use Rattle.span_script.specs.declared.reply.Reply.TheVariants as reply
 use Rattle.span_script.specs.declared.request.Call.TheVariants as call
 use Rattle.span_script.specs.declared.reply.Refusal.TheVariants as refusal
 use Rattle.span_script.specs.declared.reply.What.TheVariants as what
-use Rattle.span_script.specs.declared.settings.Texts.{Texts}
 use Rattle.span_script.specs.Setups.{id_at}
 use Rattle.otel_layer.specs.declared.tokens.Token.{Token}
 use Rattle.std.specs.Option.{option_to_list}
@@ -30,20 +29,23 @@ use Rattle.otel_layer.specs.Core.{is_token}
 use Rattle.otel_layer.specs.Table.{told_at, own_or}
 use Rattle.otel_layer.specs.Recording.{Recording, no_recording, with_start, with_starts, with_applied, source_of, RecordsCall, Enters, Exits}
 use Rattle.span_script.specs.Tables.{Scope, Made, Guarded, Heard, HeardEnter, HeardExit, Effect, Tables, after, recorded_by, slot_at, own, with_entry, with_exit, with_attached, with_detached, open_part, quiet, EntryOf, Attached}
-use Rattle.span_script.specs.Effects.{hears, heard_on, Resolved, named, effect_of_call, borrows, is_borrowed, active, attached_by, meets_full, opens, enters, enters_unless, is_shared, unless_shared, exits, exits_on}
+use Rattle.span_script.specs.calls.Here.{here_at, Resolved, refuse_if, ◌>>=◌, need}
+use Rattle.span_script.specs.Effects.{effect_of_call}
+use Rattle.span_script.specs.calls.Entries.{active, attached_by, meets_full, entry_call, enter_effect, is_shared, exit_effect}
+use Rattle.span_script.specs.calls.Filter.{hears, heard_on}
+use Rattle.span_script.specs.calls.Spans.{borrows, is_borrowed}
 use Rattle.span_script.specs.Slots.{names_handle, is_named, is_shared_by}
-use Rattle.span_script.proofs.filter.CounterLemmas.{aside_in}
 use Rattle.span_script.proofs.spans.ChainsLemmas.{borrowed_is}
 use Rattle.span_script.specs.declared.reply.Reply.{Reply}
 use Rattle.span_script.specs.declared.reply.Refusal.{Refusal}
 use Rattle.span_script.specs.Balance.{Balanced, named_by, opened_by}
-use Rattle.span_script.specs.Fits.{Views, IsScope, Named, State, state_of, Laned, laned, lane_at, Fits, StandsFor, RecordingFits, AllContextsFit, MadeFit, IsKept, Served, IsRefusal, held_of, guard_of, lane_of, held_by}
+use Rattle.span_script.specs.Fits.{Views, IsScope, Named, State, state_of, Laned, laned, lane_at, Fits, StandsFor, RecordingFits, AllContextsFit, MadeFit, IsKept, Served, IsRefusal, held_of, guard_of, lane_of, held_by, Parts, ServesResolved}
 use Rattle.span_script.proofs.steps.BalanceLemmas.{spans_entered, spans_exited, balanced_enter, balanced_exit, entered_most, exited_less, named_slot}
 use Rattle.span_script.proofs.entries.EntriesFitLemmas.{fits_live}
 use Rattle.span_script.proofs.spans.MadeSpansLemmas.{made_if, made_held, made_released}
 use Rattle.span_script.proofs.steps.StepLemmas.{fits_step}
 use Rattle.span_script.proofs.steps.SlotsLemmas.{find, held_slot, named_push, named_set}
-use Rattle.span_script.proofs.steps.CallsLemmas.{Law, Recalls, ShownOn, shown_on}
+use Rattle.span_script.proofs.steps.CallsLemmas.{ShownOn, shown_on}
 use Rattle.span_script.proofs.steps.LanesLemmas.{lanes_step, lanes_same, id_seen, ids_same, names_same}
 use Rattle.span_script.proofs.steps.KnownSpansLemmas.{knows_it}
 use Rattle.trace_base.proofs.Holding.{holds_other}
@@ -52,6 +54,7 @@ use Rattle.span_script.proofs.lane_contexts.LaneContextsLemmas.{all_skipped, all
 use Rattle.span_script.proofs.steps.ServesLemmas.{AllFit, serve, known_still, kept_served, call_count, call_sites, call_cached, call_aside, call_whole, call_lanes}
 use Rattle.span_script.proofs.filter.FilterLemmas.{IsKnownHeard, count_heard, AreKnown, heard_none}
 use Rattle.env_filter.specs.Filtering.{Filtered}
+use Rattle.span_script.specs.SubscriberLaws.{CallsLaw, aside_in}
 
 the_guard : (a b : Guarded) → ◌≡◌ {A = Option Guarded} (Some a) (Some b) → a ≡ b
 the_guard a b e = cc e
@@ -99,12 +102,12 @@ the_open a b e = cc e
 -- an entry
 pub fits_entered : (k next : State) (t : Tables) (at lane handle : ℕ) (owns : Bool) (line : Scope) → Fits k t → slot_at t.handles handle ≡ Some line → next.spans ≡ spans_entered k.spans line (id_at k.setup.ids lane) → next.setup ≡ k.setup
     → next.dispatch ≡ k.dispatch → next.handles ≡ k.handles → next.handle_sites ≡ k.handle_sites → next.guards ≡ k.guards ++ Some (guard_of k.dispatch (record { handle = handle; lane = lane; owns = owns; scope = line })) ∷ [] → next.contexts.made ≡ k.contexts.made → next.contexts.attaches ≡ k.contexts.attaches ++ None ∷ [] → next.moment ≡ at
-    → Fits next (after t (enters k.setup t at lane handle owns line))
+    → Fits next (after t (enter_effect (here_at k.setup t at lane) handle owns line))
 fits_entered k next t at lane handle owns line fits there step setup dispatch handles sites guards named attaches moment =
     let g : Guarded = record { handle = handle; lane = lane; owns = owns; scope = line } in
     let id = id_at k.setup.ids lane in
     let live : (s : ℕ) (up : Scope) → line ≡ s ∷ up → 0 < (span_at k.spans.made s).holds = λ s up e. fits_live k.spans (map named_by t.handles) (map (opened_by k.setup.ids) t.guards) t.entries fits.balanced handle s (named_slot t.handles handle line there ∙ ap own e) in
-    fits_step k t fits next (enters k.setup t at lane handle owns line) (record {
+    fits_step k t fits next (enter_effect (here_at k.setup t at lane) handle owns line) (record {
       setup_is = setup;
       dispatch_is = dispatch;
       handles_are = handles;
@@ -127,10 +130,10 @@ fits_entered k next t at lane handle owns line fits there step setup dispatch ha
 -- an exit
 pub fits_exited : (k next : State) (t : Tables) (at guard : ℕ) (g : Guarded) → Fits k t → slot_at t.guards guard ≡ Some g → next.spans ≡ spans_exited k.spans g.scope (id_at k.setup.ids g.lane) → next.setup ≡ k.setup
     → next.dispatch ≡ k.dispatch → next.handles ≡ k.handles → next.handle_sites ≡ k.handle_sites → next.guards ≡ slice_set k.guards guard None → next.contexts ≡ k.contexts → next.moment ≡ at
-    → (lane : ℕ) → lane ≡ id_at k.setup.ids g.lane → Fits next (after t (exits k.setup at lane guard g.scope))
+    → (lane : ℕ) → id_at k.setup.ids lane ≡ id_at k.setup.ids g.lane → Fits next (after t (exit_effect (here_at k.setup t at lane) guard g.scope))
 fits_exited k next t at guard g fits there step setup dispatch handles sites guards contexts moment lane on =
     let id = id_at k.setup.ids g.lane in
-    fits_step k t fits next (exits k.setup at lane guard g.scope) (record {
+    fits_step k t fits next (exit_effect (here_at k.setup t at lane) guard g.scope) (record {
       setup_is = setup;
       dispatch_is = dispatch;
       handles_are = handles;
@@ -178,210 +181,219 @@ on_known : (line : Scope) (heard : ℕ → Heard) (n : ℕ) → ((s : ℕ) (up :
 on_known [] heard n known = refl
 on_known (s ∷ up) heard n known = let k = known s up refl in (k.0, k.1)
 
-module _ {S : Type 0} (spans : S → Spans) (views : Views S) (attaches : S → Bool) (kept : S → ℕ → ℕ → ℕ) (is_whole : S → Type 0) (old new : Worlds S) where
-  entered_spans : (dispatch at lane : ℕ) (before later : Lane) (line : Scope) → before.id ≡ lane → ShownOn spans views attaches kept is_whole old new dispatch line (λ id. Enter id at before later) → spans_in spans new dispatch ≡ spans_entered (spans_in spans old dispatch) line lane
-  entered_spans dispatch at lane before later [] id same = ap (λ (w : Worlds S). spans_in spans w dispatch) same
-  entered_spans dispatch at lane before later (s ∷ up) id shown = shown.0.spans_after ∙ ap (λ (l : ℕ). entered (spans_in spans old dispatch) s l) id
+module _ {S : Type 0} (spans : S → Spans) (views : Views S) (attaches : S → Bool) (kept : S → ℕ → ℕ → ℕ) (is_whole : S → Type 0) (parts : Parts S) (new : Worlds S) where
+  entered_spans : (at lane : ℕ) (before later : Lane) (line : Scope) → before.id ≡ lane → ShownOn spans views attaches kept is_whole parts.world new parts.dispatch line (λ id. Enter id at before later) → spans_in spans new parts.dispatch ≡ spans_entered (spans_in spans parts.world parts.dispatch) line lane
+  entered_spans at lane before later [] id same = ap (λ (w : Worlds S). spans_in spans w parts.dispatch) same
+  entered_spans at lane before later (s ∷ up) id shown = shown.0.spans_after ∙ ap (λ (l : ℕ). entered (spans_in spans parts.world parts.dispatch) s l) id
 
-  exited_spans : (dispatch at lane : ℕ) (before later : Lane) (line : Scope) → before.id ≡ lane → ShownOn spans views attaches kept is_whole old new dispatch line (λ id. Exit id at before later) → spans_in spans new dispatch ≡ spans_exited (spans_in spans old dispatch) line lane
-  exited_spans dispatch at lane before later [] id same = ap (λ (w : Worlds S). spans_in spans w dispatch) same
-  exited_spans dispatch at lane before later (s ∷ up) id shown = shown.0.spans_after ∙ ap (λ (l : ℕ). exited (spans_in spans old dispatch) s l) id
+  exited_spans : (at lane : ℕ) (before later : Lane) (line : Scope) → before.id ≡ lane → ShownOn spans views attaches kept is_whole parts.world new parts.dispatch line (λ id. Exit id at before later) → spans_in spans new parts.dispatch ≡ spans_exited (spans_in spans parts.world parts.dispatch) line lane
+  exited_spans at lane before later [] id same = ap (λ (w : Worlds S). spans_in spans w parts.dispatch) same
+  exited_spans at lane before later (s ∷ up) id shown = shown.0.spans_after ∙ ap (λ (l : ℕ). exited (spans_in spans parts.world parts.dispatch) s l) id
 
   -- what was recorded: the span is known, so the layer was told
-  entry_told : (dispatch at : ℕ) (before later : Lane) (s : ℕ) → told_at s (seen views.recorded no_recording old dispatch).spans ≢ None → RecordsCall (spans_in spans old dispatch) (seen views.recorded no_recording old dispatch) (Enter s at before later) (seen views.recorded no_recording new dispatch)
-      → Enters (seen views.recorded no_recording old dispatch) s at before later (seen views.recorded no_recording new dispatch)
-  entry_told dispatch at before later s known told = told.is_known (knows_it s (seen views.recorded no_recording old dispatch).spans known)
+  entry_told : (at : ℕ) (before later : Lane) (s : ℕ) → told_at s (seen views.recorded no_recording parts.world parts.dispatch).spans ≢ None → RecordsCall (spans_in spans parts.world parts.dispatch) (seen views.recorded no_recording parts.world parts.dispatch) (Enter s at before later) (seen views.recorded no_recording new parts.dispatch)
+      → Enters (seen views.recorded no_recording parts.world parts.dispatch) s at before later (seen views.recorded no_recording new parts.dispatch)
+  entry_told at before later s known told = told.is_known (knows_it s (seen views.recorded no_recording parts.world parts.dispatch).spans known)
 
-  exit_told : (dispatch at : ℕ) (before later : Lane) (s : ℕ) → told_at s (seen views.recorded no_recording old dispatch).spans ≢ None → RecordsCall (spans_in spans old dispatch) (seen views.recorded no_recording old dispatch) (Exit s at before later) (seen views.recorded no_recording new dispatch)
-      → Exits (seen views.recorded no_recording old dispatch) s at before later (seen views.recorded no_recording new dispatch)
-  exit_told dispatch at before later s known told = told.is_known (knows_it s (seen views.recorded no_recording old dispatch).spans known)
+  exit_told : (at : ℕ) (before later : Lane) (s : ℕ) → told_at s (seen views.recorded no_recording parts.world parts.dispatch).spans ≢ None → RecordsCall (spans_in spans parts.world parts.dispatch) (seen views.recorded no_recording parts.world parts.dispatch) (Exit s at before later) (seen views.recorded no_recording new parts.dispatch)
+      → Exits (seen views.recorded no_recording parts.world parts.dispatch) s at before later (seen views.recorded no_recording new parts.dispatch)
+  exit_told at before later s known told = told.is_known (knows_it s (seen views.recorded no_recording parts.world parts.dispatch).spans known)
 
   -- over what the code has
-  module _ (does : S → SubscriberCall → S → Type 0) (law : Law spans views attaches kept is_whole does) (recalls : Recalls spans views attaches kept is_whole does)
-      (dispatch : ℕ) (opening : Texts) (lanes : List Lane) (hs : List (Option Handle)) (gs : List (Option Guard)) (cs : Named) (m at lane : ℕ) (before later : Lane) (within : lane < length lanes) (here : before ≡ get_or lanes lane before) where
+  module _ (does : S → SubscriberCall → S → Type 0) (law : CallsLaw spans views attaches kept is_whole does)
+      (at lane : ℕ) (before later : Lane) (within : lane < length parts.lanes) (here : before ≡ get_or parts.lanes lane before) where
     abbrev now : State
-    now = state_of spans views old dispatch opening lanes hs gs cs m
+    now = state_of spans views parts
 
     abbrev place_id : ℕ
     place_id = id_at now.setup.ids lane
 
     id_is : before.id ≡ place_id
-    id_is = id_seen lanes lane before within here
+    id_is = id_seen parts.lanes lane before within here
 
     abbrev r : Recording
-    r = seen views.recorded no_recording old dispatch
+    r = seen views.recorded no_recording parts.world parts.dispatch
 
     abbrev r' : Recording
-    r' = seen views.recorded no_recording new dispatch
+    r' = seen views.recorded no_recording new parts.dispatch
 
-    setup_after : new.sites ≡ old.sites → later.id ≡ before.id → later.name ≡ before.name → r'.settings ≡ r.settings → (state_of spans views new dispatch opening (set lanes lane later) hs gs cs at).setup ≡ now.setup
-    setup_after sites id name settings = rw (sites, ids_same lanes lane before later within here id, names_same lanes lane before later within here name, settings) refl
+    setup_after : new.sites ≡ parts.world.sites → later.id ≡ before.id → later.name ≡ before.name → r'.settings ≡ r.settings → (state_of spans views (record parts { world = new; lanes = set parts.lanes lane later; moment = at })).setup ≡ now.setup
+    setup_after sites id name settings = rw (sites, ids_same parts.lanes lane before later within here id, names_same parts.lanes lane before later within here name, settings) refl
+
+    abbrev parts_with : List (Option Guard) → Named → Parts S
+    parts_with gs' cs' = record parts { world = new; lanes = set parts.lanes lane later; guards = gs'; contexts = cs'; moment = at }
 
     abbrev then_with : List (Option Guard) → Named → State
-    then_with gs' cs' = state_of spans views new dispatch opening (set lanes lane later) hs gs' cs' at
+    then_with gs' cs' = state_of spans views (parts_with gs' cs')
 
     abbrev ls' : List Laned
-    ls' = map laned (set lanes lane later)
+    ls' = map laned (set parts.lanes lane later)
 
     abbrev lanes_of : Type 0
-    lanes_of = (n m : ℕ) → n < length (map laned lanes) → m < length (map laned lanes) → (lane_at (map laned lanes) n).id ≡ (lane_at (map laned lanes) m).id → n ≡ m
+    lanes_of = (n m : ℕ) → n < length (map laned parts.lanes) → m < length (map laned parts.lanes) → (lane_at (map laned parts.lanes) n).id ≡ (lane_at (map laned parts.lanes) m).id → n ≡ m
 
     -- what the filter hears of an entry and of an exit
-    entry_heard : (line : Scope) → ShownOn spans views attaches kept is_whole old new dispatch line (λ id. Enter id at before later)
-        → seen views.filtered None new dispatch ≡ option_map (λ f. fold hears f (heard_on line (λ s. HeardEnter s place_id))) (seen views.filtered None old dispatch)
-    entry_heard [] same = ap (λ (w : Worlds S). seen views.filtered None w dispatch) same ∙ heard_none (seen views.filtered None old dispatch)
-    entry_heard (s ∷ up) shown = shown.3 ∙ ap (λ (l : ℕ). option_map (λ (f : Filtered). hears f (HeardEnter s l)) (seen views.filtered None old dispatch)) id_is
+    entry_heard : (line : Scope) → ShownOn spans views attaches kept is_whole parts.world new parts.dispatch line (λ id. Enter id at before later)
+        → seen views.filtered None new parts.dispatch ≡ option_map (λ f. fold hears f (heard_on line (λ s. HeardEnter s place_id))) (seen views.filtered None parts.world parts.dispatch)
+    entry_heard [] same = ap (λ (w : Worlds S). seen views.filtered None w parts.dispatch) same ∙ heard_none (seen views.filtered None parts.world parts.dispatch)
+    entry_heard (s ∷ up) shown = shown.3 ∙ ap (λ (l : ℕ). option_map (λ (f : Filtered). hears f (HeardEnter s l)) (seen views.filtered None parts.world parts.dispatch)) id_is
 
-    exit_heard : (line : Scope) → ShownOn spans views attaches kept is_whole old new dispatch line (λ id. Exit id at before later)
-        → seen views.filtered None new dispatch ≡ option_map (λ f. fold hears f (heard_on line (λ s. HeardExit s place_id))) (seen views.filtered None old dispatch)
-    exit_heard [] same = ap (λ (w : Worlds S). seen views.filtered None w dispatch) same ∙ heard_none (seen views.filtered None old dispatch)
-    exit_heard (s ∷ up) shown = shown.3 ∙ ap (λ (l : ℕ). option_map (λ (f : Filtered). hears f (HeardExit s l)) (seen views.filtered None old dispatch)) id_is
+    exit_heard : (line : Scope) → ShownOn spans views attaches kept is_whole parts.world new parts.dispatch line (λ id. Exit id at before later)
+        → seen views.filtered None new parts.dispatch ≡ option_map (λ f. fold hears f (heard_on line (λ s. HeardExit s place_id))) (seen views.filtered None parts.world parts.dispatch)
+    exit_heard [] same = ap (λ (w : Worlds S). seen views.filtered None w parts.dispatch) same ∙ heard_none (seen views.filtered None parts.world parts.dispatch)
+    exit_heard (s ∷ up) shown = shown.3 ∙ ap (λ (l : ℕ). option_map (λ (f : Filtered). hears f (HeardExit s l)) (seen views.filtered None parts.world parts.dispatch)) id_is
 
     -- an exit, by the scope of its guard
     exited_record : (gs' : List (Option Guard)) (t : Tables) (guard : ℕ) (line : Scope) → RecordingFits now t → ((s : ℕ) (up : Scope) → line ≡ s ∷ up → 0 < (span_at now.spans.made s).holds) → lanes_of → later.id ≡ before.id → (line ≡ [] → later ≡ before)
-        → ShownOn spans views attaches kept is_whole old new dispatch line (λ id. Exit id at before later)
-        → (toks : List Token) × (r' ≡ record (recorded_by (length t.made) (exits now.setup at place_id guard line) r) { tokens = toks }) × AllFit (then_with gs' cs) (after t (exits now.setup at place_id guard line)).contexts
+        → ShownOn spans views attaches kept is_whole parts.world new parts.dispatch line (λ id. Exit id at before later)
+        → (toks : List Token) × (r' ≡ record (recorded_by (length t.made) (exit_effect (here_at now.setup t at lane) guard line) r) { tokens = toks }) × AllFit (then_with gs' parts.contexts) (after t (exit_effect (here_at now.setup t at lane) guard line)).contexts
     exited_record gs' t guard [] fit live differ same none shown =
-        let is = ap (λ (w : Worlds S). seen views.recorded no_recording w dispatch) shown in (
+        let is = ap (λ (w : Worlds S). seen views.recorded no_recording w parts.dispatch) shown in (
           r.tokens,
           is,
-          subst (λ (c : Recording). AllContextsFit c.settings.activation ls' c.tokens cs.attaches (after t (exits now.setup at place_id guard [])).contexts) (sym is)
-              (subst (λ (ls : List Laned). AllContextsFit r.settings.activation ls r.tokens cs.attaches (after t (exits now.setup at place_id guard [])).contexts) (sym (lanes_same lanes lane before later within here (ap laned (none refl))))
-              (subst (λ (o : Option ℕ). AllContextsFit r.settings.activation (map laned lanes) r.tokens cs.attaches (with_detached t.contexts place_id (option_map EntryOf o))) (sym (no_active r.settings.activation)) fit.attached)),
+          subst (λ (c : Recording). AllContextsFit c.settings.activation ls' c.tokens parts.contexts.attaches (after t (exit_effect (here_at now.setup t at lane) guard [])).contexts) (sym is)
+              (subst (λ (ls : List Laned). AllContextsFit r.settings.activation ls r.tokens parts.contexts.attaches (after t (exit_effect (here_at now.setup t at lane) guard [])).contexts) (sym (lanes_same parts.lanes lane before later within here (ap laned (none refl))))
+              (subst (λ (o : Option ℕ). AllContextsFit r.settings.activation (map laned parts.lanes) r.tokens parts.contexts.attaches (with_detached t.contexts place_id (option_map EntryOf o))) (sym (no_active r.settings.activation)) fit.attached)),
         )
     exited_record gs' t guard (s ∷ up) fit live differ same none shown =
-        let x = exit_told dispatch at before later s (fit.known s (live s up refl)) shown.2 in
+        let x = exit_told at before later s (fit.known s (live s up refl)) shown.2 in
         let toks = without_last (is_token before.id s) r.tokens in (
           toks,
           x.is,
-          subst (λ (c : Recording). AllContextsFit c.settings.activation ls' c.tokens cs.attaches (after t (exits now.setup at place_id guard (s ∷ up))).contexts) (sym x.is)
-              (subst (λ (l : ℕ). AllContextsFit r.settings.activation ls' toks cs.attaches (with_detached t.contexts l (option_map EntryOf (if r.settings.activation then Some s else None)))) id_is
-              (all_exited r.settings.activation lanes lane before later within here same differ r.tokens cs.attaches t.contexts fit.attached s x.token x.last x.lane)),
+          subst (λ (c : Recording). AllContextsFit c.settings.activation ls' c.tokens parts.contexts.attaches (after t (exit_effect (here_at now.setup t at lane) guard (s ∷ up))).contexts) (sym x.is)
+              (subst (λ (l : ℕ). AllContextsFit r.settings.activation ls' toks parts.contexts.attaches (with_detached t.contexts l (option_map EntryOf (if r.settings.activation then Some s else None)))) id_is
+              (all_exited r.settings.activation parts.lanes lane before later within here same differ r.tokens parts.contexts.attaches t.contexts fit.attached s x.token x.last x.lane)),
         )
 
     -- an entry, by the scope of its handle
     entered_record : (gs' : List (Option Guard)) (cs' : Named) (t : Tables) (handle : ℕ) (owns : Bool) (line : Scope) → RecordingFits now t → ((s : ℕ) (up : Scope) → line ≡ s ∷ up → 0 < (span_at now.spans.made s).holds) → lanes_of → later.id ≡ before.id → (line ≡ [] → later ≡ before)
-        → cs'.attaches ≡ cs.attaches ++ None ∷ [] → ShownOn spans views attaches kept is_whole old new dispatch line (λ id. Enter id at before later)
-        → (toks : List Token) × (r' ≡ record (recorded_by (length t.made) (enters now.setup t at lane handle owns line) r) { tokens = toks }) × AllFit (then_with gs' cs') (after t (enters now.setup t at lane handle owns line)).contexts
+        → cs'.attaches ≡ parts.contexts.attaches ++ None ∷ [] → ShownOn spans views attaches kept is_whole parts.world new parts.dispatch line (λ id. Enter id at before later)
+        → (toks : List Token) × (r' ≡ record (recorded_by (length t.made) (enter_effect (here_at now.setup t at lane) handle owns line) r) { tokens = toks }) × AllFit (then_with gs' cs') (after t (enter_effect (here_at now.setup t at lane) handle owns line)).contexts
     entered_record gs' cs' t handle owns [] fit live differ same none skip shown =
-        let is = ap (λ (w : Worlds S). seen views.recorded no_recording w dispatch) shown in
+        let is = ap (λ (w : Worlds S). seen views.recorded no_recording w parts.dispatch) shown in
         let nothing : (b : Bool) → recorded_by (length t.made) (record (quiet at place_id (reply.Guard 0)) { starts = option_to_list (active b []) }) r ≡ r = λ b. ap (λ (o : Option ℕ). recorded_by (length t.made) (record (quiet at place_id (reply.Guard 0)) { starts = option_to_list o }) r) (no_active b) in (
           r.tokens,
           is ∙ ap (λ (x : Recording). record x { tokens = r.tokens }) (sym (nothing r.settings.activation)),
-          subst (λ (ks : List (Option Attach)). AllContextsFit r'.settings.activation ls' r'.tokens ks (after t (enters now.setup t at lane handle owns [])).contexts) (sym skip)
-              (all_skipped r'.settings.activation ls' r'.tokens cs.attaches (after t (enters now.setup t at lane handle owns [])).contexts
-              (subst (λ (c : Recording). AllContextsFit c.settings.activation ls' c.tokens cs.attaches (after t (enters now.setup t at lane handle owns [])).contexts) (sym is)
-              (subst (λ (ls : List Laned). AllContextsFit r.settings.activation ls r.tokens cs.attaches (after t (enters now.setup t at lane handle owns [])).contexts) (sym (lanes_same lanes lane before later within here (ap laned (none refl))))
-              (subst (λ (o : Option ℕ). AllContextsFit r.settings.activation (map laned lanes) r.tokens cs.attaches (with_attached t.contexts place_id (attached_by t.recording at o))) (sym (no_active r.settings.activation)) fit.attached)))),
+          subst (λ (ks : List (Option Attach)). AllContextsFit r'.settings.activation ls' r'.tokens ks (after t (enter_effect (here_at now.setup t at lane) handle owns [])).contexts) (sym skip)
+              (all_skipped r'.settings.activation ls' r'.tokens parts.contexts.attaches (after t (enter_effect (here_at now.setup t at lane) handle owns [])).contexts
+              (subst (λ (c : Recording). AllContextsFit c.settings.activation ls' c.tokens parts.contexts.attaches (after t (enter_effect (here_at now.setup t at lane) handle owns [])).contexts) (sym is)
+              (subst (λ (ls : List Laned). AllContextsFit r.settings.activation ls r.tokens parts.contexts.attaches (after t (enter_effect (here_at now.setup t at lane) handle owns [])).contexts) (sym (lanes_same parts.lanes lane before later within here (ap laned (none refl))))
+              (subst (λ (o : Option ℕ). AllContextsFit r.settings.activation (map laned parts.lanes) r.tokens parts.contexts.attaches (with_attached t.contexts place_id (attached_by t.recording at o))) (sym (no_active r.settings.activation)) fit.attached)))),
         )
     entered_record gs' cs' t handle owns (s ∷ up) fit live differ same none skip shown =
-        let x = entry_told dispatch at before later s (fit.known s (live s up refl)) shown.2 in
+        let x = entry_told at before later s (fit.known s (live s up refl)) shown.2 in
         let b = r.settings.activation in
         let token : Token = record { lane = before.id; id = s; attached = x.attached } in
         let toks = r.tokens ++ token ∷ [] in
         let own = own_or empty_context (told_at s (with_starts (source_of b s) at r).spans) in
-        let rec_is : r' ≡ record (recorded_by (length t.made) (enters now.setup t at lane handle owns (s ∷ up)) r) { tokens = toks } =
+        let rec_is : r' ≡ record (recorded_by (length t.made) (enter_effect (here_at now.setup t at lane) handle owns (s ∷ up)) r) { tokens = toks } =
         x.is ∙ ap (λ (y : Recording). record (with_applied s at ops.Enter y) { tokens = y.tokens ++ token ∷ [] }) (sym (starts_fold (source_of b s) at r))
         ∙ ap (λ (ts : List Token). record (with_applied s at ops.Enter (fold (λ r s. with_start s at r) r (option_to_list (source_of b s)))) { tokens = ts ++ token ∷ [] }) (ap (λ (y : Recording). y.tokens) (starts_fold (source_of b s) at r) ∙ entry_tokens (source_of b s) at r) in
-        let settings : r'.settings ≡ r.settings = ap (λ (c : Recording). c.settings) rec_is ∙ recorded_settings (length t.made) (enters now.setup t at lane handle owns (s ∷ up)) r in
+        let settings : r'.settings ≡ r.settings = ap (λ (c : Recording). c.settings) rec_is ∙ recorded_settings (length t.made) (enter_effect (here_at now.setup t at lane) handle owns (s ∷ up)) r in
         let tokens : r'.tokens ≡ toks = ap (λ (c : Recording). c.tokens) rec_is in (
           toks,
           rec_is,
-          subst (λ (ks : List (Option Attach)). AllContextsFit r'.settings.activation ls' r'.tokens ks (after t (enters now.setup t at lane handle owns (s ∷ up))).contexts) (sym skip)
-              (subst (λ (ts : List Token). AllContextsFit r'.settings.activation ls' ts (cs.attaches ++ None ∷ []) (after t (enters now.setup t at lane handle owns (s ∷ up))).contexts) (sym tokens)
-              (subst (λ (c : LayerSettings). AllContextsFit c.activation ls' toks (cs.attaches ++ None ∷ []) (after t (enters now.setup t at lane handle owns (s ∷ up))).contexts) (sym settings)
-              (subst (λ (o : Option Attached). AllContextsFit b ls' toks (cs.attaches ++ None ∷ []) (with_attached t.contexts place_id o)) (attach_is b s at up r t.recording fit.recorded)
-              (subst (λ (l : ℕ). AllContextsFit b ls' toks (cs.attaches ++ None ∷ []) (with_attached t.contexts l (if b then Some (record { owner = EntryOf s; context = own }) else None))) id_is
-              (all_entered b lanes lane before later within here same differ r.tokens cs.attaches t.contexts fit.attached s own x.attached x.lane))))),
+          subst (λ (ks : List (Option Attach)). AllContextsFit r'.settings.activation ls' r'.tokens ks (after t (enter_effect (here_at now.setup t at lane) handle owns (s ∷ up))).contexts) (sym skip)
+              (subst (λ (ts : List Token). AllContextsFit r'.settings.activation ls' ts (parts.contexts.attaches ++ None ∷ []) (after t (enter_effect (here_at now.setup t at lane) handle owns (s ∷ up))).contexts) (sym tokens)
+              (subst (λ (c : LayerSettings). AllContextsFit c.activation ls' toks (parts.contexts.attaches ++ None ∷ []) (after t (enter_effect (here_at now.setup t at lane) handle owns (s ∷ up))).contexts) (sym settings)
+              (subst (λ (o : Option Attached). AllContextsFit b ls' toks (parts.contexts.attaches ++ None ∷ []) (with_attached t.contexts place_id o)) (attach_is b s at up r t.recording fit.recorded)
+              (subst (λ (l : ℕ). AllContextsFit b ls' toks (parts.contexts.attaches ++ None ∷ []) (with_attached t.contexts l (if b then Some (record { owner = EntryOf s; context = own }) else None))) id_is
+              (all_entered b parts.lanes lane before later within here same differ r.tokens parts.contexts.attaches t.contexts fit.attached s own x.attached x.lane))))),
         )
 
-    module _ (guard : ℕ) (g : Guard) (found : slot_at gs guard ≡ Some g) (on : g.lane ≡ lane) (gs' : List (Option Guard)) (one : gs' ≡ slice_set gs guard None) (h : Handle) (entry_is : g.entry ≡ h.held)
-        (did : ReplacedOn (λ id s t. does s (Exit id at before later) t) old new h.held) (none : h.held ≡ None → later ≡ before) (alone : is_shared_by gs g ≡ false) (inv : IsKept kept is_whole old now) where
+    module _ (guard : ℕ) (g : Guard) (found : slot_at parts.guards guard ≡ Some g) (on : g.lane ≡ lane) (gs' : List (Option Guard)) (one : gs' ≡ slice_set parts.guards guard None) (h : Handle) (entry_is : g.entry ≡ h.held)
+        (did : ReplacedOn (λ id s t. does s (Exit id at before later) t) parts.world new h.held) (none : h.held ≡ None → later ≡ before) (alone : is_shared_by parts.guards g ≡ false) (inv : IsKept spans views kept is_whole parts) where
+      abbrev exited_then_parts : Parts S
+      exited_then_parts = parts_with gs' parts.contexts
+
       abbrev exited_then : State
-      exited_then = then_with gs' cs
+      exited_then = then_with gs' parts.contexts
 
       pub serves_exited : (t : Tables) → StandsFor now t → Served (effect_of_call now.setup t at lane (call.Exit guard)) t now exited_then reply.Done
       serves_exited t stands =
           let fits = stands.fits in
-          let open_one = find (guard_of dispatch) gs t.guards guard g fits.guard_slots found in
+          let open_one = find (guard_of parts.dispatch) parts.guards t.guards guard g fits.guard_slots found in
           let x = open_one.at in
           let mine : x.lane ≡ lane = ap (λ (x : Guard). x.lane) (sym open_one.is) ∙ on in
-          let is : h.held ≡ held_of dispatch x.scope = sym entry_is ∙ ap (λ (x : Guard). x.entry) open_one.is in
-          let shown = shown_on spans views attaches kept is_whole does law recalls old new dispatch x.scope h.held is (λ id. Exit id at before later) did in
-          let none_at : x.scope ≡ [] → later ≡ before = λ e. none (is ∙ ap (held_of dispatch) e) in
-          let moved = call_lanes spans views attaches kept is_whole old new dispatch x.scope (λ id. Exit id at before later) before later (λ s b f g l. (l.0.id, l.0.name, l.1)) none_at shown in
-          let sites = call_sites spans views attaches kept is_whole old new dispatch x.scope (λ id. Exit id at before later) shown in
+          let is : h.held ≡ held_of parts.dispatch x.scope = sym entry_is ∙ ap (λ (x : Guard). x.entry) open_one.is in
+          let shown = shown_on spans views attaches kept is_whole does law parts.world new parts.dispatch x.scope h.held is (λ id. Exit id at before later) did in
+          let none_at : x.scope ≡ [] → later ≡ before = λ e. none (is ∙ ap (held_of parts.dispatch) e) in
+          let moved = call_lanes spans views attaches kept is_whole parts new x.scope (λ id. Exit id at before later) before later (λ s b f g l. (l.0.id, l.0.name, l.1)) none_at shown in
+          let sites = call_sites spans views attaches kept is_whole parts new x.scope (λ id. Exit id at before later) shown in
           let lane_is : place_id ≡ id_at now.setup.ids x.lane = ap (id_at now.setup.ids) (sym mine) in
-          let e : Effect = exits now.setup at place_id guard x.scope in
+          let e : Effect = exit_effect (here_at now.setup t at lane) guard x.scope in
           let live : (s : ℕ) (up : Scope) → x.scope ≡ s ∷ up → 0 < (span_at now.spans.made s).holds = λ s up e. fits_live now.spans (map named_by t.handles) (map (opened_by now.setup.ids) t.guards) t.entries fits.balanced x.handle s (named_slot t.handles x.handle x.scope (fits.still guard x open_one.there) ∙ ap own e) in
           let rec_is = exited_record gs' t guard x.scope stands.recording live inv.lanes.differ moved.0 none_at shown in
           let settings = ap (λ (c : Recording). c.settings) rec_is.1 ∙ recorded_settings (length t.made) e r in
           let setup = setup_after sites moved.0 moved.1 settings in
-          let step = exited_spans dispatch at (id_at now.setup.ids x.lane) before later x.scope (id_is ∙ lane_is) shown in
+          let step = exited_spans at (id_at now.setup.ids x.lane) before later x.scope (id_is ∙ lane_is) shown in
           serve now exited_then t e _ reply.Done stands
-          (ap (λ o. named what.Guard o (λ (y : Guarded). unless_shared (is_shared t.guards y) (exits_on y.lane lane (exits now.setup at place_id guard y.scope)))) open_one.there
-          ∙ cond-false {A = Resolved} (is_shared t.guards x) _ _ (sym (ap (λ (xs : List (Option Guard)). is_shared_by xs g) fits.guard_slots ∙ shared_is dispatch t.guards g x open_one.is) ∙ alone)
-          ∙ cond-true {A = Resolved} (x.lane == lane) _ _ (eq-eqb x.lane lane mine))
-          refl setup rec_is.0 rec_is.1 (fits_exited now exited_then t at guard x fits open_one.there step setup refl refl refl one refl refl place_id lane_is)
+          (ap (λ o. need what.Guard o >>= (λ (y : Guarded). refuse_if (is_shared t.guards y) refusal.InUse (refuse_if (not (y.lane == lane)) (refusal.WrongLane y.lane) (Ok (exit_effect (here_at now.setup t at lane) guard y.scope))))) open_one.there
+          ∙ cond-false {A = Resolved} (is_shared t.guards x) _ _ (sym (ap (λ (xs : List (Option Guard)). is_shared_by xs g) fits.guard_slots ∙ shared_is parts.dispatch t.guards g x open_one.is) ∙ alone)
+          ∙ cond-false {A = Resolved} (not (x.lane == lane)) _ _ (ap not (eq-eqb x.lane lane mine)))
+          refl setup rec_is.0 rec_is.1 (fits_exited now exited_then t at guard x fits open_one.there step setup refl refl refl one refl refl lane lane_is)
           (λ s some. known_still now exited_then t e rec_is.0 rec_is.1 stands.recording s refl (let a = exited_less now.spans x.scope (id_at now.setup.ids x.lane) s in let b = ap (λ (y : Spans). (span_at y.made s).holds) step in omega (arith, a, b, some)))
           rec_is.2
-          (record { quiet = refl; before = seen views.filtered None old dispatch; later = seen views.filtered None new dispatch; shown_before = refl; shown_later = refl; told = exit_heard x.scope shown; known = on_known x.scope (λ s. HeardExit s place_id) (length t.made) (λ s up e. ((subst (IsScope t.made) e (fits.scopes x.handle x.scope (fits.still guard x open_one.there))).0, refl)); cached = call_cached spans views attaches kept is_whole old new dispatch x.scope (λ id. Exit id at before later) shown; aside = record { before = aside_in views old dispatch; later = aside_in views new dispatch; shown_before = refl; shown_later = refl; waits_before = refl; waits_later = refl; adds = call_aside spans views attaches kept is_whole old new dispatch x.scope (λ id. Exit id at before later) (λ s. refl) shown } })
+          (record { quiet = refl; before = seen views.filtered None parts.world parts.dispatch; later = seen views.filtered None new parts.dispatch; shown_before = refl; shown_later = refl; told = exit_heard x.scope shown; known = on_known x.scope (λ s. HeardExit s place_id) (length t.made) (λ s up e. ((subst (IsScope t.made) e (fits.scopes x.handle x.scope (fits.still guard x open_one.there))).0, refl)); cached = call_cached spans views attaches kept is_whole parts new x.scope (λ id. Exit id at before later) shown; aside = record { before = aside_in views parts.world parts.dispatch; later = aside_in views new parts.dispatch; shown_before = refl; shown_later = refl; waits_before = refl; waits_later = refl; adds = call_aside spans views attaches kept is_whole parts new x.scope (λ id. Exit id at before later) (λ s. refl) shown } })
 
-      pub keeps_exited : IsKept kept is_whole new exited_then
+      pub keeps_exited : IsKept spans views kept is_whole exited_then_parts
       keeps_exited =
-          let open_one = find (guard_of dispatch) gs inv.tables.guards guard g inv.fits.guard_slots found in
+          let open_one = find (guard_of parts.dispatch) parts.guards inv.tables.guards guard g inv.stands.fits.guard_slots found in
           let x = open_one.at in
-          let is : h.held ≡ held_of dispatch x.scope = sym entry_is ∙ ap (λ (x : Guard). x.entry) open_one.is in
-          let shown = shown_on spans views attaches kept is_whole does law recalls old new dispatch x.scope h.held is (λ id. Exit id at before later) did in
-          let moved = call_lanes spans views attaches kept is_whole old new dispatch x.scope (λ id. Exit id at before later) before later (λ s b f g l. (l.0.id, l.0.name, l.1)) (λ e. none (is ∙ ap (held_of dispatch) e)) shown in
-          kept_served spans views attaches kept is_whole old new now exited_then inv _ _ (serves_exited inv.tables (record { fits = inv.fits; recording = inv.recording; filtering = inv.filtering })) refl (call_count spans views attaches kept is_whole old new dispatch x.scope (λ id. Exit id at before later) shown) (call_whole spans views attaches kept is_whole old new dispatch x.scope (λ id. Exit id at before later) shown)
-          (lanes_step _ _ lanes lane before later within here inv.lanes moved.0 moved.2)
+          let is : h.held ≡ held_of parts.dispatch x.scope = sym entry_is ∙ ap (λ (x : Guard). x.entry) open_one.is in
+          let shown = shown_on spans views attaches kept is_whole does law parts.world new parts.dispatch x.scope h.held is (λ id. Exit id at before later) did in
+          let moved = call_lanes spans views attaches kept is_whole parts new x.scope (λ id. Exit id at before later) before later (λ s b f g l. (l.0.id, l.0.name, l.1)) (λ e. none (is ∙ ap (held_of parts.dispatch) e)) shown in
+          kept_served spans views kept is_whole parts exited_then_parts inv _ _ (serves_exited inv.tables inv.stands) refl (call_count spans views attaches kept is_whole parts new x.scope (λ id. Exit id at before later) shown) (call_whole spans views attaches kept is_whole parts new x.scope (λ id. Exit id at before later) shown)
+          (lanes_step _ _ parts.lanes lane before later within here inv.lanes moved.0 moved.2)
 
-    module _ (handle number : ℕ) (owns : Bool) (h : Handle) (entry : Held) (gs' : List (Option Guard)) (found : slot_at hs handle ≡ Some h) (is : entry ≡ h.held) (many : number ≡ length gs) (one : gs' ≡ gs ++ Some (record { handle = handle; lane = lane; owns = owns; entry = entry }) ∷ [])
-        (cs' : Named) (named_same : cs'.made ≡ cs.made) (skip : cs'.attaches ≡ cs.attaches ++ None ∷ [])
-        (did : ReplacedOn (λ id s t. does s (Enter id at before later) t) old new h.held) (none : h.held ≡ None → later ≡ before) (inv : IsKept kept is_whole old now)
-        (free : (t : Tables) → StandsFor now t → (line : Scope) → slot_at t.handles handle ≡ Some line → h.held ≡ held_of dispatch line → meets_full now.setup.layer.activation line (t.contexts place_id) ≡ false) where
+    module _ (handle number : ℕ) (owns : Bool) (h : Handle) (entry : Held) (gs' : List (Option Guard)) (found : slot_at parts.handles handle ≡ Some h) (is : entry ≡ h.held) (many : number ≡ length parts.guards) (one : gs' ≡ parts.guards ++ Some (record { handle = handle; lane = lane; owns = owns; entry = entry }) ∷ [])
+        (cs' : Named) (named_same : cs'.made ≡ parts.contexts.made) (skip : cs'.attaches ≡ parts.contexts.attaches ++ None ∷ [])
+        (did : ReplacedOn (λ id s t. does s (Enter id at before later) t) parts.world new h.held) (none : h.held ≡ None → later ≡ before) (inv : IsKept spans views kept is_whole parts)
+        (free : (t : Tables) → StandsFor now t → (line : Scope) → slot_at t.handles handle ≡ Some line → h.held ≡ held_of parts.dispatch line → meets_full now.setup.layer.activation line (t.contexts place_id) ≡ false) where
+      abbrev entered_then_parts : Parts S
+      entered_then_parts = parts_with gs' cs'
+
       abbrev entered_then : State
       entered_then = then_with gs' cs'
 
-      pub serves_entered : (t : Tables) → StandsFor now t → Served (opens now.setup t at lane handle owns) t now entered_then (reply.Guard number)
+      pub serves_entered : (t : Tables) → StandsFor now t → Served (entry_call (here_at now.setup t at lane) handle owns) t now entered_then (reply.Guard number)
       serves_entered t stands =
           let fits = stands.fits in
-          let line = find (held_of dispatch) (map held_by hs) t.handles handle h.held fits.handle_slots (held_slot hs handle h found) in
-          let shown = shown_on spans views attaches kept is_whole does law recalls old new dispatch line.at h.held line.is (λ id. Enter id at before later) did in
-          let none_at : line.at ≡ [] → later ≡ before = λ e. none (line.is ∙ ap (held_of dispatch) e) in
-          let moved = call_lanes spans views attaches kept is_whole old new dispatch line.at (λ id. Enter id at before later) before later (λ s b f g l. (l.0.id, l.0.name, l.1)) none_at shown in
-          let sites = call_sites spans views attaches kept is_whole old new dispatch line.at (λ id. Enter id at before later) shown in
-          let guards_are : gs' ≡ gs ++ Some (guard_of dispatch (record { handle = handle; lane = lane; owns = owns; scope = line.at })) ∷ [] = one ∙ ap (λ (h : Held). gs ++ Some (record { handle = handle; lane = lane; owns = owns; entry = h }) ∷ []) (is ∙ line.is) in
-          let e : Effect = enters now.setup t at lane handle owns line.at in
+          let line = find (held_of parts.dispatch) (map held_by parts.handles) t.handles handle h.held fits.handle_slots (held_slot parts.handles handle h found) in
+          let shown = shown_on spans views attaches kept is_whole does law parts.world new parts.dispatch line.at h.held line.is (λ id. Enter id at before later) did in
+          let none_at : line.at ≡ [] → later ≡ before = λ e. none (line.is ∙ ap (held_of parts.dispatch) e) in
+          let moved = call_lanes spans views attaches kept is_whole parts new line.at (λ id. Enter id at before later) before later (λ s b f g l. (l.0.id, l.0.name, l.1)) none_at shown in
+          let sites = call_sites spans views attaches kept is_whole parts new line.at (λ id. Enter id at before later) shown in
+          let guards_are : gs' ≡ parts.guards ++ Some (guard_of parts.dispatch (record { handle = handle; lane = lane; owns = owns; scope = line.at })) ∷ [] = one ∙ ap (λ (h : Held). parts.guards ++ Some (record { handle = handle; lane = lane; owns = owns; entry = h }) ∷ []) (is ∙ line.is) in
+          let e : Effect = enter_effect (here_at now.setup t at lane) handle owns line.at in
           let live : (s : ℕ) (up : Scope) → line.at ≡ s ∷ up → 0 < (span_at now.spans.made s).holds = λ s up e. fits_live now.spans (map named_by t.handles) (map (opened_by now.setup.ids) t.guards) t.entries fits.balanced handle s (named_slot t.handles handle line.at line.there ∙ ap own e) in
           let rec_is = entered_record gs' cs' t handle owns line.at stands.recording live inv.lanes.differ moved.0 none_at skip shown in
           let settings = ap (λ (c : Recording). c.settings) rec_is.1 ∙ recorded_settings (length t.made) e r in
           let setup = setup_after sites moved.0 moved.1 settings in
-          let step = entered_spans dispatch at place_id before later line.at id_is shown in
+          let step = entered_spans at place_id before later line.at id_is shown in
           serve now entered_then t e _ (reply.Guard number) stands
-          (ap (λ o. named what.Handle o (λ line. enters_unless (meets_full now.setup.layer.activation line (t.contexts place_id)) lane (enters now.setup t at lane handle owns line))) line.there
+          (ap (λ o. need what.Handle o >>= (λ line. refuse_if (meets_full now.setup.layer.activation line (t.contexts place_id)) (refusal.Full lane) (Ok (enter_effect (here_at now.setup t at lane) handle owns line)))) line.there
           ∙ cond-false {A = Resolved} (meets_full now.setup.layer.activation line.at (t.contexts place_id)) _ _ (free t stands line.at line.there line.is))
-          (ap reply.Guard (many ∙ ap length fits.guard_slots ∙ length-map t.guards (option_map (guard_of dispatch))))
+          (ap reply.Guard (many ∙ ap length fits.guard_slots ∙ length-map t.guards (option_map (guard_of parts.dispatch))))
           setup rec_is.0 rec_is.1 (fits_entered now entered_then t at lane handle owns line.at fits line.there step setup refl refl refl guards_are named_same skip refl)
           (λ s some. known_still now entered_then t e rec_is.0 rec_is.1 stands.recording s refl (entered_live now.spans line.at place_id s live (subst (λ (y : Spans). 0 < (span_at y.made s).holds) step some)))
           rec_is.2
-          (record { quiet = refl; before = seen views.filtered None old dispatch; later = seen views.filtered None new dispatch; shown_before = refl; shown_later = refl; told = entry_heard line.at shown; known = on_known line.at (λ s. HeardEnter s place_id) (length t.made) (λ s up e. ((subst (IsScope t.made) e (fits.scopes handle line.at line.there)).0, refl)); cached = call_cached spans views attaches kept is_whole old new dispatch line.at (λ id. Enter id at before later) shown; aside = record { before = aside_in views old dispatch; later = aside_in views new dispatch; shown_before = refl; shown_later = refl; waits_before = refl; waits_later = refl; adds = call_aside spans views attaches kept is_whole old new dispatch line.at (λ id. Enter id at before later) (λ s. refl) shown } })
+          (record { quiet = refl; before = seen views.filtered None parts.world parts.dispatch; later = seen views.filtered None new parts.dispatch; shown_before = refl; shown_later = refl; told = entry_heard line.at shown; known = on_known line.at (λ s. HeardEnter s place_id) (length t.made) (λ s up e. ((subst (IsScope t.made) e (fits.scopes handle line.at line.there)).0, refl)); cached = call_cached spans views attaches kept is_whole parts new line.at (λ id. Enter id at before later) shown; aside = record { before = aside_in views parts.world parts.dispatch; later = aside_in views new parts.dispatch; shown_before = refl; shown_later = refl; waits_before = refl; waits_later = refl; adds = call_aside spans views attaches kept is_whole parts new line.at (λ id. Enter id at before later) (λ s. refl) shown } })
 
-      pub keeps_entered : IsKept kept is_whole new entered_then
+      pub keeps_entered : IsKept spans views kept is_whole entered_then_parts
       keeps_entered =
-          let line = find (held_of dispatch) (map held_by hs) inv.tables.handles handle h.held inv.fits.handle_slots (held_slot hs handle h found) in
-          let shown = shown_on spans views attaches kept is_whole does law recalls old new dispatch line.at h.held line.is (λ id. Enter id at before later) did in
-          let moved = call_lanes spans views attaches kept is_whole old new dispatch line.at (λ id. Enter id at before later) before later (λ s b f g l. (l.0.id, l.0.name, l.1)) (λ e. none (line.is ∙ ap (held_of dispatch) e)) shown in
-          kept_served spans views attaches kept is_whole old new now entered_then inv _ _ (serves_entered inv.tables (record { fits = inv.fits; recording = inv.recording; filtering = inv.filtering })) refl (call_count spans views attaches kept is_whole old new dispatch line.at (λ id. Enter id at before later) shown) (call_whole spans views attaches kept is_whole old new dispatch line.at (λ id. Enter id at before later) shown)
-          (lanes_step _ _ lanes lane before later within here inv.lanes moved.0 moved.2)
+          let line = find (held_of parts.dispatch) (map held_by parts.handles) inv.tables.handles handle h.held inv.stands.fits.handle_slots (held_slot parts.handles handle h found) in
+          let shown = shown_on spans views attaches kept is_whole does law parts.world new parts.dispatch line.at h.held line.is (λ id. Enter id at before later) did in
+          let moved = call_lanes spans views attaches kept is_whole parts new line.at (λ id. Enter id at before later) before later (λ s b f g l. (l.0.id, l.0.name, l.1)) (λ e. none (line.is ∙ ap (held_of parts.dispatch) e)) shown in
+          kept_served spans views kept is_whole parts entered_then_parts inv _ _ (serves_entered inv.tables inv.stands) refl (call_count spans views attaches kept is_whole parts new line.at (λ id. Enter id at before later) shown) (call_whole spans views attaches kept is_whole parts new line.at (λ id. Enter id at before later) shown)
+          (lanes_step _ _ parts.lanes lane before later within here inv.lanes moved.0 moved.2)
 
 -- an exit of a guard that owns its handle, which has another open guard
 pub refuses_shared : (k : State) (guard : ℕ) (g : Guard) → slot_at k.guards guard ≡ Some g → is_shared_by k.guards g ≡ true → (at lane : ℕ) (t : Tables) → StandsFor k t → effect_of_call k.setup t at lane (call.Exit guard) ≡ Err refusal.InUse
 refuses_shared k guard g found shared at lane t stands =
     let fits = stands.fits in
     let x = find (guard_of k.dispatch) k.guards t.guards guard g fits.guard_slots found in
-    ap (λ o. named what.Guard o (λ (y : Guarded). unless_shared (is_shared t.guards y) (exits_on y.lane lane (exits k.setup at (id_at k.setup.ids lane) guard y.scope)))) x.there
+    ap (λ o. need what.Guard o >>= (λ (y : Guarded). refuse_if (is_shared t.guards y) refusal.InUse (refuse_if (not (y.lane == lane)) (refusal.WrongLane y.lane) (Ok (exit_effect (here_at k.setup t at lane) guard y.scope))))) x.there
     ∙ cond-true {A = Resolved} (is_shared t.guards x.at) _ _ (sym (ap (λ (xs : List (Option Guard)). is_shared_by xs g) fits.guard_slots ∙ shared_is k.dispatch t.guards g x.at x.is) ∙ shared)
 
 abbrev wrong_lane : ℕ → Resolved
@@ -393,43 +405,48 @@ refuses_wrong_lane k guard g found alone at lane other t stands =
     let fits = stands.fits in
     let x = find (guard_of k.dispatch) k.guards t.guards guard g fits.guard_slots found in
     let lane_is : g.lane ≡ x.at.lane = ap (λ (y : Guard). y.lane) x.is in
-    ap (λ o. named what.Guard o (λ (y : Guarded). unless_shared (is_shared t.guards y) (exits_on y.lane lane (exits k.setup at (id_at k.setup.ids lane) guard y.scope)))) x.there
+    ap (λ o. need what.Guard o >>= (λ (y : Guarded). refuse_if (is_shared t.guards y) refusal.InUse (refuse_if (not (y.lane == lane)) (refusal.WrongLane y.lane) (Ok (exit_effect (here_at k.setup t at lane) guard y.scope))))) x.there
     ∙ cond-false {A = Resolved} (is_shared t.guards x.at) _ _ (sym (ap (λ (xs : List (Option Guard)). is_shared_by xs g) fits.guard_slots ∙ shared_is k.dispatch t.guards g x.at x.is) ∙ alone)
-    ∙ cond-false {A = Resolved} (x.at.lane == lane) _ _ (ne_eqb x.at.lane lane (λ e. other (lane_is ∙ e)))
+    ∙ cond-true {A = Resolved} (not (x.at.lane == lane)) _ _ (ap not (ne_eqb x.at.lane lane (λ e. other (lane_is ∙ e))))
     ∙ ap wrong_lane (sym lane_is)
 
 pub alone_at : (gs : List (Option Guard)) (n : ℕ) (a b : Guard) → slot_at gs n ≡ Some a → slot_at gs n ≡ Some b → is_shared_by gs a ≡ false → is_shared_by gs b ≡ false
 alone_at gs n a b one other alone = subst (λ (g : Guard). is_shared_by gs g ≡ false) (the_open a b (sym one ∙ other)) alone
 
 -- what is said of the fields is said of the value that they make
-pub by_view_opens : (at lane handle : ℕ) (owns : Bool) (next : State) (answer : Reply) (view k : State) → view ≡ k → ((t : Tables) → StandsFor view t → Served (opens view.setup t at lane handle owns) t view next answer)
-    → (t : Tables) → StandsFor k t → Served (opens k.setup t at lane handle owns) t k next answer
-by_view_opens at lane handle owns next answer view k is serves = subst (λ (x : State). (t : Tables) → StandsFor x t → Served (opens x.setup t at lane handle owns) t x next answer) is serves
+pub by_view_opens : (at lane handle : ℕ) (owns : Bool) (next : State) (answer : Reply) (view k : State) → view ≡ k → ((t : Tables) → StandsFor view t → Served (entry_call (here_at view.setup t at lane) handle owns) t view next answer)
+    → ServesResolved (λ t. entry_call (here_at k.setup t at lane) handle owns) false k (Ok answer) next
+by_view_opens at lane handle owns next answer view k is serves = record {
+  ok = subst (λ (x : State). (t : Tables) → StandsFor x t → Served (entry_call (here_at x.setup t at lane) handle owns) t x next answer) is serves;
+  refused = λ t stands. tt;
+  err = tt;
+  room = λ none wants. cc wants;
+}
 
 -- a guard that owns its handle, made where no other one is open
 pub entered_is : (k : State) (hs : List (Option Handle)) → k.handles ≡ map held_by hs → (handle : ℕ) (h : Handle) → slot_at hs handle ≡ Some h → (at lane : ℕ) (t : Tables) → StandsFor k t
-    → (is_named k.guards handle ≡ false → effect_of_call k.setup t at lane (call.Entered handle) ≡ opens k.setup t at lane handle true) × (is_named k.guards handle ≡ true → effect_of_call k.setup t at lane (call.Entered handle) ≡ Err refusal.InUse)
+    → (is_named k.guards handle ≡ false → effect_of_call k.setup t at lane (call.Entered handle) ≡ entry_call (here_at k.setup t at lane) handle true) × (is_named k.guards handle ≡ true → effect_of_call k.setup t at lane (call.Entered handle) ≡ Err refusal.InUse)
 entered_is k hs are handle h found at lane t stands =
     let fits = stands.fits in
     let line = find (held_of k.dispatch) (map held_by hs) t.handles handle h.held (sym are ∙ fits.handle_slots) (held_slot hs handle h found) in
     let named_is : is_named k.guards handle ≡ is_borrowed t.guards handle = ap (λ (xs : List (Option Guard)). is_named xs handle) fits.guard_slots ∙ borrowed_is k.dispatch t.guards handle in
-    let there = ap (λ o. named what.Handle o (λ (scope : Scope). if is_borrowed t.guards handle then Err refusal.InUse else opens k.setup t at lane handle true)) line.there in (
+    let there = ap (λ o. need what.Handle o >>= (λ (scope : Scope). refuse_if (is_borrowed t.guards handle) refusal.InUse (entry_call (here_at k.setup t at lane) handle true))) line.there in (
       λ free. there ∙ cond-false {A = Resolved} (is_borrowed t.guards handle) _ _ (sym named_is ∙ free),
       λ used. there ∙ cond-true {A = Resolved} (is_borrowed t.guards handle) _ _ (sym named_is ∙ used),
     )
 
 pub entered_ok : (view k : State) → view ≡ k → (hs : List (Option Handle)) → view.handles ≡ map held_by hs → (handle : ℕ) (h : Handle) → slot_at hs handle ≡ Some h → is_named view.guards handle ≡ false → (at lane : ℕ) (result : Result Reply Refusal) (next : State)
-    → ((t : Tables) → StandsFor k t → IfOk result (Served (opens k.setup t at lane handle true) t k next)) → (t : Tables) → StandsFor k t → IfOk result (Served (effect_of_call k.setup t at lane (call.Entered handle)) t k next)
+    → ((t : Tables) → StandsFor k t → IfOk result (Served (entry_call (here_at k.setup t at lane) handle true) t k next)) → (t : Tables) → StandsFor k t → IfOk result (Served (effect_of_call k.setup t at lane (call.Entered handle)) t k next)
 entered_ok view k same hs are handle h found free at lane result next did t stands =
     let is = (entered_is k hs (ap (λ (x : State). x.handles) (sym same) ∙ are) handle h found at lane t stands).0 (ap (λ (x : State). is_named x.guards handle) (sym same) ∙ free) in
     subst (λ (r : Resolved). IfOk result (Served r t k next)) (sym is) (did t stands)
 
 pub entered_refused : (view k : State) → view ≡ k → (hs : List (Option Handle)) → view.handles ≡ map held_by hs → (handle : ℕ) (h : Handle) → slot_at hs handle ≡ Some h → is_named view.guards handle ≡ false → (at lane : ℕ) (result : Result Reply Refusal)
-    → ((t : Tables) → StandsFor k t → IfErr result (IsRefusal (opens k.setup t at lane handle true))) → (t : Tables) → StandsFor k t → IfErr result (IsRefusal (effect_of_call k.setup t at lane (call.Entered handle)))
+    → ((t : Tables) → StandsFor k t → IfErr result (IsRefusal (entry_call (here_at k.setup t at lane) handle true))) → (t : Tables) → StandsFor k t → IfErr result (IsRefusal (effect_of_call k.setup t at lane (call.Entered handle)))
 entered_refused view k same hs are handle h found free at lane result did t stands =
     let is = (entered_is k hs (ap (λ (x : State). x.handles) (sym same) ∙ are) handle h found at lane t stands).0 (ap (λ (x : State). is_named x.guards handle) (sym same) ∙ free) in
     subst (λ (r : Resolved). IfErr result (IsRefusal r)) (sym is) (did t stands)
 
-pub by_view_opens_refused : (at lane handle : ℕ) (owns : Bool) (given : Refusal) (view k : State) → view ≡ k → ((t : Tables) → StandsFor view t → opens view.setup t at lane handle owns ≡ Err given)
-    → (t : Tables) → StandsFor k t → opens k.setup t at lane handle owns ≡ Err given
-by_view_opens_refused at lane handle owns given view k is refuses = subst (λ (x : State). (t : Tables) → StandsFor x t → opens x.setup t at lane handle owns ≡ Err given) is refuses
+pub by_view_opens_refused : (at lane handle : ℕ) (owns : Bool) (given : Refusal) (view k : State) → view ≡ k → ((t : Tables) → StandsFor view t → entry_call (here_at view.setup t at lane) handle owns ≡ Err given)
+    → (t : Tables) → StandsFor k t → entry_call (here_at k.setup t at lane) handle owns ≡ Err given
+by_view_opens_refused at lane handle owns given view k is refuses = subst (λ (x : State). (t : Tables) → StandsFor x t → entry_call (here_at x.setup t at lane) handle owns ≡ Err given) is refuses

@@ -1,6 +1,6 @@
 -- An entry on a lane with as many contexts as may be.
 use Rattle.std.specs.Prelude.{◌&&◌, ◌||◌, ◌≢◌}
-use Rattle.std.proofs.Common.{◌≡◌, ℕ, ◌<◌, List, [], ◌∷◌, length, get_or, Bool, true, false, Option, Some, None, Err, map, refl, sym, ap, subst, ◌∙◌, arith, inl, inr, slice_get}
+use Rattle.std.proofs.Common.{◌≡◌, ℕ, ◌<◌, List, [], ◌∷◌, length, get_or, Bool, true, false, Option, Some, None, Err, map, refl, sym, ap, subst, ◌∙◌, arith, inl, inr, slice_get, Ok}
 use Rattle.std.proofs.lemmas.Bool.{cases_Bool, eq-eqb, eqb-true, cond-true, true≢false}
 use Rattle.std.proofs.lemmas.List.{length-map}
 use Rattle.otel_base.specs.declared.stack.TheConstants.{MOST}
@@ -11,20 +11,19 @@ use Rattle.otel_state.specs.States.{Told}
 use Rattle.otel_layer.specs.Table.{told_at, knows_span}
 use Rattle.otel_layer.specs.Recording.{Recording, no_recording}
 use Rattle.trace_base.specs.declared.lane.Lane.{Lane}
-use Rattle.trace_base.specs.Gate.{Worlds}
 use Rattle.trace_base.specs.Spans.{Spans}
 use Rattle.span_handles.specs.Handles.{Handle, Held}
 use Rattle.span_handles.specs.Entries.{MeetsFullLane}
-use Rattle.span_script.specs.declared.slots.Guard.{Guard}
+use Rattle.span_script.specs.declared.reply.Refusal.TheVariants as refusal
 use Rattle.span_script.specs.declared.reply.Refusal.{Refusal}
 use Rattle.span_script.specs.declared.reply.What.TheVariants as what
-use Rattle.span_script.specs.declared.settings.Texts.{Texts}
 use Rattle.span_script.specs.Setups.{id_at}
 use Rattle.span_script.specs.Balance.{named_by, opened_by}
 use Rattle.span_script.specs.Tables.{Scope, Attached, Tables, slot_at}
-use Rattle.span_script.specs.Effects.{Resolved, named, meets_full, enters, enters_unless, opens}
-use Rattle.span_script.specs.Refusals.{refused_entry}
-use Rattle.span_script.specs.Fits.{Views, Named, State, state_of, Laned, laned, lane_at, StandsFor, IsKept, is_room, held_by, held_of}
+use Rattle.span_script.specs.calls.Here.{here_at, Resolved, refuse_if, ◌>>=◌, need}
+use Rattle.span_script.specs.calls.Entries.{meets_full, enter_effect, entry_call}
+use Rattle.span_script.specs.calls.Refusals.{refused_entry}
+use Rattle.span_script.specs.Fits.{Views, State, state_of, Laned, laned, lane_at, StandsFor, IsKept, is_room, held_by, held_of, Parts}
 use Rattle.span_script.proofs.steps.BalanceLemmas.{named_slot}
 use Rattle.span_script.proofs.entries.EntriesFitLemmas.{fits_live}
 use Rattle.span_script.proofs.steps.LanesLemmas.{lane_seen, id_seen}
@@ -55,11 +54,11 @@ meets_made : (b : Bool) (s : ℕ) (up : Scope) (items : List Attached) → b ≡
 meets_made true s up items on many = eq-eqb (length items) MOST many
 meets_made false s up items on many = absurd (true≢false (sym on))
 
-module _ {S : Type 0} (spans : S → Spans) (views : Views S) (activates : S → ℕ → Bool) (kept : S → ℕ → ℕ → ℕ) (is_whole : S → Type 0) (acts : Activates views activates) (old : Worlds S)
-    (dispatch : ℕ) (opening : Texts) (lanes : List Lane) (hs : List (Option Handle)) (gs : List (Option Guard)) (cs : Named) (m at lane : ℕ) (before : Lane) (within : lane < length lanes) (here : before ≡ get_or lanes lane before)
-    (handle : ℕ) (h : Handle) (found : slot_at hs handle ≡ Some h) (inv : IsKept kept is_whole old (state_of spans views old dispatch opening lanes hs gs cs m)) where
+module _ {S : Type 0} (spans : S → Spans) (views : Views S) (activates : S → ℕ → Bool) (kept : S → ℕ → ℕ → ℕ) (is_whole : S → Type 0) (acts : Activates views activates) (parts : Parts S)
+    (at lane : ℕ) (before : Lane) (within : lane < length parts.lanes) (here : before ≡ get_or parts.lanes lane before)
+    (handle : ℕ) (h : Handle) (found : slot_at parts.handles handle ≡ Some h) (inv : IsKept spans views kept is_whole parts) where
   abbrev now : State
-  now = state_of spans views old dispatch opening lanes hs gs cs m
+  now = state_of spans views parts
 
   abbrev place_id : ℕ
   place_id = id_at now.setup.ids lane
@@ -67,48 +66,48 @@ module _ {S : Type 0} (spans : S → Spans) (views : Views S) (activates : S →
   -- as many contexts are live as the history attached
   lives : (t : Tables) → StandsFor now t → length before.contexts.live ≡ length (t.contexts place_id)
   lives t stands =
-      let seen_at = lane_seen lanes lane before within here in
-      let fit = stands.recording.attached lane (let l = length-map lanes laned in omega (arith, within, l)) in
-      let mine : (lane_at now.lanes lane).id ≡ place_id = ap (λ (l : Laned). l.id) seen_at ∙ id_seen lanes lane before within here in
+      let seen_at = lane_seen parts.lanes lane before within here in
+      let fit = stands.recording.attached lane (let l = length-map parts.lanes laned in omega (arith, within, l)) in
+      let mine : (lane_at now.lanes lane).id ≡ place_id = ap (λ (l : Laned). l.id) seen_at ∙ id_seen parts.lanes lane before within here in
       ap (λ (l : Laned). length l.live) (sym seen_at) ∙ sym (length-map (lane_at now.lanes lane).live (λ (x : ℕ × Context). x.1)) ∙ ap length fit.contexts
       ∙ length-map (t.contexts (lane_at now.lanes lane).id) (λ (a : Attached). a.context) ∙ ap (λ (n : ℕ). length (t.contexts n)) mine
 
   -- the subscriber attaches for an open span where the setup activates
-  acts_here : (t : Tables) → StandsFor now t → (s : ℕ) (up : Scope) → slot_at t.handles handle ≡ Some (s ∷ up) → (x : S) → slice_get old.subscribers dispatch ≡ Some x → activates x s ≡ now.setup.layer.activation
+  acts_here : (t : Tables) → StandsFor now t → (s : ℕ) (up : Scope) → slot_at t.handles handle ≡ Some (s ∷ up) → (x : S) → slice_get parts.world.subscribers parts.dispatch ≡ Some x → activates x s ≡ now.setup.layer.activation
   acts_here t stands s up there x is =
       let live = fits_live now.spans (map named_by t.handles) (map (opened_by now.setup.ids) t.guards) t.entries stands.fits.balanced handle s (named_slot t.handles handle (s ∷ up) there) in
-      let same = seen_there views.recorded no_recording old dispatch x is in
+      let same = seen_there views.recorded no_recording parts.world parts.dispatch x is in
       acts x s (λ none. stands.recording.known s live (ap (λ (r : Recording). told_at s r.spans) same ∙ none)) ∙ ap (λ (r : Recording). r.settings.activation) (sym same)
 
-  meets_of : (t : Tables) → StandsFor now t → (line : Scope) → slot_at t.handles handle ≡ Some line → MeetsFullLane activates old before (held_of dispatch line) → meets_full now.setup.layer.activation line (t.contexts place_id) ≡ true
+  meets_of : (t : Tables) → StandsFor now t → (line : Scope) → slot_at t.handles handle ≡ Some line → MeetsFullLane activates parts.world before (held_of parts.dispatch line) → meets_full now.setup.layer.activation line (t.contexts place_id) ≡ true
   meets_of t stands [] there meets = absurd meets
   meets_of t stands (s ∷ up) there meets =
-      let x = within_get old.subscribers dispatch inv.there in
+      let x = within_get parts.world.subscribers parts.dispatch inv.there in
       meets_made now.setup.layer.activation s up (t.contexts place_id) (sym (acts_here t stands s up there x.0 x.1) ∙ meets.0 x.0 x.1) (sym (lives t stands) ∙ meets.1)
 
-  meets_by : (t : Tables) → StandsFor now t → (line : Scope) → slot_at t.handles handle ≡ Some line → meets_full now.setup.layer.activation line (t.contexts place_id) ≡ true → MeetsFullLane activates old before (held_of dispatch line)
+  meets_by : (t : Tables) → StandsFor now t → (line : Scope) → slot_at t.handles handle ≡ Some line → meets_full now.setup.layer.activation line (t.contexts place_id) ≡ true → MeetsFullLane activates parts.world before (held_of parts.dispatch line)
   meets_by t stands [] there full = absurd (true≢false (sym full ∙ meets_none now.setup.layer.activation (t.contexts place_id)))
   meets_by t stands (s ∷ up) there full =
-      let parts = meets_parts now.setup.layer.activation s up (t.contexts place_id) full in
-      (λ x is. acts_here t stands s up there x is ∙ parts.0, lives t stands ∙ parts.1)
+      let both = meets_parts now.setup.layer.activation s up (t.contexts place_id) full in
+      (λ x is. acts_here t stands s up there x is ∙ both.0, lives t stands ∙ both.1)
 
   -- so an entry that isn't refused doesn't meet a full lane
-  pub meets_not : (t : Tables) → StandsFor now t → (line : Scope) → slot_at t.handles handle ≡ Some line → h.held ≡ held_of dispatch line → (MeetsFullLane activates old before h.held → ⊥) → meets_full now.setup.layer.activation line (t.contexts place_id) ≡ false
+  pub meets_not : (t : Tables) → StandsFor now t → (line : Scope) → slot_at t.handles handle ≡ Some line → h.held ≡ held_of parts.dispatch line → (MeetsFullLane activates parts.world before h.held → ⊥) → meets_full now.setup.layer.activation line (t.contexts place_id) ≡ false
   meets_not t stands line there is not = elim (cases_Bool (meets_full now.setup.layer.activation line (t.contexts place_id))) [
-    | inl full ↦ absurd (not (subst (λ (x : Held). MeetsFullLane activates old before x) (sym is) (meets_by t stands line there full)))
+    | inl full ↦ absurd (not (subst (λ (x : Held). MeetsFullLane activates parts.world before x) (sym is) (meets_by t stands line there full)))
     | inr free ↦ free
   ]
 
   -- and one that is refused so does
-  pub meets_full_of : (t : Tables) → StandsFor now t → (line : Scope) → slot_at t.handles handle ≡ Some line → h.held ≡ held_of dispatch line → MeetsFullLane activates old before h.held → meets_full now.setup.layer.activation line (t.contexts place_id) ≡ true
-  meets_full_of t stands line there is meets = meets_of t stands line there (subst (λ (x : Held). MeetsFullLane activates old before x) is meets)
+  pub meets_full_of : (t : Tables) → StandsFor now t → (line : Scope) → slot_at t.handles handle ≡ Some line → h.held ≡ held_of parts.dispatch line → MeetsFullLane activates parts.world before h.held → meets_full now.setup.layer.activation line (t.contexts place_id) ≡ true
+  meets_full_of t stands line there is meets = meets_of t stands line there (subst (λ (x : Held). MeetsFullLane activates parts.world before x) is meets)
 
-  pub refuses_entry : (owns : Bool) (error : EnterError) (given : Refusal) → given ≡ refused_entry lane error → (error ≡ errors.Full → MeetsFullLane activates old before h.held) → is_room given ≡ false → (t : Tables) → StandsFor now t → opens now.setup t at lane handle owns ≡ Err given
+  pub refuses_entry : (owns : Bool) (error : EnterError) (given : Refusal) → given ≡ refused_entry lane error → (error ≡ errors.Full → MeetsFullLane activates parts.world before h.held) → is_room given ≡ false → (t : Tables) → StandsFor now t → entry_call (here_at now.setup t at lane) handle owns ≡ Err given
   refuses_entry owns errors.Memory given is full other t stands = absurd (true≢false (sym (ap is_room is) ∙ other))
   refuses_entry owns errors.Full given is full other t stands =
-      let line = find (held_of dispatch) (map held_by hs) t.handles handle h.held stands.fits.handle_slots (held_slot hs handle h found) in
+      let line = find (held_of parts.dispatch) (map held_by parts.handles) t.handles handle h.held stands.fits.handle_slots (held_slot parts.handles handle h found) in
       let meets = meets_full_of t stands line.at line.there line.is (full refl) in
-      ap (λ o. named what.Handle o (λ line. enters_unless (meets_full now.setup.layer.activation line (t.contexts place_id)) lane (enters now.setup t at lane handle owns line))) line.there
+      ap (λ o. need what.Handle o >>= (λ line. refuse_if (meets_full now.setup.layer.activation line (t.contexts place_id)) (refusal.Full lane) (Ok (enter_effect (here_at now.setup t at lane) handle owns line)))) line.there
       ∙ cond-true {A = Resolved} (meets_full now.setup.layer.activation line.at (t.contexts place_id)) _ _ meets ∙ ap (λ (x : Refusal). Err x) (sym is)
 
 -- a filter over a stack attaches nothing

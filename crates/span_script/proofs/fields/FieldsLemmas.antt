@@ -4,7 +4,6 @@ use Rattle.std.specs.List.{list_all, cons_option}
 use Rattle.std.proofs.lemmas.Bool.{cond-true, cond-false, true≢false}
 use Rattle.std.proofs.Common.{◌≡◌, ℕ, suc, ◌<◌, ◌≤◌, List, [], ◌∷◌, length, Bool, true, false, Option, Some, None, Ok, Err, option_map, map, refl, sym, ap, subst, ◌∙◌, arith}
 use Rattle.otel_layer.specs.Recording.{Recording, no_recording}
-use Rattle.trace_base.specs.declared.lane.Lane.{Lane}
 use Rattle.trace_base.specs.declared.callsite.Callsite.{Callsite}
 use Rattle.trace_base.specs.declared.field.Field.{Field}
 use Rattle.trace_base.specs.declared.field.ValueSet.{ValueSet}
@@ -14,31 +13,31 @@ use Rattle.trace_base.specs.Gate.{Worlds}
 use Rattle.trace_base.specs.Spans.{Spans}
 use Rattle.trace_base.specs.Calls.{SubscriberCall}
 use Rattle.span_handles.specs.Worlds.{seen}
-use Rattle.span_handles.specs.Handles.{Handle, Held, IsSite, RecordsAt, RecordsOn, callsite_in, field_at, field_in}
-use Rattle.span_script.specs.declared.slots.Guard.{Guard}
+use Rattle.span_handles.specs.Handles.{Handle, Held, IsSite, RecordsAt, RecordsOn, callsite_in, field_at, field_in, place_under}
 use Rattle.span_script.specs.declared.reply.Reply.TheVariants as reply
 use Rattle.span_script.specs.declared.reply.Refusal.TheVariants as refusal
 use Rattle.span_script.specs.declared.reply.What.TheVariants as what
 use Rattle.span_script.specs.declared.request.Call.TheVariants as call
 use Rattle.span_script.specs.declared.request.Place.{Place}
-use Rattle.span_script.specs.declared.settings.Texts.{Texts}
 use Rattle.span_script.specs.Setups.{id_at, span_site, event_site}
 use Rattle.span_script.specs.Tables.{Scope, Tables, slot_at, site_of}
 use Rattle.span_script.specs.Fields.{Fields, placed, declares, declared_by, all_values, values_of, values_by}
-use Rattle.span_script.specs.Effects.{named, effect_of_call, scope_at, makes, tells, events, updates, heard_values, records, callsite_of}
+use Rattle.span_script.specs.calls.Here.{here_at, ◌>>=◌, need, ops_effect}
+use Rattle.span_script.specs.Effects.{effect_of_call}
+use Rattle.span_script.specs.calls.Events.{event_effect}
+use Rattle.span_script.specs.calls.Fields.{update_ops, heard_values, record_effect, callsite_of}
+use Rattle.span_script.specs.calls.Spans.{scope_at, new_effect}
 use Rattle.span_script.specs.Slots.{place_for}
-use Rattle.span_script.specs.Fits.{Views, Named, State, state_of, Fits, StandsFor, IsScope, IsKept, Served, held_by, held_of}
+use Rattle.span_script.specs.Fits.{Views, State, state_of, Fits, StandsFor, IsScope, IsKept, Served, held_by, held_of, Parts}
 use Rattle.span_script.proofs.steps.SlotsLemmas.{Found, find, held_slot}
 use Rattle.span_script.proofs.spans.MoreHandlesLemmas.{find_up}
 use Rattle.span_script.proofs.spans.SitesLemmas.{site_found, the_callsite}
-use Rattle.span_script.proofs.steps.CallsLemmas.{Law, Recalls}
 use Rattle.span_script.proofs.filter.FilterLemmas.{AreKnown}
-use Rattle.span_script.proofs.events.EventsLemmas.{Does, does_none, serves_ops, keeps_ops}
+use Rattle.span_script.proofs.events.EventsLemmas.{Does, does_none, serves_ops, keeps_ops, site_is as event_is}
 use Rattle.span_script.proofs.spans.MakingsLemmas.{site_is}
-use Rattle.span_script.proofs.events.EventsLemmas.{site_is as event_is}
 use Rattle.std.proofs.Math.ListN.{get_or-map}
-use Rattle.span_handles.specs.Handles.{place_under}
 use Rattle.span_script.specs.declared.request.Place.TheVariants as place
+use Rattle.span_script.specs.SubscriberLaws.{CallsLaw}
 
 -- ---- places that aren't there
 
@@ -58,8 +57,8 @@ refuses_place k t fits at lane site under fields spanned gone = by_site (span_si
     by_site : (o : Option Callsite) → span_site k.setup.sites site ≡ o → is_some o ≡ true → effect_of_call k.setup t at lane (call.New site under fields) ≡ Err (refusal.UnknownName what.Handle)
     by_site None is e = absurd (true≢false (sym e))
     by_site (Some c) is e =
-        ap (λ o. named what.Site o (λ c. named what.Handle (scope_at t (id_at k.setup.ids lane) under) (λ up. named what.Field (all_values c fields) (λ v. Ok (makes k.setup t at lane site c v under up))))) is
-        ∙ ap (λ o. named what.Handle o (λ up. named what.Field (all_values c fields) (λ v. Ok (makes k.setup t at lane site c v under up)))) (no_scope k t fits (id_at k.setup.ids lane) under gone)
+        ap (λ o. need what.Site o >>= (λ c. need what.Handle (scope_at t (id_at k.setup.ids lane) under) >>= (λ up. need what.Field (all_values c fields) >>= (λ v. Ok (new_effect (here_at k.setup t at lane) site c v under up))))) is
+        ∙ ap (λ o. need what.Handle o >>= (λ up. need what.Field (all_values c fields) >>= (λ v. Ok (new_effect (here_at k.setup t at lane) site c v under up)))) (no_scope k t fits (id_at k.setup.ids lane) under gone)
 
 -- ---- fields that aren't declared
 
@@ -75,9 +74,9 @@ module _ (k : State) (t : Tables) (fits : Fits k t) (at lane site found_site : �
           let id = id_at k.setup.ids lane in
           let up = find_up k t fits id under p found in
           let c_is = the_callsite given c (sym given_is ∙ ap (λ (n : ℕ). slice_get k.setup.sites n) same ∙ site_is k.setup.sites site c is) in
-          ap (λ o. named what.Site o (λ c. named what.Handle (scope_at t id under) (λ up. named what.Field (all_values c fields) (λ v. Ok (makes k.setup t at lane site c v under up))))) is
-          ∙ ap (λ o. named what.Handle o (λ up. named what.Field (all_values c fields) (λ v. Ok (makes k.setup t at lane site c v under up)))) up.is
-          ∙ ap (λ o. named what.Field o (λ v. Ok (makes k.setup t at lane site c v under up.up))) (ap (λ (x : Callsite). all_values x fields) (sym c_is) ∙ none)
+          ap (λ o. need what.Site o >>= (λ c. need what.Handle (scope_at t id under) >>= (λ up. need what.Field (all_values c fields) >>= (λ v. Ok (new_effect (here_at k.setup t at lane) site c v under up))))) is
+          ∙ ap (λ o. need what.Handle o >>= (λ up. need what.Field (all_values c fields) >>= (λ v. Ok (new_effect (here_at k.setup t at lane) site c v under up)))) up.is
+          ∙ ap (λ o. need what.Field o >>= (λ v. Ok (new_effect (here_at k.setup t at lane) site c v under up.up))) (ap (λ (x : Callsite). all_values x fields) (sym c_is) ∙ none)
 
   pub refuses_event : is_some (event_site k.setup.sites site) ≡ true → effect_of_call k.setup t at lane (call.Event site under fields) ≡ Err (refusal.UnknownName what.Field)
   refuses_event evented = by_site (event_site k.setup.sites site) refl evented
@@ -88,9 +87,9 @@ module _ (k : State) (t : Tables) (fits : Fits k t) (at lane site found_site : �
           let id = id_at k.setup.ids lane in
           let up = find_up k t fits id under p found in
           let c_is = the_callsite given c (sym given_is ∙ ap (λ (n : ℕ). slice_get k.setup.sites n) same ∙ event_is k.setup.sites site c is) in
-          ap (λ o. named what.Site o (λ c. named what.Handle (scope_at t id under) (λ reached. named what.Field (all_values c fields) (λ v. Ok (events k.setup t at id c v reached))))) is
-          ∙ ap (λ o. named what.Handle o (λ reached. named what.Field (all_values c fields) (λ v. Ok (events k.setup t at id c v reached)))) up.is
-          ∙ ap (λ o. named what.Field o (λ v. Ok (events k.setup t at id c v up.up))) (ap (λ (x : Callsite). all_values x fields) (sym c_is) ∙ none)
+          ap (λ o. need what.Site o >>= (λ c. need what.Handle (scope_at t id under) >>= (λ reached. need what.Field (all_values c fields) >>= (λ v. Ok (event_effect (here_at k.setup t at lane) c v reached))))) is
+          ∙ ap (λ o. need what.Handle o >>= (λ reached. need what.Field (all_values c fields) >>= (λ v. Ok (event_effect (here_at k.setup t at lane) c v reached)))) up.is
+          ∙ ap (λ o. need what.Field o >>= (λ v. Ok (event_effect (here_at k.setup t at lane) c v up.up))) (ap (λ (x : Callsite). all_values x fields) (sym c_is) ∙ none)
 
 -- values are fewer than the fields exactly where one of these isn't declared
 module _ (c : Callsite) where
@@ -147,88 +146,89 @@ has_in : {S : Type 0} (world : Worlds S) (name : List ℕ) (site : Option ℕ) �
 has_in world name None = refl
 has_in world name (Some site) = has_at name site (slice_get world.sites site)
 
-module _ {S : Type 0} (spans : S → Spans) (views : Views S) (attaches : S → Bool) (kept : S → ℕ → ℕ → ℕ) (is_whole : S → Type 0) (old : Worlds S)
-    (dispatch : ℕ) (opening : Texts) (lanes : List Lane) (hs : List (Option Handle)) (gs : List (Option Guard)) (cs : Named) (m : ℕ) where
+module _ {S : Type 0} (spans : S → Spans) (views : Views S) (attaches : S → Bool) (kept : S → ℕ → ℕ → ℕ) (is_whole : S → Type 0) (parts : Parts S) where
   abbrev now : State
-  now = state_of spans views old dispatch opening lanes hs gs cs m
+  now = state_of spans views parts
 
-  module _ (handle : ℕ) (h : Handle) (found : slot_at hs handle ≡ Some h) where
-    its_scope : (t : Tables) → Fits now t → Found (held_of dispatch) t.handles handle h.held
-    its_scope t fits = find (held_of dispatch) (map held_by hs) t.handles handle h.held fits.handle_slots (held_slot hs handle h found)
+  module _ (handle : ℕ) (h : Handle) (found : slot_at parts.handles handle ≡ Some h) where
+    its_scope : (t : Tables) → Fits now t → Found (held_of parts.dispatch) t.handles handle h.held
+    its_scope t fits = find (held_of parts.dispatch) (map held_by parts.handles) t.handles handle h.held fits.handle_slots (held_slot parts.handles handle h found)
 
-    its_callsite : (t : Tables) (fits : Fits now t) → option_and_then (λ k. slice_get old.sites k) h.site ≡ callsite_of now.setup t (its_scope t fits).at
-    its_callsite t fits = ap (λ (o : Option ℕ). option_and_then (λ k. slice_get old.sites k) o) (site_found now t fits hs refl handle h found (its_scope t fits).at (its_scope t fits).there)
+    its_callsite : (t : Tables) (fits : Fits now t) → option_and_then (λ k. slice_get parts.world.sites k) h.site ≡ callsite_of now.setup t (its_scope t fits).at
+    its_callsite t fits = ap (λ (o : Option ℕ). option_and_then (λ k. slice_get parts.world.sites k) o) (site_found now t fits parts.handles refl handle h found (its_scope t fits).at (its_scope t fits).there)
 
     -- a handle's callsite is there
-    pub needs_site : IsKept kept is_whole old now → IsSite old h.site
-    needs_site inv = by_scope (its_scope inv.tables inv.fits).at (inv.fits.scopes handle (its_scope inv.tables inv.fits).at (its_scope inv.tables inv.fits).there) h.site (site_found now inv.tables inv.fits hs refl handle h found (its_scope inv.tables inv.fits).at (its_scope inv.tables inv.fits).there)
+    pub needs_site : IsKept spans views kept is_whole parts → IsSite parts.world h.site
+    needs_site inv = by_scope (its_scope inv.tables inv.stands.fits).at (inv.stands.fits.scopes handle (its_scope inv.tables inv.stands.fits).at (its_scope inv.tables inv.stands.fits).there) h.site (site_found now inv.tables inv.stands.fits parts.handles refl handle h found (its_scope inv.tables inv.stands.fits).at (its_scope inv.tables inv.stands.fits).there)
       where
-        by_scope : (line : Scope) → IsScope inv.tables.made line → (site : Option ℕ) → site ≡ site_of inv.tables.made line → IsSite old site
-        by_scope [] is site e = subst (IsSite old) (sym e) tt
-        by_scope (s ∷ up) is site e = subst (IsSite old) (sym e) (inv.fits.sited s is.0)
+        by_scope : (line : Scope) → IsScope inv.tables.made line → (site : Option ℕ) → site ≡ site_of inv.tables.made line → IsSite parts.world site
+        by_scope [] is site e = subst (IsSite parts.world) (sym e) tt
+        by_scope (s ∷ up) is site e = subst (IsSite parts.world) (sym e) (inv.stands.fits.sited s is.0)
 
     module _ (new : Worlds S) (at lane : ℕ) where
+      abbrev then_parts : Parts S
+      then_parts = record parts { world = new; moment = at }
+
       abbrev then : State
-      then = state_of spans views new dispatch opening lanes hs gs cs at
+      then = state_of spans views then_parts
 
       -- whether a name is declared is asked
-      module _ (name : List ℕ) (has : Bool) (is : has ≡ is_some (field_in (named_field name) old h.site)) (same : new ≡ old) where
-        asked : (t : Tables) → StandsFor now t → effect_of_call now.setup t at lane (call.HasField handle name) ≡ Ok (tells at (id_at now.setup.ids lane) (reply.Has has) [])
+      module _ (name : List ℕ) (has : Bool) (is : has ≡ is_some (field_in (named_field name) parts.world h.site)) (same : new ≡ parts.world) where
+        asked : (t : Tables) → StandsFor now t → effect_of_call now.setup t at lane (call.HasField handle name) ≡ Ok (ops_effect (here_at now.setup t at lane) (reply.Has has) [])
         asked t stands =
             let line = its_scope t stands.fits in
-            let id = id_at now.setup.ids lane in
-            ap (λ o. named what.Handle o (λ scope. Ok (tells at id (reply.Has (declared_by (callsite_of now.setup t scope) name)) []))) line.there
-            ∙ ap (λ (b : Bool). Ok (tells at id (reply.Has b) [])) (ap (λ (o : Option Callsite). declared_by o name) (sym (its_callsite t stands.fits)) ∙ sym (has_in old name h.site) ∙ sym is)
+            ap (λ o. need what.Handle o >>= (λ scope. Ok (ops_effect (here_at now.setup t at lane) (reply.Has (declared_by (callsite_of now.setup t scope) name)) []))) line.there
+            ∙ ap (λ (b : Bool). Ok (ops_effect (here_at now.setup t at lane) (reply.Has b) [])) (ap (λ (o : Option Callsite). declared_by o name) (sym (its_callsite t stands.fits)) ∙ sym (has_in parts.world name h.site) ∙ sym is)
 
         pub serves_asked : (t : Tables) → StandsFor now t → Served (effect_of_call now.setup t at lane (call.HasField handle name)) t now then (reply.Has has)
-        serves_asked t stands = serves_ops spans views attaches kept is_whole old new dispatch opening lanes hs gs cs m at lane t stands [] [] refl (reply.Has has) _ (does_none spans views attaches kept is_whole old new dispatch at same) (asked t stands)
+        serves_asked t stands = serves_ops spans views attaches kept is_whole parts new at lane t stands [] [] refl (reply.Has has) _ (does_none spans views attaches kept is_whole parts new at same) (asked t stands)
 
-        pub keeps_asked : IsKept kept is_whole old now → IsKept kept is_whole new then
-        keeps_asked inv = keeps_ops spans views attaches kept is_whole old new dispatch opening lanes hs gs cs m at lane inv [] [] refl (reply.Has has) _ (does_none spans views attaches kept is_whole old new dispatch at same) (asked inv.tables (record { fits = inv.fits; recording = inv.recording; filtering = inv.filtering }))
+        pub keeps_asked : IsKept spans views kept is_whole parts → IsKept spans views kept is_whole then_parts
+        keeps_asked inv = keeps_ops spans views attaches kept is_whole parts new at lane inv [] [] refl (reply.Has has) _ (does_none spans views attaches kept is_whole parts new at same) (asked inv.tables inv.stands)
 
       -- values are recorded
-      module _ (does : S → SubscriberCall → S → Type 0) (law : Law spans views attaches kept is_whole does) (recalls : Recalls spans views attaches kept is_whole does)
-          (fields : Fields) (values : ValueSet) (is : values ≡ values_by (callsite_in old h.site) fields) (did : RecordsOn does old new at values h) where
+      module _ (does : S → SubscriberCall → S → Type 0) (law : CallsLaw spans views attaches kept is_whole does)
+          (fields : Fields) (values : ValueSet) (is : values ≡ values_by (callsite_in parts.world h.site) fields) (did : RecordsOn does parts.world new at values h) where
         abbrev r : Recording
-        r = seen views.recorded no_recording old dispatch
+        r = seen views.recorded no_recording parts.world parts.dispatch
 
-        does_update : (line : Scope) (o : Option Callsite) → RecordsAt does old new at (values_by o fields) (held_of dispatch line) o → Does spans views attaches kept is_whole old new dispatch at (updates r.settings line fields o) (heard_values line fields o)
-        does_update [] None step = does_none spans views attaches kept is_whole old new dispatch at step
-        does_update [] (Some c) step = does_none spans views attaches kept is_whole old new dispatch at step
-        does_update (s ∷ up) None step = does_none spans views attaches kept is_whole old new dispatch at step
+        does_update : (line : Scope) (o : Option Callsite) → RecordsAt does parts.world new at (values_by o fields) (held_of parts.dispatch line) o → Does spans views attaches kept is_whole parts new at (update_ops r.settings line fields o) (heard_values line fields o)
+        does_update [] None step = does_none spans views attaches kept is_whole parts new at step
+        does_update [] (Some c) step = does_none spans views attaches kept is_whole parts new at step
+        does_update (s ∷ up) None step = does_none spans views attaches kept is_whole parts new at step
         does_update (s ∷ up) (Some c) step =
-            let shown = law old new dispatch _ step in
+            let shown = law.shown parts.world new parts.dispatch _ step in
             record {
               spans_same = shown.spans_after;
               kept_same = shown.lanes;
               sites_same = ap (λ (w : Worlds S). w.sites) step.others;
-              recorded_is = (recalls old new dispatch _ step).0;
-              filter_is = (recalls old new dispatch _ step).1;
-              aside_is = (recalls old new dispatch _ step).2;
+              recorded_is = (law.recalled parts.world new parts.dispatch _ step).0;
+              filter_is = (law.recalled parts.world new parts.dispatch _ step).1;
+              aside_is = (law.recalled parts.world new parts.dispatch _ step).2;
               cached_same = ap (λ (w : Worlds S). w.cached) step.others;
               count = shown.count;
               whole = shown.whole;
             }
 
-        updated : (t : Tables) (fits : Fits now t) → Does spans views attaches kept is_whole old new dispatch at (updates r.settings (its_scope t fits).at fields (callsite_of now.setup t (its_scope t fits).at)) (heard_values (its_scope t fits).at fields (callsite_of now.setup t (its_scope t fits).at))
+        updated : (t : Tables) (fits : Fits now t) → Does spans views attaches kept is_whole parts new at (update_ops r.settings (its_scope t fits).at fields (callsite_of now.setup t (its_scope t fits).at)) (heard_values (its_scope t fits).at fields (callsite_of now.setup t (its_scope t fits).at))
         updated t fits =
             let line = its_scope t fits in
-            let mine = callsite_same old h.site ∙ its_callsite t fits in
+            let mine = callsite_same parts.world h.site ∙ its_callsite t fits in
             does_update line.at (callsite_of now.setup t line.at)
-            (subst (λ (o : Option Callsite). RecordsAt does old new at (values_by o fields) (held_of dispatch line.at) o) mine
-            (subst (λ (held : Held). RecordsAt does old new at (values_by (callsite_in old h.site) fields) held (callsite_in old h.site)) line.is
-            (subst (λ (v : ValueSet). RecordsAt does old new at v h.held (callsite_in old h.site)) is did)))
+            (subst (λ (o : Option Callsite). RecordsAt does parts.world new at (values_by o fields) (held_of parts.dispatch line.at) o) mine
+            (subst (λ (held : Held). RecordsAt does parts.world new at (values_by (callsite_in parts.world h.site) fields) held (callsite_in parts.world h.site)) line.is
+            (subst (λ (v : ValueSet). RecordsAt does parts.world new at v h.held (callsite_in parts.world h.site)) is did)))
 
         values_known : (line : Scope) (o : Option Callsite) (n : ℕ) → AreKnown n (heard_values line fields o) n
         values_known line None n = refl
         values_known [] (Some c) n = refl
         values_known (s ∷ up) (Some c) n = (tt, refl)
 
-        its_update : (t : Tables) (fits : Fits now t) → effect_of_call now.setup t at lane (call.Record handle fields) ≡ Ok (records now.setup t at (id_at now.setup.ids lane) (its_scope t fits).at fields)
-        its_update t fits = ap (λ o. named what.Handle o (λ scope. Ok (records now.setup t at (id_at now.setup.ids lane) scope fields))) (its_scope t fits).there
+        its_update : (t : Tables) (fits : Fits now t) → effect_of_call now.setup t at lane (call.Record handle fields) ≡ Ok (record_effect (here_at now.setup t at lane) (its_scope t fits).at fields)
+        its_update t fits = ap (λ o. need what.Handle o >>= (λ scope. Ok (record_effect (here_at now.setup t at lane) scope fields))) (its_scope t fits).there
 
         pub serves_recorded : (t : Tables) → StandsFor now t → Served (effect_of_call now.setup t at lane (call.Record handle fields)) t now then reply.Done
-        serves_recorded t stands = serves_ops spans views attaches kept is_whole old new dispatch opening lanes hs gs cs m at lane t stands _ _ (values_known (its_scope t stands.fits).at (callsite_of now.setup t (its_scope t stands.fits).at) (length t.made)) reply.Done _ (updated t stands.fits) (its_update t stands.fits)
+        serves_recorded t stands = serves_ops spans views attaches kept is_whole parts new at lane t stands _ _ (values_known (its_scope t stands.fits).at (callsite_of now.setup t (its_scope t stands.fits).at) (length t.made)) reply.Done _ (updated t stands.fits) (its_update t stands.fits)
 
-        pub keeps_recorded : IsKept kept is_whole old now → IsKept kept is_whole new then
-        keeps_recorded inv = keeps_ops spans views attaches kept is_whole old new dispatch opening lanes hs gs cs m at lane inv _ _ (values_known (its_scope inv.tables inv.fits).at (callsite_of now.setup inv.tables (its_scope inv.tables inv.fits).at) (length inv.tables.made)) reply.Done _ (updated inv.tables inv.fits) (its_update inv.tables inv.fits)
+        pub keeps_recorded : IsKept spans views kept is_whole parts → IsKept spans views kept is_whole then_parts
+        keeps_recorded inv = keeps_ops spans views attaches kept is_whole parts new at lane inv _ _ (values_known (its_scope inv.tables inv.stands.fits).at (callsite_of now.setup inv.tables (its_scope inv.tables inv.stands.fits).at) (length inv.tables.made)) reply.Done _ (updated inv.tables inv.stands.fits) (its_update inv.tables inv.stands.fits)

@@ -1,23 +1,12 @@
 -- What stands beside the filter in place: the filter that counts, and the measures that wait.
-use Rattle.std.proofs.Common.{◌≡◌, ℕ, List, [], ◌++◌, Option, None, option_map, sym, ap, ◌∙◌}
+use Rattle.std.proofs.Common.{◌≡◌, ℕ, List, [], ◌++◌, None, option_map, sym, ap, ◌∙◌}
 use Rattle.std.proofs.lemmas.List.{append-nil}
 use Rattle.trace_base.specs.Gate.{Worlds}
 use Rattle.span_handles.specs.Worlds.{seen}
-use Rattle.env_filter.specs.Filtering.{Filtered}
 use Rattle.otel_metrics.specs.declared.measure.Measure.{Measure}
 use Rattle.span_stack.specs.Reading.{StackWorlds, counter_in, measures_in}
 use Rattle.span_script.specs.Fits.{Views, shown_of, stack_views, State}
-
-abbrev pub Aside : Type 0
-Aside = Option Filtered × List Measure
-
-abbrev pub aside_in : {S : Type 0} → Views S → Worlds S → ℕ → Aside
-aside_in views world dispatch = (seen views.counter None world dispatch, seen views.measured [] world dispatch)
-
--- what counts stays, and some measures wait behind the others
-pub record Adds (before later : Aside) (added : List Measure) : Type 0 where
-  pub counter : later.0 ≡ before.0
-  pub measures : later.1 ≡ before.1 ++ added
+use Rattle.span_script.specs.SubscriberLaws.{Adds, Aside, aside_in}
 
 pub adds_none : (before later : Aside) → later.0 ≡ before.0 → later.1 ≡ before.1 → Adds before later []
 adds_none before later counter measures = record { counter = counter; measures = measures ∙ sym (append-nil before.1) }

@@ -20,7 +20,7 @@ use Rattle.env_filter.specs.spans.Watching.{Watched, watched, recorded, level_of
 use Rattle.env_filter.specs.Filtering.{Filtered, Filtering, IsNew, plain, interest_in, is_admitted, enables_in}
 use Rattle.span_script.specs.Setups.{Setup, id_at}
 use Rattle.span_script.specs.Tables.{Heard, HeardNew, HeardRecord, HeardEnter, HeardExit, HeardClose, Effect, Tables, after, with_new, newer, heard_since}
-use Rattle.span_script.specs.Effects.{hears, in_force, filter_at}
+use Rattle.span_script.specs.calls.Filter.{hears, in_force, filter_at}
 use Rattle.span_script.specs.Admission.{text_filter}
 use Rattle.span_script.proofs.filter.CounterLemmas.{AddsTo}
 use Rattle.span_script.specs.Fits.{Views, ShownFilter, first_of, shown_of, counter_by, State, FilteringFits}

@@ -1,6 +1,6 @@
 -- Asking the gate, and another filter in force, served.
 use Rattle.std.specs.Prelude.{slice_get}
-use Rattle.std.proofs.Common.{◌≡◌, ℕ, ◌<◌, List, [], length, Bool, get_or, Option, Some, None, Ok, option_map, map, refl, sym, ap, subst, ◌∙◌, arith}
+use Rattle.std.proofs.Common.{◌≡◌, ℕ, ◌<◌, List, [], length, Bool, get_or, Some, None, Ok, option_map, map, refl, sym, ap, subst, ◌∙◌, arith}
 use Rattle.trace_base.specs.declared.callsite.Callsite.{Callsite}
 use Rattle.trace_base.specs.declared.lane.Lane.{Lane}
 use Rattle.trace_base.specs.declared.subscriber.Interest.{Interest}
@@ -10,20 +10,19 @@ use Rattle.trace_base.specs.Sound.{OneEach}
 use Rattle.env_filter.specs.Filtering.{Filtered, interest_in}
 use Rattle.otel_layer.specs.Recording.{Recording, no_recording}
 use Rattle.span_handles.specs.Worlds.{Alike, seen, spans_in}
-use Rattle.span_handles.specs.Handles.{Handle}
 use Rattle.span_script.specs.declared.reply.Reply.TheVariants as reply
 use Rattle.span_script.specs.declared.reply.What.TheVariants as what
 use Rattle.span_script.specs.declared.request.Call.TheVariants as call
-use Rattle.span_script.specs.declared.slots.Guard.{Guard}
 use Rattle.span_script.specs.Admission.{text_filter, filter_if, IsTextFilter}
-use Rattle.span_script.specs.declared.settings.Texts.{Texts}
 use Rattle.span_script.specs.Setups.{id_at}
 use Rattle.span_script.specs.Tables.{Effect, Tables, after, quiet}
-use Rattle.span_script.specs.Effects.{named, effect_of_call, asks, reloads, reloads_if}
+use Rattle.span_script.specs.calls.Here.{here_at, ◌>>=◌, need}
+use Rattle.span_script.specs.Effects.{effect_of_call}
+use Rattle.span_script.specs.calls.Filter.{enabled_effect, reload_effect, reload_by}
 use Rattle.span_script.specs.Balance.{Balanced, named_by, opened_by}
 use Rattle.span_script.specs.Slots.{LetsThrough}
-use Rattle.span_script.specs.Fits.{Views, shown_of, Named, State, state_of, laned, StandsFor, FilteringFits, MadeFit, LanesFit, IsKept, Served}
-use Rattle.span_script.proofs.filter.CounterLemmas.{Adds, aside_in, adds_nothing}
+use Rattle.span_script.specs.Fits.{Views, shown_of, State, state_of, laned, StandsFor, FilteringFits, MadeFit, LanesFit, IsKept, Served, Parts}
+use Rattle.span_script.proofs.filter.CounterLemmas.{adds_nothing}
 use Rattle.span_script.proofs.filter.FilterLemmas.{cached_rows, rows_of}
 use Rattle.span_script.proofs.filter.GateLemmas.{answered}
 use Rattle.span_script.proofs.steps.LanesLemmas.{kept_alike}
@@ -31,49 +30,52 @@ use Rattle.span_script.proofs.runs.RefusalsLemmas.{within_get}
 use Rattle.span_script.proofs.steps.ServesLemmas.{serve_with, known_still, all_same, kept_served}
 use Rattle.span_script.proofs.steps.StepLemmas.{fits_step}
 use Rattle.span_script.proofs.events.EventsLemmas.{does_none, serves_ops, keeps_ops}
+use Rattle.span_script.specs.SubscriberLaws.{Adds, aside_in}
 
-module _ {S : Type 0} (spans : S → Spans) (views : Views S) (attaches : S → Bool) (kept : S → ℕ → ℕ → ℕ) (is_whole : S → Type 0) (old : Worlds S)
-    (dispatch : ℕ) (opening : Texts) (lanes : List Lane) (hs : List (Option Handle)) (gs : List (Option Guard)) (cs : Named) (m at lane : ℕ) where
+module _ {S : Type 0} (spans : S → Spans) (views : Views S) (attaches : S → Bool) (kept : S → ℕ → ℕ → ℕ) (is_whole : S → Type 0) (parts : Parts S) (at lane : ℕ) where
   abbrev now : State
-  now = state_of spans views old dispatch opening lanes hs gs cs m
+  now = state_of spans views parts
 
   -- the gate is asked
-  module _ (before : Lane) (within : lane < length lanes) (here : before ≡ get_or lanes lane before) (found_site site : ℕ) (sited_is : found_site ≡ site) (there : site < length old.sites)
-      (enabled : Bool) (gate : LetsThrough (seen views.filtered None old dispatch) old.sites before.id found_site enabled) where
-    its_site : (c : Callsite) × (slice_get old.sites site ≡ Some c)
-    its_site = within_get old.sites site there
+  module _ (before : Lane) (within : lane < length parts.lanes) (here : before ≡ get_or parts.lanes lane before) (found_site site : ℕ) (sited_is : found_site ≡ site) (there : site < length parts.world.sites)
+      (enabled : Bool) (gate : LetsThrough (seen views.filtered None parts.world parts.dispatch) parts.world.sites before.id found_site enabled) where
+    its_site : (c : Callsite) × (slice_get parts.world.sites site ≡ Some c)
+    its_site = within_get parts.world.sites site there
 
     its_answer : (t : Tables) → StandsFor now t → effect_of_call now.setup t at lane (call.Enabled site) ≡ Ok (quiet at (id_at now.setup.ids lane) (reply.Enabled enabled))
     its_answer t stands =
-        ap (λ o. named what.Site o (λ c. Ok (asks now.setup t at (id_at now.setup.ids lane) c))) its_site.1
-        ∙ ap (λ (b : Bool). Ok (quiet at (id_at now.setup.ids lane) (reply.Enabled b))) (answered spans views old dispatch opening lanes hs gs cs m lane before within here found_site its_site.0 (ap (λ (n : ℕ). slice_get old.sites n) sited_is ∙ its_site.1) enabled gate t stands)
+        ap (λ o. need what.Site o >>= (λ c. Ok (enabled_effect (here_at now.setup t at lane) c))) its_site.1
+        ∙ ap (λ (b : Bool). Ok (quiet at (id_at now.setup.ids lane) (reply.Enabled b))) (answered spans views parts lane before within here found_site its_site.0 (ap (λ (n : ℕ). slice_get parts.world.sites n) sited_is ∙ its_site.1) enabled gate t stands)
 
-    pub serves_enabled : (t : Tables) → StandsFor now t → Served (effect_of_call now.setup t at lane (call.Enabled site)) t now (state_of spans views old dispatch opening lanes hs gs cs at) (reply.Enabled enabled)
-    serves_enabled t stands = serves_ops spans views attaches kept is_whole old old dispatch opening lanes hs gs cs m at lane t stands [] [] refl (reply.Enabled enabled) _ (does_none spans views attaches kept is_whole old old dispatch at refl) (its_answer t stands)
+    pub serves_enabled : (t : Tables) → StandsFor now t → Served (effect_of_call now.setup t at lane (call.Enabled site)) t now (state_of spans views (record parts { moment = at })) (reply.Enabled enabled)
+    serves_enabled t stands = serves_ops spans views attaches kept is_whole parts parts.world at lane t stands [] [] refl (reply.Enabled enabled) _ (does_none spans views attaches kept is_whole parts parts.world at refl) (its_answer t stands)
 
-    pub keeps_enabled : IsKept kept is_whole old now → IsKept kept is_whole old (state_of spans views old dispatch opening lanes hs gs cs at)
-    keeps_enabled inv = keeps_ops spans views attaches kept is_whole old old dispatch opening lanes hs gs cs m at lane inv [] [] refl (reply.Enabled enabled) _ (does_none spans views attaches kept is_whole old old dispatch at refl)
-        (its_answer inv.tables (record { fits = inv.fits; recording = inv.recording; filtering = inv.filtering }))
+    pub keeps_enabled : IsKept spans views kept is_whole parts → IsKept spans views kept is_whole (record parts { moment = at })
+    keeps_enabled inv = keeps_ops spans views attaches kept is_whole parts parts.world at lane inv [] [] refl (reply.Enabled enabled) _ (does_none spans views attaches kept is_whole parts parts.world at refl)
+        (its_answer inv.tables inv.stands)
 
   -- a filter of another text
-  module _ (new : Worlds S) (alike : Alike spans attaches kept is_whole old new dispatch) (sites : new.sites ≡ old.sites) (records : seen views.recorded no_recording new dispatch ≡ seen views.recorded no_recording old dispatch)
-      (aside : Adds (aside_in views old dispatch) (aside_in views new dispatch) []) where
+  module _ (new : Worlds S) (alike : Alike spans attaches kept is_whole parts.world new parts.dispatch) (sites : new.sites ≡ parts.world.sites) (records : seen views.recorded no_recording new parts.dispatch ≡ seen views.recorded no_recording parts.world parts.dispatch)
+      (aside : Adds (aside_in views parts.world parts.dispatch) (aside_in views new parts.dispatch) []) where
+    abbrev then_parts : Parts S
+    then_parts = record parts { world = new; moment = at }
+
     abbrev then : State
-    then = state_of spans views new dispatch opening lanes hs gs cs at
+    then = state_of spans views then_parts
 
     abbrev r : Recording
-    r = seen views.recorded no_recording old dispatch
+    r = seen views.recorded no_recording parts.world parts.dispatch
 
     -- after want of memory
-    module _ (filters : seen views.filtered None new dispatch ≡ seen views.filtered None old dispatch) (cached : new.cached ≡ old.cached) where
-      pub state_left : state_of spans views new dispatch opening lanes hs gs cs m ≡ now
-      state_left = (let still = adds_nothing (aside_in views old dispatch) (aside_in views new dispatch) aside in rw (alike.spans_same, sites, records, filters, cached, still.0, still.1) refl)
+    module _ (filters : seen views.filtered None new parts.dispatch ≡ seen views.filtered None parts.world parts.dispatch) (cached : new.cached ≡ parts.world.cached) where
+      pub state_left : state_of spans views (record parts { world = new }) ≡ now
+      state_left = (let still = adds_nothing (aside_in views parts.world parts.dispatch) (aside_in views new parts.dispatch) aside in rw (alike.spans_same, sites, records, filters, cached, still.0, still.1) refl)
 
-      pub kept_left : IsKept kept is_whole old now → IsKept kept is_whole new (state_of spans views new dispatch opening lanes hs gs cs m)
-      kept_left inv = kept_alike spans views attaches kept is_whole old new now _ inv state_left alike
+      pub kept_left : IsKept spans views kept is_whole parts → IsKept spans views kept is_whole (record parts { world = new })
+      kept_left inv = kept_alike spans views attaches kept is_whole parts (record parts { world = new }) inv state_left alike
 
-    module _ (text given : List ℕ) (given_is : given ≡ text) (f : Filtered) (read_given : IsTextFilter given f) (filters : seen views.filtered None new dispatch ≡ Some f)
-        (interest : S → Callsite → Interest) (shown : (s : S) (f : Filtered) (c : Callsite) → views.filtered s ≡ Some f → interest s c ≡ interest_in f c) (fresh : IsFresh interest new) (inv : IsKept kept is_whole old now) where
+    module _ (text given : List ℕ) (given_is : given ≡ text) (f : Filtered) (read_given : IsTextFilter given f) (filters : seen views.filtered None new parts.dispatch ≡ Some f)
+        (interest : S → Callsite → Interest) (shown : (s : S) (f : Filtered) (c : Callsite) → views.filtered s ≡ Some f → interest s c ≡ interest_in f c) (fresh : IsFresh interest new) (inv : IsKept spans views kept is_whole parts) where
       read : IsTextFilter text f
       read = subst (λ (x : List ℕ). IsTextFilter x f) given_is read_given
 
@@ -83,12 +85,12 @@ module _ {S : Type 0} (spans : S → Spans) (views : Views S) (attaches : S → 
       setup : then.setup ≡ now.setup
       setup = rw (sites, records) refl
 
-      filter_is : (t : Tables) → length (spans_in spans new dispatch).made ≡ length t.made → FilteringFits then (after t (reloads at (id_at now.setup.ids lane) text))
+      filter_is : (t : Tables) → length (spans_in spans new parts.dispatch).made ≡ length t.made → FilteringFits then (after t (reload_effect (here_at now.setup t at lane) text))
       filter_is t count = record {
-        counter = ap (option_map (shown_of 0 then.setup.ids)) aside.counter ∙ inv.filtering.counter;
-        new = inv.filtering.new;
-        in_place = ap (option_map (shown_of (length (spans_in spans new dispatch).made) then.setup.ids)) filters ∙ ap (λ (n : ℕ). Some (shown_of n then.setup.ids f)) count ∙ ap (λ (x : Filtered). Some (shown_of (length t.made) then.setup.ids x)) (sym force_is);
-        fresh = cached_rows views interest shown new dispatch f (alike.count ∙ inv.alone) (let c = alike.count in let b = inv.there in omega (arith, c, b)) filters fresh ∙ ap (λ (x : Filtered). rows_of x new.sites) (sym force_is);
+        counter = ap (option_map (shown_of 0 then.setup.ids)) aside.counter ∙ inv.stands.filtering.counter;
+        new = inv.stands.filtering.new;
+        in_place = ap (option_map (shown_of (length (spans_in spans new parts.dispatch).made) then.setup.ids)) filters ∙ ap (λ (n : ℕ). Some (shown_of n then.setup.ids f)) count ∙ ap (λ (x : Filtered). Some (shown_of (length t.made) then.setup.ids x)) (sym force_is);
+        fresh = cached_rows views interest shown new parts.dispatch f (alike.count ∙ inv.alone) (let c = alike.count in let b = inv.there in omega (arith, c, b)) filters fresh ∙ ap (λ (x : Filtered). rows_of x new.sites) (sym force_is);
       }
 
       pub serves_reloaded : (t : Tables) → StandsFor now t → Served (effect_of_call now.setup t at lane (call.Reload text)) t now then reply.Done
@@ -96,8 +98,8 @@ module _ {S : Type 0} (spans : S → Spans) (views : Views S) (attaches : S → 
           let fits = stands.fits in
           let ids = now.setup.ids in
           let step = alike.spans_same in
-          let e : Effect = reloads at (id_at ids lane) text in
-          serve_with now then t e _ reply.Done stands (ap (reloads_if at (id_at ids lane) text) read.read) refl setup r.tokens records
+          let e : Effect = reload_effect (here_at now.setup t at lane) text in
+          serve_with now then t e _ reply.Done stands (ap (reload_by (here_at now.setup t at lane) text) read.read) refl setup r.tokens records
           (fits_step now t fits then e (record {
             setup_is = setup;
             dispatch_is = refl;
@@ -121,6 +123,6 @@ module _ {S : Type 0} (spans : S → Spans) (views : Views S) (attaches : S → 
           (all_same now then t.contexts setup refl refl (ap (λ (x : Recording). x.tokens) records) stands.recording.attached)
           (filter_is t (ap (λ (x : Spans). length x.made) step ∙ fits.made.count)) aside.measures
 
-      pub keeps_reloaded : IsKept kept is_whole new then
-      keeps_reloaded = kept_served spans views attaches kept is_whole old new now then inv _ _ (serves_reloaded inv.tables (record { fits = inv.fits; recording = inv.recording; filtering = inv.filtering })) refl alike.count alike.whole
-          (subst (λ (f : ℕ → ℕ → ℕ). LanesFit f (map laned lanes)) (sym alike.kept_same) inv.lanes)
+      pub keeps_reloaded : IsKept spans views kept is_whole then_parts
+      keeps_reloaded = kept_served spans views kept is_whole parts then_parts inv _ _ (serves_reloaded inv.tables inv.stands) refl alike.count alike.whole
+          (subst (λ (f : ℕ → ℕ → ℕ). LanesFit f (map laned parts.lanes)) (sym alike.kept_same) inv.lanes)

@@ -9,26 +9,27 @@ use Rattle.otel_base.specs.declared.enter_error.EnterError.{EnterError}
 use Rattle.otel_base.specs.declared.enter_error.EnterError.TheVariants as errors
 use Rattle.otel_base.specs.Stack.{has}
 use Rattle.trace_base.specs.declared.lane.Lane.{Lane}
-use Rattle.trace_base.specs.Gate.{Worlds}
 use Rattle.trace_base.specs.Spans.{Spans}
 use Rattle.trace_base.proofs.Entering.{count_push}
 use Rattle.otel_layer.specs.Recording.{Recording, no_recording}
 use Rattle.span_handles.specs.Worlds.{seen, kept_in}
-use Rattle.span_handles.specs.Handles.{Handle}
 use Rattle.span_script.specs.declared.contexts.Attach.{Attach}
 use Rattle.span_script.specs.declared.slots.Guard.{Guard}
+use Rattle.span_script.specs.declared.reply.Refusal.TheVariants as refusal
 use Rattle.span_script.specs.declared.reply.Refusal.{Refusal}
 use Rattle.span_script.specs.declared.reply.Reply.TheVariants as reply
 use Rattle.span_script.specs.declared.reply.What.TheVariants as what
 use Rattle.span_script.specs.declared.request.Call.TheVariants as call
-use Rattle.span_script.specs.Refusals.{refused_entry}
-use Rattle.span_script.specs.declared.settings.Texts.{Texts}
+use Rattle.span_script.specs.calls.Refusals.{refused_entry}
 use Rattle.span_script.specs.Setups.{id_at}
 use Rattle.span_script.specs.Tables.{GuardOf, Attached, Guarded, Effect, Tables, slot_at, with_attached}
-use Rattle.span_script.specs.Effects.{Resolved, named, effect_of_call, is_full, enters_unless, attaches}
+use Rattle.span_script.specs.calls.Here.{here_at, Resolved, refuse_if, ◌>>=◌, need}
+use Rattle.span_script.specs.Effects.{effect_of_call}
+use Rattle.span_script.specs.calls.Contexts.{attach_effect}
+use Rattle.span_script.specs.calls.Entries.{is_full}
 use Rattle.span_script.specs.Balance.{Balanced, Opened, named_by, opened_by}
-use Rattle.span_script.specs.Fits.{Views, Named, State, state_of, Laned, laned, lane_at, lane_of, StandsFor, AllContextsFit, IsKept, Served, is_room}
-use Rattle.span_script.proofs.filter.CounterLemmas.{aside_in, adds_same}
+use Rattle.span_script.specs.Fits.{Views, Named, State, state_of, Laned, laned, lane_at, lane_of, StandsFor, AllContextsFit, IsKept, Served, is_room, LanesFit, Parts}
+use Rattle.span_script.proofs.filter.CounterLemmas.{adds_same}
 use Rattle.span_script.proofs.steps.BalanceLemmas.{quiet_guard}
 use Rattle.span_script.proofs.steps.LanesLemmas.{lane_seen, lanes_same, same_lane, id_seen, ids_same, names_same, are_attached, lanes_after}
 use Rattle.span_script.proofs.lane_contexts.LaneContextsLemmas.{all_attached}
@@ -36,6 +37,7 @@ use Rattle.span_script.proofs.steps.SlotsLemmas.{named_push}
 use Rattle.span_script.proofs.filter.FilterLemmas.{heard_none}
 use Rattle.span_script.proofs.steps.ServesLemmas.{serve, known_still, kept_served}
 use Rattle.span_script.proofs.steps.StepLemmas.{fits_step}
+use Rattle.span_script.specs.SubscriberLaws.{aside_in}
 
 -- an attach that went well met no full lane
 pub not_full : (number : ℕ) (P : Type 0) → (P → ◌≡◌ {A = Result ℕ EnterError} (Ok number) (Err errors.Full)) → P → ⊥
@@ -49,67 +51,80 @@ lives_there k t stands lanes are n before within here =
     ap (λ (l : Laned). length l.live) (sym seen_at) ∙ sym (length-map (lane_at k.lanes n).live (λ (x : ℕ × Context). x.1)) ∙ ap length fit.contexts
     ∙ length-map (t.contexts (lane_at k.lanes n).id) (λ (a : Attached). a.context) ∙ ap (λ (l : Laned). length (t.contexts l.id)) seen_at
 
-module _ {S : Type 0} (spans : S → Spans) (views : Views S) (kept : S → ℕ → ℕ → ℕ) (is_whole : S → Type 0) (world : Worlds S)
-    (dispatch : ℕ) (opening : Texts) (lanes : List Lane) (hs : List (Option Handle)) (gs : List (Option Guard)) (cs : Named) (m at lane : ℕ) (before : Lane) (within : lane < length lanes) (here : before ≡ get_or lanes lane before)
-    (inv : IsKept kept is_whole world (state_of spans views world dispatch opening lanes hs gs cs m)) (context : ℕ) (given : Context) (found : slice_get cs.made context ≡ Some given) where
+module _ {S : Type 0} (spans : S → Spans) (views : Views S) (kept : S → ℕ → ℕ → ℕ) (is_whole : S → Type 0) (parts : Parts S)
+    (at lane : ℕ) (before : Lane) (within : lane < length parts.lanes) (here : before ≡ get_or parts.lanes lane before)
+    (inv : IsKept spans views kept is_whole parts) (context : ℕ) (given : Context) (found : slice_get parts.contexts.made context ≡ Some given) where
   abbrev now : State
-  now = state_of spans views world dispatch opening lanes hs gs cs m
+  now = state_of spans views parts
 
   abbrev place_id : ℕ
   place_id = id_at now.setup.ids lane
 
   abbrev r : Recording
-  r = seen views.recorded no_recording world dispatch
+  r = seen views.recorded no_recording parts.world parts.dispatch
 
   id_is : before.id ≡ place_id
-  id_is = id_seen lanes lane before within here
+  id_is = id_seen parts.lanes lane before within here
 
   lives : (t : Tables) → StandsFor now t → length before.contexts.live ≡ length (t.contexts place_id)
-  lives t stands = lives_there now t stands lanes refl lane before within here ∙ ap (λ (n : ℕ). length (t.contexts n)) id_is
+  lives t stands = lives_there now t stands parts.lanes refl lane before within here ∙ ap (λ (n : ℕ). length (t.contexts n)) id_is
 
   named_is : (t : Tables) → StandsFor now t → slice_get t.named context ≡ Some given
   named_is t stands = ap (λ (xs : List Context). slice_get xs context) (sym stands.fits.named) ∙ found
 
   -- after a refusal what is kept is as it was
-  module _ (later : Lane) (same_id : later.id ≡ before.id) (same_name : later.name ≡ before.name) (live : later.contexts.live ≡ before.contexts.live) (gs' : List (Option Guard)) (guards_same : gs' ≡ gs) (ks' : List (Option Attach)) (attaches_same : ks' ≡ cs.attaches) where
-    pub left_state : state_of spans views world dispatch opening (set lanes lane later) hs gs' (record { made = cs.made; attaches = ks' }) m ≡ now
-    left_state = rw (lanes_same lanes lane before later within here (same_lane before later same_id live), ids_same lanes lane before later within here same_id, names_same lanes lane before later within here same_name, guards_same, attaches_same) refl
+  module _ (later : Lane) (same_id : later.id ≡ before.id) (same_name : later.name ≡ before.name) (live : later.contexts.live ≡ before.contexts.live) (gs' : List (Option Guard)) (guards_same : gs' ≡ parts.guards) (ks' : List (Option Attach)) (attaches_same : ks' ≡ parts.contexts.attaches) where
+    abbrev left_parts : Parts S
+    left_parts = record parts { lanes = set parts.lanes lane later; guards = gs'; contexts = record parts.contexts { attaches = ks' } }
 
-    pub left_kept : IsKept kept is_whole world (state_of spans views world dispatch opening (set lanes lane later) hs gs' (record { made = cs.made; attaches = ks' }) m)
-    left_kept = subst (IsKept kept is_whole world) (sym left_state) inv
+    pub left_state : state_of spans views left_parts ≡ now
+    left_state = rw (lanes_same parts.lanes lane before later within here (same_lane before later same_id live), ids_same parts.lanes lane before later within here same_id, names_same parts.lanes lane before later within here same_name, guards_same, attaches_same) refl
+
+    pub left_kept : IsKept spans views kept is_whole left_parts
+    left_kept = record {
+      there = inv.there;
+      alone = inv.alone;
+      whole = inv.whole;
+      lanes = subst (λ (ls : List Laned). LanesFit (kept_in kept parts.world parts.dispatch) ls) (sym (ap (λ (k : State). k.lanes) left_state)) inv.lanes;
+      tables = inv.tables;
+      stands = subst (λ (k : State). StandsFor k inv.tables) (sym left_state) inv.stands;
+    }
 
   -- a lane with as many contexts as may be
   pub refuses_attach : (error : EnterError) (refused : Refusal) → refused ≡ refused_entry lane error → (error ≡ errors.Full → length before.contexts.live ≡ MOST) → is_room refused ≡ false → (t : Tables) → StandsFor now t
       → effect_of_call now.setup t at lane (call.Attach context) ≡ Err refused
   refuses_attach errors.Memory refused is full other t stands = absurd (true≢false (sym (ap is_room is) ∙ other))
   refuses_attach errors.Full refused is full other t stands =
-      ap (λ o. named what.Context o (λ c. enters_unless (is_full (t.contexts place_id)) lane (attaches now.setup t at lane c))) (named_is t stands)
+      ap (λ o. need what.Context o >>= (λ c. refuse_if (is_full (t.contexts place_id)) (refusal.Full lane) (Ok (attach_effect (here_at now.setup t at lane) c)))) (named_is t stands)
       ∙ cond-true {A = Resolved} (is_full (t.contexts place_id)) _ _ (eq-eqb (length (t.contexts place_id)) MOST (sym (lives t stands) ∙ full refl)) ∙ ap (λ (x : Refusal). Err x) (sym is)
 
-  module _ (later : Lane) (same_id : later.id ≡ before.id) (same_name : later.name ≡ before.name) (number guard : ℕ) (many : guard ≡ length gs) (fresh : has number before.contexts.live ≡ false) (live : later.contexts.live ≡ before.contexts.live ++ (number, given) ∷ [])
-      (room : length before.contexts.live ≡ MOST → ⊥) (gs' : List (Option Guard)) (skip : gs' ≡ gs ++ None ∷ []) (cs' : Named) (made_same : cs'.made ≡ cs.made) (one : cs'.attaches ≡ cs.attaches ++ Some (record { lane = lane; attached = number }) ∷ []) where
+  module _ (later : Lane) (same_id : later.id ≡ before.id) (same_name : later.name ≡ before.name) (number guard : ℕ) (many : guard ≡ length parts.guards) (fresh : has number before.contexts.live ≡ false) (live : later.contexts.live ≡ before.contexts.live ++ (number, given) ∷ [])
+      (room : length before.contexts.live ≡ MOST → ⊥) (gs' : List (Option Guard)) (skip : gs' ≡ parts.guards ++ None ∷ []) (cs' : Named) (made_same : cs'.made ≡ parts.contexts.made) (one : cs'.attaches ≡ parts.contexts.attaches ++ Some (record { lane = lane; attached = number }) ∷ []) where
+    abbrev then_parts : Parts S
+    then_parts = record parts { lanes = set parts.lanes lane later; guards = gs'; contexts = cs'; moment = at }
+
     abbrev then : State
-    then = state_of spans views world dispatch opening (set lanes lane later) hs gs' cs' at
+    then = state_of spans views then_parts
 
     setup_same : then.setup ≡ now.setup
-    setup_same = rw (ids_same lanes lane before later within here same_id, names_same lanes lane before later within here same_name) refl
+    setup_same = rw (ids_same parts.lanes lane before later within here same_id, names_same parts.lanes lane before later within here same_name) refl
 
     all_fit : (t : Tables) → StandsFor now t → AllContextsFit r.settings.activation then.lanes r.tokens cs'.attaches (with_attached t.contexts place_id (Some (record { owner = GuardOf (length t.guards); context = given })))
     all_fit t stands =
-        let numbered : length cs.attaches ≡ length t.guards = sym (length-map cs.attaches (option_map lane_of)) ∙ ap length stands.fits.attach_slots ∙ stands.fits.paired in
+        let numbered : length parts.contexts.attaches ≡ length t.guards = sym (length-map parts.contexts.attaches (option_map lane_of)) ∙ ap length stands.fits.attach_slots ∙ stands.fits.paired in
         subst (λ (ks : List (Option Attach)). AllContextsFit r.settings.activation then.lanes r.tokens ks (with_attached t.contexts place_id (Some (record { owner = GuardOf (length t.guards); context = given })))) (sym one)
-        (subst (λ (l : ℕ). AllContextsFit r.settings.activation then.lanes r.tokens (cs.attaches ++ Some (record { lane = lane; attached = number }) ∷ []) (with_attached t.contexts l (Some (record { owner = GuardOf (length t.guards); context = given })))) id_is
-        (subst (λ (n : ℕ). AllContextsFit r.settings.activation then.lanes r.tokens (cs.attaches ++ Some (record { lane = lane; attached = number }) ∷ []) (with_attached t.contexts before.id (Some (record { owner = GuardOf n; context = given })))) numbered
-        (all_attached r.settings.activation lanes lane before later within here same_id inv.lanes.differ r.tokens cs.attaches t.contexts stands.recording.attached number given fresh live)))
+        (subst (λ (l : ℕ). AllContextsFit r.settings.activation then.lanes r.tokens (parts.contexts.attaches ++ Some (record { lane = lane; attached = number }) ∷ []) (with_attached t.contexts l (Some (record { owner = GuardOf (length t.guards); context = given })))) id_is
+        (subst (λ (n : ℕ). AllContextsFit r.settings.activation then.lanes r.tokens (parts.contexts.attaches ++ Some (record { lane = lane; attached = number }) ∷ []) (with_attached t.contexts before.id (Some (record { owner = GuardOf n; context = given })))) numbered
+        (all_attached r.settings.activation parts.lanes lane before later within here same_id inv.lanes.differ r.tokens parts.contexts.attaches t.contexts stands.recording.attached number given fresh live)))
 
     pub serves_attached : (t : Tables) → StandsFor now t → Served (effect_of_call now.setup t at lane (call.Attach context)) t now then (reply.Guard guard)
     serves_attached t stands =
         let fits = stands.fits in
         let ids = now.setup.ids in
-        let e : Effect = attaches now.setup t at lane given in
+        let e : Effect = attach_effect (here_at now.setup t at lane) given in
         let free : is_full (t.contexts place_id) ≡ false = ne_eqb (length (t.contexts place_id)) MOST (λ e. room (lives t stands ∙ e)) in
         serve now then t e _ (reply.Guard guard) stands
-        (ap (λ o. named what.Context o (λ c. enters_unless (is_full (t.contexts place_id)) lane (attaches now.setup t at lane c))) (named_is t stands) ∙ cond-false {A = Resolved} (is_full (t.contexts place_id)) _ _ free)
+        (ap (λ o. need what.Context o >>= (λ c. refuse_if (is_full (t.contexts place_id)) (refusal.Full lane) (Ok (attach_effect (here_at now.setup t at lane) c)))) (named_is t stands) ∙ cond-false {A = Resolved} (is_full (t.contexts place_id)) _ _ free)
         (ap reply.Guard (many ∙ ap length fits.guard_slots ∙ length-map t.guards (option_map _))) setup_same r.tokens refl
         (fits_step now t fits then e (record {
           setup_is = setup_same;
@@ -117,7 +132,7 @@ module _ {S : Type 0} (spans : S → Spans) (views : Views S) (kept : S → ℕ 
           handles_are = refl;
           sites_are = refl;
           guards_are = skip;
-          attaches_are = ap (map (option_map lane_of)) one ∙ map_push (option_map lane_of) cs.attaches (Some (record { lane = lane; attached = number }));
+          attaches_are = ap (map (option_map lane_of)) one ∙ map_push (option_map lane_of) parts.contexts.attaches (Some (record { lane = lane; attached = number }));
           named_are = made_same;
           moment_is = refl;
           balanced = subst (λ (xs : List (Option Opened)). Balanced now.spans (map named_by t.handles) xs t.entries) (sym (map_push (opened_by ids) t.guards None)) (quiet_guard now.spans (map named_by t.handles) (map (opened_by ids) t.guards) t.entries fits.balanced);
@@ -132,14 +147,14 @@ module _ {S : Type 0} (spans : S → Spans) (views : Views S) (kept : S → ℕ 
         }))
         (λ s some. known_still now then t e r.tokens refl stands.recording s refl some)
         (all_fit t stands)
-        (record { quiet = refl; before = seen views.filtered None world dispatch; later = seen views.filtered None world dispatch; shown_before = refl; shown_later = refl; told = heard_none (seen views.filtered None world dispatch); known = refl; cached = refl; aside = record { before = aside_in views world dispatch; later = aside_in views world dispatch; shown_before = refl; shown_later = refl; waits_before = refl; waits_later = refl; adds = adds_same views world world dispatch refl } })
+        (record { quiet = refl; before = seen views.filtered None parts.world parts.dispatch; later = seen views.filtered None parts.world parts.dispatch; shown_before = refl; shown_later = refl; told = heard_none (seen views.filtered None parts.world parts.dispatch); known = refl; cached = refl; aside = record { before = aside_in views parts.world parts.dispatch; later = aside_in views parts.world parts.dispatch; shown_before = refl; shown_later = refl; waits_before = refl; waits_later = refl; adds = adds_same views parts.world parts.world parts.dispatch refl } })
 
-    pub keeps_attached : IsKept kept is_whole world then
+    pub keeps_attached : IsKept spans views kept is_whole then_parts
     keeps_attached =
-        kept_served spans views (λ x. false) kept is_whole world world now then inv _ _ (serves_attached inv.tables (record { fits = inv.fits; recording = inv.recording; filtering = inv.filtering })) refl refl (λ has. has)
-        (lanes_after (kept_in kept world dispatch) (kept_in kept world dispatch) lanes lane before later within here inv.lanes same_id
+        kept_served spans views kept is_whole parts then_parts inv _ _ (serves_attached inv.tables inv.stands) refl refl (λ has. has)
+        (lanes_after (kept_in kept parts.world parts.dispatch) (kept_in kept parts.world parts.dispatch) parts.lanes lane before later within here inv.lanes same_id
         (λ n. (
-        let still = are_attached (kept_in kept world dispatch) lanes lane before within here inv.lanes n in
+        let still = are_attached (kept_in kept parts.world parts.dispatch) parts.lanes lane before within here inv.lanes n in
         let more = ap (λ (xs : List (ℕ × Context)). count_by (λ item. item.0 == n) xs) live in
         let push = count_push (λ (item : ℕ × Context). item.0 == n) before.contexts.live (number, given) in
         omega (arith, still, more, push)))

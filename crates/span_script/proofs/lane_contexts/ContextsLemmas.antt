@@ -5,7 +5,6 @@ use Rattle.otel_base.specs.declared.context.SpanContext.{SpanContext}
 use Rattle.otel_base.specs.Ids.{ids_of}
 use Rattle.otel_base.specs.Stack.{empty_context}
 use Rattle.otel_state.specs.States.{Told}
-use Rattle.trace_base.specs.declared.lane.Lane.{Lane}
 use Rattle.trace_base.specs.Gate.{Worlds}
 use Rattle.trace_base.specs.Spans.{Spans, span_at}
 use Rattle.trace_base.specs.Sound.{OneEach}
@@ -13,25 +12,26 @@ use Rattle.otel_layer.specs.declared.tokens.Token.{Token}
 use Rattle.otel_layer.specs.Table.{told_at, own_or}
 use Rattle.otel_layer.specs.Parts.{PartCall, Shows, context_at}
 use Rattle.otel_layer.specs.Asking.{AsksContext, ShowsOn, context_or_empty}
-use Rattle.otel_layer.specs.Recording.{Recording, no_recording, with_starts, RecordsPart}
-use Rattle.span_handles.specs.Worlds.{Has, Alike, Replaced, seen, spans_in, kept_in}
+use Rattle.otel_layer.specs.Recording.{Recording, no_recording, with_starts}
+use Rattle.span_handles.specs.Worlds.{Has, seen, spans_in, kept_in}
 use Rattle.span_handles.specs.Handles.{Handle, Held}
-use Rattle.span_script.specs.declared.slots.Guard.{Guard}
 use Rattle.span_script.specs.declared.reply.Reply.TheVariants as reply
 use Rattle.span_script.specs.declared.reply.What.TheVariants as what
 use Rattle.span_script.specs.declared.request.Call.TheVariants as call
-use Rattle.span_script.specs.declared.settings.Texts.{Texts}
 use Rattle.span_script.specs.Setups.{id_at}
 use Rattle.span_script.specs.Tables.{Scope, Effect, Tables, recorded_by, slot_at, own, open_part}
-use Rattle.span_script.specs.Effects.{Resolved, named, effect_of_call, gives, own_context}
+use Rattle.span_script.specs.calls.Here.{here_at, Resolved, ◌>>=◌, need}
+use Rattle.span_script.specs.Effects.{effect_of_call}
+use Rattle.span_script.specs.calls.Contexts.{context_effect, own_context}
 use Rattle.span_script.specs.Balance.{Balanced, named_by, opened_by}
-use Rattle.span_script.specs.Fits.{Views, Named, State, state_of, laned, lane_of, held_by, held_of, StandsFor, MadeFit, LanesFit, IsKept, Served}
-use Rattle.span_script.proofs.filter.CounterLemmas.{Adds, aside_in, adds_same}
+use Rattle.span_script.specs.Fits.{Views, Named, State, state_of, laned, lane_of, held_by, held_of, StandsFor, MadeFit, LanesFit, IsKept, Served, Parts}
+use Rattle.span_script.proofs.filter.CounterLemmas.{adds_same}
 use Rattle.span_script.proofs.steps.SlotsLemmas.{find, held_slot}
 use Rattle.span_script.proofs.steps.StepLemmas.{fits_step}
 use Rattle.span_script.proofs.steps.RecordingLemmas.{recorded_settings, recorded_tokens, starts_fold, start_open}
 use Rattle.span_script.proofs.filter.FilterLemmas.{heard_none}
 use Rattle.span_script.proofs.steps.ServesLemmas.{serve, known_still, all_same, kept_served}
+use Rattle.span_script.specs.SubscriberLaws.{Adds, AsksLaw, aside_in}
 
 -- the own context of a scope's span, by the open part of what was recorded
 pub own_open : (line : Scope) (at : ℕ) (r x : Recording) → open_part r ≡ x → own_context r at line ≡ own_context x at line
@@ -42,56 +42,59 @@ shown_is : (o : Option Told) → context_or_empty (context_at o) ≡ own_or empt
 shown_is None = refl
 shown_is (Some told) = refl
 
-module _ {S : Type 0} (spans : S → Spans) (views : Views S) (attaches : S → Bool) (kept : S → ℕ → ℕ → ℕ) (is_whole : S → Type 0) (old new : Worlds S)
-    (dispatch : ℕ) (opening : Texts) (lanes : List Lane) (hs : List (Option Handle)) (gs : List (Option Guard)) (cs : Named) (m at lane number : ℕ) (many : number ≡ length cs.made)
-    (inv : IsKept kept is_whole old (state_of spans views old dispatch opening lanes hs gs cs m)) where
+module _ {S : Type 0} (spans : S → Spans) (views : Views S) (attaches : S → Bool) (kept : S → ℕ → ℕ → ℕ) (is_whole : S → Type 0) (parts : Parts S) (new : Worlds S)
+    (at lane number : ℕ) (many : number ≡ length parts.contexts.made)
+    (inv : IsKept spans views kept is_whole parts) where
   abbrev now : State
-  now = state_of spans views old dispatch opening lanes hs gs cs m
+  now = state_of spans views parts
+
+  abbrev parts_with : Named → Parts S
+  parts_with cs' = record parts { world = new; contexts = cs'; moment = at }
 
   abbrev then_with : Named → State
-  then_with cs' = state_of spans views new dispatch opening lanes hs gs cs' at
+  then_with cs' = state_of spans views (parts_with cs')
 
   abbrev place_id : ℕ
   place_id = id_at now.setup.ids lane
 
   abbrev r : Recording
-  r = seen views.recorded no_recording old dispatch
+  r = seen views.recorded no_recording parts.world parts.dispatch
 
   abbrev r' : Recording
-  r' = seen views.recorded no_recording new dispatch
+  r' = seen views.recorded no_recording new parts.dispatch
 
   -- what a start leaves
   record Starts (o : Option ℕ) : Type 0 where
-    spans_same : spans_in spans new dispatch ≡ spans_in spans old dispatch
-    sites : new.sites ≡ old.sites
+    spans_same : spans_in spans new parts.dispatch ≡ spans_in spans parts.world parts.dispatch
+    sites : new.sites ≡ parts.world.sites
     records : r' ≡ with_starts o at r
-    kept_same : kept_in kept new dispatch ≡ kept_in kept old dispatch
-    count : length new.subscribers ≡ length old.subscribers
-    whole : Has is_whole old dispatch → Has is_whole new dispatch
-    filter_same : seen views.filtered None new dispatch ≡ seen views.filtered None old dispatch
-    cached_same : new.cached ≡ old.cached
-    aside : Adds (aside_in views old dispatch) (aside_in views new dispatch) []
+    kept_same : kept_in kept new parts.dispatch ≡ kept_in kept parts.world parts.dispatch
+    count : length new.subscribers ≡ length parts.world.subscribers
+    whole : Has is_whole parts.world parts.dispatch → Has is_whole new parts.dispatch
+    filter_same : seen views.filtered None new parts.dispatch ≡ seen views.filtered None parts.world parts.dispatch
+    cached_same : new.cached ≡ parts.world.cached
+    aside : Adds (aside_in views parts.world parts.dispatch) (aside_in views new parts.dispatch) []
 
-  unchanged : new ≡ old → Starts None
+  unchanged : new ≡ parts.world → Starts None
   unchanged same = record {
-    spans_same = ap (λ (w : Worlds S). spans_in spans w dispatch) same;
+    spans_same = ap (λ (w : Worlds S). spans_in spans w parts.dispatch) same;
     sites = ap (λ (w : Worlds S). w.sites) same;
-    records = ap (λ (w : Worlds S). seen views.recorded no_recording w dispatch) same;
-    kept_same = ap (λ (w : Worlds S). kept_in kept w dispatch) same;
+    records = ap (λ (w : Worlds S). seen views.recorded no_recording w parts.dispatch) same;
+    kept_same = ap (λ (w : Worlds S). kept_in kept w parts.dispatch) same;
     count = ap (λ (w : Worlds S). length w.subscribers) same;
-    whole = λ has. subst (λ (w : Worlds S). Has is_whole w dispatch) (sym same) has;
-    filter_same = ap (λ (w : Worlds S). seen views.filtered None w dispatch) same;
+    whole = λ has. subst (λ (w : Worlds S). Has is_whole w parts.dispatch) (sym same) has;
+    filter_same = ap (λ (w : Worlds S). seen views.filtered None w parts.dispatch) same;
     cached_same = ap (λ (w : Worlds S). w.cached) same;
-    aside = adds_same views old new dispatch same;
+    aside = adds_same views parts.world new parts.dispatch same;
   }
 
-  given_served : (t : Tables) → StandsFor now t → (o : Option ℕ) → Starts o → (context : Context) (cs' : Named) → cs'.made ≡ cs.made ++ context ∷ [] → cs'.attaches ≡ cs.attaches → (resolved : Resolved) → resolved ≡ Ok (gives t at place_id o context)
+  given_served : (t : Tables) → StandsFor now t → (o : Option ℕ) → Starts o → (context : Context) (cs' : Named) → cs'.made ≡ parts.contexts.made ++ context ∷ [] → cs'.attaches ≡ parts.contexts.attaches → (resolved : Resolved) → resolved ≡ Ok (context_effect (here_at now.setup t at lane) o context)
       → Served resolved t now (then_with cs') (reply.Context number (ids_of context))
   given_served t stands o did context cs' made_is attaches_are resolved is =
       let fits = stands.fits in
       let ids = now.setup.ids in
       let then : State = then_with cs' in
-      let e : Effect = gives t at place_id o context in
+      let e : Effect = context_effect (here_at now.setup t at lane) o context in
       let rec : r' ≡ recorded_by (length t.made) e r = did.records ∙ sym (starts_fold o at r) in
       let rec_is : r' ≡ record (recorded_by (length t.made) e r) { tokens = r.tokens } = rec ∙ ap (λ (ts : List Token). record (recorded_by (length t.made) e r) { tokens = ts }) (recorded_tokens (length t.made) e r) in
       let settings = ap (λ (x : Recording). x.settings) rec_is ∙ recorded_settings (length t.made) e r in
@@ -118,32 +121,31 @@ module _ {S : Type 0} (spans : S → Spans) (views : Views S) (attaches : S → 
       }))
       (λ s some. known_still now then t e r.tokens rec_is stands.recording s refl (subst (λ (x : Spans). 0 < (span_at x.made s).holds) did.spans_same some))
       (all_same now then t.contexts setup attaches_are refl (ap (λ (x : Recording). x.tokens) rec_is) stands.recording.attached)
-      (record { quiet = refl; before = seen views.filtered None old dispatch; later = seen views.filtered None new dispatch; shown_before = refl; shown_later = refl; told = did.filter_same ∙ heard_none (seen views.filtered None old dispatch); known = refl; cached = did.cached_same; aside = record { before = aside_in views old dispatch; later = aside_in views new dispatch; shown_before = refl; shown_later = refl; waits_before = refl; waits_later = refl; adds = did.aside } })
+      (record { quiet = refl; before = seen views.filtered None parts.world parts.dispatch; later = seen views.filtered None new parts.dispatch; shown_before = refl; shown_later = refl; told = did.filter_same ∙ heard_none (seen views.filtered None parts.world parts.dispatch); known = refl; cached = did.cached_same; aside = record { before = aside_in views parts.world parts.dispatch; later = aside_in views new parts.dispatch; shown_before = refl; shown_later = refl; waits_before = refl; waits_later = refl; adds = did.aside } })
 
-  given_kept : (cs' : Named) (o : Option ℕ) → Starts o → (resolved : Resolved) (answer : _) → Served resolved inv.tables now (then_with cs') answer → IsKept kept is_whole new (then_with cs')
+  given_kept : (cs' : Named) (o : Option ℕ) → Starts o → (resolved : Resolved) (answer : _) → Served resolved inv.tables now (then_with cs') answer → IsKept spans views kept is_whole (parts_with cs')
   given_kept cs' o did resolved answer served =
-      kept_served spans views attaches kept is_whole old new now (then_with cs') inv _ _ served refl did.count did.whole (subst (λ (f : ℕ → ℕ → ℕ). LanesFit f (map laned lanes)) (sym did.kept_same) inv.lanes)
+      kept_served spans views kept is_whole parts (parts_with cs') inv _ _ served refl did.count did.whole (subst (λ (f : ℕ → ℕ → ℕ). LanesFit f (map laned parts.lanes)) (sym did.kept_same) inv.lanes)
 
   -- a context of ids that are given
-  module _ (same : new ≡ old) (ids : SpanContext) (cs' : Named) (made_is : cs'.made ≡ cs.made ++ record { span = Some ids } ∷ []) (attaches_are : cs'.attaches ≡ cs.attaches) where
+  module _ (same : new ≡ parts.world) (ids : SpanContext) (cs' : Named) (made_is : cs'.made ≡ parts.contexts.made ++ record { span = Some ids } ∷ []) (attaches_are : cs'.attaches ≡ parts.contexts.attaches) where
     pub serves_remote : (t : Tables) → StandsFor now t → Served (effect_of_call now.setup t at lane (call.Remote ids)) t now (then_with cs') (reply.Context number ids)
     serves_remote t stands = given_served t stands None (unchanged same) (record { span = Some ids }) cs' made_is attaches_are _ refl
 
-    pub keeps_remote : IsKept kept is_whole new (then_with cs')
-    keeps_remote = given_kept cs' None (unchanged same) _ _ (serves_remote inv.tables (record { fits = inv.fits; recording = inv.recording; filtering = inv.filtering }))
+    pub keeps_remote : IsKept spans views kept is_whole (parts_with cs')
+    keeps_remote = given_kept cs' None (unchanged same) _ _ (serves_remote inv.tables inv.stands)
 
   -- the context of a handle's span
-  module _ (touches : S → PartCall → S → Type 0) (leaves : (old new : Worlds S) (dispatch : ℕ) (call : PartCall) → Replaced (λ s t. touches s call t) old new dispatch → Alike spans attaches kept is_whole old new dispatch)
-      (asks : (old new : Worlds S) (dispatch : ℕ) (call : PartCall) → Replaced (λ s t. touches s call t) old new dispatch → RecordsPart (seen views.recorded no_recording old dispatch) call (seen views.recorded no_recording new dispatch) × (seen views.filtered None new dispatch ≡ seen views.filtered None old dispatch) × Adds (aside_in views old dispatch) (aside_in views new dispatch) [])
-      (handle : ℕ) (h : Handle) (found : slot_at hs handle ≡ Some h) (given : Context) (did : AsksContext touches old new at h.held given) (cs' : Named) (made_is : cs'.made ≡ cs.made ++ given ∷ []) (attaches_are : cs'.attaches ≡ cs.attaches) where
-    asked : (line : Scope) (held : Held) → held ≡ held_of dispatch line → AsksContext touches old new at held given → Starts (own line) × (given ≡ own_context r at line)
+  module _ (touches : S → PartCall → S → Type 0) (law : AsksLaw spans views attaches kept is_whole touches)
+      (handle : ℕ) (h : Handle) (found : slot_at parts.handles handle ≡ Some h) (given : Context) (did : AsksContext touches parts.world new at h.held given) (cs' : Named) (made_is : cs'.made ≡ parts.contexts.made ++ given ∷ []) (attaches_are : cs'.attaches ≡ parts.contexts.attaches) where
+    asked : (line : Scope) (held : Held) → held ≡ held_of parts.dispatch line → AsksContext touches parts.world new at held given → Starts (own line) × (given ≡ own_context r at line)
     asked [] held is asks_it =
-        let nothing = subst (λ (x : Held). ShowsOn touches old new at x asks_it.answer) is asks_it.did in
+        let nothing = subst (λ (x : Held). ShowsOn touches parts.world new at x asks_it.answer) is asks_it.did in
         (unchanged nothing.1, asks_it.is ∙ ap context_or_empty nothing.0)
     asked (s ∷ up) held is asks_it =
-        let replaced = subst (λ (x : Held). ShowsOn touches old new at x asks_it.answer) is asks_it.did in
-        let alike = leaves old new dispatch (Shows s at asks_it.answer) replaced in
-        let told = asks old new dispatch (Shows s at asks_it.answer) replaced in
+        let replaced = subst (λ (x : Held). ShowsOn touches parts.world new at x asks_it.answer) is asks_it.did in
+        let alike = law.shown parts.world new parts.dispatch (Shows s at asks_it.answer) replaced in
+        let told = law.recalled parts.world new parts.dispatch (Shows s at asks_it.answer) replaced in
         let records = told.0 in (
           record { spans_same = alike.spans_same; sites = ap (λ (w : Worlds S). w.sites) replaced.others; records = records.0; kept_same = alike.kept_same; count = alike.count; whole = alike.whole; filter_same = told.1; cached_same = ap (λ (w : Worlds S). w.cached) replaced.others; aside = told.2 },
           asks_it.is ∙ ap context_or_empty records.1 ∙ shown_is (told_at s r'.spans) ∙ ap (λ (x : Recording). own_or empty_context (told_at s x.spans)) records.0,
@@ -151,14 +153,14 @@ module _ {S : Type 0} (spans : S → Spans) (views : Views S) (attaches : S → 
 
     pub serves_context : (ids : SpanContext) → ids ≡ ids_of given → (t : Tables) → StandsFor now t → Served (effect_of_call now.setup t at lane (call.Context handle)) t now (then_with cs') (reply.Context number ids)
     serves_context ids ids_are t stands =
-        let line = find (held_of dispatch) (map held_by hs) t.handles handle h.held stands.fits.handle_slots (held_slot hs handle h found) in
+        let line = find (held_of parts.dispatch) (map held_by parts.handles) t.handles handle h.held stands.fits.handle_slots (held_slot parts.handles handle h found) in
         let shown = asked line.at h.held line.is did in
         let given_is : given ≡ own_context t.recording at line.at = shown.1 ∙ own_open line.at at r t.recording stands.recording.recorded in
         subst (λ (i : SpanContext). Served (effect_of_call now.setup t at lane (call.Context handle)) t now (then_with cs') (reply.Context number i)) (sym (ids_are ∙ ap (λ (c : Context). ids_of c) given_is))
-        (given_served t stands (own line.at) shown.0 (own_context t.recording at line.at) cs' (made_is ∙ ap (λ (c : Context). cs.made ++ c ∷ []) given_is) attaches_are _
-        (ap (λ o. named what.Handle o (λ scope. Ok (gives t at place_id (own scope) (own_context t.recording at scope)))) line.there))
+        (given_served t stands (own line.at) shown.0 (own_context t.recording at line.at) cs' (made_is ∙ ap (λ (c : Context). parts.contexts.made ++ c ∷ []) given_is) attaches_are _
+        (ap (λ o. need what.Handle o >>= (λ scope. Ok (context_effect (here_at now.setup t at lane) (own scope) (own_context t.recording at scope)))) line.there))
 
-    pub keeps_context : IsKept kept is_whole new (then_with cs')
+    pub keeps_context : IsKept spans views kept is_whole (parts_with cs')
     keeps_context =
-        let line = find (held_of dispatch) (map held_by hs) inv.tables.handles handle h.held inv.fits.handle_slots (held_slot hs handle h found) in
-        given_kept cs' (own line.at) (asked line.at h.held line.is did).0 _ _ (serves_context (ids_of given) refl inv.tables (record { fits = inv.fits; recording = inv.recording; filtering = inv.filtering }))
+        let line = find (held_of parts.dispatch) (map held_by parts.handles) inv.tables.handles handle h.held inv.stands.fits.handle_slots (held_slot parts.handles handle h found) in
+        given_kept cs' (own line.at) (asked line.at h.held line.is did).0 _ _ (serves_context (ids_of given) refl inv.tables inv.stands)

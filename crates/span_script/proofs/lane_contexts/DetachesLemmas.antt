@@ -1,6 +1,6 @@
 -- Detaches from a lane, served.
-use Rattle.std.specs.Prelude.{◌==◌, slice_set}
-use Rattle.std.proofs.Common.{◌≡◌, ℕ, ◌+◌, ◌<◌, List, [], ◌∷◌, length, get_or, set, true, false, count_by, Option, Some, None, option_map, map, refl, sym, ap, subst, ◌∙◌, arith, inl, inr}
+use Rattle.std.specs.Prelude.{◌==◌, slice_set, not}
+use Rattle.std.proofs.Common.{◌≡◌, ℕ, ◌+◌, ◌<◌, List, [], ◌∷◌, length, get_or, set, true, count_by, Option, Some, None, option_map, map, refl, sym, ap, subst, ◌∙◌, arith, inl, inr, Ok}
 use Rattle.std.proofs.lemmas.Bool.{cases_Bool, cases_eq, ne_eqb, eq-eqb, eqb-true, cond-true, cond-false}
 use Rattle.std.proofs.lemmas.List.{map-set}
 use Rattle.std.proofs.Math.ListN.{get_or-map}
@@ -13,18 +13,18 @@ use Rattle.trace_base.proofs.Entering.{count_cons}
 use Rattle.otel_layer.specs.Core.{kept_by}
 use Rattle.otel_layer.specs.Recording.{Recording, no_recording}
 use Rattle.span_handles.specs.Worlds.{seen, kept_in}
-use Rattle.span_handles.specs.Handles.{Handle}
 use Rattle.span_script.specs.declared.contexts.Attach.{Attach}
-use Rattle.span_script.specs.declared.slots.Guard.{Guard}
+use Rattle.span_script.specs.declared.reply.Refusal.TheVariants as refusal
 use Rattle.span_script.specs.declared.reply.Reply.TheVariants as reply
 use Rattle.span_script.specs.declared.reply.What.TheVariants as what
 use Rattle.span_script.specs.declared.request.Call.TheVariants as call
-use Rattle.span_script.specs.declared.settings.Texts.{Texts}
 use Rattle.span_script.specs.Setups.{id_at}
 use Rattle.span_script.specs.Tables.{GuardOf, Effect, Tables, slot_at, with_detached}
-use Rattle.span_script.specs.Effects.{Resolved, named, effect_of_call, exits_on, detaches}
-use Rattle.span_script.specs.Fits.{Views, Named, State, state_of, lane_of, numbers_by, StandsFor, Fits, ContextsFit, AllContextsFit, IsKept, Served}
-use Rattle.span_script.proofs.filter.CounterLemmas.{aside_in, adds_same}
+use Rattle.span_script.specs.calls.Here.{here_at, Resolved, refuse_if, ◌>>=◌, need}
+use Rattle.span_script.specs.Effects.{effect_of_call}
+use Rattle.span_script.specs.calls.Contexts.{detach_effect}
+use Rattle.span_script.specs.Fits.{Views, Named, State, state_of, lane_of, numbers_by, StandsFor, Fits, ContextsFit, AllContextsFit, IsKept, Served, Parts}
+use Rattle.span_script.proofs.filter.CounterLemmas.{adds_same}
 use Rattle.span_script.proofs.lane_contexts.OwnersLemmas.{owned_has}
 use Rattle.span_script.proofs.steps.LanesLemmas.{id_seen, ids_same, names_same, are_attached, lanes_after}
 use Rattle.span_script.proofs.lane_contexts.LaneContextsLemmas.{own_fit, all_detached}
@@ -36,13 +36,14 @@ use Rattle.span_script.proofs.steps.StepLemmas.{fits_step}
 use Rattle.span_script.proofs.runs.TakeLemmas.{seen_there}
 use Rattle.env_filter.specs.Filtering.{Filtering}
 use Rattle.env_filter.specs.Reloading.{if_there, none_kept}
+use Rattle.span_script.specs.SubscriberLaws.{aside_in}
 
 -- a guard of an attach, as its table tells it
 attach_told : (k : State) (t : Tables) → Fits k t → (n : ℕ) → slot_at t.attaches n ≡ option_map lane_of (slot_at k.contexts.attaches n)
 attach_told k t fits n = ap (λ (xs : List (Option ℕ)). slot_at xs n) (sym fits.attach_slots) ∙ get_or-map (option_map lane_of) k.contexts.attaches n None
 
 abbrev detached : State → Tables → ℕ → ℕ → ℕ → Option ℕ → Resolved
-detached k t at lane guard o = named what.Guard o (λ mine. exits_on mine lane (detaches at (id_at k.setup.ids lane) guard))
+detached k t at lane guard o = need what.Guard o >>= (λ mine. refuse_if (not (mine == lane)) (refusal.WrongLane mine) (Ok (detach_effect (here_at k.setup t at lane) guard)))
 
 -- the others stay as often live
 count_without : (n number : ℕ) (live : List (ℕ × Context)) → (n ≡ number → ⊥) → count_by (λ (item : ℕ × Context). item.0 == number) (without n live) ≡ count_by (λ (item : ℕ × Context). item.0 == number) live
@@ -65,48 +66,51 @@ count_without n number (x ∷ live) apart =
 abbrev pub KeepsTokens : {S : Type 0} → Views S → (S → ℕ → ℕ → ℕ) → Type 0
 KeepsTokens {S} views kept = (s : S) (lane number : ℕ) → kept s lane number ≡ kept_by (views.recorded s).settings.activation (views.recorded s).tokens lane number
 
-module _ {S : Type 0} (spans : S → Spans) (views : Views S) (kept : S → ℕ → ℕ → ℕ) (is_whole : S → Type 0) (world : Worlds S)
-    (dispatch : ℕ) (opening : Texts) (lanes : List Lane) (hs : List (Option Handle)) (gs : List (Option Guard)) (cs : Named) (m at lane : ℕ) (before : Lane) (within : lane < length lanes) (here : before ≡ get_or lanes lane before)
-    (inv : IsKept kept is_whole world (state_of spans views world dispatch opening lanes hs gs cs m)) (guard : ℕ) (a : Attach) (found : slot_at cs.attaches guard ≡ Some a) (on : a.lane ≡ lane) where
+module _ {S : Type 0} (spans : S → Spans) (views : Views S) (kept : S → ℕ → ℕ → ℕ) (is_whole : S → Type 0) (parts : Parts S)
+    (at lane : ℕ) (before : Lane) (within : lane < length parts.lanes) (here : before ≡ get_or parts.lanes lane before)
+    (inv : IsKept spans views kept is_whole parts) (guard : ℕ) (a : Attach) (found : slot_at parts.contexts.attaches guard ≡ Some a) (on : a.lane ≡ lane) where
   abbrev now : State
-  now = state_of spans views world dispatch opening lanes hs gs cs m
+  now = state_of spans views parts
 
   abbrev place_id : ℕ
   place_id = id_at now.setup.ids lane
 
   abbrev r : Recording
-  r = seen views.recorded no_recording world dispatch
+  r = seen views.recorded no_recording parts.world parts.dispatch
 
   id_is : before.id ≡ place_id
-  id_is = id_seen lanes lane before within here
+  id_is = id_seen parts.lanes lane before within here
 
-  its_fit : ContextsFit (numbers_by r.settings.activation lane before.id r.tokens cs.attaches) before.contexts.live (inv.tables.contexts before.id)
-  its_fit = own_fit r.settings.activation lanes lane before before within here refl inv.lanes.differ r.tokens cs.attaches inv.tables.contexts inv.recording.attached
+  its_fit : ContextsFit (numbers_by r.settings.activation lane before.id r.tokens parts.contexts.attaches) before.contexts.live (inv.tables.contexts before.id)
+  its_fit = own_fit r.settings.activation parts.lanes lane before before within here refl inv.lanes.differ r.tokens parts.contexts.attaches inv.tables.contexts inv.stands.recording.attached
 
   -- what it attached is still live
   pub still_live : has a.attached before.contexts.live ≡ true
-  still_live = owned_has (GuardOf guard) before.contexts.live (inv.tables.contexts before.id) a.attached _ its_fit (guard_keeps r.settings.activation lane before.id r.tokens cs.attaches guard a found on)
+  still_live = owned_has (GuardOf guard) before.contexts.live (inv.tables.contexts before.id) a.attached _ its_fit (guard_keeps r.settings.activation lane before.id r.tokens parts.contexts.attaches guard a found on)
 
   module _ (later : Lane) (same_id : later.id ≡ before.id) (same_name : later.name ≡ before.name) (live : later.contexts.live ≡ without a.attached before.contexts.live)
-      (cs' : Named) (made_same : cs'.made ≡ cs.made) (one : cs'.attaches ≡ slice_set cs.attaches guard None) where
+      (cs' : Named) (made_same : cs'.made ≡ parts.contexts.made) (one : cs'.attaches ≡ slice_set parts.contexts.attaches guard None) where
+    abbrev then_parts : Parts S
+    then_parts = record parts { lanes = set parts.lanes lane later; contexts = cs'; moment = at }
+
     abbrev then : State
-    then = state_of spans views world dispatch opening (set lanes lane later) hs gs cs' at
+    then = state_of spans views then_parts
 
     setup_same : then.setup ≡ now.setup
-    setup_same = rw (ids_same lanes lane before later within here same_id, names_same lanes lane before later within here same_name) refl
+    setup_same = rw (ids_same parts.lanes lane before later within here same_id, names_same parts.lanes lane before later within here same_name) refl
 
     all_fit : (t : Tables) → StandsFor now t → AllContextsFit r.settings.activation then.lanes r.tokens cs'.attaches (with_detached t.contexts place_id (Some (GuardOf guard)))
     all_fit t stands =
         subst (λ (ks : List (Option Attach)). AllContextsFit r.settings.activation then.lanes r.tokens ks (with_detached t.contexts place_id (Some (GuardOf guard)))) (sym one)
-        (subst (λ (l : ℕ). AllContextsFit r.settings.activation then.lanes r.tokens (slice_set cs.attaches guard None) (with_detached t.contexts l (Some (GuardOf guard)))) id_is
-        (all_detached r.settings.activation lanes lane before later within here same_id inv.lanes.differ r.tokens cs.attaches t.contexts stands.recording.attached guard a found on live))
+        (subst (λ (l : ℕ). AllContextsFit r.settings.activation then.lanes r.tokens (slice_set parts.contexts.attaches guard None) (with_detached t.contexts l (Some (GuardOf guard)))) id_is
+        (all_detached r.settings.activation parts.lanes lane before later within here same_id inv.lanes.differ r.tokens parts.contexts.attaches t.contexts stands.recording.attached guard a found on live))
 
     pub serves_detached : (t : Tables) → StandsFor now t → Served (effect_of_call now.setup t at lane (call.Detach guard)) t now then reply.Done
     serves_detached t stands =
         let fits = stands.fits in
-        let e : Effect = detaches at place_id guard in
+        let e : Effect = detach_effect (here_at now.setup t at lane) guard in
         serve now then t e _ reply.Done stands
-        (ap (detached now t at lane guard) (attach_told now t fits guard ∙ ap (option_map lane_of) found) ∙ cond-true {A = Resolved} (a.lane == lane) _ _ (eq-eqb a.lane lane on))
+        (ap (detached now t at lane guard) (attach_told now t fits guard ∙ ap (option_map lane_of) found) ∙ cond-false {A = Resolved} (not (a.lane == lane)) _ _ (ap not (eq-eqb a.lane lane on)))
         refl setup_same r.tokens refl
         (fits_step now t fits then e (record {
           setup_is = setup_same;
@@ -114,7 +118,7 @@ module _ {S : Type 0} (spans : S → Spans) (views : Views S) (kept : S → ℕ 
           handles_are = refl;
           sites_are = refl;
           guards_are = refl;
-          attaches_are = ap (map (option_map lane_of)) one ∙ map-set (option_map lane_of) cs.attaches guard None;
+          attaches_are = ap (map (option_map lane_of)) one ∙ map-set (option_map lane_of) parts.contexts.attaches guard None;
           named_are = made_same;
           moment_is = refl;
           balanced = fits.balanced;
@@ -129,21 +133,21 @@ module _ {S : Type 0} (spans : S → Spans) (views : Views S) (kept : S → ℕ 
         }))
         (λ s some. known_still now then t e r.tokens refl stands.recording s refl some)
         (all_fit t stands)
-        (record { quiet = refl; before = seen views.filtered None world dispatch; later = seen views.filtered None world dispatch; shown_before = refl; shown_later = refl; told = heard_none (seen views.filtered None world dispatch); known = refl; cached = refl; aside = record { before = aside_in views world dispatch; later = aside_in views world dispatch; shown_before = refl; shown_later = refl; waits_before = refl; waits_later = refl; adds = adds_same views world world dispatch refl } })
+        (record { quiet = refl; before = seen views.filtered None parts.world parts.dispatch; later = seen views.filtered None parts.world parts.dispatch; shown_before = refl; shown_later = refl; told = heard_none (seen views.filtered None parts.world parts.dispatch); known = refl; cached = refl; aside = record { before = aside_in views parts.world parts.dispatch; later = aside_in views parts.world parts.dispatch; shown_before = refl; shown_later = refl; waits_before = refl; waits_later = refl; adds = adds_same views parts.world parts.world parts.dispatch refl } })
 
-    pub keeps_detached : ((lane number : ℕ) → kept_in kept world dispatch lane number ≡ kept_by r.settings.activation r.tokens lane number) → IsKept kept is_whole world then
+    pub keeps_detached : ((lane number : ℕ) → kept_in kept parts.world parts.dispatch lane number ≡ kept_by r.settings.activation r.tokens lane number) → IsKept spans views kept is_whole then_parts
     keeps_detached keeps =
-        kept_served spans views (λ x. false) kept is_whole world world now then inv _ _ (serves_detached inv.tables (record { fits = inv.fits; recording = inv.recording; filtering = inv.filtering })) refl refl (λ has. has)
-        (lanes_after (kept_in kept world dispatch) (kept_in kept world dispatch) lanes lane before later within here inv.lanes same_id
+        kept_served spans views kept is_whole parts then_parts inv _ _ (serves_detached inv.tables inv.stands) refl refl (λ has. has)
+        (lanes_after (kept_in kept parts.world parts.dispatch) (kept_in kept parts.world parts.dispatch) parts.lanes lane before later within here inv.lanes same_id
         (λ n. (
         let less = ap (λ (xs : List (ℕ × Context)). count_by (λ item. item.0 == n) xs) live in
         elim (cases_eq a.attached n) [
           | inl this ↦ (
-              let none = guard_alone r.settings.activation lane before.id r.tokens cs.attaches before.contexts.live (inv.tables.contexts before.id) guard a.attached its_fit (guard_keeps r.settings.activation lane before.id r.tokens cs.attaches guard a found on) in
-              let zero_kept : kept_in kept world dispatch before.id n ≡ 0 = keeps before.id n ∙ ap (λ (k : ℕ). kept_by r.settings.activation r.tokens before.id k) (sym this) ∙ none in
+              let none = guard_alone r.settings.activation lane before.id r.tokens parts.contexts.attaches before.contexts.live (inv.tables.contexts before.id) guard a.attached its_fit (guard_keeps r.settings.activation lane before.id r.tokens parts.contexts.attaches guard a found on) in
+              let zero_kept : kept_in kept parts.world parts.dispatch before.id n ≡ 0 = keeps before.id n ∙ ap (λ (k : ℕ). kept_by r.settings.activation r.tokens before.id k) (sym this) ∙ none in
               omega (arith, zero_kept))
           | inr other ↦ (
-              let still = are_attached (kept_in kept world dispatch) lanes lane before within here inv.lanes n in
+              let still = are_attached (kept_in kept parts.world parts.dispatch) parts.lanes lane before within here inv.lanes n in
               let same = count_without a.attached n before.contexts.live other in
               omega (arith, still, less, same))
         ]))

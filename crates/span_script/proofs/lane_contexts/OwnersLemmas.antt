@@ -10,7 +10,7 @@ use Rattle.trace_base.specs.Spans.{without_last}
 use Rattle.otel_layer.specs.declared.tokens.Token.{Token}
 use Rattle.otel_layer.specs.Core.{is_token}
 use Rattle.span_script.specs.Tables.{Owner, EntryOf, GuardOf, Attached, is_owner, is_by}
-use Rattle.span_script.specs.Effects.{last_attached}
+use Rattle.span_script.specs.calls.Spans.{last_attached}
 use Rattle.span_script.specs.Fits.{numbers_of, tokens_of, AreDistinct, ContextsFit}
 use Rattle.span_script.proofs.steps.SlotsLemmas.{some_is}
 

@@ -12,33 +12,33 @@ use Rattle.otel_state.specs.declared.op.Op.TheVariants as ops
 use Rattle.otel_state.specs.declared.op.OpReply.{OpReply}
 use Rattle.otel_state.specs.declared.op.SetParentError.{SetParentError}
 use Rattle.otel_state.specs.States.{Told, reply_after, is_growing}
-use Rattle.trace_base.specs.declared.lane.Lane.{Lane}
 use Rattle.trace_base.specs.Gate.{Worlds}
 use Rattle.trace_base.specs.Spans.{Spans}
 use Rattle.otel_layer.specs.Table.{told_at, with_op, waits, waits_by}
 use Rattle.otel_layer.specs.Parts.{PartCall, Applies, AppliesTo}
 use Rattle.otel_layer.specs.Asking.{AppliesOn, AsksDone, AsksParent, link_of, event_at, done_answer, parent_reply, parent_answer}
-use Rattle.otel_layer.specs.Recording.{Recording, no_recording, RecordsPart}
-use Rattle.span_handles.specs.Worlds.{Alike, Replaced, seen}
+use Rattle.otel_layer.specs.Recording.{Recording, no_recording}
+use Rattle.span_handles.specs.Worlds.{Alike, seen}
 use Rattle.span_handles.specs.Handles.{Handle, Held}
-use Rattle.span_script.specs.declared.slots.Guard.{Guard}
 use Rattle.span_script.specs.declared.reply.Refusal.TheVariants as refusal
 use Rattle.span_script.specs.declared.reply.Reply.TheVariants as reply
 use Rattle.span_script.specs.declared.reply.What.TheVariants as what
 use Rattle.span_script.specs.declared.request.Call.TheVariants as call
-use Rattle.span_script.specs.declared.settings.Texts.{Texts}
 use Rattle.span_script.specs.Setups.{id_at}
 use Rattle.span_script.specs.Tables.{Scope, Done, Tables, slot_at, own}
-use Rattle.span_script.specs.Effects.{Resolved, named, effect_of_call, on, tells, links, happens_at, set_while, is_set}
+use Rattle.span_script.specs.calls.Here.{here_at, Resolved, ◌>>=◌, need, op_on, ops_effect}
+use Rattle.span_script.specs.Effects.{effect_of_call}
+use Rattle.span_script.specs.calls.Links.{link_ops, happens_at, set_while, is_set}
 use Rattle.span_script.specs.Balance.{named_by, opened_by}
-use Rattle.span_script.specs.Fits.{Views, Named, State, state_of, held_by, held_of, Fits, StandsFor, IsKept, Served}
-use Rattle.span_script.proofs.filter.CounterLemmas.{Adds, aside_in, adds_nothing}
+use Rattle.span_script.specs.Fits.{Views, State, state_of, held_by, held_of, Fits, StandsFor, IsKept, Served, Parts}
+use Rattle.span_script.proofs.filter.CounterLemmas.{adds_nothing}
 use Rattle.span_script.proofs.steps.BalanceLemmas.{named_slot}
 use Rattle.span_script.proofs.filter.FilterLemmas.{heard_none}
 use Rattle.span_script.proofs.entries.EntriesFitLemmas.{fits_live}
 use Rattle.span_script.proofs.steps.LanesLemmas.{kept_alike}
 use Rattle.span_script.proofs.steps.SlotsLemmas.{Found, find, held_slot}
 use Rattle.span_script.proofs.events.EventsLemmas.{Does, does_none, serves_ops, keeps_ops}
+use Rattle.span_script.specs.SubscriberLaws.{Adds, AsksLaw, aside_in}
 
 -- ---- the answers of ops
 
@@ -77,27 +77,29 @@ set_by (Some told) known held spans now id at context (Some (Err m)) did = absur
 
 -- ---- on the span of a handle
 
-module _ {S : Type 0} (spans : S → Spans) (views : Views S) (attaches : S → Bool) (kept : S → ℕ → ℕ → ℕ) (is_whole : S → Type 0) (old new : Worlds S)
-    (touches : S → PartCall → S → Type 0) (leaves : (old new : Worlds S) (dispatch : ℕ) (call : PartCall) → Replaced (λ s t. touches s call t) old new dispatch → Alike spans attaches kept is_whole old new dispatch)
-    (asks : (old new : Worlds S) (dispatch : ℕ) (call : PartCall) → Replaced (λ s t. touches s call t) old new dispatch → RecordsPart (seen views.recorded no_recording old dispatch) call (seen views.recorded no_recording new dispatch) × (seen views.filtered None new dispatch ≡ seen views.filtered None old dispatch) × Adds (aside_in views old dispatch) (aside_in views new dispatch) [])
-    (dispatch : ℕ) (opening : Texts) (lanes : List Lane) (hs : List (Option Handle)) (gs : List (Option Guard)) (cs : Named) (m at lane : ℕ) (handle : ℕ) (h : Handle) (found : slot_at hs handle ≡ Some h) where
+module _ {S : Type 0} (spans : S → Spans) (views : Views S) (attaches : S → Bool) (kept : S → ℕ → ℕ → ℕ) (is_whole : S → Type 0) (parts : Parts S) (new : Worlds S)
+    (touches : S → PartCall → S → Type 0) (law : AsksLaw spans views attaches kept is_whole touches)
+    (at lane : ℕ) (handle : ℕ) (h : Handle) (found : slot_at parts.handles handle ≡ Some h) where
   abbrev now : State
-  now = state_of spans views old dispatch opening lanes hs gs cs m
+  now = state_of spans views parts
+
+  abbrev later_parts : Parts S
+  later_parts = record parts { world = new; moment = at }
 
   abbrev later : State
-  later = state_of spans views new dispatch opening lanes hs gs cs at
+  later = state_of spans views later_parts
 
   abbrev r : Recording
-  r = seen views.recorded no_recording old dispatch
+  r = seen views.recorded no_recording parts.world parts.dispatch
 
   abbrev place_id : ℕ
   place_id = id_at now.setup.ids lane
 
   abbrev IsDone : List Done → Type 0
-  IsDone o = Does spans views attaches kept is_whole old new dispatch at o []
+  IsDone o = Does spans views attaches kept is_whole parts new at o []
 
-  its_scope : (t : Tables) → Fits now t → Found (held_of dispatch) t.handles handle h.held
-  its_scope t fits = find (held_of dispatch) (map held_by hs) t.handles handle h.held fits.handle_slots (held_slot hs handle h found)
+  its_scope : (t : Tables) → Fits now t → Found (held_of parts.dispatch) t.handles handle h.held
+  its_scope t fits = find (held_of parts.dispatch) (map held_by parts.handles) t.handles handle h.held fits.handle_slots (held_slot parts.handles handle h found)
 
   -- the span of an unspent handle is known
   known : (t : Tables) → StandsFor now t → (line : Scope) → slot_at t.handles handle ≡ Some line → (s : ℕ) (up : Scope) → line ≡ s ∷ up → told_at s r.spans ≢ None
@@ -107,18 +109,18 @@ module _ {S : Type 0} (spans : S → Spans) (views : Views S) (attaches : S → 
   Known line = (s : ℕ) (up : Scope) → line ≡ s ∷ up → told_at s r.spans ≢ None
 
   -- an op was applied
-  did_op : (line : Scope) → Known line → (op : Op) (answer : Option (Result OpReply Memory)) → AppliesOn touches old new at op (held_of dispatch line) answer → done_answer answer ≡ Ok tt → IsDone (on line op)
-  did_op [] is_known op answer did done = does_none spans views attaches kept is_whole old new dispatch at did.1
+  did_op : (line : Scope) → Known line → (op : Op) (answer : Option (Result OpReply Memory)) → AppliesOn touches parts.world new at op (held_of parts.dispatch line) answer → done_answer answer ≡ Ok tt → IsDone (op_on line op)
+  did_op [] is_known op answer did done = does_none spans views attaches kept is_whole parts new at did.1
   did_op (s ∷ up) is_known op answer did done =
-      let alike = leaves old new dispatch (Applies s at op answer) did in
-      let told = asks old new dispatch (Applies s at op answer) did in
+      let alike = law.shown parts.world new parts.dispatch (Applies s at op answer) did in
+      let told = law.recalled parts.world new parts.dispatch (Applies s at op answer) did in
       let records = told.0 in
       record {
         spans_same = alike.spans_same;
         kept_same = alike.kept_same;
         sites_same = ap (λ (w : Worlds S). w.sites) did.others;
         recorded_is = records.1 ∙ ap (λ (xs : List (ℕ × Told)). record r { spans = xs }) (applied_by (told_at s r.spans) (is_known s up refl) r.spans _ s at op answer records.0 done);
-        filter_is = told.1 ∙ heard_none (seen views.filtered None old dispatch);
+        filter_is = told.1 ∙ heard_none (seen views.filtered None parts.world parts.dispatch);
         aside_is = told.2;
         cached_same = ap (λ (w : Worlds S). w.cached) did.others;
         count = alike.count;
@@ -126,27 +128,27 @@ module _ {S : Type 0} (spans : S → Spans) (views : Views S) (attaches : S → 
       }
 
   -- one that doesn't grow always is
-  still_done : (line : Scope) (op : Op) (answer : Option (Result OpReply Memory)) → is_growing op ≡ false → AppliesOn touches old new at op (held_of dispatch line) answer → done_answer answer ≡ Ok tt
+  still_done : (line : Scope) (op : Op) (answer : Option (Result OpReply Memory)) → is_growing op ≡ false → AppliesOn touches parts.world new at op (held_of parts.dispatch line) answer → done_answer answer ≡ Ok tt
   still_done [] op answer still did = ap done_answer did.0
-  still_done (s ∷ up) op answer still did = unwanted (told_at s r.spans) r.spans _ s at op answer still (asks old new dispatch (Applies s at op answer) did).0.0
+  still_done (s ∷ up) op answer still did = unwanted (told_at s r.spans) r.spans _ s at op answer still (law.recalled parts.world new parts.dispatch (Applies s at op answer) did).0.0
 
   -- whether a parent was set
-  was_set : (line : Scope) → Known line → (context : Context) (answer : Option (Result OpReply Memory)) → AppliesOn touches old new at (ops.SetParent context) (held_of dispatch line) answer → parent_answer (held_of dispatch line) answer ≡ is_set r line
+  was_set : (line : Scope) → Known line → (context : Context) (answer : Option (Result OpReply Memory)) → AppliesOn touches parts.world new at (ops.SetParent context) (held_of parts.dispatch line) answer → parent_answer (held_of parts.dispatch line) answer ≡ is_set r line
   was_set [] is_known context answer did = refl
-  was_set (s ∷ up) is_known context answer did = set_by (told_at s r.spans) (is_known s up refl) (dispatch, s) r.spans _ s at context answer (asks old new dispatch (Applies s at (ops.SetParent context) answer) did).0.0
+  was_set (s ∷ up) is_known context answer did = set_by (told_at s r.spans) (is_known s up refl) (parts.dispatch, s) r.spans _ s at context answer (law.recalled parts.world new parts.dispatch (Applies s at (ops.SetParent context) answer) did).0.0
 
   -- nothing of what is kept changed
   abbrev Rest : Type 0
-  Rest = Alike spans attaches kept is_whole old new dispatch × (new.sites ≡ old.sites) × (seen views.recorded no_recording new dispatch ≡ r) × (seen views.filtered None new dispatch ≡ seen views.filtered None old dispatch) × (new.cached ≡ old.cached) × Adds (aside_in views old dispatch) (aside_in views new dispatch) []
+  Rest = Alike spans attaches kept is_whole parts.world new parts.dispatch × (new.sites ≡ parts.world.sites) × (seen views.recorded no_recording new parts.dispatch ≡ r) × (seen views.filtered None new parts.dispatch ≡ seen views.filtered None parts.world parts.dispatch) × (new.cached ≡ parts.world.cached) × Adds (aside_in views parts.world parts.dispatch) (aside_in views new parts.dispatch) []
 
   -- where memory was wanted nothing changed
-  left : (line : Scope) (op : Op) (answer : Option (Result OpReply Memory)) (memory : Memory) → AppliesOn touches old new at op (held_of dispatch line) answer → done_answer answer ≡ Err memory
+  left : (line : Scope) (op : Op) (answer : Option (Result OpReply Memory)) (memory : Memory) → AppliesOn touches parts.world new at op (held_of parts.dispatch line) answer → done_answer answer ≡ Err memory
       → Rest
   left [] op answer memory did wanted = absurd (let e = sym (ap done_answer did.0) ∙ wanted in cc e)
   left (s ∷ up) op answer memory did wanted =
-      let told = asks old new dispatch (Applies s at op answer) did in
+      let told = law.recalled parts.world new parts.dispatch (Applies s at op answer) did in
       let records = told.0 in (
-        leaves old new dispatch (Applies s at op answer) did,
+        law.shown parts.world new parts.dispatch (Applies s at op answer) did,
         ap (λ (w : Worlds S). w.sites) did.others,
         records.1 ∙ ap (λ (xs : List (ℕ × Told)). record r { spans = xs }) (left_by (told_at s r.spans) r.spans _ s at op answer memory records.0 wanted),
         told.1,
@@ -158,80 +160,80 @@ module _ {S : Type 0} (spans : S → Spans) (views : Views S) (attaches : S → 
 
   -- an op of the handle's span
   abbrev asked : Tables → Op → Resolved
-  asked t op = named what.Handle (slot_at t.handles handle) (λ scope. Ok (tells at place_id reply.Done (on scope op)))
+  asked t op = need what.Handle (slot_at t.handles handle) >>= (λ scope. Ok (ops_effect (here_at now.setup t at lane) reply.Done (op_on scope op)))
 
-  module _ (op : Op) (result : Result (Unit {0}) Memory) (did : AsksDone touches old new at op h.held result) where
-    line_did : (t : Tables) (fits : Fits now t) → AppliesOn touches old new at op (held_of dispatch (its_scope t fits).at) did.answer
-    line_did t fits = subst (λ (held : Held). AppliesOn touches old new at op held did.answer) (its_scope t fits).is did.did
+  module _ (op : Op) (result : Result (Unit {0}) Memory) (did : AsksDone touches parts.world new at op h.held result) where
+    line_did : (t : Tables) (fits : Fits now t) → AppliesOn touches parts.world new at op (held_of parts.dispatch (its_scope t fits).at) did.answer
+    line_did t fits = subst (λ (held : Held). AppliesOn touches parts.world new at op held did.answer) (its_scope t fits).is did.did
 
     -- where no memory was wanted
     module _ (ok : result ≡ Ok tt) where
-      its_op : (t : Tables) (stands : StandsFor now t) → IsDone (on (its_scope t stands.fits).at op)
+      its_op : (t : Tables) (stands : StandsFor now t) → IsDone (op_on (its_scope t stands.fits).at op)
       its_op t stands = (let line = its_scope t stands.fits in did_op line.at (known t stands line.at line.there) op did.answer (line_did t stands.fits) (sym did.is ∙ ok))
 
-      its_effect : (t : Tables) (fits : Fits now t) → asked t op ≡ Ok (tells at place_id reply.Done (on (its_scope t fits).at op))
-      its_effect t fits = ap (λ o. named what.Handle o (λ scope. Ok (tells at place_id reply.Done (on scope op)))) (its_scope t fits).there
+      its_effect : (t : Tables) (fits : Fits now t) → asked t op ≡ Ok (ops_effect (here_at now.setup t at lane) reply.Done (op_on (its_scope t fits).at op))
+      its_effect t fits = ap (λ o. need what.Handle o >>= (λ scope. Ok (ops_effect (here_at now.setup t at lane) reply.Done (op_on scope op)))) (its_scope t fits).there
 
       pub serves_op : (t : Tables) → StandsFor now t → Served (asked t op) t now later reply.Done
-      serves_op t stands = serves_ops spans views attaches kept is_whole old new dispatch opening lanes hs gs cs m at lane t stands _ [] refl reply.Done _ (its_op t stands) (its_effect t stands.fits)
+      serves_op t stands = serves_ops spans views attaches kept is_whole parts new at lane t stands _ [] refl reply.Done _ (its_op t stands) (its_effect t stands.fits)
 
-      pub keeps_op : IsKept kept is_whole old now → IsKept kept is_whole new later
-      keeps_op inv = (let t = inv.tables in let stands : StandsFor now t = record { fits = inv.fits; recording = inv.recording; filtering = inv.filtering } in
-          keeps_ops spans views attaches kept is_whole old new dispatch opening lanes hs gs cs m at lane inv _ [] refl reply.Done _ (its_op t stands) (its_effect t inv.fits))
+      pub keeps_op : IsKept spans views kept is_whole parts → IsKept spans views kept is_whole later_parts
+      keeps_op inv = (let t = inv.tables in let stands : StandsFor now t = inv.stands in
+          keeps_ops spans views attaches kept is_whole parts new at lane inv _ [] refl reply.Done _ (its_op t stands) (its_effect t inv.stands.fits))
 
     -- where it was, what is kept is as it was
-    module _ (memory : Memory) (wanted : result ≡ Err memory) (inv : IsKept kept is_whole old now) where
+    module _ (memory : Memory) (wanted : result ≡ Err memory) (inv : IsKept spans views kept is_whole parts) where
       its_rest : Rest
-      its_rest = left (its_scope inv.tables inv.fits).at op did.answer memory (line_did inv.tables inv.fits) (sym did.is ∙ wanted)
+      its_rest = left (its_scope inv.tables inv.stands.fits).at op did.answer memory (line_did inv.tables inv.stands.fits) (sym did.is ∙ wanted)
 
-      pub left_state : state_of spans views new dispatch opening lanes hs gs cs m ≡ now
-      left_state = (let still = adds_nothing (aside_in views old dispatch) (aside_in views new dispatch) its_rest.5 in rw (its_rest.0.spans_same, its_rest.1, its_rest.2, its_rest.3, its_rest.4, still.0, still.1) refl)
+      pub left_state : state_of spans views (record parts { world = new }) ≡ now
+      left_state = (let still = adds_nothing (aside_in views parts.world parts.dispatch) (aside_in views new parts.dispatch) its_rest.5 in rw (its_rest.0.spans_same, its_rest.1, its_rest.2, its_rest.3, its_rest.4, still.0, still.1) refl)
 
-      pub left_kept : IsKept kept is_whole new (state_of spans views new dispatch opening lanes hs gs cs m)
-      left_kept = kept_alike spans views attaches kept is_whole old new now _ inv left_state its_rest.0
+      pub left_kept : IsKept spans views kept is_whole (record parts { world = new })
+      left_kept = kept_alike spans views attaches kept is_whole parts (record parts { world = new }) inv left_state its_rest.0
 
   -- an event, at its time
-  pub serves_event : (name : List ℕ) (attributes : List KeyValue) (time : Option ℕ) (n : ℕ) → n ≡ happens_at at time → (result : Result (Unit {0}) Memory) → AsksDone touches old new at (event_at name n attributes) h.held result → result ≡ Ok tt
+  pub serves_event : (name : List ℕ) (attributes : List KeyValue) (time : Option ℕ) (n : ℕ) → n ≡ happens_at at time → (result : Result (Unit {0}) Memory) → AsksDone touches parts.world new at (event_at name n attributes) h.held result → result ≡ Ok tt
       → (t : Tables) → StandsFor now t → Served (asked t (event_at name (happens_at at time) attributes)) t now later reply.Done
   serves_event name attributes time n is result did ok t stands = subst (λ (k : ℕ). Served (asked t (event_at name k attributes)) t now later reply.Done) is (serves_op (event_at name n attributes) result did ok t stands)
 
   -- a status never wants memory
-  module _ (status : Status) (did : (answer : Option (Result OpReply Memory)) × AppliesOn touches old new at (ops.SetStatus status) h.held answer) where
+  module _ (status : Status) (did : (answer : Option (Result OpReply Memory)) × AppliesOn touches parts.world new at (ops.SetStatus status) h.held answer) where
     never_wants : (t : Tables) (fits : Fits now t) → done_answer did.0 ≡ Ok tt
-    never_wants t fits = (let line = its_scope t fits in still_done line.at (ops.SetStatus status) did.0 refl (subst (λ (held : Held). AppliesOn touches old new at (ops.SetStatus status) held did.0) line.is did.1))
+    never_wants t fits = (let line = its_scope t fits in still_done line.at (ops.SetStatus status) did.0 refl (subst (λ (held : Held). AppliesOn touches parts.world new at (ops.SetStatus status) held did.0) line.is did.1))
 
-    asks_status : AsksDone touches old new at (ops.SetStatus status) h.held (done_answer did.0)
+    asks_status : AsksDone touches parts.world new at (ops.SetStatus status) h.held (done_answer did.0)
     asks_status = record { answer = did.0; did = did.1; is = refl }
 
     pub serves_status : (t : Tables) → StandsFor now t → Served (asked t (ops.SetStatus status)) t now later reply.Done
     serves_status t stands = serves_op (ops.SetStatus status) (done_answer did.0) asks_status (never_wants t stands.fits) t stands
 
-    pub keeps_status : IsKept kept is_whole old now → IsKept kept is_whole new later
-    keeps_status inv = keeps_op (ops.SetStatus status) (done_answer did.0) asks_status (never_wants inv.tables inv.fits) inv
+    pub keeps_status : IsKept spans views kept is_whole parts → IsKept spans views kept is_whole later_parts
+    keeps_status inv = keeps_op (ops.SetStatus status) (done_answer did.0) asks_status (never_wants inv.tables inv.stands.fits) inv
 
   -- ---- with a context
 
   module _ (context : ℕ) where
     -- one that isn't there
-    pub refuses_context : slice_get cs.made context ≡ None → (t : Tables) → Fits now t → (go : Scope → Context → Resolved)
-        → named what.Handle (slot_at t.handles handle) (λ scope. named what.Context (slice_get t.named context) (go scope)) ≡ Err (refusal.UnknownName what.Context)
+    pub refuses_context : slice_get parts.contexts.made context ≡ None → (t : Tables) → Fits now t → (go : Scope → Context → Resolved)
+        → (need what.Handle (slot_at t.handles handle) >>= (λ scope. need what.Context (slice_get t.named context) >>= (go scope))) ≡ Err (refusal.UnknownName what.Context)
     refuses_context gone t fits go =
         let line = its_scope t fits in
-        ap (λ o. named what.Handle o (λ scope. named what.Context (slice_get t.named context) (go scope))) line.there
-        ∙ ap (λ o. named what.Context o (go line.at)) (ap (λ (xs : List Context). slice_get xs context) (sym fits.named) ∙ gone)
+        ap (λ o. need what.Handle o >>= (λ scope. need what.Context (slice_get t.named context) >>= (go scope))) line.there
+        ∙ ap (λ o. need what.Context o >>= (go line.at)) (ap (λ (xs : List Context). slice_get xs context) (sym fits.named) ∙ gone)
 
-    module _ (given : Context) (there : slice_get cs.made context ≡ Some given) where
+    module _ (given : Context) (there : slice_get parts.contexts.made context ≡ Some given) where
       its_context : (t : Tables) (fits : Fits now t) → (go : Scope → Context → Resolved)
-          → named what.Handle (slot_at t.handles handle) (λ scope. named what.Context (slice_get t.named context) (go scope)) ≡ go (its_scope t fits).at given
+          → (need what.Handle (slot_at t.handles handle) >>= (λ scope. need what.Context (slice_get t.named context) >>= (go scope))) ≡ go (its_scope t fits).at given
       its_context t fits go =
           let line = its_scope t fits in
-          ap (λ o. named what.Handle o (λ scope. named what.Context (slice_get t.named context) (go scope))) line.there
-          ∙ ap (λ o. named what.Context o (go line.at)) (ap (λ (xs : List Context). slice_get xs context) (sym fits.named) ∙ there)
+          ap (λ o. need what.Handle o >>= (λ scope. need what.Context (slice_get t.named context) >>= (go scope))) line.there
+          ∙ ap (λ o. need what.Context o >>= (go line.at)) (ap (λ (xs : List Context). slice_get xs context) (sym fits.named) ∙ there)
 
       -- a parent
-      module _ (set : Result (Unit {0}) SetParentError) (did : AsksParent touches old new at given h.held set) where
-        parent_did : (t : Tables) (fits : Fits now t) → AppliesOn touches old new at (ops.SetParent given) (held_of dispatch (its_scope t fits).at) did.answer
-        parent_did t fits = subst (λ (held : Held). AppliesOn touches old new at (ops.SetParent given) held did.answer) (its_scope t fits).is did.did
+      module _ (set : Result (Unit {0}) SetParentError) (did : AsksParent touches parts.world new at given h.held set) where
+        parent_did : (t : Tables) (fits : Fits now t) → AppliesOn touches parts.world new at (ops.SetParent given) (held_of parts.dispatch (its_scope t fits).at) did.answer
+        parent_did t fits = subst (λ (held : Held). AppliesOn touches parts.world new at (ops.SetParent given) held did.answer) (its_scope t fits).is did.did
 
         its_set : (t : Tables) (stands : StandsFor now t) → set ≡ is_set t.recording (its_scope t stands.fits).at
         its_set t stands =
@@ -239,52 +241,52 @@ module _ {S : Type 0} (spans : S → Spans) (views : Views S) (attaches : S → 
             did.is ∙ ap (λ (held : Held). parent_answer held did.answer) line.is ∙ was_set line.at (known t stands line.at line.there) given did.answer (parent_did t stands.fits)
             ∙ ap (λ (x : Recording). is_set x line.at) stands.recording.recorded
 
-        its_parent : (t : Tables) (stands : StandsFor now t) → IsDone (on (its_scope t stands.fits).at (ops.SetParent given))
+        its_parent : (t : Tables) (stands : StandsFor now t) → IsDone (op_on (its_scope t stands.fits).at (ops.SetParent given))
         its_parent t stands =
             let line = its_scope t stands.fits in
             did_op line.at (known t stands line.at line.there) (ops.SetParent given) did.answer (parent_did t stands.fits) (still_done line.at (ops.SetParent given) did.answer refl (parent_did t stands.fits))
 
-        parent_effect : (t : Tables) (stands : StandsFor now t) → effect_of_call now.setup t at lane (call.SetParent handle context) ≡ Ok (tells at place_id (reply.Set set) (on (its_scope t stands.fits).at (ops.SetParent given)))
+        parent_effect : (t : Tables) (stands : StandsFor now t) → effect_of_call now.setup t at lane (call.SetParent handle context) ≡ Ok (ops_effect (here_at now.setup t at lane) (reply.Set set) (op_on (its_scope t stands.fits).at (ops.SetParent given)))
         parent_effect t stands =
-            its_context t stands.fits (λ scope given. Ok (tells at place_id (reply.Set (is_set t.recording scope)) (on scope (ops.SetParent given))))
-            ∙ ap (λ (x : Result (Unit {0}) SetParentError). Ok (tells at place_id (reply.Set x) (on (its_scope t stands.fits).at (ops.SetParent given)))) (sym (its_set t stands))
+            its_context t stands.fits (λ scope given. Ok (ops_effect (here_at now.setup t at lane) (reply.Set (is_set t.recording scope)) (op_on scope (ops.SetParent given))))
+            ∙ ap (λ (x : Result (Unit {0}) SetParentError). Ok (ops_effect (here_at now.setup t at lane) (reply.Set x) (op_on (its_scope t stands.fits).at (ops.SetParent given)))) (sym (its_set t stands))
 
         pub serves_parent : (t : Tables) → StandsFor now t → Served (effect_of_call now.setup t at lane (call.SetParent handle context)) t now later (reply.Set set)
-        serves_parent t stands = serves_ops spans views attaches kept is_whole old new dispatch opening lanes hs gs cs m at lane t stands _ [] refl (reply.Set set) _ (its_parent t stands) (parent_effect t stands)
+        serves_parent t stands = serves_ops spans views attaches kept is_whole parts new at lane t stands _ [] refl (reply.Set set) _ (its_parent t stands) (parent_effect t stands)
 
-        pub keeps_parent : IsKept kept is_whole old now → IsKept kept is_whole new later
-        keeps_parent inv = (let t = inv.tables in let stands : StandsFor now t = record { fits = inv.fits; recording = inv.recording; filtering = inv.filtering } in
-            keeps_ops spans views attaches kept is_whole old new dispatch opening lanes hs gs cs m at lane inv _ [] refl (reply.Set set) _ (its_parent t stands) (parent_effect t stands))
+        pub keeps_parent : IsKept spans views kept is_whole parts → IsKept spans views kept is_whole later_parts
+        keeps_parent inv = (let t = inv.tables in let stands : StandsFor now t = inv.stands in
+            keeps_ops spans views attaches kept is_whole parts new at lane inv _ [] refl (reply.Set set) _ (its_parent t stands) (parent_effect t stands))
 
       -- a link
-      module _ (ids : SpanContext) (shown : ids ≡ ids_of given) (attributes : List KeyValue) (result : Result (Unit {0}) Memory) (valid : is_valid ids ≡ true → AsksDone touches old new at (link_of ids attributes) h.held result)
-          (invalid : is_valid ids ≡ false → (result ≡ Ok tt) × (new ≡ old)) where
-        linked : (ok : result ≡ Ok tt) (t : Tables) (stands : StandsFor now t) (b : Bool) → is_valid ids ≡ b → IsDone (if b then on (its_scope t stands.fits).at (link_of ids attributes) else [])
+      module _ (ids : SpanContext) (shown : ids ≡ ids_of given) (attributes : List KeyValue) (result : Result (Unit {0}) Memory) (valid : is_valid ids ≡ true → AsksDone touches parts.world new at (link_of ids attributes) h.held result)
+          (invalid : is_valid ids ≡ false → (result ≡ Ok tt) × (new ≡ parts.world)) where
+        linked : (ok : result ≡ Ok tt) (t : Tables) (stands : StandsFor now t) (b : Bool) → is_valid ids ≡ b → IsDone (if b then op_on (its_scope t stands.fits).at (link_of ids attributes) else [])
         linked ok t stands true is = its_op (link_of ids attributes) result (valid is) ok t stands
-        linked ok t stands false is = does_none spans views attaches kept is_whole old new dispatch at (invalid is).1
+        linked ok t stands false is = does_none spans views attaches kept is_whole parts new at (invalid is).1
 
-        link_effect : (t : Tables) (stands : StandsFor now t) → effect_of_call now.setup t at lane (call.AddLink handle context attributes) ≡ Ok (tells at place_id reply.Done (links (its_scope t stands.fits).at ids attributes))
+        link_effect : (t : Tables) (stands : StandsFor now t) → effect_of_call now.setup t at lane (call.AddLink handle context attributes) ≡ Ok (ops_effect (here_at now.setup t at lane) reply.Done (link_ops (its_scope t stands.fits).at ids attributes))
         link_effect t stands =
-            its_context t stands.fits (λ scope given. Ok (tells at place_id reply.Done (links scope (ids_of given) attributes)))
-            ∙ ap (λ (x : SpanContext). Ok (tells at place_id reply.Done (links (its_scope t stands.fits).at x attributes))) (sym shown)
+            its_context t stands.fits (λ scope given. Ok (ops_effect (here_at now.setup t at lane) reply.Done (link_ops scope (ids_of given) attributes)))
+            ∙ ap (λ (x : SpanContext). Ok (ops_effect (here_at now.setup t at lane) reply.Done (link_ops (its_scope t stands.fits).at x attributes))) (sym shown)
 
         pub serves_link : result ≡ Ok tt → (t : Tables) → StandsFor now t → Served (effect_of_call now.setup t at lane (call.AddLink handle context attributes)) t now later reply.Done
-        serves_link ok t stands = serves_ops spans views attaches kept is_whole old new dispatch opening lanes hs gs cs m at lane t stands _ [] refl reply.Done _ (linked ok t stands (is_valid ids) refl) (link_effect t stands)
+        serves_link ok t stands = serves_ops spans views attaches kept is_whole parts new at lane t stands _ [] refl reply.Done _ (linked ok t stands (is_valid ids) refl) (link_effect t stands)
 
-        pub keeps_link : result ≡ Ok tt → IsKept kept is_whole old now → IsKept kept is_whole new later
-        keeps_link ok inv = (let t = inv.tables in let stands : StandsFor now t = record { fits = inv.fits; recording = inv.recording; filtering = inv.filtering } in
-            keeps_ops spans views attaches kept is_whole old new dispatch opening lanes hs gs cs m at lane inv _ [] refl reply.Done _ (linked ok t stands (is_valid ids) refl) (link_effect t stands))
+        pub keeps_link : result ≡ Ok tt → IsKept spans views kept is_whole parts → IsKept spans views kept is_whole later_parts
+        keeps_link ok inv = (let t = inv.tables in let stands : StandsFor now t = inv.stands in
+            keeps_ops spans views attaches kept is_whole parts new at lane inv _ [] refl reply.Done _ (linked ok t stands (is_valid ids) refl) (link_effect t stands))
 
         -- no memory is wanted where the context is invalid
-        wanted_link : (memory : Memory) → result ≡ Err memory → AsksDone touches old new at (link_of ids attributes) h.held result
+        wanted_link : (memory : Memory) → result ≡ Err memory → AsksDone touches parts.world new at (link_of ids attributes) h.held result
         wanted_link memory wanted = by_valid (is_valid ids) refl
           where
-            by_valid : (b : Bool) → is_valid ids ≡ b → AsksDone touches old new at (link_of ids attributes) h.held result
+            by_valid : (b : Bool) → is_valid ids ≡ b → AsksDone touches parts.world new at (link_of ids attributes) h.held result
             by_valid true is = valid is
             by_valid false is = absurd (let e = sym (invalid is).0 ∙ wanted in cc e)
 
-        pub left_link_state : (memory : Memory) → result ≡ Err memory → IsKept kept is_whole old now → state_of spans views new dispatch opening lanes hs gs cs m ≡ now
+        pub left_link_state : (memory : Memory) → result ≡ Err memory → IsKept spans views kept is_whole parts → state_of spans views (record parts { world = new }) ≡ now
         left_link_state memory wanted inv = left_state (link_of ids attributes) result (wanted_link memory wanted) memory wanted inv
 
-        pub left_link_kept : (memory : Memory) → result ≡ Err memory → IsKept kept is_whole old now → IsKept kept is_whole new (state_of spans views new dispatch opening lanes hs gs cs m)
+        pub left_link_kept : (memory : Memory) → result ≡ Err memory → IsKept spans views kept is_whole parts → IsKept spans views kept is_whole (record parts { world = new })
         left_link_kept memory wanted inv = left_kept (link_of ids attributes) result (wanted_link memory wanted) memory wanted inv

@@ -4,7 +4,6 @@ use Rattle.std.proofs.Common.{◌≡◌, ℕ, List, [], ◌∷◌, Bool, Option,
 use Rattle.otel_base.specs.Ids.{ids_of}
 use Rattle.otel_base.specs.Stack.{empty_context}
 use Rattle.otel_state.specs.States.{Told}
-use Rattle.trace_base.specs.declared.lane.Lane.{Lane}
 use Rattle.trace_base.specs.Gate.{Worlds}
 use Rattle.trace_base.specs.Spans.{Spans}
 use Rattle.trace_base.specs.Calls.{SubscriberCall}
@@ -14,25 +13,26 @@ use Rattle.otel_layer.specs.Table.{told_at, with_op, own_or, ids_at}
 use Rattle.otel_layer.specs.Recording.{Recording, no_recording, with_start}
 use Rattle.span_handles.specs.Worlds.{seen}
 use Rattle.span_handles.specs.Handles.{Handle, Held, FollowsOn, AreOfOne}
-use Rattle.span_script.specs.declared.slots.Guard.{Guard}
 use Rattle.span_script.specs.declared.reply.Refusal.TheVariants as refusal
 use Rattle.span_script.specs.declared.reply.Reply.TheVariants as reply
 use Rattle.span_script.specs.declared.reply.What.TheVariants as what
 use Rattle.span_script.specs.declared.request.Call.TheVariants as call
-use Rattle.span_script.specs.declared.settings.Texts.{Texts}
 use Rattle.span_script.specs.Setups.{id_at}
 use Rattle.span_script.specs.Tables.{Scope, Done, Effect, Tables, slot_at}
-use Rattle.span_script.specs.Effects.{named, effect_of_call, on, own_context, follows}
+use Rattle.span_script.specs.calls.Here.{here_at, ◌>>=◌, need, op_on}
+use Rattle.span_script.specs.Effects.{effect_of_call}
+use Rattle.span_script.specs.calls.Contexts.{own_context}
+use Rattle.span_script.specs.calls.Links.{follow_effect}
 use Rattle.span_script.specs.Balance.{named_by, opened_by}
-use Rattle.span_script.specs.Fits.{Views, Named, State, state_of, held_by, held_of, Fits, StandsFor, IsKept, Served}
+use Rattle.span_script.specs.Fits.{Views, State, state_of, held_by, held_of, Fits, StandsFor, IsKept, Served, Parts}
 use Rattle.span_script.proofs.steps.BalanceLemmas.{named_slot}
 use Rattle.span_script.proofs.entries.EntriesFitLemmas.{fits_live}
 use Rattle.span_script.proofs.lane_contexts.ContextsLemmas.{own_open}
 use Rattle.span_script.proofs.steps.KnownSpansLemmas.{start_known}
 use Rattle.span_script.proofs.steps.SlotsLemmas.{Found, find, held_slot}
-use Rattle.span_script.proofs.steps.CallsLemmas.{Law, Recalls}
 use Rattle.span_script.proofs.runs.RefusalsLemmas.{refuses_unknown}
 use Rattle.span_script.proofs.events.EventsLemmas.{Starts, does_none, starts_then, serves_starts, keeps_starts}
+use Rattle.span_script.specs.SubscriberLaws.{CallsLaw}
 
 -- the link to a known span is one to its own context
 linked_is : (o : Option Told) → o ≢ None → (s at : ℕ) (spans : List (ℕ × Told)) → with_link s at (ids_at o) spans ≡ with_op s at (link_of (ids_of (own_or empty_context o)) []) spans
@@ -48,33 +48,35 @@ of_one dispatch line from held other is from_is = subst (λ (x : Held). AreOfOne
     both (s ∷ up) [] = tt
     both (s ∷ up) (f ∷ above) = refl
 
-module _ {S : Type 0} (spans : S → Spans) (views : Views S) (attaches : S → Bool) (kept : S → ℕ → ℕ → ℕ) (is_whole : S → Type 0) (old : Worlds S)
-    (dispatch : ℕ) (opening : Texts) (lanes : List Lane) (hs : List (Option Handle)) (gs : List (Option Guard)) (cs : Named) (m : ℕ)
-    (handle : ℕ) (h : Handle) (found : slot_at hs handle ≡ Some h) where
+module _ {S : Type 0} (spans : S → Spans) (views : Views S) (attaches : S → Bool) (kept : S → ℕ → ℕ → ℕ) (is_whole : S → Type 0) (parts : Parts S)
+    (handle : ℕ) (h : Handle) (found : slot_at parts.handles handle ≡ Some h) where
   abbrev now : State
-  now = state_of spans views old dispatch opening lanes hs gs cs m
+  now = state_of spans views parts
 
   abbrev r : Recording
-  r = seen views.recorded no_recording old dispatch
+  r = seen views.recorded no_recording parts.world parts.dispatch
 
-  its_scope : (t : Tables) → Fits now t → (n : ℕ) (x : Handle) → slot_at hs n ≡ Some x → Found (held_of dispatch) t.handles n x.held
-  its_scope t fits n x there = find (held_of dispatch) (map held_by hs) t.handles n x.held fits.handle_slots (held_slot hs n x there)
+  its_scope : (t : Tables) → Fits now t → (n : ℕ) (x : Handle) → slot_at parts.handles n ≡ Some x → Found (held_of parts.dispatch) t.handles n x.held
+  its_scope t fits n x there = find (held_of parts.dispatch) (map held_by parts.handles) t.handles n x.held fits.handle_slots (held_slot parts.handles n x there)
 
   -- the followed handle isn't there
-  pub refuses_from : (k : State) → now ≡ k → (from : ℕ) → slot_at hs from ≡ None → (t : Tables) → StandsFor k t → (at lane : ℕ) → effect_of_call k.setup t at lane (call.Follows handle from) ≡ Err (refusal.UnknownName what.Handle)
+  pub refuses_from : (k : State) → now ≡ k → (from : ℕ) → slot_at parts.handles from ≡ None → (t : Tables) → StandsFor k t → (at lane : ℕ) → effect_of_call k.setup t at lane (call.Follows handle from) ≡ Err (refusal.UnknownName what.Handle)
   refuses_from k is from gone t stands at lane =
       let line = its_scope t (subst (λ (x : State). Fits x t) (sym is) stands.fits) handle h found in
-      ap (λ o. named what.Handle o (λ scope. named what.Handle (slot_at t.handles from) (λ followed. Ok (follows t at (id_at k.setup.ids lane) scope followed)))) line.there
-      ∙ refuses_unknown now k is hs refl from gone t stands.fits _
+      ap (λ o. need what.Handle o >>= (λ scope. need what.Handle (slot_at t.handles from) >>= (λ followed. Ok (follow_effect (here_at k.setup t at lane) scope followed)))) line.there
+      ∙ refuses_unknown now k is parts.handles refl from gone t stands.fits _
 
-  module _ (from : ℕ) (f : Handle) (found_from : slot_at hs from ≡ Some f) where
-    pub needs_one : IsKept kept is_whole old now → AreOfOne h.held f.held
-    needs_one inv = (let line = its_scope inv.tables inv.fits handle h found in let other = its_scope inv.tables inv.fits from f found_from in of_one dispatch line.at other.at h.held f.held line.is other.is)
+  module _ (from : ℕ) (f : Handle) (found_from : slot_at parts.handles from ≡ Some f) where
+    pub needs_one : IsKept spans views kept is_whole parts → AreOfOne h.held f.held
+    needs_one inv = (let line = its_scope inv.tables inv.stands.fits handle h found in let other = its_scope inv.tables inv.stands.fits from f found_from in of_one parts.dispatch line.at other.at h.held f.held line.is other.is)
 
-    module _ (new : Worlds S) (at lane : ℕ) (does : S → SubscriberCall → S → Type 0) (law : Law spans views attaches kept is_whole does) (recalls : Recalls spans views attaches kept is_whole does)
-        (did : FollowsOn does old new at h.held f.held) where
+    module _ (new : Worlds S) (at lane : ℕ) (does : S → SubscriberCall → S → Type 0) (law : CallsLaw spans views attaches kept is_whole does)
+        (did : FollowsOn does parts.world new at h.held f.held) where
+      abbrev then_parts : Parts S
+      then_parts = record parts { world = new; moment = at }
+
       abbrev then : State
-      then = state_of spans views new dispatch opening lanes hs gs cs at
+      then = state_of spans views then_parts
 
       abbrev place_id : ℕ
       place_id = id_at now.setup.ids lane
@@ -83,33 +85,33 @@ module _ {S : Type 0} (spans : S → Spans) (views : Views S) (attaches : S → 
       record Followed (t : Tables) (line other : Scope) : Type 0 where
         starting : List ℕ
         ops : List Done
-        done : Starts spans views attaches kept is_whole old new dispatch at starting ops [] []
-        is : follows t at place_id line other ≡ starts_then spans views attaches kept is_whole old new dispatch opening lanes hs gs cs m at lane starting ops [] reply.Done
+        done : Starts spans views attaches kept is_whole parts new at starting ops [] []
+        is : follow_effect (here_at now.setup t at lane) line other ≡ starts_then spans views attaches kept is_whole parts new at lane starting ops [] reply.Done
 
-      followed_by : (t : Tables) → StandsFor now t → (line other : Scope) → slot_at t.handles from ≡ Some other → FollowsOn does old new at (held_of dispatch line) (held_of dispatch other) → Followed t line other
-      followed_by t stands [] other there same = record { starting = []; ops = []; done = does_none spans views attaches kept is_whole old new dispatch at same; is = refl }
-      followed_by t stands (s ∷ up) [] there same = record { starting = []; ops = []; done = does_none spans views attaches kept is_whole old new dispatch at same; is = refl }
+      followed_by : (t : Tables) → StandsFor now t → (line other : Scope) → slot_at t.handles from ≡ Some other → FollowsOn does parts.world new at (held_of parts.dispatch line) (held_of parts.dispatch other) → Followed t line other
+      followed_by t stands [] other there same = record { starting = []; ops = []; done = does_none spans views attaches kept is_whole parts new at same; is = refl }
+      followed_by t stands (s ∷ up) [] there same = record { starting = []; ops = []; done = does_none spans views attaches kept is_whole parts new at same; is = refl }
       followed_by t stands (s ∷ up) (q ∷ above) there step =
-          let shown = law old new dispatch _ step in
+          let shown = law.shown parts.world new parts.dispatch _ step in
           let live = fits_live now.spans (map named_by t.handles) (map (opened_by now.setup.ids) t.guards) t.entries stands.fits.balanced from q (named_slot t.handles from (q ∷ above) there) in
           let r1 : Recording = with_start q at r in
           let known = start_known q at q r (stands.recording.known q live) in
           let op = link_of (ids_of (own_context r at (q ∷ above))) [] in
           record {
             starting = q ∷ [];
-            ops = on (s ∷ up) op;
+            ops = op_on (s ∷ up) op;
             done = record {
               spans_same = shown.spans_after;
               kept_same = shown.lanes;
               sites_same = ap (λ (w : Worlds S). w.sites) step.others;
-              recorded_is = (recalls old new dispatch _ step).0 ∙ ap (λ (xs : List (ℕ × Told)). record r1 { spans = xs }) (linked_is (told_at q r1.spans) known s at r1.spans);
-              filter_is = (recalls old new dispatch _ step).1;
-              aside_is = (recalls old new dispatch _ step).2;
+              recorded_is = (law.recalled parts.world new parts.dispatch _ step).0 ∙ ap (λ (xs : List (ℕ × Told)). record r1 { spans = xs }) (linked_is (told_at q r1.spans) known s at r1.spans);
+              filter_is = (law.recalled parts.world new parts.dispatch _ step).1;
+              aside_is = (law.recalled parts.world new parts.dispatch _ step).2;
               cached_same = ap (λ (w : Worlds S). w.cached) step.others;
               count = shown.count;
               whole = shown.whole;
             };
-            is = ap (λ (c : _). starts_then spans views attaches kept is_whole old new dispatch opening lanes hs gs cs m at lane (q ∷ []) (on (s ∷ up) (link_of (ids_of c) [])) [] reply.Done)
+            is = ap (λ (c : _). starts_then spans views attaches kept is_whole parts new at lane (q ∷ []) (op_on (s ∷ up) (link_of (ids_of c) [])) [] reply.Done)
                 (sym (own_open (q ∷ above) at r t.recording stands.recording.recorded));
           }
 
@@ -118,20 +120,20 @@ module _ {S : Type 0} (spans : S → Spans) (views : Views S) (attaches : S → 
           let line = its_scope t stands.fits handle h found in
           let other = its_scope t stands.fits from f found_from in
           followed_by t stands line.at other.at other.there
-          (subst (λ (x : Held). FollowsOn does old new at x (held_of dispatch other.at)) line.is (subst (λ (y : Held). FollowsOn does old new at h.held y) other.is did))
+          (subst (λ (x : Held). FollowsOn does parts.world new at x (held_of parts.dispatch other.at)) line.is (subst (λ (y : Held). FollowsOn does parts.world new at h.held y) other.is did))
 
-      follow_effect : (t : Tables) (stands : StandsFor now t) → effect_of_call now.setup t at lane (call.Follows handle from)
-          ≡ Ok (starts_then spans views attaches kept is_whole old new dispatch opening lanes hs gs cs m at lane (its_follow t stands).starting (its_follow t stands).ops [] reply.Done)
-      follow_effect t stands =
+      its_effect : (t : Tables) (stands : StandsFor now t) → effect_of_call now.setup t at lane (call.Follows handle from)
+          ≡ Ok (starts_then spans views attaches kept is_whole parts new at lane (its_follow t stands).starting (its_follow t stands).ops [] reply.Done)
+      its_effect t stands =
           let line = its_scope t stands.fits handle h found in
           let other = its_scope t stands.fits from f found_from in
-          ap (λ o. named what.Handle o (λ scope. named what.Handle (slot_at t.handles from) (λ followed. Ok (follows t at place_id scope followed)))) line.there
-          ∙ ap (λ o. named what.Handle o (λ followed. Ok (follows t at place_id line.at followed))) other.there
+          ap (λ o. need what.Handle o >>= (λ scope. need what.Handle (slot_at t.handles from) >>= (λ followed. Ok (follow_effect (here_at now.setup t at lane) scope followed)))) line.there
+          ∙ ap (λ o. need what.Handle o >>= (λ followed. Ok (follow_effect (here_at now.setup t at lane) line.at followed))) other.there
           ∙ ap (λ (e : Effect). Ok e) (its_follow t stands).is
 
       pub serves_follow : (t : Tables) → StandsFor now t → Served (effect_of_call now.setup t at lane (call.Follows handle from)) t now then reply.Done
-      serves_follow t stands = (let step = its_follow t stands in serves_starts spans views attaches kept is_whole old new dispatch opening lanes hs gs cs m at lane t stands step.starting step.ops [] refl reply.Done _ step.done (follow_effect t stands))
+      serves_follow t stands = (let step = its_follow t stands in serves_starts spans views attaches kept is_whole parts new at lane t stands step.starting step.ops [] refl reply.Done _ step.done (its_effect t stands))
 
-      pub keeps_follow : IsKept kept is_whole old now → IsKept kept is_whole new then
-      keeps_follow inv = (let stands : StandsFor now inv.tables = record { fits = inv.fits; recording = inv.recording; filtering = inv.filtering } in let step = its_follow inv.tables stands in
-          keeps_starts spans views attaches kept is_whole old new dispatch opening lanes hs gs cs m at lane inv step.starting step.ops [] refl reply.Done _ step.done (follow_effect inv.tables stands))
+      pub keeps_follow : IsKept spans views kept is_whole parts → IsKept spans views kept is_whole then_parts
+      keeps_follow inv = (let stands : StandsFor now inv.tables = inv.stands in let step = its_follow inv.tables stands in
+          keeps_starts spans views attaches kept is_whole parts new at lane inv step.starting step.ops [] refl reply.Done _ step.done (its_effect inv.tables stands))

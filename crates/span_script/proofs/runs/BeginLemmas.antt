@@ -9,10 +9,10 @@ use Rattle.std.specs.Prelude.{IfSome, is_some}
 use Rattle.env_filter.specs.Filtering.{Filtered, Filtering, plain, IsNew, interest_in}
 use Rattle.otel_metrics.specs.declared.measure.Measure.{Measure}
 use Rattle.span_script.specs.Admission.{filter_if, text_filter, IsTextFilter, IsCounter}
-use Rattle.span_script.proofs.filter.CounterLemmas.{Adds, aside_in, adds_nothing}
+use Rattle.span_script.proofs.filter.CounterLemmas.{adds_nothing}
 use Rattle.span_script.proofs.filter.FilterLemmas.{cached_rows}
 use Rattle.trace_base.specs.Spans.{Spans, span_at}
-use Rattle.span_handles.specs.Worlds.{Has, Alike, Replaced, seen, spans_in, kept_in, no_spans}
+use Rattle.span_handles.specs.Worlds.{Has, Replaced, seen, spans_in, kept_in, no_spans}
 use Rattle.span_stack.specs.Reading.{new_recording}
 use Rattle.span_handles.specs.Handles.{Handle}
 use Rattle.span_script.specs.declared.slots.Guard.{Guard}
@@ -21,9 +21,9 @@ use Rattle.span_script.specs.Setups.{Setup, HasOwnIds, id_at}
 use Rattle.otel_layer.specs.Recording.{Recording, no_recording}
 use Rattle.span_script.specs.Tables.{Owner, EntryOf, GuardOf, no_tables, nothing_recorded, open_part}
 use Rattle.otel_base.specs.declared.context.Context.{Context}
-use Rattle.span_script.proofs.steps.LanesLemmas.{SameRecorded}
-use Rattle.span_script.specs.Fits.{Views, ShownFilter, shown_of, Named, State, state_of, Fits, StandsFor, RecordingFits, FilteringFits, numbers_by, ContextsFit, Laned, laned, lane_at, LanesFit, IsKept}
+use Rattle.span_script.specs.Fits.{Views, ShownFilter, shown_of, Named, State, state_of, Fits, StandsFor, RecordingFits, FilteringFits, numbers_by, ContextsFit, Laned, laned, lane_at, LanesFit, IsKept, Parts}
 use Rattle.span_script.proofs.steps.SlotsLemmas.{some_is}
+use Rattle.span_script.specs.SubscriberLaws.{Adds, SameLaw, aside_in}
 
 -- nothing fits no tables
 pub new_fits : (setup : Setup) (lanes : List Laned) (recording : Recording) (filter : Option ShownFilter) (cached : List (List Interest)) (counter : Option ShownFilter) (measures : List Measure) (base : Setup) (dispatch : ℕ) (spans : Spans) → spans ≡ no_spans
@@ -69,7 +69,7 @@ no_items (x ∷ xs) e = absurd (omega (arith, e))
 
 -- the only subscriber of a world, seen through what is the same
 module _ {S : Type 0} (same : S → S → Type 0) (spans : S → Spans) (views : Views S) (attaches : S → Bool) (kept : S → ℕ → ℕ → ℕ) (is_whole : S → Type 0)
-    (law : (old new : Worlds S) (dispatch : ℕ) → Replaced same old new dispatch → Alike spans attaches kept is_whole old new dispatch) (records : SameRecorded spans views attaches kept is_whole same) (first : S) where
+    (law : SameLaw spans views attaches kept is_whole same) (first : S) where
   pub record Only (world : Worlds S) (dispatch : ℕ) : Type 0 where
     pub there : dispatch < length world.subscribers
     pub spans_are : spans_in spans world dispatch ≡ spans first
@@ -84,14 +84,14 @@ module _ {S : Type 0} (same : S → S → Type 0) (spans : S → Spans) (views :
   only_first world x is kin =
       let old : Worlds S = record world { subscribers = first ∷ [] } in
       let r : Replaced same old world 0 = record { before = first; later = x; there = refl; did = kin; others = ap (λ (xs : List S). record world { subscribers = xs }) is } in
-      let alike = law old world 0 r in
+      let alike = law.shown old world 0 r in
       record {
         there = (let k = ap (λ (ys : List S). length ys) is in omega (arith, k));
         spans_are = alike.spans_same;
         kept_is = alike.kept_same;
-        recorded_is = (records old world 0 r).0;
-        filter_is = (records old world 0 r).1;
-        aside_is = (records old world 0 r).2;
+        recorded_is = (law.recalled old world 0 r).0;
+        filter_is = (law.recalled old world 0 r).1;
+        aside_is = (law.recalled old world 0 r).2;
         alone = ap (λ (ys : List S). length ys) is;
         whole = λ was. alike.whole (λ s there. (let e : first ≡ s = some_is first s there in subst is_whole e was));
       }
@@ -118,25 +118,28 @@ no_live (l ∷ ls) are (suc n) = no_live ls (cc are) n
 
 -- what a pipeline begins with
 module _ {S : Type 0} (same : S → S → Type 0) (spans : S → Spans) (views : Views S) (attaches : S → Bool) (kept : S → ℕ → ℕ → ℕ) (is_whole : S → Type 0)
-    (law : (old new : Worlds S) (dispatch : ℕ) → Replaced same old new dispatch → Alike spans attaches kept is_whole old new dispatch) (records : SameRecorded spans views attaches kept is_whole same) (first : S)
+    (law : SameLaw spans views attaches kept is_whole same) (first : S)
     (world before : Worlds S) (dispatch : ℕ) (opening : Texts) (lanes : List Lane) (ids : List ℕ) (is : dispatch ≡ length before.subscribers) (empty : length before.subscribers ≡ 0) (are : AreSame same (before.subscribers ++ first ∷ []) world.subscribers)
     (none : spans first ≡ no_spans) (base : Setup) (nothing : views.recorded first ≡ nothing_recorded base) (quiet : map (λ (l : Lane). l.contexts.live) lanes ≡ map (λ (l : Lane). []) lanes)
     (interest : S → Callsite → Interest) (shown : (s : S) (f : Filtered) (c : Callsite) → views.filtered s ≡ Some f → interest s c ≡ interest_in f c) (fresh : IsFresh interest world)
     (f : Filtered) (opened : IsTextFilter opening.filter f) (gate : views.filtered first ≡ Some f) (counts : IsCounter opening.counting (views.counter first)) (no_measures : views.measured first ≡ [])
     (hs : List (Option Handle)) (no_handles : hs ≡ []) (gs : List (Option Guard)) (no_guards : gs ≡ []) (cs : Named) (no_contexts : cs ≡ record { made = []; attaches = [] }) where
-  its_only : Only same spans views attaches kept is_whole law records first world dispatch
-  its_only = only_one same spans views attaches kept is_whole law records first world dispatch (is ∙ empty) (subst (λ (xs : List S). AreSame same (xs ++ first ∷ []) world.subscribers) (no_items before.subscribers empty) are)
+  its_only : Only same spans views attaches kept is_whole law first world dispatch
+  its_only = only_one same spans views attaches kept is_whole law first world dispatch (is ∙ empty) (subst (λ (xs : List S). AreSame same (xs ++ first ∷ []) world.subscribers) (no_items before.subscribers empty) are)
+
+  abbrev begun_parts : List (Option Handle) → List (Option Guard) → Named → Parts S
+  begun_parts handles guards contexts = record { world = world; dispatch = dispatch; opening = opening; lanes = lanes; handles = handles; guards = guards; contexts = contexts; moment = 0 }
 
   abbrev begun_state : State
-  begun_state = state_of spans views world dispatch opening lanes hs gs cs 0
+  begun_state = state_of spans views (begun_parts hs gs cs)
 
   pub recorded_nothing : begun_state.recording ≡ nothing_recorded base
   recorded_nothing = its_only.recorded_is ∙ nothing
 
   fits_begun : Fits begun_state (no_tables base)
-  fits_begun = subst (λ (x : List (Option Handle)). Fits (state_of spans views world dispatch opening lanes x gs cs 0) (no_tables base)) (sym no_handles)
-      (subst (λ (x : List (Option Guard)). Fits (state_of spans views world dispatch opening lanes [] x cs 0) (no_tables base)) (sym no_guards)
-      (subst (λ (x : Named). Fits (state_of spans views world dispatch opening lanes [] [] x 0) (no_tables base)) (sym no_contexts) (new_fits _ _ _ _ _ _ _ base _ _ (its_only.spans_are ∙ none))))
+  fits_begun = subst (λ (x : List (Option Handle)). Fits (state_of spans views (begun_parts x gs cs)) (no_tables base)) (sym no_handles)
+      (subst (λ (x : List (Option Guard)). Fits (state_of spans views (begun_parts [] x cs)) (no_tables base)) (sym no_guards)
+      (subst (λ (x : Named). Fits (state_of spans views (begun_parts [] [] x)) (no_tables base)) (sym no_contexts) (new_fits _ _ _ _ _ _ _ base _ _ (its_only.spans_are ∙ none))))
 
   records_begun : RecordingFits begun_state (no_tables base)
   records_begun = record {
@@ -170,16 +173,14 @@ module _ {S : Type 0} (same : S → S → Type 0) (spans : S → Spans) (views :
       → begun_state.setup ≡ record { sites = sites; ids = ids; names = names; filter = force.filter; counting = force.counting; layer = base.layer }
   begun_setup sites names force sites_are ids_are names_are is_force = rw (sites_are, ids_are, names_are, is_force, ap (λ (r : Recording). r.settings) recorded_nothing) refl
 
-  pub keeps_begun : is_whole first → map (λ (l : Lane). l.id) lanes ≡ ids → HasOwnIds ids → ((lane number : ℕ) → kept first lane number ≡ 0) → IsKept kept is_whole world begun_state
+  pub keeps_begun : is_whole first → map (λ (l : Lane). l.id) lanes ≡ ids → HasOwnIds ids → ((lane number : ℕ) → kept first lane number ≡ 0) → IsKept spans views kept is_whole (begun_parts hs gs cs)
   keeps_begun whole ids_are own free = record {
     there = its_only.there;
     alone = its_only.alone;
     whole = its_only.whole whole;
     lanes = new_lanes lanes ids ids_are own _ (λ lane number. ap (λ (f : ℕ → ℕ → ℕ). f lane number) its_only.kept_is ∙ free lane number);
     tables = no_tables base;
-    fits = fits_begun;
-    recording = records_begun;
-    filtering = filter_begun;
+    stands = begins;
   }
 
 -- a stack that was just made has recorded nothing, and counts where events are counted

@@ -13,13 +13,14 @@ use Rattle.span_script.specs.declared.reply.Refusal.{Refusal}
 use Rattle.span_script.specs.declared.reply.Refusal.TheVariants as refusal
 use Rattle.span_script.specs.declared.reply.What.TheVariants as what
 use Rattle.span_script.specs.Tables.{Scope, Tables, History, tables, after, no_tables, slot_at}
-use Rattle.span_script.specs.Effects.{Resolved, named, is_bad_moment, effect_of, effect_of_call}
+use Rattle.span_script.specs.calls.Here.{Resolved, ◌>>=◌, need}
+use Rattle.span_script.specs.Effects.{is_bad_moment, effect_of, effect_of_call}
 use Rattle.span_script.specs.Fits.{State, Fits, StandsFor, Served, Recorded, IsRefusal, held_by, held_of}
 
 -- a handle that isn't there
 pub refuses_unknown : (view k : State) → view ≡ k → (hs : List (Option Handle)) → view.handles ≡ map held_by hs → (handle : ℕ) → slot_at hs handle ≡ None → (t : Tables) → Fits k t → (go : Scope → Resolved)
-    → named what.Handle (slot_at t.handles handle) go ≡ Err (refusal.UnknownName what.Handle)
-refuses_unknown view k is hs handles handle gone t fits go = ap (λ o. named what.Handle o go) (by_slot (slot_at t.handles handle)
+    → (need what.Handle (slot_at t.handles handle) >>= go) ≡ Err (refusal.UnknownName what.Handle)
+refuses_unknown view k is hs handles handle gone t fits go = ap (λ o. need what.Handle o >>= go) (by_slot (slot_at t.handles handle)
     (sym (get_or-map (option_map (held_of k.dispatch)) t.handles handle None) ∙ ap (λ xs. slot_at xs handle) (sym fits.handle_slots ∙ ap (λ (x : State). x.handles) (sym is) ∙ handles) ∙ get_or-map held_by hs handle None ∙ ap held_by gone))
   where
     by_slot : (o : Option Scope) → option_map (held_of k.dispatch) o ≡ None → o ≡ None
@@ -41,7 +42,7 @@ effect_is view k is lanes ids before moment t fits request good within =
     let many : length k.setup.ids ≡ length lanes = ap (λ (x : State). length x.setup.ids) (sym is) ∙ ap length ids ∙ length-map lanes (λ (l : Lane). l.id) in
     let at = within_get k.setup.ids request.lane (omega (arith, within, many)) in
     cond-false {A = Resolved} (is_bad_moment t.moment request.at) _ _ (ap (λ (n : ℕ). is_bad_moment n request.at) (sym latest) ∙ good)
-    ∙ ap (λ o. named what.Lane o (λ (id : ℕ). effect_of_call k.setup t request.at request.lane request.call)) at.1
+    ∙ ap (λ o. need what.Lane o >>= (λ (id : ℕ). effect_of_call k.setup t request.at request.lane request.call)) at.1
 
 pub steps_ok : (result : Result Reply Refusal) (whole call : Resolved) (h : History) (old new : State) → whole ≡ call → IfOk result (Served call (tables old.setup h) old new) → IfOk result (Recorded whole h old new)
 steps_ok (Ok reply) whole call h old new same served = record {

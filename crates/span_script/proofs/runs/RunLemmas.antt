@@ -13,7 +13,9 @@ use Rattle.span_script.specs.declared.outcome.Outcome.{Outcome}
 use Rattle.span_script.specs.declared.request.Request.{Request}
 use Rattle.span_script.specs.Setups.{Setup}
 use Rattle.span_script.specs.Tables.{Effect, History, Tables, no_tables, tables, after, records_of}
-use Rattle.span_script.specs.Effects.{Resolved, effect_of, open_spans}
+use Rattle.span_script.specs.calls.Here.{Resolved}
+use Rattle.span_script.specs.Effects.{effect_of}
+use Rattle.span_script.specs.calls.Spans.{open_spans}
 use Rattle.span_script.specs.Fits.{State, StandsFor, Recorded}
 use Rattle.span_script.specs.Outcomes.{followed_by, history_from, history_of, records_from, records, refusal_at, refused_behind, outcome_of, HasReplies, Ran}
 

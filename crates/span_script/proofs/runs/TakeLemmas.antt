@@ -1,19 +1,15 @@
 -- A record or a measure that is taken, and how many spans are open.
 use Rattle.std.specs.Prelude.{MatchOption}
 use Rattle.std.proofs.Common.{◌≡◌, ℕ, List, [], ◌∷◌, drop, Bool, Option, Some, None, map, refl, sym, ap, subst, ◌∙◌, arith, slice_get}
-use Rattle.trace_base.specs.declared.lane.Lane.{Lane}
 use Rattle.trace_base.specs.Gate.{Worlds}
 use Rattle.trace_base.specs.Spans.{Spans}
 use Rattle.span_handles.specs.Worlds.{Alike, seen}
-use Rattle.span_handles.specs.Handles.{Handle}
 use Rattle.otel_base.specs.declared.record.Record.{Record}
 use Rattle.std.specs.Option.{option_map_or}
 use Rattle.otel_layer.specs.Recording.{no_recording}
-use Rattle.span_script.specs.declared.slots.Guard.{Guard}
-use Rattle.span_script.specs.declared.settings.Texts.{Texts}
 use Rattle.span_script.specs.Tables.{Tables}
 use Rattle.otel_metrics.specs.declared.measure.Measure.{Measure}
-use Rattle.span_script.specs.Fits.{Views, Named, State, state_of, Fits, StandsFor, LanesFit, IsKept, laned}
+use Rattle.span_script.specs.Fits.{Views, State, state_of, Fits, StandsFor, LanesFit, IsKept, laned, Parts}
 
 -- what is kept, but that some of the records and measures were taken
 abbrev pub but_taken : State → List Record → List Measure → State
@@ -47,27 +43,25 @@ stands_taken k t records measures stands = record {
 }
 
 -- a world whose stack has some records and measures
-module _ {S : Type 0} (spans : S → Spans) (views : Views S) (attaches : S → Bool) (kept : S → ℕ → ℕ → ℕ) (is_whole : S → Type 0) (old new : Worlds S) (dispatch : ℕ) (alike : Alike spans attaches kept is_whole old new dispatch)
-    (sites : new.sites ≡ old.sites) (cached : new.cached ≡ old.cached) (filters : seen views.filtered None new dispatch ≡ seen views.filtered None old dispatch) (counter : seen views.counter None new dispatch ≡ seen views.counter None old dispatch)
-    (records : List Record) (finished : seen views.recorded no_recording new dispatch ≡ record (seen views.recorded no_recording old dispatch) { finished = records })
-    (measures : List Measure) (waiting : seen views.measured [] new dispatch ≡ measures)
-    (opening : Texts) (lanes : List Lane) (hs : List (Option Handle)) (gs : List (Option Guard)) (cs : Named) (m : ℕ) where
-  pub state_taken : state_of spans views new dispatch opening lanes hs gs cs m ≡ but_taken (state_of spans views old dispatch opening lanes hs gs cs m) records measures
+module _ {S : Type 0} (spans : S → Spans) (views : Views S) (attaches : S → Bool) (kept : S → ℕ → ℕ → ℕ) (is_whole : S → Type 0) (parts : Parts S) (new : Worlds S) (alike : Alike spans attaches kept is_whole parts.world new parts.dispatch)
+    (sites : new.sites ≡ parts.world.sites) (cached : new.cached ≡ parts.world.cached) (filters : seen views.filtered None new parts.dispatch ≡ seen views.filtered None parts.world parts.dispatch) (counter : seen views.counter None new parts.dispatch ≡ seen views.counter None parts.world parts.dispatch)
+    (records : List Record) (finished : seen views.recorded no_recording new parts.dispatch ≡ record (seen views.recorded no_recording parts.world parts.dispatch) { finished = records })
+    (measures : List Measure) (waiting : seen views.measured [] new parts.dispatch ≡ measures) where
+  abbrev taken_parts : Parts S
+  taken_parts = record parts { world = new }
+
+  pub state_taken : state_of spans views taken_parts ≡ but_taken (state_of spans views parts) records measures
   state_taken = rw (alike.spans_same, sites, finished, filters, cached, counter, waiting) refl
 
-  pub kept_taken : IsKept kept is_whole old (state_of spans views old dispatch opening lanes hs gs cs m) → IsKept kept is_whole new (state_of spans views new dispatch opening lanes hs gs cs m)
-  kept_taken inv =
-      let stands = stands_taken _ inv.tables records measures (record { fits = inv.fits; recording = inv.recording; filtering = inv.filtering }) in
-      subst (λ (k : State). IsKept kept is_whole new k) (sym state_taken) (record {
-        there = (let c = alike.count in let b = inv.there in omega (arith, c, b));
-        alone = alike.count ∙ inv.alone;
-        whole = alike.whole inv.whole;
-        lanes = subst (λ (f : ℕ → ℕ → ℕ). LanesFit f (map laned lanes)) (sym alike.kept_same) inv.lanes;
-        tables = inv.tables;
-        fits = stands.fits;
-        recording = stands.recording;
-        filtering = stands.filtering;
-      })
+  pub kept_taken : IsKept spans views kept is_whole parts → IsKept spans views kept is_whole taken_parts
+  kept_taken inv = record {
+    there = (let c = alike.count in let b = inv.there in omega (arith, c, b));
+    alone = alike.count ∙ inv.alone;
+    whole = alike.whole inv.whole;
+    lanes = subst (λ (f : ℕ → ℕ → ℕ). LanesFit f (map laned parts.lanes)) (sym alike.kept_same) inv.lanes;
+    tables = inv.tables;
+    stands = subst (λ (k : State). StandsFor k inv.tables) (sym state_taken) (stands_taken _ inv.tables records measures inv.stands);
+  }
 
 -- what was taken is the first of what is no more there
 pub oldest_by : {A : Type 0} (read : State → List A) (view k : State) (rest : List A) (o : Option A) → view ≡ k → rest ≡ drop 1 (read view) → MatchOption o (read view ≡ []) (λ a. read view ≡ a ∷ drop 1 (read view))

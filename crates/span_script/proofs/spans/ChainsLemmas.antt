@@ -13,7 +13,8 @@ use Rattle.span_handles.specs.Worlds.{Released, all_released, releases}
 use Rattle.span_script.specs.Setups.{id_at}
 use Rattle.span_script.specs.Balance.{Balanced, Opened, names, named_by, opened_on, opened_by}
 use Rattle.span_script.specs.Tables.{Scope, Made, Guarded, Tables, after, slot_at, own}
-use Rattle.span_script.specs.Effects.{drops, borrows, is_borrowed}
+use Rattle.span_script.specs.calls.Here.{here_at}
+use Rattle.span_script.specs.calls.Spans.{drop_effect, borrows, is_borrowed}
 use Rattle.span_script.specs.Slots.{is_named}
 use Rattle.span_script.specs.Fits.{Named, State, Fits, MadeFit, guard_of, lane_of}
 use Rattle.span_script.proofs.steps.SlotsLemmas.{named_within}
@@ -144,13 +145,13 @@ pub still_spent : (gs : List (Option Guarded)) (hs : List (Option Scope)) (handl
 still_spent gs hs handle free still n x there = get_or-set_other hs handle x.handle None None (not_borrowed gs handle n x free there) ∙ still n x there
 
 pub fits_dropped : (k next : State) (t : Tables) (at lane handle : ℕ) (line : Scope) → Fits k t → slot_at t.handles handle ≡ Some line → is_borrowed t.guards handle ≡ false → ReleasedOn k.spans next.spans line → next.setup ≡ k.setup
-    → next.dispatch ≡ k.dispatch → next.handles ≡ slice_set k.handles handle None → next.handle_sites ≡ slice_set k.handle_sites handle None → next.guards ≡ k.guards → next.contexts ≡ k.contexts → next.moment ≡ at → Fits next (after t (drops t at lane handle line))
+    → next.dispatch ≡ k.dispatch → next.handles ≡ slice_set k.handles handle None → next.handle_sites ≡ slice_set k.handle_sites handle None → next.guards ≡ k.guards → next.contexts ≡ k.contexts → next.moment ≡ at → Fits next (after t (drop_effect (here_at k.setup t at lane) handle line))
 fits_dropped k next t at lane handle line fits there free chain setup dispatch handles sites guards contexts moment =
     let ids = k.setup.ids in
     let hs = map named_by t.handles in
     let ends = drop_ends k.spans next.spans hs (map (opened_by ids) t.guards) t.entries fits.balanced handle line (named_slot t.handles handle line there) chain in
     let spent : slice_set hs handle None ≡ map named_by (slice_set t.handles handle None) = sym (map-set named_by t.handles handle None) in
-    fits_step k t fits next (drops t at lane handle line) (record {
+    fits_step k t fits next (drop_effect (here_at k.setup t at lane) handle line) (record {
       setup_is = setup;
       dispatch_is = dispatch;
       handles_are = handles;

@@ -3,29 +3,27 @@ use Rattle.std.proofs.Common.{◌≡◌, ℕ, ◌+◌, ◌<◌, ◌≤◌, List,
 use Rattle.std.specs.Prelude.{is_some}
 use Rattle.std.proofs.lemmas.Bool.{cases_eq}
 use Rattle.std.proofs.lemmas.List.{length-map, length_push, map_push, get_or_append_left}
-use Rattle.trace_base.specs.declared.lane.Lane.{Lane}
 use Rattle.trace_base.specs.Gate.{Worlds}
 use Rattle.trace_base.specs.Spans.{Spans, span_at}
 use Rattle.trace_base.specs.Calls.{SubscriberCall, CloneSpan}
 use Rattle.trace_base.specs.Sound.{OneEach}
 use Rattle.span_handles.specs.Worlds.{seen, spans_in, kept_in}
 use Rattle.span_handles.specs.Handles.{Handle, Held, id_of, ReplacedOn}
-use Rattle.span_script.specs.declared.slots.Guard.{Guard}
 use Rattle.span_script.specs.declared.reply.Reply.TheVariants as reply
 use Rattle.span_script.specs.declared.request.Call.TheVariants as call
 use Rattle.span_script.specs.declared.reply.What.TheVariants as what
-use Rattle.span_script.specs.declared.settings.Texts.{Texts}
 use Rattle.span_script.specs.Setups.{id_at}
 use Rattle.otel_layer.specs.Recording.{Recording, no_recording}
 use Rattle.span_script.specs.Tables.{Scope, Made, Guarded, Effect, Tables, slot_at, own}
-use Rattle.span_script.specs.Effects.{named, effect_of_call, clones}
+use Rattle.span_script.specs.calls.Here.{here_at, ◌>>=◌, need}
+use Rattle.span_script.specs.Effects.{effect_of_call}
+use Rattle.span_script.specs.calls.Spans.{clone_effect}
 use Rattle.span_script.specs.Balance.{Balanced, named_by, opened_by}
-use Rattle.span_script.specs.Fits.{Views, Named, State, state_of, laned, Fits, StandsFor, MadeFit, LanesFit, IsKept, Served, IsScope, held_of, held_by, site_by}
-use Rattle.span_script.proofs.filter.CounterLemmas.{aside_in}
+use Rattle.span_script.specs.Fits.{Views, State, state_of, laned, Fits, StandsFor, MadeFit, LanesFit, IsKept, Served, IsScope, held_of, held_by, site_by, Parts}
 use Rattle.span_script.proofs.steps.SlotsLemmas.{find, held_slot, named_within}
 use Rattle.span_script.proofs.spans.SitesLemmas.{site_found}
 use Rattle.span_script.proofs.steps.StepLemmas.{fits_step}
-use Rattle.span_script.proofs.steps.CallsLemmas.{Law, Recalls, ShownOn, shown_on}
+use Rattle.span_script.proofs.steps.CallsLemmas.{ShownOn, shown_on}
 use Rattle.trace_base.proofs.Holding.{holds_other}
 use Rattle.span_script.proofs.steps.BalanceLemmas.{held_most, named_slot}
 use Rattle.span_script.proofs.entries.EntriesFitLemmas.{fits_live}
@@ -33,6 +31,7 @@ use Rattle.span_script.proofs.spans.MadeSpansLemmas.{made_held}
 use Rattle.span_script.proofs.steps.ServesLemmas.{serve, known_still, all_same, kept_served, call_count, call_sites, call_cached, call_aside, call_whole}
 use Rattle.span_script.proofs.filter.FilterLemmas.{heard_none}
 use Rattle.span_script.proofs.spans.MoreHandlesLemmas.{spans_held, balanced_clone}
+use Rattle.span_script.specs.SubscriberLaws.{CallsLaw, aside_in}
 
 pub held_scope_most : (spans : Spans) (line : Scope) (q : ℕ) → (span_at (spans_held spans line).made q).holds ≤ (span_at spans.made q).holds + 1
 held_scope_most spans [] q = omega arith
@@ -66,60 +65,63 @@ pub still_named_more : (gs : List (Option Guarded)) (hs : List (Option Scope)) (
     → (n : ℕ) (x : Guarded) → slot_at gs n ≡ Some x → slot_at (hs ++ Some line ∷ []) x.handle ≡ Some x.scope
 still_named_more gs hs line still n x there = let at = still n x there in get_or_append_left hs (Some line ∷ []) None x.handle (named_within hs x.handle x.scope at) ∙ at
 
-module _ {S : Type 0} (spans : S → Spans) (views : Views S) (attaches : S → Bool) (kept : S → ℕ → ℕ → ℕ) (is_whole : S → Type 0) (old new : Worlds S) where
-  pub held_spans : (dispatch : ℕ) (line : Scope) → ShownOn spans views attaches kept is_whole old new dispatch line (λ id. CloneSpan id) → spans_in spans new dispatch ≡ spans_held (spans_in spans old dispatch) line
-  held_spans dispatch [] same = ap (λ (w : Worlds S). spans_in spans w dispatch) same
-  held_spans dispatch (s ∷ up) shown = shown.0.spans_after
+module _ {S : Type 0} (spans : S → Spans) (views : Views S) (attaches : S → Bool) (kept : S → ℕ → ℕ → ℕ) (is_whole : S → Type 0) (parts : Parts S) (new : Worlds S) where
+  pub held_spans : (line : Scope) → ShownOn spans views attaches kept is_whole parts.world new parts.dispatch line (λ id. CloneSpan id) → spans_in spans new parts.dispatch ≡ spans_held (spans_in spans parts.world parts.dispatch) line
+  held_spans [] same = ap (λ (w : Worlds S). spans_in spans w parts.dispatch) same
+  held_spans (s ∷ up) shown = shown.0.spans_after
 
-  pub clone_kept : (dispatch : ℕ) (line : Scope) → ShownOn spans views attaches kept is_whole old new dispatch line (λ id. CloneSpan id) → kept_in kept new dispatch ≡ kept_in kept old dispatch
-  clone_kept dispatch [] same = ap (λ (w : Worlds S). kept_in kept w dispatch) same
-  clone_kept dispatch (s ∷ up) shown = shown.0.lanes
+  pub clone_kept : (line : Scope) → ShownOn spans views attaches kept is_whole parts.world new parts.dispatch line (λ id. CloneSpan id) → kept_in kept new parts.dispatch ≡ kept_in kept parts.world parts.dispatch
+  clone_kept [] same = ap (λ (w : Worlds S). kept_in kept w parts.dispatch) same
+  clone_kept (s ∷ up) shown = shown.0.lanes
 
-  pub clone_recorded : (dispatch : ℕ) (line : Scope) → ShownOn spans views attaches kept is_whole old new dispatch line (λ id. CloneSpan id) → seen views.recorded no_recording new dispatch ≡ seen views.recorded no_recording old dispatch
-  clone_recorded dispatch [] same = ap (λ (w : Worlds S). seen views.recorded no_recording w dispatch) same
-  clone_recorded dispatch (s ∷ up) shown = shown.2
+  pub clone_recorded : (line : Scope) → ShownOn spans views attaches kept is_whole parts.world new parts.dispatch line (λ id. CloneSpan id) → seen views.recorded no_recording new parts.dispatch ≡ seen views.recorded no_recording parts.world parts.dispatch
+  clone_recorded [] same = ap (λ (w : Worlds S). seen views.recorded no_recording w parts.dispatch) same
+  clone_recorded (s ∷ up) shown = shown.2
 
-  pub clone_filter : (dispatch : ℕ) (line : Scope) → ShownOn spans views attaches kept is_whole old new dispatch line (λ id. CloneSpan id) → seen views.filtered None new dispatch ≡ seen views.filtered None old dispatch
-  clone_filter dispatch [] same = ap (λ (w : Worlds S). seen views.filtered None w dispatch) same
-  clone_filter dispatch (s ∷ up) shown = shown.3 ∙ sym (heard_none (seen views.filtered None old dispatch))
+  pub clone_filter : (line : Scope) → ShownOn spans views attaches kept is_whole parts.world new parts.dispatch line (λ id. CloneSpan id) → seen views.filtered None new parts.dispatch ≡ seen views.filtered None parts.world parts.dispatch
+  clone_filter [] same = ap (λ (w : Worlds S). seen views.filtered None w parts.dispatch) same
+  clone_filter (s ∷ up) shown = shown.3 ∙ sym (heard_none (seen views.filtered None parts.world parts.dispatch))
 
-  module _ (does : S → SubscriberCall → S → Type 0) (law : Law spans views attaches kept is_whole does) (recalls : Recalls spans views attaches kept is_whole does)
-      (dispatch : ℕ) (opening : Texts) (lanes : List Lane) (hs hs' : List (Option Handle)) (gs : List (Option Guard)) (cs : Named) (m at lane number : ℕ) (many : number ≡ length hs) (inv : IsKept kept is_whole old (state_of spans views old dispatch opening lanes hs gs cs m)) where
+  module _ (does : S → SubscriberCall → S → Type 0) (law : CallsLaw spans views attaches kept is_whole does)
+      (hs' : List (Option Handle)) (at lane number : ℕ) (many : number ≡ length parts.handles) (inv : IsKept spans views kept is_whole parts) where
     abbrev now : State
-    now = state_of spans views old dispatch opening lanes hs gs cs m
+    now = state_of spans views parts
+
+    abbrev then_parts : Parts S
+    then_parts = record parts { world = new; handles = hs'; moment = at }
 
     abbrev then : State
-    then = state_of spans views new dispatch opening lanes hs' gs cs at
+    then = state_of spans views then_parts
 
     abbrev place_id : ℕ
     place_id = id_at now.setup.ids lane
 
     next_number : (t : Tables) → Fits now t → number ≡ length t.handles
-    next_number t fits = many ∙ sym (length-map hs held_by) ∙ ap length fits.handle_slots ∙ length-map t.handles (option_map (held_of dispatch))
+    next_number t fits = many ∙ sym (length-map parts.handles held_by) ∙ ap length fits.handle_slots ∙ length-map t.handles (option_map (held_of parts.dispatch))
 
-    module _ (handle : ℕ) (h copy : Handle) (enabled : Bool) (found : slot_at hs handle ≡ Some h) (is : copy ≡ h) (shows : enabled ≡ is_some (id_of h.held)) (one : hs' ≡ hs ++ Some copy ∷ []) (did : ReplacedOn (λ id s t. does s (CloneSpan id) t) old new h.held) where
+    module _ (handle : ℕ) (h copy : Handle) (enabled : Bool) (found : slot_at parts.handles handle ≡ Some h) (is : copy ≡ h) (shows : enabled ≡ is_some (id_of h.held)) (one : hs' ≡ parts.handles ++ Some copy ∷ []) (did : ReplacedOn (λ id s t. does s (CloneSpan id) t) parts.world new h.held) where
       pub serves_cloned : (t : Tables) → StandsFor now t → Served (effect_of_call now.setup t at lane (call.Clone handle)) t now then (reply.Made enabled number)
       serves_cloned t stands =
           let fits = stands.fits in
-          let line = find (held_of dispatch) (map held_by hs) t.handles handle h.held fits.handle_slots (held_slot hs handle h found) in
-          let shown = shown_on spans views attaches kept is_whole does law recalls old new dispatch line.at h.held line.is (λ id. CloneSpan id) did in
-          let step = held_spans dispatch line.at shown in
-          let sp = spans_in spans old dispatch in
+          let line = find (held_of parts.dispatch) (map held_by parts.handles) t.handles handle h.held fits.handle_slots (held_slot parts.handles handle h found) in
+          let shown = shown_on spans views attaches kept is_whole does law parts.world new parts.dispatch line.at h.held line.is (λ id. CloneSpan id) did in
+          let step = held_spans line.at shown in
+          let sp = spans_in spans parts.world parts.dispatch in
           let ids = now.setup.ids in
-          let same = clone_recorded dispatch line.at shown in
-          let sites = call_sites spans views attaches kept is_whole old new dispatch line.at (λ id. CloneSpan id) shown in
-          let setup : then.setup ≡ now.setup = ap (λ x. record now.setup { sites = x; layer = (seen views.recorded no_recording new dispatch).settings }) sites ∙ ap (λ (r : Recording). record now.setup { layer = r.settings }) same in
+          let same = clone_recorded line.at shown in
+          let sites = call_sites spans views attaches kept is_whole parts new line.at (λ id. CloneSpan id) shown in
+          let setup : then.setup ≡ now.setup = ap (λ x. record now.setup { sites = x; layer = (seen views.recorded no_recording new parts.dispatch).settings }) sites ∙ ap (λ (r : Recording). record now.setup { layer = r.settings }) same in
           let live : (s : ℕ) (up : Scope) → line.at ≡ s ∷ up → 0 < (span_at sp.made s).holds = λ s up e. fits_live sp (map named_by t.handles) (map (opened_by ids) t.guards) t.entries fits.balanced handle s (named_slot t.handles handle line.at line.there ∙ ap own e) in
-          let e : Effect = clones t at place_id line.at in
+          let e : Effect = clone_effect (here_at now.setup t at lane) line.at in
           serve now then t e _ (reply.Made enabled number) stands
-          (ap (λ o. named what.Handle o (λ line. Ok (clones t at place_id line))) line.there)
-          (ap (λ n. reply.Made enabled n) (next_number t fits) ∙ ap (λ b. reply.Made b (length t.handles)) (shows ∙ enabled_is dispatch line.at h.held line.is))
-          setup (seen views.recorded no_recording old dispatch).tokens same
+          (ap (λ o. need what.Handle o >>= (λ line. Ok (clone_effect (here_at now.setup t at lane) line))) line.there)
+          (ap (λ n. reply.Made enabled n) (next_number t fits) ∙ ap (λ b. reply.Made b (length t.handles)) (shows ∙ enabled_is parts.dispatch line.at h.held line.is))
+          setup (seen views.recorded no_recording parts.world parts.dispatch).tokens same
           (fits_step now t fits then e (record {
             setup_is = setup;
             dispatch_is = refl;
-            handles_are = ap (map held_by) one ∙ map_push held_by hs (Some copy) ∙ ap (λ (x : Handle). map held_by hs ++ Some x.held ∷ []) is ∙ ap (λ (x : Held). map held_by hs ++ Some x ∷ []) line.is;
-            sites_are = ap (map site_by) one ∙ map_push site_by hs (Some copy) ∙ ap (λ (x : Handle). map site_by hs ++ Some x.site ∷ []) is ∙ ap (λ (o : Option ℕ). map site_by hs ++ Some o ∷ []) (site_found now t fits hs refl handle h found line.at line.there);
+            handles_are = ap (map held_by) one ∙ map_push held_by parts.handles (Some copy) ∙ ap (λ (x : Handle). map held_by parts.handles ++ Some x.held ∷ []) is ∙ ap (λ (x : Held). map held_by parts.handles ++ Some x ∷ []) line.is;
+            sites_are = ap (map site_by) one ∙ map_push site_by parts.handles (Some copy) ∙ ap (λ (x : Handle). map site_by parts.handles ++ Some x.site ∷ []) is ∙ ap (λ (o : Option ℕ). map site_by parts.handles ++ Some o ∷ []) (site_found now t fits parts.handles refl handle h found line.at line.there);
             guards_are = refl;
             attaches_are = refl;
             named_are = refl;
@@ -134,13 +136,13 @@ module _ {S : Type 0} (spans : S → Spans) (views : Views S) (attaches : S → 
             few_holds = λ s. (let a = held_scope_most sp line.at s in let f = fits.few_holds s in let e = ap (λ (x : Spans). (span_at x.made s).holds) step in let l = length_push t.handles (Some line.at) in omega (arith, a, f, e, l));
             one = subst (λ (x : Spans). OneEach x.lanes) (sym step) (one_clone sp line.at fits.one_lane);
           }))
-          (λ s some. known_still now then t e (seen views.recorded no_recording old dispatch).tokens same stands.recording s refl (clone_live sp line.at s live (subst (λ (x : Spans). 0 < (span_at x.made s).holds) step some)))
+          (λ s some. known_still now then t e (seen views.recorded no_recording parts.world parts.dispatch).tokens same stands.recording s refl (clone_live sp line.at s live (subst (λ (x : Spans). 0 < (span_at x.made s).holds) step some)))
           (all_same now then t.contexts setup refl refl (ap (λ (r : Recording). r.tokens) same) stands.recording.attached)
-          (record { quiet = refl; before = seen views.filtered None old dispatch; later = seen views.filtered None new dispatch; shown_before = refl; shown_later = refl; told = clone_filter dispatch line.at shown ∙ heard_none (seen views.filtered None old dispatch); known = refl; cached = call_cached spans views attaches kept is_whole old new dispatch line.at (λ id. CloneSpan id) shown; aside = record { before = aside_in views old dispatch; later = aside_in views new dispatch; shown_before = refl; shown_later = refl; waits_before = refl; waits_later = refl; adds = call_aside spans views attaches kept is_whole old new dispatch line.at (λ id. CloneSpan id) (λ s. refl) shown } })
+          (record { quiet = refl; before = seen views.filtered None parts.world parts.dispatch; later = seen views.filtered None new parts.dispatch; shown_before = refl; shown_later = refl; told = clone_filter line.at shown ∙ heard_none (seen views.filtered None parts.world parts.dispatch); known = refl; cached = call_cached spans views attaches kept is_whole parts new line.at (λ id. CloneSpan id) shown; aside = record { before = aside_in views parts.world parts.dispatch; later = aside_in views new parts.dispatch; shown_before = refl; shown_later = refl; waits_before = refl; waits_later = refl; adds = call_aside spans views attaches kept is_whole parts new line.at (λ id. CloneSpan id) (λ s. refl) shown } })
 
-      pub keeps_cloned : IsKept kept is_whole new then
+      pub keeps_cloned : IsKept spans views kept is_whole then_parts
       keeps_cloned =
-          let line = find (held_of dispatch) (map held_by hs) inv.tables.handles handle h.held inv.fits.handle_slots (held_slot hs handle h found) in
-          let shown = shown_on spans views attaches kept is_whole does law recalls old new dispatch line.at h.held line.is (λ id. CloneSpan id) did in
-          kept_served spans views attaches kept is_whole old new now then inv _ _ (serves_cloned inv.tables (record { fits = inv.fits; recording = inv.recording; filtering = inv.filtering })) refl (call_count spans views attaches kept is_whole old new dispatch line.at (λ id. CloneSpan id) shown) (call_whole spans views attaches kept is_whole old new dispatch line.at (λ id. CloneSpan id) shown)
-          (subst (λ (f : ℕ → ℕ → ℕ). LanesFit f (map laned lanes)) (sym (clone_kept dispatch line.at shown)) inv.lanes)
+          let line = find (held_of parts.dispatch) (map held_by parts.handles) inv.tables.handles handle h.held inv.stands.fits.handle_slots (held_slot parts.handles handle h found) in
+          let shown = shown_on spans views attaches kept is_whole does law parts.world new parts.dispatch line.at h.held line.is (λ id. CloneSpan id) did in
+          kept_served spans views kept is_whole parts then_parts inv _ _ (serves_cloned inv.tables inv.stands) refl (call_count spans views attaches kept is_whole parts new line.at (λ id. CloneSpan id) shown) (call_whole spans views attaches kept is_whole parts new line.at (λ id. CloneSpan id) shown)
+          (subst (λ (f : ℕ → ℕ → ℕ). LanesFit f (map laned parts.lanes)) (sym (clone_kept line.at shown)) inv.lanes)

@@ -7,8 +7,9 @@ use Rattle.trace_base.proofs.Entering.{made_if_held}
 use Rattle.trace_base.proofs.Holding.{less_holds, holds_set}
 use Rattle.span_handles.specs.Worlds.{Released, all_released, releases, closed_in}
 use Rattle.std.proofs.lemmas.List.{map-set}
-use Rattle.span_script.specs.Tables.{Scope, Made, Tables, after, slot_at, own, made_of}
-use Rattle.span_script.specs.Effects.{is_open, closed_of, drops}
+use Rattle.span_script.specs.Tables.{Scope, Made, after, slot_at, own, made_of}
+use Rattle.span_script.specs.calls.Here.{Here}
+use Rattle.span_script.specs.calls.Spans.{is_open, closed_of, drop_effect}
 use Rattle.span_script.specs.Balance.{named_by, opened_by}
 use Rattle.span_script.specs.Fits.{State, Fits, MadeFit, IsScope, above}
 use Rattle.span_script.proofs.spans.ChainsLemmas.{Loose, loose_released, chain_ends, spent_loose}
@@ -62,9 +63,10 @@ module _ (hs : List (Option Scope)) (ms : List Made) (named : (n : ℕ) (line : 
             ∙ over.0 ∙ sym (none_closed (s ∷ up) is (λ q e. subst (λ (k : ℕ). is_open hs k ≡ true) (cc e) still)))
       ]
 
-pub drop_order : (k next : State) (t : Tables) (at lane handle s : ℕ) (up : Scope) → Fits k t → slot_at t.handles handle ≡ Some (s ∷ up) → Fits next (after t (drops t at lane handle (s ∷ up))) → (r : Released (Some s) k.spans next.spans)
-    → closed_in (Some s) k.spans next.spans r ≡ closed_of (slice_set t.handles handle None) (s ∷ up)
-drop_order k next t at lane handle s up fits there later r =
+pub drop_order : (k next : State) (stands : Here) (handle s : ℕ) (up : Scope) → Fits k stands.script → slot_at stands.script.handles handle ≡ Some (s ∷ up) → Fits next (after stands.script (drop_effect stands handle (s ∷ up))) → (r : Released (Some s) k.spans next.spans)
+    → closed_in (Some s) k.spans next.spans r ≡ closed_of (slice_set stands.script.handles handle None) (s ∷ up)
+drop_order k next stands handle s up fits there later r =
+    let t = stands.script in
     closed_are (slice_set t.handles handle None) t.made later.scopes (Some s) k.spans next.spans r (s ∷ up) (fits.scopes handle (s ∷ up) there) refl
     (subst (λ (xs : List (Option ℕ)). Loose k.spans xs (Some s)) (sym (map-set named_by t.handles handle None)) (spent_loose k.spans (map named_by t.handles) (map (opened_by k.setup.ids) t.guards) t.entries fits.balanced handle s (named_slot t.handles handle (s ∷ up) there)))
-    fits.made (opens next (after t (drops t at lane handle (s ∷ up))) later)
+    fits.made (opens next (after t (drop_effect stands handle (s ∷ up))) later)

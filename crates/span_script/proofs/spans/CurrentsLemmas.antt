@@ -22,20 +22,21 @@ use Rattle.span_script.specs.declared.reply.Refusal.TheVariants as refusal
 use Rattle.span_script.specs.declared.reply.What.TheVariants as what
 use Rattle.span_script.specs.declared.request.Call.TheVariants as call
 use Rattle.span_script.specs.declared.request.Place.TheVariants as place
-use Rattle.span_script.specs.declared.settings.Texts.{Texts}
 use Rattle.span_script.specs.Setups.{id_at}
 use Rattle.otel_layer.specs.Recording.{Recording, no_recording}
 use Rattle.span_script.specs.Tables.{Scope, Made, Guarded, Effect, Tables, slot_at, slots_after, own, site_of}
-use Rattle.span_script.specs.Effects.{Resolved, named, effect_of_call, clones, current_scope, scope_or_current, exchanges, is_borrowed, drops_unless}
+use Rattle.span_script.specs.calls.Here.{Here, here_at, Resolved, refuse_if, ◌>>=◌, need}
+use Rattle.span_script.specs.Effects.{effect_of_call}
+use Rattle.span_script.specs.calls.Spans.{clone_effect, current_scope, scope_or_current, exchange_effect, is_borrowed}
 use Rattle.span_script.specs.Slots.{is_named}
 use Rattle.span_script.specs.Balance.{Balanced, names, named_by, opened_by}
-use Rattle.span_script.specs.Fits.{Views, Named, State, state_of, Laned, laned, Fits, StandsFor, MadeFit, LanesFit, IsKept, Served, IsScope, held_of, held_by, site_by}
-use Rattle.span_script.proofs.filter.CounterLemmas.{Adds, aside_in, adds_same}
+use Rattle.span_script.specs.Fits.{Views, State, state_of, Laned, laned, Fits, StandsFor, MadeFit, LanesFit, IsKept, Served, IsScope, held_of, held_by, site_by, Parts}
+use Rattle.span_script.proofs.filter.CounterLemmas.{adds_same}
 use Rattle.span_script.proofs.steps.SlotsLemmas.{Found, find, held_slot, named_within}
 use Rattle.span_script.proofs.spans.SitesLemmas.{site_slot, site_found, copied_site}
 use Rattle.span_script.proofs.steps.StepLemmas.{fits_step}
 use Rattle.span_script.proofs.steps.BalanceLemmas.{named_slot, set_none}
-use Rattle.span_script.proofs.steps.CallsLemmas.{Law, Recalls, shown_on}
+use Rattle.span_script.proofs.steps.CallsLemmas.{shown_on}
 use Rattle.span_script.proofs.steps.LanesLemmas.{id_seen, ids_same, names_same, lanes_same}
 use Rattle.span_script.proofs.runs.RefusalsLemmas.{within_get}
 use Rattle.span_script.proofs.steps.ServesLemmas.{serve, known_still, all_same, kept_served, call_count, call_sites, call_cached, call_aside, call_whole}
@@ -43,6 +44,7 @@ use Rattle.span_script.proofs.filter.FilterLemmas.{heard_none}
 use Rattle.span_script.proofs.spans.MoreHandlesLemmas.{find_up, spans_held, balanced_decline, another_handle}
 use Rattle.span_script.proofs.spans.ClonesLemmas.{held_scope_most, clone_live, one_clone, made_clone, the_scope, enabled_is, still_named_more, held_spans, clone_kept, clone_recorded, clone_filter}
 use Rattle.span_script.proofs.spans.ChainsLemmas.{not_borrowed, opened_handle, borrowed_is, still_spent}
+use Rattle.span_script.specs.SubscriberLaws.{Adds, CallsLaw, aside_in}
 
 -- ---- balance
 
@@ -137,7 +139,7 @@ refuses_in_use k hs are handle h found used at lane t stands =
     let id = id_at k.setup.ids lane in
     let line = find (held_of k.dispatch) (map held_by hs) t.handles handle h.held (sym are ∙ fits.handle_slots) (held_slot hs handle h found) in
     let borrowed : is_borrowed t.guards handle ≡ true = sym (borrowed_is k.dispatch t.guards handle) ∙ ap (λ (xs : List (Option Guard)). is_named xs handle) (sym fits.guard_slots) ∙ used in
-    ap (λ o. named what.Handle o (λ scope. drops_unless (is_borrowed t.guards handle) (exchanges t at id handle (scope_or_current t id scope)))) line.there ∙ cond-true {A = Resolved} (is_borrowed t.guards handle) _ _ borrowed
+    ap (λ o. need what.Handle o >>= (λ scope. refuse_if (is_borrowed t.guards handle) refusal.InUse (Ok (exchange_effect (here_at k.setup t at lane) handle (scope_or_current t id scope))))) line.there ∙ cond-true {A = Resolved} (is_borrowed t.guards handle) _ _ borrowed
 
 -- ---- a handle more, and perhaps one less
 
@@ -145,8 +147,8 @@ refuses_in_use k hs are handle h found used at lane t stands =
 abbrev pub using : Lane → ℕ → Lane
 using lane dispatch = record lane { default = Some dispatch }
 
-abbrev hands : Tables → ℕ → ℕ → Scope → Option ℕ → Effect
-hands t at lane line spent = record (clones t at lane line) { spent_handle = spent }
+abbrev hands : Here → Scope → Option ℕ → Effect
+hands here line spent = record (clone_effect here line) { spent_handle = spent }
 
 handles_then : Tables → Scope → Option ℕ → List (Option Scope)
 handles_then t line spent = slots_after t.handles (Some line) spent
@@ -206,39 +208,42 @@ handed_on k t fits handle s up there free = record {
   one = fits.one_lane;
 }
 
-module _ {S : Type 0} (spans : S → Spans) (views : Views S) (attaches : S → Bool) (kept : S → ℕ → ℕ → ℕ) (is_whole : S → Type 0) (old new : Worlds S) where
-  module _ (does : S → SubscriberCall → S → Type 0) (law : Law spans views attaches kept is_whole does) (recalls : Recalls spans views attaches kept is_whole does)
-      (dispatch : ℕ) (opening : Texts) (lanes : List Lane) (hs hs' : List (Option Handle)) (gs : List (Option Guard)) (cs : Named) (m at lane number : ℕ) (many : number ≡ length hs) (before : Lane) (within : lane < length lanes) (here : before ≡ get_or lanes lane before)
-      (inv : IsKept kept is_whole old (state_of spans views old dispatch opening lanes hs gs cs m)) where
+module _ {S : Type 0} (spans : S → Spans) (views : Views S) (attaches : S → Bool) (kept : S → ℕ → ℕ → ℕ) (is_whole : S → Type 0) (parts : Parts S) (new : Worlds S) where
+  module _ (does : S → SubscriberCall → S → Type 0) (law : CallsLaw spans views attaches kept is_whole does)
+      (hs' : List (Option Handle)) (at lane number : ℕ) (many : number ≡ length parts.handles) (before : Lane) (within : lane < length parts.lanes) (here : before ≡ get_or parts.lanes lane before)
+      (inv : IsKept spans views kept is_whole parts) where
     abbrev now : State
-    now = state_of spans views old dispatch opening lanes hs gs cs m
+    now = state_of spans views parts
+
+    abbrev then_parts : Parts S
+    then_parts = record parts { world = new; lanes = set parts.lanes lane (using before parts.dispatch); handles = hs'; moment = at }
 
     abbrev then : State
-    then = state_of spans views new dispatch opening (set lanes lane (using before dispatch)) hs' gs cs at
+    then = state_of spans views then_parts
 
     abbrev place_id : ℕ
     place_id = id_at now.setup.ids lane
 
     next_number : (t : Tables) → Fits now t → number ≡ length t.handles
-    next_number t fits = many ∙ sym (length-map hs held_by) ∙ ap length fits.handle_slots ∙ length-map t.handles (option_map (held_of dispatch))
+    next_number t fits = many ∙ sym (length-map parts.handles held_by) ∙ ap length fits.handle_slots ∙ length-map t.handles (option_map (held_of parts.dispatch))
 
-    lanes_are : map laned (set lanes lane (using before dispatch)) ≡ map laned lanes
-    lanes_are = lanes_same lanes lane before (using before dispatch) within here refl
+    lanes_are : map laned (set parts.lanes lane (using before parts.dispatch)) ≡ map laned parts.lanes
+    lanes_are = lanes_same parts.lanes lane before (using before parts.dispatch) within here refl
 
     on_id : (t : Tables) → Fits now t → current_of (entries_on before.id now.spans.lanes) ≡ own (current_scope t place_id)
-    on_id t fits = ap (λ (l : ℕ). current_of (entries_on l now.spans.lanes)) (id_seen lanes lane before within here) ∙ (is_on now t fits place_id).on
+    on_id t fits = ap (λ (l : ℕ). current_of (entries_on l now.spans.lanes)) (id_seen parts.lanes lane before within here) ∙ (is_on now t fits place_id).on
 
-    serves_handed : (t : Tables) → StandsFor now t → (resolved : Resolved) (line : Scope) (spent : Option ℕ) (enabled : Bool) → resolved ≡ Ok (hands t at place_id line spent) → enabled ≡ is_some (own line) → new.sites ≡ old.sites
-        → seen views.recorded no_recording new dispatch ≡ seen views.recorded no_recording old dispatch → seen views.filtered None new dispatch ≡ seen views.filtered None old dispatch → new.cached ≡ old.cached → Adds (aside_in views old dispatch) (aside_in views new dispatch) [] → then.handles ≡ slots_after now.handles (Some (held_of dispatch line)) spent → then.handle_sites ≡ slots_after now.handle_sites (Some (site_of t.made line)) spent → Handed now t then.spans line spent
+    serves_handed : (t : Tables) → StandsFor now t → (resolved : Resolved) (line : Scope) (spent : Option ℕ) (enabled : Bool) → resolved ≡ Ok (hands (here_at now.setup t at lane) line spent) → enabled ≡ is_some (own line) → new.sites ≡ parts.world.sites
+        → seen views.recorded no_recording new parts.dispatch ≡ seen views.recorded no_recording parts.world parts.dispatch → seen views.filtered None new parts.dispatch ≡ seen views.filtered None parts.world parts.dispatch → new.cached ≡ parts.world.cached → Adds (aside_in views parts.world parts.dispatch) (aside_in views new parts.dispatch) [] → then.handles ≡ slots_after now.handles (Some (held_of parts.dispatch line)) spent → then.handle_sites ≡ slots_after now.handle_sites (Some (site_of t.made line)) spent → Handed now t then.spans line spent
         → Served resolved t now then (reply.Made enabled number)
     serves_handed t stands resolved line spent enabled is shows sites same filters cached aside handles handle_sites handed =
         let fits = stands.fits in
-        let setup : then.setup ≡ now.setup = rw (sites, ids_same lanes lane before (using before dispatch) within here refl, names_same lanes lane before (using before dispatch) within here refl, same) refl in
-        let e : Effect = hands t at place_id line spent in
+        let setup : then.setup ≡ now.setup = rw (sites, ids_same parts.lanes lane before (using before parts.dispatch) within here refl, names_same parts.lanes lane before (using before parts.dispatch) within here refl, same) refl in
+        let e : Effect = hands (here_at now.setup t at lane) line spent in
         let more = one_more t.handles line spent in
         serve now then t e resolved (reply.Made enabled number) stands is
         (ap (λ n. reply.Made enabled n) (next_number t fits) ∙ ap (λ b. reply.Made b (length t.handles)) shows)
-        setup (seen views.recorded no_recording old dispatch).tokens same
+        setup (seen views.recorded no_recording parts.world parts.dispatch).tokens same
         (fits_step now t fits then e (record {
           setup_is = setup;
           dispatch_is = refl;
@@ -258,103 +263,103 @@ module _ {S : Type 0} (spans : S → Spans) (views : Views S) (attaches : S → 
           few_holds = λ s. (let a = handed.most s in let f = fits.few_holds s in omega (arith, a, f, more));
           one = handed.one;
         }))
-        (λ s some. known_still now then t e (seen views.recorded no_recording old dispatch).tokens same stands.recording s refl (handed.live s some))
+        (λ s some. known_still now then t e (seen views.recorded no_recording parts.world parts.dispatch).tokens same stands.recording s refl (handed.live s some))
         (all_same now then t.contexts setup refl lanes_are (ap (λ (r : Recording). r.tokens) same) stands.recording.attached)
-        (record { quiet = refl; before = seen views.filtered None old dispatch; later = seen views.filtered None new dispatch; shown_before = refl; shown_later = refl; told = filters ∙ heard_none (seen views.filtered None old dispatch); known = refl; cached = cached; aside = record { before = aside_in views old dispatch; later = aside_in views new dispatch; shown_before = refl; shown_later = refl; waits_before = refl; waits_later = refl; adds = aside } })
+        (record { quiet = refl; before = seen views.filtered None parts.world parts.dispatch; later = seen views.filtered None new parts.dispatch; shown_before = refl; shown_later = refl; told = filters ∙ heard_none (seen views.filtered None parts.world parts.dispatch); known = refl; cached = cached; aside = record { before = aside_in views parts.world parts.dispatch; later = aside_in views new parts.dispatch; shown_before = refl; shown_later = refl; waits_before = refl; waits_later = refl; adds = aside } })
 
-    keeps_handed : (resolved : Resolved) (enabled : Bool) → Served resolved inv.tables now then (reply.Made enabled number) → length new.subscribers ≡ length old.subscribers → (Has is_whole old dispatch → Has is_whole new dispatch) → kept_in kept new dispatch ≡ kept_in kept old dispatch → IsKept kept is_whole new then
-    keeps_handed resolved enabled served count whole same = kept_served spans views attaches kept is_whole old new now then inv resolved _ served refl count whole
-        (subst (λ (ls : List Laned). LanesFit (kept_in kept new dispatch) ls) (sym lanes_are) (subst (λ (f : ℕ → ℕ → ℕ). LanesFit f (map laned lanes)) (sym same) inv.lanes))
+    keeps_handed : (resolved : Resolved) (enabled : Bool) → Served resolved inv.tables now then (reply.Made enabled number) → length new.subscribers ≡ length parts.world.subscribers → (Has is_whole parts.world parts.dispatch → Has is_whole new parts.dispatch) → kept_in kept new parts.dispatch ≡ kept_in kept parts.world parts.dispatch → IsKept spans views kept is_whole then_parts
+    keeps_handed resolved enabled served count whole same = kept_served spans views kept is_whole parts then_parts inv resolved _ served refl count whole
+        (subst (λ (ls : List Laned). LanesFit (kept_in kept new parts.dispatch) ls) (sym lanes_are) (subst (λ (f : ℕ → ℕ → ℕ). LanesFit f (map laned parts.lanes)) (sym same) inv.lanes))
 
     -- a handle of the lane's current span
-    module _ (h : Handle) (enabled : Bool) (shows : enabled ≡ is_some (id_of h.held)) (one : hs' ≡ hs ++ Some h ∷ []) (did : IsCurrent spans does old new before.id (Some dispatch) h) where
+    module _ (h : Handle) (enabled : Bool) (shows : enabled ≡ is_some (id_of h.held)) (one : hs' ≡ parts.handles ++ Some h ∷ []) (did : IsCurrent spans does parts.world new before.id (Some parts.dispatch) h) where
       pub serves_current : (t : Tables) → StandsFor now t → Served (effect_of_call now.setup t at lane call.Current) t now then (reply.Made enabled number)
       serves_current t stands =
           let fits = stands.fits in
           let line = current_scope t place_id in
           let on = is_on now t fits place_id in
-          let copy = current_copied spans does old new dispatch before.id line h inv.there (on_id t fits) did in
-          let shown = shown_on spans views attaches kept is_whole does law recalls old new dispatch line h.held copy.0 (λ id. CloneSpan id) copy.1 in
-          serves_handed t stands _ line None enabled refl (shows ∙ enabled_is dispatch line h.held copy.0) (call_sites spans views attaches kept is_whole old new dispatch line (λ id. CloneSpan id) shown)
-          (clone_recorded spans views attaches kept is_whole old new dispatch line shown) (clone_filter spans views attaches kept is_whole old new dispatch line shown) (call_cached spans views attaches kept is_whole old new dispatch line (λ id. CloneSpan id) shown) (call_aside spans views attaches kept is_whole old new dispatch line (λ id. CloneSpan id) (λ s. refl) shown)
-          (ap (map held_by) one ∙ map_push held_by hs (Some h) ∙ ap (λ (x : Held). map held_by hs ++ Some x ∷ []) copy.0)
-          (ap (map site_by) one ∙ map_push site_by hs (Some h) ∙ ap (λ (o : Option ℕ). map site_by hs ++ Some o ∷ []) (current_site spans does old new dispatch before.id line h inv.there (on_id t fits) did t.made fits.made on.live))
-          (subst (λ (x : Spans). Handed now t x line None) (sym (held_spans spans views attaches kept is_whole old new dispatch line shown)) (handed_more now t fits line on.scope on.live))
+          let copy = current_copied spans does parts.world new parts.dispatch before.id line h inv.there (on_id t fits) did in
+          let shown = shown_on spans views attaches kept is_whole does law parts.world new parts.dispatch line h.held copy.0 (λ id. CloneSpan id) copy.1 in
+          serves_handed t stands _ line None enabled refl (shows ∙ enabled_is parts.dispatch line h.held copy.0) (call_sites spans views attaches kept is_whole parts new line (λ id. CloneSpan id) shown)
+          (clone_recorded spans views attaches kept is_whole parts new line shown) (clone_filter spans views attaches kept is_whole parts new line shown) (call_cached spans views attaches kept is_whole parts new line (λ id. CloneSpan id) shown) (call_aside spans views attaches kept is_whole parts new line (λ id. CloneSpan id) (λ s. refl) shown)
+          (ap (map held_by) one ∙ map_push held_by parts.handles (Some h) ∙ ap (λ (x : Held). map held_by parts.handles ++ Some x ∷ []) copy.0)
+          (ap (map site_by) one ∙ map_push site_by parts.handles (Some h) ∙ ap (λ (o : Option ℕ). map site_by parts.handles ++ Some o ∷ []) (current_site spans does parts.world new parts.dispatch before.id line h inv.there (on_id t fits) did t.made fits.made on.live))
+          (subst (λ (x : Spans). Handed now t x line None) (sym (held_spans spans views attaches kept is_whole parts new line shown)) (handed_more now t fits line on.scope on.live))
 
-      pub keeps_current : IsKept kept is_whole new then
+      pub keeps_current : IsKept spans views kept is_whole then_parts
       keeps_current =
           let line = current_scope inv.tables place_id in
-          let copy = current_copied spans does old new dispatch before.id line h inv.there (on_id inv.tables inv.fits) did in
-          let shown = shown_on spans views attaches kept is_whole does law recalls old new dispatch line h.held copy.0 (λ id. CloneSpan id) copy.1 in
-          keeps_handed _ _ (serves_current inv.tables (record { fits = inv.fits; recording = inv.recording; filtering = inv.filtering })) (call_count spans views attaches kept is_whole old new dispatch line (λ id. CloneSpan id) shown)
-          (call_whole spans views attaches kept is_whole old new dispatch line (λ id. CloneSpan id) shown) (clone_kept spans views attaches kept is_whole old new dispatch line shown)
+          let copy = current_copied spans does parts.world new parts.dispatch before.id line h inv.there (on_id inv.tables inv.stands.fits) did in
+          let shown = shown_on spans views attaches kept is_whole does law parts.world new parts.dispatch line h.held copy.0 (λ id. CloneSpan id) copy.1 in
+          keeps_handed _ _ (serves_current inv.tables inv.stands) (call_count spans views attaches kept is_whole parts new line (λ id. CloneSpan id) shown)
+          (call_whole spans views attaches kept is_whole parts new line (λ id. CloneSpan id) shown) (clone_kept spans views attaches kept is_whole parts new line shown)
 
     -- a handle that is exchanged
-    module _ (handle : ℕ) (h next : Handle) (found : slot_at hs handle ≡ Some h) (free : is_named gs handle ≡ false) (enabled : Bool) (shows : enabled ≡ is_some (id_of next.held)) (one : hs' ≡ slice_set hs handle None ++ Some next ∷ [])
-        (stays : IfSome h.held (λ held. (next ≡ h) × (new ≡ old))) (takes : h.held ≡ None → IsCurrent spans does old new before.id (Some dispatch) next) where
-      slots_are : (line : Scope) → next.held ≡ held_of dispatch line → then.handles ≡ slots_after now.handles (Some (held_of dispatch line)) (Some handle)
+    module _ (handle : ℕ) (h next : Handle) (found : slot_at parts.handles handle ≡ Some h) (free : is_named parts.guards handle ≡ false) (enabled : Bool) (shows : enabled ≡ is_some (id_of next.held)) (one : hs' ≡ slice_set parts.handles handle None ++ Some next ∷ [])
+        (stays : IfSome h.held (λ held. (next ≡ h) × (new ≡ parts.world))) (takes : h.held ≡ None → IsCurrent spans does parts.world new before.id (Some parts.dispatch) next) where
+      slots_are : (line : Scope) → next.held ≡ held_of parts.dispatch line → then.handles ≡ slots_after now.handles (Some (held_of parts.dispatch line)) (Some handle)
       slots_are line is =
-          let xs : List (Option Held) = map held_by hs in
-          ap (map held_by) one ∙ map_push held_by (slice_set hs handle None) (Some next) ∙ ap (λ (x : Held). map held_by (slice_set hs handle None) ++ Some x ∷ []) is
-          ∙ ap (λ (ys : List (Option Held)). ys ++ Some (held_of dispatch line) ∷ []) (map-set held_by hs handle None)
-          ∙ sym (set-append_left xs (Some (held_of dispatch line) ∷ []) handle None (named_within xs handle h.held (held_slot hs handle h found)))
+          let xs : List (Option Held) = map held_by parts.handles in
+          ap (map held_by) one ∙ map_push held_by (slice_set parts.handles handle None) (Some next) ∙ ap (λ (x : Held). map held_by (slice_set parts.handles handle None) ++ Some x ∷ []) is
+          ∙ ap (λ (ys : List (Option Held)). ys ++ Some (held_of parts.dispatch line) ∷ []) (map-set held_by parts.handles handle None)
+          ∙ sym (set-append_left xs (Some (held_of parts.dispatch line) ∷ []) handle None (named_within xs handle h.held (held_slot parts.handles handle h found)))
 
       sites_are : (made : List Made) (line : Scope) → next.site ≡ site_of made line → then.handle_sites ≡ slots_after now.handle_sites (Some (site_of made line)) (Some handle)
       sites_are made line is =
-          let xs : List (Option (Option ℕ)) = map site_by hs in
-          ap (map site_by) one ∙ map_push site_by (slice_set hs handle None) (Some next) ∙ ap (λ (o : Option ℕ). map site_by (slice_set hs handle None) ++ Some o ∷ []) is
-          ∙ ap (λ (ys : List (Option (Option ℕ))). ys ++ Some (site_of made line) ∷ []) (map-set site_by hs handle None)
-          ∙ sym (set-append_left xs (Some (site_of made line) ∷ []) handle None (named_within xs handle h.site (site_slot hs handle h found)))
+          let xs : List (Option (Option ℕ)) = map site_by parts.handles in
+          ap (map site_by) one ∙ map_push site_by (slice_set parts.handles handle None) (Some next) ∙ ap (λ (o : Option ℕ). map site_by (slice_set parts.handles handle None) ++ Some o ∷ []) is
+          ∙ ap (λ (ys : List (Option (Option ℕ))). ys ++ Some (site_of made line) ∷ []) (map-set site_by parts.handles handle None)
+          ∙ sym (set-append_left xs (Some (site_of made line) ∷ []) handle None (named_within xs handle h.site (site_slot parts.handles handle h found)))
 
       not_used : (t : Tables) → Fits now t → is_borrowed t.guards handle ≡ false
-      not_used t fits = sym (borrowed_is dispatch t.guards handle) ∙ ap (λ (xs : List (Option Guard)). is_named xs handle) (sym fits.guard_slots) ∙ free
+      not_used t fits = sym (borrowed_is parts.dispatch t.guards handle) ∙ ap (λ (xs : List (Option Guard)). is_named xs handle) (sym fits.guard_slots) ∙ free
 
-      its_effect : (t : Tables) → Fits now t → (line : Scope) → slot_at t.handles handle ≡ Some line → effect_of_call now.setup t at lane (call.OrCurrent handle) ≡ Ok (hands t at place_id (scope_or_current t place_id line) (Some handle))
+      its_effect : (t : Tables) → Fits now t → (line : Scope) → slot_at t.handles handle ≡ Some line → effect_of_call now.setup t at lane (call.OrCurrent handle) ≡ Ok (hands (here_at now.setup t at lane) (scope_or_current t place_id line) (Some handle))
       its_effect t fits line there =
-          ap (λ o. named what.Handle o (λ scope. drops_unless (is_borrowed t.guards handle) (exchanges t at place_id handle (scope_or_current t place_id scope)))) there ∙ cond-false {A = Resolved} (is_borrowed t.guards handle) _ _ (not_used t fits)
+          ap (λ o. need what.Handle o >>= (λ scope. refuse_if (is_borrowed t.guards handle) refusal.InUse (Ok (exchange_effect (here_at now.setup t at lane) handle (scope_or_current t place_id scope))))) there ∙ cond-false {A = Resolved} (is_borrowed t.guards handle) _ _ (not_used t fits)
 
-      its_line : (t : Tables) → Fits now t → Found (held_of dispatch) t.handles handle h.held
-      its_line t fits = find (held_of dispatch) (map held_by hs) t.handles handle h.held fits.handle_slots (held_slot hs handle h found)
+      its_line : (t : Tables) → Fits now t → Found (held_of parts.dispatch) t.handles handle h.held
+      its_line t fits = find (held_of parts.dispatch) (map held_by parts.handles) t.handles handle h.held fits.handle_slots (held_slot parts.handles handle h found)
 
       record Exchanged (t : Tables) : Type 0 where
         served : Served (effect_of_call now.setup t at lane (call.OrCurrent handle)) t now then (reply.Made enabled number)
-        count : length new.subscribers ≡ length old.subscribers
-        whole : Has is_whole old dispatch → Has is_whole new dispatch
-        same : kept_in kept new dispatch ≡ kept_in kept old dispatch
+        count : length new.subscribers ≡ length parts.world.subscribers
+        whole : Has is_whole parts.world parts.dispatch → Has is_whole new parts.dispatch
+        same : kept_in kept new parts.dispatch ≡ kept_in kept parts.world parts.dispatch
 
-      exchanged : (t : Tables) → StandsFor now t → (line : Scope) → slot_at t.handles handle ≡ Some line → h.held ≡ held_of dispatch line → Exchanged t
+      exchanged : (t : Tables) → StandsFor now t → (line : Scope) → slot_at t.handles handle ≡ Some line → h.held ≡ held_of parts.dispatch line → Exchanged t
       exchanged t stands [] there is =
           let fits = stands.fits in
           let line = current_scope t place_id in
           let on = is_on now t fits place_id in
-          let copy = current_copied spans does old new dispatch before.id line next inv.there (on_id t fits) (takes is) in
-          let shown = shown_on spans views attaches kept is_whole does law recalls old new dispatch line next.held copy.0 (λ id. CloneSpan id) copy.1 in
+          let copy = current_copied spans does parts.world new parts.dispatch before.id line next inv.there (on_id t fits) (takes is) in
+          let shown = shown_on spans views attaches kept is_whole does law parts.world new parts.dispatch line next.held copy.0 (λ id. CloneSpan id) copy.1 in
           record {
-            served = serves_handed t stands _ line (Some handle) enabled (its_effect t fits [] there) (shows ∙ enabled_is dispatch line next.held copy.0) (call_sites spans views attaches kept is_whole old new dispatch line (λ id. CloneSpan id) shown)
-                (clone_recorded spans views attaches kept is_whole old new dispatch line shown) (clone_filter spans views attaches kept is_whole old new dispatch line shown) (call_cached spans views attaches kept is_whole old new dispatch line (λ id. CloneSpan id) shown) (call_aside spans views attaches kept is_whole old new dispatch line (λ id. CloneSpan id) (λ s. refl) shown) (slots_are line copy.0) (sites_are t.made line (current_site spans does old new dispatch before.id line next inv.there (on_id t fits) (takes is) t.made fits.made on.live))
-                (subst (λ (x : Spans). Handed now t x line (Some handle)) (sym (held_spans spans views attaches kept is_whole old new dispatch line shown)) (handed_instead now t fits line on.scope on.live handle there (not_used t fits)));
-            count = call_count spans views attaches kept is_whole old new dispatch line (λ id. CloneSpan id) shown;
-            whole = call_whole spans views attaches kept is_whole old new dispatch line (λ id. CloneSpan id) shown;
-            same = clone_kept spans views attaches kept is_whole old new dispatch line shown;
+            served = serves_handed t stands _ line (Some handle) enabled (its_effect t fits [] there) (shows ∙ enabled_is parts.dispatch line next.held copy.0) (call_sites spans views attaches kept is_whole parts new line (λ id. CloneSpan id) shown)
+                (clone_recorded spans views attaches kept is_whole parts new line shown) (clone_filter spans views attaches kept is_whole parts new line shown) (call_cached spans views attaches kept is_whole parts new line (λ id. CloneSpan id) shown) (call_aside spans views attaches kept is_whole parts new line (λ id. CloneSpan id) (λ s. refl) shown) (slots_are line copy.0) (sites_are t.made line (current_site spans does parts.world new parts.dispatch before.id line next inv.there (on_id t fits) (takes is) t.made fits.made on.live))
+                (subst (λ (x : Spans). Handed now t x line (Some handle)) (sym (held_spans spans views attaches kept is_whole parts new line shown)) (handed_instead now t fits line on.scope on.live handle there (not_used t fits)));
+            count = call_count spans views attaches kept is_whole parts new line (λ id. CloneSpan id) shown;
+            whole = call_whole spans views attaches kept is_whole parts new line (λ id. CloneSpan id) shown;
+            same = clone_kept spans views attaches kept is_whole parts new line shown;
           }
       exchanged t stands (s ∷ up) there is =
           let fits = stands.fits in
-          let mine = subst (λ (x : Held). IfSome x (λ held. (next ≡ h) × (new ≡ old))) is stays in
-          let held_is : next.held ≡ held_of dispatch (s ∷ up) = ap (λ (x : Handle). x.held) mine.0 ∙ is in
+          let mine = subst (λ (x : Held). IfSome x (λ held. (next ≡ h) × (new ≡ parts.world))) is stays in
+          let held_is : next.held ≡ held_of parts.dispatch (s ∷ up) = ap (λ (x : Handle). x.held) mine.0 ∙ is in
           record {
-            served = serves_handed t stands _ (s ∷ up) (Some handle) enabled (its_effect t fits (s ∷ up) there) (shows ∙ enabled_is dispatch (s ∷ up) next.held held_is) (ap (λ (w : Worlds S). w.sites) mine.1)
-                (ap (λ (w : Worlds S). seen views.recorded no_recording w dispatch) mine.1) (ap (λ (w : Worlds S). seen views.filtered None w dispatch) mine.1) (ap (λ (w : Worlds S). w.cached) mine.1) (adds_same views old new dispatch mine.1) (slots_are (s ∷ up) held_is) (sites_are t.made (s ∷ up) (ap (λ (x : Handle). x.site) mine.0 ∙ site_found now t fits hs refl handle h found (s ∷ up) there))
-                (subst (λ (x : Spans). Handed now t x (s ∷ up) (Some handle)) (sym (ap (λ (w : Worlds S). spans_in spans w dispatch) mine.1)) (handed_on now t fits handle s up there (not_used t fits)));
+            served = serves_handed t stands _ (s ∷ up) (Some handle) enabled (its_effect t fits (s ∷ up) there) (shows ∙ enabled_is parts.dispatch (s ∷ up) next.held held_is) (ap (λ (w : Worlds S). w.sites) mine.1)
+                (ap (λ (w : Worlds S). seen views.recorded no_recording w parts.dispatch) mine.1) (ap (λ (w : Worlds S). seen views.filtered None w parts.dispatch) mine.1) (ap (λ (w : Worlds S). w.cached) mine.1) (adds_same views parts.world new parts.dispatch mine.1) (slots_are (s ∷ up) held_is) (sites_are t.made (s ∷ up) (ap (λ (x : Handle). x.site) mine.0 ∙ site_found now t fits parts.handles refl handle h found (s ∷ up) there))
+                (subst (λ (x : Spans). Handed now t x (s ∷ up) (Some handle)) (sym (ap (λ (w : Worlds S). spans_in spans w parts.dispatch) mine.1)) (handed_on now t fits handle s up there (not_used t fits)));
             count = ap (λ (w : Worlds S). length w.subscribers) mine.1;
-            whole = λ has. subst (λ (w : Worlds S). Has is_whole w dispatch) (sym mine.1) has;
-            same = ap (λ (w : Worlds S). kept_in kept w dispatch) mine.1;
+            whole = λ has. subst (λ (w : Worlds S). Has is_whole w parts.dispatch) (sym mine.1) has;
+            same = ap (λ (w : Worlds S). kept_in kept w parts.dispatch) mine.1;
           }
 
       pub serves_exchanged : (t : Tables) → StandsFor now t → Served (effect_of_call now.setup t at lane (call.OrCurrent handle)) t now then (reply.Made enabled number)
       serves_exchanged t stands = let line = its_line t stands.fits in (exchanged t stands line.at line.there line.is).served
 
-      pub keeps_exchanged : IsKept kept is_whole new then
+      pub keeps_exchanged : IsKept spans views kept is_whole then_parts
       keeps_exchanged =
-          let line = its_line inv.tables inv.fits in
-          let all = exchanged inv.tables (record { fits = inv.fits; recording = inv.recording; filtering = inv.filtering }) line.at line.there line.is in
+          let line = its_line inv.tables inv.stands.fits in
+          let all = exchanged inv.tables inv.stands line.at line.there line.is in
           keeps_handed _ enabled all.served all.count all.whole all.same

@@ -1,6 +1,6 @@
 -- Makings, served.
 use Rattle.std.proofs.Common.{◌≡◌, ℕ, ◌+◌, ◌<◌, ◌≤◌, ◌^◌, List, [], ◌∷◌, ◌++◌, length, Bool, true, false, fold, get_or, Option, Some, None, Ok, option_map, map, refl, sym, ap, subst, ◌∙◌, arith, inl, inr}
-use Rattle.std.specs.Prelude.{IfSome, slice_get, is_some}
+use Rattle.std.specs.Prelude.{IfSome, slice_get, is_some, ◌≢◌, option_and_then}
 use Rattle.std.proofs.lemmas.Bool.{cases_eq, cases_lt, cond-true, cond-false}
 use Rattle.std.proofs.lemmas.List.{length-map, length_push, map_push, get_or_past, get_or_push, get_or_append_left}
 use Rattle.trace_base.specs.declared.lane.Lane.{Lane}
@@ -9,21 +9,18 @@ use Rattle.trace_base.specs.declared.callsite.Callsite.{Callsite}
 use Rattle.trace_base.specs.declared.field.ValueSet.{ValueSet}
 use Rattle.trace_base.specs.Gate.{Worlds}
 use Rattle.env_filter.specs.Filtering.{Filtered}
-use Rattle.trace_base.specs.Spans.{Span, Spans, no_span, span_at, held_by_child, entries_on, place_on}
+use Rattle.trace_base.specs.Spans.{Span, Spans, no_span, span_at, held_by_child, entries_on, place_on, current_of}
 use Rattle.trace_base.specs.Calls.{SubscriberCall, NewSpan, with_span}
 use Rattle.trace_base.specs.Conditions.{IsLivePlace, HasFewHolds, AreFew, HasFewHoldsAbove}
 use Rattle.trace_base.specs.Sound.{OneEach}
-use Rattle.span_handles.specs.Worlds.{Shown, Alike, Replaced, seen, spans_in, kept_in, no_spans, Has}
+use Rattle.span_handles.specs.Worlds.{Shown, Replaced, seen, spans_in, kept_in, no_spans, Has}
 use Rattle.span_handles.specs.Handles.{Handle, Makes, MayMake, no_handle}
 use Rattle.span_handles.proofs.Showing.{seen_before}
-use Rattle.span_script.specs.declared.slots.Guard.{Guard}
 use Rattle.span_script.specs.declared.reply.Reply.TheVariants as reply
 use Rattle.span_script.specs.declared.request.Place.{Place}
 use Rattle.span_script.specs.declared.request.Call.TheVariants as call
 use Rattle.span_script.specs.declared.reply.What.TheVariants as what
-use Rattle.span_script.specs.declared.settings.Texts.{Texts}
 use Rattle.span_script.specs.Setups.{Setup, id_at, name_at, if_span, span_site}
-use Rattle.std.specs.Prelude.{◌≢◌, option_and_then}
 use Rattle.std.specs.Option.{option_to_list}
 use Rattle.otel_base.specs.declared.context.Context.{Context}
 use Rattle.otel_base.specs.declared.value.KeyValue.{KeyValue}
@@ -35,18 +32,19 @@ use Rattle.otel_state.specs.fields.SpanFields.{span_update}
 use Rattle.otel_state.specs.States.{Told, begun, changed}
 use Rattle.otel_layer.specs.declared.tokens.Token.{Token}
 use Rattle.otel_layer.specs.Steps.{above, around, context_from, made_told}
-use Rattle.otel_layer.specs.Table.{told_at}
-use Rattle.otel_layer.specs.Table.{with_span as add_span}
+use Rattle.otel_layer.specs.Table.{told_at, with_span as add_span}
 use Rattle.otel_layer.specs.Recording.{Recording, source_of, no_recording, with_start, with_starts}
 use Rattle.trace_base.specs.declared.callsite.Kind.{Kind}
 use Rattle.trace_base.specs.declared.callsite.Kind.TheVariants as kinds
 use Rattle.trace_base.specs.declared.span.Parent.TheVariants as parent
-use Rattle.trace_base.specs.Spans.{current_of}
 use Rattle.trace_base.proofs.Entering.{length_held}
 use Rattle.trace_base.proofs.Holding.{holds_other}
 use Rattle.span_script.specs.Tables.{Scope, Made, Attached, no_making, HeardNew, Effect, Tables, recorded_by, open_part, slot_at, own, made_of}
-use Rattle.span_script.specs.Effects.{hears, named, effect_of_call, admitted, lane_in, made_at, context_around, parent_at, makes, makes_span, declines, scope_at}
-use Rattle.span_script.proofs.filter.CounterLemmas.{aside_in, adds_nothing, adds_same}
+use Rattle.span_script.specs.calls.Here.{here_at, ◌>>=◌, need}
+use Rattle.span_script.specs.Effects.{effect_of_call}
+use Rattle.span_script.specs.calls.Filter.{hears, admitted}
+use Rattle.span_script.specs.calls.Spans.{lane_in, made_at, context_around, parent_at, new_effect, span_effect, disabled_effect, scope_at}
+use Rattle.span_script.proofs.filter.CounterLemmas.{adds_nothing, adds_same}
 use Rattle.span_script.proofs.steps.KnownSpansLemmas.{recorded_known, new_known}
 use Rattle.span_script.proofs.lane_contexts.OwnersLemmas.{last_is}
 use Rattle.span_script.proofs.lane_contexts.LaneContextsLemmas.{own_fit}
@@ -54,20 +52,21 @@ use Rattle.span_script.proofs.steps.RecordingLemmas.{recorded_settings, recorded
 use Rattle.span_script.specs.Fields.{Fields, all_values}
 use Rattle.span_script.specs.Slots.{place_for, MakesOnly, LetsThrough}
 use Rattle.span_script.specs.Balance.{Balanced, named_by, opened_by}
-use Rattle.span_script.specs.Fits.{Views, Named, State, state_of, laned, Fits, StandsFor, MadeFit, LanesFit, IsKept, Served, IsScope, above as parent_above, held_of, guard_of, held_by, site_by}
+use Rattle.span_script.specs.Fits.{Views, State, state_of, laned, Fits, StandsFor, MadeFit, LanesFit, IsKept, Served, IsScope, held_of, guard_of, held_by, site_by, Parts, above as parent_above}
 use Rattle.span_script.proofs.steps.SlotsLemmas.{find}
 use Rattle.span_script.proofs.spans.ScopesLemmas.{new_line}
 use Rattle.span_script.proofs.spans.SitesLemmas.{got_within, the_callsite, found_site_is}
 use Rattle.span_script.proofs.steps.StepLemmas.{fits_step}
-use Rattle.span_script.proofs.steps.CallsLemmas.{Law, Recalls, has_by}
+use Rattle.span_script.proofs.steps.CallsLemmas.{has_by}
 use Rattle.span_script.proofs.steps.BalanceLemmas.{held_most}
 use Rattle.span_script.proofs.filter.FilterLemmas.{heard_none}
 use Rattle.span_script.proofs.filter.GateLemmas.{answered}
-use Rattle.span_script.proofs.steps.LanesLemmas.{id_seen, name_seen, kept_alike, SameRecorded}
+use Rattle.span_script.proofs.steps.LanesLemmas.{id_seen, name_seen, kept_alike}
 use Rattle.span_script.proofs.spans.MadeSpansLemmas.{made_held}
 use Rattle.span_script.proofs.steps.ServesLemmas.{serve, known_still, all_same, kept_served}
 use Rattle.span_script.proofs.spans.ClonesLemmas.{the_scope, still_named_more}
 use Rattle.span_script.proofs.spans.MoreHandlesLemmas.{balanced_decline, balanced_new, find_up}
+use Rattle.span_script.specs.SubscriberLaws.{CallsLaw, SameLaw, aside_in}
 
 -- the spans with a new one under a scope
 made_pushed : (xs : List Span) (ms : List Made) (up : Scope) (site : ℕ) (told : Told) → MadeFit xs ms → MadeFit (xs ++ record { holds = 1; parent = own up; site = site } ∷ []) (ms ++ record { site = site; scope = length ms ∷ up; told = told } ∷ [])
@@ -152,14 +151,14 @@ site_is sites site callsite is = by_site (slice_get sites site) is
 
 -- the settings are those of the open part, whatever started
 told_settings : (setup : Setup) (t : Tables) (at lane : ℕ) (callsite : Callsite) (values : ValueSet) (q : Parent) (r : Recording) → open_part r ≡ t.recording
-    → made_told callsite (lane_in setup lane) values
-    (context_from (with_starts (above r.settings.activation q (current_of (t.entries (id_at setup.ids lane)))) at t.recording).spans (context_around (t.contexts (id_at setup.ids lane)) q) (above r.settings.activation q (current_of (t.entries (id_at setup.ids lane))))) at r.settings r.counting
-    ≡ made_at (record setup { layer = r.settings }) t at lane callsite values q
+    → made_told callsite (lane_in (here_at setup t at lane)) values
+    (context_from (with_starts (above r.settings.activation q (current_of (t.entries (here_at setup t at lane).lane))) at t.recording).spans (context_around (t.contexts (here_at setup t at lane).lane) q) (above r.settings.activation q (current_of (t.entries (here_at setup t at lane).lane)))) at r.settings r.counting
+    ≡ made_at (here_at (record setup { layer = r.settings }) t at lane) callsite values q
 told_settings setup t at lane callsite values q r is =
-    let source = above r.settings.activation q (current_of (t.entries (id_at setup.ids lane))) in
-    let c = context_from (with_starts source at t.recording).spans (context_around (t.contexts (id_at setup.ids lane)) q) source in
-    ap (λ (x : LayerSettings). made_told callsite (lane_in setup lane) values c at x r.counting) (ap (λ (x : Recording). x.settings) is ∙ sym (entry_settings source at t.recording))
-    ∙ ap (λ (b : Bool). made_told callsite (lane_in setup lane) values c at (with_starts source at t.recording).settings b) (ap (λ (x : Recording). x.counting) is ∙ sym (entry_counting source at t.recording))
+    let source = above r.settings.activation q (current_of (t.entries (here_at setup t at lane).lane)) in
+    let c = context_from (with_starts source at t.recording).spans (context_around (t.contexts (here_at setup t at lane).lane) q) source in
+    ap (λ (x : LayerSettings). made_told callsite (lane_in (here_at setup t at lane)) values c at x r.counting) (ap (λ (x : Recording). x.settings) is ∙ sym (entry_settings source at t.recording))
+    ∙ ap (λ (b : Bool). made_told callsite (lane_in (here_at setup t at lane)) values c at (with_starts source at t.recording).settings b) (ap (λ (x : Recording). x.counting) is ∙ sym (entry_counting source at t.recording))
 
 -- the recording with a span more
 abbrev made_record : ℕ → Told → Recording → Recording
@@ -167,100 +166,103 @@ made_record n told x = record x { spans = add_span n told x.spans }
 
 -- what was made is what the effect makes
 made_is : (setup : Setup) (t : Tables) (at lane : ℕ) (callsite c : Callsite) (values : ValueSet) (p q : Parent) (before : Lane) (r : Recording) (current : Option ℕ) → open_part r ≡ t.recording → setup.layer ≡ r.settings → c ≡ callsite → p ≡ q
-    → before.id ≡ id_at setup.ids lane → before.name ≡ name_at setup.names lane → current ≡ current_of (t.entries (id_at setup.ids lane)) → map (λ (x : ℕ × Context). x.1) before.contexts.live ≡ map (λ (a : Attached). a.context) (t.contexts (id_at setup.ids lane))
+    → before.id ≡ (here_at setup t at lane).lane → before.name ≡ name_at setup.names lane → current ≡ current_of (t.entries (here_at setup t at lane).lane) → map (λ (x : ℕ × Context). x.1) before.contexts.live ≡ map (λ (a : Attached). a.context) (t.contexts (here_at setup t at lane).lane)
     → made_told c before values (context_from (with_starts (above r.settings.activation p current) at r).spans (around before p) (above r.settings.activation p current)) at r.settings r.counting
-    ≡ made_told callsite (lane_in setup lane) values
-    (context_from (with_starts (above r.settings.activation q (current_of (t.entries (id_at setup.ids lane)))) at t.recording).spans (context_around (t.contexts (id_at setup.ids lane)) q) (above r.settings.activation q (current_of (t.entries (id_at setup.ids lane))))) at r.settings r.counting
+    ≡ made_told callsite (lane_in (here_at setup t at lane)) values
+    (context_from (with_starts (above r.settings.activation q (current_of (t.entries (here_at setup t at lane).lane))) at t.recording).spans (context_around (t.contexts (here_at setup t at lane).lane) q) (above r.settings.activation q (current_of (t.entries (here_at setup t at lane).lane)))) at r.settings r.counting
 made_is setup t at lane callsite c values p q before r current recorded layer c_is p_is id name current_is contexts =
     let source = λ (x : Parent) (o : Option ℕ). above r.settings.activation x o in
     ap (λ (x : Callsite). made_told x before values (context_from (with_starts (source p current) at r).spans (around before p) (source p current)) at r.settings r.counting) c_is
     ∙ ap (λ (x : Parent). made_told callsite before values (context_from (with_starts (source x current) at r).spans (around before x) (source x current)) at r.settings r.counting) p_is
     ∙ ap (λ (o : Option ℕ). made_told callsite before values (context_from (with_starts (source q o) at r).spans (around before q) (source q o)) at r.settings r.counting) current_is
-    ∙ ap (λ (xs : List (ℕ × Told)). made_told callsite before values (context_from xs (around before q) (source q (current_of (t.entries (id_at setup.ids lane))))) at r.settings r.counting) (starts_open (source q (current_of (t.entries (id_at setup.ids lane)))) at r t.recording recorded)
-    ∙ ap (λ (x : Context). made_told callsite before values (context_from (with_starts (source q (current_of (t.entries (id_at setup.ids lane)))) at t.recording).spans x (source q (current_of (t.entries (id_at setup.ids lane))))) at r.settings r.counting) (around_is q before (t.contexts (id_at setup.ids lane)) contexts)
-    ∙ ap (λ (first : List KeyValue). changed (begun (record { name = callsite.name; parent = context_from (with_starts (source q (current_of (t.entries (id_at setup.ids lane)))) at t.recording).spans (context_around (t.contexts (id_at setup.ids lane)) q) (source q (current_of (t.entries (id_at setup.ids lane)))); made = at; first = first; counting = r.counting; inactivity = r.settings.inactivity })) at (ops.Update (span_update callsite values r.settings))) (first_same callsite before (lane_in setup lane) r.settings id name)
+    ∙ ap (λ (xs : List (ℕ × Told)). made_told callsite before values (context_from xs (around before q) (source q (current_of (t.entries (here_at setup t at lane).lane)))) at r.settings r.counting) (starts_open (source q (current_of (t.entries (here_at setup t at lane).lane))) at r t.recording recorded)
+    ∙ ap (λ (x : Context). made_told callsite before values (context_from (with_starts (source q (current_of (t.entries (here_at setup t at lane).lane))) at t.recording).spans x (source q (current_of (t.entries (here_at setup t at lane).lane)))) at r.settings r.counting) (around_is q before (t.contexts (here_at setup t at lane).lane) contexts)
+    ∙ ap (λ (first : List KeyValue). changed (begun (record { name = callsite.name; parent = context_from (with_starts (source q (current_of (t.entries (here_at setup t at lane).lane))) at t.recording).spans (context_around (t.contexts (here_at setup t at lane).lane) q) (source q (current_of (t.entries (here_at setup t at lane).lane))); made = at; first = first; counting = r.counting; inactivity = r.settings.inactivity })) at (ops.Update (span_update callsite values r.settings))) (first_same callsite before (lane_in (here_at setup t at lane)) r.settings id name)
 
-module _ {S : Type 0} (spans : S → Spans) (views : Views S) (attaches : S → Bool) (kept : S → ℕ → ℕ → ℕ) (is_whole : S → Type 0) (old new : Worlds S) where
-  module _ (does : S → SubscriberCall → S → Type 0) (law : Law spans views attaches kept is_whole does) (recalls : Recalls spans views attaches kept is_whole does)
-      (dispatch : ℕ) (opening : Texts) (lanes : List Lane) (hs hs' : List (Option Handle)) (gs : List (Option Guard)) (cs : Named) (m at lane number : ℕ) (many : number ≡ length hs) (inv : IsKept kept is_whole old (state_of spans views old dispatch opening lanes hs gs cs m)) where
+module _ {S : Type 0} (spans : S → Spans) (views : Views S) (attaches : S → Bool) (kept : S → ℕ → ℕ → ℕ) (is_whole : S → Type 0) (parts : Parts S) (new : Worlds S) where
+  module _ (does : S → SubscriberCall → S → Type 0) (law : CallsLaw spans views attaches kept is_whole does)
+      (hs' : List (Option Handle)) (at lane number : ℕ) (many : number ≡ length parts.handles) (inv : IsKept spans views kept is_whole parts) where
     abbrev now : State
-    now = state_of spans views old dispatch opening lanes hs gs cs m
+    now = state_of spans views parts
+
+    abbrev then_parts : Parts S
+    then_parts = record parts { world = new; handles = hs'; moment = at }
 
     abbrev then : State
-    then = state_of spans views new dispatch opening lanes hs' gs cs at
+    then = state_of spans views then_parts
 
     abbrev place_id : ℕ
     place_id = id_at now.setup.ids lane
 
     abbrev r : Recording
-    r = seen views.recorded no_recording old dispatch
+    r = seen views.recorded no_recording parts.world parts.dispatch
 
     next_number : (t : Tables) → Fits now t → number ≡ length t.handles
-    next_number t fits = many ∙ sym (length-map hs held_by) ∙ ap length fits.handle_slots ∙ length-map t.handles (option_map (held_of dispatch))
+    next_number t fits = many ∙ sym (length-map parts.handles held_by) ∙ ap length fits.handle_slots ∙ length-map t.handles (option_map (held_of parts.dispatch))
 
-    module _ (under : Place) (p : Parent) (site : ℕ) (callsite : Callsite) (sited : span_site old.sites site ≡ Some callsite) (found : place_for (map held_by hs) under ≡ Some p) where
+    module _ (under : Place) (p : Parent) (site : ℕ) (callsite : Callsite) (sited : span_site parts.world.sites site ≡ Some callsite) (found : place_for (map held_by parts.handles) under ≡ Some p) where
       -- a span that is let through
-      module _ (fields : Fields) (values : ValueSet) (valued : all_values callsite fields ≡ Some values) (made : Handle) (before : Lane) (within : lane < length lanes) (seen_is : before ≡ get_or lanes lane before) (through : (t : Tables) → StandsFor now t → admitted now.setup t place_id callsite ≡ true) (one : hs' ≡ hs ++ Some made ∷ [])
-          (did : Makes spans does old new before at p site values dispatch made) where
-        abbrev made_call : Replaced (λ s t. does s (NewSpan before at p site did.callsite values) t) old new dispatch
+      module _ (fields : Fields) (values : ValueSet) (valued : all_values callsite fields ≡ Some values) (made : Handle) (before : Lane) (within : lane < length parts.lanes) (seen_is : before ≡ get_or parts.lanes lane before) (through : (t : Tables) → StandsFor now t → admitted now.setup t place_id callsite ≡ true) (one : hs' ≡ parts.handles ++ Some made ∷ [])
+          (did : Makes spans does parts.world new before at p site values parts.dispatch made) where
+        abbrev made_call : Replaced (λ s t. does s (NewSpan before at p site did.callsite values) t) parts.world new parts.dispatch
         made_call = record { before = did.made.before; later = did.made.later; there = did.made.there; did = did.made.did.1; others = did.made.others }
 
-        made_shown : Shown spans attaches kept is_whole old new dispatch (NewSpan before at p site did.callsite values)
-        made_shown = law old new dispatch _ made_call
+        made_shown : Shown spans attaches kept is_whole parts.world new parts.dispatch (NewSpan before at p site did.callsite values)
+        made_shown = law.shown parts.world new parts.dispatch _ made_call
 
-        id_is : did.id ≡ length (spans_in spans old dispatch).made
-        id_is = did.made.did.0 ∙ ap (λ (x : Spans). length x.made) (sym (seen_before (λ s t. does s (NewSpan before at p site did.callsite values) t) old new dispatch made_call spans no_spans))
+        id_is : did.id ≡ length (spans_in spans parts.world parts.dispatch).made
+        id_is = did.made.did.0 ∙ ap (λ (x : Spans). length x.made) (sym (seen_before (λ s t. does s (NewSpan before at p site did.callsite values) t) parts.world new parts.dispatch made_call spans no_spans))
 
         pub serves_made : (t : Tables) → StandsFor now t → Served (effect_of_call now.setup t at lane (call.New site under fields)) t now then (reply.Made true number)
         serves_made t stands =
             let fits = stands.fits in
             let up = find_up now t fits place_id under p found in
-            let sp = spans_in spans old dispatch in
+            let sp = spans_in spans parts.world parts.dispatch in
             let ids = now.setup.ids in
-            let id_is' = id_seen lanes lane before within seen_is in
-            let step : spans_in spans new dispatch ≡ with_span sp (own up.up) site = made_shown.spans_after ∙ ap (λ (l : ℕ). with_span sp (place_on (entries_on l sp.lanes) p) site) id_is' ∙ ap (λ (o : Option ℕ). with_span sp o site) up.on in
+            let id_is' = id_seen parts.lanes lane before within seen_is in
+            let step : spans_in spans new parts.dispatch ≡ with_span sp (own up.up) site = made_shown.spans_after ∙ ap (λ (l : ℕ). with_span sp (place_on (entries_on l sp.lanes) p) site) id_is' ∙ ap (λ (o : Option ℕ). with_span sp o site) up.on in
             let line : Scope = length t.made ∷ up.up in
             let mine : did.id ≡ length t.made = id_is ∙ fits.made.count in
             let q = parent_at under up.up in
             let current = current_of (entries_on before.id sp.lanes) in
             let current_is : current ≡ current_of (t.entries place_id) = ap (λ (l : ℕ). current_of (entries_on l sp.lanes)) id_is' ∙ ap current_of (fits.balanced.entries place_id) in
-            let callsite_is : did.callsite ≡ callsite = the_callsite did.callsite callsite (sym did.is ∙ site_is old.sites site callsite sited) in
+            let callsite_is : did.callsite ≡ callsite = the_callsite did.callsite callsite (sym did.is ∙ site_is parts.world.sites site callsite sited) in
             let contexts : map (λ (x : ℕ × Context). x.1) before.contexts.live ≡ map (λ (a : Attached). a.context) (t.contexts place_id) =
-            (own_fit r.settings.activation lanes lane before before within seen_is refl inv.lanes.differ r.tokens cs.attaches t.contexts stands.recording.attached).contexts ∙ ap (λ (l : ℕ). map (λ (a : Attached). a.context) (t.contexts l)) id_is' in
-            let told : Told = made_at now.setup t at lane callsite values q in
+            (own_fit r.settings.activation parts.lanes lane before before within seen_is refl inv.lanes.differ r.tokens parts.contexts.attaches t.contexts stands.recording.attached).contexts ∙ ap (λ (l : ℕ). map (λ (a : Attached). a.context) (t.contexts l)) id_is' in
+            let told : Told = made_at (here_at now.setup t at lane) callsite values q in
             let raw : Told = made_told did.callsite before values (context_from (with_starts (above r.settings.activation p current) at r).spans (around before p) (above r.settings.activation p current)) at r.settings r.counting in
             let told_is : raw ≡ told =
-            made_is now.setup t at lane callsite did.callsite values p q before r current stands.recording.recorded refl callsite_is up.parent_is id_is' (name_seen lanes lane before within seen_is) current_is contexts
+            made_is now.setup t at lane callsite did.callsite values p q before r current stands.recording.recorded refl callsite_is up.parent_is id_is' (name_seen parts.lanes lane before within seen_is) current_is contexts
             ∙ told_settings now.setup t at lane callsite values q r stands.recording.recorded in
             let new_made : Made = record { site = site; scope = line; told = told } in
-            let e : Effect = makes_span now.setup t at lane site callsite values under up.up in
+            let e : Effect = span_effect (here_at now.setup t at lane) site callsite values under up.up in
             let source = above r.settings.activation p current in
             let source_is : source ≡ above r.settings.activation q (current_of (t.entries place_id)) = ap (λ (x : Parent). above r.settings.activation x current) up.parent_is ∙ ap (λ (o : Option ℕ). above r.settings.activation q o) current_is in
-            let recalled = recalls old new dispatch _ made_call in
-            let rec_is : seen views.recorded no_recording new dispatch ≡ record (recorded_by (length t.made) e r) { tokens = r.tokens } =
+            let recalled = law.recalled parts.world new parts.dispatch _ made_call in
+            let rec_is : seen views.recorded no_recording new parts.dispatch ≡ record (recorded_by (length t.made) e r) { tokens = r.tokens } =
             recalled.0 ∙ ap (λ (n : ℕ). with_starts (source_of r.settings.eager n) at (made_record n raw (with_starts source at r))) fits.made.count
             ∙ ap (λ (x : Told). with_starts (source_of r.settings.eager (length t.made)) at (made_record (length t.made) x (with_starts source at r))) told_is
             ∙ ap (λ (x : Recording). with_starts (source_of r.settings.eager (length t.made)) at (made_record (length t.made) told x)) (sym (starts_fold source at r) ∙ ap (λ (o : Option ℕ). fold (λ r s. with_start s at r) r (option_to_list o)) source_is)
             ∙ ap (λ (ts : List Token). record (recorded_by (length t.made) e r) { tokens = ts }) (recorded_tokens (length t.made) e r) in
             let settings = ap (λ (x : Recording). x.settings) rec_is ∙ recorded_settings (length t.made) e r in
             let sites = ap (λ (w : Worlds S). w.sites) did.made.others in
-            let setup : then.setup ≡ now.setup = ap (λ x. record now.setup { sites = x; layer = (seen views.recorded no_recording new dispatch).settings }) sites ∙ ap (λ x. record now.setup { layer = x }) settings in
-            let known : (s : ℕ) → 0 < (span_at then.spans.made s).holds → told_at s (seen views.recorded no_recording new dispatch).spans ≢ None = λ s some. elim (cases_eq s (length t.made)) [
+            let setup : then.setup ≡ now.setup = ap (λ x. record now.setup { sites = x; layer = (seen views.recorded no_recording new parts.dispatch).settings }) sites ∙ ap (λ x. record now.setup { layer = x }) settings in
+            let known : (s : ℕ) → 0 < (span_at then.spans.made s).holds → told_at s (seen views.recorded no_recording new parts.dispatch).spans ≢ None = λ s some. elim (cases_eq s (length t.made)) [
               | inl here ↦ (λ none. recorded_known (length t.made) s e r refl (subst (λ (k : ℕ). told_at k (add_span (length t.made) told (fold (λ r s. with_start s at r) r e.starts).spans) ≢ None) (sym here) (new_known (length t.made) told (fold (λ r s. with_start s at r) r e.starts).spans)) (ap (λ (x : Recording). told_at s x.spans) (sym rec_is) ∙ none))
               | inr other ↦ known_still now then t e r.tokens rec_is stands.recording s refl (new_live sp.made (own up.up) site s up.live (λ e. other (e ∙ length_held sp.made (own up.up) ∙ fits.made.count)) (subst (λ (x : Spans). 0 < (span_at x.made s).holds) step some))
             ] in
             serve now then t e _ (reply.Made true number) stands
-            (ap (λ o. named what.Site o (λ callsite. named what.Handle (scope_at t place_id under) (λ up. named what.Field (all_values callsite fields) (λ v. Ok (makes now.setup t at lane site callsite v under up))))) sited
-            ∙ ap (λ o. named what.Handle o (λ up. named what.Field (all_values callsite fields) (λ v. Ok (makes now.setup t at lane site callsite v under up)))) up.is
-            ∙ ap (λ o. named what.Field o (λ v. Ok (makes now.setup t at lane site callsite v under up.up))) valued
+            (ap (λ o. need what.Site o >>= (λ callsite. need what.Handle (scope_at t place_id under) >>= (λ up. need what.Field (all_values callsite fields) >>= (λ v. Ok (new_effect (here_at now.setup t at lane) site callsite v under up))))) sited
+            ∙ ap (λ o. need what.Handle o >>= (λ up. need what.Field (all_values callsite fields) >>= (λ v. Ok (new_effect (here_at now.setup t at lane) site callsite v under up)))) up.is
+            ∙ ap (λ o. need what.Field o >>= (λ v. Ok (new_effect (here_at now.setup t at lane) site callsite v under up.up))) valued
             ∙ ap Ok (cond-true {A = Effect} (admitted now.setup t place_id callsite) _ _ (through t stands)))
             (ap (λ n. reply.Made true n) (next_number t fits))
             setup r.tokens rec_is
             (fits_step now t fits then e (record {
               setup_is = setup;
               dispatch_is = refl;
-              handles_are = ap (map held_by) one ∙ map_push held_by hs (Some made) ∙ ap (λ (x : Handle). map held_by hs ++ Some x.held ∷ []) did.handle_is ∙ ap (λ (i : ℕ). map held_by hs ++ Some (Some (dispatch, i)) ∷ []) mine;
-              sites_are = ap (map site_by) one ∙ map_push site_by hs (Some made) ∙ ap (λ (x : Handle). map site_by hs ++ Some x.site ∷ []) did.handle_is ∙ ap (λ (x : Made). map site_by hs ++ Some (Some x.site) ∷ []) (sym (get_or_push t.made new_made no_making (length t.made) refl));
+              handles_are = ap (map held_by) one ∙ map_push held_by parts.handles (Some made) ∙ ap (λ (x : Handle). map held_by parts.handles ++ Some x.held ∷ []) did.handle_is ∙ ap (λ (i : ℕ). map held_by parts.handles ++ Some (Some (parts.dispatch, i)) ∷ []) mine;
+              sites_are = ap (map site_by) one ∙ map_push site_by parts.handles (Some made) ∙ ap (λ (x : Handle). map site_by parts.handles ++ Some x.site ∷ []) did.handle_is ∙ ap (λ (x : Made). map site_by parts.handles ++ Some (Some x.site) ∷ []) (sym (get_or_push t.made new_made no_making (length t.made) refl));
               guards_are = refl;
               attaches_are = refl;
               named_are = refl;
@@ -268,7 +270,7 @@ module _ {S : Type 0} (spans : S → Spans) (views : Views S) (attaches : S → 
               balanced = subst (λ (x : Spans). Balanced x (map named_by (t.handles ++ Some line ∷ [])) (map (opened_by ids) t.guards) t.entries) (sym step) (balanced_new ids sp t.handles t.guards t.entries fits.balanced up.up site (length t.made) up.live fits.made.count);
               made_fit = subst (λ (x : Spans). MadeFit x.made (t.made ++ new_made ∷ [])) (sym step) (made_pushed (held_by_child sp.made (own up.up)) t.made up.up site told (made_child sp.made t.made (own up.up) fits.made up.live));
               new_made = (up.up, refl, up.scope);
-              new_site = got_within old.sites site callsite (site_is old.sites site callsite sited);
+              new_site = got_within parts.world.sites site callsite (site_is parts.world.sites site callsite sited);
               new_scope = λ l e. subst (IsScope (t.made ++ new_made ∷ [])) (the_scope line l e) (new_line t.made new_made up.up refl up.scope);
               still = still_named_more t.guards t.handles line fits.still;
               few = (let a = length_push t.handles (Some line) in let b = length_push t.made new_made in let f = fits.few in omega (arith, a, b, f));
@@ -279,45 +281,45 @@ module _ {S : Type 0} (spans : S → Spans) (views : Views S) (attaches : S → 
             (all_same now then t.contexts setup refl refl (ap (λ (x : Recording). x.tokens) rec_is) stands.recording.attached)
             (record {
               quiet = refl;
-              before = seen views.filtered None old dispatch;
-              later = seen views.filtered None new dispatch;
+              before = seen views.filtered None parts.world parts.dispatch;
+              later = seen views.filtered None new parts.dispatch;
               shown_before = refl;
               shown_later = refl;
               known = (refl, sym (length_push t.made new_made));
-              told = recalled.1 ∙ ap (λ (n : ℕ). option_map (λ (f : Filtered). hears f (HeardNew n did.callsite values)) (seen views.filtered None old dispatch)) fits.made.count
-                  ∙ ap (λ (c : Callsite). option_map (λ (f : Filtered). hears f (HeardNew (length t.made) c values)) (seen views.filtered None old dispatch)) callsite_is;
+              told = recalled.1 ∙ ap (λ (n : ℕ). option_map (λ (f : Filtered). hears f (HeardNew n did.callsite values)) (seen views.filtered None parts.world parts.dispatch)) fits.made.count
+                  ∙ ap (λ (c : Callsite). option_map (λ (f : Filtered). hears f (HeardNew (length t.made) c values)) (seen views.filtered None parts.world parts.dispatch)) callsite_is;
               cached = ap (λ (w : Worlds S). w.cached) did.made.others;
-              aside = record { before = aside_in views old dispatch; later = aside_in views new dispatch; shown_before = refl; shown_later = refl; waits_before = refl; waits_later = refl; adds = recalled.2 };
+              aside = record { before = aside_in views parts.world parts.dispatch; later = aside_in views new parts.dispatch; shown_before = refl; shown_later = refl; waits_before = refl; waits_later = refl; adds = recalled.2 };
             })
 
-        pub keeps_made : IsKept kept is_whole new then
-        keeps_made = kept_served spans views attaches kept is_whole old new now then inv _ _ (serves_made inv.tables (record { fits = inv.fits; recording = inv.recording; filtering = inv.filtering })) refl made_shown.count made_shown.whole
-            (subst (λ (f : ℕ → ℕ → ℕ). LanesFit f (map laned lanes)) (sym made_shown.lanes) inv.lanes)
+        pub keeps_made : IsKept spans views kept is_whole then_parts
+        keeps_made = kept_served spans views kept is_whole parts then_parts inv _ _ (serves_made inv.tables inv.stands) refl made_shown.count made_shown.whole
+            (subst (λ (f : ℕ → ℕ → ℕ). LanesFit f (map laned parts.lanes)) (sym made_shown.lanes) inv.lanes)
 
       -- one that isn't
-      module _ (fields : Fields) (values : ValueSet) (valued : all_values callsite fields ≡ Some values) (through : (t : Tables) → StandsFor now t → admitted now.setup t place_id callsite ≡ false) (one : hs' ≡ hs ++ Some no_handle ∷ []) (same : new ≡ old) where
+      module _ (fields : Fields) (values : ValueSet) (valued : all_values callsite fields ≡ Some values) (through : (t : Tables) → StandsFor now t → admitted now.setup t place_id callsite ≡ false) (one : hs' ≡ parts.handles ++ Some no_handle ∷ []) (same : new ≡ parts.world) where
         pub serves_declined : (t : Tables) → StandsFor now t → Served (effect_of_call now.setup t at lane (call.New site under fields)) t now then (reply.Made false number)
         serves_declined t stands =
             let fits = stands.fits in
             let up = find_up now t fits place_id under p found in
-            let sp = spans_in spans old dispatch in
+            let sp = spans_in spans parts.world parts.dispatch in
             let ids = now.setup.ids in
-            let step : spans_in spans new dispatch ≡ sp = ap (λ (w : Worlds S). spans_in spans w dispatch) same in
-            let rec_is : seen views.recorded no_recording new dispatch ≡ r = ap (λ (w : Worlds S). seen views.recorded no_recording w dispatch) same in
-            let setup : then.setup ≡ now.setup = ap (λ (w : Worlds S). record now.setup { sites = w.sites; layer = (seen views.recorded no_recording w dispatch).settings }) same in
-            let e : Effect = declines t at place_id in
+            let step : spans_in spans new parts.dispatch ≡ sp = ap (λ (w : Worlds S). spans_in spans w parts.dispatch) same in
+            let rec_is : seen views.recorded no_recording new parts.dispatch ≡ r = ap (λ (w : Worlds S). seen views.recorded no_recording w parts.dispatch) same in
+            let setup : then.setup ≡ now.setup = ap (λ (w : Worlds S). record now.setup { sites = w.sites; layer = (seen views.recorded no_recording w parts.dispatch).settings }) same in
+            let e : Effect = disabled_effect (here_at now.setup t at lane) in
             serve now then t e _ (reply.Made false number) stands
-            (ap (λ o. named what.Site o (λ callsite. named what.Handle (scope_at t place_id under) (λ up. named what.Field (all_values callsite fields) (λ v. Ok (makes now.setup t at lane site callsite v under up))))) sited
-            ∙ ap (λ o. named what.Handle o (λ up. named what.Field (all_values callsite fields) (λ v. Ok (makes now.setup t at lane site callsite v under up)))) up.is
-            ∙ ap (λ o. named what.Field o (λ v. Ok (makes now.setup t at lane site callsite v under up.up))) valued
+            (ap (λ o. need what.Site o >>= (λ callsite. need what.Handle (scope_at t place_id under) >>= (λ up. need what.Field (all_values callsite fields) >>= (λ v. Ok (new_effect (here_at now.setup t at lane) site callsite v under up))))) sited
+            ∙ ap (λ o. need what.Handle o >>= (λ up. need what.Field (all_values callsite fields) >>= (λ v. Ok (new_effect (here_at now.setup t at lane) site callsite v under up)))) up.is
+            ∙ ap (λ o. need what.Field o >>= (λ v. Ok (new_effect (here_at now.setup t at lane) site callsite v under up.up))) valued
             ∙ ap Ok (cond-false {A = Effect} (admitted now.setup t place_id callsite) _ _ (through t stands)))
             (ap (λ n. reply.Made false n) (next_number t fits))
             setup r.tokens rec_is
             (fits_step now t fits then e (record {
               setup_is = setup;
               dispatch_is = refl;
-              handles_are = ap (map held_by) one ∙ map_push held_by hs (Some no_handle);
-              sites_are = ap (map site_by) one ∙ map_push site_by hs (Some no_handle);
+              handles_are = ap (map held_by) one ∙ map_push held_by parts.handles (Some no_handle);
+              sites_are = ap (map site_by) one ∙ map_push site_by parts.handles (Some no_handle);
               guards_are = refl;
               attaches_are = refl;
               named_are = refl;
@@ -334,35 +336,35 @@ module _ {S : Type 0} (spans : S → Spans) (views : Views S) (attaches : S → 
             }))
             (λ s some. known_still now then t e r.tokens rec_is stands.recording s refl (subst (λ (x : Spans). 0 < (span_at x.made s).holds) step some))
             (all_same now then t.contexts setup refl refl (ap (λ (x : Recording). x.tokens) rec_is) stands.recording.attached)
-            (record { quiet = refl; before = seen views.filtered None old dispatch; later = seen views.filtered None new dispatch; shown_before = refl; shown_later = refl; told = ap (λ (w : Worlds S). seen views.filtered None w dispatch) same ∙ heard_none (seen views.filtered None old dispatch); known = refl; cached = ap (λ (w : Worlds S). w.cached) same; aside = record { before = aside_in views old dispatch; later = aside_in views new dispatch; shown_before = refl; shown_later = refl; waits_before = refl; waits_later = refl; adds = adds_same views old new dispatch same } })
+            (record { quiet = refl; before = seen views.filtered None parts.world parts.dispatch; later = seen views.filtered None new parts.dispatch; shown_before = refl; shown_later = refl; told = ap (λ (w : Worlds S). seen views.filtered None w parts.dispatch) same ∙ heard_none (seen views.filtered None parts.world parts.dispatch); known = refl; cached = ap (λ (w : Worlds S). w.cached) same; aside = record { before = aside_in views parts.world parts.dispatch; later = aside_in views new parts.dispatch; shown_before = refl; shown_later = refl; waits_before = refl; waits_later = refl; adds = adds_same views parts.world new parts.dispatch same } })
 
-        pub keeps_declined : IsKept kept is_whole new then
-        keeps_declined = kept_served spans views attaches kept is_whole old new now then inv _ _ (serves_declined inv.tables (record { fits = inv.fits; recording = inv.recording; filtering = inv.filtering })) refl (ap (λ (w : Worlds S). length w.subscribers) same) (λ has. subst (λ (w : Worlds S). Has is_whole w dispatch) (sym same) has)
-            (subst (λ (w : Worlds S). LanesFit (kept_in kept w dispatch) (map laned lanes)) (sym same) inv.lanes)
+        pub keeps_declined : IsKept spans views kept is_whole then_parts
+        keeps_declined = kept_served spans views kept is_whole parts then_parts inv _ _ (serves_declined inv.tables inv.stands) refl (ap (λ (w : Worlds S). length w.subscribers) same) (λ has. subst (λ (w : Worlds S). Has is_whole w parts.dispatch) (sym same) has)
+            (subst (λ (w : Worlds S). LanesFit (kept_in kept w parts.dispatch) (map laned parts.lanes)) (sym same) inv.lanes)
 
     -- let through or not
-    module _ (under : Place) (p : Parent) (found_site site : ℕ) (sited_is : found_site ≡ site) (spanned : is_some (span_site old.sites site) ≡ true) (found : place_for (map held_by hs) under ≡ Some p)
-        (fields : Fields) (values : ValueSet) (given : Callsite) (given_is : slice_get old.sites found_site ≡ Some given) (valued : all_values given fields ≡ Some values)
-        (made : Handle) (before : Lane) (within : lane < length lanes) (seen_is : before ≡ get_or lanes lane before) (one : hs' ≡ hs ++ Some made ∷ []) where
-      its_site : (callsite : Callsite) × (span_site old.sites site ≡ Some callsite)
-      its_site = found_site_is (span_site old.sites site) spanned
+    module _ (under : Place) (p : Parent) (found_site site : ℕ) (sited_is : found_site ≡ site) (spanned : is_some (span_site parts.world.sites site) ≡ true) (found : place_for (map held_by parts.handles) under ≡ Some p)
+        (fields : Fields) (values : ValueSet) (given : Callsite) (given_is : slice_get parts.world.sites found_site ≡ Some given) (valued : all_values given fields ≡ Some values)
+        (made : Handle) (before : Lane) (within : lane < length parts.lanes) (seen_is : before ≡ get_or parts.lanes lane before) (one : hs' ≡ parts.handles ++ Some made ∷ []) where
+      its_site : (callsite : Callsite) × (span_site parts.world.sites site ≡ Some callsite)
+      its_site = found_site_is (span_site parts.world.sites site) spanned
 
       its_values : all_values its_site.0 fields ≡ Some values
-      its_values = ap (λ (c : Callsite). all_values c fields) (sym (the_callsite given its_site.0 (sym given_is ∙ ap (λ (k : ℕ). slice_get old.sites k) sited_is ∙ site_is old.sites site its_site.0 its_site.1))) ∙ valued
+      its_values = ap (λ (c : Callsite). all_values c fields) (sym (the_callsite given its_site.0 (sym given_is ∙ ap (λ (k : ℕ). slice_get parts.world.sites k) sited_is ∙ site_is parts.world.sites site its_site.0 its_site.1))) ∙ valued
 
       -- the gate answered by the filter in force
-      its_answer : (enabled : Bool) → LetsThrough (seen views.filtered None old dispatch) old.sites before.id found_site enabled → (t : Tables) → StandsFor now t → admitted now.setup t place_id its_site.0 ≡ enabled
+      its_answer : (enabled : Bool) → LetsThrough (seen views.filtered None parts.world parts.dispatch) parts.world.sites before.id found_site enabled → (t : Tables) → StandsFor now t → admitted now.setup t place_id its_site.0 ≡ enabled
       its_answer enabled gate t stands =
-          answered spans views old dispatch opening lanes hs gs cs m lane before within seen_is found_site its_site.0 (ap (λ (k : ℕ). slice_get old.sites k) sited_is ∙ site_is old.sites site its_site.0 its_site.1) enabled gate t stands
+          answered spans views parts lane before within seen_is found_site its_site.0 (ap (λ (k : ℕ). slice_get parts.world.sites k) sited_is ∙ site_is parts.world.sites site its_site.0 its_site.1) enabled gate t stands
 
-      pub serves_new : (enabled : Bool) → LetsThrough (seen views.filtered None old dispatch) old.sites before.id found_site enabled → MakesOnly spans does enabled old new before at p found_site values dispatch made
+      pub serves_new : (enabled : Bool) → LetsThrough (seen views.filtered None parts.world parts.dispatch) parts.world.sites before.id found_site enabled → MakesOnly spans does enabled parts.world new before at p found_site values parts.dispatch made
           → (t : Tables) → StandsFor now t → Served (effect_of_call now.setup t at lane (call.New site under fields)) t now then (reply.Made enabled number)
-      serves_new true gate did t stands = serves_made under p site its_site.0 its_site.1 found fields values its_values made before within seen_is (its_answer true gate) one (subst (λ (k : ℕ). Makes spans does old new before at p k values dispatch made) sited_is did) t stands
-      serves_new false gate did t stands = serves_declined under p site its_site.0 its_site.1 found fields values its_values (its_answer false gate) (one ∙ ap (λ (h : Handle). hs ++ Some h ∷ []) did.0) did.1 t stands
+      serves_new true gate did t stands = serves_made under p site its_site.0 its_site.1 found fields values its_values made before within seen_is (its_answer true gate) one (subst (λ (k : ℕ). Makes spans does parts.world new before at p k values parts.dispatch made) sited_is did) t stands
+      serves_new false gate did t stands = serves_declined under p site its_site.0 its_site.1 found fields values its_values (its_answer false gate) (one ∙ ap (λ (h : Handle). parts.handles ++ Some h ∷ []) did.0) did.1 t stands
 
-      pub keeps_new : (enabled : Bool) → LetsThrough (seen views.filtered None old dispatch) old.sites before.id found_site enabled → MakesOnly spans does enabled old new before at p found_site values dispatch made → IsKept kept is_whole new then
-      keeps_new true gate did = keeps_made under p site its_site.0 its_site.1 found fields values its_values made before within seen_is (its_answer true gate) one (subst (λ (k : ℕ). Makes spans does old new before at p k values dispatch made) sited_is did)
-      keeps_new false gate did = keeps_declined under p site its_site.0 its_site.1 found fields values its_values (its_answer false gate) (one ∙ ap (λ (h : Handle). hs ++ Some h ∷ []) did.0) did.1
+      pub keeps_new : (enabled : Bool) → LetsThrough (seen views.filtered None parts.world parts.dispatch) parts.world.sites before.id found_site enabled → MakesOnly spans does enabled parts.world new before at p found_site values parts.dispatch made → IsKept spans views kept is_whole then_parts
+      keeps_new true gate did = keeps_made under p site its_site.0 its_site.1 found fields values its_values made before within seen_is (its_answer true gate) one (subst (λ (k : ℕ). Makes spans does parts.world new before at p k values parts.dispatch made) sited_is did)
+      keeps_new false gate did = keeps_declined under p site its_site.0 its_site.1 found fields values its_values (its_answer false gate) (one ∙ ap (λ (h : Handle). parts.handles ++ Some h ∷ []) did.0) did.1
 
 -- what a making requires
 few_if : (o : Option ℕ) (made : List Span) → ((s : ℕ) → HasFewHolds made s) → IfSome o (HasFewHolds made)
@@ -373,37 +375,39 @@ of_held : (dispatch : ℕ) (line : Scope) (held : ℕ × ℕ) → Some held ≡ 
 of_held dispatch [] held is = absurd (cc is)
 of_held dispatch (s ∷ up) held is = (let e : held ≡ (dispatch, s) = cc is in ap (λ (h : ℕ × ℕ). h.0) e)
 
-module _ {S : Type 0} (spans : S → Spans) (views : Views S) (kept : S → ℕ → ℕ → ℕ) (is_whole : S → Type 0) (world : Worlds S) (dispatch : ℕ) (opening : Texts) (lanes : List Lane) (hs : List (Option Handle)) (gs : List (Option Guard)) (cs : Named) (m : ℕ) (inv : IsKept kept is_whole world (state_of spans views world dispatch opening lanes hs gs cs m)) where
-  pub make_may : (under : Place) (p : Parent) → place_for (map held_by hs) under ≡ Some p → (lane : ℕ) → length hs < 2 ^ 62 → length gs < 2 ^ 62 → MayMake spans is_whole world lane p dispatch
+module _ {S : Type 0} (spans : S → Spans) (views : Views S) (kept : S → ℕ → ℕ → ℕ) (is_whole : S → Type 0) (parts : Parts S) (inv : IsKept spans views kept is_whole parts) where
+  pub make_may : (under : Place) (p : Parent) → place_for (map held_by parts.handles) under ≡ Some p → (lane : ℕ) → length parts.handles < 2 ^ 62 → length parts.guards < 2 ^ 62 → MayMake spans is_whole parts.world lane p parts.dispatch
   make_may under p found lane few_handles few_guards =
-      let a = sym (length-map hs held_by) ∙ ap length inv.fits.handle_slots ∙ length-map inv.tables.handles (option_map (held_of dispatch)) in
-      let b = ap length inv.fits.guard_slots ∙ length-map inv.tables.guards (option_map (guard_of dispatch)) in
+      let a = sym (length-map parts.handles held_by) ∙ ap length inv.stands.fits.handle_slots ∙ length-map inv.tables.handles (option_map (held_of parts.dispatch)) in
+      let b = ap length inv.stands.fits.guard_slots ∙ length-map inv.tables.guards (option_map (guard_of parts.dispatch)) in
       record {
         there = inv.there;
         whole = inv.whole;
-        live = has_by spans no_spans world dispatch (λ (x : Spans). IsLivePlace x.made p) (find_up (state_of spans views world dispatch opening lanes hs gs cs m) inv.tables inv.fits 0 under p found).live_place;
-        few = has_by spans no_spans world dispatch (λ (x : Spans). AreFew x) (let c = inv.fits.made.count in let f = inv.fits.few in omega (arith, a, c, f, few_handles));
-        few_holds = has_by spans no_spans world dispatch (λ (x : Spans). HasFewHoldsAbove x lane p)
-            (few_if (place_on (entries_on lane (spans_in spans world dispatch).lanes) p) (spans_in spans world dispatch).made (λ s. let f = inv.fits.few_holds s in omega (arith, f, a, b, few_handles, few_guards)));
+        live = has_by spans no_spans parts.world parts.dispatch (λ (x : Spans). IsLivePlace x.made p) (find_up (state_of spans views parts) inv.tables inv.stands.fits 0 under p found).live_place;
+        few = has_by spans no_spans parts.world parts.dispatch (λ (x : Spans). AreFew x) (let c = inv.stands.fits.made.count in let f = inv.stands.fits.few in omega (arith, a, c, f, few_handles));
+        few_holds = has_by spans no_spans parts.world parts.dispatch (λ (x : Spans). HasFewHoldsAbove x lane p)
+            (few_if (place_on (entries_on lane (spans_in spans parts.world parts.dispatch).lanes) p) (spans_in spans parts.world parts.dispatch).made (λ s. let f = inv.stands.fits.few_holds s in omega (arith, f, a, b, few_handles, few_guards)));
       }
 
-  pub tell_live : (under : Place) (p : Parent) → place_for (map held_by hs) under ≡ Some p → Has (λ s. IsLivePlace (spans s).made p) world dispatch
-  tell_live under p found = has_by spans no_spans world dispatch (λ (x : Spans). IsLivePlace x.made p) (find_up (state_of spans views world dispatch opening lanes hs gs cs m) inv.tables inv.fits 0 under p found).live_place
+  pub tell_live : (under : Place) (p : Parent) → place_for (map held_by parts.handles) under ≡ Some p → Has (λ s. IsLivePlace (spans s).made p) parts.world parts.dispatch
+  tell_live under p found = has_by spans no_spans parts.world parts.dispatch (λ (x : Spans). IsLivePlace x.made p) (find_up (state_of spans views parts) inv.tables inv.stands.fits 0 under p found).live_place
 
-  all_held : (n : ℕ) (held : ℕ × ℕ) → slot_at (map held_by hs) n ≡ Some (Some held) → held.0 ≡ dispatch
-  all_held n held there = (let f = find (held_of dispatch) (map held_by hs) inv.tables.handles n (Some held) inv.fits.handle_slots there in of_held dispatch f.at held f.is)
+  all_held : (n : ℕ) (held : ℕ × ℕ) → slot_at (map held_by parts.handles) n ≡ Some (Some held) → held.0 ≡ parts.dispatch
+  all_held n held there = (let f = find (held_of parts.dispatch) (map held_by parts.handles) inv.tables.handles n (Some held) inv.stands.fits.handle_slots there in of_held parts.dispatch f.at held f.is)
 
-  pub all_of : (hs' : List (Option Handle)) → hs' ≡ hs → (n : ℕ) (held : ℕ × ℕ) → slot_at (map held_by hs') n ≡ Some (Some held) → held.0 ≡ dispatch
+  pub all_of : (hs' : List (Option Handle)) → hs' ≡ parts.handles → (n : ℕ) (held : ℕ × ℕ) → slot_at (map held_by hs') n ≡ Some (Some held) → held.0 ≡ parts.dispatch
   all_of hs' same n held there = all_held n held (ap (λ (xs : List (Option Handle)). slot_at (map held_by xs) n) (sym same) ∙ there)
 
 -- after a refusal for want of memory
-pub made_alike : {S : Type 0} (spans : S → Spans) (views : Views S) (attaches : S → Bool) (kept : S → ℕ → ℕ → ℕ) (is_whole : S → Type 0) (same : S → S → Type 0) → ((old new : Worlds S) (dispatch : ℕ) → Replaced same old new dispatch → Alike spans attaches kept is_whole old new dispatch) → SameRecorded spans views attaches kept is_whole same
-    → (old new : Worlds S) (dispatch : ℕ) (opening : Texts) (lanes : List Lane) (hs hs' : List (Option Handle)) (gs : List (Option Guard)) (cs : Named) (m : ℕ) → hs' ≡ hs → Replaced same old new dispatch
-    → (state_of spans views new dispatch opening lanes hs' gs cs m ≡ state_of spans views old dispatch opening lanes hs gs cs m) × (IsKept kept is_whole old (state_of spans views old dispatch opening lanes hs gs cs m) → IsKept kept is_whole new (state_of spans views new dispatch opening lanes hs' gs cs m))
-made_alike {S} spans views attaches kept is_whole same law records old new dispatch opening lanes hs hs' gs cs m handles did =
-    let alike = law old new dispatch did in
+pub made_alike : {S : Type 0} (spans : S → Spans) (views : Views S) (attaches : S → Bool) (kept : S → ℕ → ℕ → ℕ) (is_whole : S → Type 0) (same : S → S → Type 0) → SameLaw spans views attaches kept is_whole same
+    → (parts : Parts S) (new : Worlds S) (hs' : List (Option Handle)) → hs' ≡ parts.handles → Replaced same parts.world new parts.dispatch
+    → (state_of spans views (record parts { world = new; handles = hs' }) ≡ state_of spans views parts) × (IsKept spans views kept is_whole parts → IsKept spans views kept is_whole (record parts { world = new; handles = hs' }))
+made_alike {S} spans views attaches kept is_whole same law parts new hs' handles did =
+    let alike = law.shown parts.world new parts.dispatch did in
     let sites = ap (λ (w : Worlds S). w.sites) did.others in
-    let told = records old new dispatch did in
+    let told = law.recalled parts.world new parts.dispatch did in
     let cached = ap (λ (w : Worlds S). w.cached) did.others in
-    let state : state_of spans views new dispatch opening lanes hs' gs cs m ≡ state_of spans views old dispatch opening lanes hs gs cs m = (let still = adds_nothing (aside_in views old dispatch) (aside_in views new dispatch) told.2 in rw (alike.spans_same, sites, told.0, told.1, cached, still.0, still.1, handles) refl) in
-    (state, λ inv. kept_alike spans views attaches kept is_whole old new _ _ inv state alike)
+    let next : Parts S = record parts { world = new; handles = hs' } in
+    let still = adds_nothing (aside_in views parts.world parts.dispatch) (aside_in views new parts.dispatch) told.2 in
+    let state : state_of spans views next ≡ state_of spans views parts = rw (alike.spans_same, sites, told.0, told.1, cached, still.0, still.1, handles) refl in
+    (state, λ inv. kept_alike spans views attaches kept is_whole parts next inv state alike)

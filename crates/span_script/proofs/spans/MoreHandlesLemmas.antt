@@ -17,7 +17,7 @@ use Rattle.span_script.proofs.entries.EntriesFitLemmas.{fits_live}
 use Rattle.span_script.specs.declared.request.Place.{Place}
 use Rattle.span_script.specs.declared.request.Place.TheVariants as place
 use Rattle.span_script.specs.Tables.{Scope, Guarded, Tables, slot_at, own, scope_of}
-use Rattle.span_script.specs.Effects.{scope_at, parent_at}
+use Rattle.span_script.specs.calls.Spans.{scope_at, parent_at}
 use Rattle.span_script.specs.Slots.{place_for}
 use Rattle.span_script.specs.Fits.{State, Fits, IsScope, held_of}
 use Rattle.span_script.proofs.steps.SlotsLemmas.{named_within}

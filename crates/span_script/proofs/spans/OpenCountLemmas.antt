@@ -8,7 +8,7 @@ use Rattle.trace_base.specs.Spans.{Span, span_at}
 use Rattle.trace_base.proofs.Entering.{count_push}
 use Rattle.span_handles.specs.Handles.{Handle}
 use Rattle.span_script.specs.Tables.{Tables}
-use Rattle.span_script.specs.Effects.{is_open, open_spans}
+use Rattle.span_script.specs.calls.Spans.{is_open, open_spans}
 use Rattle.span_script.specs.Fits.{State, StandsFor, held_by, held_of}
 use Rattle.span_script.proofs.spans.OpenSpansLemmas.{opens}
 

@@ -3,16 +3,16 @@ use Rattle.std.specs.Prelude.{◌==◌, ◌||◌, ◌&&◌, not, nat_lt, filter}
 use Rattle.std.proofs.Common.{◌≡◌, ℕ, zero, suc, ◌+◌, ◌<◌, ◌≤◌, List, [], ◌∷◌, length, Bool, true, false, cond, count_by, get_or, slice_set, Option, Some, None, map, refl, sym, ap, subst, ◌∙◌, arith, inl, inr, ◌⊎◌}
 use Rattle.std.proofs.lemmas.Bool.{cases_eq, cases_lt, cases_Bool, eq-eqb, eqb-true, ne_eqb, cond-true, cond-false, or_cases, or_right, and_parts, lt-ltb, le-ltb, true≢false}
 use Rattle.std.proofs.lemmas.List.Sums.{get_or-le-sum_by, sum_by-cons}
-use Rattle.trace_base.specs.Spans.{Span, no_span, span_at, entries_on, is_in, times_in, first_entries, is_child_of, is_open_child}
+use Rattle.trace_base.specs.Spans.{Span, no_span, span_at, entries_on, is_in, times_in, first_entries, is_child_of, is_open_child, Entries, has_entry}
 use Rattle.trace_base.specs.Conditions.{IsLive}
 use Rattle.trace_base.proofs.Entering.{count_cons, counted_if_any, made_if_held}
-use Rattle.trace_base.specs.Spans.{Entries, has_entry}
 use Rattle.trace_base.specs.Sound.{has_lane, OneEach}
 use Rattle.span_script.specs.Balance.{Opened, names, guards, named_by, opened_by}
 use Rattle.span_script.proofs.entries.EntriesFitLemmas.{fits_live}
 use Rattle.span_script.proofs.steps.SlotsLemmas.{named_within}
 use Rattle.span_script.specs.Tables.{Scope, Made, Tables, after, slot_at, own, made_of}
-use Rattle.span_script.specs.Effects.{holds, is_open, closed_of, drops}
+use Rattle.span_script.specs.calls.Here.{Here}
+use Rattle.span_script.specs.calls.Spans.{holds, is_open, closed_of, drop_effect}
 use Rattle.span_script.specs.Fits.{State, Fits, IsScope, above}
 use Rattle.span_script.proofs.steps.BalanceLemmas.{named_slot}
 use Rattle.std.specs.List.{list_any}
@@ -211,11 +211,12 @@ in_filter p (x ∷ line) s = elim (cases_Bool (p x)) [
     gone (inr e) f = rw e refl
 
 -- the spans of the effect are those that had a hold and have none
-pub closes_them : (k next : State) (t : Tables) (at lane handle : ℕ) (line : Scope) → Fits k t → slot_at t.handles handle ≡ Some line → Fits next (after t (drops t at lane handle line)) → (s : ℕ)
-    → is_in s (closed_of (slice_set t.handles handle None) line) ≡ (nat_lt 0 (span_at k.spans.made s).holds && not (nat_lt 0 (span_at next.spans.made s).holds))
-closes_them k next t at lane handle line fits there later s =
+pub closes_them : (k next : State) (stands : Here) (handle : ℕ) (line : Scope) → Fits k stands.script → slot_at stands.script.handles handle ≡ Some line → Fits next (after stands.script (drop_effect stands handle line)) → (s : ℕ)
+    → is_in s (closed_of (slice_set stands.script.handles handle None) line) ≡ (nat_lt 0 (span_at k.spans.made s).holds && not (nat_lt 0 (span_at next.spans.made s).holds))
+closes_them k next stands handle line fits there later s =
+    let t = stands.script in
     let was = opens k t fits s in
-    let is = opens next (after t (drops t at lane handle line)) later s in
+    let is = opens next (after t (drop_effect stands handle line)) later s in
     in_filter (λ x. not (is_open (slice_set t.handles handle None) x)) line s ∙ only (is_in s line) (is_open (slice_set t.handles handle None) s)
     ∙ ap (λ b. b && not (is_open (slice_set t.handles handle None) s)) (sym (set_open t.handles handle s line there) ∙ sym was) ∙ ap (λ b. nat_lt 0 (span_at k.spans.made s).holds && not b) (sym is)
   where

@@ -5,7 +5,7 @@ use Rattle.trace_base.specs.Gate.{Worlds}
 use Rattle.trace_base.specs.Spans.{Spans}
 use Rattle.trace_base.specs.Calls.{SubscriberCall}
 use Rattle.trace_base.specs.Conditions.{HasOwnHold}
-use Rattle.span_handles.specs.Worlds.{Has, Replaced, Shown, seen, spans_in}
+use Rattle.span_handles.specs.Worlds.{Has, Shown, seen, spans_in}
 use Rattle.otel_layer.specs.Recording.{no_recording}
 use Rattle.span_stack.specs.Counting.{RecordsCallBy}
 use Rattle.span_stack.specs.Filtered.{filter_after}
@@ -14,23 +14,13 @@ use Rattle.span_handles.specs.Handles.{Held, HasOn, IsKnown, ReplacedOn}
 use Rattle.span_handles.specs.Entries.{IsThere}
 use Rattle.span_script.specs.Tables.{Scope}
 use Rattle.span_script.specs.Fits.{Views, held_of}
-use Rattle.span_script.proofs.filter.CounterLemmas.{Adds, aside_in}
+use Rattle.span_script.specs.SubscriberLaws.{Adds, aside_in, CallsLaw}
 
 -- what is read of a subscriber that is there
 pub has_by : {S A : Type 0} (read : S → A) (none : A) (world : Worlds S) (dispatch : ℕ) (P : A → Type 0) → P (option_map_or read (slice_get world.subscribers dispatch) none) → Has (λ s. P (read s)) world dispatch
 has_by read none world dispatch P p s there = subst (λ (o : Option _). P (option_map_or read o none)) there p
 
 module _ {S : Type 0} (spans : S → Spans) (views : Views S) (attaches : S → Bool) (kept : S → ℕ → ℕ → ℕ) (is_whole : S → Type 0) where
-  -- what laws tell of one call: the plain data, and what was recorded
-  abbrev pub Law : (S → SubscriberCall → S → Type 0) → Type 0
-  Law does = (old new : Worlds S) (dispatch : ℕ) (call : SubscriberCall) → Replaced (λ s t. does s call t) old new dispatch → Shown spans attaches kept is_whole old new dispatch call
-
-  abbrev pub Recalls : (S → SubscriberCall → S → Type 0) → Type 0
-  Recalls does = (old new : Worlds S) (dispatch : ℕ) (call : SubscriberCall) → Replaced (λ s t. does s call t) old new dispatch
-      → RecordsCallBy (seen views.counter None old dispatch) (spans_in spans old dispatch) (seen views.recorded no_recording old dispatch) call (seen views.recorded no_recording new dispatch)
-      × (seen views.filtered None new dispatch ≡ option_map (filter_after (spans_in spans old dispatch) call) (seen views.filtered None old dispatch))
-      × Adds (aside_in views old dispatch) (aside_in views new dispatch) (measured_by call)
-
   -- one call on the span of a scope; nothing on the empty one
   abbrev pub ShownOn : Worlds S → Worlds S → ℕ → Scope → (ℕ → SubscriberCall) → Type 0
   ShownOn old new dispatch [] call = new ≡ old
@@ -39,13 +29,13 @@ module _ {S : Type 0} (spans : S → Spans) (views : Views S) (attaches : S → 
       × (seen views.filtered None new dispatch ≡ option_map (filter_after (spans_in spans old dispatch) (call s)) (seen views.filtered None old dispatch)) × (new.cached ≡ old.cached)
       × Adds (aside_in views old dispatch) (aside_in views new dispatch) (measured_by (call s))
 
-  pub shown_on : (does : S → SubscriberCall → S → Type 0) → Law does → Recalls does
+  pub shown_on : (does : S → SubscriberCall → S → Type 0) → CallsLaw spans views attaches kept is_whole does
       → (old new : Worlds S) (dispatch : ℕ) (line : Scope) (held : Held) → held ≡ held_of dispatch line → (call : ℕ → SubscriberCall) → ReplacedOn (λ id s t. does s (call id) t) old new held → ShownOn old new dispatch line call
-  shown_on does law recalls old new dispatch [] held is call did = subst (λ (h : Held). ReplacedOn (λ id s t. does s (call id) t) old new h) is did
-  shown_on does law recalls old new dispatch (s ∷ up) held is call did =
+  shown_on does law old new dispatch [] held is call did = subst (λ (h : Held). ReplacedOn (λ id s t. does s (call id) t) old new h) is did
+  shown_on does law old new dispatch (s ∷ up) held is call did =
       let r = subst (λ (h : Held). ReplacedOn (λ id s t. does s (call id) t) old new h) is did in
-      let told = recalls old new dispatch (call s) r in
-      (law old new dispatch (call s) r, ap (λ (w : Worlds S). w.sites) r.others, told.0, told.1, ap (λ (w : Worlds S). w.cached) r.others, told.2)
+      let told = law.recalled old new dispatch (call s) r in
+      (law.shown old new dispatch (call s) r, ap (λ (w : Worlds S). w.sites) r.others, told.0, told.1, ap (λ (w : Worlds S). w.cached) r.others, told.2)
 
 -- what a call on a line's own span requires
 pub there_on : {S : Type 0} (world : Worlds S) (dispatch : ℕ) (line : Scope) (held : Held) → held ≡ held_of dispatch line → dispatch < length world.subscribers → IsThere world held

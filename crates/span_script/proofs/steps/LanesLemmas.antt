@@ -7,19 +7,18 @@ use Rattle.trace_base.specs.declared.lane.Lane.{Lane}
 use Rattle.trace_base.specs.Gate.{Worlds}
 use Rattle.trace_base.specs.Spans.{Spans}
 use Rattle.trace_base.specs.lanes.Contexts.{attached_as, AreAttached, KeepsAttached}
-use Rattle.span_handles.specs.Worlds.{Has, Alike, Replaced, seen, spans_in, kept_in}
+use Rattle.span_handles.specs.Worlds.{Has, Alike, seen, spans_in, kept_in}
 use Rattle.span_handles.specs.Handles.{Handle, Held, ReplacedOn}
 use Rattle.span_handles.specs.Entries.{LeavesLane}
-use Rattle.otel_base.specs.declared.context.Context.{Context}
 use Rattle.span_script.specs.declared.slots.Guard.{Guard}
 use Rattle.span_script.specs.declared.contexts.Attach.{Attach}
 use Rattle.otel_layer.specs.Recording.{no_recording}
 use Rattle.span_script.specs.Tables.{Scope, slot_at}
-use Rattle.span_script.proofs.filter.CounterLemmas.{Adds, aside_in, adds_nothing, adds_same}
-use Rattle.span_script.proofs.steps.SlotsLemmas.{find, held_slot}
-use Rattle.span_script.specs.declared.settings.Texts.{Texts}
+use Rattle.span_script.proofs.filter.CounterLemmas.{adds_nothing, adds_same}
+use Rattle.span_script.proofs.steps.SlotsLemmas.{find, held_slot, Found}
 use Rattle.span_script.specs.Setups.{id_at, name_at}
-use Rattle.span_script.specs.Fits.{Views, Named, State, state_of, Laned, laned, no_lane, lane_at, held_by, LanesFit, IsKept, held_of}
+use Rattle.span_script.specs.Fits.{Views, State, state_of, Laned, laned, no_lane, lane_at, held_by, LanesFit, IsKept, held_of, StandsFor, Parts}
+use Rattle.span_script.specs.SubscriberLaws.{Adds, SameLaw, aside_in}
 
 pub on_err : {T E : Type 0} (result : Result T E) (P : Type 0) → P → OnErr result P
 on_err (Ok v) P p = tt
@@ -130,18 +129,13 @@ module _ {S : Type 0} (spans : S → Spans) (views : Views S) (attaches : S → 
   AlikeOn old new dispatch [] = new ≡ old
   AlikeOn old new dispatch (s ∷ up) = Alike spans attaches kept is_whole old new dispatch × (new.sites ≡ old.sites) × (seen views.recorded no_recording new dispatch ≡ seen views.recorded no_recording old dispatch) × (seen views.filtered None new dispatch ≡ seen views.filtered None old dispatch) × (new.cached ≡ old.cached) × Adds (aside_in views old dispatch) (aside_in views new dispatch) []
 
-  abbrev pub SameRecorded : (S → S → Type 0) → Type 0
-  SameRecorded same = (old new : Worlds S) (dispatch : ℕ) → Replaced same old new dispatch
-      → (seen views.recorded no_recording new dispatch ≡ seen views.recorded no_recording old dispatch) × (seen views.filtered None new dispatch ≡ seen views.filtered None old dispatch)
-      × Adds (aside_in views old dispatch) (aside_in views new dispatch) []
-
-  pub alike_on : (same : S → S → Type 0) → ((old new : Worlds S) (dispatch : ℕ) → Replaced same old new dispatch → Alike spans attaches kept is_whole old new dispatch) → SameRecorded same
+  pub alike_on : (same : S → S → Type 0) → SameLaw spans views attaches kept is_whole same
       → (old new : Worlds S) (dispatch : ℕ) (line : Scope) (held : Held) → held ≡ held_of dispatch line → ReplacedOn (λ id s t. same s t) old new held → AlikeOn old new dispatch line
-  alike_on same law records old new dispatch [] held is did = subst (λ (h : Held). ReplacedOn (λ id s t. same s t) old new h) is did
-  alike_on same law records old new dispatch (s ∷ up) held is did =
+  alike_on same law old new dispatch [] held is did = subst (λ (h : Held). ReplacedOn (λ id s t. same s t) old new h) is did
+  alike_on same law old new dispatch (s ∷ up) held is did =
       let r = subst (λ (h : Held). ReplacedOn (λ id s t. same s t) old new h) is did in
-      let told = records old new dispatch r in
-      (law old new dispatch r, ap (λ (w : Worlds S). w.sites) r.others, told.0, told.1, ap (λ (w : Worlds S). w.cached) r.others, told.2)
+      let told = law.recalled old new dispatch r in
+      (law.shown old new dispatch r, ap (λ (w : Worlds S). w.sites) r.others, told.0, told.1, ap (λ (w : Worlds S). w.cached) r.others, told.2)
 
   pub alike_line : (old new : Worlds S) (dispatch : ℕ) (line : Scope) → AlikeOn old new dispatch line → Alike spans attaches kept is_whole old new dispatch × (new.sites ≡ old.sites) × (seen views.recorded no_recording new dispatch ≡ seen views.recorded no_recording old dispatch) × (seen views.filtered None new dispatch ≡ seen views.filtered None old dispatch) × (new.cached ≡ old.cached) × Adds (aside_in views old dispatch) (aside_in views new dispatch) []
   alike_line old new dispatch [] same = (
@@ -160,51 +154,61 @@ module _ {S : Type 0} (spans : S → Spans) (views : Views S) (attaches : S → 
   )
   alike_line old new dispatch (s ∷ up) same = same
 
-  -- after a refusal for want of memory
-  pub state_alike : (old new : Worlds S) (dispatch : ℕ) (opening : Texts) (lanes : List Lane) (hs : List (Option Handle)) (gs gs' : List (Option Guard)) (made : List Context) (ks ks' : List (Option Attach)) (moment : ℕ) → Alike spans attaches kept is_whole old new dispatch → new.sites ≡ old.sites → seen views.recorded no_recording new dispatch ≡ seen views.recorded no_recording old dispatch → seen views.filtered None new dispatch ≡ seen views.filtered None old dispatch → new.cached ≡ old.cached → Adds (aside_in views old dispatch) (aside_in views new dispatch) []
-      → (n : ℕ) (before later : Lane) → n < length lanes → before ≡ get_or lanes n before → later.id ≡ before.id → later.name ≡ before.name → later.contexts.live ≡ before.contexts.live → gs' ≡ gs → ks' ≡ ks
-      → state_of spans views new dispatch opening (set lanes n later) hs gs' (record { made = made; attaches = ks' }) moment ≡ state_of spans views old dispatch opening lanes hs gs (record { made = made; attaches = ks }) moment
-  state_alike old new dispatch opening lanes hs gs gs' made ks ks' moment same sites records filters cached aside n before later within is id name live guards_same attaches_same =
-      let still = adds_nothing (aside_in views old dispatch) (aside_in views new dispatch) aside in
-      rw (same.spans_same, sites, records, filters, cached, still.0, still.1, lanes_same lanes n before later within is (same_lane before later id live), ids_same lanes n before later within is id, names_same lanes n before later within is name, guards_same, attaches_same) refl
+  -- what alike is kept is kept on
+  pub kept_alike : (parts next : Parts S) → IsKept spans views kept is_whole parts → state_of spans views next ≡ state_of spans views parts → Alike spans attaches kept is_whole parts.world next.world parts.dispatch → IsKept spans views kept is_whole next
+  kept_alike parts next inv same alike =
+      let on : next.dispatch ≡ parts.dispatch = ap (λ (k : State). k.dispatch) same in
+      record {
+        there = (let c = alike.count in let b = inv.there in omega (arith, on, c, b));
+        alone = alike.count ∙ inv.alone;
+        whole = subst (λ (d : ℕ). Has is_whole next.world d) (sym on) (alike.whole inv.whole);
+        lanes = subst (λ (d : ℕ). LanesFit (kept_in kept next.world d) (map laned next.lanes)) (sym on)
+            (subst (λ (ls : List Laned). LanesFit (kept_in kept next.world parts.dispatch) ls) (sym (ap (λ (k : State). k.lanes) same))
+            (subst (λ (f : ℕ → ℕ → ℕ). LanesFit f (map laned parts.lanes)) (sym alike.kept_same) inv.lanes));
+        tables = inv.tables;
+        stands = subst (λ (k : State). StandsFor k inv.tables) (sym same) inv.stands;
+      }
 
-  pub kept_alike : (old new : Worlds S) (k next : State) → IsKept kept is_whole old k → next ≡ k → Alike spans attaches kept is_whole old new k.dispatch → IsKept kept is_whole new next
-  kept_alike old new k next inv same alike = subst (λ (x : State). IsKept kept is_whole new x) (sym same) (record {
-    there = (let c = alike.count in let b = inv.there in omega (arith, c, b));
-    alone = alike.count ∙ inv.alone;
-    whole = alike.whole inv.whole;
-    lanes = subst (λ (f : ℕ → ℕ → ℕ). LanesFit f k.lanes) (sym alike.kept_same) inv.lanes;
-    tables = inv.tables;
-    fits = inv.fits;
-    recording = inv.recording;
-    filtering = inv.filtering;
-  })
+  -- after a refusal for want of memory what is kept is as it was
+  module _ (same : S → S → Type 0) (law : SameLaw spans views attaches kept is_whole same)
+      (parts : Parts S) (new : Worlds S) (inv : IsKept spans views kept is_whole parts) (handle : ℕ) (named : Handle) (found : slot_at parts.handles handle ≡ Some named) (did : ReplacedOn (λ id s t. same s t) parts.world new named.held) where
+    its_line : Found (held_of parts.dispatch) inv.tables.handles handle named.held
+    its_line = find (held_of parts.dispatch) (map held_by parts.handles) inv.tables.handles handle named.held inv.stands.fits.handle_slots (held_slot parts.handles handle named found)
 
-  -- after a refusal for want of room what is kept is as it was
-  module _ (same : S → S → Type 0) (law : (old new : Worlds S) (dispatch : ℕ) → Replaced same old new dispatch → Alike spans attaches kept is_whole old new dispatch) (records : SameRecorded same)
-      (old new : Worlds S) (dispatch : ℕ) (opening : Texts) (lanes : List Lane) (hs : List (Option Handle)) (gs gs' : List (Option Guard)) (made : List Context) (ks ks' : List (Option Attach)) (m : ℕ) (inv : IsKept kept is_whole old (state_of spans views old dispatch opening lanes hs gs (record { made = made; attaches = ks }) m))
-      (handle : ℕ) (named : Handle) (found : slot_at hs handle ≡ Some named) (did : ReplacedOn (λ id s t. same s t) old new named.held)
-      (n : ℕ) (before later : Lane) (within : n < length lanes) (seen_is : before ≡ get_or lanes n before) (lane : LeavesLane before later) (guards_same : gs' ≡ gs) (attaches_same : ks' ≡ ks) where
-    its_alike : Alike spans attaches kept is_whole old new dispatch × (new.sites ≡ old.sites) × (seen views.recorded no_recording new dispatch ≡ seen views.recorded no_recording old dispatch) × (seen views.filtered None new dispatch ≡ seen views.filtered None old dispatch) × (new.cached ≡ old.cached) × Adds (aside_in views old dispatch) (aside_in views new dispatch) []
-    its_alike = let line = find (held_of dispatch) (map held_by hs) inv.tables.handles handle named.held inv.fits.handle_slots (held_slot hs handle named found) in alike_line old new dispatch line.at (alike_on same law records old new dispatch line.at named.held line.is did)
+    its_alike : Alike spans attaches kept is_whole parts.world new parts.dispatch × (new.sites ≡ parts.world.sites) × (seen views.recorded no_recording new parts.dispatch ≡ seen views.recorded no_recording parts.world parts.dispatch) × (seen views.filtered None new parts.dispatch ≡ seen views.filtered None parts.world parts.dispatch) × (new.cached ≡ parts.world.cached) × Adds (aside_in views parts.world parts.dispatch) (aside_in views new parts.dispatch) []
+    its_alike = alike_line parts.world new parts.dispatch its_line.at (alike_on same law parts.world new parts.dispatch its_line.at named.held its_line.is did)
 
-    pub refused_state : state_of spans views new dispatch opening (set lanes n later) hs gs' (record { made = made; attaches = ks' }) m ≡ state_of spans views old dispatch opening lanes hs gs (record { made = made; attaches = ks }) m
-    refused_state = state_alike old new dispatch opening lanes hs gs gs' made ks ks' m its_alike.0 its_alike.1 its_alike.2 its_alike.3 its_alike.4 its_alike.5 n before later within seen_is lane.id lane.name lane.live guards_same attaches_same
+    its_rest : ((aside_in views new parts.dispatch).0 ≡ (aside_in views parts.world parts.dispatch).0) × ((aside_in views new parts.dispatch).1 ≡ (aside_in views parts.world parts.dispatch).1)
+    its_rest = adds_nothing (aside_in views parts.world parts.dispatch) (aside_in views new parts.dispatch) its_alike.5
 
-    pub refused_kept : IsKept kept is_whole new (state_of spans views new dispatch opening (set lanes n later) hs gs' (record { made = made; attaches = ks' }) m)
-    refused_kept = kept_alike old new (state_of spans views old dispatch opening lanes hs gs (record { made = made; attaches = ks }) m) _ inv refused_state its_alike.0
+    -- where a lane or guards got room
+    module _ (n : ℕ) (before later : Lane) (within : n < length parts.lanes) (seen_is : before ≡ get_or parts.lanes n before) (lane : LeavesLane before later)
+        (gs' : List (Option Guard)) (guards_same : gs' ≡ parts.guards) (ks' : List (Option Attach)) (attaches_same : ks' ≡ parts.contexts.attaches) where
+      abbrev refused_parts : Parts S
+      refused_parts = record parts { world = new; lanes = set parts.lanes n later; guards = gs'; contexts = record parts.contexts { attaches = ks' } }
 
-  -- the same where neither lanes nor guards were touched
-  module _ (same : S → S → Type 0) (law : (old new : Worlds S) (dispatch : ℕ) → Replaced same old new dispatch → Alike spans attaches kept is_whole old new dispatch) (records : SameRecorded same)
-      (old new : Worlds S) (dispatch : ℕ) (opening : Texts) (lanes : List Lane) (hs : List (Option Handle)) (gs : List (Option Guard)) (cs : Named) (m : ℕ) (inv : IsKept kept is_whole old (state_of spans views old dispatch opening lanes hs gs cs m))
-      (handle : ℕ) (named : Handle) (found : slot_at hs handle ≡ Some named) (did : ReplacedOn (λ id s t. same s t) old new named.held) where
-    still_alike : Alike spans attaches kept is_whole old new dispatch × (new.sites ≡ old.sites) × (seen views.recorded no_recording new dispatch ≡ seen views.recorded no_recording old dispatch) × (seen views.filtered None new dispatch ≡ seen views.filtered None old dispatch) × (new.cached ≡ old.cached) × Adds (aside_in views old dispatch) (aside_in views new dispatch) []
-    still_alike = let line = find (held_of dispatch) (map held_by hs) inv.tables.handles handle named.held inv.fits.handle_slots (held_slot hs handle named found) in alike_line old new dispatch line.at (alike_on same law records old new dispatch line.at named.held line.is did)
+      pub refused_state : state_of spans views refused_parts ≡ state_of spans views parts
+      refused_state = rw (
+        its_alike.0.spans_same,
+        its_alike.1,
+        its_alike.2,
+        its_alike.3,
+        its_alike.4,
+        its_rest.0,
+        its_rest.1,
+        lanes_same parts.lanes n before later within seen_is (same_lane before later lane.id lane.live),
+        ids_same parts.lanes n before later within seen_is lane.id,
+        names_same parts.lanes n before later within seen_is lane.name,
+        guards_same,
+        attaches_same,
+      ) refl
 
-    pub same_state : state_of spans views new dispatch opening lanes hs gs cs m ≡ state_of spans views old dispatch opening lanes hs gs cs m
-    same_state =
-        let still = adds_nothing (aside_in views old dispatch) (aside_in views new dispatch) still_alike.5 in
-        rw (still_alike.0.spans_same, still_alike.1, still_alike.2, still_alike.3, still_alike.4, still.0, still.1) refl
+      pub refused_kept : IsKept spans views kept is_whole refused_parts
+      refused_kept = kept_alike parts refused_parts inv refused_state its_alike.0
 
-    pub same_kept : IsKept kept is_whole new (state_of spans views new dispatch opening lanes hs gs cs m)
-    same_kept = kept_alike old new (state_of spans views old dispatch opening lanes hs gs cs m) _ inv same_state still_alike.0
+    -- where neither did
+    pub same_state : state_of spans views (record parts { world = new }) ≡ state_of spans views parts
+    same_state = rw (its_alike.0.spans_same, its_alike.1, its_alike.2, its_alike.3, its_alike.4, its_rest.0, its_rest.1) refl
+
+    pub same_kept : IsKept spans views kept is_whole (record parts { world = new })
+    same_kept = kept_alike parts (record parts { world = new }) inv same_state its_alike.0

@@ -1,5 +1,6 @@
 -- What calls on the span of a scope keep, whatever their kind.
-use Rattle.std.proofs.Common.{◌≡◌, ℕ, ◌<◌, List, [], ◌∷◌, ◌++◌, length, Bool, Option, None, false, Ok, Err, refl, sym, ap, subst, ◌∙◌, arith}
+use Rattle.std.proofs.Common.{◌≡◌, ℕ, ◌<◌, List, [], ◌∷◌, ◌++◌, length, Bool, Option, None, false, Ok, Err, refl, sym, ap, subst, ◌∙◌, arith, map}
+use Rattle.std.proofs.lemmas.Bool.{true≢false}
 use Rattle.trace_base.specs.declared.lane.Lane.{Lane}
 use Rattle.trace_base.specs.Gate.{Worlds}
 use Rattle.trace_base.specs.Spans.{Spans, span_at}
@@ -17,20 +18,38 @@ use Rattle.otel_layer.specs.Recording.{Recording}
 use Rattle.span_script.specs.declared.contexts.Attach.{Attach}
 use Rattle.span_script.specs.Setups.{Setup}
 use Rattle.span_script.specs.Tables.{Scope, Attached, Effect, Tables, after, recorded_by}
-use Rattle.span_script.specs.Effects.{Resolved, effect_of_call}
-use Rattle.span_script.specs.Fits.{Views, State, Laned, Fits, StandsFor, RecordingFits, FilteringFits, AllContextsFit, LanesFit, IsKept, Served}
+use Rattle.span_script.specs.calls.Here.{Resolved}
+use Rattle.span_script.specs.Effects.{effect_of_call}
+use Rattle.span_script.specs.Fits.{Views, State, Laned, Fits, StandsFor, RecordingFits, FilteringFits, AllContextsFit, LanesFit, IsKept, Served, state_of, laned, Parts, is_room, ServesResolved, Serves}
 use Rattle.otel_metrics.specs.declared.measure.Measure.{Measure}
 use Rattle.span_stack.specs.Measured.{measured_by}
-use Rattle.span_script.proofs.filter.CounterLemmas.{Adds, aside_in, adds_same, measured}
+use Rattle.span_script.proofs.filter.CounterLemmas.{adds_same, measured}
 use Rattle.span_script.proofs.steps.KnownSpansLemmas.{still_known}
 use Rattle.span_script.proofs.steps.RecordingLemmas.{recording_step}
 use Rattle.span_script.proofs.filter.FilterLemmas.{Hears, filtering_step}
 use Rattle.span_script.proofs.steps.CallsLemmas.{ShownOn}
+use Rattle.span_script.specs.declared.reply.Refusal.TheVariants as refusals
+use Rattle.span_script.specs.SubscriberLaws.{Adds, aside_in}
 
 -- what is said of the fields is said of the value that they make
 pub by_view : (at lane : ℕ) (request : Call) (then : State) (answer : Reply) (view k : State) → view ≡ k → ((t : Tables) → StandsFor view t → Served (effect_of_call view.setup t at lane request) t view then answer)
-    → (t : Tables) → StandsFor k t → Served (effect_of_call k.setup t at lane request) t k then answer
-by_view at lane request then answer view k is serves = subst (λ (x : State). (t : Tables) → StandsFor x t → Served (effect_of_call x.setup t at lane request) t x then answer) is serves
+    → Serves k at lane request (Ok answer) then
+by_view at lane request then answer view k is serves = record {
+  ok = subst (λ (x : State). (t : Tables) → StandsFor x t → Served (effect_of_call x.setup t at lane request) t x then answer) is serves;
+  refused = λ t stands. tt;
+  err = tt;
+  room = λ none wants. cc wants;
+}
+
+-- a refusal is served where it is the first that applies
+pub serves_refusal : (resolved : Tables → Resolved) (takes_none : Bool) (old new : State) (given : Refusal) → ((t : Tables) → StandsFor old t → resolved t ≡ Err given) → new ≡ old → is_room given ≡ false
+    → ServesResolved resolved takes_none old (Err given) new
+serves_refusal resolved takes_none old new given refuses same named = record {
+  ok = λ t stands. tt;
+  refused = λ t stands no. refuses t stands;
+  err = same;
+  room = λ none wants. (let memory : given ≡ refusals.Memory = cc wants in absurd (true≢false (sym (ap is_room memory) ∙ named)));
+}
 
 pub by_view_refused : (at lane : ℕ) (request : Call) (given : Refusal) (view k : State) → view ≡ k → ((t : Tables) → StandsFor view t → effect_of_call view.setup t at lane request ≡ Err given)
     → (t : Tables) → StandsFor k t → effect_of_call k.setup t at lane request ≡ Err given
@@ -66,48 +85,47 @@ all_same k next contexts setup attaches lanes tokens fit =
     (subst (λ (ls : List Laned). AllContextsFit k.setup.layer.activation ls next.recording.tokens k.contexts.attaches contexts) (sym lanes)
     (subst (λ (ts : List Token). AllContextsFit k.setup.layer.activation k.lanes ts k.contexts.attaches contexts) (sym tokens) fit)))
 
-module _ {S : Type 0} (spans : S → Spans) (views : Views S) (attaches : S → Bool) (kept : S → ℕ → ℕ → ℕ) (is_whole : S → Type 0) (old new : Worlds S) where
-  -- what is kept besides what fits the tables
-  pub kept_served : (k next : State) (inv : IsKept kept is_whole old k) (resolved : Resolved) (answer : Reply) → Served resolved inv.tables k next answer → next.dispatch ≡ k.dispatch → length new.subscribers ≡ length old.subscribers
-      → (Has is_whole old k.dispatch → Has is_whole new k.dispatch) → LanesFit (kept_in kept new k.dispatch) next.lanes → IsKept kept is_whole new next
-  kept_served k next inv resolved answer served dispatch count whole lanes = record {
-    there = (let b = inv.there in omega (arith, b, dispatch, count));
-    alone = count ∙ inv.alone;
-    whole = subst (λ (d : ℕ). Has is_whole new d) (sym dispatch) (whole inv.whole);
-    lanes = subst (λ (d : ℕ). LanesFit (kept_in kept new d) next.lanes) (sym dispatch) lanes;
-    tables = after inv.tables served.effect;
-    fits = served.stands.fits;
-    recording = served.stands.recording;
-    filtering = served.stands.filtering;
-  }
+-- what is kept besides what fits the tables
+pub kept_served : {S : Type 0} (spans : S → Spans) (views : Views S) (kept : S → ℕ → ℕ → ℕ) (is_whole : S → Type 0) (parts next : Parts S) (inv : IsKept spans views kept is_whole parts) (resolved : Resolved) (answer : Reply)
+    → Served resolved inv.tables (state_of spans views parts) (state_of spans views next) answer → next.dispatch ≡ parts.dispatch → length next.world.subscribers ≡ length parts.world.subscribers
+    → (Has is_whole parts.world parts.dispatch → Has is_whole next.world parts.dispatch) → LanesFit (kept_in kept next.world parts.dispatch) (map laned next.lanes) → IsKept spans views kept is_whole next
+kept_served spans views kept is_whole parts next inv resolved answer served dispatch count whole lanes = record {
+  there = (let b = inv.there in omega (arith, b, dispatch, count));
+  alone = count ∙ inv.alone;
+  whole = subst (λ (d : ℕ). Has is_whole next.world d) (sym dispatch) (whole inv.whole);
+  lanes = subst (λ (d : ℕ). LanesFit (kept_in kept next.world d) (map laned next.lanes)) (sym dispatch) lanes;
+  tables = after inv.tables served.effect;
+  stands = served.stands;
+}
 
+module _ {S : Type 0} (spans : S → Spans) (views : Views S) (attaches : S → Bool) (kept : S → ℕ → ℕ → ℕ) (is_whole : S → Type 0) (parts : Parts S) (new : Worlds S) where
   -- what one call on a scope keeps
-  pub call_count : (dispatch : ℕ) (line : Scope) (call : ℕ → SubscriberCall) → ShownOn spans views attaches kept is_whole old new dispatch line call → length new.subscribers ≡ length old.subscribers
-  call_count dispatch [] call same = ap (λ (w : Worlds S). length w.subscribers) same
-  call_count dispatch (s ∷ up) call shown = shown.0.count
+  pub call_count : (line : Scope) (call : ℕ → SubscriberCall) → ShownOn spans views attaches kept is_whole parts.world new parts.dispatch line call → length new.subscribers ≡ length parts.world.subscribers
+  call_count [] call same = ap (λ (w : Worlds S). length w.subscribers) same
+  call_count (s ∷ up) call shown = shown.0.count
 
-  pub call_sites : (dispatch : ℕ) (line : Scope) (call : ℕ → SubscriberCall) → ShownOn spans views attaches kept is_whole old new dispatch line call → new.sites ≡ old.sites
-  call_sites dispatch [] call same = ap (λ (w : Worlds S). w.sites) same
-  call_sites dispatch (s ∷ up) call shown = shown.1
+  pub call_sites : (line : Scope) (call : ℕ → SubscriberCall) → ShownOn spans views attaches kept is_whole parts.world new parts.dispatch line call → new.sites ≡ parts.world.sites
+  call_sites [] call same = ap (λ (w : Worlds S). w.sites) same
+  call_sites (s ∷ up) call shown = shown.1
 
-  pub call_cached : (dispatch : ℕ) (line : Scope) (call : ℕ → SubscriberCall) → ShownOn spans views attaches kept is_whole old new dispatch line call → new.cached ≡ old.cached
-  call_cached dispatch [] call same = ap (λ (w : Worlds S). w.cached) same
-  call_cached dispatch (s ∷ up) call shown = shown.4
+  pub call_cached : (line : Scope) (call : ℕ → SubscriberCall) → ShownOn spans views attaches kept is_whole parts.world new parts.dispatch line call → new.cached ≡ parts.world.cached
+  call_cached [] call same = ap (λ (w : Worlds S). w.cached) same
+  call_cached (s ∷ up) call shown = shown.4
 
-  pub call_aside : (dispatch : ℕ) (line : Scope) (call : ℕ → SubscriberCall) → ((s : ℕ) → measured_by (call s) ≡ []) → ShownOn spans views attaches kept is_whole old new dispatch line call → Adds (aside_in views old dispatch) (aside_in views new dispatch) []
-  call_aside dispatch [] call none same = adds_same views old new dispatch same
-  call_aside dispatch (s ∷ up) call none shown = subst (λ (ms : List Measure). Adds (aside_in views old dispatch) (aside_in views new dispatch) ms) (none s) shown.5
+  pub call_aside : (line : Scope) (call : ℕ → SubscriberCall) → ((s : ℕ) → measured_by (call s) ≡ []) → ShownOn spans views attaches kept is_whole parts.world new parts.dispatch line call → Adds (aside_in views parts.world parts.dispatch) (aside_in views new parts.dispatch) []
+  call_aside [] call none same = adds_same views parts.world new parts.dispatch same
+  call_aside (s ∷ up) call none shown = subst (λ (ms : List Measure). Adds (aside_in views parts.world parts.dispatch) (aside_in views new parts.dispatch) ms) (none s) shown.5
 
-  pub call_whole : (dispatch : ℕ) (line : Scope) (call : ℕ → SubscriberCall) → ShownOn spans views attaches kept is_whole old new dispatch line call → Has is_whole old dispatch → Has is_whole new dispatch
-  call_whole dispatch [] call same has = subst (λ (w : Worlds S). Has is_whole w dispatch) (sym same) has
-  call_whole dispatch (s ∷ up) call shown has = shown.0.whole has
+  pub call_whole : (line : Scope) (call : ℕ → SubscriberCall) → ShownOn spans views attaches kept is_whole parts.world new parts.dispatch line call → Has is_whole parts.world parts.dispatch → Has is_whole new parts.dispatch
+  call_whole [] call same has = subst (λ (w : Worlds S). Has is_whole w parts.dispatch) (sym same) has
+  call_whole (s ∷ up) call shown has = shown.0.whole has
 
-  pub call_lanes : (dispatch : ℕ) (line : Scope) (call : ℕ → SubscriberCall) (before later : Lane) → ((s : ℕ) (b : Bool) (f g : ℕ → ℕ → ℕ) → Lanes b f (call s) g → (later.id ≡ before.id) × (later.name ≡ before.name) × KeepsAttached f before later g)
-      → (line ≡ [] → later ≡ before) → ShownOn spans views attaches kept is_whole old new dispatch line call
-      → (later.id ≡ before.id) × (later.name ≡ before.name) × KeepsAttached (kept_in kept old dispatch) before later (kept_in kept new dispatch)
-  call_lanes dispatch [] call before later step none same = (
+  pub call_lanes : (line : Scope) (call : ℕ → SubscriberCall) (before later : Lane) → ((s : ℕ) (b : Bool) (f g : ℕ → ℕ → ℕ) → Lanes b f (call s) g → (later.id ≡ before.id) × (later.name ≡ before.name) × KeepsAttached f before later g)
+      → (line ≡ [] → later ≡ before) → ShownOn spans views attaches kept is_whole parts.world new parts.dispatch line call
+      → (later.id ≡ before.id) × (later.name ≡ before.name) × KeepsAttached (kept_in kept parts.world parts.dispatch) before later (kept_in kept new parts.dispatch)
+  call_lanes [] call before later step none same = (
     ap (λ (l : Lane). l.id) (none refl),
     ap (λ (l : Lane). l.name) (none refl),
-    subst (λ (w : Worlds S). KeepsAttached (kept_in kept old dispatch) before later (kept_in kept w dispatch)) (sym same) (subst (λ (l : Lane). KeepsAttached (kept_in kept old dispatch) before l (kept_in kept old dispatch)) (sym (none refl)) (λ l n. refl)),
+    subst (λ (w : Worlds S). KeepsAttached (kept_in kept parts.world parts.dispatch) before later (kept_in kept w parts.dispatch)) (sym same) (subst (λ (l : Lane). KeepsAttached (kept_in kept parts.world parts.dispatch) before l (kept_in kept parts.world parts.dispatch)) (sym (none refl)) (λ l n. refl)),
   )
-  call_lanes dispatch (s ∷ up) call before later step none shown = step s _ _ _ shown.0.lanes
+  call_lanes (s ∷ up) call before later step none shown = step s _ _ _ shown.0.lanes

@@ -1,7 +1,7 @@
 use Rattle.std.proofs.Common.{◌≡◌, Some, refl}
 use Rattle.trace_base.specs.layers.Hooks.{Hook, OnNewSpan, OnRecord, OnFollows, OnEvent, OnEnter, OnExit, OnClose}
 use Rattle.env_filter.specs.Filtering.{Filtered, after as after_hook}
-use Rattle.span_script.specs.Effects.{hook_of}
+use Rattle.span_script.specs.calls.Filter.{hook_of}
 use Rattle.span_script.specs.Tables.{Heard, HeardNew, HeardRecord, HeardEnter, HeardExit, HeardClose}
 use Rattle.span_laws.specs.Hearing.{heard_of, hears_if}
 use Rattle.span_laws.proofs.filters.hears.Goals as goal

@@ -1,7 +1,6 @@
 -- A whole subscriber can start spans.
 use Rattle.std.proofs.Common.{ℕ, Some, None, Option}
 use Rattle.trace_base.specs.Gate.{Worlds}
-use Rattle.span_handles.specs.Worlds.{Has}
 use Rattle.span_handles.specs.Handles.{Held, HasOn}
 use Rattle.span_pipeline.proofs.asked.context_any.Goals as goal
 

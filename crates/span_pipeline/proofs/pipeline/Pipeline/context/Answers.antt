@@ -1,25 +1,25 @@
 -- The context of a handle's span.
 use Rattle.std.proofs.Common.{rules, refl}
 use Rattle.span_script.specs.declared.request.Call.TheVariants as call
-use Rattle.span_script.proofs.filter.CounterLemmas.{stack_same}
 use Rattle.span_script.proofs.lane_contexts.ContextsLemmas.{serves_context, keeps_context}
 use Rattle.span_script.proofs.runs.RefusalsLemmas.{refuses_unknown}
 use Rattle.span_script.proofs.steps.RequiresLemmas.{needs_there, needs_whole}
-use Rattle.span_script.proofs.steps.ServesLemmas.{by_view}
+use Rattle.span_script.proofs.steps.ServesLemmas.{by_view, serves_refusal}
 use Rattle.span_pipeline.specs.Contexts.{named_in}
 use Rattle.span_pipeline.proofs.pipeline.Pipeline.context.Goals as goal
+use Rattle.span_pipeline.specs.Parts.{parts_of}
 
-pub returns-in_default-clause-refused : goal.returns-in_default-clause-refused
-returns-in_default-clause-refused c = λ t stands no. refuses_unknown _ _ c.self.view_is c.self.inside.handles.items refl c.args.handle (search rules) t stands.fits _
+pub returns-in_default : goal.returns-in_default
+returns-in_default c = serves_refusal _ _ _ _ _ (λ t stands. refuses_unknown _ _ c.self.view_is c.self.inside.handles.items refl c.args.handle (search rules) t stands.fits _) (search rules) refl
 
 pub context_of-context-requires-clause-there : goal.context_of-context-requires-clause-there
-context_of-context-requires-clause-there c = needs_there _ _ _ _ c.self.inside.world c.self.inside.dispatch c.self.inside.opening c.self.inside.lanes.items c.self.inside.handles.items c.self.inside.guards.items (named_in c.self.inside.contexts) c.self.inside.moment c.self.invariant c.args.handle c.in-Some.span.now (search rules)
+context_of-context-requires-clause-there c = needs_there _ _ _ _ (parts_of c.self.inside) c.self.invariant c.args.handle c.in-Some.span.now (search rules)
 
 pub context_of-context-requires-clause-whole : goal.context_of-context-requires-clause-whole
-context_of-context-requires-clause-whole c = needs_whole _ _ _ _ c.self.inside.world c.self.inside.dispatch c.self.inside.opening c.self.inside.lanes.items c.self.inside.handles.items c.self.inside.guards.items (named_in c.self.inside.contexts) c.self.inside.moment c.self.invariant c.args.handle c.in-Some.span.now (search rules)
+context_of-context-requires-clause-whole c = needs_whole _ _ _ _ (parts_of c.self.inside) c.self.invariant c.args.handle c.in-Some.span.now (search rules)
 
 pub invariant_of-self-2 : goal.invariant_of-self-2
-invariant_of-self-2 c = keeps_context _ _ _ _ _ c.self.inside.world c.context_of-context.new.world c.self.inside.dispatch c.self.inside.opening c.self.inside.lanes.items c.self.inside.handles.items c.self.inside.guards.items (named_in c.self.inside.contexts) c.self.inside.moment c.args.at c.args.lane c.len-number.result (search rules) c.self.invariant _ c.leaves.ensures (λ o n d k r. (c.asks.ensures.recording o n d k r, c.asks.ensures.filter o n d k r, stack_same o n d (c.asks.ensures.counter o n d k r) (c.asks.ensures.measures o n d k r))) c.args.handle c.in-Some.span.now (search rules) c.context_of-context.result c.context_of-context.ensures (record { made = c.add.new.contexts.items; attaches = c.self.inside.contexts.attaches.items }) (search rules) refl
+invariant_of-self-2 c = keeps_context _ _ _ _ _ (parts_of c.self.inside) c.context_of-context.new.world c.args.at c.args.lane c.len-number.result (search rules) c.self.invariant _ c.asks.ensures c.args.handle c.in-Some.span.now (search rules) c.context_of-context.result c.context_of-context.ensures (record { made = c.add.new.contexts.items; attaches = c.self.inside.contexts.attaches.items }) (search rules) refl
 
-pub returns-clause-ok : goal.returns-clause-ok
-returns-clause-ok c = by_view c.args.at c.args.lane (call.Context c.args.handle) _ _ _ _ c.self.view_is (λ t stands. serves_context _ _ _ _ _ c.self.inside.world c.context_of-context.new.world c.self.inside.dispatch c.self.inside.opening c.self.inside.lanes.items c.self.inside.handles.items c.self.inside.guards.items (named_in c.self.inside.contexts) c.self.inside.moment c.args.at c.args.lane c.len-number.result (search rules) c.self.invariant _ c.leaves.ensures (λ o n d k r. (c.asks.ensures.recording o n d k r, c.asks.ensures.filter o n d k r, stack_same o n d (c.asks.ensures.counter o n d k r) (c.asks.ensures.measures o n d k r))) c.args.handle c.in-Some.span.now (search rules) c.context_of-context.result c.context_of-context.ensures (record { made = c.add.new.contexts.items; attaches = c.self.inside.contexts.attaches.items }) (search rules) refl c.span_context.result c.span_context.ensures t stands)
+pub returns : goal.returns
+returns c = by_view c.args.at c.args.lane (call.Context c.args.handle) _ _ _ _ c.self.view_is (λ t stands. serves_context _ _ _ _ _ (parts_of c.self.inside) c.context_of-context.new.world c.args.at c.args.lane c.len-number.result (search rules) c.self.invariant _ c.asks.ensures c.args.handle c.in-Some.span.now (search rules) c.context_of-context.result c.context_of-context.ensures (record { made = c.add.new.contexts.items; attaches = c.self.inside.contexts.attaches.items }) (search rules) refl c.span_context.result c.span_context.ensures t stands)

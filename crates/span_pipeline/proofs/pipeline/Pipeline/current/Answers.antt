@@ -9,13 +9,14 @@ use Rattle.span_script.proofs.steps.ServesLemmas.{by_view}
 use Rattle.span_script.proofs.spans.CurrentsLemmas.{serves_current, keeps_current}
 use Rattle.span_pipeline.specs.Contexts.{named_in}
 use Rattle.span_pipeline.proofs.pipeline.Pipeline.current.Goals as goal
+use Rattle.span_pipeline.specs.Parts.{parts_of}
 
 pub invariant_of-self-2 : goal.invariant_of-self-2
-invariant_of-self-2 c = keeps_current _ _ _ _ _ _ c.current-span.new.world _ c.calls.ensures (λ o n d k r. (c.calls-2.ensures.recording o n d k r, c.calls-2.ensures.filter o n d k r, record { counter = c.calls-2.ensures.counter o n d k r; measures = c.calls-2.ensures.measures o n d k r })) c.self.inside.dispatch c.self.inside.opening c.self.inside.lanes.items c.self.inside.handles.items c.keep.new.self.items c.self.inside.guards.items (named_in c.self.inside.contexts) c.self.inside.moment c.args.at c.args.lane c.len-number.result (search rules)
+invariant_of-self-2 c = keeps_current _ _ _ _ _ (parts_of c.self.inside) c.current-span.new.world _ c.calls.ensures c.keep.new.self.items c.args.at c.args.lane c.len-number.result (search rules)
     c.index_mut-on.result.now (within_view _ _ c.self.inside.lanes.items c.args.lane c.self.view_is refl c.requires) c.index_mut-on.ensures.value c.self.invariant c.current-span.result c.is_some-enabled.result (search rules) (search rules) c.current-span.ensures.value
 
-pub returns-clause-ok : goal.returns-clause-ok
-returns-clause-ok c = by_view c.args.at c.args.lane call.Current _ _ _ _ c.self.view_is (λ t stands. serves_current _ _ _ _ _ _ c.current-span.new.world _ c.calls.ensures (λ o n d k r. (c.calls-2.ensures.recording o n d k r, c.calls-2.ensures.filter o n d k r, record { counter = c.calls-2.ensures.counter o n d k r; measures = c.calls-2.ensures.measures o n d k r })) c.self.inside.dispatch c.self.inside.opening c.self.inside.lanes.items c.self.inside.handles.items c.keep.new.self.items c.self.inside.guards.items (named_in c.self.inside.contexts) c.self.inside.moment c.args.at c.args.lane c.len-number.result (search rules)
+pub returns : goal.returns
+returns c = by_view c.args.at c.args.lane call.Current _ _ _ _ c.self.view_is (λ t stands. serves_current _ _ _ _ _ (parts_of c.self.inside) c.current-span.new.world _ c.calls.ensures c.keep.new.self.items c.args.at c.args.lane c.len-number.result (search rules)
     c.index_mut-on.result.now (within_view _ _ c.self.inside.lanes.items c.args.lane c.self.view_is refl c.requires) c.index_mut-on.ensures.value c.self.invariant c.current-span.result c.is_some-enabled.result (search rules) (search rules) c.current-span.ensures.value t stands)
 
 pub current-span-requires-clause-own : goal.current-span-requires-clause-own
@@ -25,4 +26,4 @@ pub current-span-requires-clause-whole : goal.current-span-requires-clause-whole
 current-span-requires-clause-whole c = c.self.invariant.whole
 
 pub current-span-requires-clause-few_holds : goal.current-span-requires-clause-few_holds
-current-span-requires-clause-few_holds c = (make_may _ _ _ _ c.self.inside.world c.self.inside.dispatch c.self.inside.opening c.self.inside.lanes.items c.self.inside.handles.items c.self.inside.guards.items (named_in c.self.inside.contexts) c.self.inside.moment c.self.invariant place.Contextual parent.Current refl c.index_mut-on.result.now.id (search rules) (search rules)).few_holds
+current-span-requires-clause-few_holds c = (make_may _ _ _ _ (parts_of c.self.inside) c.self.invariant place.Contextual parent.Current refl c.index_mut-on.result.now.id (search rules) (search rules)).few_holds

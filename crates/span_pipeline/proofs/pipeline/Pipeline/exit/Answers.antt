@@ -3,39 +3,40 @@ use Rattle.std.proofs.Common.{rules, refl}
 use Rattle.span_script.proofs.steps.RequiresLemmas.{needs_there, needs_whole, exit_may, exit_still, guard_named, guard_entry}
 use Rattle.span_script.proofs.steps.LanesLemmas.{within_view}
 use Rattle.span_script.specs.declared.request.Call.TheVariants as call
-use Rattle.span_script.proofs.steps.ServesLemmas.{by_view, by_view_refused}
+use Rattle.span_script.proofs.steps.ServesLemmas.{by_view, by_view_refused, serves_refusal}
 use Rattle.span_script.proofs.entries.EntriesLemmas.{refuses_shared, refuses_wrong_lane, alone_at, serves_exited, keeps_exited}
 use Rattle.span_pipeline.specs.Contexts.{named_in}
 use Rattle.span_pipeline.proofs.pipeline.Pipeline.exit.Goals as goal
+use Rattle.span_pipeline.specs.Parts.{parts_of}
 
-pub returns-then-is_shared-clause-refused : goal.returns-then-is_shared-clause-refused
-returns-then-is_shared-clause-refused c = λ t stands no. by_view_refused c.args.at c.args.lane (call.Exit c.args.guard) _ _ _ c.self.view_is (λ t stands. refuses_shared _ c.args.guard c.in-Some.named.now (search rules) (search rules) c.args.at c.args.lane t stands) t stands
+pub returns-then-is_shared : goal.returns-then-is_shared
+returns-then-is_shared c = serves_refusal _ _ _ _ _ (λ t stands. by_view_refused c.args.at c.args.lane (call.Exit c.args.guard) _ _ _ c.self.view_is (λ t stands. refuses_shared _ c.args.guard c.in-Some.named.now (search rules) (search rules) c.args.at c.args.lane t stands) t stands) (search rules) refl
 
-pub returns-then-named-lane-clause-refused : goal.returns-then-named-lane-clause-refused
-returns-then-named-lane-clause-refused c = λ t stands no. by_view_refused c.args.at c.args.lane (call.Exit c.args.guard) _ _ _ c.self.view_is (λ t stands. refuses_wrong_lane _ c.args.guard c.in-Some.named.now (search rules) (search rules) c.args.at c.args.lane (search rules) t stands) t stands
+pub returns-then-named-lane : goal.returns-then-named-lane
+returns-then-named-lane c = serves_refusal _ _ _ _ _ (λ t stands. by_view_refused c.args.at c.args.lane (call.Exit c.args.guard) _ _ _ c.self.view_is (λ t stands. refuses_wrong_lane _ c.args.guard c.in-Some.named.now (search rules) (search rules) c.args.at c.args.lane (search rules) t stands) t stands) (search rules) refl
 
 pub unreachable-requires-in_default-get : goal.unreachable-requires-in_default-get
-unreachable-requires-in_default-get c = guard_named _ _ _ _ c.self.inside.world c.self.inside.dispatch c.self.inside.opening c.self.inside.lanes.items c.self.inside.handles.items c.self.inside.guards.items (named_in c.self.inside.contexts) c.self.inside.moment c.self.invariant c.args.guard c.in-Some-take.open (search rules) (search rules)
+unreachable-requires-in_default-get c = guard_named _ _ _ _ (parts_of c.self.inside) c.self.invariant c.args.guard c.in-Some-take.open (search rules) (search rules)
 
 pub close_entry-requires-clause-own : goal.close_entry-requires-clause-own
-close_entry-requires-clause-own c = guard_entry _ _ _ _ c.self.inside.world c.self.inside.dispatch c.self.inside.opening c.self.inside.lanes.items c.self.inside.handles.items c.self.inside.guards.items (named_in c.self.inside.contexts) c.self.inside.moment c.self.invariant c.args.guard c.in-Some-take.open (search rules) c.in-Some-get.span.now (search rules)
+close_entry-requires-clause-own c = guard_entry _ _ _ _ (parts_of c.self.inside) c.self.invariant c.args.guard c.in-Some-take.open (search rules) c.in-Some-get.span.now (search rules)
 
 pub close_entry-requires-clause-there : goal.close_entry-requires-clause-there
-close_entry-requires-clause-there c = needs_there _ _ _ _ c.self.inside.world c.self.inside.dispatch c.self.inside.opening c.self.inside.lanes.items c.self.inside.handles.items c.self.inside.guards.items (named_in c.self.inside.contexts) c.self.inside.moment c.self.invariant c.in-Some-take.open.handle c.in-Some-get.span.now (search rules)
+close_entry-requires-clause-there c = needs_there _ _ _ _ (parts_of c.self.inside) c.self.invariant c.in-Some-take.open.handle c.in-Some-get.span.now (search rules)
 
 pub close_entry-requires-clause-whole : goal.close_entry-requires-clause-whole
-close_entry-requires-clause-whole c = needs_whole _ _ _ _ c.self.inside.world c.self.inside.dispatch c.self.inside.opening c.self.inside.lanes.items c.self.inside.handles.items c.self.inside.guards.items (named_in c.self.inside.contexts) c.self.inside.moment c.self.invariant c.in-Some-take.open.handle c.in-Some-get.span.now (search rules)
+close_entry-requires-clause-whole c = needs_whole _ _ _ _ (parts_of c.self.inside) c.self.invariant c.in-Some-take.open.handle c.in-Some-get.span.now (search rules)
 
 pub close_entry-requires-clause-may : goal.close_entry-requires-clause-may
-close_entry-requires-clause-may c = exit_may _ _ _ _ c.self.inside.world c.self.inside.dispatch c.self.inside.opening c.self.inside.lanes.items c.self.inside.handles.items c.self.inside.guards.items (named_in c.self.inside.contexts) c.self.inside.moment c.self.invariant c.args.guard c.in-Some-take.open (search rules) c.in-Some-get.span.now (search rules) c.args.lane c.index_mut.result.now (within_view _ _ c.self.inside.lanes.items c.args.lane c.self.view_is refl c.requires) c.index_mut.ensures.value (search rules)
+close_entry-requires-clause-may c = exit_may _ _ _ _ (parts_of c.self.inside) c.self.invariant c.args.guard c.in-Some-take.open (search rules) c.in-Some-get.span.now (search rules) c.args.lane c.index_mut.result.now (within_view _ _ c.self.inside.lanes.items c.args.lane c.self.view_is refl c.requires) c.index_mut.ensures.value (search rules)
 
 pub close_entry-requires-clause-still : goal.close_entry-requires-clause-still
-close_entry-requires-clause-still c = exit_still _ _ _ _ c.self.inside.world c.self.inside.dispatch c.self.inside.opening c.self.inside.lanes.items c.self.inside.handles.items c.self.inside.guards.items (named_in c.self.inside.contexts) c.self.inside.moment c.self.invariant c.args.guard c.in-Some-take.open (search rules) c.in-Some-get.span.now (search rules) c.args.lane c.index_mut.result.now (within_view _ _ c.self.inside.lanes.items c.args.lane c.self.view_is refl c.requires) c.index_mut.ensures.value
+close_entry-requires-clause-still c = exit_still _ _ _ _ (parts_of c.self.inside) c.self.invariant c.args.guard c.in-Some-take.open (search rules) c.in-Some-get.span.now (search rules) c.args.lane c.index_mut.result.now (within_view _ _ c.self.inside.lanes.items c.args.lane c.self.view_is refl c.requires) c.index_mut.ensures.value
 
 pub invariant_of-self : goal.invariant_of-self
-invariant_of-self c = keeps_exited _ _ _ _ _ _ c.close_entry.new.world _ c.calls.ensures (λ o n d k r. (c.calls-2.ensures.recording o n d k r, c.calls-2.ensures.filter o n d k r, record { counter = c.calls-2.ensures.counter o n d k r; measures = c.calls-2.ensures.measures o n d k r })) c.self.inside.dispatch c.self.inside.opening c.self.inside.lanes.items c.self.inside.handles.items c.self.inside.guards.items (named_in c.self.inside.contexts) c.self.inside.moment c.args.at c.args.lane c.index_mut.result.now c.close_entry.new.lane (within_view _ _ c.self.inside.lanes.items c.args.lane c.self.view_is refl c.requires) c.index_mut.ensures.value
-    c.args.guard c.in-Some-take.open (search rules) (search rules) c.take.new.self.items c.take.ensures.spent c.in-Some-get.span.now (guard_entry _ _ _ _ c.self.inside.world c.self.inside.dispatch c.self.inside.opening c.self.inside.lanes.items c.self.inside.handles.items c.self.inside.guards.items (named_in c.self.inside.contexts) c.self.inside.moment c.self.invariant c.args.guard c.in-Some-take.open (search rules) c.in-Some-get.span.now (search rules)) c.close_entry.ensures.did c.close_entry.ensures.none (alone_at c.self.inside.guards.items c.args.guard c.in-Some.named.now c.in-Some-take.open (search rules) (search rules) (search rules)) c.self.invariant
+invariant_of-self c = keeps_exited _ _ _ _ _ (parts_of c.self.inside) c.close_entry.new.world _ c.calls.ensures c.args.at c.args.lane c.index_mut.result.now c.close_entry.new.lane (within_view _ _ c.self.inside.lanes.items c.args.lane c.self.view_is refl c.requires) c.index_mut.ensures.value
+    c.args.guard c.in-Some-take.open (search rules) (search rules) c.take.new.self.items c.take.ensures.spent c.in-Some-get.span.now (guard_entry _ _ _ _ (parts_of c.self.inside) c.self.invariant c.args.guard c.in-Some-take.open (search rules) c.in-Some-get.span.now (search rules)) c.close_entry.ensures.did c.close_entry.ensures.none (alone_at c.self.inside.guards.items c.args.guard c.in-Some.named.now c.in-Some-take.open (search rules) (search rules) (search rules)) c.self.invariant
 
-pub returns-clause-ok : goal.returns-clause-ok
-returns-clause-ok c = by_view c.args.at c.args.lane (call.Exit c.args.guard) _ _ _ _ c.self.view_is (λ t stands. serves_exited _ _ _ _ _ _ c.close_entry.new.world _ c.calls.ensures (λ o n d k r. (c.calls-2.ensures.recording o n d k r, c.calls-2.ensures.filter o n d k r, record { counter = c.calls-2.ensures.counter o n d k r; measures = c.calls-2.ensures.measures o n d k r })) c.self.inside.dispatch c.self.inside.opening c.self.inside.lanes.items c.self.inside.handles.items c.self.inside.guards.items (named_in c.self.inside.contexts) c.self.inside.moment c.args.at c.args.lane c.index_mut.result.now c.close_entry.new.lane (within_view _ _ c.self.inside.lanes.items c.args.lane c.self.view_is refl c.requires) c.index_mut.ensures.value
-    c.args.guard c.in-Some-take.open (search rules) (search rules) c.take.new.self.items c.take.ensures.spent c.in-Some-get.span.now (guard_entry _ _ _ _ c.self.inside.world c.self.inside.dispatch c.self.inside.opening c.self.inside.lanes.items c.self.inside.handles.items c.self.inside.guards.items (named_in c.self.inside.contexts) c.self.inside.moment c.self.invariant c.args.guard c.in-Some-take.open (search rules) c.in-Some-get.span.now (search rules)) c.close_entry.ensures.did c.close_entry.ensures.none (alone_at c.self.inside.guards.items c.args.guard c.in-Some.named.now c.in-Some-take.open (search rules) (search rules) (search rules)) c.self.invariant t stands)
+pub returns : goal.returns
+returns c = by_view c.args.at c.args.lane (call.Exit c.args.guard) _ _ _ _ c.self.view_is (λ t stands. serves_exited _ _ _ _ _ (parts_of c.self.inside) c.close_entry.new.world _ c.calls.ensures c.args.at c.args.lane c.index_mut.result.now c.close_entry.new.lane (within_view _ _ c.self.inside.lanes.items c.args.lane c.self.view_is refl c.requires) c.index_mut.ensures.value
+    c.args.guard c.in-Some-take.open (search rules) (search rules) c.take.new.self.items c.take.ensures.spent c.in-Some-get.span.now (guard_entry _ _ _ _ (parts_of c.self.inside) c.self.invariant c.args.guard c.in-Some-take.open (search rules) c.in-Some-get.span.now (search rules)) c.close_entry.ensures.did c.close_entry.ensures.none (alone_at c.self.inside.guards.items c.args.guard c.in-Some.named.now c.in-Some-take.open (search rules) (search rules) (search rules)) c.self.invariant t stands)

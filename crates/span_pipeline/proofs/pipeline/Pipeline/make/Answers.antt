@@ -2,46 +2,51 @@
 use Rattle.std.proofs.Common.{rules, refl, ◌∙◌}
 use Rattle.span_script.specs.declared.request.Call.TheVariants as call
 use Rattle.span_stack.specs.Reading.{stack_interest}
-use Rattle.span_script.proofs.filter.CounterLemmas.{stack_same}
 use Rattle.span_script.proofs.filter.FilterLemmas.{stack_shows}
 use Rattle.span_script.proofs.filter.GateLemmas.{is_current}
 use Rattle.span_script.proofs.steps.LanesLemmas.{within_view, on_err}
 use Rattle.span_script.proofs.steps.SlotsLemmas.{found_place, found_nowhere}
-use Rattle.span_script.proofs.steps.ServesLemmas.{by_view, by_view_refused}
+use Rattle.span_script.proofs.steps.ServesLemmas.{by_view, by_view_refused, serves_refusal}
 use Rattle.span_script.proofs.fields.FieldsLemmas.{refuses_new, refuses_place}
 use Rattle.span_script.proofs.spans.MakingsLemmas.{make_may, all_of, made_alike, serves_new, keeps_new}
 use Rattle.span_pipeline.specs.Contexts.{named_in}
 use Rattle.span_pipeline.proofs.Placing.{refuses_span_site}
 use Rattle.span_pipeline.proofs.pipeline.Pipeline.make.Goals as goal
+use Rattle.span_pipeline.specs.Parts.{parts_of}
 
 pub make_if-requires-clause-may : goal.make_if-requires-clause-may
-make_if-requires-clause-may c = make_may _ _ _ _ c.self.inside.world c.self.inside.dispatch c.self.inside.opening c.self.inside.lanes.items c.self.inside.handles.items c.self.inside.guards.items (named_in c.self.inside.contexts) c.self.inside.moment c.self.invariant c.args.under _ (found_place c.reserve.new.self.items c.self.inside.handles.items c.args.under _ c.in-Some-place_above.above (search rules) c.place_above.ensures.place c.in-Some-place_above.is) _ (search rules) (search rules)
+make_if-requires-clause-may c = make_may _ _ _ _ (parts_of c.self.inside) c.self.invariant c.args.parent _ (found_place c.reserve.new.self.items c.self.inside.handles.items c.args.parent _ c.in-Some-place_above.above (search rules) c.place_above.ensures.place c.in-Some-place_above.is) _ (search rules) (search rules)
 
 pub make_if-requires-clause-of_dispatch : goal.make_if-requires-clause-of_dispatch
-make_if-requires-clause-of_dispatch c = c.in-Some-place_above.ensures.of c.self.inside.dispatch (all_of _ _ _ _ c.self.inside.world c.self.inside.dispatch c.self.inside.opening c.self.inside.lanes.items c.self.inside.handles.items c.self.inside.guards.items (named_in c.self.inside.contexts) c.self.inside.moment c.self.invariant c.reserve.new.self.items (search rules))
+make_if-requires-clause-of_dispatch c = c.in-Some-place_above.ensures.of c.self.inside.dispatch (all_of _ _ _ _ (parts_of c.self.inside) c.self.invariant c.reserve.new.self.items (search rules))
 
 pub invariant_of-self-in_err-span : goal.invariant_of-self-in_err-span
-invariant_of-self-in_err-span c = (made_alike _ _ _ _ _ _ c.same.ensures (λ o n d r. (c.same-2.ensures.recording o n d r, c.same-2.ensures.filter o n d r, stack_same o n d (c.same-2.ensures.counter o n d r) (c.same-2.ensures.measures o n d r))) c.self.inside.world c.make_if.new.world c.self.inside.dispatch c.self.inside.opening c.self.inside.lanes.items c.self.inside.handles.items c.reserve.new.self.items c.self.inside.guards.items (named_in c.self.inside.contexts) c.self.inside.moment (search rules) c.in_err-span.ensures.memory_leaves).1 c.self.invariant
+invariant_of-self-in_err-span c = (made_alike _ _ _ _ _ _ c.same.ensures (parts_of c.self.inside) c.make_if.new.world c.reserve.new.self.items (search rules) c.in_err-span.ensures.memory_leaves).1 c.self.invariant
 
-pub returns-in_err-span-clause-err : goal.returns-in_err-span-clause-err
-returns-in_err-span-clause-err c = on_err _ _ ((made_alike _ _ _ _ _ _ c.same.ensures (λ o n d r. (c.same-2.ensures.recording o n d r, c.same-2.ensures.filter o n d r, stack_same o n d (c.same-2.ensures.counter o n d r) (c.same-2.ensures.measures o n d r))) c.self.inside.world c.make_if.new.world c.self.inside.dispatch c.self.inside.opening c.self.inside.lanes.items c.self.inside.handles.items c.reserve.new.self.items c.self.inside.guards.items (named_in c.self.inside.contexts) c.self.inside.moment (search rules) c.in_err-span.ensures.memory_leaves).0 ∙ c.self.view_is)
+pub returns-in_err-span : goal.returns-in_err-span
+returns-in_err-span c = record {
+  ok = (search rules);
+  refused = (search rules);
+  err = on_err _ _ ((made_alike _ _ _ _ _ _ c.same.ensures (parts_of c.self.inside) c.make_if.new.world c.reserve.new.self.items (search rules) c.in_err-span.ensures.memory_leaves).0 ∙ c.self.view_is);
+  room = (search rules);
+}
 
 pub invariant_of-self-2 : goal.invariant_of-self-2
-invariant_of-self-2 c = keeps_new _ _ _ _ _ _ c.make_if.new.world _ c.calls.ensures (λ o n d k r. (c.calls-2.ensures.recording o n d k r, c.calls-2.ensures.filter o n d k r, record { counter = c.calls-2.ensures.counter o n d k r; measures = c.calls-2.ensures.measures o n d k r })) c.self.inside.dispatch c.self.inside.opening c.self.inside.lanes.items c.self.inside.handles.items c.keep.new.self.items c.self.inside.guards.items (named_in c.self.inside.contexts) c.self.inside.moment c.args.at c.args.lane c.len-number.result (search rules) c.self.invariant
-    c.args.under _ c.in-Some.found c.args.place (search rules) (search rules) (found_place c.reserve.new.self.items c.self.inside.handles.items c.args.under _ c.in-Some-place_above.above (search rules) c.place_above.ensures.place c.in-Some-place_above.is) c.args.fields c.in-Some-2.values c.site-callsite.result.now (search rules) (search rules) c.in_ok-span.span c.index-on.result.now (within_view _ _ c.self.inside.lanes.items c.args.lane c.self.view_is refl c.requires) (search rules) (search rules) c.admits-enabled.result c.admits-enabled.ensures c.in_ok-span.ensures.ok
+invariant_of-self-2 c = keeps_new _ _ _ _ _ (parts_of c.self.inside) c.make_if.new.world _ c.calls.ensures c.keep.new.self.items c.args.at c.args.lane c.len-number.result (search rules) c.self.invariant
+    c.args.parent _ c.in-Some.found c.args.site (search rules) (search rules) (found_place c.reserve.new.self.items c.self.inside.handles.items c.args.parent _ c.in-Some-place_above.above (search rules) c.place_above.ensures.place c.in-Some-place_above.is) c.args.fields c.in-Some-2.values c.callsite_at-callsite.result.now (search rules) (search rules) c.in_ok-span.span c.index-on.result.now (within_view _ _ c.self.inside.lanes.items c.args.lane c.self.view_is refl c.requires) (search rules) (search rules) c.admits-enabled.result c.admits-enabled.ensures c.in_ok-span.ensures.ok
 
-pub returns-clause-ok : goal.returns-clause-ok
-returns-clause-ok c = by_view c.args.at c.args.lane (call.New c.args.place c.args.under c.args.fields) _ _ _ _ c.self.view_is (λ t stands. serves_new _ _ _ _ _ _ c.make_if.new.world _ c.calls.ensures (λ o n d k r. (c.calls-2.ensures.recording o n d k r, c.calls-2.ensures.filter o n d k r, record { counter = c.calls-2.ensures.counter o n d k r; measures = c.calls-2.ensures.measures o n d k r })) c.self.inside.dispatch c.self.inside.opening c.self.inside.lanes.items c.self.inside.handles.items c.keep.new.self.items c.self.inside.guards.items (named_in c.self.inside.contexts) c.self.inside.moment c.args.at c.args.lane c.len-number.result (search rules) c.self.invariant
-    c.args.under _ c.in-Some.found c.args.place (search rules) (search rules) (found_place c.reserve.new.self.items c.self.inside.handles.items c.args.under _ c.in-Some-place_above.above (search rules) c.place_above.ensures.place c.in-Some-place_above.is) c.args.fields c.in-Some-2.values c.site-callsite.result.now (search rules) (search rules) c.in_ok-span.span c.index-on.result.now (within_view _ _ c.self.inside.lanes.items c.args.lane c.self.view_is refl c.requires) (search rules) (search rules) c.admits-enabled.result c.admits-enabled.ensures c.in_ok-span.ensures.ok t stands)
+pub returns : goal.returns
+returns c = by_view c.args.at c.args.lane (call.New c.args.site c.args.parent c.args.fields) _ _ _ _ c.self.view_is (λ t stands. serves_new _ _ _ _ _ (parts_of c.self.inside) c.make_if.new.world _ c.calls.ensures c.keep.new.self.items c.args.at c.args.lane c.len-number.result (search rules) c.self.invariant
+    c.args.parent _ c.in-Some.found c.args.site (search rules) (search rules) (found_place c.reserve.new.self.items c.self.inside.handles.items c.args.parent _ c.in-Some-place_above.above (search rules) c.place_above.ensures.place c.in-Some-place_above.is) c.args.fields c.in-Some-2.values c.callsite_at-callsite.result.now (search rules) (search rules) c.in_ok-span.span c.index-on.result.now (within_view _ _ c.self.inside.lanes.items c.args.lane c.self.view_is refl c.requires) (search rules) (search rules) c.admits-enabled.result c.admits-enabled.ensures c.in_ok-span.ensures.ok t stands)
 
-pub returns-in_default-2-clause-refused : goal.returns-in_default-2-clause-refused
-returns-in_default-2-clause-refused c = λ t stands no. by_view_refused c.args.at c.args.lane (call.New c.args.place c.args.under c.args.fields) _ _ _ c.self.view_is (λ t stands. refuses_new _ t stands.fits c.args.at c.args.lane c.args.place c.in-Some.found (search rules) c.args.under _ (found_place c.reserve.new.self.items c.self.inside.handles.items c.args.under _ c.in-Some-place_above.above (search rules) c.place_above.ensures.place c.in-Some-place_above.is) c.args.fields c.site-callsite.result.now (search rules) (search rules) (search rules)) t stands
+pub returns-in_default-2 : goal.returns-in_default-2
+returns-in_default-2 c = serves_refusal _ _ _ _ _ (λ t stands. by_view_refused c.args.at c.args.lane (call.New c.args.site c.args.parent c.args.fields) _ _ _ c.self.view_is (λ t stands. refuses_new _ t stands.fits c.args.at c.args.lane c.args.site c.in-Some.found (search rules) c.args.parent _ (found_place c.reserve.new.self.items c.self.inside.handles.items c.args.parent _ c.in-Some-place_above.above (search rules) c.place_above.ensures.place c.in-Some-place_above.is) c.args.fields c.callsite_at-callsite.result.now (search rules) (search rules) (search rules)) t stands) (search rules) refl
 
 pub admits-enabled-requires-clause-current : goal.admits-enabled-requires-clause-current
-admits-enabled-requires-clause-current c = is_current _ _ c.self.inside.world c.self.inside.dispatch c.self.inside.opening c.self.inside.lanes.items c.self.inside.handles.items c.self.inside.guards.items (named_in c.self.inside.contexts) c.self.inside.moment _ _ stack_interest stack_shows c.self.invariant
+admits-enabled-requires-clause-current c = is_current _ _ (parts_of c.self.inside) _ _ stack_interest stack_shows c.self.invariant
 
-pub returns-in_default-place_above-clause-refused : goal.returns-in_default-place_above-clause-refused
-returns-in_default-place_above-clause-refused c = λ t stands no. by_view_refused c.args.at c.args.lane (call.New c.args.place c.args.under c.args.fields) _ _ _ c.self.view_is (λ t stands. refuses_place _ t stands.fits c.args.at c.args.lane c.args.place c.args.under c.args.fields (search rules) (found_nowhere c.reserve.new.self.items c.self.inside.handles.items c.args.under c.place_above.result (search rules) c.place_above.ensures.place (search rules))) t stands
+pub returns-in_default-place_above : goal.returns-in_default-place_above
+returns-in_default-place_above c = serves_refusal _ _ _ _ _ (λ t stands. by_view_refused c.args.at c.args.lane (call.New c.args.site c.args.parent c.args.fields) _ _ _ c.self.view_is (λ t stands. refuses_place _ t stands.fits c.args.at c.args.lane c.args.site c.args.parent c.args.fields (search rules) (found_nowhere c.reserve.new.self.items c.self.inside.handles.items c.args.parent c.place_above.result (search rules) c.place_above.ensures.place (search rules))) t stands) (search rules) refl
 
-pub returns-in_default-clause-refused : goal.returns-in_default-clause-refused
-returns-in_default-clause-refused c = λ t stands no. by_view_refused c.args.at c.args.lane (call.New c.args.place c.args.under c.args.fields) _ _ _ c.self.view_is (λ t stands. refuses_span_site _ t stands.fits c.args.at c.args.lane c.args.place c.args.under c.args.fields (c.span_site.ensures.none c.in_default.is)) t stands
+pub returns-in_default : goal.returns-in_default
+returns-in_default c = serves_refusal _ _ _ _ _ (λ t stands. by_view_refused c.args.at c.args.lane (call.New c.args.site c.args.parent c.args.fields) _ _ _ c.self.view_is (λ t stands. refuses_span_site _ t stands.fits c.args.at c.args.lane c.args.site c.args.parent c.args.fields (c.span_site.ensures.none c.in_default.is)) t stands) (search rules) refl

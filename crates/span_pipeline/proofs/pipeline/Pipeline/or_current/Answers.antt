@@ -6,23 +6,24 @@ use Rattle.span_script.specs.declared.request.Call.TheVariants as call
 use Rattle.span_script.proofs.steps.LanesLemmas.{within_view}
 use Rattle.span_script.proofs.spans.MakingsLemmas.{make_may}
 use Rattle.span_script.proofs.runs.RefusalsLemmas.{refuses_unknown}
-use Rattle.span_script.proofs.steps.ServesLemmas.{by_view, by_view_refused}
+use Rattle.span_script.proofs.steps.ServesLemmas.{by_view, by_view_refused, serves_refusal}
 use Rattle.span_script.proofs.spans.CurrentsLemmas.{refuses_in_use, serves_exchanged, keeps_exchanged}
 use Rattle.span_pipeline.specs.Contexts.{named_in}
 use Rattle.span_pipeline.proofs.pipeline.Pipeline.or_current.Goals as goal
+use Rattle.span_pipeline.specs.Parts.{parts_of}
 
-pub returns-in_default-clause-refused : goal.returns-in_default-clause-refused
-returns-in_default-clause-refused c = λ t stands no. refuses_unknown _ _ c.self.view_is c.self.inside.handles.items refl c.args.handle (search rules) t stands.fits _
+pub returns-in_default : goal.returns-in_default
+returns-in_default c = serves_refusal _ _ _ _ _ (λ t stands. refuses_unknown _ _ c.self.view_is c.self.inside.handles.items refl c.args.handle (search rules) t stands.fits _) (search rules) refl
 
-pub returns-then-is_borrowed-clause-refused : goal.returns-then-is_borrowed-clause-refused
-returns-then-is_borrowed-clause-refused c = λ t stands no. by_view_refused c.args.at c.args.lane (call.OrCurrent c.args.handle) _ _ _ c.self.view_is (λ t stands. refuses_in_use _ c.self.inside.handles.items refl c.args.handle c.in-Some._named.now (search rules) (search rules) c.args.at c.args.lane t stands) t stands
+pub returns-then-is_borrowed : goal.returns-then-is_borrowed
+returns-then-is_borrowed c = serves_refusal _ _ _ _ _ (λ t stands. by_view_refused c.args.at c.args.lane (call.OrCurrent c.args.handle) _ _ _ c.self.view_is (λ t stands. refuses_in_use _ c.self.inside.handles.items refl c.args.handle c.in-Some._named.now (search rules) (search rules) c.args.at c.args.lane t stands) t stands) (search rules) refl
 
 pub invariant_of-self-2 : goal.invariant_of-self-2
-invariant_of-self-2 c = keeps_exchanged _ _ _ _ _ _ c.or_current-span.new.world _ c.calls.ensures (λ o n d k r. (c.calls-2.ensures.recording o n d k r, c.calls-2.ensures.filter o n d k r, record { counter = c.calls-2.ensures.counter o n d k r; measures = c.calls-2.ensures.measures o n d k r })) c.self.inside.dispatch c.self.inside.opening c.self.inside.lanes.items c.self.inside.handles.items c.keep.new.self.items c.self.inside.guards.items (named_in c.self.inside.contexts) c.self.inside.moment c.args.at c.args.lane c.len-number.result (search rules)
+invariant_of-self-2 c = keeps_exchanged _ _ _ _ _ (parts_of c.self.inside) c.or_current-span.new.world _ c.calls.ensures c.keep.new.self.items c.args.at c.args.lane c.len-number.result (search rules)
     c.index_mut-on.result.now (within_view _ _ c.self.inside.lanes.items c.args.lane c.self.view_is refl c.requires) c.index_mut-on.ensures.value c.self.invariant c.args.handle c.in-Some-take.span c.or_current-span.result (search rules) (search rules) c.is_some-enabled.result (search rules) (search rules) c.or_current-span.ensures.enabled c.or_current-span.ensures.disabled
 
-pub returns-clause-ok : goal.returns-clause-ok
-returns-clause-ok c = by_view c.args.at c.args.lane (call.OrCurrent c.args.handle) _ _ _ _ c.self.view_is (λ t stands. serves_exchanged _ _ _ _ _ _ c.or_current-span.new.world _ c.calls.ensures (λ o n d k r. (c.calls-2.ensures.recording o n d k r, c.calls-2.ensures.filter o n d k r, record { counter = c.calls-2.ensures.counter o n d k r; measures = c.calls-2.ensures.measures o n d k r })) c.self.inside.dispatch c.self.inside.opening c.self.inside.lanes.items c.self.inside.handles.items c.keep.new.self.items c.self.inside.guards.items (named_in c.self.inside.contexts) c.self.inside.moment c.args.at c.args.lane c.len-number.result (search rules)
+pub returns : goal.returns
+returns c = by_view c.args.at c.args.lane (call.OrCurrent c.args.handle) _ _ _ _ c.self.view_is (λ t stands. serves_exchanged _ _ _ _ _ (parts_of c.self.inside) c.or_current-span.new.world _ c.calls.ensures c.keep.new.self.items c.args.at c.args.lane c.len-number.result (search rules)
     c.index_mut-on.result.now (within_view _ _ c.self.inside.lanes.items c.args.lane c.self.view_is refl c.requires) c.index_mut-on.ensures.value c.self.invariant c.args.handle c.in-Some-take.span c.or_current-span.result (search rules) (search rules) c.is_some-enabled.result (search rules) (search rules) c.or_current-span.ensures.enabled c.or_current-span.ensures.disabled t stands)
 
 pub or_current-span-requires-clause-own : goal.or_current-span-requires-clause-own
@@ -32,4 +33,4 @@ pub or_current-span-requires-clause-whole : goal.or_current-span-requires-clause
 or_current-span-requires-clause-whole c = c.self.invariant.whole
 
 pub or_current-span-requires-clause-few_holds : goal.or_current-span-requires-clause-few_holds
-or_current-span-requires-clause-few_holds c = (make_may _ _ _ _ c.self.inside.world c.self.inside.dispatch c.self.inside.opening c.self.inside.lanes.items c.self.inside.handles.items c.self.inside.guards.items (named_in c.self.inside.contexts) c.self.inside.moment c.self.invariant place.Contextual parent.Current refl c.index_mut-on.result.now.id (search rules) (search rules)).few_holds
+or_current-span-requires-clause-few_holds c = (make_may _ _ _ _ (parts_of c.self.inside) c.self.invariant place.Contextual parent.Current refl c.index_mut-on.result.now.id (search rules) (search rules)).few_holds

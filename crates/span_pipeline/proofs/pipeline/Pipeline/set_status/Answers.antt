@@ -1,22 +1,22 @@
 -- A status.
 use Rattle.std.proofs.Common.{rules, refl}
 use Rattle.span_script.specs.declared.request.Call.TheVariants as call
-use Rattle.span_script.proofs.filter.CounterLemmas.{stack_same}
 use Rattle.span_script.proofs.links.ExtensionLemmas.{serves_status, keeps_status}
 use Rattle.span_script.proofs.runs.RefusalsLemmas.{refuses_unknown}
 use Rattle.span_script.proofs.steps.RequiresLemmas.{needs_there}
-use Rattle.span_script.proofs.steps.ServesLemmas.{by_view}
+use Rattle.span_script.proofs.steps.ServesLemmas.{by_view, serves_refusal}
 use Rattle.span_pipeline.specs.Contexts.{named_in}
 use Rattle.span_pipeline.proofs.pipeline.Pipeline.set_status.Goals as goal
+use Rattle.span_pipeline.specs.Parts.{parts_of}
 
-pub returns-in_default-clause-refused : goal.returns-in_default-clause-refused
-returns-in_default-clause-refused c = λ t stands no. refuses_unknown _ _ c.self.view_is c.self.inside.handles.items refl c.args.handle (search rules) t stands.fits _
+pub returns-in_default : goal.returns-in_default
+returns-in_default c = serves_refusal _ _ _ _ _ (λ t stands. refuses_unknown _ _ c.self.view_is c.self.inside.handles.items refl c.args.handle (search rules) t stands.fits _) (search rules) refl
 
 pub ask-requires : goal.ask-requires
-ask-requires c = needs_there _ _ _ _ c.self.inside.world c.self.inside.dispatch c.self.inside.opening c.self.inside.lanes.items c.self.inside.handles.items c.self.inside.guards.items (named_in c.self.inside.contexts) c.self.inside.moment c.self.invariant c.args.handle c.in-Some.span.now (search rules)
+ask-requires c = needs_there _ _ _ _ (parts_of c.self.inside) c.self.invariant c.args.handle c.in-Some.span.now (search rules)
 
 pub invariant_of-self : goal.invariant_of-self
-invariant_of-self c = keeps_status _ _ _ _ _ c.self.inside.world c.ask.new.world _ c.leaves.ensures (λ o n d k r. (c.asks.ensures.recording o n d k r, c.asks.ensures.filter o n d k r, stack_same o n d (c.asks.ensures.counter o n d k r) (c.asks.ensures.measures o n d k r))) c.self.inside.dispatch c.self.inside.opening c.self.inside.lanes.items c.self.inside.handles.items c.self.inside.guards.items (named_in c.self.inside.contexts) c.self.inside.moment c.args.at c.args.lane c.args.handle c.in-Some.span.now (search rules) c.args.status c.ask.ensures.done c.self.invariant
+invariant_of-self c = keeps_status _ _ _ _ _ (parts_of c.self.inside) c.ask.new.world _ c.asks.ensures c.args.at c.args.lane c.args.handle c.in-Some.span.now (search rules) c.args.status c.ask.ensures.done c.self.invariant
 
-pub returns-clause-ok : goal.returns-clause-ok
-returns-clause-ok c = by_view c.args.at c.args.lane (call.SetStatus c.args.handle c.args.status) _ _ _ _ c.self.view_is (λ t stands. serves_status _ _ _ _ _ c.self.inside.world c.ask.new.world _ c.leaves.ensures (λ o n d k r. (c.asks.ensures.recording o n d k r, c.asks.ensures.filter o n d k r, stack_same o n d (c.asks.ensures.counter o n d k r) (c.asks.ensures.measures o n d k r))) c.self.inside.dispatch c.self.inside.opening c.self.inside.lanes.items c.self.inside.handles.items c.self.inside.guards.items (named_in c.self.inside.contexts) c.self.inside.moment c.args.at c.args.lane c.args.handle c.in-Some.span.now (search rules) c.args.status c.ask.ensures.done t stands)
+pub returns : goal.returns
+returns c = by_view c.args.at c.args.lane (call.SetStatus c.args.handle c.args.status) _ _ _ _ c.self.view_is (λ t stands. serves_status _ _ _ _ _ (parts_of c.self.inside) c.ask.new.world _ c.asks.ensures c.args.at c.args.lane c.args.handle c.in-Some.span.now (search rules) c.args.status c.ask.ensures.done t stands)

@@ -1,0 +1,69 @@
+-- What is asked of spans from outside: links, a parent, attributes, a status, and events with a time of their own.
+use Rattle.std.specs.Prelude.{ℕ, List, [], ◌∷◌, Bool, true, false, if◌then◌else◌, is_some, Option, Some, None, Result, Ok, Err, slice_get}
+use Rattle.otel_base.specs.Ids.{ids_of, is_valid}
+use Rattle.otel_base.specs.declared.context.SpanContext.{SpanContext}
+use Rattle.otel_base.specs.declared.value.KeyValue.{KeyValue}
+use Rattle.otel_state.specs.declared.op.Op.{Op}
+use Rattle.otel_state.specs.declared.op.Op.TheVariants as ops
+use Rattle.otel_state.specs.declared.op.SetParentError.{SetParentError}
+use Rattle.otel_state.specs.declared.op.SetParentError.TheVariants as unset
+use Rattle.otel_layer.specs.Asking.{link_of}
+use Rattle.otel_layer.specs.Recording.{Recording}
+use Rattle.otel_layer.specs.Table.{told_at, waits}
+use Rattle.span_script.specs.declared.reply.Reply.TheVariants as reply
+use Rattle.span_script.specs.declared.reply.What.TheVariants as what
+use Rattle.span_script.specs.calls.Here.{Here, Resolved, ◌>>=◌, need, answer_effect, ops_effect, op_on}
+use Rattle.span_script.specs.Tables.{Done, Effect, Scope, slot_at}
+use Rattle.span_script.specs.calls.Contexts.{own_context}
+
+-- where both are enabled the followed span starts, and the other one is linked to its own context
+abbrev pub follow_effect : Here → Scope → Scope → Effect
+follow_effect here [] from = answer_effect here reply.Done
+follow_effect here (s ∷ up) [] = answer_effect here reply.Done
+follow_effect here (s ∷ up) (f ∷ up_from) = record (answer_effect here reply.Done) {
+  starts = f ∷ [];
+  ops = op_on (s ∷ up) (link_of (ids_of (own_context here.script.recording here.at (f ∷ up_from))) []);
+}
+
+abbrev pub follows_call : Here → ℕ → ℕ → Resolved
+follows_call here handle from = do
+  scope ← need what.Handle (slot_at here.script.handles handle)
+  followed ← need what.Handle (slot_at here.script.handles from)
+  Ok (follow_effect here scope followed)
+
+-- what setting a parent is answered, by whether it can still be set
+abbrev pub set_while : Bool → Result (Unit {0}) SetParentError
+set_while true = Ok tt
+set_while false = Err unset.AlreadyStarted
+
+-- it can be until the span starts
+abbrev pub is_set : Recording → Scope → Result (Unit {0}) SetParentError
+is_set r [] = Err unset.SpanDisabled
+is_set r (s ∷ up) = set_while (is_some (waits (told_at s r.spans)))
+
+abbrev pub set_parent_call : Here → ℕ → ℕ → Resolved
+set_parent_call here handle context = do
+  scope ← need what.Handle (slot_at here.script.handles handle)
+  given ← need what.Context (slice_get here.script.named context)
+  Ok (ops_effect here (reply.Set (is_set here.script.recording scope)) (op_on scope (ops.SetParent given)))
+
+-- a link to what a context shows, none where that is invalid
+abbrev pub link_ops : Scope → SpanContext → List KeyValue → List Done
+link_ops scope ids attributes = if is_valid ids then op_on scope (link_of ids attributes) else []
+
+abbrev pub add_link_call : Here → ℕ → ℕ → List KeyValue → Resolved
+add_link_call here handle context attributes = do
+  scope ← need what.Handle (slot_at here.script.handles handle)
+  given ← need what.Context (slice_get here.script.named context)
+  Ok (ops_effect here reply.Done (link_ops scope (ids_of given) attributes))
+
+-- an event of a request without a time happens at its moment
+abbrev pub happens_at : ℕ → Option ℕ → ℕ
+happens_at at None = at
+happens_at at (Some time) = time
+
+-- one op on a handle's span
+abbrev pub op_call : Here → ℕ → Op → Resolved
+op_call here handle op = do
+  scope ← need what.Handle (slot_at here.script.handles handle)
+  Ok (ops_effect here reply.Done (op_on scope op))
