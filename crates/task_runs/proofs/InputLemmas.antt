@@ -3,9 +3,9 @@ use Rattle.std.proofs.Common.{◌≡◌, ℕ, List, refl, sym, ap, ◌∙◌, in
 use Rattle.std.specs.Prelude.{Option, Some, None, Result, Ok, Err, true, false, not, is_ok, IfOk, IfSome}
 use Rattle.span_script.specs.declared.outcome.Outcome.{Outcome}
 use Rattle.trace_pipeline.specs.text.Texts.{refusal_text}
-use Rattle.trace_records.specs.declared.answer.Answer.{Answer}
-use Rattle.trace_records.specs.declared.finished.RefusedLine.{RefusedLine}
-use Rattle.trace_records.specs.Inputs.{Refuses, NoneRefused}
+use Rattle.script_lines.specs.declared.answer.Answer.{Answer}
+use Rattle.script_lines.specs.declared.refused_line.RefusedLine.{RefusedLine}
+use Rattle.script_lines.specs.Refusals.{Refuses, NoneRefused}
 use Rattle.trace_tasks.specs.declared.script.TaskScript.{TaskScript}
 use Rattle.task_runs.specs.Reading.{EndsAs, IsRefusedBy, IsStopped}
 use Rattle.task_runs.specs.Scripts.{tasks_of}

@@ -1,7 +1,7 @@
 //! What is written for a whole input.
 ghost use Rattle.std.specs.Prelude.{◌≡◌, not, None, IfSome, IfOk};
 ghost use Rattle.trace_pipeline.specs.Lines.{lines_of};
-ghost use Rattle.trace_records.specs.Inputs.{Refuses, NoneRefused};
+ghost use Rattle.script_lines.specs.Refusals.{Refuses, NoneRefused};
 ghost use Rattle.task_runs.specs.Reading.{Reads};
 ghost use Rattle.task_runs.specs.Texts.{accepts_tasks, TellsTasks};
 
@@ -9,10 +9,9 @@ use crate::run::run_task_script;
 use crate::script::TaskReader;
 use crate::text::outcome_text;
 use otel_base::memory::Memory;
+use script_lines::{Answer, first_line, refused_answer};
 use std::alloc::{AllocGlobal, Global};
 use std::random::RandomSource;
-use trace_records::lines::first_line;
-use trace_records::{Answer, refused_answer};
 
 // A reader that has read the lines of some bytes.
 fn read_lines(alloc: Global, bytes: &[u8]) -> Result<TaskReader, Memory>

@@ -4,6 +4,7 @@ ghost use Rattle.task_runs.specs.Reading.{Reads, ReadsSettings, ReadsTask, IsRef
 
 use otel_base::list::Items;
 use otel_base::memory::Memory;
+use script_lines::{RefusedLine, is_blank};
 use span_pipeline::read_texts;
 use span_script::open_error::OpenError;
 use span_script::reply::Refusal;
@@ -11,8 +12,6 @@ use span_script::settings::Settings;
 use std::alloc::Global;
 use task_lines::{missing_name, read_task};
 use trace_pipeline::{LineError, Told, read_settings};
-use trace_records::RefusedLine;
-use trace_records::lines::is_blank;
 use trace_tasks::script::{Task, TaskScript};
 
 /// Where a reader stands between two lines.

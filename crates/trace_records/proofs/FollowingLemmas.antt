@@ -2,11 +2,10 @@
 use Rattle.std.proofs.Common.{◌≡◌, ℕ, List, [], ◌∷◌, ◌++◌, refl, sym, ap, subst, ◌∙◌, append_assoc, ◌+◌, length, map, inl, inr}
 use Rattle.std.specs.Prelude.{Bool, Option, Some, None, Result, Ok, Err, OnOk, true, false}
 use Rattle.std.proofs.lemmas.List.{append-nil, map-append}
-use Rattle.std.proofs.lemmas.List.Folds.{list_all-append}
 use Rattle.otel_base.specs.declared.record.Record.{Record}
 use Rattle.span_script.specs.Setups.{Setup}
 use Rattle.span_script.specs.Tables.{History, Effect, Tables, no_tables, tables, records_of}
-use Rattle.span_script.specs.Effects.{open_spans}
+use Rattle.span_script.specs.calls.Spans.{open_spans}
 use Rattle.span_script.specs.Outcomes.{records}
 use Rattle.span_script.specs.Fits.{State, StandsFor}
 use Rattle.span_script.proofs.runs.RunLemmas.{records_push}
@@ -15,31 +14,23 @@ use Rattle.trace_pipeline.specs.declared.told.Told.TheVariants as told
 use Rattle.trace_pipeline.specs.Lines.{is_blank}
 use Rattle.trace_pipeline.specs.reading.Spelled.{request_spelled}
 use Rattle.trace_pipeline.specs.Report.{effect_of_line}
+use Rattle.script_lines.specs.Refusals.{IsTold}
+use Rattle.script_lines.proofs.BlankLemmas.{some_before, all_blank, one_not_blank}
 use Rattle.trace_records.specs.declared.finished.FinishedSpans.{FinishedSpans}
-use Rattle.trace_records.specs.declared.finished.RefusedLine.{RefusedLine}
+use Rattle.script_lines.specs.declared.refused_line.RefusedLine.{RefusedLine}
 use Rattle.trace_records.specs.declared.line.Opened.{Opened}
 use Rattle.trace_records.specs.declared.line.Answered.{Answered}
 use Rattle.trace_records.specs.declared.script.Stage.{Stage}
 use Rattle.trace_records.specs.declared.script.Stage.TheVariants as stage
 use Rattle.trace_records.specs.Scripts.{Script, Run, setup_of_line, lane_in, lanes_on, script_on, script_from, script_of}
-use Rattle.trace_records.specs.Lines.{IsTold, Opens, Answers}
-use Rattle.trace_records.specs.Following.{without_taken, are_blank, IsOpening, IsRunning, IsStopped, StandsAt, AreOf, EndsAs, IsRefusedBy}
+use Rattle.trace_records.specs.Lines.{Opens, Answers}
+use Rattle.trace_records.specs.Following.{without_taken, IsOpening, IsRunning, IsStopped, StandsAt, AreOf, EndsAs, IsRefusedBy}
 
 -- ---- one line more
 
 -- what holds behind one line more
 on_line : (most : Option ℕ) (lines more : List (List ℕ)) (line : List ℕ) (r : Run) → script_of most (lines ++ line ∷ more) ≡ r → script_of most ((lines ++ line ∷ []) ++ more) ≡ r
 on_line most lines more line r is = ap (script_of most) (append_assoc lines (line ∷ []) more) ∙ is
-
--- lines are not all blank where one isn't
-pub some_before : (lines more : List (List ℕ)) → are_blank lines ≡ false → are_blank (lines ++ more) ≡ false
-some_before lines more some = list_all-append is_blank lines more ∙ rw some refl
-
-pub all_blank : (lines : List (List ℕ)) (line : List ℕ) → are_blank lines ≡ true → is_blank line ≡ true → are_blank (lines ++ line ∷ []) ≡ true
-all_blank lines line blank is = list_all-append is_blank lines (line ∷ []) ∙ rw (blank, is) refl
-
-pub one_not_blank : (lines : List (List ℕ)) (line : List ℕ) → are_blank lines ≡ true → is_blank line ≡ false → are_blank (lines ++ line ∷ []) ≡ false
-one_not_blank lines line blank is = list_all-append is_blank lines (line ∷ []) ∙ rw (blank, is) refl
 
 -- no line changes what came of a refused line
 pub stays_stopped : (most : Option ℕ) (lines more : List (List ℕ)) (refused : RefusedLine) → IsStopped most lines refused → IsStopped most (lines ++ more) refused

@@ -1,10 +1,11 @@
 -- What is written where a line is refused.
 use Rattle.std.proofs.Common.{◌≡◌, ℕ, List, [], ◌∷◌, ◌++◌, refl, sym, ap, ◌∙◌, append_assoc, inl, inr}
 use Rattle.std.specs.Prelude.{Bool, true, Option, Some, None, Ok, is_ok}
-use Rattle.trace_records.specs.declared.finished.RefusedLine.{RefusedLine}
+use Rattle.script_lines.specs.Refusals.{Refuses, NoneRefused}
+use Rattle.script_lines.specs.declared.refused_line.RefusedLine.{RefusedLine}
 use Rattle.trace_records.specs.Scripts.{Script, script_of}
-use Rattle.trace_records.specs.Following.{are_blank, IsStopped, IsRefusedBy}
-use Rattle.trace_records.specs.Inputs.{Refuses, NoneRefused, accepts_within, TellsRun, AreRefused}
+use Rattle.trace_records.specs.Following.{IsStopped, IsRefusedBy}
+use Rattle.trace_records.specs.Inputs.{accepts_within, TellsRun, AreRefused}
 
 -- whatever is told of a script, the refusal line alone is written
 pub refuses : (most : Option ℕ) (Tells : Script → List ℕ → Type 0) (lines : List (List ℕ)) (text : List ℕ) → AreRefused most lines text

@@ -1,5 +1,4 @@
 pub mod LinesLemmas
-pub mod FirstLineLemmas
 pub mod FollowingLemmas
 pub mod InputsLemmas
 pub mod ScriptsLaws

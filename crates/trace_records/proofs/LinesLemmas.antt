@@ -17,10 +17,11 @@ use Rattle.trace_pipeline.specs.declared.told.Told.{Told}
 use Rattle.trace_pipeline.specs.declared.told.Told.TheVariants as told
 use Rattle.trace_pipeline.specs.reading.Spelled.{settings_spelled, request_spelled}
 use Rattle.trace_pipeline.specs.Report.{effect_of_line, effect_of_request}
+use Rattle.script_lines.specs.Refusals.{IsTold}
 use Rattle.trace_records.specs.declared.line.Opened.{Opened}
 use Rattle.trace_records.specs.declared.line.Answered.{Answered}
 use Rattle.trace_records.specs.Scripts.{takes, setup_of, setup_of_line, lane_in}
-use Rattle.trace_records.specs.Lines.{IsTold, Opens, Answers}
+use Rattle.trace_records.specs.Lines.{Opens, Answers}
 
 -- the refusal of a step has a line but for want of memory
 pub told_step : (why : Refusal) → is_room why ≡ false → IsTold (told.Step why)

@@ -15,7 +15,8 @@ use Rattle.span_script.specs.declared.reply.Refusal.{Refusal}
 use Rattle.span_script.specs.declared.reply.Refusal.TheVariants as refusal
 use Rattle.span_script.specs.declared.reply.What.{What}
 use Rattle.span_script.specs.declared.reply.What.TheVariants as what
-use Rattle.span_script.specs.Effects.{Resolved, named, is_bad_moment, effect_of_call, effect_of}
+use Rattle.span_script.specs.calls.Here.{Resolved, ◌>>=◌, need}
+use Rattle.span_script.specs.Effects.{is_bad_moment, effect_of_call, effect_of}
 use Rattle.span_script.specs.Outcomes.{records}
 use Rattle.span_script.proofs.runs.RunLemmas.{records_push}
 use Rattle.span_laws.specs.Laws.{IsHistory, none, more}
@@ -100,7 +101,7 @@ unless : (b : Bool) (why : Refusal) (r : Resolved) (e : Effect) → (if b then E
 unless true why r e is = absurd cc
 unless false why r e is = is
 
-there : {A : Type 0} (w : What) (o : Option A) (go : A → Resolved) (e : Effect) → named w o go ≡ Ok e → (x : A) × (o ≡ Some x)
+there : {A : Type 0} (w : What) (o : Option A) (go : A → Resolved) (e : Effect) → (need w o >>= go) ≡ Ok e → (x : A) × (o ≡ Some x)
 there w None go e is = absurd cc
 there w (Some x) go e is = (x, refl)
 

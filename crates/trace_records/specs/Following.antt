@@ -1,27 +1,21 @@
 -- How a script stands that has followed some lines, whichever lines come behind them.
-use Rattle.std.specs.Prelude.{◌≡◌, ℕ, List, [], ◌++◌, ◌⊎◌, length, map, Bool, true, false, Option, Some, None, Result, Ok, Err}
-use Rattle.std.specs.List.{list_all}
+use Rattle.std.specs.Prelude.{◌≡◌, ℕ, List, [], ◌++◌, ◌⊎◌, length, map, true, false, Option, Some, None, Result, Ok, Err}
 use Rattle.otel_base.specs.declared.record.Record.{Record}
 use Rattle.span_script.specs.Tables.{History, tables}
-use Rattle.span_script.specs.Effects.{open_spans}
+use Rattle.span_script.specs.calls.Spans.{open_spans}
 use Rattle.span_script.specs.Fits.{State, StandsFor}
 use Rattle.span_script.specs.Outcomes.{records}
-use Rattle.trace_pipeline.specs.Lines.{is_blank}
+use Rattle.script_lines.specs.Refusals.{IsTold, are_blank}
 use Rattle.trace_records.specs.declared.finished.FinishedSpans.{FinishedSpans}
-use Rattle.trace_records.specs.declared.finished.RefusedLine.{RefusedLine}
+use Rattle.script_lines.specs.declared.refused_line.RefusedLine.{RefusedLine}
 use Rattle.trace_records.specs.declared.script.ScriptRun.{ScriptRun}
 use Rattle.trace_records.specs.declared.script.Stage.{Stage}
 use Rattle.trace_records.specs.declared.script.Stage.TheVariants as stage
-use Rattle.trace_records.specs.Lines.{IsTold}
 use Rattle.trace_records.specs.Scripts.{Script, script_on, script_from, script_of}
 
 -- what is kept beside the records and the measures that are to be taken
 abbrev pub without_taken : State → State
 without_taken kept = record kept { recording = record kept.recording { finished = [] }; measures = [] }
-
--- no settings line is among the lines
-abbrev pub are_blank : List (List ℕ) → Bool
-are_blank lines = list_all is_blank lines
 
 -- All lines are blank, and nothing finished.
 pub record IsOpening {K : Type 0} (most : Option ℕ) (lines : List (List ℕ)) (count : ℕ) (finished : FinishedSpans K) : Type 0 where

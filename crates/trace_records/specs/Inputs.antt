@@ -1,26 +1,12 @@
--- What is written for a whole input, and which lines are refused whatever lines follow.
-use Rattle.std.specs.Prelude.{◌≡◌, ℕ, List, ◌++◌, ◌⊎◌, length, Bool, true, false, Option, Ok, Err, is_ok}
-use Rattle.span_script.specs.Effects.{open_spans}
+-- What is written for a whole input, and which lines are refused whatever lines follow, where a script may have so many lanes.
+use Rattle.std.specs.Prelude.{◌≡◌, ℕ, List, ◌++◌, length, Bool, Option, Ok, Err, is_ok}
+use Rattle.span_script.specs.calls.Spans.{open_spans}
 use Rattle.span_script.specs.Outcomes.{records}
 use Rattle.span_script.specs.Tables.{tables}
 use Rattle.trace_pipeline.specs.text.Texts.{refusal_text, end_text}
-use Rattle.trace_records.specs.declared.finished.RefusedLine.{RefusedLine}
+use Rattle.script_lines.specs.declared.refused_line.RefusedLine.{RefusedLine}
 use Rattle.trace_records.specs.Scripts.{Script, Run, script_of}
-use Rattle.trace_records.specs.Following.{are_blank, IsStopped}
-
--- ---- whichever lines are accepted, and whatever is written for them
-
--- A line is refused, and the text is all that is written, whatever lines follow.
-pub record Refuses (accepts : List (List ℕ) → Bool) (Whole : List (List ℕ) → List ℕ → Type 0) (lines : List (List ℕ)) (text : List ℕ) : Type 0 where
-  pub some : are_blank lines ≡ false
-  pub refused : (more : List (List ℕ)) → accepts (lines ++ more) ≡ false
-  pub whole : (more : List (List ℕ)) → Whole (lines ++ more) text
-
--- none of these lines is refused, whatever lines follow
-abbrev pub NoneRefused : (List (List ℕ) → Bool) → List (List ℕ) → Type 0
-NoneRefused accepts lines = (are_blank lines ≡ true) ⊎ (accepts lines ≡ true)
-
--- ---- scripts that may have so many lanes
+use Rattle.trace_records.specs.Following.{IsStopped}
 
 -- no line is refused, a settings line is among them, and it gives no more lanes than the most, if there is a most
 abbrev pub accepts_within : Option ℕ → List (List ℕ) → Bool

@@ -1,20 +1,15 @@
 -- What one line does to a pipeline.
-use Rattle.std.specs.Prelude.{◌≡◌, ◌≢◌, ℕ, List, [], ◌∷◌, ◌++◌, length, Option, Result, Ok, Err}
-use Rattle.span_script.specs.declared.reply.Refusal.TheVariants as refusal
+use Rattle.std.specs.Prelude.{◌≡◌, ℕ, List, [], ◌∷◌, ◌++◌, length, Option, Result, Ok, Err}
 use Rattle.span_script.specs.Setups.{Setup}
 use Rattle.span_script.specs.Tables.{History, Effect, tables, records_of}
 use Rattle.span_script.specs.Fits.{State, StandsFor}
 use Rattle.trace_pipeline.specs.declared.told.Told.{Told}
-use Rattle.trace_pipeline.specs.declared.told.Told.TheVariants as told
 use Rattle.trace_pipeline.specs.reading.Spelled.{request_spelled}
 use Rattle.trace_pipeline.specs.Report.{effect_of_line}
+use Rattle.script_lines.specs.Refusals.{IsTold}
 use Rattle.trace_records.specs.declared.line.Opened.{Opened}
 use Rattle.trace_records.specs.declared.line.Answered.{Answered}
 use Rattle.trace_records.specs.Scripts.{setup_of_line, lane_in}
-
--- a refusal has a line that tells it
-abbrev pub IsTold : Told → Type 0
-IsTold why = why ≢ told.Step refusal.Memory
 
 -- A pipeline that the settings on a line fix, before any request.
 pub record Opens (most : Option ℕ) (text : List ℕ) (opened : Opened) : Type 0 where

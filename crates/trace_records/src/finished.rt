@@ -1,4 +1,4 @@
-//! The finished spans of a script, or the line that is refused.
+//! The finished spans of a script.
 ghost use Rattle.std.specs.Prelude.{◌≡◌, ◌++◌, [], map, OnOk};
 ghost use Rattle.trace_records.specs.Following.{without_taken};
 
@@ -6,7 +6,6 @@ use crate::kept::Kept;
 use otel_base::memory::Memory;
 use span_pipeline::pipeline::Pipeline;
 use std::alloc::Global;
-use trace_pipeline::Told;
 
 /// The finished spans of a script.
 #[derive(Drop)]
@@ -19,15 +18,6 @@ pub struct FinishedSpans<K> {
     pub lane_count: u64,
     /// How many spans are open at the end.
     pub open_spans: u64,
-}
-
-/// A line that is refused, by its number, from 1.
-#[derive(Drop)]
-pub struct RefusedLine {
-    /// The number of the line, blank ones included; one more than there are where no settings line came.
-    pub line: u64,
-    /// Why it is refused.
-    pub told: Told,
 }
 
 impl<K: Kept> FinishedSpans<K> {

@@ -1,14 +1,14 @@
 //! Following the lines of a whole script.
 ghost use Rattle.std.specs.Prelude.{◌≡◌, None, IfSome, IfOk};
 ghost use Rattle.trace_pipeline.specs.Lines.{lines_of};
+ghost use Rattle.script_lines.specs.Refusals.{NoneRefused};
 ghost use Rattle.trace_records.specs.Following.{Follows};
-ghost use Rattle.trace_records.specs.Inputs.{AreRefused, NoneRefused, accepts_within};
+ghost use Rattle.trace_records.specs.Inputs.{AreRefused, accepts_within};
 
-use crate::answer::refused_answer;
 use crate::kept::Kept;
-use crate::lines::first_line;
 use crate::script::ScriptRun;
 use otel_base::memory::Memory;
+use script_lines::{first_line, refused_answer};
 use std::alloc::Global;
 use trace_base::discard::Discard;
 use trace_tree::TreeSpan;

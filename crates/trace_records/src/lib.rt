@@ -4,17 +4,14 @@
 //! the lines of an input.
 #![tactic(auto)]
 
-pub mod answer;
 pub mod finished;
 pub mod follow;
 pub mod kept;
 pub mod laws;
 pub mod line;
-pub mod lines;
 pub mod script;
 
-pub use answer::{Answer, refused_answer};
-pub use finished::{FinishedSpans, RefusedLine};
+pub use finished::FinishedSpans;
 pub use follow::{follow_lines, refusal_of};
 pub use kept::Kept;
 pub use script::ScriptRun;

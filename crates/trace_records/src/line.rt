@@ -2,8 +2,9 @@
 ghost use Rattle.std.specs.Prelude.{◌≡◌, ℕ, Option, IfOk, IfErr, OnOk, OnErr, true, false};
 ghost use Rattle.span_script.specs.Fits.{StandsFor, is_room};
 ghost use Rattle.span_script.specs.Tables.{History, tables};
+ghost use Rattle.script_lines.specs.Refusals.{IsTold};
 ghost use Rattle.trace_records.specs.Scripts.{takes};
-ghost use Rattle.trace_records.specs.Lines.{IsTold, OpensLine, AnswersLine};
+ghost use Rattle.trace_records.specs.Lines.{OpensLine, AnswersLine};
 
 use otel_base::memory::Memory;
 use span_pipeline::pipeline::Pipeline;

@@ -2,11 +2,11 @@
 ghost use Rattle.std.specs.Prelude.{◌≡◌, ℕ, List, Option, [], ◌∷◌, ◌++◌, OnOk, IfOk};
 ghost use Rattle.trace_records.specs.Following.{Follows, EndsAs, IsRefusedBy};
 
-use crate::finished::{FinishedSpans, RefusedLine, drop_measures};
+use crate::finished::{FinishedSpans, drop_measures};
 use crate::kept::Kept;
 use crate::line::{Opened, answer_line, open_line};
-use crate::lines::is_blank;
 use otel_base::memory::Memory;
+use script_lines::{RefusedLine, is_blank};
 use span_pipeline::pipeline::Pipeline;
 use std::alloc::Global;
 use std::mem;

@@ -2,7 +2,7 @@
 ghost use Rattle.std.specs.Prelude.{◌≡◌, ◌≢◌, true, IfOk};
 ghost use Rattle.trace_pipeline.specs.text.Texts.{refusal_text};
 
-use crate::finished::RefusedLine;
+use crate::refused_line::RefusedLine;
 use otel_base::memory::Memory;
 use std::alloc::Global;
 use trace_pipeline::{Refusal, Told, append_refusal};

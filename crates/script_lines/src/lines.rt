@@ -1,6 +1,7 @@
 //! The lines of some bytes.
 ghost use Rattle.std.specs.Prelude.{◌≡◌, ◌∷◌, ◌<◌, length};
 ghost use Rattle.trace_pipeline.specs.Lines.{lines_of, is_space, is_blank};
+ghost use Rattle.script_lines.specs.Refusals.{are_blank};
 
 use memchr::memchr;
 
@@ -24,6 +25,21 @@ pub fn is_blank(line: &[u8]) -> bool
         if !is_space(*byte) {
             return false;
         }
+    }
+    true
+}
+
+/// Whether no settings line is among the lines of some bytes, since all are blank.
+pub fn are_blank(bytes: &[u8]) -> bool
+    ensures { result ≡ are_blank (lines_of bytes.now) }
+{
+    let mut rest = bytes;
+    while !rest.is_empty() {
+        let (line, after) = first_line(rest);
+        if !is_blank(line) {
+            return false;
+        }
+        rest = after;
     }
     true
 }

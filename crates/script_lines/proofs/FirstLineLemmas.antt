@@ -52,3 +52,9 @@ feedless_from (b ∷ bs) zero none =
     (unpassed (b == 10) (none 0 (omega arith) (omega arith)), feedless_from bs zero (λ k low below. none (suc k) (omega arith) (omega (arith, below))))
 feedless_from (b ∷ bs) (suc at) none =
     feedless_from bs at (λ k low below. none (suc k) (omega (arith, low)) (omega (arith, below)))
+
+-- ---- where no byte is left
+
+pub none_left : (rest : List ℕ) → length rest ≡ 0 → lines_of rest ≡ []
+none_left [] none = refl
+none_left (b ∷ bs) none = absurd (omega (arith, none))

@@ -1,0 +1,2 @@
+pub mod FirstLineLemmas
+pub mod BlankLemmas
