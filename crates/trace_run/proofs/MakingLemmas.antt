@@ -5,7 +5,9 @@ use Rattle.std.proofs.lemmas.List.Sums.{sum_by-append}
 use Rattle.otel_base.specs.declared.record.Record.{Record}
 use Rattle.span_script.specs.declared.reply.Reply.{Reply}
 use Rattle.span_script.specs.declared.request.Request.{Request}
-use Rattle.span_script.specs.Effects.{Resolved, effect_of, open_spans}
+use Rattle.span_script.specs.calls.Here.{Resolved}
+use Rattle.span_script.specs.Effects.{effect_of}
+use Rattle.span_script.specs.calls.Spans.{open_spans}
 use Rattle.span_script.specs.Fits.{State, StandsFor, Recorded}
 use Rattle.span_script.specs.Outcomes.{records}
 use Rattle.span_script.specs.Setups.{Setup, HasOwnIds}

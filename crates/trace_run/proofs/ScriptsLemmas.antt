@@ -14,11 +14,12 @@ use Rattle.span_script.specs.Tables.{History}
 use Rattle.trace_batch.specs.declared.relay.TheConstants.{MOST_LANES}
 use Rattle.trace_pipeline.specs.Report.{accepts}
 use Rattle.trace_pipeline.specs.text.Texts.{refusal_text}
-use Rattle.trace_records.specs.declared.answer.Answer.{Answer}
+use Rattle.script_lines.specs.declared.answer.Answer.{Answer}
 use Rattle.trace_records.specs.declared.finished.FinishedSpans.{FinishedSpans}
-use Rattle.trace_records.specs.declared.finished.RefusedLine.{RefusedLine}
+use Rattle.script_lines.specs.declared.refused_line.RefusedLine.{RefusedLine}
 use Rattle.trace_records.specs.Following.{EndsAs}
-use Rattle.trace_records.specs.Inputs.{Refuses, NoneRefused, AreRefused, TellsRun, accepts_within}
+use Rattle.script_lines.specs.Refusals.{Refuses, NoneRefused}
+use Rattle.trace_records.specs.Inputs.{AreRefused, TellsRun, accepts_within}
 use Rattle.trace_records.specs.Scripts.{Script, script_of}
 use Rattle.trace_records.proofs.InputsLemmas.{refuses}
 use Rattle.trace_records.proofs.LanesLaws.{few_lanes}

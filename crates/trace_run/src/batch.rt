@@ -5,19 +5,20 @@ ghost use Rattle.std.specs.Prelude.{◌≡◌, ◌<◌, ℕ, not, Some, IfOk};
 ghost use Rattle.trace_batch.specs.declared.relay.TheConstants.{MOST_LANES};
 ghost use Rattle.trace_pipeline.specs.Lines.{lines_of};
 ghost use Rattle.trace_stream.specs.reading.AllLines.{AnswersCut, Tells};
-ghost use Rattle.trace_stream.specs.Carries.{Carries};
+ghost use Rattle.trace_stream.specs.Carries.{Carries, StopsAtFault};
 ghost use Rattle.trace_run.specs.Commands.Batch.{TellsAll, accepts_few, batches};
 ghost use Rattle.trace_stream.specs.Streams.{StopsReading, StopsWriting, seen};
 
 use batch_lines::batches_text;
 use otel_base::memory::Memory;
 use otel_base::record::Record;
+use script_lines::{Answer, refused_answer};
 use std::alloc::Global;
 use std::sync::Wait;
 use std::thread::Threads;
 use trace_batch::relay::MOST_LANES;
 use trace_pipeline::limits::MAX_INPUT;
-use trace_records::{Answer, FinishedSpans, follow_lines, refusal_of, refused_answer};
+use trace_records::{FinishedSpans, follow_lines, refusal_of};
 use trace_stream::all_lines::status_of;
 use trace_stream::failed::Failed;
 use trace_stream::input::{End, Input, read_all};
@@ -43,8 +44,8 @@ pub fn run_batch<H: Threads + Wait + Sync, T: Turnstile + Sync, R: Source, W: Si
     requires { (batches size).IsPossible }
     ensures carries { let at = seen R.remaining R.ends R.faults W.holds W.faults in
         Carries (batches size) result (at source.old sink.old) (at source.new sink.new) }
-    ensures read_stops { result ≡ Status.ReadFault → StopsReading R.faults R.remaining source.old source.new }
-    ensures write_stops { result ≡ Status.WriteFault → StopsWriting W.faults W.holds sink.old sink.new }
+    ensures stops { StopsAtFault result (StopsReading R.faults R.remaining source.old source.new)
+        (StopsWriting W.faults W.holds sink.old sink.new) }
 {
     let Ok(input) = read_all(alloc, source) else {
         return Status::Memory;

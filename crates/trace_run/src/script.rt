@@ -1,6 +1,6 @@
 //! The commands of the program, over any source and any sink.
 ghost use Rattle.std.specs.Prelude.{◌≡◌, false};
-ghost use Rattle.trace_stream.specs.Carries.{Carries};
+ghost use Rattle.trace_stream.specs.Carries.{Carries, StopsAtFault};
 ghost use Rattle.trace_run.specs.Commands.{meaning_of};
 ghost use Rattle.trace_run.specs.Renames.{RenamesIds};
 ghost use Rattle.trace_stream.specs.Streams.{StopsReading, StopsWriting, seen};
@@ -47,8 +47,8 @@ pub fn run_script<H: RandomSource + AllocGlobal, R: Source, W: Sink>(
         RenamesIds (Script command) result (at source.old sink.old) (at source.new sink.new) }
     // A command that reads nothing doesn't touch the source, told or not.
     ensures unread { (meaning_of command).reads ≡ false → source.new ≡ source.old }
-    ensures read_stops { result ≡ Status.ReadFault → StopsReading R.faults R.remaining source.old source.new }
-    ensures write_stops { result ≡ Status.WriteFault → StopsWriting W.faults W.holds sink.old sink.new }
+    ensures stops { StopsAtFault result (StopsReading R.faults R.remaining source.old source.new)
+        (StopsWriting W.faults W.holds sink.old sink.new) }
 {
     match command {
         Command::Run { signal } => run(alloc, signal, source, sink),

@@ -2,10 +2,10 @@
 ghost use Rattle.task_runs.specs.Texts.{accepts_tasks, TellsTasks};
 
 use otel_base::memory::Memory;
+use script_lines::Answer;
 use std::alloc::{AllocGlobal, Global};
 use std::random::RandomSource;
 use task_runs::{tasks_answer, tasks_refusal};
-use trace_records::Answer;
 use trace_stream::all_lines::AllLines;
 
 /// The command, with the runtime that polls need.

@@ -6,18 +6,18 @@ ghost use Rattle.std.specs.Prelude.{◌≡◌, IfOk};
 ghost use Rattle.thread_run.specs.Inputs.{TellsThreads, accepts_threads};
 ghost use Rattle.trace_pipeline.specs.Lines.{lines_of};
 ghost use Rattle.trace_stream.specs.reading.AllLines.{AnswersCut, Tells};
-ghost use Rattle.trace_stream.specs.Carries.{Carries};
+ghost use Rattle.trace_stream.specs.Carries.{Carries, StopsAtFault};
 ghost use Rattle.trace_run.specs.Commands.Threads.{AnswersEnded, ComesOf, works};
 ghost use Rattle.trace_stream.specs.Streams.{StopsReading, StopsWriting, seen};
 
 use otel_base::memory::Memory;
+use script_lines::Answer;
 use std::alloc::Global;
 use std::sync::Wait;
 use std::thread::Threads;
 use thread_run::{Outcome, threads_answer, threads_refusal};
 use thread_work::Ended;
 use trace_pipeline::limits::MAX_INPUT;
-use trace_records::Answer;
 use trace_stream::all_lines::status_of;
 use trace_stream::failed::Failed;
 use trace_stream::input::{End, Input, read_all};
@@ -41,8 +41,8 @@ pub fn run_threads<H: Threads + Wait + Sync, R: Source, W: Sink, T: Turnstile + 
         Carries works result.0 (at source.old sink.old) (at source.new sink.new) }
     ensures ended { let at = seen R.remaining R.ends R.faults W.holds W.faults in
         AnswersEnded result.0 result.1.items (at source.old sink.old) (at source.new sink.new) }
-    ensures read_stops { result.0 ≡ Status.ReadFault → StopsReading R.faults R.remaining source.old source.new }
-    ensures write_stops { result.0 ≡ Status.WriteFault → StopsWriting W.faults W.holds sink.old sink.new }
+    ensures stops { StopsAtFault result.0 (StopsReading R.faults R.remaining source.old source.new)
+        (StopsWriting W.faults W.holds sink.old sink.new) }
 {
     let Ok(input) = read_all(alloc, source) else {
         return (Status::Memory, Vec::new(alloc));

@@ -1,6 +1,6 @@
 //! The entry point of the program, over any source and any sink.
 ghost use Rattle.std.specs.Prelude.{◌≡◌, ◌↔◌, map, false, None, IfSome, string_bytes};
-ghost use Rattle.trace_stream.specs.Carries.{Carries};
+ghost use Rattle.trace_stream.specs.Carries.{Carries, StopsAtFault};
 ghost use Rattle.trace_run.specs.Commands.{meaning_by};
 ghost use Rattle.trace_run.specs.Renames.{RenamesIds};
 ghost use Rattle.trace_stream.specs.Streams.{StopsReading, StopsWriting, seen};
@@ -40,8 +40,8 @@ pub fn top<H: Threads + Wait + Sync + RandomSource + AllocGlobal, R: Source, W: 
     // A command that reads nothing doesn't touch the source, told or not.
     ensures unread { IfSome (invocation_of (map string_bytes words.now)) (λ asked.
         (meaning_by asked).reads ≡ false → source.new ≡ source.old) }
-    ensures read_stops { result ≡ Status.ReadFault → StopsReading R.faults R.remaining source.old source.new }
-    ensures write_stops { result ≡ Status.WriteFault → StopsWriting W.faults W.holds sink.old sink.new }
+    ensures stops { StopsAtFault result (StopsReading R.faults R.remaining source.old source.new)
+        (StopsWriting W.faults W.holds sink.old sink.new) }
 {
     match invocation_of(words) {
         Some(Invocation::Script { command }) => run_script(rt, alloc, command, source, sink),

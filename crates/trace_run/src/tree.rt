@@ -4,9 +4,10 @@ ghost use Rattle.trace_pipeline.specs.Report.{accepts};
 ghost use Rattle.trace_run.specs.Commands.Tree.{TellsTrees};
 
 use otel_base::memory::Memory;
+use script_lines::{Answer, refused_answer};
 use span_laws::ids::ids;
 use std::alloc::Global;
-use trace_records::{Answer, follow_lines, refusal_of, refused_answer};
+use trace_records::{follow_lines, refusal_of};
 use trace_stream::all_lines::AllLines;
 use trace_tree::TreeSpan;
 use tree_lines::tree_text;

@@ -6,14 +6,14 @@ use Rattle.std.proofs.lemmas.Bool.{cases_lt}
 use Rattle.std.proofs.lemmas.List.{append-nil, take_all}
 use Rattle.trace_pipeline.specs.Lines.{lines_of}
 use Rattle.trace_pipeline.specs.declared.limits.TheConstants.{MAX_INPUT}
-use Rattle.trace_records.specs.declared.answer.Answer.{Answer}
+use Rattle.script_lines.specs.declared.answer.Answer.{Answer}
 use Rattle.trace_stream.specs.declared.input.End.{End}
 use Rattle.trace_stream.specs.declared.input.End.TheVariants as end
 use Rattle.trace_stream.specs.declared.status.Status.TheVariants as ends
-use Rattle.trace_records.specs.Inputs.{Refuses, NoneRefused}
+use Rattle.script_lines.specs.Refusals.{Refuses, NoneRefused}
 use Rattle.trace_stream.specs.reading.AllLines.{writes_last, all_lines, AnswersCut, Tells, status_of}
 use Rattle.trace_stream.specs.reading.Breaks.{whole_part, whole_lines}
-use Rattle.trace_stream.specs.Carries.{Causes, Carries}
+use Rattle.trace_stream.specs.Carries.{Causes, Carries, StopsAtFault}
 use Rattle.trace_stream.specs.reading.Reading.{HasRefused, PutsSome, Leaves, IsRefusedAt}
 use Rattle.trace_stream.specs.Streams.{Streams, HasFault, MeetsEnd, Takes, Puts, PutsFront}
 use Rattle.trace_stream.proofs.LinesLemmas.{lines_on}
@@ -167,13 +167,14 @@ causes_of false end.Whole before now fault = tt
 causes_of false end.Fault before now fault = fault refl
 causes_of false end.TooLong before now fault = tt
 
--- a status tells of no other end
-pub fault_of : (refused : Bool) (ending : End) → status_of refused ending ≡ ends.ReadFault → ending ≡ end.Fault
-fault_of true ending told = cc
-fault_of false end.Whole told = cc
-fault_of false end.Fault told = refl
-fault_of false end.TooLong told = cc
+-- a text that is written tells of no fault of the sink
+pub stops_of : (refused : Bool) (ending : End) {Reading Writing : Type 0} → (ending ≡ end.Fault → Reading) → StopsAtFault (status_of refused ending) Reading Writing
+stops_of true ending stops = record { source = λ told. cc; sink = λ told. cc }
+stops_of false end.Whole stops = record { source = λ told. cc; sink = λ told. cc }
+stops_of false end.Fault stops = record { source = λ told. stops refl; sink = λ told. cc }
+stops_of false end.TooLong stops = record { source = λ told. cc; sink = λ told. cc }
 
+-- a status tells of no other end
 long_of : (refused : Bool) (ending : End) → status_of refused ending ≡ ends.TooLong → ending ≡ end.TooLong
 long_of true ending told = cc
 long_of false end.Whole told = cc

@@ -7,7 +7,7 @@ use Rattle.otel_metrics.specs.declared.measure.Measure.{Measure}
 use Rattle.span_script.specs.declared.settings.Settings.{Settings}
 use Rattle.span_script.specs.Setups.{Setup, setup_by}
 use Rattle.span_script.specs.Tables.{History, Tables, tables, records_of}
-use Rattle.span_script.specs.Effects.{open_spans}
+use Rattle.span_script.specs.calls.Spans.{open_spans}
 use Rattle.span_script.specs.Fits.{State, StandsFor}
 use Rattle.span_script.specs.Admission.{OpeningRead, opening_read}
 use Rattle.trace_pipeline.specs.declared.signal.Signal.{Signal}
@@ -22,8 +22,9 @@ use Rattle.trace_records.specs.declared.line.Opened.{Opened}
 use Rattle.trace_records.specs.declared.line.Answered.{Answered}
 use Rattle.trace_records.specs.Scripts.{setup_read, setup_of, setup_of_line}
 use Rattle.trace_records.specs.Lines.{OpensLine, AnswersLine}
-use Rattle.trace_records.specs.Following.{are_blank}
-use Rattle.trace_records.proofs.FollowingLemmas.{some_before, all_blank, one_not_blank, stands_beside}
+use Rattle.script_lines.specs.Refusals.{are_blank}
+use Rattle.script_lines.proofs.BlankLemmas.{some_before, all_blank, one_not_blank}
+use Rattle.trace_records.proofs.FollowingLemmas.{stands_beside}
 use Rattle.trace_stream.specs.declared.answers.Stage.{Stage}
 use Rattle.trace_stream.specs.declared.answers.Stage.TheVariants as stage
 use Rattle.trace_stream.specs.declared.written.Written.{Written}

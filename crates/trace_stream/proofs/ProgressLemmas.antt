@@ -13,7 +13,7 @@ use Rattle.trace_stream.specs.Progress.{Keeps, IsMidway, HasFront, Reports}
 use Rattle.trace_stream.specs.declared.answers.Answers.{Answers}
 use Rattle.trace_stream.specs.declared.progress.Progress.{Progress}
 use Rattle.trace_stream.proofs.StreamsLemmas.{puts_more}
-use Rattle.trace_records.proofs.FirstLineLemmas.{only_line}
+use Rattle.script_lines.proofs.FirstLineLemmas.{only_line}
 use Rattle.trace_stream.proofs.LinesLemmas.{lines_on, lines_ended, lines_last, feedless, part_ended, part_still, kept_still, rest_still}
 use Rattle.trace_stream.proofs.AnswersLemmas.{cut_at}
 

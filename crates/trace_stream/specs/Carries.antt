@@ -30,3 +30,8 @@ pub record Ended (status : Status) (before now : Streams) : Type 0 where
 pub record Carries (meaning : Meaning) (status : Status) (before now : Streams) : Type 0 where
   pub does : meaning.Does status before now
   pub ended : Ended status before now
+
+-- A fault that is told was the first one: of the source where a read failed, of the sink where a write failed.
+pub record StopsAtFault (status : Status) (Reading Writing : Type 0) : Type 0 where
+  pub source : status ≡ ends.ReadFault → Reading
+  pub sink : status ≡ ends.WriteFault → Writing

@@ -1,9 +1,9 @@
 //! Commands that read all lines before they write.
 ghost use Rattle.std.specs.Prelude.{◌≡◌, ℕ, List, Bool, not, None, IfSome, IfOk};
 ghost use Rattle.trace_pipeline.specs.Lines.{lines_of};
-ghost use Rattle.trace_records.specs.Inputs.{Refuses, NoneRefused};
+ghost use Rattle.script_lines.specs.Refusals.{Refuses, NoneRefused};
 ghost use Rattle.trace_stream.specs.reading.AllLines.{all_lines, AnswersCut, Tells, status_of};
-ghost use Rattle.trace_stream.specs.Carries.{Carries};
+ghost use Rattle.trace_stream.specs.Carries.{Carries, StopsAtFault};
 ghost use Rattle.trace_stream.specs.Streams.{StopsReading, StopsWriting, seen};
 
 use crate::failed::Failed;
@@ -13,9 +13,9 @@ use crate::sink::{Sink, write_all};
 use crate::source::Source;
 use crate::status::Status;
 use otel_base::memory::Memory;
+use script_lines::Answer;
 use std::alloc::Global;
 use trace_pipeline::limits::MAX_INPUT;
-use trace_records::Answer;
 
 /// A command that reads all lines before it writes.
 pub trait AllLines {
@@ -48,8 +48,8 @@ pub fn answer_all<C: AllLines, R: Source, W: Sink>(
     ensures carries { let at = seen R.remaining R.ends R.faults W.holds W.faults in
         Carries (all_lines (C.accepts command.old) (C.writes command.old)) result
         (at source.old sink.old) (at source.new sink.new) }
-    ensures read_stops { result ≡ Status.ReadFault → StopsReading R.faults R.remaining source.old source.new }
-    ensures write_stops { result ≡ Status.WriteFault → StopsWriting W.faults W.holds sink.old sink.new }
+    ensures stops { StopsAtFault result (StopsReading R.faults R.remaining source.old source.new)
+        (StopsWriting W.faults W.holds sink.old sink.new) }
 {
     let Ok(input) = read_all(alloc, source) else {
         return Status::Memory;

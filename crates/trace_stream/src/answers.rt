@@ -6,13 +6,13 @@ ghost use Rattle.trace_stream.specs.reading.Answers.{Opens, Runs, AnswersAt, Goe
 
 use crate::written::Written;
 use otel_base::memory::Memory;
+use script_lines::is_blank;
 use span_pipeline::pipeline::Pipeline;
 use std::alloc::Global;
 use std::mem;
 use trace_base::discard::Discard;
 use trace_pipeline::{Signal, Told};
 use trace_records::line::{Opened, answer_line, open_line};
-use trace_records::lines::is_blank;
 
 /// Where a run stands between two lines.
 pub enum Stage {

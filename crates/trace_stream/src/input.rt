@@ -40,12 +40,15 @@ pub fn read_all<R: Source>(alloc: Global, source: &mut R) -> Result<Input, Memor
     ensures whole { IfOk result (λ input. input.end ≡ End.Whole → IsAtEnd (R.remaining source.new)) }
     ensures short { IfOk result (λ input. input.end ≢ End.TooLong → length input.bytes.items ≤ MAX_INPUT) }
     ensures long { IfOk result (λ input. input.end ≡ End.TooLong → MAX_INPUT < length input.bytes.items) }
+
+    // Behind the first fault nothing is read.
     ensures fault { IfOk result (λ input. input.end ≡ End.Fault
         → HasFault (R.faults source.old) (R.faults source.new)) }
     ensures count { R.faults source.old ≤ R.faults source.new }
     ensures sure { IfOk result (λ input. input.end ≢ End.Fault → R.faults source.new ≡ R.faults source.old) }
     ensures stops { IfOk result (λ input. input.end ≡ End.Fault
         → StopsReading R.faults R.remaining source.old source.new) }
+
     ensures met { IfOk result (λ input. input.end ≡ End.Whole → MeetsEnd (R.ends source.old) (R.ends source.new)) }
     ensures over { IfOk result (λ input. input.end ≡ End.TooLong → R.ends source.new ≡ R.ends source.old) }
     ensures end_once { R.ends source.new ≤ R.ends source.old + 1 }

@@ -2,7 +2,7 @@
 //! the next block is read.
 ghost use Rattle.std.specs.Prelude.{◌≡◌, ◌≢◌, ◌+◌, ◌<◌, ◌≤◌, [], false, length, IfSome};
 ghost use Rattle.trace_stream.specs.reading.Answers.{is_refused};
-ghost use Rattle.trace_stream.specs.Carries.{Carries, Causes, IsOver};
+ghost use Rattle.trace_stream.specs.Carries.{Carries, Causes, IsOver, StopsAtFault};
 ghost use Rattle.trace_stream.specs.Runs.{answered, runs};
 ghost use Rattle.trace_stream.specs.Progress.{Keeps};
 ghost use Rattle.trace_stream.specs.reading.Reading.{Leaves, PutsSome, IsRefusedAt};
@@ -28,8 +28,8 @@ pub fn run<R: Source, W: Sink>(
 ) -> Status
     ensures carries { let at = seen R.remaining R.ends R.faults W.holds W.faults in
         Carries (runs signal) result (at source.old sink.old) (at source.new sink.new) }
-    ensures read_stops { result ≡ Status.ReadFault → StopsReading R.faults R.remaining source.old source.new }
-    ensures write_stops { result ≡ Status.WriteFault → StopsWriting W.faults W.holds sink.old sink.new }
+    ensures stops { StopsAtFault result (StopsReading R.faults R.remaining source.old source.new)
+        (StopsWriting W.faults W.holds sink.old sink.new) }
 {
     let Ok(mut room) = zeros(alloc, BLOCK) else {
         return Status::Memory;
@@ -61,14 +61,17 @@ fn run_blocks<R: Source, W: Sink>(
     requires keeps { Keeps signal [] [] progress.old }
     requires empty { progress.old.answers.written.text.items ≡ [] }
     requires going { is_refused progress.old.answers.stage ≡ false }
+
+    // Where the source doesn't tell its bytes, the clauses below these two still tie each status to what happened.
     ensures leaves { IfSome (R.remaining source.old) (λ bytes. Leaves (answered signal) result bytes
         (R.remaining source.new) (W.holds sink.old) (W.holds sink.new)) }
     ensures front { IfSome (R.remaining source.old) (λ bytes.
         PutsSome (answered signal) bytes (W.holds sink.old) (W.holds sink.new)) }
+
     ensures causes { let at = seen R.remaining R.ends R.faults W.holds W.faults in
         Causes result (at source.old sink.old) (at source.new sink.new) }
-    ensures read_stops { result ≡ Status.ReadFault → StopsReading R.faults R.remaining source.old source.new }
-    ensures write_stops { result ≡ Status.WriteFault → StopsWriting W.faults W.holds sink.old sink.new }
+    ensures stops { StopsAtFault result (StopsReading R.faults R.remaining source.old source.new)
+        (StopsWriting W.faults W.holds sink.old sink.new) }
     ensures refused { let at = seen R.remaining R.ends R.faults W.holds W.faults in
         IsRefusedAt (answered signal) result (at source.old sink.old) (at source.new sink.new) }
     ensures met { result ≡ Status.Ok → MeetsEnd (R.ends source.old) (R.ends source.new) }

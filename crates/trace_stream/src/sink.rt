@@ -21,10 +21,13 @@ pub trait Sink {
     fn write(&mut self, piece: &[u8]) -> Result<usize, Failed>
         ensures bound { IfOk result (λ n. n ≤ length piece.now) }
         ensures bytes { IfOk result (λ n. Puts (holds self.old) (holds self.new) (take n piece.now)) }
+
+        // To take nothing of a piece that has some counts a fault, and isn't told as one.
         ensures stuck { IfOk result (λ n. n ≡ 0 → 0 < length piece.now
             → HasFault (faults self.old) (faults self.new)) }
         ensures moved { IfOk result (λ n. 0 < n → faults self.new ≡ faults self.old) }
         ensures none { IfOk result (λ n. length piece.now ≡ 0 → faults self.new ≡ faults self.old) }
+
         ensures kept { OnErr result (Puts (holds self.old) (holds self.new) []) }
         ensures count { faults self.old ≤ faults self.new }
         ensures cause { OnErr result (HasFault (faults self.old) (faults self.new)) };
@@ -135,14 +138,17 @@ impl<'a> Sink for MemSink<'a> {
         ensures bound { IfOk result (λ n. n ≤ length piece.now) }
         ensures bytes { IfOk result (λ n.
             Puts (Some self.old.bytes.bytes.items) (Some self.new.bytes.bytes.items) (take n piece.now)) }
+
         ensures stuck { IfOk result (λ n. n ≡ 0 → 0 < length piece.now
             → HasFault self.old.faults self.new.faults) }
         ensures moved { IfOk result (λ n. 0 < n → self.new.faults ≡ self.old.faults) }
         ensures none { IfOk result (λ n. length piece.now ≡ 0 → self.new.faults ≡ self.old.faults) }
+
         ensures kept { OnErr result
             (Puts (Some self.old.bytes.bytes.items) (Some self.new.bytes.bytes.items) []) }
         ensures count { self.old.faults ≤ self.new.faults }
         ensures cause { OnErr result (HasFault self.old.faults self.new.faults) }
+
         ensures turns { self.new.turns.now ≡ later_turns self.old.turns.now }
         ensures turn { KeepsTurn (first_turn self.old.turns.now) result }
     {

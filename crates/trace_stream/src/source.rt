@@ -24,10 +24,14 @@ pub trait Source {
     fn read(&mut self, buf: &mut [u8]) -> Result<usize, Failed>
         ensures bound { IfOk result (λ n. n ≤ length buf.new) }
         ensures bytes { IfOk result (λ n. Takes (remaining self.old) (remaining self.new) (take n buf.new)) }
+
+        // A read that gives nothing met the end, unless it was lent no room.
         ensures end { IfOk result (λ n. n ≡ 0 → 0 < length buf.new → IsAtEnd (remaining self.new)) }
         ensures met { IfOk result (λ n. n ≡ 0 → 0 < length buf.new → MeetsEnd (ends self.old) (ends self.new)) }
         ensures once { ends self.new ≤ ends self.old + 1 }
         ensures goes { IfOk result (λ n. 0 < n → ends self.new ≡ ends self.old) }
+
+        // A read that fails takes nothing, and it alone counts a fault.
         ensures moved { IfOk result (λ _. faults self.new ≡ faults self.old) }
         ensures kept { OnErr result (Takes (remaining self.old) (remaining self.new) []) }
         ensures count { faults self.old ≤ faults self.new }
@@ -109,17 +113,21 @@ impl<'a> Source for MemSource<'a> {
         ensures bound { IfOk result (λ n. n ≤ length buf.new) }
         ensures bytes { IfOk result (λ n.
             Takes (Some self.old.bytes.rest.now) (Some self.new.bytes.rest.now) (take n buf.new)) }
+
         ensures end { IfOk result (λ n. n ≡ 0 → 0 < length buf.new
             → IsAtEnd (Some self.new.bytes.rest.now)) }
         ensures met { IfOk result (λ n. n ≡ 0 → 0 < length buf.new
             → MeetsEnd self.old.bytes.ends self.new.bytes.ends) }
         ensures once { self.new.bytes.ends ≤ self.old.bytes.ends + 1 }
         ensures goes { IfOk result (λ n. 0 < n → self.new.bytes.ends ≡ self.old.bytes.ends) }
+
         ensures kept { OnErr result
             (Takes (Some self.old.bytes.rest.now) (Some self.new.bytes.rest.now) []) }
         ensures count { self.old.faults ≤ self.new.faults }
         ensures cause { OnErr result (HasFault self.old.faults self.new.faults) }
         ensures moved { IfOk result (λ _. self.new.faults ≡ self.old.faults) }
+
+        // A turn of no bytes gives one byte, since none would tell the end.
         ensures turns { self.new.turns.now ≡ later_turns self.old.turns.now }
         ensures turn { KeepsTurn (moving (first_turn self.old.turns.now)) result }
         ensures fails { IsErr result → first_turn self.old.turns.now ≡ Fails }

@@ -1,7 +1,7 @@
 -- What `batch` does: it runs a script of at most eight lanes, and writes the records of its finished spans in batches.
 use Rattle.std.specs.Prelude.{ℕ, ◌<◌, ◌≤◌, List, Bool, Some}
 use Rattle.batch_lines.specs.Texts.{TellsBatches}
-use Rattle.span_script.specs.Effects.{open_spans}
+use Rattle.span_script.specs.calls.Spans.{open_spans}
 use Rattle.span_script.specs.Outcomes.{records}
 use Rattle.span_script.specs.Tables.{tables}
 use Rattle.trace_batch.specs.declared.relay.TheConstants.{MOST_LANES}

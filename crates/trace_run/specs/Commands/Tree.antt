@@ -1,6 +1,6 @@
 -- What `tree` does: it runs a script, and writes its finished spans as trees.
 use Rattle.std.specs.Prelude.{ℕ, List, map, None}
-use Rattle.span_script.specs.Effects.{open_spans}
+use Rattle.span_script.specs.calls.Spans.{open_spans}
 use Rattle.span_script.specs.Outcomes.{records}
 use Rattle.span_script.specs.Tables.{tables}
 use Rattle.trace_pipeline.specs.Report.{accepts}

@@ -5,7 +5,8 @@ use Rattle.span_script.specs.declared.reply.Reply.{Reply}
 use Rattle.span_script.specs.Tables.{History, tables}
 use Rattle.span_script.specs.Fits.{State, StandsFor}
 use Rattle.trace_pipeline.specs.Report.{behind, answer_text, answer_count, report_on, report_from}
-use Rattle.trace_records.specs.Following.{without_taken, are_blank}
+use Rattle.script_lines.specs.Refusals.{are_blank}
+use Rattle.trace_records.specs.Following.{without_taken}
 use Rattle.trace_stream.specs.Streams.{IsFront}
 use Rattle.trace_stream.specs.reading.Breaks.{AnswersAll}
 use Rattle.trace_stream.specs.declared.answers.Answers.{Answers}

@@ -5,7 +5,7 @@ use Rattle.std.proofs.Common.{◌⊎◌}
 use Rattle.trace_pipeline.specs.Lines.{lines_of}
 use Rattle.trace_pipeline.specs.declared.signal.Signal.{Signal}
 use Rattle.trace_pipeline.specs.Report.{last_text, report_from}
-use Rattle.trace_records.specs.Following.{are_blank}
+use Rattle.script_lines.specs.Refusals.{are_blank}
 
 -- whether a line feed is among the bytes
 abbrev pub has_feed : List ℕ → Bool

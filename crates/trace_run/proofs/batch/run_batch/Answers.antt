@@ -1,7 +1,6 @@
-use Rattle.std.proofs.Common.{sym, ◌∙◌}
 use Rattle.trace_run.specs.Commands.Batch.{TellsAll, accepts_few}
 use Rattle.trace_stream.specs.Streams.{Streams, seen}
-use Rattle.trace_stream.proofs.AllLinesLemmas.{IsRead, carries_whole, carries_broken, fault_of}
+use Rattle.trace_stream.proofs.AllLinesLemmas.{IsRead, carries_whole, carries_broken, stops_of}
 use Rattle.trace_run.proofs.batch.run_batch.Goals as goal
 
 pub returns-in-Ok-write_all-clause-carries : goal.returns-in-Ok-write_all-clause-carries
@@ -24,9 +23,9 @@ returns-in-Ok-write_all-clause-carries g c =
     c.in-Ok.input.bytes.items c.in-Ok-batch_input.answer is c.in-Ok-batch_input.ensures (rw c.as_slice.ensures.value at c.in-Ok-write_all.ensures.ok) in
     rw c.status_of.ensures (record { does = did.does; ended = did.ended })
 
-pub returns-in-Ok-write_all-clause-read_stops : goal.returns-in-Ok-write_all-clause-read_stops
-returns-in-Ok-write_all-clause-read_stops g c =
-    λ told. c.in-Ok.ensures.stops (fault_of c.in-Ok-batch_input.answer.refused c.in-Ok.input.end (sym c.status_of.ensures ∙ told))
+pub returns-in-Ok-write_all-clause-stops : goal.returns-in-Ok-write_all-clause-stops
+returns-in-Ok-write_all-clause-stops g c =
+    rw c.status_of.ensures (stops_of c.in-Ok-batch_input.answer.refused c.in-Ok.input.end c.in-Ok.ensures.stops)
 
 pub returns-clause-carries : goal.returns-clause-carries
 returns-clause-carries g c =

@@ -1,7 +1,6 @@
-use Rattle.std.proofs.Common.{sym, ◌∙◌}
 use Rattle.thread_run.specs.Inputs.{accepts_threads, TellsThreads}
 use Rattle.trace_stream.specs.Streams.{Streams, seen}
-use Rattle.trace_stream.proofs.AllLinesLemmas.{IsRead, carries_whole, carries_broken, fault_of}
+use Rattle.trace_stream.proofs.AllLinesLemmas.{IsRead, carries_whole, carries_broken, stops_of}
 use Rattle.trace_run.proofs.ThreadsLemmas.{ended_of, accepted_of}
 use Rattle.trace_run.proofs.threads.run_threads.Goals as goal
 
@@ -36,9 +35,9 @@ returns-in-Ok-write_all-clause-ended g c =
     (accepted_of c.in-Ok.input.end c.in-Ok.input.bytes.items o c.in-Ok-threads_input.ensures.tells)
     c.in-Ok-threads_input.ensures.ended (rw c.as_slice.ensures.value at c.in-Ok-write_all.ensures.ok))
 
-pub returns-in-Ok-write_all-clause-read_stops : goal.returns-in-Ok-write_all-clause-read_stops
-returns-in-Ok-write_all-clause-read_stops g c =
-    λ told. c.in-Ok.ensures.stops (fault_of c.in-Ok-threads_input.outcome.answer.refused c.in-Ok.input.end (sym c.status_of.ensures ∙ told))
+pub returns-in-Ok-write_all-clause-stops : goal.returns-in-Ok-write_all-clause-stops
+returns-in-Ok-write_all-clause-stops g c =
+    rw c.status_of.ensures (stops_of c.in-Ok-threads_input.outcome.answer.refused c.in-Ok.input.end c.in-Ok.ensures.stops)
 
 pub returns-clause-carries : goal.returns-clause-carries
 returns-clause-carries g c =

@@ -105,8 +105,11 @@ returns-in-Err-clause-front g c =
     front_of c.args.signal MAX_INPUT (g.R.Source.remaining c.args.source.now) (g.R.Source.remaining c.read.new.self) (g.W.Sink.holds c.args.sink.now) (g.W.Sink.holds c.loop-total.sink) told.0 took
     (left_front c.args.signal (g.W.Sink.holds c.args.sink.now) (g.W.Sink.holds c.loop-total.sink) (take MAX_INPUT told.0) c.loop-total.progress told.3)
 
-pub returns-in-Err-clause-read_stops : goal.returns-in-Err-clause-read_stops
-returns-in-Err-clause-read_stops g c = λ fault. (c.loop-total.source, c.loop-total.invariant.reads, c.in-Err.ensures.kept)
+pub returns-in-Err-clause-stops : goal.returns-in-Err-clause-stops
+returns-in-Err-clause-stops g c = record {
+  source = λ fault. (c.loop-total.source, c.loop-total.invariant.reads, c.in-Err.ensures.kept);
+  sink = λ fault. absurd (cc fault);
+}
 
 pub returns-in-Err-Memory-feed-clause-leaves : goal.returns-in-Err-Memory-feed-clause-leaves
 returns-in-Err-Memory-feed-clause-leaves g c =
