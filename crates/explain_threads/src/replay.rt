@@ -2,12 +2,12 @@
 use crate::output::is_history;
 use event_gate::TextFilter;
 use otel_base::memory::Memory;
+use script_lines::first_line;
 use std::alloc::Global;
 use std::sync::atomic::{AtomicU64, Ordering};
 use std::thread::yield_now;
 use thread_lines::read_script;
 use thread_work::{ThreadScript, WorkerCall, WorkerOp};
-use trace_records::lines::first_line;
 use turnstile::Turnstile;
 
 // How often a worker looks at most whether its turn has come.

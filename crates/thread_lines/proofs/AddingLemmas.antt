@@ -1,10 +1,10 @@
 -- What one line more does, where the lines behind it are still to come.
-use Rattle.std.proofs.Common.{◌≡◌, ℕ, ◌+◌, List, [], ◌∷◌, length, Bool, true, false, Ok, Err, refl, sym, ap, subst, ◌∙◌, arith}
+use Rattle.std.proofs.Common.{◌≡◌, ℕ, ◌+◌, List, [], ◌∷◌, Bool, true, false, Ok, Err, refl, sym, ap, subst, ◌∙◌}
 use Rattle.std.specs.Prelude.{Result, if◌then◌else◌, IfOk, IfErr}
 use Rattle.trace_pipeline.specs.declared.told.Told.{Told}
-use Rattle.trace_pipeline.specs.Lines.{is_blank, lines_of}
-use Rattle.trace_records.specs.declared.finished.RefusedLine.{RefusedLine}
-use Rattle.trace_records.specs.Lines.{IsTold}
+use Rattle.trace_pipeline.specs.Lines.{is_blank}
+use Rattle.script_lines.specs.declared.refused_line.RefusedLine.{RefusedLine}
+use Rattle.script_lines.specs.Refusals.{IsTold}
 use Rattle.thread_work.specs.declared.script.ThreadScript.{ThreadScript}
 use Rattle.thread_lines.specs.declared.stop.Stop.{Stop}
 use Rattle.thread_lines.specs.declared.stop.Stop.TheVariants as stop
@@ -65,10 +65,6 @@ module _ (n m : ℕ) (lines : List (List ℕ)) (line : List ℕ) (behind : List 
       ∙ sym (ap (λ (r : Result ThreadScript Told). at_line (n + 1) r (λ s. lines_added s (n + 1) behind)) refused) ∙ cut_from false is
 
 -- ---- at the end
-
-pub none_left : (rest : List ℕ) → length rest ≡ 0 → lines_of rest ≡ []
-none_left [] none = refl
-none_left (b ∷ bs) none = absurd (omega (arith, none))
 
 pub told_where : {E : Type 0} (lines : List (List ℕ)) (r : Result (Result ThreadScript RefusedLine) E) → IfOk r (λ x. x ≡ script_of lines) → IfOk r (λ x. IfErr x (λ w. IsTold w.told))
 told_where lines (Ok (Ok s)) is = tt

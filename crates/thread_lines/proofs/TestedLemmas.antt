@@ -47,14 +47,6 @@ pub one_refused : (s : ThreadScript) (before : ℕ) (entered : List ℕ) (front 
 one_refused s before entered front o os w refused =
     ap (λ (r : Result WorkerOp Told). in_front front (r >>= (λ x. ops_tested s x.at (entered_after entered x.span (move_of_call x.what)) os >>= (λ ops. Ok (x ∷ ops))))) (sym refused)
 
--- ---- what is written back
-
-pub put_back : {A : Type 0} (n : ℕ) (xs ys : List A) → n ≡ length xs → take n (xs ++ ys) ≡ xs
-put_back zero [] ys e = refl
-put_back zero (x ∷ xs) ys e = absurd (omega (arith, e))
-put_back (suc n) [] ys e = absurd (omega (arith, e))
-put_back {A = A} (suc n) (x ∷ xs) ys e = ap (λ (l : List A). x ∷ l) (put_back n xs ys (omega (arith, e)))
-
 -- ---- at the end
 
 pub all_passed : (s : ThreadScript) (before : ℕ) (entered : List ℕ) (front : List WorkerOp) (u : ⊤) → required (told.Step refusal.InUse) (list_all (λ n. n == 0) entered) ≡ Ok u

@@ -24,8 +24,8 @@ use Rattle.thread_lines.specs.declared.line.ThreadLine.TheVariants as line
 use Rattle.thread_lines.specs.declared.line.ThreadOp.{ThreadOp}
 use Rattle.thread_lines.specs.declared.line.ThreadCall.{ThreadCall}
 use Rattle.thread_lines.specs.declared.line.ThreadCall.TheVariants as said
-use Rattle.trace_records.specs.declared.finished.RefusedLine.{RefusedLine}
-use Rattle.trace_records.specs.Lines.{IsTold}
+use Rattle.script_lines.specs.declared.refused_line.RefusedLine.{RefusedLine}
+use Rattle.script_lines.specs.Refusals.{IsTold}
 use Rattle.thread_lines.specs.Steps.{◌>>=◌, required, unknown, named, in_time, has_lane, directives, begun, opened, script_opened, last_made, has_room, shared_added, move_of_call, entered_on, entered_after, is_shared, is_entered, call_tested, op_tested, ops_tested, worker_added, line_added, text_added, at_line, lines_added, script_from, script_of}
 use Rattle.thread_lines.specs.ThreadForm.{thread_form}
 

@@ -5,7 +5,7 @@ use Rattle.serde_json.specs.Find.{as_array, as_str}
 use Rattle.otel_base.specs.declared.context.SpanContext.{SpanContext}
 use Rattle.otel_state.specs.declared.op.Op.{Op}
 use Rattle.otel_state.specs.declared.op.Op.TheVariants as op
-use Rattle.span_script.specs.Effects.{happens_at}
+use Rattle.span_script.specs.calls.Links.{happens_at}
 use Rattle.thread_lines.specs.declared.read.op.OpWord.{OpWord}
 use Rattle.thread_lines.specs.declared.read.op.OpWord.TheVariants as word
 use Rattle.thread_lines.specs.declared.line.ThreadCall.{ThreadCall}

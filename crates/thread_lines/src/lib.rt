@@ -12,4 +12,4 @@ pub mod script;
 mod stop;
 mod worker_ops;
 
-pub use script::{are_blank, read_script};
+pub use script::read_script;

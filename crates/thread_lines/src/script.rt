@@ -1,34 +1,17 @@
 //! The script that lines come to.
 ghost use Rattle.std.specs.Prelude.{◌≡◌, ◌+◌, IfErr, IfOk};
 ghost use Rattle.trace_pipeline.specs.Lines.{lines_of};
-ghost use Rattle.trace_records.specs.Following.{are_blank};
-ghost use Rattle.trace_records.specs.Lines.{IsTold};
+ghost use Rattle.script_lines.specs.Refusals.{IsTold};
 ghost use Rattle.thread_lines.specs.Runnable.{IsRunnable};
 ghost use Rattle.thread_lines.specs.Steps.{script_of, script_from, lines_added};
 
 use crate::added::{add_text, open_script};
 use crate::stop::Stop;
 use otel_base::memory::Memory;
+use script_lines::{RefusedLine, first_line, is_blank};
 use std::alloc::Global;
 use thread_work::ThreadScript;
 use trace_pipeline::Told;
-use trace_records::RefusedLine;
-use trace_records::lines::{first_line, is_blank};
-
-/// Whether no settings line is among the lines of some bytes, since all are blank.
-pub fn are_blank(bytes: &[u8]) -> bool
-    ensures { result ≡ are_blank (lines_of bytes.now) }
-{
-    let mut rest = bytes;
-    while !rest.is_empty() {
-        let (line, after) = first_line(rest);
-        if !is_blank(line) {
-            return false;
-        }
-        rest = after;
-    }
-    true
-}
 
 // A line's number, so many lines having come before. No input has so many that the sum wraps.
 fn next_number(number: u64) -> Result<u64, Memory>

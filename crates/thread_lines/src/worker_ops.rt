@@ -145,6 +145,47 @@ fn are_closed(entered: &[u64]) -> bool
     entered.iter().all(|entries| *entries == 0)
 }
 
+// Tests a call that comes after a moment, and counts what it opens or closes.
+fn test_counted(
+    alloc: Global,
+    script: &ThreadScript,
+    before: Moment,
+    entered: &mut [u64],
+    op: ThreadOp,
+) -> Result<WorkerOp, Stop>
+    requires { length entered.old ≡ length script.now.shared }
+    ensures tested { Answers (λ o. o) result (op_tested script.now before entered.old op) }
+    ensures len { length entered.new ≡ length entered.old }
+    ensures counted { IfOk result (λ o. entered.new ≡ entered_after entered.old o.span (move_of_call o.what)) }
+{
+    let op = test_op(alloc, script, before, entered, op)?;
+    count_entry(entered, &op)?;
+    Ok(op)
+}
+
+// Tests calls that come after a moment, where so many entries are open. One that is left open is refused at the end.
+fn test_each(
+    alloc: Global,
+    script: &ThreadScript,
+    made: Moment,
+    entered: &mut [u64],
+    ops: Items<ThreadOp>,
+) -> Result<Items<WorkerOp>, Stop>
+    requires { length entered.old ≡ length script.now.shared }
+    ensures { Answers (λ l. l) result (ops_tested script.now made entered.old ops) }
+{
+    let mut before = made;
+    let mut tested = Items::new(alloc);
+    for op in ops.into_vec() {
+        let op = test_counted(alloc, script, before, entered, op)?;
+        before = op.at;
+        tested.push(op)?;
+    }
+    let refusal = Refusal::InUse;
+    require(Told::Step { refusal }, are_closed(entered))?;
+    Ok(tested)
+}
+
 /// Tests the calls of a worker, which come after a moment. An entry that is left open is refused at the end.
 pub(crate) fn test_ops(
     alloc: Global,
@@ -154,16 +195,6 @@ pub(crate) fn test_ops(
 ) -> Result<Items<WorkerOp>, Stop>
     ensures { Answers (λ l. l) result (ops_tested script.now made (replicate (length script.now.shared) 0) ops) }
 {
-    let mut before = made;
     let mut entered = vec![in alloc; 0u64; script.shared.as_slice().len()]?;
-    let mut tested = Items::new(alloc);
-    for op in ops.into_vec() {
-        let op = test_op(alloc, script, before, entered.as_slice(), op)?;
-        before = op.at;
-        count_entry(entered.as_mut_slice(), &op)?;
-        tested.push(op)?;
-    }
-    let refusal = Refusal::InUse;
-    require(Told::Step { refusal }, are_closed(entered.as_slice()))?;
-    Ok(tested)
+    test_each(alloc, script, made, entered.as_mut_slice(), ops)
 }

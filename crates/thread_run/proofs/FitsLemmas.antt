@@ -45,6 +45,7 @@ all_fit script hs es some made len ended =
               does = e.does;
               content = e.content;
             };
+            origin = e.origin;
             seen = e.seen;
           },
     )

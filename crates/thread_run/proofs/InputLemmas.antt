@@ -2,10 +2,8 @@
 use Rattle.std.proofs.Common.{◌≡◌, ℕ, List, [], ◌++◌, Bool, true, false, refl, sym, ap, subst, ◌∙◌, inl, inr}
 use Rattle.std.specs.Prelude.{Result, Ok, Err, is_ok, not, IfOk, IfErr}
 use Rattle.trace_pipeline.specs.text.Texts.{refusal_text}
-use Rattle.trace_records.specs.declared.finished.RefusedLine.{RefusedLine}
-use Rattle.trace_records.specs.Following.{are_blank}
-use Rattle.trace_records.specs.Inputs.{Refuses, NoneRefused}
-use Rattle.trace_records.specs.Lines.{IsTold}
+use Rattle.script_lines.specs.declared.refused_line.RefusedLine.{RefusedLine}
+use Rattle.script_lines.specs.Refusals.{IsTold, are_blank, Refuses, NoneRefused}
 use Rattle.thread_work.specs.declared.gather.Ended.{Ended}
 use Rattle.thread_work.specs.declared.script.ThreadScript.{ThreadScript}
 use Rattle.thread_lines.specs.Runnable.{IsRunnable}

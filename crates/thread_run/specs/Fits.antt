@@ -19,9 +19,10 @@ pub record Fits (script : ThreadScript) (place : ℕ) (log : List Entry) (finish
   pub does : DoesAll making.made (length script.workers) (parts_on (plan_of script) place making.made script.workers) log
   pub content : finished ≡ content_of making log
 
--- the pass that comes with it has seen just that history
+-- the pass that comes with it is of a span that was made so, and has seen just that history
 pub record FitsEnded (script : ThreadScript) (place : ℕ) (e : Ended) : Type 0 where
   pub fits : Fits script place e.history e.finished
+  pub origin : e.pass.view.origin ≡ fits.making
   pub seen : entries e.pass.view.seen ≡ e.history
 
 -- one for each shared span, in order

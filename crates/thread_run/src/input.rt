@@ -1,18 +1,18 @@
 //! What is written for a whole input.
 ghost use Rattle.std.specs.Prelude.{◌≡◌, not, None, IfSome, IfOk};
 ghost use Rattle.trace_pipeline.specs.Lines.{lines_of};
-ghost use Rattle.trace_records.specs.Inputs.{Refuses, NoneRefused};
+ghost use Rattle.script_lines.specs.Refusals.{Refuses, NoneRefused};
 ghost use Rattle.thread_run.specs.Inputs.{TellsEnded, TellsThreads, accepts_threads};
 
 use crate::run::run_script;
 use crate::text::ended_text;
 use otel_base::memory::Memory;
+use script_lines::{Answer, are_blank, refused_answer};
 use std::alloc::Global;
 use std::sync::Wait;
 use std::thread::Threads;
-use thread_lines::{are_blank, read_script};
+use thread_lines::read_script;
 use thread_work::Ended;
-use trace_records::{Answer, refused_answer};
 use turnstile::Turnstile;
 
 /// What comes of an input.

@@ -282,6 +282,7 @@ module _ (of_span : TableId) (making : Making) (count : ℕ) (parts : ℕ → Li
       let last : ClosedAs making (entries r.pass.view.seen) (Some (e.history, e.finished)) = subst (ClosedAs making (entries r.pass.view.seen)) c closed_whole in
       record {
         span = ap (λ (s : Seen). s.span) p ∙ g.span;
+        origin = ap (λ (s : Seen). s.view.origin) p ∙ g.origin;
         seen = ap (λ (s : Seen). entries s.view.seen) p ∙ sym last.0;
         content = last.1 ∙ ap (content_of making) (sym last.0);
         does = subst (DoesAll making.made count parts) (sym last.0) does_all;

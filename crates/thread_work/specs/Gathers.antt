@@ -41,6 +41,7 @@ pub record Gathered (of_span : TableId) (making : Making) (count n : ℕ) (parts
 -- which has seen just that history.
 pub record IsEnded (of_span : TableId) (making : Making) (count : ℕ) (parts : ℕ → List Ask) (e : Ended) : Type 0 where
   pub span : e.pass.span ≡ of_span
+  pub origin : e.pass.view.origin ≡ making
   pub seen : entries e.pass.view.seen ≡ e.history
   pub content : e.finished ≡ content_of making e.history
   pub does : DoesAll making.made count parts e.history
