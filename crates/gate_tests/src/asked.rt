@@ -18,35 +18,26 @@ pub struct Question {
 }
 
 // With levels of the text of this number.
-pub fn make_question(alloc: Global, number: u64) -> Result<Question, Memory> {
-    let levels = info(alloc, number)?;
+pub fn make_question(alloc: Global, reload: u64) -> Result<Question, Memory> {
+    let mut list = Items::new(alloc);
+    list.push(LevelFilter::INFO)?;
     Ok(Question {
-        event: event(alloc)?,
-        levels,
+        event: event(alloc),
+        levels: Levels { reload, list },
     })
 }
 
-fn info(alloc: Global, reload: u64) -> Result<Levels, Memory> {
-    let mut list = Items::new(alloc);
-    list.push(LevelFilter::INFO)?;
-    Ok(Levels { reload, list })
-}
-
-fn event(alloc: Global) -> Result<Callsite, Memory> {
-    Ok(Callsite {
-        name: text(alloc, "e")?,
-        target: text(alloc, "app")?,
+fn event(alloc: Global) -> Callsite {
+    Callsite {
+        name: Text::from(String::new(alloc)),
+        target: Text::from(String::new(alloc)),
         level: Level::INFO,
         kind: Kind::Event,
         file: None,
         module_path: None,
         line: None,
         fields: Items::new(alloc),
-    })
-}
-
-fn text(alloc: Global, text: &str) -> Result<Text, Memory> {
-    Ok(Text::from(String::from_str(alloc, text)?))
+    }
 }
 
 pub fn answer(yes: bool, reload: u64) -> Admission {

@@ -24,11 +24,7 @@ fn is_through(number: u64) -> bool {
 }
 
 fn text_of(number: u64) -> &'static str {
-    if is_through(number) {
-        "off,app=info"
-    } else {
-        "off"
-    }
+    if is_through(number) { "info" } else { "off" }
 }
 
 // Puts the texts of some numbers in force, and tells whether each got its number.

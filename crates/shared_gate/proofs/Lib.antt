@@ -1,6 +1,3 @@
-pub mod Texts
-pub mod Steps
-pub mod Written
 pub mod Openings
 pub mod PatternCrossing
 pub mod FilterCrossing

@@ -1,46 +1,35 @@
 //! Gates that are asked while their writer puts other texts in force.
-ghost use Rattle.std.specs.Prelude.{◌≡◌, ◌+◌, ◌<◌, ◌≤◌, [], ◌∷◌, length, vec_len, vec_capacity, All, IsOk, IfOk};
+ghost use Rattle.std.specs.Prelude.{◌≡◌, ℕ, List, ◌+◌, ◌<◌, ◌≤◌, [], ◌∷◌, length, vec_len, vec_capacity, All, IsOk, IfOk};
 ghost use mathlib.Core.List.{IsPrefix};
-ghost use Rattle.std.specs.Arc.{arc_value};
-ghost use Rattle.event_gate.specs.Rules.{IsRefused, levels_under};
+ghost use Rattle.atomic_table.specs.Seated.{TableId};
+ghost use Rattle.shared_value.specs.Knowing.{IsNew};
+ghost use Rattle.event_gate.specs.Rules.{IsRefused};
 ghost use Rattle.shared_gate.specs.Order.{opening_of};
 ghost use Rattle.shared_gate.specs.Gates.{Answers, IsOpening};
 ghost use Rattle.shared_gate.specs.declared.writer.TheConstants.{MOST_GATES};
 
-use crate::in_force::{InForce, copies_of, numbered};
 use crate::note::GateNote;
-use crate::reader::{Home, TextReader, TextWriter, find, opened};
-use crate::writer::{GateWriter, writer_of};
-use event_gate::{Admission, EventGate, GateError, Levels};
+use crate::writer::GateWriter;
+use event_gate::{Admission, EventGate, GateError, Levels, TextFilter};
 use otel_base::memory::Memory;
+use shared_value::{ValueReader, share};
 use std::alloc::Global;
 use std::marker::Model;
-use std::snapshot::Snapshot;
-use std::sync::Arc;
 use trace_base::callsite::Callsite;
-use trace_base::level::LevelFilter;
 
 /// Says whether callsites are let through, by the text that was put in force last as far as it has seen. It takes no lock.
 #[derive(Drop)]
 pub struct SharedGate {
-    // Whose it is.
-    home: Snapshot<Home>,
-    // None if it knows the opening text alone.
-    reader: Option<TextReader>,
-    // What it answers by.
-    tables: Arc<InForce, Global>,
+    // It has the filter that the gate answers by.
+    reader: ValueReader<TextFilter>,
 }
 
 impl Model for SharedGate {
-    ghost use Rattle.std.specs.Prelude.{option_map};
-    ghost use Rattle.std.specs.Arc.{arc_value};
-    ghost use Rattle.shared_gate.specs.Gates.{Gated, IsGate, known_texts};
+    ghost use Rattle.shared_gate.specs.Gates.{Gated};
 
     ghost Value = { Gated };
 
-    ghost view = { λ g. record { table = (arc_value g.home.value.board).shared.table_id; texts = known_texts (option_map (λ r. r.place.me.0.client.seen) g.reader) (arc_value g.tables).text; number = (arc_value g.tables).number } };
-
-    ghost invariant = { λ g. IsGate (option_map (λ r. r.place.me.0.client.seen) g.reader) (arc_value g.tables) };
+    ghost view = { λ g. record { table = g.reader.table; texts = g.reader.values; number = g.reader.number } };
 }
 
 impl SharedGate {
@@ -57,30 +46,17 @@ impl SharedGate {
         ensures gates { IfOk result (λ r. All (IsOpening r.0.table text.now) r.1.items) }
         ensures refused { IsRefused text.now result }
     {
-        let opening = numbered(alloc, text, 0)?;
-        let Ok(copies) = copies_of(alloc, &opening, readers) else {
-            return Err(GateError::Memory);
-        };
-        let Ok(gates) = Vec::with_capacity(alloc, readers as usize) else {
-            return Err(GateError::Memory);
-        };
-        let writer = match writer_of(alloc, &opening, readers) {
-            Ok(writer) => writer,
-            Err(_) => return Err(GateError::Memory),
-        };
-        // From here on nothing can be refused: without leave to wait the writer can't be ended.
-        let gates = gates_of(&writer, &opening, copies, gates, readers);
-        let home = Snapshot::of(writer.factory());
-        let writer = GateWriter {
-            alloc,
-            home,
-            writer,
-        };
-        Ok((writer, gates))
+        let filter = TextFilter::read(alloc, text)?;
+        // Once there is a writer nothing can be refused: without leave to wait it can't be ended.
+        let room = Vec::with_capacity(alloc, readers as usize)?;
+        let (writer, made) = share(alloc, filter, readers)?;
+        let writer = GateWriter { alloc, writer };
+        Ok((writer, gates_of(made, room, readers)))
     }
 
     /// Whether a callsite is let through, by the text of the number that is told, with the levels where they have that
     /// number too. It takes no memory, and waits for nobody.
+    #[tactic(auto, using(crate::proofs::Openings::opening_same))]
     pub fn enabled(&mut self, c: &Callsite, levels: &Levels) -> Admission
         ensures table { self.new.table ≡ self.old.table }
         ensures begins { IsPrefix self.old.texts self.new.texts }
@@ -88,29 +64,13 @@ impl SharedGate {
         ensures later { (self.old.number ≤ result.reload) × (self.new.number ≡ result.reload) }
         ensures answers { Answers self.new.texts result c.now levels.now }
     {
-        self.look();
-        let tables = &*self.tables;
-        let list = levels_under(levels, tables.number);
+        self.reader.look();
+        let list = self
+            .reader
+            .list_under(levels.reload, levels.list.as_slice());
         Admission {
-            yes: tables.text.admits(c, list),
-            reload: tables.number,
-        }
-    }
-
-    // Takes over what is in force, where it is later than what it has.
-    #[tactic(auto, using(crate::proofs::Openings::opening_same))]
-    fn look(&mut self)
-        ensures table { self.new.table ≡ self.old.table }
-        ensures begins { IsPrefix self.old.texts self.new.texts }
-        ensures opening { opening_of self.new.texts ≡ opening_of self.old.texts }
-        ensures later { self.old.number ≤ self.new.number }
-    {
-        if let Some(reader) = self.reader.take() {
-            let (reader, later) = find(reader, self.tables.number);
-            self.reader = Some(reader);
-            if let Some(later) = later {
-                self.tables = later;
-            }
+            yes: self.reader.value().admits(c, list),
+            reload: self.reader.number(),
         }
     }
 
@@ -125,15 +85,7 @@ impl SharedGate {
         ensures begins { self.old.number < length note.texts → self.new.texts ≡ note.texts }
         ensures stays { length note.texts ≤ self.old.number → self.new ≡ self.old }
     {
-        let GateNote {
-            home: _,
-            reader: informed,
-            tables,
-        } = note;
-        if self.tables.number <= tables.number {
-            self.reader = Some(informed);
-            self.tables = tables;
-        }
+        self.reader.learn(note.note);
         Ok(())
     }
 }
@@ -148,50 +100,25 @@ impl EventGate for SharedGate {
     }
 }
 
-// The levels that count under a number.
-fn levels_under(levels: &Levels, number: u64) -> &[LevelFilter]
-    ensures { result.now ≡ levels_under number levels.now }
-{
-    if levels.reload == number {
-        levels.list.as_slice()
-    } else {
-        &[]
-    }
-}
-
-// Gates that know the opening text.
+// A gate of each reader.
 fn gates_of(
-    writer: &TextWriter,
-    opening: &InForce,
-    copies: Vec<Arc<InForce, Global>>,
-    gates: Vec<SharedGate>,
-    readers: u64,
+    readers: Vec<ValueReader<TextFilter>>,
+    room: Vec<SharedGate>,
+    count: u64,
 ) -> Vec<SharedGate>
-    requires number { opening.now.number ≡ 0 }
-    requires copies { All (λ t. arc_value t ≡ opening.now) copies.items }
-    requires count { vec_len copies ≡ readers }
-    requires none { (gates.items ≡ []) × (vec_capacity gates ≡ readers) }
-    ensures count { vec_len result ≡ readers }
-    ensures gates { All (IsOpening writer.now.desk.place.table_id opening.now.text) result.items }
+    requires count { vec_len readers ≡ count }
+    requires none { (room.items ≡ []) × (vec_capacity room ≡ count) }
+    ensures count { vec_len result ≡ count }
+    ensures gates { (table : TableId) (text : List ℕ) → All (IsNew table text) readers.items
+        → All (IsOpening table text) result.items }
 {
-    let mut copies = copies;
-    let mut gates = gates;
-    for _ in 0..readers {
-        let Some(tables) = copies.pop() else {
+    let mut readers = readers;
+    let mut gates = room;
+    for _ in 0..count {
+        let Some(reader) = readers.pop() else {
             unreachable!()
         };
-        gates.push_reserved(gate_of(writer, tables));
+        gates.push_reserved(SharedGate { reader });
     }
     gates
-}
-
-fn gate_of(writer: &TextWriter, opening: Arc<InForce, Global>) -> SharedGate
-    requires { (arc_value opening).number ≡ 0 }
-    ensures { IsOpening writer.now.desk.place.table_id (arc_value opening).text result }
-{
-    SharedGate {
-        home: Snapshot::of(writer.factory()),
-        reader: opened(writer, &opening),
-        tables: opening,
-    }
 }

@@ -4,11 +4,8 @@
 #![tactic(auto)]
 
 pub mod gate;
-mod in_force;
 pub mod laws;
 pub mod note;
-mod order;
-mod reader;
 pub mod writer;
 
 pub use event_gate::{Admission, EventGate, GateError, Levels};

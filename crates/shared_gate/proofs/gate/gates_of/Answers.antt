@@ -1,8 +1,7 @@
--- A gate more, of the last copy.
+-- A gate more, of the last reader.
 use Rattle.std.proofs.Common.{◌≡◌, ◌∙◌, All, IfSome, sym, subst, arith}
 use Rattle.std.proofs.lemmas.List.Elements.{All-pop, All-push}
-use Rattle.std.specs.Arc.{arc_value}
-use Rattle.shared_gate.specs.declared.in_force.InForce.{InForce}
+use Rattle.shared_value.specs.Knowing.{IsNew}
 use Rattle.shared_gate.specs.Gates.{IsOpening}
 use Rattle.shared_gate.proofs.gate.gates_of.Goals as goal
 
@@ -13,14 +12,13 @@ loop-preserved c =
     let count = i.count in
     let fewer = c.in-Some.ensures.len in
     let more = c.push_reserved.ensures.len in
-    let table = c.args.writer.now.desk.place.table_id in
-    let copies = All-pop (λ t. arc_value t ≡ c.args.opening.now) c.loop.copies.items c.pop.new.self.items c.pop.result c.pop.ensures.items i.copies in
-    let taken : arc_value c.in-Some.tables ≡ c.args.opening.now = subst (λ r. IfSome r (λ t. arc_value t ≡ c.args.opening.now)) c.in-Some.is copies.1 in
-    let gate = subst (λ (t : InForce). IsOpening table t.text c.gate_of.result) taken c.gate_of.ensures in
     record {
       left = omega (arith, fewer, left);
-      copies = copies.0;
       count = omega (arith, more, count);
       room = c.push_reserved.ensures.capacity ∙ i.room;
-      gates = subst (All (IsOpening table c.args.opening.now.text)) (sym c.push_reserved.ensures.items) (All-push (IsOpening table c.args.opening.now.text) c.loop.gates.items c.gate_of.result i.gates gate);
+      gates = λ table text all.
+          let both = i.gates table text all in
+          let popped = All-pop (IsNew table text) c.loop.readers.items c.pop.new.self.items c.pop.result c.pop.ensures.items both.0 in
+          let taken : IsNew table text c.in-Some.reader = subst (λ r. IfSome r (IsNew table text)) c.in-Some.is popped.1 in
+          (popped.0, subst (All (IsOpening table text)) (sym c.push_reserved.ensures.items) (All-push (IsOpening table text) c.loop.gates.items _ both.1 taken));
     }

@@ -1,0 +1,25 @@
+-- A reader more, of the last copy.
+use Rattle.std.proofs.Common.{◌∙◌, arith}
+use Rattle.std.proofs.lemmas.List.Elements.{All-pop}
+use Rattle.std.specs.Arc.{arc_value}
+use Rattle.shared_value.specs.Knowing.{IsNew, IsFirst}
+use Rattle.shared_value.proofs.Lists.{all_pushed}
+use Rattle.shared_value.proofs.making.readers_of.Goals as goal
+
+pub loop-preserved : goal.loop-preserved
+loop-preserved g c =
+    let i = c.loop.invariant in
+    let left = i.left in
+    let count = i.count in
+    let fewer = c.in-Some.ensures.len in
+    let more = c.push_reserved.ensures.len in
+    let table = (arc_value c.args.origin.now.home.value.board).shared.table_id in
+    let first = c.args.origin.now.first.value in
+    let copies = All-pop (λ t. IsFirst first (arc_value t)) c.loop.copies.items c.pop.new.self.items c.pop.result c.pop.ensures.items i.copies in
+    record {
+      left = omega (arith, fewer, left);
+      copies = copies.0;
+      count = omega (arith, more, count);
+      room = c.push_reserved.ensures.capacity ∙ i.room;
+      readers = all_pushed (IsNew table first) _ _ _ c.push_reserved.ensures.items i.readers c.reader_of.ensures;
+    }

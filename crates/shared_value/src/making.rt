@@ -1,0 +1,131 @@
+//! The making of a writer and its readers.
+ghost use Rattle.std.specs.Prelude.{◌≡◌, ◌<◌, ◌≤◌, ◌+◌, [], ◌∷◌, All, IfOk, vec_len, vec_capacity};
+ghost use Rattle.std.specs.Arc.{arc_value};
+ghost use Rattle.left_right.specs.Sides.{view};
+ghost use Rattle.shared_value.specs.Order.{in_place};
+ghost use Rattle.shared_value.specs.Knowing.{IsNew, IsFirst};
+ghost use Rattle.shared_value.specs.declared.making.TheConstants.{MOST_READERS};
+
+use crate::numbered::{Numbered, Shown};
+use crate::order::OrderedWriter;
+use crate::reader::{Origin, ValueReader};
+use crate::writer::{NOTES, ValueWriter};
+use left_right::writer::Writer;
+use std::alloc::{AllocError, Global};
+use std::snapshot::Snapshot;
+use std::sync::Arc;
+
+/// How many readers a writer may have.
+pub const MOST_READERS: u64 = 64;
+
+/// Puts a first value in place, which has number 0, and makes its writer and so many readers.
+#[tactic(auto, using(crate::proofs::Firsts::all_first))]
+pub fn share<T: Drop>(
+    alloc: Global,
+    first: T,
+    readers: u64,
+) -> Result<(ValueWriter<T>, Vec<ValueReader<T>>), AllocError>
+    requires { (0 < readers) × (readers ≤ MOST_READERS) }
+    ensures first { IfOk result (λ r. r.0.values ≡ first ∷ []) }
+    ensures count { IfOk result (λ r. vec_len r.1 ≡ readers) }
+    ensures readers { IfOk result (λ r. All (IsNew r.0.table first) r.1.items) }
+{
+    let last = Arc::new(
+        alloc,
+        Numbered {
+            number: 0,
+            value: first,
+        },
+    )?;
+    let copies = copies_of(alloc, &last, readers)?;
+    let room = Vec::with_capacity(alloc, readers as usize)?;
+    let writer = writer_of(alloc, &last, readers)?;
+    // From here on nothing can be refused: without leave to wait the writer can't be ended.
+    let origin = Origin {
+        home: Snapshot::of(writer.factory()),
+        first: Snapshot::of(&last.value),
+    };
+    let made = readers_of(&writer, &origin, copies, room, readers);
+    let writer = ValueWriter {
+        alloc,
+        origin,
+        writer,
+    };
+    Ok((writer, made))
+}
+
+// So many times the same.
+fn copies_of<T: Drop>(
+    alloc: Global,
+    last: &Arc<Numbered<T>, Global>,
+    readers: u64,
+) -> Result<Vec<Arc<Numbered<T>, Global>>, AllocError>
+    ensures count { IfOk result (λ c. vec_len c ≡ readers) }
+    ensures copies { IfOk result (λ c. All (λ t. arc_value t ≡ arc_value last.now) c.items) }
+{
+    let mut copies = Vec::with_capacity(alloc, readers as usize)?;
+    for _ in 0..readers {
+        copies.push_reserved(Arc::try_clone(last)?);
+    }
+    Ok(copies)
+}
+
+// A writer that has the first value in place, for so many readers.
+fn writer_of<T: Drop>(
+    alloc: Global,
+    last: &Arc<Numbered<T>, Global>,
+    readers: u64,
+) -> Result<OrderedWriter<T>, AllocError>
+    requires number { (arc_value last.now).number ≡ 0 }
+    requires readers { (0 < readers) × (readers ≤ MOST_READERS) }
+    ensures { IfOk result (λ w. (in_place w.desk.shown.value ≡ arc_value last.now)
+        × ((view w.desk.place).seen ≡ [])) }
+{
+    let first = Shown {
+        last: Arc::try_clone(last)?,
+    };
+    let second = Shown {
+        last: Arc::try_clone(last)?,
+    };
+    Writer::new(alloc, first, second, (readers + NOTES) as usize)
+}
+
+// Readers that know the first value.
+fn readers_of<T: Drop>(
+    writer: &OrderedWriter<T>,
+    origin: &Origin<T>,
+    copies: Vec<Arc<Numbered<T>, Global>>,
+    room: Vec<ValueReader<T>>,
+    readers: u64,
+) -> Vec<ValueReader<T>>
+    requires copies { All (λ t. IsFirst origin.now.first.value (arc_value t)) copies.items }
+    requires count { vec_len copies ≡ readers }
+    requires none { (room.items ≡ []) × (vec_capacity room ≡ readers) }
+    ensures count { vec_len result ≡ readers }
+    ensures readers { All (IsNew (arc_value origin.now.home.value.board).shared.table_id origin.now.first.value) result.items }
+{
+    let mut copies = copies;
+    let mut made = room;
+    for _ in 0..readers {
+        let Some(last) = copies.pop() else {
+            unreachable!()
+        };
+        made.push_reserved(reader_of(writer, origin, last));
+    }
+    made
+}
+
+fn reader_of<T: Drop>(
+    writer: &OrderedWriter<T>,
+    origin: &Origin<T>,
+    last: Arc<Numbered<T>, Global>,
+) -> ValueReader<T>
+    requires { IsFirst origin.now.first.value (arc_value last) }
+    ensures { IsNew (arc_value origin.now.home.value.board).shared.table_id origin.now.first.value result }
+{
+    ValueReader {
+        origin: Snapshot::of(origin),
+        reader: writer.factory().reader().ok(),
+        last,
+    }
+}
