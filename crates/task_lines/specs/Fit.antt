@@ -1,5 +1,5 @@
 -- Whether a task fits its settings.
-use Rattle.std.specs.Prelude.{ℕ, List, [], ◌∷◌, Bool, true, false, ◌&&◌, if◌then◌else◌, not, Option, Some, None, is_some}
+use Rattle.std.specs.Prelude.{List, [], ◌∷◌, Bool, true, false, ◌&&◌, if◌then◌else◌, Option, Some, None, is_some}
 use Rattle.std.specs.List.{list_all}
 use Rattle.trace_base.specs.declared.callsite.Callsite.{Callsite}
 use Rattle.span_script.specs.declared.reply.What.{What}

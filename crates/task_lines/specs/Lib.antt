@@ -1,2 +1,3 @@
+pub mod Compact
 pub mod Fit
 pub mod TaskForm

@@ -4,6 +4,7 @@
 #![tactic(auto)]
 
 pub mod fit;
+mod quick;
 pub mod read;
 
 pub use fit::missing_name;

@@ -8,6 +8,7 @@ ghost use Rattle.trace_pipeline.specs.reading.Spelled.{spelled};
 ghost use Rattle.trace_pipeline.specs.declared.told.Told.TheVariants as told;
 ghost use Rattle.task_lines.specs.TaskForm.{step_word, word_form, event_form, record_form, set_attribute_form, step_form_of, step_form, step_of, task_form, task_spelled};
 
+use crate::quick::quick_task;
 use otel_base::list::Items;
 use std::alloc::Global;
 use trace_pipeline::{LineError, Object, Value, fields_of, given_fields, otel_value_of};
@@ -140,5 +141,8 @@ pub fn read_task(alloc: Global, line: &[u8]) -> Result<Task, LineError>
     ensures ok { IfOk result (λ task. task_spelled line.now ≡ Ok task) }
     ensures bad_line { IsErrOf result LineError.BadLine → task_spelled line.now ≡ Err told.BadLine }
 {
+    if let Some(task) = quick_task(alloc, line) {
+        return Ok(task);
+    }
     task_of(alloc, line)
 }

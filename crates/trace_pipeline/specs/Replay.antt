@@ -8,7 +8,9 @@ use Rattle.otel_base.specs.declared.value.OtelValue.TheVariants as otel
 use Rattle.span_script.specs.declared.request.Request.{Request}
 use Rattle.span_script.specs.Setups.{Setup}
 use Rattle.span_script.specs.Tables.{History, Effect, tables}
-use Rattle.span_script.specs.Effects.{Resolved, effect_of, open_spans}
+use Rattle.span_script.specs.calls.Here.{Resolved}
+use Rattle.span_script.specs.Effects.{effect_of}
+use Rattle.span_script.specs.calls.Spans.{open_spans}
 use Rattle.span_script.specs.Outcomes.{records}
 use Rattle.serde_json.specs.Data.{Data, object}
 use Rattle.trace_pipeline.specs.reading.Object.{by_name, whole_number, line_of}

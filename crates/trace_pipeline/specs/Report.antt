@@ -13,7 +13,9 @@ use Rattle.span_script.specs.declared.reply.Reply.{Reply}
 use Rattle.span_script.specs.Admission.{OpeningRead, opening_read}
 use Rattle.span_script.specs.Setups.{Setup, setup_by}
 use Rattle.span_script.specs.Tables.{History, Effect, Tables, tables, records_of}
-use Rattle.span_script.specs.Effects.{Resolved, effect_of, open_spans}
+use Rattle.span_script.specs.calls.Here.{Resolved}
+use Rattle.span_script.specs.Effects.{effect_of}
+use Rattle.span_script.specs.calls.Spans.{open_spans}
 use Rattle.trace_pipeline.specs.Lines.{lines_of, is_blank}
 use Rattle.trace_pipeline.specs.reading.Spelled.{settings_spelled, request_spelled}
 use Rattle.trace_pipeline.specs.text.Texts.{reply_text, record_text, measure_text, refusal_text, end_text, measures_end_text}

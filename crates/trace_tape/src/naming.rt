@@ -30,12 +30,13 @@ pub(crate) fn named(
 ) -> Result<Items<(Text, Value)>, Memory>
     ensures { IfOk result (λ fields. fields ≡ named callsite.now values.now) }
 {
-    let mut fields = Items::new(alloc);
-    for (place, value) in values.pairs.as_slice() {
+    let pairs = values.pairs.as_slice();
+    let mut fields = Vec::with_capacity(alloc, pairs.len())?;
+    for (place, value) in pairs {
         fields.push((
             name_at(alloc, callsite, *place)?,
             copied_value(alloc, value)?,
         ))?;
     }
-    Ok(fields)
+    Ok(Items::from(fields))
 }

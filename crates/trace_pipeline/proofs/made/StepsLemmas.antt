@@ -21,7 +21,12 @@ use Rattle.span_script.specs.declared.request.TheConstants.{LAST_MOMENT}
 use Rattle.span_script.specs.Fields.{values_of}
 use Rattle.span_script.specs.Setups.{id_at}
 use Rattle.span_script.specs.Tables.{Scope, EntryOf, Attached, is_by, Guarded, Effect, Tables, History, tables, after, slot_at, scope_of, with_attached, with_detached}
-use Rattle.span_script.specs.Effects.{Resolved, effect_of, effect_of_call, is_bad_moment, borrows, is_borrowed, admitted, makes, makes_span, declines, events, enters, exits, drops, attached_by, active, is_full}
+use Rattle.span_script.specs.calls.Here.{here_at, Resolved}
+use Rattle.span_script.specs.Effects.{effect_of, effect_of_call, is_bad_moment}
+use Rattle.span_script.specs.calls.Entries.{enter_effect, exit_effect, attached_by, active, is_full}
+use Rattle.span_script.specs.calls.Events.{event_effect}
+use Rattle.span_script.specs.calls.Filter.{admitted}
+use Rattle.span_script.specs.calls.Spans.{borrows, is_borrowed, new_effect, span_effect, disabled_effect, drop_effect}
 use Rattle.trace_pipeline.specs.Generated.{made_site, made_setup, root_fields, row_fields, round, rounds, made_requests}
 use Rattle.trace_pipeline.specs.Replay.{going_on, replayed}
 use Rattle.trace_pipeline.proofs.made.LinesLemmas.{asked, root_call, below_call, event_call}
@@ -106,7 +111,7 @@ spent_behind slots front back k is =
 made_kept : (enabled : Bool) (t : Tables) (before at lane place site : ℕ) (callsite : Callsite) (values : ValueSet) (under : Place) (up : Scope)
     (xs hs : List (Option Scope)) (ys gs : List (Option Guarded)) (items : List Attached) → Within xs ys lane hs gs items before t
     → (scope : Scope) × Within xs ys lane (hs ++ Some scope ∷ []) gs items at
-    (after t (if enabled then makes_span made_setup t at place site callsite values under up else declines t at (id_at made_setup.ids place)))
+    (after t (if enabled then span_effect (here_at made_setup t at place) site callsite values under up else disabled_effect (here_at made_setup t at place)))
 made_kept true t before at lane place site callsite values under up xs hs ys gs items w = (
   length t.made ∷ up,
   record {
@@ -139,7 +144,7 @@ root_step : (t : Tables) (before at lane place i : ℕ) (xs hs : List (Option Sc
     → Within xs ys lane hs gs items before t → OnTime t.moment at place
     → Steps t (asked at place (root_call i)) (λ u. (scope : Scope) × Within xs ys lane (hs ++ Some scope ∷ []) gs items at u)
 root_step t before at lane place i xs hs ys gs items w on = record {
-  effect = makes made_setup t at place 0 request_site (values_of request_site (root_fields i)) put.Root [];
+  effect = new_effect (here_at made_setup t at place) 0 request_site (values_of request_site (root_fields i)) put.Root [];
   is = resolved t at place (root_call i) on;
   now = made_kept (admitted made_setup t (id_at made_setup.ids place) request_site) t before at lane place 0 request_site (values_of request_site (root_fields i)) put.Root [] xs hs ys gs items w;
 }
@@ -150,7 +155,7 @@ below_step : (t : Tables) (before at lane place : ℕ) (xs hs : List (Option Sco
 below_step t before at lane place xs hs ys gs items w on =
     let up = scope_of t.made (current_of (t.entries (id_at made_setup.ids place))) in
     record {
-      effect = makes made_setup t at place 1 query_site (values_of query_site []) put.Contextual up;
+      effect = new_effect (here_at made_setup t at place) 1 query_site (values_of query_site []) put.Contextual up;
       is = resolved t at place below_call on;
       now = made_kept (admitted made_setup t (id_at made_setup.ids place) query_site) t before at lane place 1 query_site (values_of query_site []) put.Contextual up xs hs ys gs items w;
     }
@@ -162,7 +167,7 @@ event_step : (t : Tables) (before at lane place : ℕ) (xs hs : List (Option Sco
 event_step t before at lane place xs hs ys gs items w on =
     let id = id_at made_setup.ids place in
     record {
-      effect = events made_setup t at id row_site (values_of row_site row_fields) (scope_of t.made (current_of (t.entries id)));
+      effect = event_effect (here_at made_setup t at place) row_site (values_of row_site row_fields) (scope_of t.made (current_of (t.entries id)));
       is = resolved t at place event_call on;
       now = record { handles = w.handles; guards = w.guards; contexts = w.contexts; moment = omega arith };
     }
@@ -204,7 +209,7 @@ enter_step t before at place k scope xs hs ys gs items w on there few =
     let handle = length xs + k in
     let here : t.contexts lane ≡ items = w.contexts lane ∙ rw (same lane) refl in
     record {
-      effect = enters made_setup t at place handle false scope;
+      effect = enter_effect (here_at made_setup t at place) handle false scope;
       is = resolved t at place (call.Enter handle) on
           ∙ rw (slot_behind t.handles xs hs k scope w.handles there, here, not_full (is_some (active true scope)) items few) refl;
       now = (
@@ -252,7 +257,7 @@ exit_step : (t : Tables) (before at place k handle : ℕ) (scope : Scope) (xs hs
 exit_step t before at place k handle scope xs hs ys gs items rest new w on there all owned =
     let lane = id_at made_setup.ids place in
     record {
-      effect = exits made_setup at lane (length ys + k) scope;
+      effect = exit_effect (here_at made_setup t at place) (length ys + k) scope;
       is = resolved t at place (call.Exit (length ys + k)) on
           ∙ rw (slot_behind t.guards ys gs k (entry handle place scope) w.guards there, same place) refl;
       now = record {
@@ -273,7 +278,7 @@ drop_step t before at place k scope xs hs ys gs items w on there before_none non
     let handle = length xs + k in
     let free : is_borrowed t.guards handle ≡ false = ap (list_any (borrows handle)) w.guards ∙ list_any-append (borrows handle) ys gs ∙ rw (before_none, none) refl in
     record {
-      effect = drops t at (id_at made_setup.ids place) handle scope;
+      effect = drop_effect (here_at made_setup t at place) handle scope;
       is = resolved t at place (call.Drop handle) on ∙ rw (slot_behind t.handles xs hs k scope w.handles there, free) refl;
       now = record {
         handles = spent_behind t.handles xs hs k w.handles;

@@ -199,6 +199,9 @@ no_members_begin deep text rest is = (no_members, no_members, is, tt, omega arit
 pub leaf_is_value : (deep : ℕ) (text rest : List ℕ) (d : Data) → Begins 0 text d rest → (e : Data) × Begins deep text e rest
 leaf_is_value deep text rest d b = (d, leaf_begins deep text rest d b)
 
+pub text_is_value : (deep : ℕ) (text rest words : List ℕ) → text ≡ quoted words ++ rest → (d : Data) × Begins deep text d rest
+text_is_value deep text rest words is = leaf_is_value deep text rest (string words) (text_begins text rest words is)
+
 pub nested_is_value : (deep : ℕ) (text rest : List ℕ) → BeginsNested deep text rest → (d : Data) × Begins deep text d rest
 nested_is_value deep text rest b = (b.0, b.2)
 

@@ -30,7 +30,7 @@ const MOST_MEMBERS: u32 = 32;
 const MOST_ITEMS: u32 = 65_536;
 
 /// Whether bytes are known to be UTF-8.
-pub(crate) fn is_text(bytes: &[u8]) -> bool
+pub fn is_text(bytes: &[u8]) -> bool
     ensures { result ≡ true → IsUtf8 bytes.now }
 {
     bytes.is_ascii() || str::from_utf8(bytes).is_ok()
@@ -109,7 +109,7 @@ pub(crate) fn ends(rest: &[u8]) -> Option<()>
 }
 
 /// That a bracket stands there, and nothing behind it.
-pub(crate) fn closes(rest: &[u8], bracket: u8) -> Option<()>
+pub fn closes(rest: &[u8], bracket: u8) -> Option<()>
     ensures { IfSome result (λ _. rest.now ≡ bracket ∷ []) }
 {
     let end = behind(rest, bracket)?;

@@ -51,7 +51,7 @@ fn keep(fields: &mut Vec<(Text, FieldValue)>, field: (Text, FieldValue)) -> Opti
 }
 
 /// The fields that an array in front of a text spells, and what stands behind it.
-pub(crate) fn leading_fields<'a>(
+pub fn leading_fields<'a>(
     alloc: Global,
     bytes: &'a [u8],
 ) -> Option<(Items<(Text, FieldValue)>, &'a [u8])>

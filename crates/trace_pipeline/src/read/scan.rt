@@ -10,7 +10,7 @@ use crate::read::plain::Plain;
 use crate::write::escape::plain_run;
 
 /// How deep a value may nest.
-pub(crate) const DEEPEST: u32 = 16;
+pub const DEEPEST: u32 = 16;
 
 // The most items that are taken of an array, and members of an object.
 const MOST: u32 = 65_536;
@@ -30,7 +30,7 @@ pub(crate) fn behind(text: &[u8], byte: u8) -> Option<&[u8]>
 /// A whole number as it is written, and what stands behind it.
 #[inline(always)]
 #[tactic(auto, using(crate::proofs::texts::DigitsLemmas::begun, crate::proofs::texts::DigitsLemmas::more))]
-pub(crate) fn number(text: &[u8]) -> Option<(u64, &[u8])>
+pub fn number(text: &[u8]) -> Option<(u64, &[u8])>
     ensures text { IfSome result (λ r. text.now ≡ decimal r.0 ++ r.1.now) }
     ensures fits { IfSome result (λ r. r.0 < 2 ^ 64) }
 {
@@ -50,7 +50,7 @@ pub(crate) fn number(text: &[u8]) -> Option<(u64, &[u8])>
 /// A text with no escape, and what stands behind it.
 #[inline(always)]
 #[tactic(auto, using(crate::proofs::readings::CompactLemmas::quoted_text))]
-pub(crate) fn text(bytes: &[u8]) -> Option<(&[u8], &[u8])>
+pub fn text(bytes: &[u8]) -> Option<(&[u8], &[u8])>
     ensures { IfSome result (λ r. bytes.now ≡ quoted r.0.now ++ r.1.now) }
 {
     let body = behind(bytes, b'"')?;
@@ -113,7 +113,7 @@ fn flag_value(bytes: &[u8]) -> Option<(Plain<'_>, &[u8])>
 
 /// What stands behind a word.
 #[inline(always)]
-pub(crate) fn word<'a>(text: &'a [u8], word: &[u8]) -> Option<&'a [u8]>
+pub fn word<'a>(text: &'a [u8], word: &[u8]) -> Option<&'a [u8]>
     ensures { IfSome result (λ rest. text.now ≡ word.now ++ rest.now) }
 {
     text.strip_prefix(word)
@@ -135,12 +135,15 @@ fn leaf(bytes: &[u8]) -> Option<(Plain<'_>, &[u8])>
     }
 }
 
-// What stands behind a value.
+// What stands behind a value. A text in it is tested where it is taken.
 #[cycle(past)]
-#[tactic(auto, using(crate::proofs::readings::CompactLemmas::leaf_is_value, crate::proofs::readings::CompactLemmas::nested_is_value))]
+#[tactic(auto, using(crate::proofs::readings::CompactLemmas::text_is_value, crate::proofs::readings::CompactLemmas::leaf_is_value, crate::proofs::readings::CompactLemmas::nested_is_value))]
 fn past_value(bytes: &[u8], deep: u32) -> Option<&[u8]>
     ensures { IfSome result (λ rest. (d : Data) × Begins deep bytes.now d rest.now) }
 {
+    if let Some((_words, rest)) = text(bytes) {
+        return Some(rest);
+    }
     if let Some((_plain, rest)) = leaf(bytes) {
         return Some(rest);
     }
@@ -225,7 +228,7 @@ fn nested_value(bytes: &[u8]) -> Option<(Plain<'_>, &[u8])>
 /// A value, and what stands behind it.
 #[inline(always)]
 #[tactic(auto, using(crate::proofs::readings::CompactLemmas::leaf_begins))]
-pub(crate) fn value(bytes: &[u8]) -> Option<(Plain<'_>, &[u8])>
+pub fn value(bytes: &[u8]) -> Option<(Plain<'_>, &[u8])>
     ensures { IfSome result (λ r. Begins DEEPEST bytes.now (plain_data r.0) r.1.now) }
 {
     match leaf(bytes) {

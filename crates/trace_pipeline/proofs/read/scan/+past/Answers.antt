@@ -1,7 +1,7 @@
 -- One item or one member more, and the last one.
 use Rattle.std.proofs.Common.{◌≡◌, suc, [], ◌∷◌, ◌++◌, arith}
 use Rattle.trace_pipeline.specs.text.Compact.{plain_data}
-use Rattle.trace_pipeline.proofs.readings.CompactLemmas.{leaf_is_value, array_begins, object_begins, Pair, AllRead-push, items_first, items_on, items_text_end, items_begin, Named, AllNamed-push, members_first, members_on, members_text_end, members_begin}
+use Rattle.trace_pipeline.proofs.readings.CompactLemmas.{text_is_value, leaf_is_value, array_begins, object_begins, Pair, AllRead-push, items_first, items_on, items_text_end, items_begin, Named, AllNamed-push, members_first, members_on, members_text_end, members_begin}
 use Rattle.trace_pipeline.proofs.read.scan.+past.Goals as goal
 
 pub past_items-items-init : goal.past_items-items-init
@@ -41,7 +41,10 @@ past_members-returns-in-None t c =
     (members_text_end c.args.bytes.now c.members.left.now c.in_ok-name.colon.now c.in_ok-inner.inner.now c.in_ok-after.after.now c.in_ok-rest-in-None.rest.now ns n c.members.invariant.2 c.in_ok-name.ensures c.in_ok-inner.ensures b.1.1 c.in_ok-rest-in-None.ensures)
 
 pub past_value-returns-in-Some : goal.past_value-returns-in-Some
-past_value-returns-in-Some t c = leaf_is_value c.args.deep c.args.bytes.now c.in-Some.rest.now (plain_data c.in-Some._plain) c.in-Some.ensures
+past_value-returns-in-Some t c = text_is_value c.args.deep c.args.bytes.now c.in-Some.rest.now c.in-Some._words.now c.in-Some.ensures
+
+pub past_value-returns-in-Some-leaf : goal.past_value-returns-in-Some-leaf
+past_value-returns-in-Some-leaf t c = leaf_is_value c.args.deep c.args.bytes.now c.in-Some-leaf.rest.now (plain_data c.in-Some-leaf._plain) c.in-Some-leaf.ensures
 
 pub past_nested-returns-in-Some : goal.past_nested-returns-in-Some
 past_nested-returns-in-Some t c =

@@ -1,0 +1,183 @@
+//! Task lines as they are mostly written: compact, and with their members in the order of their names, which are read in one
+//! pass. None says nothing of what a text is.
+ghost use Rattle.std.specs.Prelude.{◌≡◌, ◌<◌, ◌^◌, ◌++◌, [], ◌∷◌, Some, Ok, IfSome, decimal};
+ghost use Rattle.trace_pipeline.specs.forms.AttributeForm.{otel_value_of};
+ghost use Rattle.trace_pipeline.specs.reading.Left.{value_data};
+ghost use Rattle.task_lines.specs.Compact.{BeginsStep, BeginsSteps, EndsTask};
+ghost use Rattle.task_lines.specs.TaskForm.{task_spelled};
+
+use otel_base::list::Items;
+use otel_base::text::Text;
+use otel_base::value::OtelValue;
+use std::alloc::Global;
+use trace_pipeline::read::scan::{number, text, value, word};
+use trace_pipeline::read::{closes, is_text, leading_fields};
+use trace_pipeline::{Value, otel_value_of};
+use trace_tasks::script::{Step, Task};
+
+// The most steps that are read so.
+const MOST_STEPS: u32 = 65_536;
+
+// The number of a callsite behind a front, and what stands behind the bracket that closes its object.
+fn closing_site<'a>(bytes: &'a [u8], front: &[u8]) -> Option<(u64, &'a [u8])>
+    ensures text { IfSome result (λ r. bytes.now ≡ front.now ++ (decimal r.0 ++ 125 ∷ r.1.now)) }
+    ensures fits { IfSome result (λ r. r.0 < 2 ^ 64) }
+{
+    let digits = word(bytes, front)?;
+    let (site, end) = number(digits)?;
+    let rest = word(end, b"}")?;
+    Some((site, rest))
+}
+
+fn event_with_fields(alloc: Global, bytes: &[u8]) -> Option<(Step, &[u8])>
+    ensures { IfSome result (λ r. BeginsStep bytes.now r.0 r.1.now) }
+{
+    let list = word(bytes, b"{\"do\":\"event\",\"fields\":")?;
+    let (fields, tail) = leading_fields(alloc, list)?;
+    let (site, rest) = closing_site(tail, b",\"site\":")?;
+    Some((Step::Event { site, fields }, rest))
+}
+
+fn event_alone(alloc: Global, bytes: &[u8]) -> Option<(Step, &[u8])>
+    ensures { IfSome result (λ r. BeginsStep bytes.now r.0 r.1.now) }
+{
+    let (site, rest) = closing_site(bytes, b"{\"do\":\"event\",\"site\":")?;
+    let fields = Items::new(alloc);
+    Some((Step::Event { site, fields }, rest))
+}
+
+fn record(alloc: Global, bytes: &[u8]) -> Option<(Step, &[u8])>
+    ensures { IfSome result (λ r. BeginsStep bytes.now r.0 r.1.now) }
+{
+    let list = word(bytes, b"{\"do\":\"record\",\"fields\":")?;
+    let (fields, tail) = leading_fields(alloc, list)?;
+    let rest = word(tail, b"}")?;
+    Some((Step::Record { fields }, rest))
+}
+
+// A text, to be kept.
+fn kept(alloc: Global, words: &[u8]) -> Option<Text>
+    ensures { IfSome result (λ text. text ≡ words.now) }
+{
+    let words = str::from_utf8(words).ok()?;
+    Some(Text::from(String::from_str(alloc, words).ok()?))
+}
+
+// The value of an attribute, to be kept.
+fn attribute_value(alloc: Global, value: Value<'_>) -> Option<OtelValue>
+    ensures { IfSome result (λ kept. otel_value_of (value_data value.entry) ≡ Some kept) }
+{
+    let kept = otel_value_of(alloc, value).ok()?;
+    Some(kept)
+}
+
+fn set_attribute(alloc: Global, bytes: &[u8]) -> Option<(Step, &[u8])>
+    ensures { IfSome result (λ r. BeginsStep bytes.now r.0 r.1.now) }
+{
+    let named = word(bytes, b"{\"do\":\"set_attribute\",\"key\":")?;
+    let (words, tail) = text(named)?;
+    let inner = word(tail, b",\"value\":")?;
+    let (plain, end) = value(inner)?;
+    let rest = word(end, b"}")?;
+    let key = kept(alloc, words)?;
+    let value = attribute_value(alloc, Value::Plain(plain))?;
+    Some((Step::SetAttribute { key, value }, rest))
+}
+
+fn yield_now(bytes: &[u8]) -> Option<(Step, &[u8])>
+    ensures { IfSome result (λ r. BeginsStep bytes.now r.0 r.1.now) }
+{
+    let rest = word(bytes, b"{\"do\":\"yield\"}")?;
+    Some((Step::Yield, rest))
+}
+
+// A step, and what stands behind it. Its kind is told by the first letter of its word.
+fn step(alloc: Global, bytes: &[u8]) -> Option<(Step, &[u8])>
+    ensures { IfSome result (λ r. BeginsStep bytes.now r.0 r.1.now) }
+{
+    if bytes.len() < 8 {
+        return None;
+    }
+    match bytes[7] {
+        b'e' => match event_with_fields(alloc, bytes) {
+            Some((step, rest)) => Some((step, rest)),
+            None => event_alone(alloc, bytes),
+        },
+        b'r' => record(alloc, bytes),
+        b's' => set_attribute(alloc, bytes),
+        _ => yield_now(bytes),
+    }
+}
+
+// Adds a step. None where there is no memory.
+fn keep(steps: &mut Vec<Step>, step: Step) -> Option<()>
+    ensures { IfSome result (λ _. steps.new.items ≡ steps.old.items ++ step ∷ []) }
+{
+    steps.push(step).ok()?;
+    Some(())
+}
+
+// The steps that an array in front of a text spells, and what stands behind it.
+fn leading_steps(alloc: Global, bytes: &[u8]) -> Option<(Items<Step>, &[u8])>
+    ensures { IfSome result (λ r. BeginsSteps bytes.now r.0 r.1.now) }
+{
+    let mut steps = Vec::new(alloc);
+    let mut rest = word(bytes, b"[")?;
+    if let Some(end) = word(rest, b"]") {
+        return Some((Items::from(steps), end));
+    }
+    for _ in 0..MOST_STEPS {
+        let (next, after) = step(alloc, rest)?;
+        keep(&mut steps, next)?;
+        match word(after, b",") {
+            Some(more) => rest = more,
+            None => {
+                let end = word(after, b"]")?;
+                return Some((Items::from(steps), end));
+            }
+        }
+    }
+    None
+}
+
+// The number of a callsite behind a front, and the steps that close their object, with nothing behind it.
+fn site_and_steps(alloc: Global, bytes: &[u8], front: &[u8]) -> Option<(u64, Items<Step>)>
+    ensures text { IfSome result (λ r. EndsTask front.now bytes.now r.0 r.1) }
+    ensures fits { IfSome result (λ r. r.0 < 2 ^ 64) }
+{
+    let digits = word(bytes, front)?;
+    let (site, tail) = number(digits)?;
+    let list = word(tail, b",\"task\":")?;
+    let (steps, end) = leading_steps(alloc, list)?;
+    closes(end, b'}')?;
+    Some((site, steps))
+}
+
+/// The task of a line.
+pub(crate) fn quick_task(alloc: Global, line: &[u8]) -> Option<Task>
+    ensures { IfSome result (λ task. task_spelled line.now ≡ Ok task) }
+{
+    if !is_text(line) {
+        return None;
+    }
+    match word(line, b"{\"fields\":") {
+        Some(list) => {
+            let (fields, tail) = leading_fields(alloc, list)?;
+            let (site, steps) = site_and_steps(alloc, tail, b",\"site\":")?;
+            Some(Task {
+                site,
+                fields,
+                steps,
+            })
+        }
+        None => {
+            let (site, steps) = site_and_steps(alloc, line, b"{\"site\":")?;
+            let fields = Items::new(alloc);
+            Some(Task {
+                site,
+                fields,
+                steps,
+            })
+        }
+    }
+}
