@@ -5,7 +5,7 @@ use Rattle.trace_base.specs.declared.lane.Lane.{Lane}
 use Rattle.trace_base.specs.declared.subscriber.Subscriber.{Ghosts}
 use Rattle.trace_base.specs.Gate.{Worlds}
 use Rattle.traced.specs.Standing.{Stands}
-use Rattle.traced.proofs.Steps.{late}
+use Rattle.traced.proofs.Rules.{late}
 use Rattle.example_desk.specs.declared.desk.Desk.{Desk}
 use Rattle.example_desk.specs.Order.{InOrder}
 

@@ -2,6 +2,7 @@
 use Rattle.std.specs.Prelude.{◌≡◌, ◌<◌, ℕ, [], ◌∷◌, length}
 use Rattle.trace_base.specs.declared.subscriber.Subscriber.{Ghosts}
 use Rattle.traced.specs.Standing.{Stands}
+use Rattle.traced.specs.AsBefore.{IsAsBefore}
 use Rattle.example_desk.specs.declared.desk.Desk.{Desk}
 use Rattle.example_desk.specs.declared.sites.Sites.{Sites}
 
@@ -20,3 +21,9 @@ pub record InOrder {S : Type 0} (sub : Ghosts S) (most : ℕ) (desk : Desk S) : 
   pub first : desk.dispatch ≡ 0
   pub front : desk.front.id ≡ 1
   pub sites : AreThere desk.sites
+
+-- a call leaves a desk in order and its callsites the same; what was made since is closed, and what was entered is exited
+pub record Keeps {S : Type 0} (sub : Ghosts S) (most : ℕ) (old new : Desk S) : Type 0 where
+  pub order : InOrder sub most new
+  pub restores : IsAsBefore sub 0 old.world new.world
+  pub sites : new.sites ≡ old.sites

@@ -1,15 +1,16 @@
 //! The desk of the shop: its world, the lane that takes orders and the one that packs them.
-ghost use Rattle.std.specs.Prelude.{◌≡◌, ◌<◌, ◌^◌, ◌+◌, ◌⊎◌, IfOk, Err};
+ghost use Rattle.std.specs.Prelude.{◌≡◌, ◌<◌, ◌^◌, ◌+◌, ◌⊎◌, IfOk, Ok, Err};
 ghost use Rattle.trace_base.specs.lanes.Contexts.{IsFull};
 ghost use Rattle.traced.specs.Standing.{IsUnused, IsHeld};
-ghost use Rattle.traced.specs.AsBefore.{IsAsBefore};
+ghost use Rattle.traced_futures.specs.Polling.{PollsOnce};
 ghost use Rattle.example_desk.specs.declared.fault.Fault.TheVariants as fault;
-ghost use Rattle.example_desk.specs.Order.{InOrder};
+ghost use Rattle.example_desk.specs.Order.{InOrder, Keeps};
+ghost use Rattle.example_desk.specs.Serving.{Waits, Pays, Wraps, Packs, PaysAndPacks, Inside, Serves};
 
 use crate::fault::Fault;
 use crate::payment::Payment;
 use crate::sites::{Given, Sites};
-use futures::task::{self, Poll};
+use futures::task;
 use otel_base::context::Context;
 use otel_base::memory::Memory;
 use otel_layer::part::OtelSubscriber;
@@ -73,8 +74,9 @@ impl<S: OtelSubscriber> Desk<S> {
     ) -> Result<(), Fault>
         requires order { InOrder S.Subscriber at self.old }
         requires early { at < 2 ^ 62 }
-        ensures order { InOrder S.Subscriber (at + 100) self.new }
-        ensures restores { IsAsBefore S.Subscriber 0 self.old.world self.new.world }
+        ensures keeps { Keeps S.Subscriber (at + 100) self.old self.new }
+        ensures serves { result ≡ Ok tt → (given : _)
+            × Serves S.Subscriber at given S.touches remote self.old self.new }
         ensures full { result ≡ Err fault.Full → IsFull self.old.front ⊎ IsFull self.old.back }
     {
         let given = Given::new(alloc, user)?;
@@ -98,8 +100,8 @@ impl<S: OtelSubscriber> Desk<S> {
         requires order { InOrder S.Subscriber (at + 10) self.old }
         requires early { at < 2 ^ 62 }
         requires held { IsHeld S.Subscriber 0 self.old.world order.now }
-        ensures order { InOrder S.Subscriber (at + 60) self.new }
-        ensures restores { IsAsBefore S.Subscriber 0 self.old.world self.new.world }
+        ensures keeps { Keeps S.Subscriber (at + 60) self.old self.new }
+        ensures inside { result ≡ Ok tt → Inside S.Subscriber at given.now order.now self.old self.new }
         ensures full { result ≡ Err fault.Full → IsFull self.old.front ⊎ IsFull self.old.back }
     {
         let guard = traced::enter(order, &mut self.world, &mut self.front, at + 10)?;
@@ -119,8 +121,8 @@ impl<S: OtelSubscriber> Desk<S> {
         requires order { InOrder S.Subscriber (at + 20) self.old }
         requires early { at < 2 ^ 62 }
         requires held { IsHeld S.Subscriber 0 self.old.world order.now }
-        ensures order { InOrder S.Subscriber (at + 50) self.new }
-        ensures restores { IsAsBefore S.Subscriber 0 self.old.world self.new.world }
+        ensures keeps { Keeps S.Subscriber (at + 50) self.old self.new }
+        ensures both { result ≡ Ok tt → PaysAndPacks S.Subscriber at given.now order.now self.old self.new }
         ensures full { result ≡ Err fault.Full → IsFull self.old.back }
     {
         self.pay(at, given, cx)?;
@@ -131,8 +133,8 @@ impl<S: OtelSubscriber> Desk<S> {
     fn pay(&mut self, at: u64, given: &Given, cx: &mut task::Context<'_>) -> Result<(), Memory>
         requires order { InOrder S.Subscriber (at + 20) self.old }
         requires early { at < 2 ^ 62 }
-        ensures order { InOrder S.Subscriber (at + 30) self.new }
-        ensures restores { IsAsBefore S.Subscriber 0 self.old.world self.new.world }
+        ensures keeps { Keeps S.Subscriber (at + 30) self.old self.new }
+        ensures pays { result ≡ Ok tt → Pays S.Subscriber at given.now self.old self.new }
         ensures back { self.new.back ≡ self.old.back }
     {
         let (pay, paid) = (self.sites.pay, self.sites.paid);
@@ -158,8 +160,8 @@ impl<S: OtelSubscriber> Desk<S> {
         requires order { InOrder S.Subscriber (at + 21) self.old }
         requires early { at < 2 ^ 62 }
         requires held { IsHeld S.Subscriber 0 self.old.world payment.old.span }
-        ensures order { InOrder S.Subscriber (at + 26) self.new }
-        ensures restores { IsAsBefore S.Subscriber 0 self.old.world self.new.world }
+        ensures keeps { Keeps S.Subscriber (at + 26) self.old self.new }
+        ensures waits { Waits S.Subscriber at payment.old payment.new result self.old self.new }
         ensures span { payment.new.span ≡ payment.old.span }
         ensures back { self.new.back ≡ self.old.back }
     {
@@ -176,13 +178,14 @@ impl<S: OtelSubscriber> Desk<S> {
         requires order { InOrder S.Subscriber at self.old }
         requires early { at < 2 ^ 63 }
         requires held { IsHeld S.Subscriber 0 self.old.world payment.old.span }
-        ensures order { InOrder S.Subscriber (at + 1) self.new }
-        ensures restores { IsAsBefore S.Subscriber 0 self.old.world self.new.world }
+        ensures keeps { Keeps S.Subscriber (at + 1) self.old self.new }
+        ensures polls { PollsOnce (Unit {0}) S.Subscriber payment.old self.old.world self.old.front at result
+            payment.new self.new.world self.new.front }
         ensures span { payment.new.span ≡ payment.old.span }
         ensures back { self.new.back ≡ self.old.back }
     {
         let polled = traced_futures::poll(payment, &mut self.world, &mut self.front, at, cx);
-        matches!(polled, Ok(Poll::Ready(())))
+        traced_futures::is_ready(&polled)
     }
 
     // Packs on the back lane, in a child of the order.
@@ -190,8 +193,8 @@ impl<S: OtelSubscriber> Desk<S> {
         requires order { InOrder S.Subscriber (at + 30) self.old }
         requires early { at < 2 ^ 62 }
         requires held { IsHeld S.Subscriber 0 self.old.world order.now }
-        ensures order { InOrder S.Subscriber (at + 50) self.new }
-        ensures restores { IsAsBefore S.Subscriber 0 self.old.world self.new.world }
+        ensures keeps { Keeps S.Subscriber (at + 50) self.old self.new }
+        ensures packs { result ≡ Ok tt → Packs S.Subscriber at given.now order.now self.old self.new }
         ensures full { result ≡ Err fault.Full → IsFull self.old.back }
     {
         let pack = traced::child_of(
@@ -212,8 +215,8 @@ impl<S: OtelSubscriber> Desk<S> {
         requires order { InOrder S.Subscriber (at + 35) self.old }
         requires early { at < 2 ^ 62 }
         requires held { IsHeld S.Subscriber 0 self.old.world pack.now }
-        ensures order { InOrder S.Subscriber (at + 50) self.new }
-        ensures restores { IsAsBefore S.Subscriber 0 self.old.world self.new.world }
+        ensures keeps { Keeps S.Subscriber (at + 50) self.old self.new }
+        ensures wraps { result ≡ Ok tt → Wraps S.Subscriber at given.now pack.now self.old self.new }
         ensures full { result ≡ Err fault.Full → IsFull self.old.back }
     {
         let site = self.sites.failed;

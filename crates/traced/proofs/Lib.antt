@@ -1,4 +1,5 @@
 pub mod Begins
+pub mod Between
 pub mod Counts
 pub mod Elsewhere
 pub mod Gated

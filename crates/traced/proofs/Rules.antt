@@ -1,4 +1,4 @@
--- What callers need between their calls, for `using` of their tactics.
+-- What callers need between their calls, for `using` of their tactics and for their answers.
 use Rattle.std.proofs.Common.{◌≡◌, ℕ, ◌+◌, ◌<◌, ◌^◌, List, ◌∷◌, length, Option, Some, None, sym, ap, ◌∙◌, subst, arith, slice_get}
 use Rattle.std.specs.Prelude.{◌==◌, IfSome}
 use Rattle.std.specs.Option.{option_map_or}
@@ -21,8 +21,11 @@ use Rattle.traced.specs.Moving.{Enters}
 use Rattle.traced.specs.Staying.{Stays}
 use Rattle.traced.proofs.Elsewhere.{stands_after}
 use Rattle.traced.proofs.Inside.{has_same}
-use Rattle.traced.proofs.Moves.{read_there, stays_as_before, live_on}
-use Rattle.traced.proofs.Steps.{stepping, turned, inside_if_entered}
+use Rattle.traced.proofs.Moves.{read_there, live_on}
+use Rattle.traced.proofs.Steps.{stepping}
+pub use Rattle.traced.proofs.Between.{makes_and_closes, enters_and_exits, tells_if_answered}
+pub use Rattle.traced.proofs.Moves.{stays_stands, stays_as_before}
+pub use Rattle.traced.proofs.Steps.{late, turned, inside_if_entered, held_after, made_after, entered_after, inside_after, again_stays, made_stays, entered_stays}
 
 -- what holds of the spans that are read holds of the subscriber
 has_spans : {S : Type 0} (sub : Ghosts S) (world : Worlds S) (dispatch : ℕ) (P : Spans → Type 0) → P (spans_in sub.spans world dispatch) → Has (λ s. P (sub.spans s)) world dispatch

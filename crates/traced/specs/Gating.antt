@@ -1,5 +1,5 @@
 -- What the gate decides.
-use Rattle.std.specs.Prelude.{◌≡◌, ℕ, Bool, Option, Some, None, slice_get}
+use Rattle.std.specs.Prelude.{◌≡◌, ℕ, Bool, true, false, Option, Some, None, slice_get}
 use Rattle.trace_base.specs.declared.callsite.Callsite.{Callsite}
 use Rattle.trace_base.specs.declared.field.ValueSet.{ValueSet}
 use Rattle.trace_base.specs.declared.lane.Lane.{Lane}
@@ -36,3 +36,8 @@ pub record TellsOne {S : Type 0} (sub : Ghosts S) (old new : Worlds S) (lane : L
   pub dispatch : ℕ
   pub serves : dispatch_on lane.default old.global ≡ Some dispatch
   pub told : Tells sub old new lane at place site values dispatch
+
+-- the same where the gate lets the callsite through, and else nothing
+pub record TellsIfAnswered {S : Type 0} (sub : Ghosts S) (old new : Worlds S) (lane : Lane) (at : ℕ) (place : Parent) (site : ℕ) (values : ValueSet) : Type 0 where
+  pub told : Answers sub old lane site true → TellsOne sub old new lane at place site values
+  pub refused : Answers sub old lane site false → new ≡ old

@@ -1,4 +1,5 @@
 pub mod AsBefore
+pub mod Between
 pub mod Gating
 pub mod Laws
 pub mod Making

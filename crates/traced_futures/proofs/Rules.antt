@@ -1,5 +1,5 @@
 -- What callers need between polls, for `using` of their tactics.
-use Rattle.std.proofs.Common.{◌≡◌, ℕ, zero, suc, List, [], ◌∷◌, length, Option, Some, None, refl, arith, slice_get, sum_by}
+use Rattle.std.proofs.Common.{◌≡◌, ℕ, zero, suc, List, [], ◌∷◌, length, Option, Some, None, refl, ap, arith, slice_get, sum_by}
 use Rattle.std.specs.Option.{option_map_or}
 use Rattle.std.proofs.lemmas.List.Sums.{sum_by-cons}
 use Rattle.std.proofs.lemmas.Option.{slice_get_within}
@@ -7,6 +7,7 @@ use Rattle.trace_base.specs.declared.lane.Lane.{Lane}
 use Rattle.trace_base.specs.declared.subscriber.Subscriber.{Ghosts}
 use Rattle.trace_base.specs.Gate.{Worlds}
 use Rattle.span_handles.specs.Handles.{Handle}
+use Rattle.span_futures.specs.declared.instrument.Instrumented.{Instrumented}
 use Rattle.traced.specs.Standing.{Stands}
 use Rattle.traced.specs.AsBefore.{HasMade}
 use Rattle.traced.proofs.Rules.{own_there}
@@ -26,6 +27,10 @@ only_sum f (x ∷ y ∷ xs) one = absurd (omega (arith, one))
 read_kept : {S : Type 0} (kept : S → ℕ → ℕ → ℕ) (lane number : ℕ) (o : Option S) → option_map_or kept o (λ l k. 0) lane number ≡ option_map_or (λ (s : S). kept s lane number) o 0
 read_kept kept lane number None = refl
 read_kept kept lane number (Some s) = refl
+
+-- two that are one are under one span
+pub one_span : {T : Type 0} {future other : Instrumented T} → future ≡ other → future.span ≡ other.span
+one_span {T} same = ap (λ (f : Instrumented T). f.span) same
 
 module _ {S : Type 0} (sub : Ghosts S) where
   -- the only subscriber of a world serves a lane, so both may be lent

@@ -1,5 +1,6 @@
 -- Polls inside spans, in a world that stands.
-use Rattle.std.specs.Prelude.{◌≡◌, ◌+◌, ◌⊎◌, ℕ, List, ◌∷◌, length, IsOk}
+use Rattle.std.specs.Prelude.{◌≡◌, ◌+◌, ◌⊎◌, ℕ, Bool, true, false, List, ◌∷◌, length, Ok, Err, IsOk}
+use Rattle.futures.specs.declared.task.Poll.TheVariants.{Ready, Pending}
 use Rattle.trace_base.specs.declared.lane.Lane.{Lane}
 use Rattle.trace_base.specs.declared.subscriber.Subscriber.{Ghosts}
 use Rattle.trace_base.specs.Gate.{Worlds, IsOwn}
@@ -26,6 +27,16 @@ abbrev pub PollsPlain : {T S A : Type 0} → Ghosts S → Instrumented T → Wor
 PollsPlain sub future old before at result next new later =
     IsRefused sub.same sub.activates future old before result next new later
     ⊎ IsInside sub.does sub.activates LeavesAll future old before at result next new later
+
+-- whether a poll came to a value
+abbrev pub is_ready : {A : Type 0} → Polled A → Bool
+is_ready (Ok (Ready value)) = true
+is_ready (Ok Pending) = false
+is_ready (Err error) = false
+
+-- such a poll, and whether it came to a value
+abbrev pub PollsOnce : {T S : Type 0} → (A : Type 0) → Ghosts S → Instrumented T → Worlds S → Lane → ℕ → Bool → Instrumented T → Worlds S → Lane → Type 0
+PollsOnce A sub future old before at ready next new later = (polled : Polled A) × (ready ≡ is_ready polled) × PollsPlain sub future old before at polled next new later
 
 -- A poll leaves all as it was. The world stands with an entry more.
 pub record Polls {S : Type 0} (sub : Ghosts S) (old new : Worlds S) (before left : Lane) (handle : Handle) : Type 0 where

@@ -3,4 +3,4 @@
 
 pub mod polling;
 
-pub use polling::{into_inner, poll};
+pub use polling::{into_inner, is_ready, poll};

@@ -8,7 +8,7 @@ ghost use Rattle.span_handles.specs.Entries.{MeetsFullLane};
 ghost use Rattle.span_futures.specs.Polls.{IfEnded, UnlessEnded};
 ghost use Rattle.traced.specs.Standing.{CanClose, CanEnter};
 ghost use Rattle.traced.specs.Moving.{Closes};
-ghost use Rattle.traced_futures.specs.Polling.{CanLend, PollsPlain, Polls};
+ghost use Rattle.traced_futures.specs.Polling.{CanLend, PollsPlain, Polls, is_ready};
 
 use futures::Future;
 use futures::task::{Context, Poll};
@@ -43,6 +43,13 @@ pub fn poll<S: Subscriber, F: Future>(
 {
     lawful::<S>();
     future.poll_in(world, lane, at, cx)
+}
+
+/// Whether a poll came to a value; `Poll::is_ready`, and false where the span couldn't be entered.
+pub fn is_ready<T>(polled: &Result<Poll<T>, EnterError>) -> bool
+    ensures { result ≡ is_ready polled.now }
+{
+    matches!(polled, Ok(Poll::Ready(_)))
 }
 
 /// Closes the handle, and gives the future back, as `Instrumented::into_inner` does.

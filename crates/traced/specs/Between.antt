@@ -1,0 +1,30 @@
+-- What is done between a span's making and its close, and between its entry and its exit, with the moments of both.
+use Rattle.std.specs.Prelude.{ℕ, Some, Ok}
+use Rattle.trace_base.specs.declared.field.ValueSet.{ValueSet}
+use Rattle.trace_base.specs.declared.lane.Lane.{Lane}
+use Rattle.trace_base.specs.declared.span.Parent.{Parent}
+use Rattle.trace_base.specs.declared.subscriber.Subscriber.{Ghosts}
+use Rattle.trace_base.specs.Gate.{Worlds}
+use Rattle.trace_base.specs.Calls.{Enter, Exit}
+use Rattle.span_handles.specs.Worlds.{Chain}
+use Rattle.span_handles.specs.Handles.{Handle, ReplacedOn}
+use Rattle.traced.specs.Making.{MakesIfAnswered}
+
+-- a span is made at a place and a moment, if the gate lets its callsite through, and its handle is closed at another
+pub record MakesAndCloses {S : Type 0} (sub : Ghosts S) (lane : Lane) (place : Parent) (site : ℕ) (values : ValueSet) (begins ends : ℕ) (between : Handle → Worlds S → Worlds S → Type 0) (old new : Worlds S) : Type 0 where
+  pub handle : Handle
+  pub begun : Worlds S
+  pub ended : Worlds S
+  pub makes : MakesIfAnswered sub old begun lane begins place site values (Ok handle)
+  pub meanwhile : between handle begun ended
+  pub closes : ReplacedOn (λ id s t. Chain sub.spans sub.does ends (Some id) s t) ended new handle.held
+
+-- a span is entered on a lane at a moment, and exited there at another
+pub record EntersAndExits {S : Type 0} (sub : Ghosts S) (handle : Handle) (enters exits : ℕ) (between : Worlds S → Lane → Worlds S → Lane → Type 0) (old new : Worlds S) (before later : Lane) : Type 0 where
+  pub world : Worlds S
+  pub lane : Lane
+  pub left_world : Worlds S
+  pub left_lane : Lane
+  pub entered : ReplacedOn (λ id s t. sub.does s (Enter id enters before lane) t) old world handle.held
+  pub meanwhile : between world lane left_world left_lane
+  pub exited : ReplacedOn (λ id s t. sub.does s (Exit id exits left_lane later) t) left_world new handle.held
