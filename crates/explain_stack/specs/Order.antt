@@ -4,6 +4,7 @@ use Rattle.trace_base.specs.declared.lane.Lane.{Lane}
 use Rattle.trace_base.specs.Gate.{Worlds, IsOwn}
 use Rattle.trace_base.specs.Spans.{Spans}
 use Rattle.span_handles.specs.Handles.{Handle, IsKnown}
+use Rattle.span_handles.specs.Knowing.{KeepsKnown}
 use Rattle.span_futures.specs.Lent.{HasAll, AreAllAttached}
 use Rattle.explain_stack.specs.declared.scene.Scene.{Scene}
 
@@ -22,6 +23,12 @@ pub record Stands {S : Type 0} (spans : S → Spans) (kept : S → ℕ → ℕ �
 
 abbrev pub InOrder : {S : Type 0} → (S → Spans) → (S → ℕ → ℕ → ℕ) → (S → Type 0) → Scene S → Type 0
 InOrder spans kept is_whole scene = Stands spans kept is_whole scene.dispatch scene.made scene.sites scene.world scene.lane scene.other
+
+-- A call leaves the scene in order, with as many callsites, and in its world all handles are known that were.
+pub record KeepsScene {S : Type 0} (spans : S → Spans) (kept : S → ℕ → ℕ → ℕ) (is_whole : S → Type 0) (old new : Scene S) : Type 0 where
+  pub order : InOrder spans kept is_whole new
+  pub known : KeepsKnown spans old.world new.world
+  pub sites : new.sites ≡ old.sites
 
 -- a handle that is known, with a callsite of the world
 pub record IsHeld {S : Type 0} (spans : S → Spans) (sites : ℕ) (world : Worlds S) (handle : Handle) : Type 0 where

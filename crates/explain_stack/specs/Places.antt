@@ -4,7 +4,8 @@ use Rattle.trace_base.specs.Gate.{Worlds}
 use Rattle.trace_base.specs.Spans.{Spans}
 use Rattle.span_handles.specs.Handles.{Handle, no_handle}
 use Rattle.explain_stack.specs.declared.handles.Handles.{Handles}
-use Rattle.explain_stack.specs.Order.{IsHeld}
+use Rattle.explain_stack.specs.declared.scene.Scene.{Scene}
+use Rattle.explain_stack.specs.Order.{InOrder, IsHeld}
 
 -- the one of a name, and the three with another one there
 abbrev pub named : List ℕ → Handles → Option Handle
@@ -33,3 +34,8 @@ pub record AreHeld {S : Type 0} (spans : S → Spans) (sites : ℕ) (world : Wor
   pub a : IsHeld spans sites world handles.a
   pub b : IsHeld spans sites world handles.b
   pub c : IsHeld spans sites world handles.c
+
+-- a scene in order, and three handles that its world knows
+pub record InPlay {S : Type 0} (spans : S → Spans) (kept : S → ℕ → ℕ → ℕ) (is_whole : S → Type 0) (scene : Scene S) (handles : Handles) : Type 0 where
+  pub order : InOrder spans kept is_whole scene
+  pub held : AreHeld spans scene.sites scene.world handles

@@ -4,8 +4,7 @@ ghost use Rattle.trace_base.specs.Calls.{Event};
 ghost use Rattle.trace_base.specs.Conditions.{IsLivePlace};
 ghost use Rattle.span_handles.specs.Worlds.{Has, Replaced};
 ghost use Rattle.span_handles.specs.Handles.{IsKnown};
-ghost use Rattle.span_handles.specs.Knowing.{KeepsKnown};
-ghost use Rattle.explain_stack.specs.Order.{InOrder};
+ghost use Rattle.explain_stack.specs.Order.{InOrder, KeepsScene};
 
 use crate::scene::Scene;
 use crate::stack::Stack;
@@ -33,9 +32,7 @@ impl<S: Stack> Scene<S> {
     ) -> Result<(), SetParentError>
         requires order { InOrder S.spans S.kept S.is_whole self.old }
         requires known { IsKnown S.spans self.old.world span.now.held }
-        ensures order { InOrder S.spans S.kept S.is_whole self.new }
-        ensures known { KeepsKnown S.spans self.old.world self.new.world }
-        ensures sites { self.new.sites ≡ self.old.sites }
+        ensures keeps { KeepsScene S.spans S.kept S.is_whole self.old self.new }
     {
         span.set_parent(&mut self.world, at, context)
     }
@@ -44,9 +41,7 @@ impl<S: Stack> Scene<S> {
     pub fn link(&mut self, at: u64, span: &Span, context: SpanContext) -> Result<(), Memory>
         requires order { InOrder S.spans S.kept S.is_whole self.old }
         requires known { IsKnown S.spans self.old.world span.now.held }
-        ensures order { InOrder S.spans S.kept S.is_whole self.new }
-        ensures known { KeepsKnown S.spans self.old.world self.new.world }
-        ensures sites { self.new.sites ≡ self.old.sites }
+        ensures keeps { KeepsScene S.spans S.kept S.is_whole self.old self.new }
     {
         span.add_link(&mut self.world, at, context)
     }
@@ -55,9 +50,7 @@ impl<S: Stack> Scene<S> {
     pub fn context(&mut self, at: u64, span: &Span) -> Context
         requires order { InOrder S.spans S.kept S.is_whole self.old }
         requires known { IsKnown S.spans self.old.world span.now.held }
-        ensures order { InOrder S.spans S.kept S.is_whole self.new }
-        ensures known { KeepsKnown S.spans self.old.world self.new.world }
-        ensures sites { self.new.sites ≡ self.old.sites }
+        ensures keeps { KeepsScene S.spans S.kept S.is_whole self.old self.new }
     {
         span.context(&mut self.world, at)
     }
@@ -66,9 +59,7 @@ impl<S: Stack> Scene<S> {
     pub fn set_status(&mut self, at: u64, span: &Span, status: Status)
         requires order { InOrder S.spans S.kept S.is_whole self.old }
         requires known { IsKnown S.spans self.old.world span.now.held }
-        ensures order { InOrder S.spans S.kept S.is_whole self.new }
-        ensures known { KeepsKnown S.spans self.old.world self.new.world }
-        ensures sites { self.new.sites ≡ self.old.sites }
+        ensures keeps { KeepsScene S.spans S.kept S.is_whole self.old self.new }
     {
         span.set_status(&mut self.world, at, status);
     }
@@ -84,9 +75,7 @@ impl<S: Stack> Scene<S> {
         requires order { InOrder S.spans S.kept S.is_whole self.old }
         requires known { IsKnown S.spans self.old.world span.now.held }
         requires site { site < self.old.sites }
-        ensures order { InOrder S.spans S.kept S.is_whole self.new }
-        ensures known { KeepsKnown S.spans self.old.world self.new.world }
-        ensures sites { self.new.sites ≡ self.old.sites }
+        ensures keeps { KeepsScene S.spans S.kept S.is_whole self.old self.new }
     {
         if !self.has_room(span) {
             return Ok(());

@@ -1,8 +1,8 @@
 //! The calls of handles in a scene.
 ghost use Rattle.std.specs.Prelude.{◌≡◌, ◌<◌, IfOk, IfSome, OnOk, OnErr};
 ghost use Rattle.span_handles.specs.Handles.{IsKnown};
-ghost use Rattle.span_handles.specs.Knowing.{KeepsKnown, KeepsOthers};
-ghost use Rattle.explain_stack.specs.Order.{InOrder, IsHeld};
+ghost use Rattle.span_handles.specs.Knowing.{KeepsOthers};
+ghost use Rattle.explain_stack.specs.Order.{InOrder, IsHeld, KeepsScene};
 
 use crate::scene::Scene;
 use crate::stack::Stack;
@@ -25,9 +25,7 @@ impl<S: Stack> Scene<S> {
         requires order { InOrder S.spans S.kept S.is_whole self.old }
         requires known { IsKnown S.spans self.old.world parent.now.held }
         requires site { site < self.old.sites }
-        ensures order { InOrder S.spans S.kept S.is_whole self.new }
-        ensures known { KeepsKnown S.spans self.old.world self.new.world }
-        ensures sites { self.new.sites ≡ self.old.sites }
+        ensures keeps { KeepsScene S.spans S.kept S.is_whole self.old self.new }
         ensures made { IfOk result (λ made. IfSome made (IsHeld S.spans self.new.sites self.new.world)) }
     {
         if self.made >= 1000 || !self.has_room(parent) {
@@ -55,9 +53,7 @@ impl<S: Stack> Scene<S> {
     ) -> Result<Option<Span>, Memory>
         requires order { InOrder S.spans S.kept S.is_whole self.old }
         requires site { site < self.old.sites }
-        ensures order { InOrder S.spans S.kept S.is_whole self.new }
-        ensures known { KeepsKnown S.spans self.old.world self.new.world }
-        ensures sites { self.new.sites ≡ self.old.sites }
+        ensures keeps { KeepsScene S.spans S.kept S.is_whole self.old self.new }
         ensures made { IfOk result (λ made. IfSome made (IsHeld S.spans self.new.sites self.new.world)) }
     {
         if self.made >= 1000 || !self.has_room_around() {
@@ -72,9 +68,7 @@ impl<S: Stack> Scene<S> {
     pub fn enter(&mut self, at: u64, span: &Span) -> Result<Option<Entry>, Memory>
         requires order { InOrder S.spans S.kept S.is_whole self.old }
         requires known { IsKnown S.spans self.old.world span.now.held }
-        ensures order { InOrder S.spans S.kept S.is_whole self.new }
-        ensures known { KeepsKnown S.spans self.old.world self.new.world }
-        ensures sites { self.new.sites ≡ self.old.sites }
+        ensures keeps { KeepsScene S.spans S.kept S.is_whole self.old self.new }
         ensures entry { IfOk result (λ entry. IfSome entry (λ e. e ≡ span.now.held)) }
     {
         if !self.has_room(span) {
@@ -92,9 +86,7 @@ impl<S: Stack> Scene<S> {
         requires order { InOrder S.spans S.kept S.is_whole self.old }
         requires known { IsKnown S.spans self.old.world span.now.held }
         requires own { entry ≡ span.now.held }
-        ensures order { InOrder S.spans S.kept S.is_whole self.new }
-        ensures known { KeepsKnown S.spans self.old.world self.new.world }
-        ensures sites { self.new.sites ≡ self.old.sites }
+        ensures keeps { KeepsScene S.spans S.kept S.is_whole self.old self.new }
         ensures back { IfSome result (λ e. e ≡ span.now.held) }
     {
         if !self.is_open(span) {
@@ -119,9 +111,7 @@ impl<S: Stack> Scene<S> {
     pub fn record(&mut self, at: u64, span: &Span, values: &ValueSet) -> Result<(), Memory>
         requires order { InOrder S.spans S.kept S.is_whole self.old }
         requires held { IsHeld S.spans self.old.sites self.old.world span.now }
-        ensures order { InOrder S.spans S.kept S.is_whole self.new }
-        ensures known { KeepsKnown S.spans self.old.world self.new.world }
-        ensures sites { self.new.sites ≡ self.old.sites }
+        ensures keeps { KeepsScene S.spans S.kept S.is_whole self.old self.new }
     {
         span.record_all(&mut self.world, at, values)?;
         Ok(())
@@ -132,9 +122,7 @@ impl<S: Stack> Scene<S> {
         requires order { InOrder S.spans S.kept S.is_whole self.old }
         requires known { IsKnown S.spans self.old.world span.now.held }
         requires from { IsKnown S.spans self.old.world from.now.held }
-        ensures order { InOrder S.spans S.kept S.is_whole self.new }
-        ensures known { KeepsKnown S.spans self.old.world self.new.world }
-        ensures sites { self.new.sites ≡ self.old.sites }
+        ensures keeps { KeepsScene S.spans S.kept S.is_whole self.old self.new }
     {
         if self.has_room(span) && self.has_room(from) {
             span.follows_from(&mut self.world, at, from)?;

@@ -1,7 +1,6 @@
 //! Lines of calls on the span of one handle, which leave its entries.
 ghost use Rattle.std.specs.Prelude.{◌≡◌, ◌<◌};
-ghost use Rattle.span_handles.specs.Knowing.{KeepsKnown};
-ghost use Rattle.explain_stack.specs.Order.{InOrder, IsHeld};
+ghost use Rattle.explain_stack.specs.Order.{InOrder, IsHeld, KeepsScene};
 
 use crate::scene::Scene;
 use crate::stack::Stack;
@@ -23,9 +22,7 @@ pub fn tell<S: Stack>(
 ) -> Result<String, Memory>
     requires order { InOrder S.spans S.kept S.is_whole scene.old }
     requires held { IsHeld S.spans scene.old.sites scene.old.world span.now }
-    ensures order { InOrder S.spans S.kept S.is_whole scene.new }
-    ensures known { KeepsKnown S.spans scene.old.world scene.new.world }
-    ensures sites { scene.new.sites ≡ scene.old.sites }
+    ensures keeps { KeepsScene S.spans S.kept S.is_whole scene.old scene.new }
 {
     match call {
         "record" => record(alloc, scene, span, at, words)?,
@@ -47,9 +44,7 @@ fn record<S: Stack>(
 ) -> Result<(), Memory>
     requires order { InOrder S.spans S.kept S.is_whole scene.old }
     requires held { IsHeld S.spans scene.old.sites scene.old.world span.now }
-    ensures order { InOrder S.spans S.kept S.is_whole scene.new }
-    ensures known { KeepsKnown S.spans scene.old.world scene.new.world }
-    ensures sites { scene.new.sites ≡ scene.old.sites }
+    ensures keeps { KeepsScene S.spans S.kept S.is_whole scene.old scene.new }
 {
     let values = words::values(alloc, words)?;
     let done = scene.record(at, span, &values);
@@ -67,9 +62,7 @@ fn event<S: Stack>(
 ) -> Result<(), Memory>
     requires order { InOrder S.spans S.kept S.is_whole scene.old }
     requires held { IsHeld S.spans scene.old.sites scene.old.world span.now }
-    ensures order { InOrder S.spans S.kept S.is_whole scene.new }
-    ensures known { KeepsKnown S.spans scene.old.world scene.new.world }
-    ensures sites { scene.new.sites ≡ scene.old.sites }
+    ensures keeps { KeepsScene S.spans S.kept S.is_whole scene.old scene.new }
 {
     let (site, words) = words.split_once(' ').unwrap_or((words, ""));
     if let Some(site) = scene.site_at(words::number(site).unwrap_or(0)) {
@@ -92,9 +85,7 @@ fn event_at<S: Stack>(
     requires order { InOrder S.spans S.kept S.is_whole scene.old }
     requires held { IsHeld S.spans scene.old.sites scene.old.world span.now }
     requires site { site < scene.old.sites }
-    ensures order { InOrder S.spans S.kept S.is_whole scene.new }
-    ensures known { KeepsKnown S.spans scene.old.world scene.new.world }
-    ensures sites { scene.new.sites ≡ scene.old.sites }
+    ensures keeps { KeepsScene S.spans S.kept S.is_whole scene.old scene.new }
 {
     let values = words::values(alloc, words)?;
     let done = scene.event(at, span, site, &values);
@@ -113,9 +104,7 @@ fn ask<S: Stack>(
 ) -> Result<String, Memory>
     requires order { InOrder S.spans S.kept S.is_whole scene.old }
     requires held { IsHeld S.spans scene.old.sites scene.old.world span.now }
-    ensures order { InOrder S.spans S.kept S.is_whole scene.new }
-    ensures known { KeepsKnown S.spans scene.old.world scene.new.world }
-    ensures sites { scene.new.sites ≡ scene.old.sites }
+    ensures keeps { KeepsScene S.spans S.kept S.is_whole scene.old scene.new }
 {
     match call {
         "context" => context(alloc, scene, span, at),
@@ -133,9 +122,7 @@ fn context<S: Stack>(
 ) -> Result<String, Memory>
     requires order { InOrder S.spans S.kept S.is_whole scene.old }
     requires held { IsHeld S.spans scene.old.sites scene.old.world span.now }
-    ensures order { InOrder S.spans S.kept S.is_whole scene.new }
-    ensures known { KeepsKnown S.spans scene.old.world scene.new.world }
-    ensures sites { scene.new.sites ≡ scene.old.sites }
+    ensures keeps { KeepsScene S.spans S.kept S.is_whole scene.old scene.new }
 {
     let own = scene.context(at, span).span_context();
     let (trace, id) = (own.trace, own.span);
@@ -152,9 +139,7 @@ fn set_parent<S: Stack>(
 ) -> Result<String, Memory>
     requires order { InOrder S.spans S.kept S.is_whole scene.old }
     requires held { IsHeld S.spans scene.old.sites scene.old.world span.now }
-    ensures order { InOrder S.spans S.kept S.is_whole scene.new }
-    ensures known { KeepsKnown S.spans scene.old.world scene.new.world }
-    ensures sites { scene.new.sites ≡ scene.old.sites }
+    ensures keeps { KeepsScene S.spans S.kept S.is_whole scene.old scene.new }
 {
     let context = Context {
         span: Some(words::ids(words)),

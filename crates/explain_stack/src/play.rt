@@ -1,9 +1,8 @@
 //! Lines of calls, made on the handles of a scene.
 ghost use Rattle.std.specs.Prelude.{◌≡◌, ◌<◌, IfOk, IfSome};
 ghost use Rattle.span_handles.specs.Handles.{IsKnown};
-ghost use Rattle.span_handles.specs.Knowing.{KeepsKnown};
-ghost use Rattle.explain_stack.specs.Order.{InOrder, IsHeld};
-ghost use Rattle.explain_stack.specs.Places.{AreHeld};
+ghost use Rattle.explain_stack.specs.Order.{InOrder, IsHeld, KeepsScene};
+ghost use Rattle.explain_stack.specs.Places.{AreHeld, InPlay};
 
 use crate::handles::{Handles, Slot};
 use crate::scene::Scene;
@@ -24,10 +23,8 @@ pub fn answer<S: Stack>(
     line: &str,
     cx: &mut task::Context<'_>,
 ) -> Result<String, Memory>
-    requires order { InOrder S.spans S.kept S.is_whole scene.old }
-    requires held { AreHeld S.spans scene.old.sites scene.old.world handles.old }
-    ensures order { InOrder S.spans S.kept S.is_whole scene.new }
-    ensures held { AreHeld S.spans scene.new.sites scene.new.world handles.new }
+    requires play { InPlay S.spans S.kept S.is_whole scene.old handles.old }
+    ensures play { InPlay S.spans S.kept S.is_whole scene.new handles.new }
 {
     let (at, line) = line.split_once(' ').unwrap_or((line, ""));
     let (call, line) = line.split_once(' ').unwrap_or((line, ""));
@@ -58,10 +55,8 @@ fn make<S: Stack>(
     name: &str,
     words: &str,
 ) -> Result<String, Memory>
-    requires order { InOrder S.spans S.kept S.is_whole scene.old }
-    requires held { AreHeld S.spans scene.old.sites scene.old.world handles.old }
-    ensures order { InOrder S.spans S.kept S.is_whole scene.new }
-    ensures held { AreHeld S.spans scene.new.sites scene.new.world handles.new }
+    requires play { InPlay S.spans S.kept S.is_whole scene.old handles.old }
+    ensures play { InPlay S.spans S.kept S.is_whole scene.new handles.new }
 {
     let (parent, words) = words.split_once(' ').unwrap_or((words, ""));
     let (site, words) = words.split_once(' ').unwrap_or((words, ""));
@@ -94,11 +89,9 @@ fn made<S: Stack>(
     site: SiteId,
     values: &ValueSet,
 ) -> Result<Option<Span>, Memory>
-    requires order { InOrder S.spans S.kept S.is_whole scene.old }
-    requires held { AreHeld S.spans scene.old.sites scene.old.world handles.old }
+    requires play { InPlay S.spans S.kept S.is_whole scene.old handles.old }
     requires site { site < scene.old.sites }
-    ensures order { InOrder S.spans S.kept S.is_whole scene.new }
-    ensures held { AreHeld S.spans scene.new.sites scene.new.world handles.new }
+    ensures play { InPlay S.spans S.kept S.is_whole scene.new handles.new }
     ensures made { IfOk result (λ made. IfSome made (IsHeld S.spans scene.new.sites scene.new.world)) }
 {
     if parent == "root" {
@@ -141,10 +134,8 @@ fn turn<S: Stack>(
     handles: &mut Handles,
     lane: &str,
 ) -> Result<String, Memory>
-    requires order { InOrder S.spans S.kept S.is_whole scene.old }
-    requires held { AreHeld S.spans scene.old.sites scene.old.world handles.old }
-    ensures order { InOrder S.spans S.kept S.is_whole scene.new }
-    ensures held { AreHeld S.spans scene.new.sites scene.new.world handles.new }
+    requires play { InPlay S.spans S.kept S.is_whole scene.old handles.old }
+    ensures play { InPlay S.spans S.kept S.is_whole scene.new handles.new }
 {
     let (here, there) = scene.lanes();
     let lane = words::number(lane).unwrap_or(0);
@@ -164,10 +155,8 @@ fn follow<S: Stack>(
     name: &str,
     other: &str,
 ) -> Result<String, Memory>
-    requires order { InOrder S.spans S.kept S.is_whole scene.old }
-    requires held { AreHeld S.spans scene.old.sites scene.old.world handles.old }
-    ensures order { InOrder S.spans S.kept S.is_whole scene.new }
-    ensures held { AreHeld S.spans scene.new.sites scene.new.world handles.new }
+    requires play { InPlay S.spans S.kept S.is_whole scene.old handles.old }
+    ensures play { InPlay S.spans S.kept S.is_whole scene.new handles.new }
 {
     if name == other {
         follow_itself(scene, handles, at, name)?;
@@ -184,10 +173,8 @@ fn follow_itself<S: Stack>(
     at: u64,
     name: &str,
 ) -> Result<(), Memory>
-    requires order { InOrder S.spans S.kept S.is_whole scene.old }
-    requires held { AreHeld S.spans scene.old.sites scene.old.world handles.old }
-    ensures order { InOrder S.spans S.kept S.is_whole scene.new }
-    ensures held { AreHeld S.spans scene.new.sites scene.new.world handles.new }
+    requires play { InPlay S.spans S.kept S.is_whole scene.old handles.old }
+    ensures play { InPlay S.spans S.kept S.is_whole scene.new handles.new }
 {
     let Some(slot) = handles.take(name) else {
         return Ok(());
@@ -205,10 +192,8 @@ fn follow_other<S: Stack>(
     name: &str,
     other: &str,
 ) -> Result<(), Memory>
-    requires order { InOrder S.spans S.kept S.is_whole scene.old }
-    requires held { AreHeld S.spans scene.old.sites scene.old.world handles.old }
-    ensures order { InOrder S.spans S.kept S.is_whole scene.new }
-    ensures held { AreHeld S.spans scene.new.sites scene.new.world handles.new }
+    requires play { InPlay S.spans S.kept S.is_whole scene.old handles.old }
+    ensures play { InPlay S.spans S.kept S.is_whole scene.new handles.new }
 {
     let Some(slot) = handles.take(name) else {
         return Ok(());
@@ -227,12 +212,9 @@ fn follow_slot<S: Stack>(
     span: &Span,
     other: &str,
 ) -> Result<(), Memory>
-    requires order { InOrder S.spans S.kept S.is_whole scene.old }
-    requires held { AreHeld S.spans scene.old.sites scene.old.world handles.old }
+    requires play { InPlay S.spans S.kept S.is_whole scene.old handles.old }
     requires known { IsKnown S.spans scene.old.world span.now.held }
-    ensures known { KeepsKnown S.spans scene.old.world scene.new.world }
-    ensures sites { scene.new.sites ≡ scene.old.sites }
-    ensures order { InOrder S.spans S.kept S.is_whole scene.new }
+    ensures keeps { KeepsScene S.spans S.kept S.is_whole scene.old scene.new }
     ensures held { AreHeld S.spans scene.new.sites scene.new.world handles.new }
 {
     let Some(from) = handles.take(other) else {
@@ -252,10 +234,8 @@ fn close<S: Stack>(
     at: u64,
     name: &str,
 ) -> Result<String, Memory>
-    requires order { InOrder S.spans S.kept S.is_whole scene.old }
-    requires held { AreHeld S.spans scene.old.sites scene.old.world handles.old }
-    ensures order { InOrder S.spans S.kept S.is_whole scene.new }
-    ensures held { AreHeld S.spans scene.new.sites scene.new.world handles.new }
+    requires play { InPlay S.spans S.kept S.is_whole scene.old handles.old }
+    ensures play { InPlay S.spans S.kept S.is_whole scene.new handles.new }
 {
     let Some(slot) = handles.take(name) else {
         return told::refused(alloc);
@@ -279,10 +259,8 @@ fn one<S: Stack>(
     name: &str,
     words: &str,
 ) -> Result<String, Memory>
-    requires order { InOrder S.spans S.kept S.is_whole scene.old }
-    requires held { AreHeld S.spans scene.old.sites scene.old.world handles.old }
-    ensures order { InOrder S.spans S.kept S.is_whole scene.new }
-    ensures held { AreHeld S.spans scene.new.sites scene.new.world handles.new }
+    requires play { InPlay S.spans S.kept S.is_whole scene.old handles.old }
+    ensures play { InPlay S.spans S.kept S.is_whole scene.new handles.new }
 {
     let Some(slot) = handles.take(name) else {
         return told::refused(alloc);
@@ -302,9 +280,7 @@ fn act<S: Stack>(
 ) -> (Slot, Result<String, Memory>)
     requires order { InOrder S.spans S.kept S.is_whole scene.old }
     requires held { IsHeld S.spans scene.old.sites scene.old.world slot }
-    ensures order { InOrder S.spans S.kept S.is_whole scene.new }
-    ensures known { KeepsKnown S.spans scene.old.world scene.new.world }
-    ensures sites { scene.new.sites ≡ scene.old.sites }
+    ensures keeps { KeepsScene S.spans S.kept S.is_whole scene.old scene.new }
     ensures slot { result.0 ≡ slot }
 {
     match call {
@@ -326,9 +302,7 @@ fn enter<S: Stack>(
 ) -> (Slot, Result<String, Memory>)
     requires order { InOrder S.spans S.kept S.is_whole scene.old }
     requires held { IsHeld S.spans scene.old.sites scene.old.world slot }
-    ensures order { InOrder S.spans S.kept S.is_whole scene.new }
-    ensures known { KeepsKnown S.spans scene.old.world scene.new.world }
-    ensures sites { scene.new.sites ≡ scene.old.sites }
+    ensures keeps { KeepsScene S.spans S.kept S.is_whole scene.old scene.new }
     ensures slot { result.0 ≡ slot }
 {
     let Slot { span, entry, other } = slot;
@@ -356,9 +330,7 @@ fn exit<S: Stack>(
 ) -> (Slot, Result<String, Memory>)
     requires order { InOrder S.spans S.kept S.is_whole scene.old }
     requires held { IsHeld S.spans scene.old.sites scene.old.world slot }
-    ensures order { InOrder S.spans S.kept S.is_whole scene.new }
-    ensures known { KeepsKnown S.spans scene.old.world scene.new.world }
-    ensures sites { scene.new.sites ≡ scene.old.sites }
+    ensures keeps { KeepsScene S.spans S.kept S.is_whole scene.old scene.new }
     ensures slot { result.0 ≡ slot }
 {
     let Slot { span, entry, other } = slot;

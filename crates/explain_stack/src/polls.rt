@@ -5,11 +5,11 @@ ghost use Rattle.trace_base.specs.Conditions.{HasFewHolds, HasFewHoldsAbove};
 ghost use Rattle.trace_base.specs.lanes.Contexts.{attached_as};
 ghost use Rattle.trace_base.specs.Gate.{dispatch_on};
 ghost use Rattle.span_handles.specs.Handles.{IsKnown, HasOn};
-ghost use Rattle.span_handles.specs.Knowing.{KeepsKnown, KeepsHandles, KeepsOthers, GainsOne, LosesOne};
+ghost use Rattle.span_handles.specs.Knowing.{KeepsHandles, KeepsOthers, GainsOne, LosesOne};
 ghost use Rattle.span_handles.specs.Worlds.{Has};
 ghost use Rattle.explain_stack.specs.Looking.{looks};
-ghost use Rattle.explain_stack.specs.Order.{InOrder, IsHeld};
-ghost use Rattle.explain_stack.specs.Places.{AreHeld};
+ghost use Rattle.explain_stack.specs.Order.{InOrder, KeepsScene};
+ghost use Rattle.explain_stack.specs.Places.{InPlay};
 
 use crate::handles::{Handles, Slot};
 use crate::scene::Scene;
@@ -84,9 +84,7 @@ impl<S: Stack> Scene<S> {
     ) -> (Span, Option<Result<Poll<bool>, EnterError>>)
         requires order { InOrder S.spans S.kept S.is_whole self.old }
         requires known { IsKnown S.spans self.old.world span.held }
-        ensures order { InOrder S.spans S.kept S.is_whole self.new }
-        ensures known { KeepsKnown S.spans self.old.world self.new.world }
-        ensures sites { self.new.sites ≡ self.old.sites }
+        ensures keeps { KeepsScene S.spans S.kept S.is_whole self.old self.new }
         ensures back { result.0 ≡ span }
     {
         if !self.has_room(&span) {
@@ -116,9 +114,7 @@ impl<S: Stack> Scene<S> {
         requires room { (world : _) (lane : _) → T.has_room future world lane at }
         requires leaves { (f : T) (world : _) (lane : _) (moment : ℕ) (r : _) (g : T) (new : _) (later : _)
             → T.polls f world lane moment r g new later → (new ≡ world) × (later ≡ lane) }
-        ensures order { InOrder S.spans S.kept S.is_whole self.new }
-        ensures known { KeepsKnown S.spans self.old.world self.new.world }
-        ensures sites { self.new.sites ≡ self.old.sites }
+        ensures keeps { KeepsScene S.spans S.kept S.is_whole self.old self.new }
         ensures back { result.0 ≡ span }
     {
         let mut future = future.instrument(span);
@@ -133,9 +129,7 @@ impl<S: Stack> Scene<S> {
     #[tactic(auto, using(crate::proofs::Around::known_again))]
     fn is_around(&mut self, at: u64, span: &Span) -> Option<bool>
         requires order { InOrder S.spans S.kept S.is_whole self.old }
-        ensures order { InOrder S.spans S.kept S.is_whole self.new }
-        ensures known { KeepsKnown S.spans self.old.world self.new.world }
-        ensures sites { self.new.sites ≡ self.old.sites }
+        ensures keeps { KeepsScene S.spans S.kept S.is_whole self.old self.new }
     {
         if get_default(&self.world, &self.lane) != Some(self.dispatch) || !self.has_room_around() {
             return None;
@@ -231,10 +225,8 @@ pub fn around<S: Stack>(
     at: u64,
     name: &str,
 ) -> Result<String, Memory>
-    requires order { InOrder S.spans S.kept S.is_whole scene.old }
-    requires held { AreHeld S.spans scene.old.sites scene.old.world handles.old }
-    ensures order { InOrder S.spans S.kept S.is_whole scene.new }
-    ensures held { AreHeld S.spans scene.new.sites scene.new.world handles.new }
+    requires play { InPlay S.spans S.kept S.is_whole scene.old handles.old }
+    ensures play { InPlay S.spans S.kept S.is_whole scene.new handles.new }
 {
     let Some(slot) = handles.take(name) else {
         return told::refused(alloc);
@@ -259,10 +251,8 @@ pub fn polled<S: Stack>(
     word: &str,
     cx: &mut Context<'_>,
 ) -> Result<String, Memory>
-    requires order { InOrder S.spans S.kept S.is_whole scene.old }
-    requires held { AreHeld S.spans scene.old.sites scene.old.world handles.old }
-    ensures order { InOrder S.spans S.kept S.is_whole scene.new }
-    ensures held { AreHeld S.spans scene.new.sites scene.new.world handles.new }
+    requires play { InPlay S.spans S.kept S.is_whole scene.old handles.old }
+    ensures play { InPlay S.spans S.kept S.is_whole scene.new handles.new }
 {
     let Some(slot) = handles.take(name) else {
         return told::refused(alloc);

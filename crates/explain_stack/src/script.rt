@@ -3,7 +3,7 @@ ghost use Rattle.std.specs.Prelude.{◌≡◌, ℕ, [], false, length};
 ghost use Rattle.span_registry.specs.Both.{KnowsNone};
 ghost use Rattle.span_registry.specs.Registering.{no_spans};
 ghost use Rattle.explain_stack.specs.Order.{InOrder};
-ghost use Rattle.explain_stack.specs.Places.{AreHeld};
+ghost use Rattle.explain_stack.specs.Places.{InPlay};
 
 use crate::handles::Handles;
 use crate::scene::Scene;
@@ -183,8 +183,7 @@ fn play<S: Stack>(
     lines: &[String],
     cx: &mut Context<'_>,
 ) -> Result<String, Memory>
-    requires order { InOrder S.spans S.kept S.is_whole scene.old }
-    requires held { AreHeld S.spans scene.old.sites scene.old.world handles.old }
+    requires { InPlay S.spans S.kept S.is_whole scene.old handles.old }
     ensures { InOrder S.spans S.kept S.is_whole scene.new }
 {
     let mut told = String::new(alloc);
