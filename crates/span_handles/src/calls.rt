@@ -1,12 +1,13 @@
 //! Single calls on a subscriber of a world, for the handles that make them.
-ghost use Rattle.std.specs.Prelude.{◌≡◌, ◌<◌, ◌==◌, ℕ, length, Some, None, IfOk, IsOk, OnOk, OnErr, slice_get};
+ghost use Rattle.std.specs.Prelude.{◌≡◌, ◌<◌, ◌==◌, ℕ, length, Some, OnOk, OnErr, slice_get};
 ghost use Rattle.trace_base.specs.Spans.{span_at};
 ghost use Rattle.trace_base.specs.Calls.{CloneSpan, Follows};
 ghost use Rattle.trace_base.specs.declared.span.Parent.TheVariants as parent;
 ghost use Rattle.trace_base.specs.Conditions.{HasFewHolds, HasFewHoldsAbove, HasOwnHold, IsLive};
 ghost use Rattle.span_handles.specs.Worlds.{Has, Replaced, Chain};
-ghost use Rattle.span_handles.specs.Handles.{IsKnown, MayMake, MayMakeIf, Makes, MakesIf, IsCurrent, ReplacedIf, RecordsAt, ClosesOn};
+ghost use Rattle.span_handles.specs.Handles.{IsKnown, MayMake, MayMakeIf, IsCurrent, RecordsAt, ClosesOn};
 ghost use Rattle.span_handles.specs.Knowing.{KeepsHandles, KeepsOthers, GainsOne, LosesOne};
+ghost use Rattle.span_handles.specs.Makers.{MakesHandle};
 
 use crate::span::Span;
 use otel_base::memory::Memory;
@@ -30,12 +31,8 @@ pub(crate) fn make_if<S: Subscriber>(
 ) -> Result<Span, Memory>
     requires site { site < length world.old.sites }
     requires may { MayMakeIf S.spans S.is_whole world.old lane.now.id parent dispatch }
-    ensures ok { IfOk result
-        (MakesIf S.spans S.does world.old world.new lane.now at parent site values.now dispatch) }
-    ensures known { IfOk result (λ handle. IsKnown S.spans world.new handle.held) }
-    ensures keeps { KeepsHandles S.spans world.old world.new }
-    ensures unserved { dispatch ≡ None → IsOk result }
-    ensures memory_leaves { OnErr result (ReplacedIf S.same world.old world.new dispatch) }
+    ensures makes { MakesHandle S.spans S.does S.same world.old world.new lane.now at parent site values.now
+        dispatch result }
 {
     match dispatch {
         None => Ok(Span::none()),
@@ -55,11 +52,8 @@ pub(crate) fn make<S: Subscriber>(
 ) -> Result<Span, Memory>
     requires site { site < length world.old.sites }
     requires may { MayMake S.spans S.is_whole world.old lane.now.id parent dispatch }
-    ensures ok { IfOk result
-        (Makes S.spans S.does world.old world.new lane.now at parent site values.now dispatch) }
-    ensures known { IfOk result (λ handle. IsKnown S.spans world.new handle.held) }
-    ensures keeps { KeepsHandles S.spans world.old world.new }
-    ensures memory_leaves { OnErr result (Replaced S.same world.old world.new dispatch) }
+    ensures makes { MakesHandle S.spans S.does S.same world.old world.new lane.now at parent site values.now
+        (Some dispatch) result }
 {
     let (subscriber, callsite) = world.subscriber_and_site(dispatch, site);
     let id = subscriber.new_span(lane, at, parent, site, callsite, values)?;

@@ -1,12 +1,13 @@
 //! Handles of spans.
-ghost use Rattle.std.specs.Prelude.{◌≡◌, ◌<◌, ◌↔◌, ℕ, length, is_some, Option, Some, None, IfOk, IfSome, IsOk, OnOk, OnErr, IsTrue, option_map};
+ghost use Rattle.std.specs.Prelude.{◌≡◌, ◌<◌, ◌↔◌, ℕ, length, is_some, Option, Some, None, IfSome, IsTrue, option_map};
 ghost use Rattle.trace_base.specs.declared.span.Parent.TheVariants as parent;
 ghost use Rattle.trace_base.specs.Gate.{IsOwn, dispatch_on};
 ghost use Rattle.trace_base.specs.Calls.{CloneSpan};
 ghost use Rattle.trace_base.specs.Conditions.{HasFewHolds, HasFewHoldsAbove};
-ghost use Rattle.span_handles.specs.Worlds.{Has, Replaced, Chain};
-ghost use Rattle.span_handles.specs.Handles.{Handle, no_handle, id_of, same_held, IsKnown, HasOn, HasIf, IsSite, IsOf, ReplacedOn, ReplacedIf, MayMake, MayMakeIf, Makes, MakesIf, place_under, IsCurrent, callsite_in, field_in, ClosesOn};
+ghost use Rattle.span_handles.specs.Worlds.{Has, Chain};
+ghost use Rattle.span_handles.specs.Handles.{Handle, no_handle, id_of, same_held, IsKnown, HasOn, HasIf, IsSite, IsOf, ReplacedOn, MayMake, MayMakeIf, place_under, IsCurrent, callsite_in, field_in, ClosesOn};
 ghost use Rattle.span_handles.specs.Knowing.{KeepsHandles, KeepsOthers, GainsOne, LosesOne};
+ghost use Rattle.span_handles.specs.Makers.{MakesHandle};
 
 use crate::calls::{current_in, hold, make, make_if, release};
 use otel_base::memory::Memory;
@@ -50,14 +51,8 @@ impl Span {
         requires site { site < length world.old.sites }
         requires may { MayMakeIf S.spans S.is_whole world.old lane.now.id parent.Current
             (dispatch_on lane.now.default world.old.global) }
-        ensures ok { IfOk result
-            (MakesIf S.spans S.does world.old world.new lane.now at parent.Current site values.now
-            (dispatch_on lane.now.default world.old.global)) }
-        ensures known { IfOk result (λ handle. IsKnown S.spans world.new handle.held) }
-        ensures keeps { KeepsHandles S.spans world.old world.new }
-        ensures unserved { dispatch_on lane.now.default world.old.global ≡ None → IsOk result }
-        ensures memory_leaves { OnErr result
-            (ReplacedIf S.same world.old world.new (dispatch_on lane.now.default world.old.global)) }
+        ensures makes { MakesHandle S.spans S.does S.same world.old world.new lane.now at parent.Current site
+            values.now (dispatch_on lane.now.default world.old.global) result }
     {
         let dispatch = get_default(world, lane);
         make_if(world, dispatch, lane, at, Parent::Current, site, values)
@@ -75,14 +70,8 @@ impl Span {
         requires site { site < length world.old.sites }
         requires may { MayMakeIf S.spans S.is_whole world.old lane.now.id parent.Root
             (dispatch_on lane.now.default world.old.global) }
-        ensures ok { IfOk result
-            (MakesIf S.spans S.does world.old world.new lane.now at parent.Root site values.now
-            (dispatch_on lane.now.default world.old.global)) }
-        ensures known { IfOk result (λ handle. IsKnown S.spans world.new handle.held) }
-        ensures keeps { KeepsHandles S.spans world.old world.new }
-        ensures unserved { dispatch_on lane.now.default world.old.global ≡ None → IsOk result }
-        ensures memory_leaves { OnErr result
-            (ReplacedIf S.same world.old world.new (dispatch_on lane.now.default world.old.global)) }
+        ensures makes { MakesHandle S.spans S.does S.same world.old world.new lane.now at parent.Root site
+            values.now (dispatch_on lane.now.default world.old.global) result }
     {
         let dispatch = get_default(world, lane);
         make_if(world, dispatch, lane, at, Parent::Root, site, values)
@@ -102,14 +91,8 @@ impl Span {
         requires site { site < length world.old.sites }
         requires may { MayMakeIf S.spans S.is_whole world.old lane.now.id (place_under parent.now.held)
             (dispatch_on lane.now.default world.old.global) }
-        ensures ok { IfOk result
-            (MakesIf S.spans S.does world.old world.new lane.now at (place_under parent.now.held) site
-            values.now (dispatch_on lane.now.default world.old.global)) }
-        ensures known { IfOk result (λ handle. IsKnown S.spans world.new handle.held) }
-        ensures keeps { KeepsHandles S.spans world.old world.new }
-        ensures unserved { dispatch_on lane.now.default world.old.global ≡ None → IsOk result }
-        ensures memory_leaves { OnErr result
-            (ReplacedIf S.same world.old world.new (dispatch_on lane.now.default world.old.global)) }
+        ensures makes { MakesHandle S.spans S.does S.same world.old world.new lane.now at (place_under parent.now.held) site
+            values.now (dispatch_on lane.now.default world.old.global) result }
     {
         let dispatch = get_default(world, lane);
         make_if(world, dispatch, lane, at, parent.place(), site, values)
@@ -126,11 +109,8 @@ impl Span {
     ) -> Result<Span, Memory>
         requires site { site < length world.old.sites }
         requires may { MayMake S.spans S.is_whole world.old lane.now.id parent.Current dispatch }
-        ensures ok { IfOk result
-            (Makes S.spans S.does world.old world.new lane.now at parent.Current site values.now dispatch) }
-        ensures known { IfOk result (λ handle. IsKnown S.spans world.new handle.held) }
-        ensures keeps { KeepsHandles S.spans world.old world.new }
-        ensures memory_leaves { OnErr result (Replaced S.same world.old world.new dispatch) }
+        ensures makes { MakesHandle S.spans S.does S.same world.old world.new lane.now at parent.Current site
+            values.now (Some dispatch) result }
     {
         make(world, dispatch, lane, at, Parent::Current, site, values)
     }
@@ -146,11 +126,8 @@ impl Span {
     ) -> Result<Span, Memory>
         requires site { site < length world.old.sites }
         requires may { MayMake S.spans S.is_whole world.old lane.now.id parent.Root dispatch }
-        ensures ok { IfOk result
-            (Makes S.spans S.does world.old world.new lane.now at parent.Root site values.now dispatch) }
-        ensures known { IfOk result (λ handle. IsKnown S.spans world.new handle.held) }
-        ensures keeps { KeepsHandles S.spans world.old world.new }
-        ensures memory_leaves { OnErr result (Replaced S.same world.old world.new dispatch) }
+        ensures makes { MakesHandle S.spans S.does S.same world.old world.new lane.now at parent.Root site
+            values.now (Some dispatch) result }
     {
         make(world, dispatch, lane, at, Parent::Root, site, values)
     }
@@ -169,12 +146,8 @@ impl Span {
         requires site { site < length world.old.sites }
         requires may { MayMake S.spans S.is_whole world.old lane.now.id (place_under parent.now.held)
             dispatch }
-        ensures ok { IfOk result
-            (Makes S.spans S.does world.old world.new lane.now at (place_under parent.now.held) site
-            values.now dispatch) }
-        ensures known { IfOk result (λ handle. IsKnown S.spans world.new handle.held) }
-        ensures keeps { KeepsHandles S.spans world.old world.new }
-        ensures memory_leaves { OnErr result (Replaced S.same world.old world.new dispatch) }
+        ensures makes { MakesHandle S.spans S.does S.same world.old world.new lane.now at (place_under parent.now.held) site
+            values.now (Some dispatch) result }
     {
         make(world, dispatch, lane, at, parent.place(), site, values)
     }

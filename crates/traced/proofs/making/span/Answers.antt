@@ -10,7 +10,7 @@ use Rattle.traced.proofs.making.span.Goals as goal
 pub returns-then-admits : goal.returns-then-admits
 returns-then-admits g c =
     makes g.S.Subscriber c.args.world.now c.new.new.world c.args.lane.now c.args.at parent.Current c.args.site c.args.values.now c.lawful.ensures c.new.result c.requires
-    (subst (Answers g.S.Subscriber c.args.world.now c.args.lane.now c.args.site) c.if-admits.true c.admits.ensures) c.new.ensures.ok c.new.ensures.known c.new.ensures.keeps c.new.ensures.memory_leaves
+    (subst (Answers g.S.Subscriber c.args.world.now c.args.lane.now c.args.site) c.if-admits.true c.admits.ensures) c.new.ensures.makes.ok c.new.ensures.makes.known c.new.ensures.makes.keeps c.new.ensures.makes.memory_leaves
 
 pub returns-else-admits : goal.returns-else-admits
 returns-else-admits g c =

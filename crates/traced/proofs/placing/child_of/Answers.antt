@@ -9,7 +9,7 @@ use Rattle.traced.proofs.placing.child_of.Goals as goal
 pub returns-then-admits : goal.returns-then-admits
 returns-then-admits g c =
     makes g.S.Subscriber c.args.world.now c.child_of.new.world c.args.lane.now c.args.at (place_under c.args.parent.now.held) c.args.site c.args.values.now c.lawful.ensures c.child_of.result c.requires.may
-    (subst (Answers g.S.Subscriber c.args.world.now c.args.lane.now c.args.site) c.if-admits.true c.admits.ensures) c.child_of.ensures.ok c.child_of.ensures.known c.child_of.ensures.keeps c.child_of.ensures.memory_leaves
+    (subst (Answers g.S.Subscriber c.args.world.now c.args.lane.now c.args.site) c.if-admits.true c.admits.ensures) c.child_of.ensures.makes.ok c.child_of.ensures.makes.known c.child_of.ensures.makes.keeps c.child_of.ensures.makes.memory_leaves
 
 pub returns-else-admits : goal.returns-else-admits
 returns-else-admits g c =

@@ -10,7 +10,7 @@ use Rattle.traced.proofs.placing.root.Goals as goal
 pub returns-then-admits : goal.returns-then-admits
 returns-then-admits g c =
     makes g.S.Subscriber c.args.world.now c.new_root.new.world c.args.lane.now c.args.at parent.Root c.args.site c.args.values.now c.lawful.ensures c.new_root.result c.requires
-    (subst (Answers g.S.Subscriber c.args.world.now c.args.lane.now c.args.site) c.if-admits.true c.admits.ensures) c.new_root.ensures.ok c.new_root.ensures.known c.new_root.ensures.keeps c.new_root.ensures.memory_leaves
+    (subst (Answers g.S.Subscriber c.args.world.now c.args.lane.now c.args.site) c.if-admits.true c.admits.ensures) c.new_root.ensures.makes.ok c.new_root.ensures.makes.known c.new_root.ensures.makes.keeps c.new_root.ensures.makes.memory_leaves
 
 pub returns-else-admits : goal.returns-else-admits
 returns-else-admits g c =

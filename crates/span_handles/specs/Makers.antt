@@ -1,0 +1,20 @@
+-- What the calls promise that make a span and a handle of it.
+use Rattle.std.specs.Prelude.{◌≡◌, ℕ, Option, None, Result, IfOk, IsOk, OnErr}
+use Rattle.otel_base.specs.declared.memory.Memory.{Memory}
+use Rattle.trace_base.specs.declared.field.ValueSet.{ValueSet}
+use Rattle.trace_base.specs.declared.lane.Lane.{Lane}
+use Rattle.trace_base.specs.declared.span.Parent.{Parent}
+use Rattle.trace_base.specs.Gate.{Worlds}
+use Rattle.trace_base.specs.Spans.{Spans}
+use Rattle.trace_base.specs.Calls.{SubscriberCall}
+use Rattle.span_handles.specs.Handles.{Handle, IsKnown, MakesIf, ReplacedIf}
+use Rattle.span_handles.specs.Knowing.{KeepsHandles}
+
+-- A span is made by one call of a subscriber, and its handle is known, as are all that were known. Without a subscriber the
+-- handle is disabled. For want of memory nothing but room changed.
+pub record MakesHandle {S : Type 0} (spans : S → Spans) (does : S → SubscriberCall → S → Type 0) (same : S → S → Type 0) (old new : Worlds S) (lane : Lane) (at : ℕ) (place : Parent) (site : ℕ) (values : ValueSet) (dispatch : Option ℕ) (result : Result Handle Memory) : Type 0 where
+  pub ok : IfOk result (MakesIf spans does old new lane at place site values dispatch)
+  pub known : IfOk result (λ handle. IsKnown spans new handle.held)
+  pub keeps : KeepsHandles spans old new
+  pub unserved : dispatch ≡ None → IsOk result
+  pub memory_leaves : OnErr result (ReplacedIf same old new dispatch)
