@@ -114,6 +114,7 @@ impl<S: Stack> Scene<S> {
         requires room { (world : _) (lane : _) → T.has_room future world lane at }
         requires leaves { (f : T) (world : _) (lane : _) (moment : ℕ) (r : _) (g : T) (new : _) (later : _)
             → T.polls f world lane moment r g new later → (new ≡ world) × (later ≡ lane) }
+
         ensures keeps { KeepsScene S.spans S.kept S.is_whole self.old self.new }
         ensures back { result.0 ≡ span }
     {
@@ -146,6 +147,7 @@ impl<S: Stack> Scene<S> {
         requires served { dispatch_on self.old.lane.default self.old.world.global ≡ Some self.old.dispatch }
         requires few { Has (λ s. HasFewHoldsAbove (S.spans s) self.old.lane.id parent.Current) self.old.world
             self.old.dispatch }
+
         ensures order { InOrder S.spans S.kept S.is_whole self.new }
         ensures held { IsKnown S.spans self.new.world result.span.held }
         ensures keeps { KeepsHandles S.spans self.old.world self.new.world }

@@ -41,6 +41,7 @@ pub fn poll<S: Stack, T: TracedFuture<S, Output = u64>>(
     requires inner { T.knows future.old.inner world.old }
     requires room { (f : T) (w : _) (l : _) (m : ℕ) → T.has_room f w l m }
     requires ready { IsReady S.kept S.is_whole world.old lane.old }
+
     ensures known { IsKnown S.spans world.new future.new.span.held }
     ensures inner { T.knows future.new.inner world.new }
     ensures ready { IsReady S.kept S.is_whole world.new lane.new }

@@ -76,6 +76,7 @@ fn made<S: Stack>(
     requires count { length world.old.subscribers ≡ 2 }
     requires unused { HasAll (IsUnused S.spans S.kept S.is_whole) world.old }
     requires own { lane.old.default ≡ Some 0 }
+
     ensures count { 2 ≤ length world.new.subscribers }
     ensures whole { HasAll S.is_whole world.new }
     ensures known { IfOk result (λ span. IsKnown S.spans world.new span.held) }

@@ -68,6 +68,8 @@ impl ContextStack {
         ensures holds { IfOk result (λ number. has number self.new.live ≡ true) }
         ensures full { (result ≡ Err Full) ↔ (length self.old.live ≡ MOST) }
         ensures err_leaves { OnErr result (self.new.live ≡ self.old.live) }
+
+        // An attach uses up room for one.
         ensures ready { IsReady self.old → IsOk result }
         ensures with_room { 0 < self.old.room → ¬ (result ≡ Err Memory) }
         ensures room { self.old.room ≤ self.new.room + 1 }

@@ -35,6 +35,7 @@ impl<T: Tracer> OpenTelemetryLayer<T> {
     // Starts a span, if it is known and hasn't started.
     pub(crate) fn start(&mut self, id: Id, at: u64)
         requires { T.started self.old.core.tracer < 2 ^ 63 }
+
         ensures starts { Starts T.does id at self.old.core self.new.core }
         ensures rooms { self.new.rooms ≡ self.old.rooms }
         ensures room { self.new.room ≡ self.old.room }
@@ -52,6 +53,7 @@ impl<T: Tracer> OpenTelemetryLayer<T> {
     // Starts the span that is named, if one is.
     fn start_any(&mut self, id: Option<Id>, at: u64)
         requires { T.started self.old.core.tracer < 2 ^ 63 }
+
         ensures starts { StartsAny T.does id at self.old.core self.new.core }
         ensures rooms { self.new.rooms ≡ self.old.rooms }
         ensures room { self.new.room ≡ self.old.room }

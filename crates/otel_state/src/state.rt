@@ -171,9 +171,12 @@ impl SpanState {
         ensures did { OnOk result (self.new.told ≡ changed self.old.told at op) }
         ensures reply { IfOk result (λ r. r ≡ reply self.old.told op) }
         ensures listed { IfOk result (IsReadOff (λ _ ops. reply_after (own_of ops) op) self.old.told) }
+
         ensures memory_leaves { OnErr result (self.new.told ≡ self.old.told) }
         ensures memory { OnErr result (IsTrue (is_growing op)) }
         ensures had_room { HasRoom self.old.room op → IsOk result }
+
+        // Room that the op doesn't fill stays.
         ensures rest { OnOk result (Keeps (less self.old.room (deed op)) self.new.room) }
         ensures keeps { OnErr result (Keeps self.old.room self.new.room) }
     {

@@ -91,6 +91,7 @@ pub(crate) fn hold<S: Subscriber>(world: &mut World<S>, dispatch: Dispatch, id: 
     requires whole { Has S.is_whole world.old dispatch }
     requires live { Has (λ s. IsLive (S.spans s).made id) world.old dispatch }
     requires few_holds { Has (λ s. HasFewHolds (S.spans s).made id) world.old dispatch }
+
     ensures did { Replaced (λ s t. S.does s (CloneSpan id) t) world.old world.new dispatch }
     ensures known { IsKnown S.spans world.new (Some (dispatch, id)) }
     ensures keeps { KeepsHandles S.spans world.old world.new }

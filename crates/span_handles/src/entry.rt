@@ -67,6 +67,7 @@ impl Span {
         requires known { IsKnown S.spans world.old self.now.held }
         requires whole { HasOn (λ s id. S.is_whole s) world.old self.now.held }
         requires few_holds { HasOn (λ s id. HasFewHolds (S.spans s).made id) world.old self.now.held }
+
         ensures value { IfOk result (λ entry. entry ≡ self.now.held) }
         ensures did { OnOk result
             (ReplacedOn (λ id s t. S.does s (Enter id at lane.old lane.new) t) world.old world.new
@@ -75,6 +76,8 @@ impl Span {
         ensures known { IsKnown S.spans world.new self.now.held }
         ensures keeps { KeepsHandles S.spans world.old world.new }
         ensures disabled { self.now.held ≡ None → IsOk result }
+
+        // A refused entry leaves the world and the lane as they are, but for room.
         ensures leaves { OnErr result (ReplacedOn (λ id s t. S.same s t) world.old world.new self.now.held) }
         ensures lane_leaves { OnErr result (LeavesLane lane.old lane.new) }
         ensures full { result ≡ Err Full → MeetsFullLane S.activates world.old lane.old self.now.held }
@@ -104,6 +107,7 @@ impl Span {
         requires whole { HasOn (λ s id. S.is_whole s) world.old self.now.held }
         requires may { HasOn (λ s id. MayExit (S.spans s) id lane.old.id) world.old self.now.held }
         requires still { HasOn (λ s id. AreAttached (S.kept s) lane.old) world.old self.now.held }
+
         ensures did { ReplacedOn (λ id s t. S.does s (Exit id at lane.old lane.new) t) world.old world.new
             self.now.held }
         ensures none { self.now.held ≡ None → lane.new ≡ lane.old }
@@ -129,6 +133,7 @@ fn enter<S: Subscriber>(
     requires whole { Has S.is_whole world.old dispatch }
     requires live { Has (λ s. IsLive (S.spans s).made id) world.old dispatch }
     requires few_holds { Has (λ s. HasFewHolds (S.spans s).made id) world.old dispatch }
+
     ensures did { OnOk result
         (Replaced (λ s t. S.does s (Enter id at lane.old lane.new) t) world.old world.new dispatch) }
     ensures keeps { KeepsHandles S.spans world.old world.new }

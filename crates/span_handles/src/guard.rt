@@ -67,6 +67,7 @@ impl Span {
         requires known { IsKnown S.spans world.old self.now.held }
         requires whole { HasOn (λ s id. S.is_whole s) world.old self.now.held }
         requires few_holds { HasOn (λ s id. HasFewHolds (S.spans s).made id) world.old self.now.held }
+
         ensures value { IfOk result (λ guard. guard ≡ record { span = self.now; lane = lane.old.id }) }
         ensures did { OnOk result
             (ReplacedOn (λ id s t. S.does s (Enter id at lane.old lane.new) t) world.old world.new
@@ -75,6 +76,8 @@ impl Span {
         ensures known { IsKnown S.spans world.new self.now.held }
         ensures keeps { KeepsHandles S.spans world.old world.new }
         ensures disabled { self.now.held ≡ None → IsOk result }
+
+        // A refused entry leaves the world and the lane as they are, but for room.
         ensures leaves { OnErr result (ReplacedOn (λ id s t. S.same s t) world.old world.new self.now.held) }
         ensures lane_leaves { OnErr result (LeavesLane lane.old lane.new) }
         ensures full { result ≡ Err Full → MeetsFullLane S.activates world.old lane.old self.now.held }
@@ -100,6 +103,7 @@ impl Span {
         requires known { IsKnown S.spans world.old self.held }
         requires whole { HasOn (λ s id. S.is_whole s) world.old self.held }
         requires few_holds { HasOn (λ s id. HasFewHolds (S.spans s).made id) world.old self.held }
+
         ensures value { IfOk result (λ guard. guard ≡ record { span = self; lane = lane.old.id }) }
         ensures did { OnOk result
             (ReplacedOn (λ id s t. S.does s (Enter id at lane.old lane.new) t) world.old world.new
@@ -108,6 +112,8 @@ impl Span {
         ensures known { IsKnown S.spans world.new self.held }
         ensures keeps { KeepsHandles S.spans world.old world.new }
         ensures disabled { self.held ≡ None → IsOk result }
+
+        // A refused entry hands the handle back, and leaves the world and the lane as they are, but for room.
         ensures back { IfErr result (λ refused. refused.0 ≡ self) }
         ensures leaves { OnErr result (ReplacedOn (λ id s t. S.same s t) world.old world.new self.held) }
         ensures lane_leaves { OnErr result (LeavesLane lane.old lane.new) }
@@ -142,21 +148,27 @@ impl Span {
         requires whole { HasOn (λ s id. S.is_whole s) world.old self.now.held }
         requires few_holds { HasOn (λ s id. HasFewHolds (S.spans s).made id) world.old self.now.held }
         requires still { IsStillOn S.kept lane.old world.old self.now.held }
+
+        // The closure finds the span entered, and leaves it so that it can be exited.
         requires callable { (w : _) (l : _) → Begins S.does at self.now.held world.old lane.old w.now l.now
             → F.pre f w l }
         requires keeps { (w : _) (l : _) (r : T) (t : _) (m : _)
             → Begins S.does at self.now.held world.old lane.old w.now l.now → F.post f w l r t m
             → Keeps S.spans S.kept S.is_whole self.now.held w.now l.now t.now m.now }
+
         ensures ok { IfOk result
             (λ answer. (w : _) × (l : _) × (t : _) × (m : _)
             × Begins S.does at self.now.held world.old lane.old w.now l.now × F.post f w l answer t m
             × ReplacedOn (λ id s u. S.does s (Exit id at m.now lane.new) u) t.now world.new self.now.held
             × (self.now.held ≡ None → lane.new ≡ m.now)) }
         ensures known { IsKnown S.spans world.new self.now.held }
+
+        // Where the closure leaves known handles known, the call does.
         ensures keeps { ((w : _) (l : _) (r : T) (t : _) (m : _)
             → Begins S.does at self.now.held world.old lane.old w.now l.now → F.post f w l r t m
             → KeepsHandles S.spans w.now t.now) → KeepsHandles S.spans world.old world.new }
         ensures disabled { self.now.held ≡ None → IsOk result }
+
         ensures leaves { OnErr result (ReplacedOn (λ id s t. S.same s t) world.old world.new self.now.held) }
         ensures lane_leaves { OnErr result (LeavesLane lane.old lane.new) }
         ensures full { result ≡ Err Full → MeetsFullLane S.activates world.old lane.old self.now.held }
@@ -177,6 +189,7 @@ impl<'a> Entered<'a> {
         requires whole { HasOn (λ s id. S.is_whole s) world.old self.span.held }
         requires may { HasOn (λ s id. MayExit (S.spans s) id lane.old.id) world.old self.span.held }
         requires still { HasOn (λ s id. AreAttached (S.kept s) lane.old) world.old self.span.held }
+
         ensures did { ReplacedOn (λ id s t. S.does s (Exit id at lane.old lane.new) t) world.old world.new
             self.entry.span.held }
         ensures none { self.entry.span.held ≡ None → lane.new ≡ lane.old }
@@ -207,6 +220,7 @@ impl EnteredSpan {
         requires whole { HasOn (λ s id. S.is_whole s) world.old self.span.held }
         requires may { HasOn (λ s id. MayExit (S.spans s) id lane.old.id) world.old self.span.held }
         requires still { HasOn (λ s id. AreAttached (S.kept s) lane.old) world.old self.span.held }
+
         ensures value { result ≡ self.span }
         ensures did { ReplacedOn (λ id s t. S.does s (Exit id at lane.old lane.new) t) world.old world.new
             self.span.held }

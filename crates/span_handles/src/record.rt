@@ -24,7 +24,9 @@ impl Span {
         requires known { IsKnown S.spans world.old self.now.held }
         requires site { IsSite world.old self.now.site }
         requires whole { HasOn (λ s id. S.is_whole s) world.old self.now.held }
+
         ensures value { IfOk result (λ handle. handle.now ≡ self.now) }
+        // Memory is wanted only where something is recorded.
         ensures disabled { self.now.held ≡ None → IsOk result }
         ensures undeclared { field_in (Q.field_of field.now) world.old self.now.site ≡ None → IsOk result }
         ensures did { OnOk result
@@ -58,7 +60,9 @@ impl Span {
         requires known { IsKnown S.spans world.old self.now.held }
         requires site { IsSite world.old self.now.site }
         requires whole { HasOn (λ s id. S.is_whole s) world.old self.now.held }
+
         ensures value { IfOk result (λ handle. handle.now ≡ self.now) }
+        // Memory is wanted only where something is recorded.
         ensures disabled { self.now.held ≡ None → IsOk result }
         ensures no_callsite { self.now.site ≡ None → IsOk result }
         ensures did { OnOk result (RecordsOn S.does world.old world.new at values.now self.now) }
@@ -87,7 +91,9 @@ impl Span {
         requires from_known { IsKnown S.spans world.old from.now.held }
         requires of_one { AreOfOne self.now.held from.now.held }
         requires whole { HasOn (λ s id. S.is_whole s) world.old self.now.held }
+
         ensures value { IfOk result (λ handle. handle.now ≡ self.now) }
+        // Memory is wanted only where both handles are enabled.
         ensures disabled { self.now.held ≡ None → IsOk result }
         ensures from_disabled { from.now.held ≡ None → IsOk result }
         ensures did { OnOk result (FollowsOn S.does world.old world.new at self.now.held from.now.held) }

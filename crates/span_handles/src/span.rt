@@ -196,6 +196,7 @@ impl Span {
         requires whole { HasIf S.is_whole world.old (dispatch_on lane.now.default world.old.global) }
         requires few_holds { HasIf (λ s. HasFewHoldsAbove (S.spans s) lane.now.id parent.Current) world.old
             (dispatch_on lane.now.default world.old.global) }
+
         ensures enabled { IfSome self.held (λ held. (result ≡ self) × (world.new ≡ world.old)) }
         ensures disabled { self.held ≡ None
             → IsCurrent S.spans S.does world.old world.new lane.now.id
@@ -216,6 +217,7 @@ impl Span {
         requires known { IsKnown S.spans world.old self.now.held }
         requires whole { HasOn (λ s id. S.is_whole s) world.old self.now.held }
         requires few_holds { HasOn (λ s id. HasFewHolds (S.spans s).made id) world.old self.now.held }
+
         ensures value { result ≡ self.now }
         ensures did { ReplacedOn (λ id s t. S.does s (CloneSpan id) t) world.old world.new self.now.held }
         ensures known { IsKnown S.spans world.new result.held }

@@ -70,18 +70,24 @@ pub fn put_in_force(
     requires new { IsNew (plain filter) }
     requires there { dispatch < length world.old.subscribers }
     requires in_place { is_some (filter_in world.old dispatch) ≡ true }
+
     ensures filter { OnOk result (filter_in world.new dispatch ≡ Some (plain filter)) }
     ensures recording { recording_in world.new dispatch ≡ recording_in world.old dispatch }
     ensures measures { measures_in world.new dispatch ≡ measures_in world.old dispatch }
     ensures counter { counter_in world.new dispatch ≡ counter_in world.old dispatch }
+
     ensures others { Alike ⟦<Stack as Subscriber>⟧.spans ⟦<Stack as Subscriber>⟧.attaches
         ⟦<Stack as Subscriber>⟧.kept ⟦<Stack as Subscriber>⟧.is_whole world.old world.new dispatch }
     ensures current { OnOk result (IsCurrent world.new) }
     ensures sites { world.new.sites ≡ world.old.sites }
     ensures global { world.new.global ≡ world.old.global }
+
+    // What the other subscribers keep is the same but for room.
     ensures rest { OnOk result ((other : ℕ) (s t : _) → other ≢ dispatch
         → slice_get world.old.subscribers other ≡ Some s → slice_get world.new.subscribers other ≡ Some t
         → ⟦<Stack as Subscriber>⟧.same s t) }
+
+    // For want of memory the filter before is in force, and the interests before are kept.
     ensures memory_same { OnErr result
         (AreSame ⟦<Stack as Subscriber>⟧.same world.old.subscribers world.new.subscribers) }
     ensures memory_leaves { OnErr result (filter_in world.new dispatch ≡ filter_in world.old dispatch) }

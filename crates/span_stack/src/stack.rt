@@ -61,6 +61,7 @@ pub fn new_stack(
     counting: Option<EnvFilter>,
 ) -> Stack
     requires new { IsNew (plain filter) }
+
     ensures spans { ⟦<Stack as Subscriber>⟧.spans result ≡ no_spans }
     ensures kept { (lane number : ℕ) → ⟦<Stack as Subscriber>⟧.kept result lane number ≡ 0 }
     ensures recording { recorded result ≡ new_recording settings (is_some counting) }

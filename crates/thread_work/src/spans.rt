@@ -76,6 +76,7 @@ fn share_all<R: Wait, G>(
     requires room { HaveRoomFor (length spans.old.items) jobs.old }
     requires empty { firsts.old.items ≡ [] }
     requires firsts_room { vec_len spans.old ≤ vec_capacity firsts.old }
+
     ensures same { length jobs.new ≡ length jobs.old }
     ensures gone { OnOk result (vec_len spans.new ≡ 0) }
     ensures len { OnOk result (length firsts.new.items ≡ length spans.old.items) }

@@ -180,9 +180,11 @@ pub trait Subscriber {
         requires whole { is_whole self.old }
         requires live { IsLive (spans self.old).made id }
         requires few_holds { HasFewHolds (spans self.old).made id }
+
         ensures did { OnOk result (does self.old (Enter id at lane.old lane.new) self.new) }
         ensures leaves { OnErr result (same self.old self.new) }
         ensures lane_leaves { OnErr result (KeepsLive (attaches self.old) lane.old lane.new) }
+
         ensures full { result ≡ Err Full → (activates self.old id ≡ true) × IsFull lane.old }
         ensures full_refused { activates self.old id ≡ true → IsFull lane.old → IsErr result };
 

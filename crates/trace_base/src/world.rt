@@ -116,6 +116,8 @@ impl<S: Subscriber> World<S> {
         ensures fresh { OnOk result (IsFresh S.interest self.new) }
         ensures sites { self.new.sites ≡ self.old.sites }
         ensures global { self.new.global ≡ self.old.global }
+
+        // For want of memory the subscriber comes back.
         ensures back { IfErr result (λ refused. S.same subscriber refused.0) }
         ensures memory_same { OnErr result (AreSame S.same self.old.subscribers self.new.subscribers) }
         ensures memory_leaves { OnErr result (self.new.cached ≡ self.old.cached) }

@@ -36,6 +36,7 @@ fn make<S: OtelSubscriber>(
     requires ready { Ready S.Subscriber.spans S.Subscriber.kept S.Subscriber.is_whole world.old lane.now }
     requires site { site < length world.old.sites }
     requires few { length (spans_in S.Subscriber.spans world.old (serving lane.now)).made < 2 ^ 63 }
+
     ensures ok { IfOk result (MakesOne S.Subscriber.spans S.Subscriber.hint S.Subscriber.enables
         S.Subscriber.does S.OtelPart.touches site fields.now lane.now world.old world.new) }
     ensures wants { OnErr result (Wants S.Subscriber.spans S.Subscriber.hint S.Subscriber.enables S.Subscriber.does
@@ -88,6 +89,7 @@ pub(crate) fn begin_all<'a, S: OtelSubscriber>(
     requires ready { Ready S.Subscriber.spans S.Subscriber.kept S.Subscriber.is_whole world.old lane.now }
     requires sites { AllSited (length world.old.sites) tasks.now }
     requires few { length (spans_in S.Subscriber.spans world.old (serving lane.now)).made + length tasks.now < 2 ^ 63 }
+
     ensures ok { OnOk result (AreBegun S.Subscriber.spans S.Subscriber.hint S.Subscriber.enables S.Subscriber.kept
         S.Subscriber.is_whole S.Subscriber.does S.OtelPart.touches tasks.now lane.now world.old world.new queue.new.items) }
     ensures stops { OnErr result (StopsBeginning S.Subscriber.spans S.Subscriber.hint S.Subscriber.enables

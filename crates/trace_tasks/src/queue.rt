@@ -29,6 +29,7 @@ pub(crate) fn poll_all<'a, S: OtelSubscriber>(
     requires ready { Ready S.Subscriber.spans S.Subscriber.kept S.Subscriber.is_whole world.old lane.old }
     requires wait { AllWait S.Subscriber.spans world.old (serving lane.old) queue.old.items }
     requires few { polls_in queue.old.items < 2 ^ 60 }
+
     ensures ok { IfOk result (λ polls. (handles : _) (ts : _) → AllStand handles ts queue.old.items
         → TakesTurns S.Subscriber.spans S.Subscriber.hint S.Subscriber.enables S.Subscriber.does S.OtelPart.touches
         handles ts world.old world.new lane.old lane.new polls) }

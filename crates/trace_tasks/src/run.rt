@@ -36,6 +36,7 @@ pub fn run_tasks<S: OtelSubscriber>(
     requires sited { AllSited (length script.now.settings.callsites) script.now.tasks }
     requires few { length (spans_in S.Subscriber.spans world.old (serving lane.old)).made + length script.now.tasks < 2 ^ 63 }
     requires few_polls { all_polls (begun 0 script.now.tasks) < 2 ^ 60 }
+
     ensures ok { IfOk result (Ran S.Subscriber.spans S.Subscriber.hint S.Subscriber.enables S.Subscriber.does
         S.OtelPart.touches script.now.settings.callsites script.now.tasks world.old world.new lane.old lane.new) }
     ensures answer { IfOk result (λ polls. polls ≡ sum_by (λ t. yields t.steps) script.now.tasks + length script.now.tasks) }
@@ -66,6 +67,7 @@ fn begin_and_poll<'a, S: OtelSubscriber>(
     requires sited { AllSited (length world.old.sites) tasks.now }
     requires few { length (spans_in S.Subscriber.spans world.old (serving lane.old)).made + length tasks.now < 2 ^ 63 }
     requires few_polls { all_polls (begun 0 tasks.now) < 2 ^ 60 }
+
     ensures ok { IfOk result (Ran S.Subscriber.spans S.Subscriber.hint S.Subscriber.enables S.Subscriber.does
         S.OtelPart.touches world.old.sites tasks.now world.old world.new lane.old lane.new) }
     ensures answer { IfOk result (λ polls. polls ≡ sum_by (λ t. yields t.steps) tasks.now + length tasks.now) }

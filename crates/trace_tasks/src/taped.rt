@@ -32,6 +32,7 @@ pub fn run_on_tape(
     requires tested { AreTested script.now.settings.callsites script.now.tasks }
     requires few { length script.now.tasks < 2 ^ 63 }
     requires few_polls { all_polls (begun 0 script.now.tasks) < 2 ^ 60 }
+
     ensures polls { IfOk result (λ polls. polls ≡ sum_by (λ t. yields t.steps) script.now.tasks + length script.now.tasks) }
     ensures never_full { result ≢ Err faults.Full }
     ensures spelled { IfOk result (λ polls. (tape : _) × (slice_get world.new.subscribers (serving lane.old) ≡ Some tape)

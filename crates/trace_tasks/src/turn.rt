@@ -28,6 +28,7 @@ pub(crate) fn turn<'a, S: OtelSubscriber>(
     requires ready { Ready S.Subscriber.spans S.Subscriber.kept S.Subscriber.is_whole world.old lane.old }
     requires known { IsKnown S.Subscriber.spans world.old task.span.held }
     requires lone { (site : _) × IsAlone (spans_in S.Subscriber.spans world.old (serving lane.old)).made (serving lane.old) site task.span }
+
     ensures ok { IfOk result (λ left.
         Turned S.Subscriber.spans S.Subscriber.hint S.Subscriber.enables S.Subscriber.kept S.Subscriber.is_whole
         S.Subscriber.does S.OtelPart.touches at task.entry world.old lane.old left world.new lane.new) }

@@ -156,6 +156,7 @@ impl Handle {
         requires span { other.span ≡ self.old.span }
         requires moment { at ≤ GREATEST }
         requires entered { open_of other ≡ 0 }
+
         ensures same { IsSameHandle self.old self.new }
         ensures made { Enters self.old self.new at (Join other.number) }
         ensures entered { open_of self.new ≡ open_of self.old }

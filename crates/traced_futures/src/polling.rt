@@ -33,6 +33,7 @@ pub fn poll<S: Subscriber, F: Future>(
     requires may { F.can_poll future.old.inner.future }
     requires enters { CanEnter S.Subscriber world.old future.old.span }
     requires lends { CanLend S.Subscriber world.old lane.old }
+
     ensures did { PollsPlain S.Subscriber future.old world.old lane.old at result future.new world.new lane.new }
     ensures span { future.new.span ≡ future.old.span }
     ensures value { IfEnded result (F.gives future.old.inner.future) }
