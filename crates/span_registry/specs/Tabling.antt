@@ -13,6 +13,14 @@ no_slot = record { id = 0; span = no_span }
 abbrev pub slot_at : List Slotted → ℕ → Slotted
 slot_at slots place = slice_index_or slots place no_slot
 
+-- where the slot of an id stands, by what is kept of it: 0 for none, else one more
+abbrev pub placed : ℕ → Option ℕ
+placed zero = None
+placed (suc place) = Some place
+
+abbrev pub place_in : List ℕ → ℕ → Option ℕ
+place_in places id = placed (slice_index_or places id 0)
+
 -- the span in a place, if there is one
 abbrev pub span_of : List Slotted → Option ℕ → Span
 span_of slots None = no_span

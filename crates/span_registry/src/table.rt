@@ -1,17 +1,17 @@
 //! The spans that are live, each in a slot that is used again after its span closed.
 ghost use Rattle.std.specs.Prelude.{◌≡◌, ◌==◌, ◌+◌, ◌-◌, ◌<◌, ◌≤◌, ◌^◌, ◌∷◌, [], ◌++◌, ℕ, length, take, max, slice_index_or, slice_set, vec_len, vec_capacity, Some, None, OnOk, OnErr, IfSome, IfOk, if◌then◌else◌};
-ghost use Rattle.std.specs.Ordering.{nat_cmp};
-ghost use Rattle.std.specs.BTreeMap.{get};
 ghost use Rattle.trace_base.specs.Spans.{Span, no_span, span_at, held, held_by_child, released, next_of};
 ghost use Rattle.trace_base.specs.Conditions.{IsLive, HasFewHolds};
-ghost use Rattle.span_registry.specs.Tabling.{Slotted, IsPlace, slot_at, live_spans};
+ghost use Rattle.span_registry.specs.Tabling.{Slotted, IsPlace, place_in, slot_at, live_spans};
 
 use otel_base::memory::Memory;
 use std::alloc::Global;
-use std::collections::BTreeMap;
 use std::marker::Model;
 use trace_base::callsite::SiteId;
 use trace_base::span::{Closing, Id};
+
+// So many slots there are at most, since a place is counted in four bytes.
+const MOST: usize = 4_294_967_295;
 
 // What is kept of a span. A free slot has no holds.
 #[derive(Drop)]
@@ -35,8 +35,8 @@ impl Model for Slot {
 pub(crate) struct Table {
     // How many were made.
     count: u64,
-    // Where the slot of each live span stands.
-    places: BTreeMap<u64, usize>,
+    // Where the slot of each live span stands, counted from 1; 0 where the span closed.
+    places: Vec<u32>,
     slots: Vec<Slot>,
     // The places of the slots that are free, with room for all, so that a close takes no memory.
     free: Vec<usize>,
@@ -44,15 +44,13 @@ pub(crate) struct Table {
 
 impl Model for Table {
     ghost use Rattle.std.specs.Prelude.{vec_capacity};
-    ghost use Rattle.std.specs.Ordering.{nat_cmp};
-    ghost use Rattle.std.specs.BTreeMap.{get};
-    ghost use Rattle.span_registry.specs.Tabling.{Tabled, tabled, IsTabled};
+    ghost use Rattle.span_registry.specs.Tabling.{Tabled, tabled, place_in, IsTabled};
 
     ghost Value = { Tabled };
 
-    ghost view = { λ t. tabled t.count (get nat_cmp t.places) t.slots.items };
+    ghost view = { λ t. tabled t.count (place_in t.places.items) t.slots.items };
 
-    ghost invariant = { λ t. IsTabled t.count (get nat_cmp t.places) t.slots.items t.free.items (vec_capacity t.free) };
+    ghost invariant = { λ t. IsTabled t.count (place_in t.places.items) t.slots.items t.free.items (vec_capacity t.free) };
 }
 
 impl Table {
@@ -62,7 +60,7 @@ impl Table {
     {
         Table {
             count: 0,
-            places: BTreeMap::new(alloc),
+            places: Vec::new(alloc),
             slots: Vec::new(alloc),
             free: Vec::new(alloc),
         }
@@ -210,30 +208,51 @@ impl Table {
 }
 
 // The place of a span's slot.
-fn find(places: &BTreeMap<u64, usize>, id: Id) -> Option<usize>
-    ensures { result ≡ get nat_cmp places.now id }
+fn find(places: &Vec<u32>, id: Id) -> Option<usize>
+    ensures { result ≡ place_in places.now.items id }
 {
-    match places.get(&id.place()) {
-        Some(place) => Some(*place),
-        None => None,
+    let place = *places.get(id.place() as usize)? as usize;
+    if place == 0 {
+        return None;
     }
+    Some(place - 1)
 }
 
 // A place for a span more.
-fn put(places: &mut BTreeMap<u64, usize>, id: Id, place: usize) -> Result<(), Memory>
+fn put(places: &mut Vec<u32>, id: Id, place: usize) -> Result<(), Memory>
     ensures ok { OnOk result
-        ((q : ℕ) → get nat_cmp places.new q ≡ (if id == q then Some place else get nat_cmp places.old q)) }
-    ensures memory_leaves { OnErr result ((q : ℕ) → get nat_cmp places.new q ≡ get nat_cmp places.old q) }
+        ((q : ℕ) → place_in places.new.items q ≡ (if id == q then Some place else place_in places.old.items q)) }
+    ensures memory_leaves { OnErr result ((q : ℕ) → place_in places.new.items q ≡ place_in places.old.items q) }
 {
-    places.insert(id.place(), place)?;
+    if place >= MOST {
+        return Err(Memory);
+    }
+    reserve_place(places, id)?;
+    places[id.place() as usize] = place as u32 + 1;
+    Ok(())
+}
+
+// Room for the place of a span.
+fn reserve_place(places: &mut Vec<u32>, id: Id) -> Result<(), Memory>
+    ensures same { (q : ℕ) → slice_index_or places.new.items q 0 ≡ slice_index_or places.old.items q 0 }
+    ensures ok { OnOk result (id < length places.new.items) }
+{
+    let at = id.place() as usize;
+    if places.len() <= at {
+        places.resize(at, 0)?;
+        places.push(0)?;
+    }
     Ok(())
 }
 
 // The place of a span less.
-fn take_out(places: &mut BTreeMap<u64, usize>, id: Id)
-    ensures { (q : ℕ) → get nat_cmp places.new q ≡ (if id == q then None else get nat_cmp places.old q) }
+fn take_out(places: &mut Vec<u32>, id: Id)
+    ensures { (q : ℕ) → place_in places.new.items q ≡ (if id == q then None else place_in places.old.items q) }
 {
-    places.remove(&id.place());
+    let at = id.place() as usize;
+    if at < places.len() {
+        places[at] = 0;
+    }
 }
 
 // The place of the last slot that is free, else of a new one, for which it takes all memory.

@@ -1,15 +1,13 @@
 -- The slot of the span has one hold more.
 use Rattle.std.proofs.Common.{◌+◌, ◌∙◌, sym, ap, arith}
-use Rattle.std.specs.Ordering.{nat_cmp}
-use Rattle.std.specs.BTreeMap.{get}
 use Rattle.std.proofs.lemmas.List.{get_or_default}
 use Rattle.trace_base.specs.Spans.{Span}
-use Rattle.span_registry.specs.Tabling.{Slotted, no_slot}
+use Rattle.span_registry.specs.Tabling.{place_in, Slotted, no_slot}
 use Rattle.span_registry.proofs.Slotting.{no_place, shown_some, shown_set, tabled_set}
 use Rattle.span_registry.proofs.table.Table.hold.Goals as goal
 
 pub unreachable-requires : goal.unreachable-requires
-unreachable-requires c = no_place c.self.inside.count (get nat_cmp c.self.inside.places) c.self.inside.slots.items c.self.inside.free.items _ c.self.invariant c.args.self.now c.self.view_is c.args.id (sym c.find.ensures ∙ c.in_default.is) c.requires.live
+unreachable-requires c = no_place c.self.inside.count (place_in c.self.inside.places.items) c.self.inside.slots.items c.self.inside.free.items _ c.self.invariant c.args.self.now c.self.view_is c.args.id (sym c.find.ensures ∙ c.in_default.is) c.requires.live
 
 pub index_mut-slot-requires : goal.index_mut-slot-requires
 index_mut-slot-requires c = let within = (c.self.invariant.known c.args.id c.in-Some.place (sym c.find.ensures ∙ c.in-Some.is)).within in omega (arith, within, c.self.inside.slots.ok.0)
@@ -20,7 +18,7 @@ overflow_add-slot c =
     let at = c.self.invariant.known c.args.id c.in-Some.place is in
     let seen = c.slot.view_is ∙ c.index_mut-slot.ensures.value ∙ get_or_default c.self.inside.slots.items c.in-Some.place c.index_mut-slot.result.now no_slot at.within in
     let e = ap (λ (y : Slotted). y.span.holds) seen in
-    let r = ap (λ (s : Span). s.holds) (shown_some c.self.inside.count (get nat_cmp c.self.inside.places) c.self.inside.slots.items c.self.inside.free.items _ c.self.invariant c.args.self.now c.self.view_is c.args.id c.in-Some.place is) in
+    let r = ap (λ (s : Span). s.holds) (shown_some c.self.inside.count (place_in c.self.inside.places.items) c.self.inside.slots.items c.self.inside.free.items _ c.self.invariant c.args.self.now c.self.view_is c.args.id c.in-Some.place is) in
     omega (arith, e, r, c.requires.few)
 
 pub invariant_of-self : goal.invariant_of-self
@@ -28,13 +26,13 @@ invariant_of-self c =
     let is = sym c.find.ensures ∙ c.in-Some.is in
     let at = c.self.invariant.known c.args.id c.in-Some.place is in
     let seen = c.slot.view_is ∙ c.index_mut-slot.ensures.value ∙ get_or_default c.self.inside.slots.items c.in-Some.place c.index_mut-slot.result.now no_slot at.within in
-    tabled_set c.self.inside.count (get nat_cmp c.self.inside.places) c.self.inside.slots.items c.self.inside.free.items _ c.self.invariant c.args.id c.in-Some.place _ is (ap (λ (y : Slotted). y.id) seen) (omega arith)
+    tabled_set c.self.inside.count (place_in c.self.inside.places.items) c.self.inside.slots.items c.self.inside.free.items _ c.self.invariant c.args.id c.in-Some.place _ is (ap (λ (y : Slotted). y.id) seen) (omega arith)
 
 pub returns : goal.returns
 returns c =
     let is = sym c.find.ensures ∙ c.in-Some.is in
     let at = c.self.invariant.known c.args.id c.in-Some.place is in
     let seen = c.slot.view_is ∙ c.index_mut-slot.ensures.value ∙ get_or_default c.self.inside.slots.items c.in-Some.place c.index_mut-slot.result.now no_slot at.within in
-    let read = shown_some c.self.inside.count (get nat_cmp c.self.inside.places) c.self.inside.slots.items c.self.inside.free.items _ c.self.invariant c.args.self.now c.self.view_is c.args.id c.in-Some.place is in
-    shown_set c.self.inside.count (get nat_cmp c.self.inside.places) c.self.inside.slots.items c.self.inside.free.items _ c.self.invariant c.args.self.now c.self.view_is c.args.id c.in-Some.place _ _ is
+    let read = shown_some c.self.inside.count (place_in c.self.inside.places.items) c.self.inside.slots.items c.self.inside.free.items _ c.self.invariant c.args.self.now c.self.view_is c.args.id c.in-Some.place is in
+    shown_set c.self.inside.count (place_in c.self.inside.places.items) c.self.inside.slots.items c.self.inside.free.items _ c.self.invariant c.args.self.now c.self.view_is c.args.id c.in-Some.place _ _ is
     (ap (λ (s : Span). let t : Span = record s { holds = s.holds + 1 } in t) (ap (λ (y : Slotted). y.span) seen ∙ sym read))

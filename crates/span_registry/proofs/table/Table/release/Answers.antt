@@ -1,18 +1,16 @@
 -- The slot of the span has one hold less, or is free.
 use Rattle.std.proofs.Common.{◌≡◌, ◌-◌, ◌∙◌, sym, ap, arith, refl, ℕ, [], ◌∷◌, ◌++◌, Option, None}
 use Rattle.std.specs.Prelude.{◌==◌, is_ok}
-use Rattle.std.specs.Ordering.{nat_cmp}
-use Rattle.std.specs.BTreeMap.{get}
 use Rattle.std.proofs.lemmas.Bool.{cond-true, cond-false, eq-eqb, ne_eqb}
 use Rattle.std.proofs.lemmas.List.{get_or_default}
 use Rattle.trace_base.specs.Spans.{Span, span_at}
-use Rattle.span_registry.specs.Tabling.{Slotted, no_slot}
+use Rattle.span_registry.specs.Tabling.{place_in, Slotted, no_slot}
 use Rattle.trace_base.proofs.Holding.{less_last, less_more}
 use Rattle.span_registry.proofs.Slotting.{no_place, shown_some, shown_set, shown_gone, tabled_set, tabled_gone, tabled_same, some_room}
 use Rattle.span_registry.proofs.table.Table.release.Goals as goal
 
 pub unreachable-requires : goal.unreachable-requires
-unreachable-requires c = no_place c.self.inside.count (get nat_cmp c.self.inside.places) c.self.inside.slots.items c.self.inside.free.items _ c.self.invariant c.args.self.now c.self.view_is c.args.id (sym c.find.ensures ∙ c.in_default.is) c.requires
+unreachable-requires c = no_place c.self.inside.count (place_in c.self.inside.places.items) c.self.inside.slots.items c.self.inside.free.items _ c.self.invariant c.args.self.now c.self.view_is c.args.id (sym c.find.ensures ∙ c.in_default.is) c.requires
 
 pub index_mut-slot-requires : goal.index_mut-slot-requires
 index_mut-slot-requires c = let within = (c.self.invariant.known c.args.id c.in-Some.place (sym c.find.ensures ∙ c.in-Some.is)).within in omega (arith, within, c.self.inside.slots.ok.0)
@@ -24,7 +22,7 @@ overflow_sub-slot c =
     let seen = c.slot.view_is ∙ c.index_mut-slot.ensures.value ∙ get_or_default c.self.inside.slots.items c.in-Some.place c.index_mut-slot.result.now no_slot at.within in
     let e = ap (λ (y : Slotted). y.span.holds) seen in
     let span = ap (λ (y : Slotted). y.span) seen in
-    let read = shown_some c.self.inside.count (get nat_cmp c.self.inside.places) c.self.inside.slots.items c.self.inside.free.items _ c.self.invariant c.args.self.now c.self.view_is c.args.id c.in-Some.place is in
+    let read = shown_some c.self.inside.count (place_in c.self.inside.places.items) c.self.inside.slots.items c.self.inside.free.items _ c.self.invariant c.args.self.now c.self.view_is c.args.id c.in-Some.place is in
     let r = ap (λ (s : Span). s.holds) read in
     omega (arith, e, r, c.requires)
 
@@ -35,9 +33,9 @@ invariant_of-self c =
     let seen = c.slot.view_is ∙ c.index_mut-slot.ensures.value ∙ get_or_default c.self.inside.slots.items c.in-Some.place c.index_mut-slot.result.now no_slot at.within in
     let e = ap (λ (y : Slotted). y.span.holds) seen in
     let span = ap (λ (y : Slotted). y.span) seen in
-    let read = shown_some c.self.inside.count (get nat_cmp c.self.inside.places) c.self.inside.slots.items c.self.inside.free.items _ c.self.invariant c.args.self.now c.self.view_is c.args.id c.in-Some.place is in
+    let read = shown_some c.self.inside.count (place_in c.self.inside.places.items) c.self.inside.slots.items c.self.inside.free.items _ c.self.invariant c.args.self.now c.self.view_is c.args.id c.in-Some.place is in
     let r = ap (λ (s : Span). s.holds) read in
-    tabled_set c.self.inside.count (get nat_cmp c.self.inside.places) c.self.inside.slots.items c.self.inside.free.items _ c.self.invariant c.args.id c.in-Some.place _ is (ap (λ (y : Slotted). y.id) seen) c.if-slot-gt0.true
+    tabled_set c.self.inside.count (place_in c.self.inside.places.items) c.self.inside.slots.items c.self.inside.free.items _ c.self.invariant c.args.id c.in-Some.place _ is (ap (λ (y : Slotted). y.id) seen) c.if-slot-gt0.true
 
 pub returns-then-slot-gt0-clause-made : goal.returns-then-slot-gt0-clause-made
 returns-then-slot-gt0-clause-made c =
@@ -46,9 +44,9 @@ returns-then-slot-gt0-clause-made c =
     let seen = c.slot.view_is ∙ c.index_mut-slot.ensures.value ∙ get_or_default c.self.inside.slots.items c.in-Some.place c.index_mut-slot.result.now no_slot at.within in
     let e = ap (λ (y : Slotted). y.span.holds) seen in
     let span = ap (λ (y : Slotted). y.span) seen in
-    let read = shown_some c.self.inside.count (get nat_cmp c.self.inside.places) c.self.inside.slots.items c.self.inside.free.items _ c.self.invariant c.args.self.now c.self.view_is c.args.id c.in-Some.place is in
+    let read = shown_some c.self.inside.count (place_in c.self.inside.places.items) c.self.inside.slots.items c.self.inside.free.items _ c.self.invariant c.args.self.now c.self.view_is c.args.id c.in-Some.place is in
     let r = ap (λ (s : Span). s.holds) read in
-    shown_set c.self.inside.count (get nat_cmp c.self.inside.places) c.self.inside.slots.items c.self.inside.free.items _ c.self.invariant c.args.self.now c.self.view_is c.args.id c.in-Some.place _ _ is
+    shown_set c.self.inside.count (place_in c.self.inside.places.items) c.self.inside.slots.items c.self.inside.free.items _ c.self.invariant c.args.self.now c.self.view_is c.args.id c.in-Some.place _ _ is
     (ap (λ (s : Span). let t : Span = record s { holds = s.holds - 1 } in t) (span ∙ sym read) ∙ sym (less_more (span_at c.args.self.now.made c.args.id) (λ one. omega (arith, one, r, e, c.if-slot-gt0.true))))
 
 pub returns-then-slot-gt0-clause-closed : goal.returns-then-slot-gt0-clause-closed
@@ -58,7 +56,7 @@ returns-then-slot-gt0-clause-closed c =
     let seen = c.slot.view_is ∙ c.index_mut-slot.ensures.value ∙ get_or_default c.self.inside.slots.items c.in-Some.place c.index_mut-slot.result.now no_slot at.within in
     let e = ap (λ (y : Slotted). y.span.holds) seen in
     let span = ap (λ (y : Slotted). y.span) seen in
-    let read = shown_some c.self.inside.count (get nat_cmp c.self.inside.places) c.self.inside.slots.items c.self.inside.free.items _ c.self.invariant c.args.self.now c.self.view_is c.args.id c.in-Some.place is in
+    let read = shown_some c.self.inside.count (place_in c.self.inside.places.items) c.self.inside.slots.items c.self.inside.free.items _ c.self.invariant c.args.self.now c.self.view_is c.args.id c.in-Some.place is in
     let r = ap (λ (s : Span). s.holds) read in
     sym (ne_eqb (span_at c.args.self.now.made c.args.id).holds 1 (λ one. omega (arith, one, r, e, c.if-slot-gt0.true)))
 
@@ -69,7 +67,7 @@ returns-then-slot-gt0-clause-next c =
     let seen = c.slot.view_is ∙ c.index_mut-slot.ensures.value ∙ get_or_default c.self.inside.slots.items c.in-Some.place c.index_mut-slot.result.now no_slot at.within in
     let e = ap (λ (y : Slotted). y.span.holds) seen in
     let span = ap (λ (y : Slotted). y.span) seen in
-    let read = shown_some c.self.inside.count (get nat_cmp c.self.inside.places) c.self.inside.slots.items c.self.inside.free.items _ c.self.invariant c.args.self.now c.self.view_is c.args.id c.in-Some.place is in
+    let read = shown_some c.self.inside.count (place_in c.self.inside.places.items) c.self.inside.slots.items c.self.inside.free.items _ c.self.invariant c.args.self.now c.self.view_is c.args.id c.in-Some.place is in
     let r = ap (λ (s : Span). s.holds) read in
     sym (cond-false {A = Option ℕ} ((span_at c.args.self.now.made c.args.id).holds == 1) (span_at c.args.self.now.made c.args.id).parent None (ne_eqb (span_at c.args.self.now.made c.args.id).holds 1 (λ one. omega (arith, one, r, e, c.if-slot-gt0.true))))
 
@@ -79,12 +77,12 @@ invariant_of-self-2 c =
     let at = c.self.invariant.known c.args.id c.in-Some.place is in
     let seen = c.slot.view_is ∙ c.index_mut-slot.ensures.value ∙ get_or_default c.self.inside.slots.items c.in-Some.place c.index_mut-slot.result.now no_slot at.within in
     let e = ap (λ (y : Slotted). y.span.holds) seen in
-    let read = shown_some c.self.inside.count (get nat_cmp c.self.inside.places) c.self.inside.slots.items c.self.inside.free.items _ c.self.invariant c.args.self.now c.self.view_is c.args.id c.in-Some.place is in
+    let read = shown_some c.self.inside.count (place_in c.self.inside.places.items) c.self.inside.slots.items c.self.inside.free.items _ c.self.invariant c.args.self.now c.self.view_is c.args.id c.in-Some.place is in
     let r = ap (λ (s : Span). s.holds) read in
-    let some = some_room c.self.inside.count (get nat_cmp c.self.inside.places) c.self.inside.slots.items c.self.inside.free.items _ c.self.invariant c.args.id c.in-Some.place is in
+    let some = some_room c.self.inside.count (place_in c.self.inside.places.items) c.self.inside.slots.items c.self.inside.free.items _ c.self.invariant c.args.id c.in-Some.place is in
     let ok = c.push.ensures.succeeds (omega (arith, some, c.self.inside.free.ok.0)) in
-    tabled_same c.self.inside.count (get nat_cmp c.take_out.new.places) (get nat_cmp c.take_out.new.places) _ _ (c.self.inside.free.items ++ c.in-Some.place ∷ []) _ _ _
-    (tabled_gone c.self.inside.count (get nat_cmp c.self.inside.places) c.self.inside.slots.items c.self.inside.free.items _ c.self.invariant c.args.id c.in-Some.place _ (get nat_cmp c.take_out.new.places) is c.take_out.ensures (let none : c.slot.inside.holds - 1 ≡ 0 = omega (arith, c.if-slot-gt0.false) in none))
+    tabled_same c.self.inside.count (place_in c.take_out.new.places.items) (place_in c.take_out.new.places.items) _ _ (c.self.inside.free.items ++ c.in-Some.place ∷ []) _ _ _
+    (tabled_gone c.self.inside.count (place_in c.self.inside.places.items) c.self.inside.slots.items c.self.inside.free.items _ c.self.invariant c.args.id c.in-Some.place _ (place_in c.take_out.new.places.items) is c.take_out.ensures (let none : c.slot.inside.holds - 1 ≡ 0 = omega (arith, c.if-slot-gt0.false) in none))
     (λ q. refl) refl (c.push.ensures.items ∙ cond-true (is_ok c.push.result) (c.self.inside.free.items ++ c.in-Some.place ∷ []) c.self.inside.free.items ok) c.push.ensures.capacity
 
 pub returns-clause-made : goal.returns-clause-made
@@ -93,10 +91,10 @@ returns-clause-made c =
     let at = c.self.invariant.known c.args.id c.in-Some.place is in
     let seen = c.slot.view_is ∙ c.index_mut-slot.ensures.value ∙ get_or_default c.self.inside.slots.items c.in-Some.place c.index_mut-slot.result.now no_slot at.within in
     let e = ap (λ (y : Slotted). y.span.holds) seen in
-    let read = shown_some c.self.inside.count (get nat_cmp c.self.inside.places) c.self.inside.slots.items c.self.inside.free.items _ c.self.invariant c.args.self.now c.self.view_is c.args.id c.in-Some.place is in
+    let read = shown_some c.self.inside.count (place_in c.self.inside.places.items) c.self.inside.slots.items c.self.inside.free.items _ c.self.invariant c.args.self.now c.self.view_is c.args.id c.in-Some.place is in
     let r = ap (λ (s : Span). s.holds) read in
     let one : (span_at c.args.self.now.made c.args.id).holds ≡ 1 = omega (arith, e, r, c.requires, c.if-slot-gt0.false) in
-    shown_gone c.self.inside.count (get nat_cmp c.self.inside.places) c.self.inside.slots.items c.self.inside.free.items _ c.self.invariant c.args.self.now c.self.view_is c.args.id c.in-Some.place _ (get nat_cmp c.take_out.new.places) _ is c.take_out.ensures (sym (less_last (span_at c.args.self.now.made c.args.id) one))
+    shown_gone c.self.inside.count (place_in c.self.inside.places.items) c.self.inside.slots.items c.self.inside.free.items _ c.self.invariant c.args.self.now c.self.view_is c.args.id c.in-Some.place _ (place_in c.take_out.new.places.items) _ is c.take_out.ensures (sym (less_last (span_at c.args.self.now.made c.args.id) one))
 
 pub returns-clause-closed : goal.returns-clause-closed
 returns-clause-closed c =
@@ -104,7 +102,7 @@ returns-clause-closed c =
     let at = c.self.invariant.known c.args.id c.in-Some.place is in
     let seen = c.slot.view_is ∙ c.index_mut-slot.ensures.value ∙ get_or_default c.self.inside.slots.items c.in-Some.place c.index_mut-slot.result.now no_slot at.within in
     let e = ap (λ (y : Slotted). y.span.holds) seen in
-    let read = shown_some c.self.inside.count (get nat_cmp c.self.inside.places) c.self.inside.slots.items c.self.inside.free.items _ c.self.invariant c.args.self.now c.self.view_is c.args.id c.in-Some.place is in
+    let read = shown_some c.self.inside.count (place_in c.self.inside.places.items) c.self.inside.slots.items c.self.inside.free.items _ c.self.invariant c.args.self.now c.self.view_is c.args.id c.in-Some.place is in
     let r = ap (λ (s : Span). s.holds) read in
     let one : (span_at c.args.self.now.made c.args.id).holds ≡ 1 = omega (arith, e, r, c.requires, c.if-slot-gt0.false) in
     sym (eq-eqb (span_at c.args.self.now.made c.args.id).holds 1 one)
@@ -115,7 +113,7 @@ returns-clause-next c =
     let at = c.self.invariant.known c.args.id c.in-Some.place is in
     let seen = c.slot.view_is ∙ c.index_mut-slot.ensures.value ∙ get_or_default c.self.inside.slots.items c.in-Some.place c.index_mut-slot.result.now no_slot at.within in
     let e = ap (λ (y : Slotted). y.span.holds) seen in
-    let read = shown_some c.self.inside.count (get nat_cmp c.self.inside.places) c.self.inside.slots.items c.self.inside.free.items _ c.self.invariant c.args.self.now c.self.view_is c.args.id c.in-Some.place is in
+    let read = shown_some c.self.inside.count (place_in c.self.inside.places.items) c.self.inside.slots.items c.self.inside.free.items _ c.self.invariant c.args.self.now c.self.view_is c.args.id c.in-Some.place is in
     let r = ap (λ (s : Span). s.holds) read in
     let one : (span_at c.args.self.now.made c.args.id).holds ≡ 1 = omega (arith, e, r, c.requires, c.if-slot-gt0.false) in
     c.again-next.ensures ∙ ap (λ (y : Slotted). y.span.parent) seen ∙ ap (λ (s : Span). s.parent) (sym read)
