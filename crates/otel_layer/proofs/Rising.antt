@@ -139,7 +139,7 @@ other_id : (id : ℕ) (e : Entry) → (e.id ≡ id → ⊥) → is_of id e ≡ f
 other_id id e other = ap (λ b. b && is_some e.state) (ne_eqb e.id id other)
 
 -- the entry with the id is found, unless it is a gap
-placed : (xs : List Entry) (id middle : ℕ) (e : Entry) → MayRise true xs → middle < length xs → (get_or xs middle e).id ≡ id → is_some (get_or xs middle e).state ≡ true → Some middle ≡ position (is_of id) xs
+pub placed : (xs : List Entry) (id middle : ℕ) (e : Entry) → MayRise true xs → middle < length xs → (get_or xs middle e).id ≡ id → is_some (get_or xs middle e).state ≡ true → Some middle ≡ position (is_of id) xs
 placed xs id middle e rise inside is live =
     let before : (k : ℕ) → k < middle → is_of id (get_or xs k e) ≡ false = λ k less.
     let a = between 0 xs k middle e less inside (rise refl) in

@@ -1,5 +1,5 @@
 //! The states of the spans that a layer knows.
-ghost use Rattle.std.specs.Prelude.{◌≡◌, ◌==◌, ℕ, ◌<◌, ◌≤◌, ◌^◌, [], true, false, length, OnOk, option_map};
+ghost use Rattle.std.specs.Prelude.{◌≡◌, ◌==◌, ℕ, ◌<◌, ◌≤◌, ◌^◌, [], true, false, length, Some, IfSome, OnOk, option_map};
 ghost use Rattle.std.specs.List.{position};
 ghost use Rattle.std.specs.Map.{remove_entry};
 ghost use Rattle.otel_state.specs.States.{is_growing};
@@ -29,6 +29,8 @@ pub(crate) struct Table {
     known: usize,
     // Whether the ids rise, gaps included, as those of a registry do.
     rising: bool,
+    // Where the entry of each id was put: a guess, which spares most searches.
+    places: Vec<u32>,
 }
 
 impl Model for Table {
@@ -52,6 +54,7 @@ impl Table {
             entries: Vec::new(alloc),
             known: 0,
             rising: true,
+            places: Vec::new(alloc),
         }
     }
 
@@ -67,28 +70,34 @@ impl Table {
     pub(crate) fn knows(&self, id: Id) -> bool
         ensures { result ≡ knows_span id self.now.spans }
     {
-        is_known(self.entries.as_slice(), self.rising, id)
+        is_known(self.entries.as_slice(), &self.places, self.rising, id)
     }
 
     // The context that a span will start under, if it is there and hasn't started.
     pub(crate) fn waits(&self, id: Id) -> Option<Context>
         ensures { result ≡ waits (told_at id self.now.spans) }
     {
-        waiting_context(self.entries.as_slice(), self.rising, id)
+        waiting_context(self.entries.as_slice(), &self.places, self.rising, id)
     }
 
     // The own context of a span, the other one where it isn't there.
     pub(crate) fn own_or(&self, id: Id, other: Context) -> Context
         ensures { result ≡ own_or other (told_at id self.now.spans) }
     {
-        own_context(self.entries.as_slice(), self.rising, id, other)
+        own_context(
+            self.entries.as_slice(),
+            &self.places,
+            self.rising,
+            id,
+            other,
+        )
     }
 
     // The ids of a span that is there.
     pub(crate) fn ids(&self, id: Id) -> Option<SpanContext>
         ensures { result ≡ ids_at (told_at id self.now.spans) }
     {
-        own_ids(self.entries.as_slice(), self.rising, id)
+        own_ids(self.entries.as_slice(), &self.places, self.rising, id)
     }
 
     // Applies an op to a span, if it is there, in room that was reserved.
@@ -98,21 +107,35 @@ impl Table {
         ensures rooms { is_growing op ≡ false → self.new.rooms ≡ self.old.rooms }
         ensures room { self.new.room ≡ self.old.room }
     {
-        put(self.entries.as_mut_slice(), self.rising, id, at, op);
+        put(
+            self.entries.as_mut_slice(),
+            &self.places,
+            self.rising,
+            id,
+            at,
+            op,
+        );
     }
 
     // Applies an op to a span, and answers it; none where it isn't there.
     pub(crate) fn apply(&mut self, id: Id, at: u64, op: Op) -> Option<Result<OpReply, Memory>>
         ensures { AppliesIn self.old.spans id at op result self.new.spans }
     {
-        apply(self.entries.as_mut_slice(), self.rising, id, at, op)
+        apply(
+            self.entries.as_mut_slice(),
+            &self.places,
+            self.rising,
+            id,
+            at,
+            op,
+        )
     }
 
     // The own context of a span, none where it isn't there.
     pub(crate) fn context(&self, id: Id) -> Option<Context>
         ensures { result ≡ context_at (told_at id self.now.spans) }
     {
-        shown_context(self.entries.as_slice(), self.rising, id)
+        shown_context(self.entries.as_slice(), &self.places, self.rising, id)
     }
 
     // Takes the room for an op in the state of a span, if it is there.
@@ -121,7 +144,13 @@ impl Table {
         ensures ok { OnOk result (RoomFor id op.now self.new.rooms) }
         ensures room { self.new.room ≡ self.old.room }
     {
-        reserve_op(self.entries.as_mut_slice(), self.rising, id, op)
+        reserve_op(
+            self.entries.as_mut_slice(),
+            &self.places,
+            self.rising,
+            id,
+            op,
+        )
     }
 
     // Takes the room for a link in the state of a span, if it is there.
@@ -130,7 +159,7 @@ impl Table {
         ensures ok { OnOk result (RoomForLink id self.new.rooms) }
         ensures room { self.new.room ≡ self.old.room }
     {
-        reserve_link(self.entries.as_mut_slice(), self.rising, id)
+        reserve_link(self.entries.as_mut_slice(), &self.places, self.rising, id)
     }
 
     // Takes room for one more span.
@@ -148,6 +177,7 @@ impl Table {
         requires { 0 < self.old.room }
         ensures { self.new.spans ≡ with_span id state.told self.old.spans }
     {
+        note(&mut self.places, id, self.entries.len());
         self.rising = self.rising && is_youngest(self.entries.as_slice(), id);
         let entry = Entry {
             id,
@@ -165,9 +195,11 @@ impl Table {
         ensures told { told_at id self.old.spans ≡ Some result.told }
         ensures spans { self.new.spans ≡ remove_entry (is_id id) self.old.spans }
     {
-        let state = take(self.entries.as_mut_slice(), self.rising, id);
+        let state = take(self.entries.as_mut_slice(), &self.places, self.rising, id);
         self.known -= 1;
+        let before = self.entries.len();
         close_gaps(&mut self.entries, self.known);
+        note_moved(before, &mut self.places, self.entries.as_slice());
         state
     }
 }
@@ -184,14 +216,57 @@ fn is_youngest(entries: &[Entry], id: Id) -> bool
 }
 
 // Where the entry of a span stands.
-fn find(entries: &[Entry], rising: bool, id: Id) -> Option<usize>
+fn find(entries: &[Entry], places: &Vec<u32>, rising: bool, id: Id) -> Option<usize>
     requires { MayRise rising entries.now }
     ensures { result ≡ position (is_of id) entries.now }
 {
     if rising {
-        search(entries, id)
+        match guess(entries, places, id) {
+            Some(place) => Some(place),
+            None => search(entries, id),
+        }
     } else {
         entries.iter().position(|e| e.id == id && e.state.is_some())
+    }
+}
+
+// The same by the place where the entry was put, if it stands there.
+fn guess(entries: &[Entry], places: &Vec<u32>, id: Id) -> Option<usize>
+    requires { MayRise true entries.now }
+    ensures { IfSome result (λ place. Some place ≡ position (is_of id) entries.now) }
+{
+    let place = *places.get(id.place() as usize)? as usize;
+    if place >= entries.len() {
+        return None;
+    }
+    if entries[place].id != id {
+        return None;
+    }
+    if entries[place].state.is_none() {
+        return None;
+    }
+    Some(place)
+}
+
+// Notes where the entry of a span is put. Ids that don't come in turn are left out.
+fn note(places: &mut Vec<u32>, id: Id, at: usize) {
+    let Ok(place) = u32::try_from(at) else {
+        return;
+    };
+    let number = id.place() as usize;
+    if number < places.len() {
+        places[number] = place;
+    } else if number == places.len() {
+        let _ = places.push(place);
+    }
+}
+
+// Notes all places anew, where there are fewer entries than before.
+fn note_moved(before: usize, places: &mut Vec<u32>, entries: &[Entry]) {
+    if entries.len() < before {
+        for (at, entry) in entries.iter().enumerate() {
+            note(places, entry.id, at);
+        }
     }
 }
 
@@ -218,19 +293,24 @@ fn search(entries: &[Entry], id: Id) -> Option<usize>
     None
 }
 
-fn is_known(entries: &[Entry], rising: bool, id: Id) -> bool
+fn is_known(entries: &[Entry], places: &Vec<u32>, rising: bool, id: Id) -> bool
     requires { MayRise rising entries.now }
     ensures { result ≡ knows_span id (tolds entries.now) }
 {
-    find(entries, rising, id).is_some()
+    find(entries, places, rising, id).is_some()
 }
 
 // The state of a span, if it is there.
-fn state_of(entries: &[Entry], rising: bool, id: Id) -> Option<&SpanState>
+fn state_of<'a>(
+    entries: &'a [Entry],
+    places: &Vec<u32>,
+    rising: bool,
+    id: Id,
+) -> Option<&'a SpanState>
     requires { MayRise rising entries.now }
     ensures { option_map (λ state. state.now.told) result ≡ told_at id (tolds entries.now) }
 {
-    match find(entries, rising, id) {
+    match find(entries, places, rising, id) {
         Some(place) => match &entries[place].state {
             Some(state) => Some(state),
             None => None,
@@ -239,22 +319,28 @@ fn state_of(entries: &[Entry], rising: bool, id: Id) -> Option<&SpanState>
     }
 }
 
-fn waiting_context(entries: &[Entry], rising: bool, id: Id) -> Option<Context>
+fn waiting_context(entries: &[Entry], places: &Vec<u32>, rising: bool, id: Id) -> Option<Context>
     requires rises { MayRise rising entries.now }
     ensures { result ≡ waits (told_at id (tolds entries.now)) }
 {
-    let state = state_of(entries, rising, id)?;
+    let state = state_of(entries, places, rising, id)?;
     match state.started() {
         Some(_) => None,
         None => Some(state.parent()),
     }
 }
 
-fn own_context(entries: &[Entry], rising: bool, id: Id, other: Context) -> Context
+fn own_context(
+    entries: &[Entry],
+    places: &Vec<u32>,
+    rising: bool,
+    id: Id,
+    other: Context,
+) -> Context
     requires rises { MayRise rising entries.now }
     ensures { result ≡ own_or other (told_at id (tolds entries.now)) }
 {
-    match state_of(entries, rising, id) {
+    match state_of(entries, places, rising, id) {
         Some(state) => Context {
             span: state.started(),
         },
@@ -262,11 +348,11 @@ fn own_context(entries: &[Entry], rising: bool, id: Id, other: Context) -> Conte
     }
 }
 
-fn own_ids(entries: &[Entry], rising: bool, id: Id) -> Option<SpanContext>
+fn own_ids(entries: &[Entry], places: &Vec<u32>, rising: bool, id: Id) -> Option<SpanContext>
     requires rises { MayRise rising entries.now }
     ensures { result ≡ ids_at (told_at id (tolds entries.now)) }
 {
-    match state_of(entries, rising, id) {
+    match state_of(entries, places, rising, id) {
         Some(state) => Some(Context {
             span: state.started(),
         }
@@ -275,11 +361,11 @@ fn own_ids(entries: &[Entry], rising: bool, id: Id) -> Option<SpanContext>
     }
 }
 
-fn shown_context(entries: &[Entry], rising: bool, id: Id) -> Option<Context>
+fn shown_context(entries: &[Entry], places: &Vec<u32>, rising: bool, id: Id) -> Option<Context>
     requires rises { MayRise rising entries.now }
     ensures { result ≡ context_at (told_at id (tolds entries.now)) }
 {
-    match state_of(entries, rising, id) {
+    match state_of(entries, places, rising, id) {
         Some(state) => Some(Context {
             span: state.started(),
         }),
@@ -287,14 +373,14 @@ fn shown_context(entries: &[Entry], rising: bool, id: Id) -> Option<Context>
     }
 }
 
-fn put(entries: &mut [Entry], rising: bool, id: Id, at: u64, op: Op)
+fn put(entries: &mut [Entry], places: &Vec<u32>, rising: bool, id: Id, at: u64, op: Op)
     requires rises { MayRise rising entries.old }
     requires room { RoomFor id op (rooms entries.old) }
     ensures told { tolds entries.new ≡ with_op id at op (tolds entries.old) }
     ensures rooms { is_growing op ≡ false → rooms entries.new ≡ rooms entries.old }
     ensures ids { ids entries.new ≡ ids entries.old }
 {
-    match find(entries, rising, id) {
+    match find(entries, places, rising, id) {
         Some(place) => match &mut entries[place].state {
             Some(state) => state.put(at, op),
             None => unreachable!(),
@@ -303,13 +389,19 @@ fn put(entries: &mut [Entry], rising: bool, id: Id, at: u64, op: Op)
     }
 }
 
-fn reserve_op(entries: &mut [Entry], rising: bool, id: Id, op: &Op) -> Result<(), Memory>
+fn reserve_op(
+    entries: &mut [Entry],
+    places: &Vec<u32>,
+    rising: bool,
+    id: Id,
+    op: &Op,
+) -> Result<(), Memory>
     requires rises { MayRise rising entries.old }
     ensures told { tolds entries.new ≡ tolds entries.old }
     ensures room { OnOk result (RoomFor id op.now (rooms entries.new)) }
     ensures ids { ids entries.new ≡ ids entries.old }
 {
-    match find(entries, rising, id) {
+    match find(entries, places, rising, id) {
         Some(place) => match &mut entries[place].state {
             Some(state) => state.reserve(op),
             None => Ok(()),
@@ -318,13 +410,18 @@ fn reserve_op(entries: &mut [Entry], rising: bool, id: Id, op: &Op) -> Result<()
     }
 }
 
-fn reserve_link(entries: &mut [Entry], rising: bool, id: Id) -> Result<(), Memory>
+fn reserve_link(
+    entries: &mut [Entry],
+    places: &Vec<u32>,
+    rising: bool,
+    id: Id,
+) -> Result<(), Memory>
     requires rises { MayRise rising entries.old }
     ensures told { tolds entries.new ≡ tolds entries.old }
     ensures room { OnOk result (RoomForLink id (rooms entries.new)) }
     ensures ids { ids entries.new ≡ ids entries.old }
 {
-    match find(entries, rising, id) {
+    match find(entries, places, rising, id) {
         Some(place) => match &mut entries[place].state {
             Some(state) => state.reserve_room(0, 0, 1),
             None => Ok(()),
@@ -335,6 +432,7 @@ fn reserve_link(entries: &mut [Entry], rising: bool, id: Id) -> Result<(), Memor
 
 fn apply(
     entries: &mut [Entry],
+    places: &Vec<u32>,
     rising: bool,
     id: Id,
     at: u64,
@@ -344,7 +442,7 @@ fn apply(
     ensures did { AppliesIn (tolds entries.old) id at op result (tolds entries.new) }
     ensures ids { ids entries.new ≡ ids entries.old }
 {
-    match find(entries, rising, id) {
+    match find(entries, places, rising, id) {
         Some(place) => match &mut entries[place].state {
             Some(state) => Some(state.apply(at, op)),
             None => unreachable!(),
@@ -357,14 +455,14 @@ fn apply(
 }
 
 // Takes out the state of a span, and leaves a gap.
-fn take(entries: &mut [Entry], rising: bool, id: Id) -> SpanState
+fn take(entries: &mut [Entry], places: &Vec<u32>, rising: bool, id: Id) -> SpanState
     requires rises { MayRise rising entries.old }
     requires known { knows_span id (tolds entries.old) ≡ true }
     ensures told { told_at id (tolds entries.old) ≡ Some result.told }
     ensures rest { tolds entries.new ≡ remove_entry (is_id id) (tolds entries.old) }
     ensures ids { ids entries.new ≡ ids entries.old }
 {
-    match find(entries, rising, id) {
+    match find(entries, places, rising, id) {
         Some(place) => match entries[place].state.take() {
             Some(state) => state,
             None => unreachable!(),
