@@ -2,7 +2,7 @@
 ghost use Rattle.std.specs.Prelude.{◌≡◌, false};
 ghost use Rattle.std.proofs.Common.{refl, ap, ◌∙◌};
 ghost use Rattle.trace_base.specs.declared.lane.Lane.{Lane};
-ghost use Rattle.trace_base.specs.layers.Unseeing.{unseeing, LeavesLanes, unseeing_sees, unseeing_lanes};
+ghost use Rattle.trace_base.specs.layers.Unseeing.{no_known_spans, LeavesLanes, unseeing_sees, unseeing_lanes};
 
 use otel_base::enter_error::EnterError;
 use otel_base::memory::Memory;
@@ -56,7 +56,7 @@ pub struct Prepared {}
 impl Layer for Asked {
     type Ready = Prepared;
 
-    ghost seen = { λ s. unseeing };
+    ghost seen = { λ s. no_known_spans };
 
     ghost kept = { λ s lane number. 0 };
 

@@ -1,11 +1,11 @@
 //! Calls on enabled handles, over a registry that serves all lanes.
 ghost use Rattle.std.specs.Prelude.{◌≡◌, ◌<◌, ◌∷◌, if◌then◌else◌, length, [], IfOk, OnOk, Some, None};
 ghost use Rattle.trace_base.specs.declared.span.Parent.TheVariants as parent;
-ghost use Rattle.trace_base.specs.Spans.{held};
+ghost use Rattle.trace_base.specs.Spans.{with_hold};
 ghost use Rattle.trace_base.specs.Conditions.{HasFewHolds, HasOwnHold};
 ghost use Rattle.span_registry.specs.Registering.{no_spans};
 ghost use Rattle.span_handles.specs.Handles.{handle_of};
-ghost use Rattle.span_handles.specs.Single.{IsFirst, IsSingle, Leaves, MayStand, made_at, spans_of};
+ghost use Rattle.span_handles.specs.Single.{IsFirst, IsSingle, BecomesSpans, MayStand, with_span_at, spans_of};
 
 use crate::callsites::callsite;
 use crate::lanes::lane;
@@ -72,8 +72,8 @@ fn make(
     requires site { making.now.site < length world.old.sites }
     requires may { MayStand world.old lane.now (if root then parent.Root else parent.Current) }
     ensures made { OnOk result
-        (Leaves world.old world.new
-        (made_at world.old lane.now.id (if root then parent.Root else parent.Current) making.now.site)) }
+        (BecomesSpans world.old world.new
+        (with_span_at world.old lane.now.id (if root then parent.Root else parent.Current) making.now.site)) }
     ensures is { IfOk result (λ span. span ≡ handle_of 0 (length (spans_of world.old).made) making.now.site) }
 {
     if root {
@@ -155,8 +155,8 @@ fn copy(world: &mut World<Registry>, span: &Span, id: Id) -> Span
     requires own { HasOwnHold (spans_of world.old) id }
     requires few_holds { HasFewHolds (spans_of world.old).made id }
     ensures is { result ≡ span.now }
-    ensures held { Leaves world.old world.new
-        (record (spans_of world.old) { made = held (spans_of world.old).made id }) }
+    ensures held { BecomesSpans world.old world.new
+        (record (spans_of world.old) { made = with_hold (spans_of world.old).made id }) }
 {
     span.clone_handle(world)
 }

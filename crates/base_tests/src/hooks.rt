@@ -1,6 +1,6 @@
 //! Each call over two layers and a registry: which hooks it tells, and in which order.
 ghost use Rattle.std.specs.Prelude.{◌≡◌, OnOk};
-ghost use Rattle.trace_base.specs.Calls.{entered};
+ghost use Rattle.trace_base.specs.Calls.{with_span_entry};
 ghost use Rattle.trace_base.specs.Conditions.{HasFewHolds, IsLive};
 ghost use Rattle.span_registry.specs.Registering.{no_spans};
 
@@ -35,7 +35,7 @@ fn enter(
     requires few_holds { HasFewHolds stack.old.inner.inner.spans.made id }
     ensures lane { OnOk result (lane.new.id ≡ lane.old.id) }
     ensures spans { OnOk result
-        (stack.new.inner.inner.spans ≡ entered stack.old.inner.inner.spans id lane.old.id) }
+        (stack.new.inner.inner.spans ≡ with_span_entry stack.old.inner.inner.spans id lane.old.id) }
 {
     whole(stack);
     match stack.enter(id, lane, 5) {

@@ -1,7 +1,7 @@
 //! Spans of a registry: their holds, slots, entries and closes.
 ghost use Rattle.std.specs.Prelude.{◌≡◌, ◌∷◌, [], length, IfOk, OnOk, Some, None};
 ghost use Rattle.trace_base.specs.Spans.{entries_on, place_on};
-ghost use Rattle.trace_base.specs.Calls.{with_span, entered};
+ghost use Rattle.trace_base.specs.Calls.{with_new_span, with_span_entry};
 ghost use Rattle.trace_base.specs.Conditions.{AreFew, HasFewHolds, HasFewHoldsAbove, IsLive, IsLivePlace};
 ghost use Rattle.span_registry.specs.Registering.{no_spans};
 
@@ -54,7 +54,7 @@ fn make(registry: &mut Registry, making: &Making, parent: Parent) -> Result<Id, 
     requires few_holds { HasFewHoldsAbove registry.old.spans making.now.lane.id parent }
     ensures id { IfOk result (λ id. id ≡ length registry.old.spans.made) }
     ensures spans { OnOk result
-        (registry.new.spans ≡ with_span registry.old.spans
+        (registry.new.spans ≡ with_new_span registry.old.spans
         (place_on (entries_on making.now.lane.id registry.old.spans.lanes) parent) making.now.site) }
 {
     registry.new_span(
@@ -150,7 +150,7 @@ fn enter(registry: &mut Registry, id: Id, lane: &mut Lane) -> Result<(), Memory>
     requires live { IsLive registry.old.spans.made id }
     requires few_holds { HasFewHolds registry.old.spans.made id }
     ensures lane { lane.new ≡ lane.old }
-    ensures spans { OnOk result (registry.new.spans ≡ entered registry.old.spans id lane.old.id) }
+    ensures spans { OnOk result (registry.new.spans ≡ with_span_entry registry.old.spans id lane.old.id) }
 {
     match registry.enter(id, lane, 1) {
         Ok(()) => Ok(()),

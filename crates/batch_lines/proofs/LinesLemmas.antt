@@ -3,20 +3,20 @@ use Rattle.std.proofs.Common.{◌≡◌, ℕ, ◌+◌, ◌<◌, ◌≤◌, List,
 use Rattle.std.proofs.lemmas.List.{drop_more}
 use Rattle.serde_json.specs.Written.{comma_if}
 use Rattle.trace_batch.specs.declared.item.Sent.{Sent}
-use Rattle.batch_lines.specs.Texts.{listed, batch_text, batch_lines}
+use Rattle.batch_lines.specs.Texts.{listed_texts, batch_text, batch_lines}
 
 pub listed_next : (xs : List Sent) (i : ℕ) (x : Sent) (later : Bool) (out new front all : List ℕ) → i < length xs → x ≡ get_or xs i x → front ≡ comma_if later → new ≡ out ++ (front ++ x.text)
-    → out ++ listed later (drop i xs) ≡ all → new ++ listed true (drop (i + 1) xs) ≡ all
+    → out ++ listed_texts later (drop i xs) ≡ all → new ++ listed_texts true (drop (i + 1) xs) ≡ all
 listed_next xs i x later out new front all within is comma added rest =
-    ap (λ (l : List ℕ). l ++ listed true (drop (i + 1) xs)) (added ∙ ap (λ (l : List ℕ). out ++ (l ++ x.text)) comma)
-    ∙ append_assoc out (comma_if later ++ x.text) (listed true (drop (i + 1) xs))
-    ∙ ap (λ (l : List ℕ). out ++ l) (append_assoc (comma_if later) x.text (listed true (drop (i + 1) xs)))
-    ∙ ap (λ (y : Sent). out ++ (comma_if later ++ (y.text ++ listed true (drop (i + 1) xs)))) is
-    ∙ ap (λ (ys : List Sent). out ++ listed later ys) (sym (drop_more xs i x within))
+    ap (λ (l : List ℕ). l ++ listed_texts true (drop (i + 1) xs)) (added ∙ ap (λ (l : List ℕ). out ++ (l ++ x.text)) comma)
+    ∙ append_assoc out (comma_if later ++ x.text) (listed_texts true (drop (i + 1) xs))
+    ∙ ap (λ (l : List ℕ). out ++ l) (append_assoc (comma_if later) x.text (listed_texts true (drop (i + 1) xs)))
+    ∙ ap (λ (y : Sent). out ++ (comma_if later ++ (y.text ++ listed_texts true (drop (i + 1) xs)))) is
+    ∙ ap (λ (ys : List Sent). out ++ listed_texts later ys) (sym (drop_more xs i x within))
     ∙ rest
 
-pub listed_all : (xs : List Sent) (i : ℕ) (later : Bool) (out all : List ℕ) → length xs ≤ i → out ++ listed later (drop i xs) ≡ all → out ≡ all
-listed_all xs i later out all past rest = sym (append-nil out) ∙ ap (λ (ys : List Sent). out ++ listed later ys) (sym (drop_of_length-le xs past)) ∙ rest
+pub listed_all : (xs : List Sent) (i : ℕ) (later : Bool) (out all : List ℕ) → length xs ≤ i → out ++ listed_texts later (drop i xs) ≡ all → out ≡ all
+listed_all xs i later out all past rest = sym (append-nil out) ∙ ap (λ (ys : List Sent). out ++ listed_texts later ys) (sym (drop_of_length-le xs past)) ∙ rest
 
 abbrev items : List (Vec Sent Global) → List (List Sent)
 items bs = map (λ (b : Vec Sent Global). b.items) bs

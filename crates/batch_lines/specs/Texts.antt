@@ -10,14 +10,14 @@ use Rattle.trace_batch.specs.Merges.{of_lane, sent_of}
 use Rattle.batch_lines.specs.Items.{object_text, items_of, on_lane}
 
 -- the texts of items, with commas between them
-abbrev pub listed : Bool → List Sent → List ℕ
-listed later [] = []
-listed later (s ∷ ss) = comma_if later ++ (s.text ++ listed true ss)
+abbrev pub listed_texts : Bool → List Sent → List ℕ
+listed_texts later [] = []
+listed_texts later (s ∷ ss) = comma_if later ++ (s.text ++ listed_texts true ss)
 
 -- the line of the batch with a number
 abbrev pub batch_text : ℕ → List Sent → List ℕ
 batch_text number batch =
-    codes "{\"batch\":[" ++ (listed false batch ++ (codes "],\"number\":" ++ (decimal number ++ codes "}\n")))
+    codes "{\"batch\":[" ++ (listed_texts false batch ++ (codes "],\"number\":" ++ (decimal number ++ codes "}\n")))
 
 -- the lines of batches, so many having come before: numbered from 1 on
 abbrev pub batch_lines : ℕ → List (List Sent) → List ℕ

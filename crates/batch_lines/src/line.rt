@@ -1,7 +1,7 @@
 //! The lines of batches and of the end, each with its line feed.
 ghost use Rattle.std.specs.Prelude.{◌≡◌, ◌++◌, OnOk, false};
 ghost use Rattle.trace_pipeline.specs.text.Writes.{Writes};
-ghost use Rattle.batch_lines.specs.Texts.{listed, batch_text, batches_end_data, batches_end_text};
+ghost use Rattle.batch_lines.specs.Texts.{listed_texts, batch_text, batches_end_data, batches_end_text};
 ghost use Rattle.serde_json.specs.Written.{compact_text};
 
 use std::alloc::AllocError;
@@ -19,7 +19,7 @@ fn add_sent(out: &mut Vec<u8>, front: &str, sent: &Sent) -> Result<(), AllocErro
 
 // Adds the texts of items, with commas between them.
 fn add_items(out: &mut Vec<u8>, batch: &[Sent]) -> Result<(), AllocError>
-    ensures { OnOk result (out.new.items ≡ out.old.items ++ listed false batch.now) }
+    ensures { OnOk result (out.new.items ≡ out.old.items ++ listed_texts false batch.now) }
 {
     let mut later = false;
     for sent in batch {

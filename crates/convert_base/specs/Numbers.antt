@@ -27,12 +27,12 @@ format_of word =
     (if bytes_eq word (codes "html") then Some format.Html else None)))
 
 -- what the process ends with at a fault
-abbrev pub status_of : Fault → ℕ
-status_of fault.Usage = 1
-status_of (fault.NoJson line) = 2
-status_of (fault.NoRecord line) = 2
-status_of fault.Io = 3
-status_of fault.Memory = 5
+abbrev pub exit_status_of : Fault → ℕ
+exit_status_of fault.Usage = 1
+exit_status_of (fault.NoJson line) = 2
+exit_status_of (fault.NoRecord line) = 2
+exit_status_of fault.Io = 3
+exit_status_of fault.Memory = 5
 
 -- why a conversion ends where reading or writing gave an error: want of memory stays that
 abbrev pub io_fault : ErrorKind → Fault

@@ -1,7 +1,7 @@
 //! Why a conversion ends early.
 ghost use Rattle.std.specs.Prelude.{◌≡◌};
 ghost use Rattle.std.specs.IoError.{error_kind};
-ghost use Rattle.convert_base.specs.Numbers.{io_fault, status_of, text_fault};
+ghost use Rattle.convert_base.specs.Numbers.{io_fault, exit_status_of, text_fault};
 ghost use Rattle.convert_base.specs.declared.fault.Fault.TheVariants as fault;
 
 use std::alloc::{AllocError, AllocFailed};
@@ -37,7 +37,7 @@ pub enum Fault {
 impl Fault {
     /// What the process ends with.
     pub fn status(&self) -> u8
-        ensures { result ≡ status_of self.now }
+        ensures { result ≡ exit_status_of self.now }
     {
         match self {
             Fault::Usage => 1,

@@ -15,8 +15,8 @@ use Rattle.env_directives.specs.orders.StaticOrder.{most_specific_first}
 use Rattle.env_directives.specs.reading.StaticText.{and_then, static_of}
 use Rattle.env_directives.specs.orders.Table.{Table, empty_table, with_added, with_all_added}
 
-abbrev pub added : StaticDirective → Table StaticDirective → Table StaticDirective
-added = with_added most_specific_first (λ d. d.level)
+abbrev pub with_static : StaticDirective → Table StaticDirective → Table StaticDirective
+with_static = with_added most_specific_first (λ d. d.level)
 
 abbrev pub all_added : List StaticDirective → Table StaticDirective → Table StaticDirective
 all_added = with_all_added most_specific_first (λ d. d.level)

@@ -11,8 +11,8 @@ ghost use Rattle.trace_base.specs.declared.callsite.Callsite.{Callsite};
 ghost use Rattle.trace_base.specs.declared.level.LevelFilter.{LevelFilter};
 ghost use Rattle.env_directives.specs.Cares.{begins_with, covers, cares_about_target, declares_all, cares};
 ghost use Rattle.env_directives.specs.reading.Separators.{nonempty, comma_pieces};
-ghost use Rattle.env_directives.specs.printed.StaticPrinted.{static_text, joined};
-ghost use Rattle.env_directives.specs.reading.StaticText.{Reads, static_of, bare_of, with_equals, front_of, with_names, names_of, level_of};
+ghost use Rattle.env_directives.specs.printed.StaticPrinted.{static_text, comma_joined};
+ghost use Rattle.env_directives.specs.reading.StaticText.{ReadsOrFails, static_of, bare_of, with_equals, front_of, with_names, names_of, level_behind_equals};
 ghost use Rattle.env_directives.specs.orders.StaticOrder.{most_specific_first, specificity_cmp, target_length};
 
 use crate::env::field::text_of;
@@ -33,7 +33,7 @@ pub mod set;
 pub trait Match {
     ghost cares: { Self → Callsite → Bool };
 
-    ghost level_of: { Self → LevelFilter };
+    ghost level_behind_equals: { Self → LevelFilter };
 
     /// Whether it speaks of a callsite.
     fn cares_about(&self, callsite: &Callsite) -> bool
@@ -41,7 +41,7 @@ pub trait Match {
 
     /// The level that it lets through.
     fn level(&self) -> LevelFilter
-        ensures { result ≡ level_of self.now };
+        ensures { result ≡ level_behind_equals self.now };
 }
 
 /// How verbosely a part of a program is traced: callsites by their target and, for events, by the names of their
@@ -74,7 +74,7 @@ impl StaticDirective {
     /// several `=`, `Fields` where there are several `[{` or the names don't end in `}]`, and `Level` where no level
     /// follows the `=`; `StaticDirective::from_str`.
     pub fn from_str(alloc: Global, text: &str) -> Result<StaticDirective, ParseError>
-        ensures { Reads result (static_of text.now) }
+        ensures { ReadsOrFails result (static_of text.now) }
     {
         let Some((front, level)) = text.split_once("=") else {
             return bare(alloc, text);
@@ -134,7 +134,7 @@ pub(crate) fn begins_with(start: &Option<Text>, text: &str) -> bool
 
 // What stands by itself is a level where it reads as one.
 fn bare(alloc: Global, text: &str) -> Result<StaticDirective, ParseError>
-    ensures { Reads result (Ok (bare_of text.now)) }
+    ensures { ReadsOrFails result (Ok (bare_of text.now)) }
 {
     match text.parse::<LevelFilter>() {
         Ok(level) => Ok(StaticDirective {
@@ -151,7 +151,7 @@ fn bare(alloc: Global, text: &str) -> Result<StaticDirective, ParseError>
 }
 
 fn with_equals(alloc: Global, front: &str, level: &str) -> Result<StaticDirective, ParseError>
-    ensures { Reads result (with_equals front.now level.now) }
+    ensures { ReadsOrFails result (with_equals front.now level.now) }
 {
     let (target, field_names) = target_and_names(alloc, front)?;
     let level = level_filter(level)?;
@@ -163,7 +163,7 @@ fn with_equals(alloc: Global, front: &str, level: &str) -> Result<StaticDirectiv
 }
 
 fn target_and_names(alloc: Global, front: &str) -> Result<(Text, Items<Text>), ParseError>
-    ensures { Reads result (front_of front.now) }
+    ensures { ReadsOrFails result (front_of front.now) }
 {
     match front.split_once("[{") {
         Some((target, fields)) => with_names(alloc, target, fields),
@@ -172,20 +172,20 @@ fn target_and_names(alloc: Global, front: &str) -> Result<(Text, Items<Text>), P
 }
 
 fn with_names(alloc: Global, target: &str, fields: &str) -> Result<(Text, Items<Text>), ParseError>
-    ensures { Reads result (with_names target.now fields.now) }
+    ensures { ReadsOrFails result (with_names target.now fields.now) }
 {
     let names = names_between(alloc, fields)?;
     Ok((copied(alloc, target)?, names))
 }
 
 fn without_names(alloc: Global, target: &str) -> Result<(Text, Items<Text>), ParseError>
-    ensures { Reads result (Ok (target.now, [])) }
+    ensures { ReadsOrFails result (Ok (target.now, [])) }
 {
     Ok((copied(alloc, target)?, Items::new(alloc)))
 }
 
 fn names_between(alloc: Global, fields: &str) -> Result<Items<Text>, ParseError>
-    ensures { Reads result (names_of fields.now) }
+    ensures { ReadsOrFails result (names_of fields.now) }
 {
     if fields.contains("[{") {
         return Err(ParseError::Fields { many: true });
@@ -197,7 +197,7 @@ fn names_between(alloc: Global, fields: &str) -> Result<Items<Text>, ParseError>
 }
 
 fn nonempty(alloc: Global, list: &str) -> Result<Items<Text>, ParseError>
-    ensures { Reads result (Ok (nonempty (comma_pieces list.now))) }
+    ensures { ReadsOrFails result (Ok (nonempty (comma_pieces list.now))) }
 {
     let mut names = Items::new(alloc);
     for name in list.split(',') {
@@ -209,7 +209,7 @@ fn nonempty(alloc: Global, list: &str) -> Result<Items<Text>, ParseError>
 }
 
 fn level_filter(text: &str) -> Result<LevelFilter, ParseError>
-    ensures { Reads result (level_of text.now) }
+    ensures { ReadsOrFails result (level_behind_equals text.now) }
 {
     match text.parse::<LevelFilter>() {
         Ok(level) => Ok(level),
@@ -218,7 +218,7 @@ fn level_filter(text: &str) -> Result<LevelFilter, ParseError>
 }
 
 fn copied(alloc: Global, text: &str) -> Result<Text, ParseError>
-    ensures { Reads result (Ok text.now) }
+    ensures { ReadsOrFails result (Ok text.now) }
 {
     Ok(text_of(alloc, text)?)
 }
@@ -233,7 +233,7 @@ impl MadeWith<Global> for StaticDirective {
 impl Match for StaticDirective {
     ghost cares = { cares };
 
-    ghost level_of = { λ d. d.level };
+    ghost level_behind_equals = { λ d. d.level };
 
     fn cares_about(&self, callsite: &Callsite) -> bool {
         self.covers(callsite.target.as_str())
@@ -277,7 +277,7 @@ impl fmt::Display for StaticDirective {
 struct Names<'a>(&'a [Text]);
 
 impl<'a> fmt::Display for Names<'a> {
-    ghost output = { λ n. Some (joined n.0.now) };
+    ghost output = { λ n. Some (comma_joined n.0.now) };
 
     fn fmt<W: fmt::Write>(&self, f: &mut fmt::Formatter<W>) -> fmt::Result {
         let Some((first, others)) = self.0.split_first() else {

@@ -12,10 +12,10 @@ ghost use Rattle.std.specs.Iterator.{YieldsFirstBy, item_count};
 ghost use Rattle.env_directives.specs.orders.Choice.{admits_target};
 ghost use Rattle.env_directives.specs.Iterators.{pairs_left};
 ghost use Rattle.env_directives.specs.orders.StaticOrder.{most_specific_first};
-ghost use Rattle.env_directives.specs.printed.StaticPrinted.{joined, static_text};
-ghost use Rattle.env_directives.specs.reading.StaticText.{Reads, Fails, static_of};
+ghost use Rattle.env_directives.specs.printed.StaticPrinted.{comma_joined, static_text};
+ghost use Rattle.env_directives.specs.reading.StaticText.{ReadsOrFails, Fails, static_of};
 ghost use Rattle.env_directives.specs.orders.Table.{empty_table, AddsSome};
-ghost use Rattle.env_directives.specs.Targets.{added, all_added, target_directive, pair_directive, default_directive, default_level, pairs, targets_of, same_rule, same_level, same_directive, same_targets};
+ghost use Rattle.env_directives.specs.Targets.{with_static, all_added, target_directive, pair_directive, default_directive, default_level, pairs, targets_of, same_rule, same_level, same_directive, same_targets};
 
 use crate::directive::set::DirectiveSet;
 use crate::directive::{ParseError, StaticDirective};
@@ -57,7 +57,7 @@ impl Targets {
     /// Reads directives with commas between them, each by `StaticDirective::from_str`. The fault of the first piece that
     /// has one is answered; `Targets::from_str`.
     pub fn from_str(alloc: Global, text: &str) -> Result<Targets, ParseError>
-        ensures { Reads result (targets_of text.now) }
+        ensures { ReadsOrFails result (targets_of text.now) }
     {
         let mut set = DirectiveSet::new(alloc);
         for piece in text.split(',') {
@@ -72,7 +72,7 @@ impl Targets {
         target: String,
         level: LevelFilter,
     ) -> Result<Targets, (Targets, Memory)>
-        ensures ok { IfOk result (λ t. t ≡ added (target_directive (string_bytes target) level) self) }
+        ensures ok { IfOk result (λ t. t ≡ with_static (target_directive (string_bytes target) level) self) }
         ensures memory_leaves { IfErr result (λ e. e.0 ≡ self) }
     {
         let mut targets = self;
@@ -84,7 +84,7 @@ impl Targets {
 
     /// Sets the level of the targets for which no other is set. `Memory` hands the filter back as it was.
     pub fn with_default(self, level: LevelFilter) -> Result<Targets, (Targets, Memory)>
-        ensures ok { IfOk result (λ t. t ≡ added (default_directive level) self) }
+        ensures ok { IfOk result (λ t. t ≡ with_static (default_directive level) self) }
         ensures memory_leaves { IfErr result (λ e. e.0 ≡ self) }
     {
         let alloc = self.set.allocator();
@@ -218,7 +218,7 @@ fn same_level(level: LevelFilter, other: LevelFilter) -> bool
 
 /// The directives in their order, with commas between them.
 impl fmt::Display for Targets {
-    ghost output = { λ t. Some (joined (map static_text t.directives)) };
+    ghost output = { λ t. Some (comma_joined (map static_text t.directives)) };
 
     fn fmt<W: fmt::Write>(&self, f: &mut fmt::Formatter<W>) -> fmt::Result {
         let Some((first, others)) = self.set.as_slice().split_first() else {
@@ -310,7 +310,7 @@ fn add_read(
     set: &mut DirectiveSet<StaticDirective>,
     text: &str,
 ) -> Result<(), ParseError>
-    ensures ok { OnOk result (IsOkAnd (static_of text.now) (λ d. set.new ≡ added d set.old)) }
+    ensures ok { OnOk result (IsOkAnd (static_of text.now) (λ d. set.new ≡ with_static d set.old)) }
     ensures err { IfErr result (λ e. Fails e (static_of text.now)) }
 {
     Ok(set.add(StaticDirective::from_str(alloc, text)?)?)

@@ -7,13 +7,13 @@ use Rattle.trace_base.specs.declared.level.LevelFilter.{LevelFilter}
 use Rattle.trace_base.specs.declared.subscriber.Interest.{Interest}
 use Rattle.trace_base.specs.declared.subscriber.Interest.TheVariants as interests
 use Rattle.trace_base.specs.Gate.{Worlds, gate, AdmitsFresh}
-use Rattle.span_registry.specs.Both.{picked, hint_both}
-use Rattle.env_filter.specs.Filtering.{Filtering, plain, AreWhole, interest_in, hint_in, enables_in}
-use Rattle.env_filter.specs.Gating.{admitted}
-use Rattle.env_filter.specs.Reloading.{if_there, sometimes, never_enabled}
-use Rattle.env_filter.specs.Worlds.{ComesTo, filter_rule, in_place_rule, IsWholeInPlace, EachSubscriber, AdmitsBy}
+use Rattle.span_registry.specs.Both.{joint_interest, hint_both}
+use Rattle.env_filter.specs.Filtering.{FilterWithRoom, plain, AreWhole, interest_in, hint_in, enables_in}
+use Rattle.env_filter.specs.Gating.{gate_is_admitted}
+use Rattle.env_filter.specs.Reloading.{layer_or, sometimes, never_enabled}
+use Rattle.env_filter.specs.Worlds.{GateFollows, filter_rule, in_place_rule, IsWholeInPlace, EachSubscriber, AdmitsBy}
 
-picked_always : (i : Interest) → picked i interests.Always ≡ i
+picked_always : (i : Interest) → joint_interest i interests.Always ≡ i
 picked_always interests.Never = refl
 picked_always interests.Sometimes = refl
 picked_always interests.Always = refl
@@ -28,26 +28,26 @@ and_true false = refl
 
 -- what takes everything adds nothing to the gate
 gate_alone : (i under : Interest) (h below : Option LevelFilter) (e takes : Bool) (l : Level) → under ≡ interests.Always → below ≡ None → takes ≡ true
-    → gate (picked i under) (hint_both h below) (e && takes) l ≡ gate i h e l
+    → gate (joint_interest i under) (hint_both h below) (e && takes) l ≡ gate i h e l
 gate_alone i under h below e takes l a n t =
-    ap (λ (x : Interest). gate (picked i x) (hint_both h below) (e && takes) l) a
-    ∙ ap (λ (x : Option LevelFilter). gate (picked i interests.Always) (hint_both h x) (e && takes) l) n
-    ∙ ap (λ (x : Bool). gate (picked i interests.Always) (hint_both h None) (e && x) l) t
+    ap (λ (x : Interest). gate (joint_interest i x) (hint_both h below) (e && takes) l) a
+    ∙ ap (λ (x : Option LevelFilter). gate (joint_interest i interests.Always) (hint_both h x) (e && takes) l) n
+    ∙ ap (λ (x : Bool). gate (joint_interest i interests.Always) (hint_both h None) (e && x) l) t
     ∙ ap (λ (x : Interest). gate x (hint_both h None) (e && true) l) (picked_always i)
     ∙ ap (λ (x : Option LevelFilter). gate i x (e && true) l) (hint_alone h)
     ∙ ap (λ (x : Bool). gate i h x l) (and_true e)
 
-pub over_all : (f : Filtering) (under : Interest) (below : Option LevelFilter) (takes : Bool) (lane : ℕ) (c : Callsite) → under ≡ interests.Always → below ≡ None → takes ≡ true → AreWhole (plain f)
-    → gate (picked (interest_in (plain f) c) under) (hint_both (Some (hint_in (plain f))) below) (enables_in (plain f) lane c && takes) c.level ≡ filter_rule f lane c
+pub over_all : (f : FilterWithRoom) (under : Interest) (below : Option LevelFilter) (takes : Bool) (lane : ℕ) (c : Callsite) → under ≡ interests.Always → below ≡ None → takes ≡ true → AreWhole (plain f)
+    → gate (joint_interest (interest_in (plain f) c) under) (hint_both (Some (hint_in (plain f))) below) (enables_in (plain f) lane c && takes) c.level ≡ filter_rule f lane c
 over_all f under below takes lane c a n t w =
-    gate_alone (interest_in (plain f) c) under (Some (hint_in (plain f))) below (enables_in (plain f) lane c) takes c.level a n t ∙ admitted (plain f) lane c w
+    gate_alone (interest_in (plain f) c) under (Some (hint_in (plain f))) below (enables_in (plain f) lane c) takes c.level a n t ∙ gate_is_admitted (plain f) lane c w
 
-pub over_all_in_place : (o : Option Filtering) (under : Interest) (below : Option LevelFilter) (takes : Bool) (lane : ℕ) (c : Callsite) → under ≡ interests.Always → below ≡ None → takes ≡ true → IsWholeInPlace o
-    → gate (picked (if_there sometimes (λ f. interest_in (plain f)) o c) under) (hint_both (if_there None (λ f. Some (hint_in (plain f))) o) below) (if_there never_enabled (λ f. enables_in (plain f)) o lane c && takes) c.level ≡ in_place_rule o lane c
+pub over_all_in_place : (o : Option FilterWithRoom) (under : Interest) (below : Option LevelFilter) (takes : Bool) (lane : ℕ) (c : Callsite) → under ≡ interests.Always → below ≡ None → takes ≡ true → IsWholeInPlace o
+    → gate (joint_interest (layer_or sometimes (λ f. interest_in (plain f)) o c) under) (hint_both (layer_or None (λ f. Some (hint_in (plain f))) o) below) (layer_or never_enabled (λ f. enables_in (plain f)) o lane c && takes) c.level ≡ in_place_rule o lane c
 over_all_in_place None under below takes lane c a n t w = gate_alone interests.Sometimes under None below false takes c.level a n t
 over_all_in_place (Some f) under below takes lane c a n t w = over_all f under below takes lane c a n t w
 
-pub admits_by : {S : Type 0} (interest : S → Callsite → Interest) (hint : S → Option LevelFilter) (enables : S → ℕ → Callsite → Bool) (holds : S → Type 0) (rule : S → ℕ → Callsite → Bool) → ComesTo interest hint enables holds rule
+pub admits_by : {S : Type 0} (interest : S → Callsite → Interest) (hint : S → Option LevelFilter) (enables : S → ℕ → Callsite → Bool) (holds : S → Type 0) (rule : S → ℕ → Callsite → Bool) → GateFollows interest hint enables holds rule
     → (world : Worlds S) (lane site : ℕ) (own : Option ℕ) (answer : Bool) → AdmitsFresh interest hint enables world lane site own answer → EachSubscriber holds world → AdmitsBy rule world lane site own answer
 admits_by interest hint enables holds rule law world lane site None answer admits all = admits
 admits_by interest hint enables holds rule law world lane site (Some d) answer admits all = λ s c there at. admits s c there at ∙ law s lane c (all d s there)

@@ -14,10 +14,10 @@ use Rattle.env_directives.specs.declared.directive.StaticDirective.{StaticDirect
 use Rattle.env_directives.specs.Cares.{cares}
 use Rattle.env_directives.specs.orders.Choice.{admits, lets_through}
 use Rattle.env_directives.specs.orders.Table.{more_verbose}
-use Rattle.env_filter.specs.spans.Levels.{Opened}
-use Rattle.env_filter.specs.Filtering.{Filtered, AreWhole, Each, IsBelow, is_cared, has_dynamics, interest_in, asks_values, hint_in, is_open, enables_in, is_admitted}
+use Rattle.env_filter.specs.spans.Levels.{OpenLevel}
+use Rattle.env_filter.specs.Filtering.{FilterState, AreWhole, Each, IsAtMostLevel, is_cared, has_dynamics, interest_in, asks_values, hint_in, levels_admit, enables_in, is_admitted}
 
-within_below : (l : Level) (f most : LevelFilter) → is_within l f ≡ true → IsBelow most f → is_within l most ≡ true
+within_below : (l : Level) (f most : LevelFilter) → is_within l f ≡ true → IsAtMostLevel most f → is_within l most ≡ true
 within_below l f most is below = let e = leb-true (verbosity l) (greatest_verbosity f) is in le-leb (verbosity l) (greatest_verbosity most) (omega (arith, e, below))
 
 within_trace : (l : Level) → is_within l TRACE ≡ true
@@ -35,33 +35,33 @@ within_off level.DEBUG = refl
 within_off level.TRACE = refl
 
 -- a level on a lane, and the level of the static directive that decides
-open_within : (l : Level) (most : LevelFilter) (es : List Opened) → Each (λ (e : Opened). IsBelow most e.level) es → is_open l es ≡ true → is_within l most ≡ true
+open_within : (l : Level) (most : LevelFilter) (es : List OpenLevel) → Each (λ (e : OpenLevel). IsAtMostLevel most e.level) es → levels_admit l es ≡ true → is_within l most ≡ true
 open_within l most [] all is = absurd (true≢false (sym is))
-open_within l most (e ∷ es) all is = elim (or_cases (is_within l e.level) (is_open l es) is) [
+open_within l most (e ∷ es) all is = elim (or_cases (is_within l e.level) (levels_admit l es) is) [
   | inl here ↦ within_below l e.level most here all.0
   | inr later ↦ open_within l most es all.1 later
 ]
 
-admitted_within : (c : Callsite) (most : LevelFilter) (ds : List StaticDirective) → Each (λ (d : StaticDirective). IsBelow most d.level) ds → admits ds c ≡ true → is_within c.level most ≡ true
+admitted_within : (c : Callsite) (most : LevelFilter) (ds : List StaticDirective) → Each (λ (d : StaticDirective). IsAtMostLevel most d.level) ds → admits ds c ≡ true → is_within c.level most ≡ true
 admitted_within c most [] all is = absurd (true≢false (sym is))
 admitted_within c most (d ∷ ds) all is = elim (cases_Bool (cares d c)) [
   | inl cared ↦ within_below c.level d.level most (sym (ap (λ (o : Option StaticDirective). lets_through c.level o) (cond-true {A = Option StaticDirective} (cares d c) _ _ cared)) ∙ is) all.0
   | inr passed ↦ admitted_within c most ds all.1 (sym (ap (λ (o : Option StaticDirective). lets_through c.level o) (cond-false {A = Option StaticDirective} (cares d c) _ _ passed)) ∙ is)
 ]
 
-pub first_below : (f g : LevelFilter) → IsBelow (more_verbose f g) f
+pub first_below : (f g : LevelFilter) → IsAtMostLevel (more_verbose f g) f
 first_below f g = elim (cases_Bool (nat_le (greatest_verbosity g) (greatest_verbosity f))) [
-  | inl less ↦ subst (λ (m : LevelFilter). IsBelow m f) (sym (cond-true {A = LevelFilter} (nat_le (greatest_verbosity g) (greatest_verbosity f)) f g less)) (omega arith)
-  | inr more ↦ subst (λ (m : LevelFilter). IsBelow m f) (sym (cond-false {A = LevelFilter} (nat_le (greatest_verbosity g) (greatest_verbosity f)) f g more)) (let e = leb-false (greatest_verbosity g) (greatest_verbosity f) more in omega (arith, e))
+  | inl less ↦ subst (λ (m : LevelFilter). IsAtMostLevel m f) (sym (cond-true {A = LevelFilter} (nat_le (greatest_verbosity g) (greatest_verbosity f)) f g less)) (omega arith)
+  | inr more ↦ subst (λ (m : LevelFilter). IsAtMostLevel m f) (sym (cond-false {A = LevelFilter} (nat_le (greatest_verbosity g) (greatest_verbosity f)) f g more)) (let e = leb-false (greatest_verbosity g) (greatest_verbosity f) more in omega (arith, e))
 ]
 
-pub second_below : (f g : LevelFilter) → IsBelow (more_verbose f g) g
+pub second_below : (f g : LevelFilter) → IsAtMostLevel (more_verbose f g) g
 second_below f g = elim (cases_Bool (nat_le (greatest_verbosity g) (greatest_verbosity f))) [
-  | inl less ↦ subst (λ (m : LevelFilter). IsBelow m g) (sym (cond-true {A = LevelFilter} (nat_le (greatest_verbosity g) (greatest_verbosity f)) f g less)) (leb-true (greatest_verbosity g) (greatest_verbosity f) less)
-  | inr more ↦ subst (λ (m : LevelFilter). IsBelow m g) (sym (cond-false {A = LevelFilter} (nat_le (greatest_verbosity g) (greatest_verbosity f)) f g more)) (omega arith)
+  | inl less ↦ subst (λ (m : LevelFilter). IsAtMostLevel m g) (sym (cond-true {A = LevelFilter} (nat_le (greatest_verbosity g) (greatest_verbosity f)) f g less)) (leb-true (greatest_verbosity g) (greatest_verbosity f) less)
+  | inr more ↦ subst (λ (m : LevelFilter). IsAtMostLevel m g) (sym (cond-false {A = LevelFilter} (nat_le (greatest_verbosity g) (greatest_verbosity f)) f g more)) (omega arith)
 ]
 
-hinted : (f : Filtered) (l : Level) → is_within l (more_verbose f.statics.greatest f.dynamics.greatest) ≡ true → is_within l (hint_in f) ≡ true
+hinted : (f : FilterState) (l : Level) → is_within l (more_verbose f.statics.greatest f.dynamics.greatest) ≡ true → is_within l (hint_in f) ≡ true
 hinted f l is = elim (cases_Bool (asks_values f.dynamics.directives)) [
   | inl asks ↦ ap (λ (h : LevelFilter). is_within l h) (cond-true {A = LevelFilter} (asks_values f.dynamics.directives) _ _ asks) ∙ within_trace l
   | inr asks_none ↦ ap (λ (h : LevelFilter). is_within l h) (cond-false {A = LevelFilter} (asks_values f.dynamics.directives) _ _ asks_none) ∙ is
@@ -92,8 +92,8 @@ not_false : (b : Bool) → not b ≡ false → b ≡ true
 not_false true e = refl
 not_false false e = absurd (true≢false e)
 
-none_open : (f : Filtered) (lane : ℕ) (l : Level) → AreWhole f → has_dynamics f ≡ false → is_open l (f.lanes lane) ≡ false
-none_open f lane l w none = elim (cases_Bool (is_open l (f.lanes lane))) [
+none_open : (f : FilterState) (lane : ℕ) (l : Level) → AreWhole f → has_dynamics f ≡ false → levels_admit l (f.lanes lane) ≡ false
+none_open f lane l w none = elim (cases_Bool (levels_admit l (f.lanes lane))) [
   | inl opens ↦ (
       let empty = eqb-true (length f.dynamics.directives) 0 (not_false (length f.dynamics.directives == 0) none) in
       let most = ap (λ (m : LevelFilter). is_within l m) (w.none empty) ∙ within_off l in
@@ -102,9 +102,9 @@ none_open f lane l w none = elim (cases_Bool (is_open l (f.lanes lane))) [
 ]
 
 -- the rule of the gate
-pub admitted : (f : Filtered) (lane : ℕ) (c : Callsite) → AreWhole f → gate (interest_in f c) (Some (hint_in f)) (enables_in f lane c) c.level ≡ is_admitted f lane c
-admitted f lane c w =
-    decided (is_cared f c) (admits f.statics.directives c) (has_dynamics f) (is_open c.level (f.lanes lane)) (is_within c.level f.dynamics.greatest) (is_within c.level f.statics.greatest) (hint_in f) c.level
+pub gate_is_admitted : (f : FilterState) (lane : ℕ) (c : Callsite) → AreWhole f → gate (interest_in f c) (Some (hint_in f)) (enables_in f lane c) c.level ≡ is_admitted f lane c
+gate_is_admitted f lane c w =
+    decided (is_cared f c) (admits f.statics.directives c) (has_dynamics f) (levels_admit c.level (f.lanes lane)) (is_within c.level f.dynamics.greatest) (is_within c.level f.statics.greatest) (hint_in f) c.level
     (λ is. hinted f c.level (within_below c.level f.statics.greatest (more_verbose f.statics.greatest f.dynamics.greatest) (admitted_within c f.statics.greatest f.statics.directives w.statics is) (first_below f.statics.greatest f.dynamics.greatest)))
     (λ is. hinted f c.level (within_below c.level f.dynamics.greatest (more_verbose f.statics.greatest f.dynamics.greatest) (open_within c.level f.dynamics.greatest (f.lanes lane) (w.lanes lane) is) (second_below f.statics.greatest f.dynamics.greatest)))
     (λ is. open_within c.level f.dynamics.greatest (f.lanes lane) (w.lanes lane) is)

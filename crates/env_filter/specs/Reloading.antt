@@ -4,12 +4,12 @@ use Rattle.trace_base.specs.declared.callsite.Callsite.{Callsite}
 use Rattle.trace_base.specs.declared.subscriber.Interest.{Interest}
 use Rattle.trace_base.specs.declared.subscriber.Interest.TheVariants as interests
 use Rattle.trace_base.specs.declared.lane.Lane.{Lane}
-use Rattle.trace_base.specs.layers.Hooks.{Hook, OnEnter, Seen, Sees, HookLanes}
-use Rattle.trace_base.specs.layers.Unseeing.{unseeing, LeavesLanes, unseeing_sees, unseeing_lanes}
+use Rattle.trace_base.specs.layers.Hooks.{Hook, OnEnter, KnownSpans, Sees, HookLanes}
+use Rattle.trace_base.specs.layers.Unseeing.{no_known_spans, LeavesLanes, unseeing_sees, unseeing_lanes}
 
-abbrev pub if_there : {L V : Type 0} → V → (L → V) → Option L → V
-if_there none value None = none
-if_there none value (Some l) = value l
+abbrev pub layer_or : {L V : Type 0} → V → (L → V) → Option L → V
+layer_or none value None = none
+layer_or none value (Some l) = value l
 
 abbrev pub HoldsIfThere : {L : Type 0} → (L → Type 0) → Option L → Type 0
 HoldsIfThere P None = Unit {0}
@@ -48,7 +48,7 @@ both_trans R r (Some l) (Some m) None h k = k
 both_trans R r (Some l) (Some m) (Some n) h k = r l m n h k
 
 -- a part that related ones have alike
-pub both_alike : {L V : Type 0} (R : L → L → Type 0) (N : Type 0) (none : V) (value : L → V) → ((l m : L) → R l m → value m ≡ value l) → (o p : Option L) → Both R N o p → if_there none value p ≡ if_there none value o
+pub both_alike : {L V : Type 0} (R : L → L → Type 0) (N : Type 0) (none : V) (value : L → V) → ((l m : L) → R l m → value m ≡ value l) → (o p : Option L) → Both R N o p → layer_or none value p ≡ layer_or none value o
 both_alike R N none value same None None h = refl
 both_alike R N none value same None (Some m) h = absurd h
 both_alike R N none value same (Some l) None h = absurd h
@@ -67,8 +67,8 @@ both_compose R S N r (Some l) None q h k = absurd h
 both_compose R S N r (Some l) (Some m) None h k = k
 both_compose R S N r (Some l) (Some m) (Some n) h k = r l m n h k
 
-pub both_see : {L : Type 0} (seen : L → Seen) (does : L → Hook → L → Type 0) (N : Type 0) (hook : Hook) → ((l m : L) → does l hook m → Sees (seen l) hook (seen m)) → (o p : Option L) → Both (λ l m. does l hook m) N o p
-    → Sees (if_there unseeing seen o) hook (if_there unseeing seen p)
+pub both_see : {L : Type 0} (seen : L → KnownSpans) (does : L → Hook → L → Type 0) (N : Type 0) (hook : Hook) → ((l m : L) → does l hook m → Sees (seen l) hook (seen m)) → (o p : Option L) → Both (λ l m. does l hook m) N o p
+    → Sees (layer_or no_known_spans seen o) hook (layer_or no_known_spans seen p)
 both_see seen does N hook sees None None h = unseeing_sees hook
 both_see seen does N hook sees None (Some m) h = absurd h
 both_see seen does N hook sees (Some l) None h = absurd h
@@ -79,15 +79,15 @@ abbrev pub none_kept : ℕ → ℕ → ℕ
 none_kept lane number = 0
 
 pub both_lanes : {L : Type 0} (attaches : L → Bool) (kept : L → ℕ → ℕ → ℕ) (does : L → Hook → L → Type 0) (hook : Hook) → ((l m : L) → does l hook m → HookLanes (attaches l) (kept l) hook (kept m))
-    → (o p : Option L) → Both (λ l m. does l hook m) (LeavesLanes hook) o p → HookLanes (if_there false attaches o) (if_there none_kept kept o) hook (if_there none_kept kept p)
+    → (o p : Option L) → Both (λ l m. does l hook m) (LeavesLanes hook) o p → HookLanes (layer_or false attaches o) (layer_or none_kept kept o) hook (layer_or none_kept kept p)
 both_lanes attaches kept does hook lanes None None h = unseeing_lanes hook h
 both_lanes attaches kept does hook lanes None (Some m) h = absurd h
 both_lanes attaches kept does hook lanes (Some l) None h = absurd h
 both_lanes attaches kept does hook lanes (Some l) (Some m) h = lanes l m h
 
 -- an entry that a retired layer is told of leaves the lane as it is
-pub both_passive : {L : Type 0} (seen : L → Seen) (does : L → Hook → L → Type 0) (id at : ℕ) (before later : Lane) → ((l m : L) → does l (OnEnter id at before later) m → (seen l).knows id ≡ false → later.contexts.live ≡ before.contexts.live) → (o p : Option L)
-    → Both (λ l m. does l (OnEnter id at before later) m) (later ≡ before) o p → (if_there unseeing seen o).knows id ≡ false → later.contexts.live ≡ before.contexts.live
+pub both_passive : {L : Type 0} (seen : L → KnownSpans) (does : L → Hook → L → Type 0) (id at : ℕ) (before later : Lane) → ((l m : L) → does l (OnEnter id at before later) m → (seen l).knows id ≡ false → later.contexts.live ≡ before.contexts.live) → (o p : Option L)
+    → Both (λ l m. does l (OnEnter id at before later) m) (later ≡ before) o p → (layer_or no_known_spans seen o).knows id ≡ false → later.contexts.live ≡ before.contexts.live
 both_passive seen does id at before later passive None None h unknown = ap (λ (l : Lane). l.contexts.live) h
 both_passive seen does id at before later passive None (Some m) h unknown = absurd h
 both_passive seen does id at before later passive (Some l) None h unknown = absurd h

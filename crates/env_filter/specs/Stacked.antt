@@ -2,11 +2,11 @@
 use Rattle.std.specs.Prelude.{◌≡◌, ℕ, List, [], ◌∷◌, ◌++◌, Option, Some, fold}
 use Rattle.std.specs.Option.{option_map}
 use Rattle.trace_base.specs.Spans.{Spans}
-use Rattle.trace_base.specs.Calls.{SubscriberCall, after as spans_after}
+use Rattle.trace_base.specs.Calls.{SubscriberCall, spans_after_call}
 use Rattle.trace_base.specs.layers.Hooks.{Hook}
 use Rattle.span_registry.specs.Hearing.{HearsCall}
-use Rattle.env_filter.specs.Filtering.{Filtered, Filtering, plain, after, span_level}
-use Rattle.env_filter.specs.spans.Histories.{AreInOrder, level_told, levels_told}
+use Rattle.env_filter.specs.Filtering.{FilterState, FilterWithRoom, plain, after_hook, span_level}
+use Rattle.env_filter.specs.spans.Histories.{AreInOrder, level_by_calls, levels_by_calls}
 
 -- a hook comes behind those before
 abbrev pub Appends : List Hook → Hook → List Hook → Type 0
@@ -23,20 +23,20 @@ pub record HooksFirst (spans : Spans) (call : SubscriberCall) (rest : List Hook 
 -- the hooks of some calls in order; the spans are those before the calls
 abbrev pub AreHooksOf : Spans → List SubscriberCall → List Hook → Type 0
 AreHooksOf spans [] hooks = hooks ≡ []
-AreHooksOf spans (call ∷ calls) hooks = HooksFirst spans call (AreHooksOf (spans_after spans call) calls) hooks
+AreHooksOf spans (call ∷ calls) hooks = HooksFirst spans call (AreHooksOf (spans_after_call spans call) calls) hooks
 
 -- A filter that had no span is told the hooks of some calls, in which each span is made once, before any other hook of
 -- it. So its levels are what these hooks tell.
-pub record HearsCalls (spans : Spans) (calls : List SubscriberCall) (f g : Filtered) : Type 0 where
+pub record HearsCalls (spans : Spans) (calls : List SubscriberCall) (f g : FilterState) : Type 0 where
   pub hooks : List Hook
   pub of_calls : AreHooksOf spans calls hooks
   pub order : AreInOrder [] hooks
-  pub now : g ≡ fold after f hooks
-  pub level : (id : ℕ) → span_level g id ≡ level_told f.dynamics.directives id hooks
-  pub levels : (lane : ℕ) → g.lanes lane ≡ levels_told f.dynamics.directives lane hooks
+  pub now : g ≡ fold after_hook f hooks
+  pub level : (id : ℕ) → span_level g id ≡ level_by_calls f.dynamics.directives id hooks
+  pub levels : (lane : ℕ) → g.lanes lane ≡ levels_by_calls f.dynamics.directives lane hooks
 
 -- the same of a filter that can be exchanged, and is in place
-pub record HearsInPlace (spans : Spans) (calls : List SubscriberCall) (f : Filtered) (later : Option Filtering) : Type 0 where
-  pub filter : Filtered
+pub record HearsInPlace (spans : Spans) (calls : List SubscriberCall) (f : FilterState) (later : Option FilterWithRoom) : Type 0 where
+  pub filter : FilterState
   pub in_place : option_map plain later ≡ Some filter
   pub heard : HearsCalls spans calls f filter

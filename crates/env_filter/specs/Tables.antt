@@ -10,7 +10,7 @@ use Rattle.env_directives.specs.declared.env.field.ValueMatch.TheVariants.{Bool 
 use Rattle.env_directives.specs.orders.DirectiveOrder.{directive_cmp}
 use Rattle.env_directives.specs.orders.StaticOrder.{most_specific_first}
 use Rattle.env_directives.specs.orders.Table.{Table, empty_table, with_added, with_all_added}
-use Rattle.env_filter.specs.Filtering.{Filtered, asks_value}
+use Rattle.env_filter.specs.Filtering.{FilterState, asks_value}
 
 -- a static directive can be judged by a callsite alone: it has no span name and asks for no value
 abbrev pub is_static : Directive → Bool
@@ -35,42 +35,42 @@ abbrev pub dynamics_of : List Directive → Table Directive
 dynamics_of ds = with_all_added directive_cmp (λ d. d.level) (filter is_dynamic ds) empty_table
 
 -- a pattern as the fixed text of its bytes
-abbrev pub fixed : ValueMatch → ValueMatch
-fixed (Pat pattern) = Debug pattern
-fixed (Truth truth) = Truth truth
-fixed (U64 number) = U64 number
-fixed (I64 number) = I64 number
-fixed (Debug text) = Debug text
+abbrev pub as_fixed_text : ValueMatch → ValueMatch
+as_fixed_text (Pat pattern) = Debug pattern
+as_fixed_text (Truth truth) = Truth truth
+as_fixed_text (U64 number) = U64 number
+as_fixed_text (I64 number) = I64 number
+as_fixed_text (Debug text) = Debug text
 
 abbrev pub fixed_field : Match → Match
-fixed_field m = record m { value = option_map fixed m.value }
+fixed_field m = record m { value = option_map as_fixed_text m.value }
 
 abbrev pub fixed_directive : Directive → Directive
 fixed_directive d = record d { fields = map fixed_field d.fields }
 
 -- a filter with one directive more, which goes to the static ones where it can, else to the dynamic ones
-abbrev pub placed_in : Filtered → Directive → Filtered
+abbrev pub placed_in : FilterState → Directive → FilterState
 placed_in f d =
     if is_static d then record f { statics = with_added most_specific_first (λ e. e.level) (static_of d) f.statics }
     else record f { dynamics = with_added directive_cmp (λ e. e.level) d f.dynamics }
 
 -- and where patterns aren't taken, its patterns are fixed texts
-abbrev pub with_directive : Filtered → Directive → Filtered
+abbrev pub with_directive : FilterState → Directive → FilterState
 with_directive f d = placed_in f (if f.patterns then d else fixed_directive d)
 
 -- a filter with these tables, and no span and no level
-abbrev pub with_tables : Bool → Table StaticDirective → Table Directive → Filtered
+abbrev pub with_tables : Bool → Table StaticDirective → Table Directive → FilterState
 with_tables patterns statics dynamics = record { patterns = patterns; statics = statics; dynamics = dynamics; spans = λ id. None; lanes = λ lane. [] }
 
 -- whether both tables are empty
-abbrev pub has_none : Filtered → Bool
+abbrev pub has_none : FilterState → Bool
 has_none f = length f.statics.directives == 0 && length f.dynamics.directives == 0
 
 -- a filter that has a default directive, if there is one, where it would have none
-abbrev pub or_default : Option Directive → Filtered → Filtered
+abbrev pub or_default : Option Directive → FilterState → FilterState
 or_default None f = f
 or_default (Some d) f = if has_none f then with_directive f d else f
 
 -- the filter of some directives
-abbrev pub filter_of : Bool → Option Directive → List Directive → Filtered
+abbrev pub filter_of : Bool → Option Directive → List Directive → FilterState
 filter_of patterns default ds = or_default default (with_tables patterns (statics_of ds) (dynamics_of ds))

@@ -5,11 +5,11 @@ use Rattle.trace_base.specs.declared.level.LevelFilter.{LevelFilter}
 use Rattle.trace_base.specs.declared.subscriber.Interest.{Interest}
 use Rattle.trace_base.specs.declared.subscriber.Interest.TheVariants as interests
 use Rattle.trace_base.specs.Gate.{Worlds, gate}
-use Rattle.env_filter.specs.Filtering.{Filtering, plain, AreWhole, is_admitted}
+use Rattle.env_filter.specs.Filtering.{FilterWithRoom, plain, AreWhole, is_admitted}
 
 -- interest, hint and `enabled` come to a rule, where something holds
-abbrev pub ComesTo : {S : Type 0} → (S → Callsite → Interest) → (S → Option LevelFilter) → (S → ℕ → Callsite → Bool) → (S → Type 0) → (S → ℕ → Callsite → Bool) → Type 0
-ComesTo {S} interest hint enables holds rule =
+abbrev pub GateFollows : {S : Type 0} → (S → Callsite → Interest) → (S → Option LevelFilter) → (S → ℕ → Callsite → Bool) → (S → Type 0) → (S → ℕ → Callsite → Bool) → Type 0
+GateFollows {S} interest hint enables holds rule =
     (s : S) (lane : ℕ) (c : Callsite) → holds s → gate (interest s c) (hint s) (enables s lane c) c.level ≡ rule s lane c
 
 -- a subscriber that takes whatever a layer over it takes
@@ -19,14 +19,14 @@ pub record TakesAll {S : Type 0} (interest : S → Callsite → Interest) (hint 
   pub enabled : (s : S) (lane : ℕ) (c : Callsite) → enables s lane c ≡ true
 
 -- the rule of a filter, and of one that can be exchanged: a retired one admits nothing
-abbrev pub filter_rule : Filtering → ℕ → Callsite → Bool
+abbrev pub filter_rule : FilterWithRoom → ℕ → Callsite → Bool
 filter_rule f lane c = is_admitted (plain f) lane c
 
-abbrev pub in_place_rule : Option Filtering → ℕ → Callsite → Bool
+abbrev pub in_place_rule : Option FilterWithRoom → ℕ → Callsite → Bool
 in_place_rule None lane c = false
 in_place_rule (Some f) lane c = filter_rule f lane c
 
-abbrev pub IsWholeInPlace : Option Filtering → Type 0
+abbrev pub IsWholeInPlace : Option FilterWithRoom → Type 0
 IsWholeInPlace None = Unit {0}
 IsWholeInPlace (Some f) = AreWhole (plain f)
 

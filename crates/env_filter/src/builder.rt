@@ -1,7 +1,7 @@
 //! What filters are built by.
 ghost use Rattle.std.specs.Prelude.{◌≡◌, [], List, ℕ, Some, IfOk, IfErr, OnOk, string_bytes};
-ghost use Rattle.env_filter.specs.texts.Building.{Building, default_builder, filter_by, IsFilterOf, IsSomeFilterOf, IsRefused, IsRefusedAt};
-ghost use Rattle.env_filter.specs.Filtering.{plain, IsNew};
+ghost use Rattle.env_filter.specs.texts.Building.{BuilderValue, default_builder, filter_by, IsFilterOf, IsSomeFilterOf, HasFilterFault, HasFilterFaultAt};
+ghost use Rattle.env_filter.specs.Filtering.{plain, IsNewFilter};
 ghost use Rattle.env_filter.specs.Tables.{or_default, with_directive};
 
 use crate::filter::EnvFilter;
@@ -28,9 +28,9 @@ pub struct Builder {
 impl Model for Builder {
     ghost use Rattle.std.specs.Prelude.{codes};
     ghost use Rattle.std.specs.Option.{unwrap_or};
-    ghost use Rattle.env_filter.specs.texts.Building.{Building};
+    ghost use Rattle.env_filter.specs.texts.Building.{BuilderValue};
 
-    ghost Value = { Building };
+    ghost Value = { BuilderValue };
 
     ghost view = { λ b. record { patterns = b.patterns; default = b.default_directive; variable = unwrap_or b.env (codes "RUST_LOG") } };
 }
@@ -79,8 +79,8 @@ impl Builder {
     /// first piece that is none.
     pub fn parse(&self, dirs: &str) -> Result<EnvFilter, ParseError>
         ensures ok { IfOk result (λ f. IsFilterOf self.now dirs.now [] (plain f)) }
-        ensures new { IfOk result (λ f. IsNew (plain f)) }
-        ensures refused { IfErr result (IsRefused self.now.patterns dirs.now) }
+        ensures new { IfOk result (λ f. IsNewFilter (plain f)) }
+        ensures refused { IfErr result (HasFilterFault self.now.patterns dirs.now) }
     {
         match self.parse_pieces(dirs) {
             Ok(filter) => Ok(filter),
@@ -91,8 +91,8 @@ impl Builder {
     /// The same, with the number of the piece that has the fault, from 1, and 0 for `Memory`. Empty pieces count.
     pub fn parse_pieces(&self, dirs: &str) -> Result<EnvFilter, (u64, ParseError)>
         ensures ok { IfOk result (λ f. IsFilterOf self.now dirs.now [] (plain f)) }
-        ensures new { IfOk result (λ f. IsNew (plain f)) }
-        ensures refused { IfErr result (λ e. IsRefusedAt self.now.patterns dirs.now e.0 e.1) }
+        ensures new { IfOk result (λ f. IsNewFilter (plain f)) }
+        ensures refused { IfErr result (λ e. HasFilterFaultAt self.now.patterns dirs.now e.0 e.1) }
     {
         match self.parse_lossy(dirs) {
             Ok((filter, ignored)) => unless_ignored(filter, ignored.as_slice()),
@@ -103,7 +103,7 @@ impl Builder {
     /// The filter of those pieces of a text that are directives, and the others; `Builder::parse_lossy`.
     pub fn parse_lossy(&self, dirs: &str) -> Result<(EnvFilter, Vec<Ignored>), Memory>
         ensures ok { IfOk result (λ r. IsFilterOf self.now dirs.now r.1.items (plain r.0)) }
-        ensures new { IfOk result (λ r. IsNew (plain r.0)) }
+        ensures new { IfOk result (λ r. IsNewFilter (plain r.0)) }
     {
         let (directives, ignored) = pieces::read(self.alloc, dirs, self.patterns)?;
         Ok((self.from_directives(directives)?, ignored))
@@ -112,7 +112,7 @@ impl Builder {
     // The filter of those pieces of a text that are directives.
     pub(crate) fn parse_some(self, dirs: &str) -> Result<EnvFilter, Memory>
         ensures ok { IfOk result (λ f. IsSomeFilterOf self dirs.now (plain f)) }
-        ensures new { IfOk result (λ f. IsNew (plain f)) }
+        ensures new { IfOk result (λ f. IsNewFilter (plain f)) }
     {
         let read = self.parse_lossy(dirs);
         drop(self);
@@ -150,7 +150,7 @@ impl Builder {
     // The filter of some directives.
     fn from_directives(&self, directives: Vec<Directive>) -> Result<EnvFilter, Memory>
         ensures is { IfOk result (λ f. plain f ≡ filter_by self.now directives.items) }
-        ensures new { IfOk result (λ f. IsNew (plain f)) }
+        ensures new { IfOk result (λ f. IsNewFilter (plain f)) }
     {
         let statics = tables::statics(self.alloc, directives.as_slice())?;
         let dynamics = tables::dynamics(self.alloc, directives)?;
@@ -195,11 +195,11 @@ fn add_copy(filter: &mut EnvFilter, directive: &Directive) -> Result<(), Memory>
 
 // The filter where no piece was left out, else the number and the fault of the first one.
 fn unless_ignored(filter: EnvFilter, ignored: &[Ignored]) -> Result<EnvFilter, (u64, ParseError)>
-    ensures ok { (b : Building) (text : List ℕ) → IsFilterOf b text ignored.now (plain filter)
+    ensures ok { (b : BuilderValue) (text : List ℕ) → IsFilterOf b text ignored.now (plain filter)
         → IfOk result (λ f. IsFilterOf b text [] (plain f)) }
-    ensures new { IsNew (plain filter) → IfOk result (λ f. IsNew (plain f)) }
-    ensures refused { (b : Building) (text : List ℕ) → IsFilterOf b text ignored.now (plain filter)
-        → IfErr result (λ e. IsRefusedAt b.patterns text e.0 e.1) }
+    ensures new { IsNewFilter (plain filter) → IfOk result (λ f. IsNewFilter (plain f)) }
+    ensures refused { (b : BuilderValue) (text : List ℕ) → IsFilterOf b text ignored.now (plain filter)
+        → IfErr result (λ e. HasFilterFaultAt b.patterns text e.0 e.1) }
 {
     match ignored.first() {
         Some(first) => {

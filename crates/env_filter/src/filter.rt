@@ -4,8 +4,8 @@ ghost use Rattle.std.specs.List.{list_any};
 ghost use Rattle.trace_base.specs.words.Level.{is_within};
 ghost use Rattle.env_directives.specs.Cares.{cares_for_span, is_span};
 ghost use Rattle.env_filter.specs.spans.Levels.{levels_of};
-ghost use Rattle.env_filter.specs.Filtering.{Filtering, plain, span_level, is_cared, has_dynamics, interest_in, asks_values, hint_in, is_open, enables_in};
-ghost use Rattle.env_filter.specs.spans.Histories.{IsLevelTold, AreLevelsTold};
+ghost use Rattle.env_filter.specs.Filtering.{FilterWithRoom, plain, span_level, is_cared, has_dynamics, interest_in, asks_values, hint_in, levels_admit, enables_in};
+ghost use Rattle.env_filter.specs.spans.Histories.{IsLevelByCalls, AreLevelsByCalls};
 
 use crate::levels::Levels;
 use crate::watch::{Matches, more_verbose};
@@ -43,9 +43,9 @@ pub struct EnvFilter {
 
 impl Model for EnvFilter {
     ghost use Rattle.std.specs.HashMap.{spare};
-    ghost use Rattle.env_filter.specs.Filtering.{Filtering};
+    ghost use Rattle.env_filter.specs.Filtering.{FilterWithRoom};
 
-    ghost Value = { Filtering };
+    ghost Value = { FilterWithRoom };
 
     ghost view = { λ f. record { patterns = f.patterns; statics = f.statics; dynamics = f.dynamics; watches = f.spans.entries; lanes = f.lanes.entries; span_room = spare f.spans } };
 }
@@ -94,7 +94,7 @@ impl EnvFilter {
     /// of those directives each of whose values was met by some value given so far, else OFF.
     pub fn level(&self, id: Id) -> Option<LevelFilter>
         ensures value { result ≡ span_level (plain self.now) id }
-        ensures told { IsLevelTold (plain self.now) id result }
+        ensures told { IsLevelByCalls (plain self.now) id result }
     {
         spans::level_of(&self.spans, id)
     }
@@ -103,7 +103,7 @@ impl EnvFilter {
     /// the newest that an entry of its own span appended.
     pub fn levels(&self, lane: u64) -> &[LevelFilter]
         ensures value { result.now ≡ levels_of ((plain self.now).lanes lane) }
-        ensures told { AreLevelsTold (plain self.now) lane result.now }
+        ensures told { AreLevelsByCalls (plain self.now) lane result.now }
     {
         lanes::levels_on(&self.lanes, lane)
     }
@@ -124,7 +124,7 @@ impl EnvFilter {
 
     // Whether a level is within one of the lane's levels.
     fn is_open(&self, lane: u64, level: Level) -> bool
-        ensures { result ≡ is_open level ((plain self.now).lanes lane) }
+        ensures { result ≡ levels_admit level ((plain self.now).lanes lane) }
     {
         is_open(self.levels(lane), level)
     }

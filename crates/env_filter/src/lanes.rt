@@ -1,8 +1,8 @@
 //! The levels of each lane, by the lane's id.
 ghost use Rattle.std.specs.Prelude.{◌≡◌, ◌<◌, OnOk, true, None, Some};
-ghost use Rattle.env_filter.specs.spans.Keyed.{at_key, changed};
+ghost use Rattle.env_filter.specs.spans.Keyed.{at_key, map_at};
 ghost use Rattle.env_filter.specs.spans.Levels.{levels_of};
-ghost use Rattle.env_filter.specs.spans.Kept.{levels_in, room_in, opened, closed};
+ghost use Rattle.env_filter.specs.spans.Kept.{levels_in, room_in, with_open_level, without_open_level};
 
 use crate::levels::Levels;
 use otel_base::memory::Memory;
@@ -51,7 +51,7 @@ fn add(alloc: Global, lanes: &mut HashMap<u64, Levels>, lane: u64) -> Result<(),
 // Appends the level of an entry, for which there is room.
 pub(crate) fn append(lanes: &mut HashMap<u64, Levels>, lane: u64, id: Id, level: LevelFilter)
     requires { 0 < room_in lanes.old.entries lane }
-    ensures { levels_in lanes.new.entries ≡ changed (levels_in lanes.old.entries) lane (opened (Some level) id) }
+    ensures { levels_in lanes.new.entries ≡ map_at (levels_in lanes.old.entries) lane (with_open_level (Some level) id) }
 {
     if let Some(levels) = lanes.get_mut(&lane) {
         levels.append(id, level);
@@ -60,7 +60,7 @@ pub(crate) fn append(lanes: &mut HashMap<u64, Levels>, lane: u64, id: Id, level:
 
 // Takes off the newest level that an entry of the span appended.
 pub(crate) fn take_off(lanes: &mut HashMap<u64, Levels>, lane: u64, id: Id)
-    ensures { levels_in lanes.new.entries ≡ changed (levels_in lanes.old.entries) lane (closed true id) }
+    ensures { levels_in lanes.new.entries ≡ map_at (levels_in lanes.old.entries) lane (without_open_level true id) }
 {
     if let Some(levels) = lanes.get_mut(&lane) {
         levels.take_off(id);

@@ -9,13 +9,13 @@ ghost use Rattle.env_directives.specs.declared.directive.StaticDirective.{Static
 ghost use Rattle.env_directives.specs.declared.env.directive.Directive.{Directive};
 ghost use Rattle.env_filter.specs.declared.pieces.Ignored.{Ignored};
 ghost use Rattle.env_filter.specs.texts.Building.{IsFilterOf};
-ghost use Rattle.env_filter.specs.Filtering.{Each, Filtered, plain, AreWhole, IsNew, is_admitted};
-ghost use Rattle.env_filter.specs.spans.Histories.{level_told, is_ended, NeverFalls};
+ghost use Rattle.env_filter.specs.Filtering.{Each, FilterState, plain, AreWhole, IsNewFilter, is_admitted};
+ghost use Rattle.env_filter.specs.spans.Histories.{level_by_calls, is_ended, NeverFalls};
 ghost use Rattle.env_filter.specs.texts.Pieces.{ReadsText};
-ghost use Rattle.env_filter.specs.texts.Printing.{HaveNoMinusZero, HaveOwnGreatest, IsReadBack, filter_text, fixed_builder, printed, printed_of, text_of};
+ghost use Rattle.env_filter.specs.texts.Printing.{HaveNoMinusZero, HaveOwnGreatest, IsReadBack, filter_text, fixed_builder, printed_directives, printed_of, text_of};
 ghost use Rattle.env_filter.specs.Stacked.{HearsCalls, HearsInPlace};
 ghost use Rattle.env_filter.specs.Tables.{dynamics_of, filter_of, statics_of};
-ghost use Rattle.env_filter.specs.Worlds.{ComesTo, TakesAll, filter_rule, in_place_rule, IsWholeInPlace, EachSubscriber, AdmitsBy};
+ghost use Rattle.env_filter.specs.Worlds.{GateFollows, TakesAll, filter_rule, in_place_rule, IsWholeInPlace, EachSubscriber, AdmitsBy};
 
 use crate::filter::EnvFilter;
 use crate::reload;
@@ -28,25 +28,25 @@ use trace_base::world::World;
 
 /// Interest, hint and `enabled` together are the rule of the gate.
 pub fn gates()
-    ensures { ComesTo ⟦<EnvFilter as Layer>⟧.interest ⟦<EnvFilter as Layer>⟧.hint ⟦<EnvFilter as Layer>⟧.enables
+    ensures { GateFollows ⟦<EnvFilter as Layer>⟧.interest ⟦<EnvFilter as Layer>⟧.hint ⟦<EnvFilter as Layer>⟧.enables
         (λ f. AreWhole (plain f)) filter_rule }
 {}
 
 /// While a filter is in force no calls lower the level of a span, and a span that has a level keeps one until it closes.
 pub fn rises()
     ensures level { (ds : List Directive) (id : ℕ) (past calls : List Hook)
-        → NeverFalls (level_told ds id past) (level_told ds id (past ++ calls)) }
+        → NeverFalls (level_by_calls ds id past) (level_by_calls ds id (past ++ calls)) }
     ensures stays { (ds : List Directive) (id : ℕ) (past calls : List Hook)
-        → is_some (level_told ds id past) ≡ true → is_ended id calls ≡ false
-        → is_some (level_told ds id (past ++ calls)) ≡ true }
+        → is_some (level_by_calls ds id past) ≡ true → is_ended id calls ≡ false
+        → is_some (level_by_calls ds id (past ++ calls)) ≡ true }
 {}
 
 /// What a filter prints is read, without patterns, as the directives that it prints in their order, the static ones first,
 /// where none of them prints a comma and each is read back alone. Those of the filter of some directives make its tables
 /// again, and the text that very filter, where no level was greater than those that are still there.
 pub fn printing()
-    ensures read { (statics : List StaticDirective) (dynamics : List Directive) → Each IsReadBack (printed statics dynamics)
-        → ReadsText false (filter_text statics dynamics) (printed statics dynamics) [] }
+    ensures read { (statics : List StaticDirective) (dynamics : List Directive) → Each IsReadBack (printed_directives statics dynamics)
+        → ReadsText false (filter_text statics dynamics) (printed_directives statics dynamics) [] }
     ensures statics { (ds : List Directive) → (statics_of (printed_of ds)).directives ≡ (statics_of ds).directives }
     ensures dynamics { (ds : List Directive) → (dynamics_of (printed_of ds)).directives ≡ (dynamics_of ds).directives }
     ensures again { (ds : List Directive) → Each IsReadBack ds → HaveOwnGreatest ds
@@ -58,7 +58,7 @@ pub fn printing()
 pub fn reads_back()
     ensures alone { (text : List ℕ) (ds : List Directive) (ignored : List Ignored) → IsUtf8 text
         → ReadsText false text ds ignored → HaveNoMinusZero ds → Each IsReadBack ds }
-    ensures same { (text : List ℕ) (ignored : List Ignored) (f : Filtered) → IsUtf8 text
+    ensures same { (text : List ℕ) (ignored : List Ignored) (f : FilterState) → IsUtf8 text
         → (was : IsFilterOf fixed_builder text ignored f) → HaveNoMinusZero was.directives
         → HaveOwnGreatest was.directives → IsFilterOf fixed_builder (text_of f) [] f }
 {}
@@ -66,15 +66,15 @@ pub fn reads_back()
 /// A filter that had no span hears the hooks of all calls of the subscriber below it, each span's making once and
 /// first; so the levels of spans and lanes are what the rules say of these calls.
 pub fn hears<S: Subscriber>()
-    ensures { (s : _) (calls : List SubscriberCall) (t : _) → IsNew (plain s.layer)
+    ensures { (s : _) (calls : List SubscriberCall) (t : _) → IsNewFilter (plain s.layer)
         → Runs ⟦<Layered<EnvFilter, S> as Subscriber>⟧.does ⟦<Layered<EnvFilter, S> as Subscriber>⟧.same s calls t
         → HearsCalls (S.spans s.inner) calls (plain s.layer) (plain t.layer) }
 {}
 
 /// The same of a filter that can be exchanged, from the moment at which it was put in place.
 pub fn hears_in_place<S: Subscriber>()
-    ensures { (s : _) (calls : List SubscriberCall) (t : _) (f : Filtered)
-        → option_map plain s.layer.inner ≡ Some f → IsNew f
+    ensures { (s : _) (calls : List SubscriberCall) (t : _) (f : FilterState)
+        → option_map plain s.layer.inner ≡ Some f → IsNewFilter f
         → Runs ⟦<Layered<reload::Layer<EnvFilter>, S> as Subscriber>⟧.does
         ⟦<Layered<reload::Layer<EnvFilter>, S> as Subscriber>⟧.same s calls t
         → HearsInPlace (S.spans s.inner) calls f t.layer.inner }

@@ -2,7 +2,7 @@
 ghost use Rattle.std.specs.Prelude.{◌≡◌, ◌≢◌, ◌==◌, ◌<◌, ℕ, [], ◌∷◌, ◌++◌, OnOk, length, IfSome, IsNone, slice_index_or, vec_len, vec_capacity};
 ghost use Rattle.std.specs.List.{remove};
 ghost use Rattle.trace_base.specs.Spans.{without_last};
-ghost use Rattle.env_filter.specs.spans.Levels.{Leveled, levels_of, paired, is_of};
+ghost use Rattle.env_filter.specs.spans.Levels.{LaneLevels, levels_of, open_levels, is_of_span};
 
 use otel_base::memory::Memory;
 use std::alloc::Global;
@@ -19,11 +19,11 @@ pub struct Levels {
 
 impl Model for Levels {
     ghost use Rattle.std.specs.Prelude.{◌≡◌, ◌-◌, length, min, vec_capacity};
-    ghost use Rattle.env_filter.specs.spans.Levels.{Leveled, paired};
+    ghost use Rattle.env_filter.specs.spans.Levels.{LaneLevels, open_levels};
 
-    ghost Value = { Leveled };
+    ghost Value = { LaneLevels };
 
-    ghost view = { λ l. record { opened = paired l.spans.items l.levels.items; room = min (vec_capacity l.spans - length l.spans.items) (vec_capacity l.levels - length l.levels.items) } };
+    ghost view = { λ l. record { opened = open_levels l.spans.items l.levels.items; room = min (vec_capacity l.spans - length l.spans.items) (vec_capacity l.levels - length l.levels.items) } };
 
     ghost invariant = { λ l. length l.levels.items ≡ length l.spans.items };
 }
@@ -67,7 +67,7 @@ impl Levels {
 
     /// Takes off the newest level that an entry of the span appended.
     pub fn take_off(&mut self, id: Id)
-        ensures { self.new.opened ≡ without_last (is_of id) self.old.opened }
+        ensures { self.new.opened ≡ without_last (is_of_span id) self.old.opened }
     {
         if let Some(at) = last_place(self.spans.as_slice(), id) {
             self.spans.remove(at);

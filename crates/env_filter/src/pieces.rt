@@ -1,7 +1,7 @@
 //! The pieces of a filter's text, which commas are between.
 ghost use Rattle.std.specs.Prelude.{◌≡◌, ◌++◌, ◌+◌, ◌<◌, ◌^◌, IfOk, OnOk};
 ghost use Rattle.env_directives.specs.reading.Separators.{comma_pieces};
-ghost use Rattle.env_filter.specs.texts.Pieces.{shown, is_memory, ReadsText, AddsPiece};
+ghost use Rattle.env_filter.specs.texts.Pieces.{texts_of, is_memory, ReadsText, AddsPiece};
 
 use env_directives::directive::ParseError;
 use env_directives::env::directive::Directive;
@@ -39,7 +39,7 @@ pub(crate) fn read(
 }
 
 fn pieces<'t>(alloc: Global, text: &'t str) -> Result<Vec<&'t str>, Memory>
-    ensures { IfOk result (λ pieces. shown pieces.items ≡ comma_pieces text.now) }
+    ensures { IfOk result (λ pieces. texts_of pieces.items ≡ comma_pieces text.now) }
 {
     let mut pieces = Vec::new(alloc);
     for piece in text.split(',') {

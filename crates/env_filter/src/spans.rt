@@ -2,9 +2,9 @@
 ghost use Rattle.std.specs.Prelude.{◌≡◌, ◌<◌, IfOk, Some, None};
 ghost use Rattle.std.specs.HashMap.{spare};
 ghost use Rattle.std.specs.Option.{option_map};
-ghost use Rattle.env_filter.specs.spans.Keyed.{put, changed};
-ghost use Rattle.env_filter.specs.spans.Kept.{watched_in, level_in, with_met};
-ghost use Rattle.env_filter.specs.spans.Watching.{Watched, found_in};
+ghost use Rattle.env_filter.specs.spans.Keyed.{put, map_at};
+ghost use Rattle.env_filter.specs.spans.Kept.{match_state_in, level_in, with_met};
+ghost use Rattle.env_filter.specs.spans.Watching.{MatchState, found_in};
 
 use crate::watch::Matches;
 use otel_base::list::Items;
@@ -32,7 +32,7 @@ pub(crate) fn found_for(
     id: Id,
     values: &ValueSet,
 ) -> Result<Items<bool>, Memory>
-    ensures { IfOk result (λ found. (w : Watched) → watched_in spans.now.entries id ≡ Some w
+    ensures { IfOk result (λ found. (w : MatchState) → match_state_in spans.now.entries id ≡ Some w
         → found ≡ found_in values.now.pairs w.cares) }
 {
     match spans.get(&id.place()) {
@@ -43,8 +43,8 @@ pub(crate) fn found_for(
 
 // Notes what was found for a span.
 pub(crate) fn note(spans: &mut HashMap<u64, Matches>, id: Id, found: &[bool])
-    ensures { watched_in spans.new.entries
-        ≡ changed (watched_in spans.old.entries) id (option_map (with_met found.now)) }
+    ensures { match_state_in spans.new.entries
+        ≡ map_at (match_state_in spans.old.entries) id (option_map (with_met found.now)) }
 {
     if let Some(matches) = spans.get_mut(&id.place()) {
         matches.note(found);
@@ -54,7 +54,7 @@ pub(crate) fn note(spans: &mut HashMap<u64, Matches>, id: Id, found: &[bool])
 // Adds a span, for which there is room.
 pub(crate) fn add(spans: &mut HashMap<u64, Matches>, id: Id, matches: Matches)
     requires { 0 < spare spans.old }
-    ensures { watched_in spans.new.entries ≡ put (watched_in spans.old.entries) id (Some matches) }
+    ensures { match_state_in spans.new.entries ≡ put (match_state_in spans.old.entries) id (Some matches) }
 {
     let Ok(_) = spans.insert(id.place(), matches) else {
         unreachable!()
@@ -63,7 +63,7 @@ pub(crate) fn add(spans: &mut HashMap<u64, Matches>, id: Id, matches: Matches)
 
 // Forgets a span.
 pub(crate) fn forget(spans: &mut HashMap<u64, Matches>, id: Id)
-    ensures { watched_in spans.new.entries ≡ put (watched_in spans.old.entries) id None }
+    ensures { match_state_in spans.new.entries ≡ put (match_state_in spans.old.entries) id None }
 {
     spans.remove(&id.place());
 }

@@ -5,7 +5,7 @@ ghost use Rattle.env_directives.specs.orders.DirectiveOrder.{directive_cmp};
 ghost use Rattle.env_directives.specs.orders.StaticOrder.{most_specific_first};
 ghost use Rattle.env_directives.specs.orders.Table.{empty_table, with_added, with_all_added};
 ghost use Rattle.env_filter.specs.Filtering.{asks_value};
-ghost use Rattle.env_filter.specs.Tables.{is_static, is_dynamic, static_of, all_static, statics_of, dynamics_of, fixed, fixed_field, fixed_directive};
+ghost use Rattle.env_filter.specs.Tables.{is_static, is_dynamic, static_of, all_static, statics_of, dynamics_of, as_fixed_text, fixed_field, fixed_directive};
 
 use env_directives::directive::StaticDirective;
 use env_directives::directive::set::DirectiveSet;
@@ -148,7 +148,7 @@ fn fix_field(field: &mut Match)
 }
 
 fn fixed(value: ValueMatch) -> ValueMatch
-    ensures { result ≡ fixed value }
+    ensures { result ≡ as_fixed_text value }
 {
     match value {
         ValueMatch::Pat(pattern) => ValueMatch::Debug(pattern.into_debug_match()),

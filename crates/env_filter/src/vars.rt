@@ -1,6 +1,6 @@
 //! Where the text of a filter stands: variables, by name.
 ghost use Rattle.std.specs.Prelude.{◌≡◌, List, ℕ, Option, None, Some, IfOk, option_map, string_bytes};
-ghost use Rattle.env_filter.specs.texts.Reading.{Told, IsToldAt, first_named};
+ghost use Rattle.env_filter.specs.texts.Reading.{KnownVariables, IsToldAt, first_named};
 
 use otel_base::list::Items;
 use otel_base::memory::Memory;
@@ -12,7 +12,7 @@ use std::marker::Model;
 /// Variables by name. In Rust they are the process's own.
 pub trait Vars {
     /// What stands under each name, where that is told.
-    ghost told: { Self → Told };
+    ghost told: { Self → KnownVariables };
 
     /// What stands under a name, if anything does; `std::env::var`.
     fn read(&self, name: &str) -> Result<Option<String>, Memory>

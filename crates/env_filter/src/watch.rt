@@ -5,7 +5,7 @@ ghost use Rattle.trace_base.specs.declared.level.LevelFilter.TheVariants.{OFF};
 ghost use Rattle.env_directives.specs.Meeting.{meets};
 ghost use Rattle.env_directives.specs.orders.Table.{more_verbose};
 ghost use Rattle.env_filter.specs.declared.watch.Ask.{Ask};
-ghost use Rattle.env_filter.specs.spans.Watching.{Watched, is_given, is_asked_later, ask_of, and_ask, asks_of, care_of, cares_of, all_asks, found_in, watched, noted, more_met, recorded, level_from, level_of};
+ghost use Rattle.env_filter.specs.spans.Watching.{MatchState, is_given, is_asked_later, ask_of, and_ask, asks_of, care_of, cares_of, all_asks, found_in, new_match_state, with_note, more_met, with_values, level_from, level_of_match};
 
 use env_directives::directive;
 use env_directives::env::directive::Directive;
@@ -42,9 +42,9 @@ pub struct Matches {
 
 impl Model for Matches {
     ghost use Rattle.std.specs.Prelude.{◌≡◌, length};
-    ghost use Rattle.env_filter.specs.spans.Watching.{Watched, all_asks};
+    ghost use Rattle.env_filter.specs.spans.Watching.{MatchState, all_asks};
 
-    ghost Value = { Watched };
+    ghost Value = { MatchState };
 
     ghost view = { λ m. record { cares = m.cares; met = m.met.items } };
 
@@ -54,7 +54,7 @@ impl Model for Matches {
 impl Matches {
     /// The greatest level of the directives all of whose values were met, OFF where there is none.
     pub fn level(&self) -> LevelFilter
-        ensures { result ≡ level_of self.now }
+        ensures { result ≡ level_of_match self.now }
     {
         level_from(LevelFilter::OFF, self.cares.as_slice(), self.met.as_slice())
     }
@@ -82,7 +82,7 @@ pub fn watch(
     callsite: &Callsite,
     values: &ValueSet,
 ) -> Result<Option<Matches>, Memory>
-    ensures { IfOk result (λ w. w ≡ watched directives.now callsite.now values.now.pairs) }
+    ensures { IfOk result (λ w. w ≡ new_match_state directives.now callsite.now values.now.pairs) }
 {
     let cares = cares_of(alloc, directives, callsite)?;
     if cares.is_empty() {
@@ -273,7 +273,7 @@ fn note(met: &mut Vec<bool>, found: &[bool])
 }
 
 fn note_at(met: &mut Vec<bool>, at: usize, found: bool)
-    ensures { met.new.items ≡ noted met.old.items at found }
+    ensures { met.new.items ≡ with_note met.old.items at found }
 {
     if found && at < met.len() {
         met[at] = true;

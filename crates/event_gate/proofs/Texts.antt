@@ -9,14 +9,14 @@ use Rattle.env_directives.specs.declared.directive.ParseError.TheVariants as fau
 use Rattle.env_directives.specs.declared.env.directive.Directive.{Directive}
 use Rattle.env_directives.proofs.forms.GrammarLemmas.{directive_reads}
 use Rattle.env_filter.specs.declared.pieces.Ignored.{Ignored}
-use Rattle.env_filter.specs.texts.Building.{filter_by, IsFilterOf, IsRefusedAt}
-use Rattle.env_filter.specs.Filtering.{Filtering, plain, IsNew}
-use Rattle.env_filter.specs.texts.Pieces.{Reads, ReadsAll, IsFirstFault}
+use Rattle.env_filter.specs.texts.Building.{filter_by, IsFilterOf, HasFilterFaultAt}
+use Rattle.env_filter.specs.Filtering.{FilterWithRoom, plain, IsNewFilter}
+use Rattle.env_filter.specs.texts.Pieces.{ReadsPiece, ReadsAll, IsFirstFault}
 use Rattle.env_filter.specs.texts.Printing.{fixed_builder}
 use Rattle.event_gate.specs.Rules.{directive_read, directive_in, IsTextFilter}
 
 -- one piece
-one_read : (n : ℕ) (piece : List ℕ) (ds : List Directive) → Reads false n piece ds [] → ds ≡ directive_in piece
+one_read : (n : ℕ) (piece : List ℕ) (ds : List Directive) → ReadsPiece false n piece ds [] → ds ≡ directive_in piece
 one_read n [] [] r = refl
 one_read n [] (d ∷ ds) r = absurd r
 one_read n (b ∷ bs) [] r = absurd r
@@ -28,21 +28,21 @@ all_read : (n : ℕ) (pieces : List (List ℕ)) (ds : List Directive) → ReadsA
 all_read n [] ds r = r.0
 all_read n (piece ∷ pieces) ds r = by_ignored (λ behind. all_read (n + 1) pieces r.later behind) r.ignored r.later_ignored r.all_ignored r.reads r.behind
   where
-    by_ignored : (ReadsAll false (n + 1) pieces r.later [] → r.later ≡ flat_map directive_in pieces) → (is js : List Ignored) → [] ≡ is ++ js → Reads false n piece r.directives is → ReadsAll false (n + 1) pieces r.later js → ds ≡ directive_in piece ++ flat_map directive_in pieces
+    by_ignored : (ReadsAll false (n + 1) pieces r.later [] → r.later ≡ flat_map directive_in pieces) → (is js : List Ignored) → [] ≡ is ++ js → ReadsPiece false n piece r.directives is → ReadsAll false (n + 1) pieces r.later js → ds ≡ directive_in piece ++ flat_map directive_in pieces
     by_ignored later [] [] e one behind = r.all ∙ (ap (λ (xs : List Directive). xs ++ r.later) (one_read n piece r.directives one) ∙ ap (λ (xs : List Directive). directive_in piece ++ xs) (later behind))
     by_ignored later [] (j ∷ js) e one behind = absurd (cc e)
     by_ignored later (i ∷ is) js e one behind = absurd (cc e)
 
 -- the filter that was made of a text
-pub read_of : (text : List ℕ) (f : Filtering) → IsFilterOf fixed_builder text [] (plain f) → IsNew (plain f) → IsTextFilter text f
+pub read_of : (text : List ℕ) (f : FilterWithRoom) → IsFilterOf fixed_builder text [] (plain f) → IsNewFilter (plain f) → IsTextFilter text f
 read_of text f of new = record { is = of.is ∙ ap (λ (ds : List Directive). filter_by fixed_builder ds) (all_read 1 (comma_pieces text) of.directives of.reads); new = new }
 
 -- each piece was read
-pub told_by : (text : List ℕ) (f : Filtering) → IsFilterOf fixed_builder text [] (plain f) → (ds : List Directive) × ReadsAll false 1 (comma_pieces text) ds []
+pub told_by : (text : List ℕ) (f : FilterWithRoom) → IsFilterOf fixed_builder text [] (plain f) → (ds : List Directive) × ReadsAll false 1 (comma_pieces text) ds []
 told_by text f of = (of.directives, of.reads)
 
 -- why a text gives none
-pub first_fault : (patterns : Bool) (text : List ℕ) (number : ℕ) (f : ParseError) → ¬ (f ≡ fault.Memory) → IsRefusedAt patterns text number f → (g : ParseError) × IsFirstFault patterns text number g
+pub first_fault : (patterns : Bool) (text : List ℕ) (number : ℕ) (f : ParseError) → ¬ (f ≡ fault.Memory) → HasFilterFaultAt patterns text number f → (g : ParseError) × IsFirstFault patterns text number g
 first_fault patterns text number fault.Memory other refused = absurd (other refl)
 first_fault patterns text number fault.Shape other refused = (fault.Shape, refused)
 first_fault patterns text number fault.Level other refused = (fault.Level, refused)

@@ -12,7 +12,7 @@ use Rattle.env_directives.specs.orders.Choice.{admits}
 use Rattle.env_directives.specs.reading.Reading.{Read, reading}
 use Rattle.env_directives.specs.reading.Separators.{comma_pieces}
 use Rattle.env_filter.specs.texts.Building.{filter_by}
-use Rattle.env_filter.specs.Filtering.{Filtered, Filtering, plain, IsNew, is_cared, hint_in}
+use Rattle.env_filter.specs.Filtering.{FilterState, FilterWithRoom, plain, IsNewFilter, is_cared, hint_in}
 use Rattle.env_filter.specs.texts.Pieces.{ReadsText, IsFirstFault}
 use Rattle.env_filter.specs.texts.Printing.{fixed_builder}
 use Rattle.event_gate.specs.declared.error.GateError.{GateError}
@@ -34,20 +34,20 @@ abbrev pub directives_of : List ℕ → List Directive
 directives_of text = flat_map directive_in (comma_pieces text)
 
 -- the filter of a text, which takes no patterns and has no span and no level
-abbrev pub text_filter : List ℕ → Filtered
+abbrev pub text_filter : List ℕ → FilterState
 text_filter text = filter_by fixed_builder (directives_of text)
 
 -- a new filter of this text
-pub record IsTextFilter (text : List ℕ) (f : Filtering) : Type 0 where
+pub record IsTextFilter (text : List ℕ) (f : FilterWithRoom) : Type 0 where
   pub is : plain f ≡ text_filter text
-  pub new : IsNew (plain f)
+  pub new : IsNewFilter (plain f)
 
 -- A text gives a filter exactly where each of its pieces that isn't empty is a directive; else the first that is none is
 -- told. Want of memory aside.
-abbrev pub IsRefused : {A : Type 0} → List ℕ → Result A GateError → Type 0
-IsRefused text (Ok r) = (ds : List Directive) × ReadsText false text ds []
-IsRefused text (Err (error.Directive piece)) = (fault : ParseError) × IsFirstFault false text piece fault
-IsRefused text (Err error.Memory) = Unit {0}
+abbrev pub GivesGate : {A : Type 0} → List ℕ → Result A GateError → Type 0
+GivesGate text (Ok r) = (ds : List Directive) × ReadsText false text ds []
+GivesGate text (Err (error.Directive piece)) = (fault : ParseError) × IsFirstFault false text piece fault
+GivesGate text (Err error.Memory) = Unit {0}
 
 abbrev pub no_memory : GateError
 no_memory = error.Memory
@@ -58,7 +58,7 @@ is_within_some level levels = list_any (λ l. is_within level l) levels
 
 -- The rule of the gate: the static directives admit it; or it is a span, some dynamic one cares for it, and its level is
 -- within the hint; or its level is within some level of the list.
-abbrev pub gate_rule : Filtered → List LevelFilter → Callsite → Bool
+abbrev pub gate_rule : FilterState → List LevelFilter → Callsite → Bool
 gate_rule f levels c = admits f.statics.directives c || ((is_cared f c && is_within c.level (hint_in f)) || is_within_some c.level levels)
 
 -- the levels that count under a number: the list where it has that number, else none

@@ -1,11 +1,11 @@
 //! The filter of a text.
 ghost use Rattle.std.specs.Prelude.{◌≡◌, ◌||◌, [], Some, IfOk, IfErr};
 ghost use Rattle.trace_base.specs.Gate.{gate};
-ghost use Rattle.env_filter.specs.texts.Building.{IsFilterOf, IsRefusedAt};
+ghost use Rattle.env_filter.specs.texts.Building.{IsFilterOf, HasFilterFaultAt};
 ghost use Rattle.env_filter.specs.texts.Printing.{fixed_builder};
-ghost use Rattle.env_filter.specs.Filtering.{plain, IsNew, interest_in, hint_in, enables_in};
+ghost use Rattle.env_filter.specs.Filtering.{plain, IsNewFilter, interest_in, hint_in, enables_in};
 ghost use Rattle.trace_base.specs.words.Level.{is_within};
-ghost use Rattle.event_gate.specs.Rules.{text_filter, gate_rule, is_within_some, IsTextFilter, IsRefused};
+ghost use Rattle.event_gate.specs.Rules.{text_filter, gate_rule, is_within_some, IsTextFilter, GivesGate};
 
 use crate::error::GateError;
 use env_directives::directive::ParseError;
@@ -39,7 +39,7 @@ impl TextFilter {
     /// The filter of a text. `Directive` exactly at the first piece that is no directive.
     pub fn read(alloc: Global, text: &str) -> Result<TextFilter, GateError>
         ensures ok { IfOk result (λ t. t ≡ text.now) }
-        ensures refused { IsRefused text.now result }
+        ensures refused { GivesGate text.now result }
     {
         // The text comes first: it is let go more cheaply than a filter.
         let kept = Text::from(String::from_str(alloc, text)?);
@@ -66,7 +66,7 @@ impl TextFilter {
 #[tactic(auto, using(crate::proofs::Texts::told_by, crate::proofs::Texts::read_of, crate::proofs::Texts::first_fault))]
 fn filter_of(alloc: Global, text: &str) -> Result<EnvFilter, GateError>
     ensures ok { IfOk result (λ f. IsTextFilter text.now f) }
-    ensures refused { IsRefused text.now result }
+    ensures refused { GivesGate text.now result }
 {
     match read_pieces(alloc, text) {
         Ok(filter) => Ok(filter),
@@ -77,8 +77,8 @@ fn filter_of(alloc: Global, text: &str) -> Result<EnvFilter, GateError>
 
 fn read_pieces(alloc: Global, text: &str) -> Result<EnvFilter, (u64, ParseError)>
     ensures ok { IfOk result (λ f. IsFilterOf fixed_builder text.now [] (plain f)) }
-    ensures new { IfOk result (λ f. IsNew (plain f)) }
-    ensures refused { IfErr result (λ e. IsRefusedAt fixed_builder.patterns text.now e.0 e.1) }
+    ensures new { IfOk result (λ f. IsNewFilter (plain f)) }
+    ensures refused { IfErr result (λ e. HasFilterFaultAt fixed_builder.patterns text.now e.0 e.1) }
 {
     Builder::default(alloc).with_regex(false).parse_pieces(text)
 }

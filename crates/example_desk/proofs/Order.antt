@@ -4,19 +4,19 @@ use Rattle.std.proofs.lemmas.List.{length-append}
 use Rattle.trace_base.specs.declared.lane.Lane.{Lane}
 use Rattle.trace_base.specs.declared.subscriber.Subscriber.{Ghosts}
 use Rattle.trace_base.specs.Gate.{Worlds}
-use Rattle.traced.specs.Standing.{Stands}
+use Rattle.traced.specs.Standing.{StandsReady}
 use Rattle.traced.proofs.Rules.{late}
 use Rattle.example_desk.specs.declared.desk.Desk.{Desk}
-use Rattle.example_desk.specs.Order.{InOrder}
+use Rattle.example_desk.specs.Order.{DeskInOrder}
 
 module _ {S : Type 0} {sub : Ghosts S} {n k m : ℕ} {desk : Desk S} {world : Worlds S} where
-  pub in_world : InOrder sub n desk → length world.subscribers ≡ length desk.world.subscribers → Stands sub k 0 5 world (desk.front ∷ desk.back ∷ []) → k ≤ m → InOrder sub m (record desk { world = world })
+  pub in_world : DeskInOrder sub n desk → length world.subscribers ≡ length desk.world.subscribers → StandsReady sub k 0 5 world (desk.front ∷ desk.back ∷ []) → k ≤ m → DeskInOrder sub m (record desk { world = world })
   in_world order count stands within = record { stands = late stands within; alone = count ∙ order.alone; first = order.first; front = order.front; sites = order.sites }
 
-  pub on_front : {left : Lane} → InOrder sub n desk → length world.subscribers ≡ length desk.world.subscribers → left.id ≡ desk.front.id → Stands sub k 0 5 world (left ∷ desk.back ∷ []) → k ≤ m → InOrder sub m (record desk { world = world; front = left })
+  pub on_front : {left : Lane} → DeskInOrder sub n desk → length world.subscribers ≡ length desk.world.subscribers → left.id ≡ desk.front.id → StandsReady sub k 0 5 world (left ∷ desk.back ∷ []) → k ≤ m → DeskInOrder sub m (record desk { world = world; front = left })
   on_front order count id stands within = record { stands = late stands within; alone = count ∙ order.alone; first = order.first; front = id ∙ order.front; sites = order.sites }
 
-  pub on_back : {left : Lane} → InOrder sub n desk → length world.subscribers ≡ length desk.world.subscribers → Stands sub k 0 5 world (desk.front ∷ left ∷ []) → k ≤ m → InOrder sub m (record desk { world = world; back = left })
+  pub on_back : {left : Lane} → DeskInOrder sub n desk → length world.subscribers ≡ length desk.world.subscribers → StandsReady sub k 0 5 world (desk.front ∷ left ∷ []) → k ≤ m → DeskInOrder sub m (record desk { world = world; back = left })
   on_back order count stands within = record { stands = late stands within; alone = count ∙ order.alone; first = order.first; front = order.front; sites = order.sites }
 
 -- a list with one more

@@ -47,5 +47,5 @@ module _ {S : Type 0} (sub : Ghosts S) (at : ℕ) (given : Given) where
   Inside order old new = EntersAndExits sub order (at + 10) (at + 50) (λ world lane left left_lane. PaysAndPacks order (record old { world = world; front = lane }) (record new { world = left; front = left_lane })) old.world new.world old.front new.front
 
   -- the order's span, whose parent is set before it starts
-  abbrev pub Serves : (S → PartCall → S → Type 0) → Context → Desk S → Desk S → Type 0
-  Serves touches remote old new = MakesAndCloses sub old.front parent.Current old.sites.order given.order at (at + 60) (λ order begun ended. (asked : Worlds S) × (answer : _) × AsksParent touches begun asked (at + 1) remote order.held answer × Inside order (record old { world = asked }) (record new { world = ended })) old.world new.world
+  abbrev pub ServesOrder : (S → PartCall → S → Type 0) → Context → Desk S → Desk S → Type 0
+  ServesOrder touches remote old new = MakesAndCloses sub old.front parent.Current old.sites.order given.order at (at + 60) (λ order begun ended. (asked : Worlds S) × (answer : _) × AsksParent touches begun asked (at + 1) remote order.held answer × Inside order (record old { world = asked }) (record new { world = ended })) old.world new.world

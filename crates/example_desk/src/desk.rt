@@ -4,8 +4,8 @@ ghost use Rattle.trace_base.specs.lanes.Contexts.{IsFull};
 ghost use Rattle.traced.specs.Standing.{IsUnused, IsHeld};
 ghost use Rattle.traced_futures.specs.Polling.{PollsOnce};
 ghost use Rattle.example_desk.specs.declared.fault.Fault.TheVariants as fault;
-ghost use Rattle.example_desk.specs.Order.{InOrder, Keeps};
-ghost use Rattle.example_desk.specs.Serving.{Waits, Pays, Wraps, Packs, PaysAndPacks, Inside, Serves};
+ghost use Rattle.example_desk.specs.Order.{DeskInOrder, Keeps};
+ghost use Rattle.example_desk.specs.Serving.{Waits, Pays, Wraps, Packs, PaysAndPacks, Inside, ServesOrder};
 
 use crate::fault::Fault;
 use crate::payment::Payment;
@@ -36,7 +36,7 @@ impl<S: OtelSubscriber + Discard> Desk<S> {
     /// A desk with a stack that knows no span.
     pub fn new(alloc: Global, stack: S) -> Result<Desk<S>, Memory>
         requires { IsUnused S.Subscriber stack }
-        ensures { IfOk result (InOrder S.Subscriber 0) }
+        ensures { IfOk result (DeskInOrder S.Subscriber 0) }
     {
         let mut world = World::new(alloc);
         let Ok(sites) = Sites::new(alloc, &mut world) else {
@@ -72,11 +72,11 @@ impl<S: OtelSubscriber> Desk<S> {
         remote: Context,
         cx: &mut task::Context<'_>,
     ) -> Result<(), Fault>
-        requires order { InOrder S.Subscriber at self.old }
+        requires order { DeskInOrder S.Subscriber at self.old }
         requires early { at < 2 ^ 62 }
         ensures keeps { Keeps S.Subscriber (at + 100) self.old self.new }
         ensures serves { result ≡ Ok tt → (given : _)
-            × Serves S.Subscriber at given S.touches remote self.old self.new }
+            × ServesOrder S.Subscriber at given S.touches remote self.old self.new }
         ensures full { result ≡ Err fault.Full → IsFull self.old.front ⊎ IsFull self.old.back }
     {
         let given = Given::new(alloc, user)?;
@@ -97,7 +97,7 @@ impl<S: OtelSubscriber> Desk<S> {
         given: &Given,
         cx: &mut task::Context<'_>,
     ) -> Result<(), Fault>
-        requires order { InOrder S.Subscriber (at + 10) self.old }
+        requires order { DeskInOrder S.Subscriber (at + 10) self.old }
         requires early { at < 2 ^ 62 }
         requires held { IsHeld S.Subscriber 0 self.old.world order.now }
         ensures keeps { Keeps S.Subscriber (at + 60) self.old self.new }
@@ -118,7 +118,7 @@ impl<S: OtelSubscriber> Desk<S> {
         given: &Given,
         cx: &mut task::Context<'_>,
     ) -> Result<(), Fault>
-        requires order { InOrder S.Subscriber (at + 20) self.old }
+        requires order { DeskInOrder S.Subscriber (at + 20) self.old }
         requires early { at < 2 ^ 62 }
         requires held { IsHeld S.Subscriber 0 self.old.world order.now }
         ensures keeps { Keeps S.Subscriber (at + 50) self.old self.new }
@@ -131,7 +131,7 @@ impl<S: OtelSubscriber> Desk<S> {
 
     // A payment, by a future under a span of its own, and an event where it is made.
     fn pay(&mut self, at: u64, given: &Given, cx: &mut task::Context<'_>) -> Result<(), Memory>
-        requires order { InOrder S.Subscriber (at + 20) self.old }
+        requires order { DeskInOrder S.Subscriber (at + 20) self.old }
         requires early { at < 2 ^ 62 }
         ensures keeps { Keeps S.Subscriber (at + 30) self.old self.new }
         ensures pays { result ≡ Ok tt → Pays S.Subscriber at given.now self.old self.new }
@@ -157,7 +157,7 @@ impl<S: OtelSubscriber> Desk<S> {
         payment: &mut Instrumented<Plain<Payment>>,
         cx: &mut task::Context<'_>,
     ) -> bool
-        requires order { InOrder S.Subscriber (at + 21) self.old }
+        requires order { DeskInOrder S.Subscriber (at + 21) self.old }
         requires early { at < 2 ^ 62 }
         requires held { IsHeld S.Subscriber 0 self.old.world payment.old.span }
         ensures keeps { Keeps S.Subscriber (at + 26) self.old self.new }
@@ -175,7 +175,7 @@ impl<S: OtelSubscriber> Desk<S> {
         payment: &mut Instrumented<Plain<Payment>>,
         cx: &mut task::Context<'_>,
     ) -> bool
-        requires order { InOrder S.Subscriber at self.old }
+        requires order { DeskInOrder S.Subscriber at self.old }
         requires early { at < 2 ^ 63 }
         requires held { IsHeld S.Subscriber 0 self.old.world payment.old.span }
         ensures keeps { Keeps S.Subscriber (at + 1) self.old self.new }
@@ -190,7 +190,7 @@ impl<S: OtelSubscriber> Desk<S> {
 
     // Packs on the back lane, in a child of the order.
     fn pack(&mut self, at: u64, order: &Span, given: &Given) -> Result<(), Fault>
-        requires order { InOrder S.Subscriber (at + 30) self.old }
+        requires order { DeskInOrder S.Subscriber (at + 30) self.old }
         requires early { at < 2 ^ 62 }
         requires held { IsHeld S.Subscriber 0 self.old.world order.now }
         ensures keeps { Keeps S.Subscriber (at + 50) self.old self.new }
@@ -212,7 +212,7 @@ impl<S: OtelSubscriber> Desk<S> {
 
     // What is told while an order is packed.
     fn wrap(&mut self, at: u64, pack: &Span, given: &Given) -> Result<(), Fault>
-        requires order { InOrder S.Subscriber (at + 35) self.old }
+        requires order { DeskInOrder S.Subscriber (at + 35) self.old }
         requires early { at < 2 ^ 62 }
         requires held { IsHeld S.Subscriber 0 self.old.world pack.now }
         ensures keeps { Keeps S.Subscriber (at + 50) self.old self.new }

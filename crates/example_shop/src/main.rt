@@ -3,8 +3,8 @@
 #![tactic(auto)]
 
 ghost use Rattle.std.specs.Prelude.{◌<◌, length};
-ghost use Rattle.env_filter.specs.Filtering.{plain, IsNew};
-ghost use Rattle.example_desk.specs.Order.{InOrder};
+ghost use Rattle.env_filter.specs.Filtering.{plain, IsNewFilter};
+ghost use Rattle.example_desk.specs.Order.{DeskInOrder};
 
 mod report;
 
@@ -49,7 +49,7 @@ fn run(alloc: Global, cx: &mut task::Context<'_>) -> Result<String, Fault> {
 // Two orders, another filter, and a third one.
 #[tactic(auto, using(crate::proofs::Order::there))]
 fn serve(alloc: Global, desk: &mut Desk<Stack>, cx: &mut task::Context<'_>) -> Result<(), Fault>
-    requires { InOrder ⟦<Stack as Subscriber>⟧ 0 desk.old }
+    requires { DeskInOrder ⟦<Stack as Subscriber>⟧ 0 desk.old }
     ensures { desk.new.dispatch < length desk.new.world.subscribers }
 {
     let remote = Context {
@@ -64,9 +64,9 @@ fn serve(alloc: Global, desk: &mut Desk<Stack>, cx: &mut task::Context<'_>) -> R
 
 // Puts another filter in force, if there is one.
 fn refilter(desk: &mut Desk<Stack>, filter: EnvFilter) -> Result<(), Memory>
-    requires order { InOrder ⟦<Stack as Subscriber>⟧ 200 desk.old }
-    requires new { IsNew (plain filter) }
-    ensures { InOrder ⟦<Stack as Subscriber>⟧ 200 desk.new }
+    requires order { DeskInOrder ⟦<Stack as Subscriber>⟧ 200 desk.old }
+    requires new { IsNewFilter (plain filter) }
+    ensures { DeskInOrder ⟦<Stack as Subscriber>⟧ 200 desk.new }
 {
     let stack = desk.world.subscriber(desk.dispatch);
     if stack.layer().with_current(|_| ()).is_err() {

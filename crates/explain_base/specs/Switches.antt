@@ -4,7 +4,7 @@ use Rattle.explain_base.specs.declared.reading.Reading.{Reading}
 use Rattle.explain_base.specs.declared.reading.Reading.TheVariants.{Filter, Directive, Fixed, Targets, Levels}
 
 -- the reading that a word names, the first argument where it names none
-abbrev pub switched : Reading → List ℕ → Reading
-switched reading word = if bytes_eq word (codes "filter") then Filter else if bytes_eq word (codes "directive") then Directive
+abbrev pub reading_named : Reading → List ℕ → Reading
+reading_named reading word = if bytes_eq word (codes "filter") then Filter else if bytes_eq word (codes "directive") then Directive
     else if bytes_eq word (codes "fixed") then Fixed else if bytes_eq word (codes "targets") then Targets
     else if bytes_eq word (codes "levels") then Levels else reading

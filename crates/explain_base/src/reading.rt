@@ -1,6 +1,6 @@
 //! As what a line's text is read.
 ghost use Rattle.std.specs.Prelude.{◌≡◌};
-ghost use Rattle.explain_base.specs.Switches.{switched};
+ghost use Rattle.explain_base.specs.Switches.{reading_named};
 
 /// As what a line's text is read. A line `# WORD` changes it for the lines behind it; other lines with `#` in front are
 /// comments.
@@ -22,7 +22,7 @@ pub enum Reading {
 impl Reading {
     /// The reading that a word names, or this one where it names none.
     pub fn switched(self, word: &str) -> Reading
-        ensures { result ≡ switched self word.now }
+        ensures { result ≡ reading_named self word.now }
     {
         match word {
             "filter" => Reading::Filter,

@@ -8,18 +8,18 @@ use Rattle.span_handles.specs.Handles.{Handle, Held, IsKnown, no_handle, same_he
 use Rattle.span_handles.specs.Knowing.{KeepsKnown, KeepsOthers}
 use Rattle.explain_stack.specs.declared.handles.Handles.{Handles}
 use Rattle.explain_stack.specs.Order.{IsHeld}
-use Rattle.explain_stack.specs.Places.{Takes, Puts, AreHeld}
+use Rattle.explain_stack.specs.Places.{TakesHandle, PutsHandle, AreHeld}
 
 pub none_held : {S : Type 0} (spans : S → Spans) (sites : ℕ) (world : Worlds S) → IsHeld spans sites world no_handle
 none_held spans sites world = record { known = tt; site = tt }
 
 module _ {S : Type 0} (spans : S → Spans) (sites : ℕ) (world : Worlds S) where
-  pub takes_held : (old new : Handles) (slot : Handle) → Takes old new slot → AreHeld spans sites world old → IsHeld spans sites world slot × AreHeld spans sites world new
+  pub takes_held : (old new : Handles) (slot : Handle) → TakesHandle old new slot → AreHeld spans sites world old → IsHeld spans sites world slot × AreHeld spans sites world new
   takes_held old new slot (inl t) held = (subst (λ (h : Handle). IsHeld spans sites world h) (sym t.0) held.a, subst (λ (hs : Handles). AreHeld spans sites world hs) (sym t.1) (record { a = none_held spans sites world; b = held.b; c = held.c }))
   takes_held old new slot (inr (inl t)) held = (subst (λ (h : Handle). IsHeld spans sites world h) (sym t.0) held.b, subst (λ (hs : Handles). AreHeld spans sites world hs) (sym t.1) (record { a = held.a; b = none_held spans sites world; c = held.c }))
   takes_held old new slot (inr (inr t)) held = (subst (λ (h : Handle). IsHeld spans sites world h) (sym t.0) held.c, subst (λ (hs : Handles). AreHeld spans sites world hs) (sym t.1) (record { a = held.a; b = held.b; c = none_held spans sites world }))
 
-  pub puts_held : (old new : Handles) (slot : Handle) → Puts old slot new → IsHeld spans sites world slot → AreHeld spans sites world old → AreHeld spans sites world new
+  pub puts_held : (old new : Handles) (slot : Handle) → PutsHandle old slot new → IsHeld spans sites world slot → AreHeld spans sites world old → AreHeld spans sites world new
   puts_held old new slot (inl p) one held = subst (λ (hs : Handles). AreHeld spans sites world hs) (sym p) (record { a = one; b = held.b; c = held.c })
   puts_held old new slot (inr (inl p)) one held = subst (λ (hs : Handles). AreHeld spans sites world hs) (sym p) (record { a = held.a; b = one; c = held.c })
   puts_held old new slot (inr (inr (inl p))) one held = subst (λ (hs : Handles). AreHeld spans sites world hs) (sym p) (record { a = held.a; b = held.b; c = one })

@@ -8,8 +8,8 @@ use Rattle.trace_base.specs.declared.field.ValueSet.{ValueSet}
 use Rattle.trace_base.specs.declared.lane.Lane.{Lane}
 use Rattle.trace_base.specs.declared.span.Parent.{Parent}
 use Rattle.trace_base.specs.Gate.{Worlds, IsOwn}
-use Rattle.trace_base.specs.Spans.{Span, Spans, entries_on, times_in, is_in, place_on, held, released, held_by_child}
-use Rattle.trace_base.specs.Calls.{SubscriberCall, NewSpan, Enter, Exit, after, entered, exited}
+use Rattle.trace_base.specs.Spans.{Span, Spans, entries_on, times_in, is_in, place_on, with_hold, without_hold, held_by_child}
+use Rattle.trace_base.specs.Calls.{SubscriberCall, NewSpan, Enter, Exit, spans_after_call, with_span_entry, with_span_exit}
 use Rattle.trace_base.specs.Conditions.{HasOwnHold, MayExit}
 use Rattle.trace_base.specs.lanes.Contexts.{Lanes, KeepsAttached, attached_as}
 use Rattle.trace_base.proofs.Entering.{counted_if_any, length_held}
@@ -36,18 +36,18 @@ if_length : (b : Bool) (xs ys : List Span) (n : ℕ) → length xs ≡ n → len
 if_length true xs ys n x y = x
 if_length false xs ys n x y = y
 
-new_made : (x : Spans) (lane : Lane) (at : ℕ) (place : Parent) (site : ℕ) (callsite : Callsite) (values : ValueSet) → length (after x (NewSpan lane at place site callsite values)).made ≡ length x.made + 1
+new_made : (x : Spans) (lane : Lane) (at : ℕ) (place : Parent) (site : ℕ) (callsite : Callsite) (values : ValueSet) → length (spans_after_call x (NewSpan lane at place site callsite values)).made ≡ length x.made + 1
 new_made x lane at place site callsite values =
     let above = place_on (entries_on lane.id x.lanes) place in
     let more = length-append {A = Span} (held_by_child x.made above) (record { holds = 1; parent = above; site = site } ∷ []) in
     let same = length_held x.made above in
     omega (arith, more, same)
 
-enter_made : (x : Spans) (id lane : ℕ) → length (entered x id lane).made ≡ length x.made
-enter_made x id lane = if_length (is_in id (entries_on lane x.lanes)) x.made (held x.made id) (length x.made) refl (length-set x.made id _)
+enter_made : (x : Spans) (id lane : ℕ) → length (with_span_entry x id lane).made ≡ length x.made
+enter_made x id lane = if_length (is_in id (entries_on lane x.lanes)) x.made (with_hold x.made id) (length x.made) refl (length-set x.made id _)
 
-exit_made : (x : Spans) (id lane : ℕ) → length (exited x id lane).made ≡ length x.made
-exit_made x id lane = if_length (times_in id (entries_on lane x.lanes) == 1) (released x.made id) x.made (length x.made) (length-set x.made id _) refl
+exit_made : (x : Spans) (id lane : ℕ) → length (with_span_exit x id lane).made ≡ length x.made
+exit_made x id lane = if_length (times_in id (entries_on lane x.lanes) == 1) (without_hold x.made id) x.made (length x.made) (length-set x.made id _) refl
 
 -- what one lane's entries attach is nothing of another lane
 attached_elsewhere : {S : Type 0} (R : S → S → Type 0) (old new : Worlds S) (d : ℕ) (r : Replaced R old new d) (kept : S → ℕ → ℕ → ℕ) (before later other : Lane) → later.id ≡ before.id → (other.id ≡ before.id → ⊥)
@@ -62,7 +62,7 @@ attached_elsewhere R old new d r kept before later other same apart moves still 
     still
 
 module _ {S : Type 0} (spans : S → Spans) (attaches : S → Bool) (kept : S → ℕ → ℕ → ℕ) (is_whole : S → Type 0) (does : S → SubscriberCall → S → Type 0)
-    (shows : (s : S) (call : SubscriberCall) (t : S) → does s call t → spans t ≡ after (spans s) call) (lanes : (s : S) (call : SubscriberCall) (t : S) → does s call t → Lanes (attaches s) (kept s) call (kept t))
+    (shows : (s : S) (call : SubscriberCall) (t : S) → does s call t → spans t ≡ spans_after_call (spans s) call) (lanes : (s : S) (call : SubscriberCall) (t : S) → does s call t → Lanes (attaches s) (kept s) call (kept t))
     (keeps_whole : (s : S) (call : SubscriberCall) (t : S) → does s call t → is_whole s → is_whole t) (dispatch made sites : ℕ) where
   -- a span more
   pub grown_stands : (old new : Worlds S) (d id : ℕ) (in_lane : Lane) (at : ℕ) (place : Parent) (site : ℕ) (callsite : Callsite) (values : ValueSet)
@@ -101,7 +101,7 @@ module _ {S : Type 0} (spans : S → Spans) (attaches : S → Bool) (kept : S �
 
   -- the lane has other contexts
   moved_stands : (call : SubscriberCall) (old new : Worlds S) (d : ℕ) (before later other : Lane) (r : Replaced (λ s t. does s call t) old new d) → later.id ≡ before.id → later.default ≡ before.default → KeepsAttached (kept r.before) before later (kept r.later)
-      → ((x : Spans) → length (after x call).made ≡ length x.made) → Stands spans kept is_whole dispatch made sites old before other → Stands spans kept is_whole dispatch made sites new later other
+      → ((x : Spans) → length (spans_after_call x call).made ≡ length x.made) → Stands spans kept is_whole dispatch made sites old before other → Stands spans kept is_whole dispatch made sites new later other
   moved_stands call old new d before later other r same default moves as_many_made stands =
       let R : S → S → Type 0 = λ s t. does s call t in
       record {

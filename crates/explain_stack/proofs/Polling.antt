@@ -6,13 +6,13 @@ use Rattle.trace_base.specs.declared.lane.Lane.{Lane}
 use Rattle.trace_base.specs.lanes.Default.{with_own}
 use Rattle.trace_base.specs.Gate.{Worlds, IsOwn}
 use Rattle.trace_base.specs.Spans.{Spans}
-use Rattle.trace_base.specs.Calls.{SubscriberCall, Exit, after}
+use Rattle.trace_base.specs.Calls.{SubscriberCall, Exit, spans_after_call}
 use Rattle.trace_base.specs.lanes.Contexts.{Lanes, attached_as}
 use Rattle.trace_base.proofs.Entering.{count_push}
 use Rattle.span_handles.specs.Handles.{Held, ReplacedOn}
-use Rattle.span_handles.specs.Entries.{Begins}
+use Rattle.span_handles.specs.Entries.{BeginsInside}
 use Rattle.span_futures.specs.declared.instrument.Instrumented.{Instrumented}
-use Rattle.span_futures.specs.Polls.{Polled, IsRefused, IsInside}
+use Rattle.span_futures.specs.Polls.{Polled, CannotEnter, IsInside}
 use Rattle.span_futures.specs.Lent.{all_kept}
 use Rattle.span_futures.specs.Served.{served_lane, lane_back}
 use Rattle.explain_stack.specs.Order.{Stands}
@@ -39,10 +39,10 @@ served_back None before left later is back = back ∙ is
 served_back (Some d) before left later is back = back ∙ ap (λ (l : Lane). with_own l before.default) is
 
 module _ {S : Type 0} (spans : S → Spans) (attaches : S → Bool) (kept : S → ℕ → ℕ → ℕ) (is_whole : S → Type 0) (does : S → SubscriberCall → S → Type 0)
-    (shows : (s : S) (call : SubscriberCall) (t : S) → does s call t → spans t ≡ after (spans s) call) (lanes : (s : S) (call : SubscriberCall) (t : S) → does s call t → Lanes (attaches s) (kept s) call (kept t))
+    (shows : (s : S) (call : SubscriberCall) (t : S) → does s call t → spans t ≡ spans_after_call (spans s) call) (lanes : (s : S) (call : SubscriberCall) (t : S) → does s call t → Lanes (attaches s) (kept s) call (kept t))
     (keeps_whole : (s : S) (call : SubscriberCall) (t : S) → does s call t → is_whole s → is_whole t) (dispatch made sites : ℕ) where
   -- an entry and an exit, with nothing between them
-  inside_stands : (at : ℕ) (held : Held) (old world left new : Worlds S) (before lane left_lane later other : Lane) → Begins does at held old before world lane → left ≡ world → left_lane ≡ lane
+  inside_stands : (at : ℕ) (held : Held) (old world left new : Worlds S) (before lane left_lane later other : Lane) → BeginsInside does at held old before world lane → left ≡ world → left_lane ≡ lane
       → ReplacedOn (λ id s t. does s (Exit id at left_lane later) t) left new held → (held ≡ None → later ≡ left_lane)
       → Stands spans kept is_whole dispatch made sites old before other → Stands spans kept is_whole dispatch made sites new later other
   inside_stands at held old world left new before lane left_lane later other begins same lane_same exited none stands =
@@ -56,7 +56,7 @@ module _ {S : Type 0} (spans : S → Spans) (attaches : S → Bool) (kept : S �
       → (activates : S → ℕ → Bool) {T A : Type 0} (polls : T → Worlds S → Lane → ℕ → Polled A → T → Worlds S → Lane → Type 0)
       → ((f : T) (w : Worlds S) (l : Lane) (at : ℕ) (r : Polled A) (g : T) (v : Worlds S) (m : Lane) → polls f w l at r g v m → (v ≡ w) × (m ≡ l))
       → (future next : Instrumented T) (old new : Worlds S) (before later other : Lane) (at : ℕ) (r : Polled A)
-      → IsRefused same activates future old before r next new later ⊎ IsInside does activates polls future old before at r next new later
+      → CannotEnter same activates future old before r next new later ⊎ IsInside does activates polls future old before at r next new later
       → Stands spans kept is_whole dispatch made sites old before other → Stands spans kept is_whole dispatch made sites new later other
   polled_stands same same_spans same_kept same_whole activates polls leaves future next old new before later other at r (inl refused) stands =
       lane_left spans kept is_whole dispatch made sites new before later other refused.lane_same

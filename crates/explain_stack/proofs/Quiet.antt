@@ -2,7 +2,7 @@
 use Rattle.std.proofs.Common.{◌≡◌, ℕ, length, Bool, Option, Some, refl, ap, ◌∙◌}
 use Rattle.std.proofs.lemmas.List.{length-set}
 use Rattle.trace_base.specs.Spans.{Spans, next_of}
-use Rattle.trace_base.specs.Calls.{SubscriberCall, NewSpan, Records, Follows, Event, Enter, Exit, CloneSpan, TryClose, after}
+use Rattle.trace_base.specs.Calls.{SubscriberCall, NewSpan, Records, Follows, Event, Enter, Exit, CloneSpan, TryClose, spans_after_call}
 use Rattle.trace_base.specs.lanes.Contexts.{Lanes}
 use Rattle.span_handles.specs.Worlds.{Chain, ended, closes}
 use Rattle.otel_layer.specs.Parts.{PartCall, StaysStack}
@@ -19,7 +19,7 @@ IsQuietCall (Enter id at before later) = ⊥
 IsQuietCall (Exit id at before later) = ⊥
 IsQuietCall (CloneSpan id) = Unit {0}
 
-quiet_made : (x : Spans) (call : SubscriberCall) → IsQuietCall call → length (after x call).made ≡ length x.made
+quiet_made : (x : Spans) (call : SubscriberCall) → IsQuietCall call → length (spans_after_call x call).made ≡ length x.made
 quiet_made x (NewSpan lane at place site callsite values) q = absurd q
 quiet_made x (TryClose id at) q = length-set x.made id _
 quiet_made x (Records id at callsite values) q = refl
@@ -40,7 +40,7 @@ quiet_kept attaches kept now (Exit id at before later) q l = absurd q
 quiet_kept attaches kept now (CloneSpan id) q l = l
 
 module _ {S : Type 0} (spans : S → Spans) (attaches : S → Bool) (kept : S → ℕ → ℕ → ℕ) (is_whole : S → Type 0) (does : S → SubscriberCall → S → Type 0)
-    (shows : (s : S) (call : SubscriberCall) (t : S) → does s call t → spans t ≡ after (spans s) call) (lanes : (s : S) (call : SubscriberCall) (t : S) → does s call t → Lanes (attaches s) (kept s) call (kept t))
+    (shows : (s : S) (call : SubscriberCall) (t : S) → does s call t → spans t ≡ spans_after_call (spans s) call) (lanes : (s : S) (call : SubscriberCall) (t : S) → does s call t → Lanes (attaches s) (kept s) call (kept t))
     (keeps_whole : (s : S) (call : SubscriberCall) (t : S) → does s call t → is_whole s → is_whole t) where
   pub quiet_call : (call : SubscriberCall) → IsQuietCall call → IsQuiet spans kept is_whole (λ s t. does s call t)
   quiet_call call q = record {

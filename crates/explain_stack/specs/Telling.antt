@@ -25,5 +25,5 @@ answer_line None = done_line false
 answer_line (Some polled) = polled_line polled
 
 -- the status of a word
-abbrev pub status_of : List ℕ → Status
-status_of word = if bytes_eq word (codes "ok") then status.Ok else status.Error word
+abbrev pub status_of_word : List ℕ → Status
+status_of_word word = if bytes_eq word (codes "ok") then status.Ok else status.Error word

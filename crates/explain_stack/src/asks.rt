@@ -4,7 +4,7 @@ ghost use Rattle.trace_base.specs.Calls.{Event};
 ghost use Rattle.trace_base.specs.Conditions.{IsLivePlace};
 ghost use Rattle.span_handles.specs.Worlds.{Has, Replaced};
 ghost use Rattle.span_handles.specs.Handles.{IsKnown};
-ghost use Rattle.explain_stack.specs.Order.{InOrder, KeepsScene};
+ghost use Rattle.explain_stack.specs.Order.{SceneInOrder, KeepsScene};
 
 use crate::scene::Scene;
 use crate::stack::Stack;
@@ -30,7 +30,7 @@ impl<S: Stack> Scene<S> {
         span: &Span,
         context: Context,
     ) -> Result<(), SetParentError>
-        requires order { InOrder S.spans S.kept S.is_whole self.old }
+        requires order { SceneInOrder S.spans S.kept S.is_whole self.old }
         requires known { IsKnown S.spans self.old.world span.now.held }
         ensures keeps { KeepsScene S.spans S.kept S.is_whole self.old self.new }
     {
@@ -39,7 +39,7 @@ impl<S: Stack> Scene<S> {
 
     /// Links a span to another.
     pub fn link(&mut self, at: u64, span: &Span, context: SpanContext) -> Result<(), Memory>
-        requires order { InOrder S.spans S.kept S.is_whole self.old }
+        requires order { SceneInOrder S.spans S.kept S.is_whole self.old }
         requires known { IsKnown S.spans self.old.world span.now.held }
         ensures keeps { KeepsScene S.spans S.kept S.is_whole self.old self.new }
     {
@@ -48,7 +48,7 @@ impl<S: Stack> Scene<S> {
 
     /// Starts a span, and answers its own context.
     pub fn context(&mut self, at: u64, span: &Span) -> Context
-        requires order { InOrder S.spans S.kept S.is_whole self.old }
+        requires order { SceneInOrder S.spans S.kept S.is_whole self.old }
         requires known { IsKnown S.spans self.old.world span.now.held }
         ensures keeps { KeepsScene S.spans S.kept S.is_whole self.old self.new }
     {
@@ -57,7 +57,7 @@ impl<S: Stack> Scene<S> {
 
     /// Writes a status on a span.
     pub fn set_status(&mut self, at: u64, span: &Span, status: Status)
-        requires order { InOrder S.spans S.kept S.is_whole self.old }
+        requires order { SceneInOrder S.spans S.kept S.is_whole self.old }
         requires known { IsKnown S.spans self.old.world span.now.held }
         ensures keeps { KeepsScene S.spans S.kept S.is_whole self.old self.new }
     {
@@ -72,7 +72,7 @@ impl<S: Stack> Scene<S> {
         site: SiteId,
         values: &ValueSet,
     ) -> Result<(), Memory>
-        requires order { InOrder S.spans S.kept S.is_whole self.old }
+        requires order { SceneInOrder S.spans S.kept S.is_whole self.old }
         requires known { IsKnown S.spans self.old.world span.now.held }
         requires site { site < self.old.sites }
         ensures keeps { KeepsScene S.spans S.kept S.is_whole self.old self.new }

@@ -2,7 +2,7 @@
 ghost use Rattle.std.specs.Prelude.{◌≡◌, ◌<◌, IfOk, IfSome, OnOk, OnErr};
 ghost use Rattle.span_handles.specs.Handles.{IsKnown};
 ghost use Rattle.span_handles.specs.Knowing.{KeepsOthers};
-ghost use Rattle.explain_stack.specs.Order.{InOrder, IsHeld, KeepsScene};
+ghost use Rattle.explain_stack.specs.Order.{SceneInOrder, IsHeld, KeepsScene};
 
 use crate::scene::Scene;
 use crate::stack::Stack;
@@ -22,7 +22,7 @@ impl<S: Stack> Scene<S> {
         site: SiteId,
         values: &ValueSet,
     ) -> Result<Option<Span>, Memory>
-        requires order { InOrder S.spans S.kept S.is_whole self.old }
+        requires order { SceneInOrder S.spans S.kept S.is_whole self.old }
         requires known { IsKnown S.spans self.old.world parent.now.held }
         requires site { site < self.old.sites }
         ensures keeps { KeepsScene S.spans S.kept S.is_whole self.old self.new }
@@ -51,7 +51,7 @@ impl<S: Stack> Scene<S> {
         site: SiteId,
         values: &ValueSet,
     ) -> Result<Option<Span>, Memory>
-        requires order { InOrder S.spans S.kept S.is_whole self.old }
+        requires order { SceneInOrder S.spans S.kept S.is_whole self.old }
         requires site { site < self.old.sites }
         ensures keeps { KeepsScene S.spans S.kept S.is_whole self.old self.new }
         ensures made { IfOk result (λ made. IfSome made (IsHeld S.spans self.new.sites self.new.world)) }
@@ -66,7 +66,7 @@ impl<S: Stack> Scene<S> {
 
     /// Enters a span; none where it can't be entered.
     pub fn enter(&mut self, at: u64, span: &Span) -> Result<Option<Entry>, Memory>
-        requires order { InOrder S.spans S.kept S.is_whole self.old }
+        requires order { SceneInOrder S.spans S.kept S.is_whole self.old }
         requires known { IsKnown S.spans self.old.world span.now.held }
         ensures keeps { KeepsScene S.spans S.kept S.is_whole self.old self.new }
         ensures entry { IfOk result (λ entry. IfSome entry (λ e. e ≡ span.now.held)) }
@@ -83,7 +83,7 @@ impl<S: Stack> Scene<S> {
 
     /// Exits a span, and spends the entry; that comes back where none is open.
     pub fn exit(&mut self, at: u64, span: &Span, entry: Entry) -> Option<Entry>
-        requires order { InOrder S.spans S.kept S.is_whole self.old }
+        requires order { SceneInOrder S.spans S.kept S.is_whole self.old }
         requires known { IsKnown S.spans self.old.world span.now.held }
         requires own { entry ≡ span.now.held }
         ensures keeps { KeepsScene S.spans S.kept S.is_whole self.old self.new }
@@ -98,9 +98,9 @@ impl<S: Stack> Scene<S> {
 
     /// Closes a handle, and answers whether its span closed.
     pub fn close(&mut self, at: u64, span: Span) -> bool
-        requires order { InOrder S.spans S.kept S.is_whole self.old }
+        requires order { SceneInOrder S.spans S.kept S.is_whole self.old }
         requires known { IsKnown S.spans self.old.world span.held }
-        ensures order { InOrder S.spans S.kept S.is_whole self.new }
+        ensures order { SceneInOrder S.spans S.kept S.is_whole self.new }
         ensures others { KeepsOthers S.spans self.old.world self.new.world span.held }
         ensures sites { self.new.sites ≡ self.old.sites }
     {
@@ -109,7 +109,7 @@ impl<S: Stack> Scene<S> {
 
     /// Records values on a span.
     pub fn record(&mut self, at: u64, span: &Span, values: &ValueSet) -> Result<(), Memory>
-        requires order { InOrder S.spans S.kept S.is_whole self.old }
+        requires order { SceneInOrder S.spans S.kept S.is_whole self.old }
         requires held { IsHeld S.spans self.old.sites self.old.world span.now }
         ensures keeps { KeepsScene S.spans S.kept S.is_whole self.old self.new }
     {
@@ -119,7 +119,7 @@ impl<S: Stack> Scene<S> {
 
     /// Records that a span follows from another, where both are of the scene's stack.
     pub fn follow(&mut self, at: u64, span: &Span, from: &Span) -> Result<(), Memory>
-        requires order { InOrder S.spans S.kept S.is_whole self.old }
+        requires order { SceneInOrder S.spans S.kept S.is_whole self.old }
         requires known { IsKnown S.spans self.old.world span.now.held }
         requires from { IsKnown S.spans self.old.world from.now.held }
         ensures keeps { KeepsScene S.spans S.kept S.is_whole self.old self.new }

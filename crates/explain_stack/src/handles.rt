@@ -1,7 +1,7 @@
 //! Three handles, by name.
 ghost use Rattle.std.specs.Prelude.{◌≡◌, false, IfSome, None};
 ghost use Rattle.span_handles.specs.Handles.{no_handle, same_held};
-ghost use Rattle.explain_stack.specs.Places.{Takes, Puts, named, with_named};
+ghost use Rattle.explain_stack.specs.Places.{TakesHandle, PutsHandle, handle_named, with_named};
 
 use span_handles::entry::Entry;
 use span_handles::span::Span;
@@ -95,9 +95,9 @@ impl Handles {
 
     /// Takes the handle of a name, and leaves a disabled one there; none where there is no such name.
     pub fn take(&mut self, name: &str) -> Option<Slot>
-        ensures value { result ≡ named name.now self.old }
+        ensures value { result ≡ handle_named name.now self.old }
         ensures rest { self.new ≡ with_named name.now no_handle self.old }
-        ensures some { IfSome result (Takes self.old self.new) }
+        ensures some { IfSome result (TakesHandle self.old self.new) }
         ensures none { result ≡ None → self.new ≡ self.old }
     {
         match name {
@@ -111,7 +111,7 @@ impl Handles {
     /// Puts a handle where one was taken.
     pub fn put(&mut self, name: &str, slot: Slot)
         ensures there { self.new ≡ with_named name.now slot self.old }
-        ensures puts { Puts self.old slot self.new }
+        ensures puts { PutsHandle self.old slot self.new }
     {
         match name {
             "a" => mem::replace(&mut self.a, slot).discard(),

@@ -1,6 +1,6 @@
 //! Lines of calls on the span of one handle, which leave its entries.
 ghost use Rattle.std.specs.Prelude.{◌≡◌, ◌<◌};
-ghost use Rattle.explain_stack.specs.Order.{InOrder, IsHeld, KeepsScene};
+ghost use Rattle.explain_stack.specs.Order.{SceneInOrder, IsHeld, KeepsScene};
 
 use crate::scene::Scene;
 use crate::stack::Stack;
@@ -20,7 +20,7 @@ pub fn tell<S: Stack>(
     call: &str,
     words: &str,
 ) -> Result<String, Memory>
-    requires order { InOrder S.spans S.kept S.is_whole scene.old }
+    requires order { SceneInOrder S.spans S.kept S.is_whole scene.old }
     requires held { IsHeld S.spans scene.old.sites scene.old.world span.now }
     ensures keeps { KeepsScene S.spans S.kept S.is_whole scene.old scene.new }
 {
@@ -42,7 +42,7 @@ fn record<S: Stack>(
     at: u64,
     words: &str,
 ) -> Result<(), Memory>
-    requires order { InOrder S.spans S.kept S.is_whole scene.old }
+    requires order { SceneInOrder S.spans S.kept S.is_whole scene.old }
     requires held { IsHeld S.spans scene.old.sites scene.old.world span.now }
     ensures keeps { KeepsScene S.spans S.kept S.is_whole scene.old scene.new }
 {
@@ -60,7 +60,7 @@ fn event<S: Stack>(
     at: u64,
     words: &str,
 ) -> Result<(), Memory>
-    requires order { InOrder S.spans S.kept S.is_whole scene.old }
+    requires order { SceneInOrder S.spans S.kept S.is_whole scene.old }
     requires held { IsHeld S.spans scene.old.sites scene.old.world span.now }
     ensures keeps { KeepsScene S.spans S.kept S.is_whole scene.old scene.new }
 {
@@ -82,7 +82,7 @@ fn event_at<S: Stack>(
     site: SiteId,
     words: &str,
 ) -> Result<(), Memory>
-    requires order { InOrder S.spans S.kept S.is_whole scene.old }
+    requires order { SceneInOrder S.spans S.kept S.is_whole scene.old }
     requires held { IsHeld S.spans scene.old.sites scene.old.world span.now }
     requires site { site < scene.old.sites }
     ensures keeps { KeepsScene S.spans S.kept S.is_whole scene.old scene.new }
@@ -102,7 +102,7 @@ fn ask<S: Stack>(
     call: &str,
     words: &str,
 ) -> Result<String, Memory>
-    requires order { InOrder S.spans S.kept S.is_whole scene.old }
+    requires order { SceneInOrder S.spans S.kept S.is_whole scene.old }
     requires held { IsHeld S.spans scene.old.sites scene.old.world span.now }
     ensures keeps { KeepsScene S.spans S.kept S.is_whole scene.old scene.new }
 {
@@ -120,7 +120,7 @@ fn context<S: Stack>(
     span: &Span,
     at: u64,
 ) -> Result<String, Memory>
-    requires order { InOrder S.spans S.kept S.is_whole scene.old }
+    requires order { SceneInOrder S.spans S.kept S.is_whole scene.old }
     requires held { IsHeld S.spans scene.old.sites scene.old.world span.now }
     ensures keeps { KeepsScene S.spans S.kept S.is_whole scene.old scene.new }
 {
@@ -137,7 +137,7 @@ fn set_parent<S: Stack>(
     at: u64,
     words: &str,
 ) -> Result<String, Memory>
-    requires order { InOrder S.spans S.kept S.is_whole scene.old }
+    requires order { SceneInOrder S.spans S.kept S.is_whole scene.old }
     requires held { IsHeld S.spans scene.old.sites scene.old.world span.now }
     ensures keeps { KeepsScene S.spans S.kept S.is_whole scene.old scene.new }
 {

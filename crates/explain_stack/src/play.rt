@@ -1,7 +1,7 @@
 //! Lines of calls, made on the handles of a scene.
 ghost use Rattle.std.specs.Prelude.{◌≡◌, ◌<◌, IfOk, IfSome};
 ghost use Rattle.span_handles.specs.Handles.{IsKnown};
-ghost use Rattle.explain_stack.specs.Order.{InOrder, IsHeld, KeepsScene};
+ghost use Rattle.explain_stack.specs.Order.{SceneInOrder, IsHeld, KeepsScene};
 ghost use Rattle.explain_stack.specs.Places.{AreHeld, InPlay};
 
 use crate::handles::{Handles, Slot};
@@ -118,7 +118,7 @@ fn admits<S: Stack>(
     site: &str,
     lane: &str,
 ) -> Result<String, Memory>
-    requires order { InOrder S.spans S.kept S.is_whole scene.now }
+    requires order { SceneInOrder S.spans S.kept S.is_whole scene.now }
 {
     let Some(site) = scene.site_at(words::number(site).unwrap_or(0)) else {
         return told::refused(alloc);
@@ -278,7 +278,7 @@ fn act<S: Stack>(
     call: &str,
     words: &str,
 ) -> (Slot, Result<String, Memory>)
-    requires order { InOrder S.spans S.kept S.is_whole scene.old }
+    requires order { SceneInOrder S.spans S.kept S.is_whole scene.old }
     requires held { IsHeld S.spans scene.old.sites scene.old.world slot }
     ensures keeps { KeepsScene S.spans S.kept S.is_whole scene.old scene.new }
     ensures slot { result.0 ≡ slot }
@@ -300,7 +300,7 @@ fn enter<S: Stack>(
     slot: Slot,
     at: u64,
 ) -> (Slot, Result<String, Memory>)
-    requires order { InOrder S.spans S.kept S.is_whole scene.old }
+    requires order { SceneInOrder S.spans S.kept S.is_whole scene.old }
     requires held { IsHeld S.spans scene.old.sites scene.old.world slot }
     ensures keeps { KeepsScene S.spans S.kept S.is_whole scene.old scene.new }
     ensures slot { result.0 ≡ slot }
@@ -328,7 +328,7 @@ fn exit<S: Stack>(
     slot: Slot,
     at: u64,
 ) -> (Slot, Result<String, Memory>)
-    requires order { InOrder S.spans S.kept S.is_whole scene.old }
+    requires order { SceneInOrder S.spans S.kept S.is_whole scene.old }
     requires held { IsHeld S.spans scene.old.sites scene.old.world slot }
     ensures keeps { KeepsScene S.spans S.kept S.is_whole scene.old scene.new }
     ensures slot { result.0 ≡ slot }

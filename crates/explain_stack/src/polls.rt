@@ -8,7 +8,7 @@ ghost use Rattle.span_handles.specs.Handles.{IsKnown, HasOn};
 ghost use Rattle.span_handles.specs.Knowing.{KeepsHandles, KeepsOthers, GainsOne, LosesOne};
 ghost use Rattle.span_handles.specs.Worlds.{Has};
 ghost use Rattle.explain_stack.specs.Looking.{looks};
-ghost use Rattle.explain_stack.specs.Order.{InOrder, KeepsScene};
+ghost use Rattle.explain_stack.specs.Order.{SceneInOrder, KeepsScene};
 ghost use Rattle.explain_stack.specs.Places.{InPlay};
 
 use crate::handles::{Handles, Slot};
@@ -82,7 +82,7 @@ impl<S: Stack> Scene<S> {
         is_served: bool,
         cx: &mut Context<'_>,
     ) -> (Span, Option<Result<Poll<bool>, EnterError>>)
-        requires order { InOrder S.spans S.kept S.is_whole self.old }
+        requires order { SceneInOrder S.spans S.kept S.is_whole self.old }
         requires known { IsKnown S.spans self.old.world span.held }
         ensures keeps { KeepsScene S.spans S.kept S.is_whole self.old self.new }
         ensures back { result.0 ≡ span }
@@ -106,7 +106,7 @@ impl<S: Stack> Scene<S> {
         future: T,
         cx: &mut Context<'_>,
     ) -> (Span, Result<Poll<bool>, EnterError>)
-        requires order { InOrder S.spans S.kept S.is_whole self.old }
+        requires order { SceneInOrder S.spans S.kept S.is_whole self.old }
         requires known { IsKnown S.spans self.old.world span.held }
         requires few { HasOn (λ s id. HasFewHolds (S.spans s).made id) self.old.world span.held }
         requires can_poll { T.can_poll future }
@@ -129,7 +129,7 @@ impl<S: Stack> Scene<S> {
     /// doesn't serve the lane, or that span has too many holds.
     #[tactic(auto, using(crate::proofs::Around::known_again))]
     fn is_around(&mut self, at: u64, span: &Span) -> Option<bool>
-        requires order { InOrder S.spans S.kept S.is_whole self.old }
+        requires order { SceneInOrder S.spans S.kept S.is_whole self.old }
         ensures keeps { KeepsScene S.spans S.kept S.is_whole self.old self.new }
     {
         if get_default(&self.world, &self.lane) != Some(self.dispatch) || !self.has_room_around() {
@@ -143,12 +143,12 @@ impl<S: Stack> Scene<S> {
 
     // A future under the lane's current span.
     fn put_around(&mut self) -> Instrumented<Looks>
-        requires order { InOrder S.spans S.kept S.is_whole self.old }
+        requires order { SceneInOrder S.spans S.kept S.is_whole self.old }
         requires served { dispatch_on self.old.lane.default self.old.world.global ≡ Some self.old.dispatch }
         requires few { Has (λ s. HasFewHoldsAbove (S.spans s) self.old.lane.id parent.Current) self.old.world
             self.old.dispatch }
 
-        ensures order { InOrder S.spans S.kept S.is_whole self.new }
+        ensures order { SceneInOrder S.spans S.kept S.is_whole self.new }
         ensures held { IsKnown S.spans self.new.world result.span.held }
         ensures keeps { KeepsHandles S.spans self.old.world self.new.world }
         ensures more { GainsOne S.spans self.old.world self.new.world result.span.held }
@@ -159,9 +159,9 @@ impl<S: Stack> Scene<S> {
 
     // Closes the handle of a future.
     fn take_back(&mut self, at: u64, future: Instrumented<Looks>)
-        requires order { InOrder S.spans S.kept S.is_whole self.old }
+        requires order { SceneInOrder S.spans S.kept S.is_whole self.old }
         requires known { IsKnown S.spans self.old.world future.span.held }
-        ensures order { InOrder S.spans S.kept S.is_whole self.new }
+        ensures order { SceneInOrder S.spans S.kept S.is_whole self.new }
         ensures others { KeepsOthers S.spans self.old.world self.new.world future.span.held }
         ensures fewer { LosesOne S.spans self.old.world self.new.world future.span.held }
         ensures sites { self.new.sites ≡ self.old.sites }
@@ -171,8 +171,8 @@ impl<S: Stack> Scene<S> {
 
     /// Attaches empty contexts to the lane until it is full.
     fn fill(&mut self) -> Result<(), Memory>
-        requires order { InOrder S.spans S.kept S.is_whole self.old }
-        ensures order { InOrder S.spans S.kept S.is_whole self.new }
+        requires order { SceneInOrder S.spans S.kept S.is_whole self.old }
+        ensures order { SceneInOrder S.spans S.kept S.is_whole self.new }
         ensures world { self.new.world ≡ self.old.world }
         ensures sites { self.new.sites ≡ self.old.sites }
     {
@@ -209,8 +209,8 @@ fn attach_empty(lane: &mut Lane) -> Result<(), EnterError>
 
 /// Fills the lane on which calls are made.
 pub fn filled<S: Stack>(alloc: Global, scene: &mut Scene<S>) -> Result<String, Memory>
-    requires order { InOrder S.spans S.kept S.is_whole scene.old }
-    ensures order { InOrder S.spans S.kept S.is_whole scene.new }
+    requires order { SceneInOrder S.spans S.kept S.is_whole scene.old }
+    ensures order { SceneInOrder S.spans S.kept S.is_whole scene.new }
     ensures world { scene.new.world ≡ scene.old.world }
     ensures sites { scene.new.sites ≡ scene.old.sites }
 {

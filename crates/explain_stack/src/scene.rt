@@ -7,7 +7,7 @@ ghost use Rattle.span_registry.specs.Registering.{no_spans};
 ghost use Rattle.span_handles.specs.Handles.{IsKnown, HasOn, IsOf};
 ghost use Rattle.span_handles.specs.Worlds.{Has};
 ghost use Rattle.span_handles.specs.Knowing.{KeepsKnown, KeepsOthers};
-ghost use Rattle.explain_stack.specs.Order.{InOrder, IsHeld};
+ghost use Rattle.explain_stack.specs.Order.{SceneInOrder, IsHeld};
 
 use crate::stack::Stack;
 use crate::told;
@@ -43,7 +43,7 @@ impl<S: Stack> Scene<S> {
         requires spans { S.spans stack ≡ no_spans }
         requires kept { (lane number : ℕ) → S.kept stack lane number ≡ 0 }
         requires empty { length world.subscribers ≡ 0 }
-        ensures { IfOk result (λ scene. InOrder S.spans S.kept S.is_whole scene) }
+        ensures { IfOk result (λ scene. SceneInOrder S.spans S.kept S.is_whole scene) }
     {
         let sites = declared(&world, sites);
         match world.add(stack) {
@@ -76,7 +76,7 @@ impl<S: Stack> Scene<S> {
 
     /// Whether the stack takes what a callsite makes on the lane on which calls are made.
     pub fn admits(&self, alloc: Global, site: SiteId) -> bool
-        requires order { InOrder S.spans S.kept S.is_whole self.now }
+        requires order { SceneInOrder S.spans S.kept S.is_whole self.now }
         requires site { site < self.now.sites }
     {
         self.admits_on(alloc, self.lane.id, site)
@@ -84,7 +84,7 @@ impl<S: Stack> Scene<S> {
 
     /// The same on the lane of an id.
     pub fn admits_on(&self, alloc: Global, lane: u64, site: SiteId) -> bool
-        requires order { InOrder S.spans S.kept S.is_whole self.now }
+        requires order { SceneInOrder S.spans S.kept S.is_whole self.now }
         requires site { site < self.now.sites }
     {
         let lane = bare_lane(alloc, lane, Some(self.dispatch));
@@ -100,8 +100,8 @@ impl<S: Stack> Scene<S> {
 
     /// Calls are made on the other lane from here on.
     pub fn turn(&mut self)
-        requires order { InOrder S.spans S.kept S.is_whole self.old }
-        ensures order { InOrder S.spans S.kept S.is_whole self.new }
+        requires order { SceneInOrder S.spans S.kept S.is_whole self.old }
+        ensures order { SceneInOrder S.spans S.kept S.is_whole self.new }
         ensures lanes { self.new ≡ record self.old { lane = self.old.other; other = self.old.lane } }
     {
         mem::swap(&mut self.lane, &mut self.other);
@@ -109,7 +109,7 @@ impl<S: Stack> Scene<S> {
 
     /// The records that the stack's recorder still has; the rest of the scene is given up.
     pub fn end(self, alloc: Global) -> Result<String, Memory>
-        requires order { InOrder S.spans S.kept S.is_whole self }
+        requires order { SceneInOrder S.spans S.kept S.is_whole self }
     {
         let Scene {
             mut world,
@@ -126,7 +126,7 @@ impl<S: Stack> Scene<S> {
 
     /// Whether a span may be held once more.
     pub(crate) fn has_room(&self, span: &Span) -> bool
-        requires order { InOrder S.spans S.kept S.is_whole self.now }
+        requires order { SceneInOrder S.spans S.kept S.is_whole self.now }
         ensures own { IsTrue result → IsOf span.now.held self.now.dispatch }
         ensures few { IsTrue result
             → HasOn (λ s id. HasFewHolds (S.spans s).made id) self.now.world span.now.held }
@@ -142,7 +142,7 @@ impl<S: Stack> Scene<S> {
 
     /// Whether the lane's current span, if it has one, may be held once more.
     pub(crate) fn has_room_around(&self) -> bool
-        requires order { InOrder S.spans S.kept S.is_whole self.now }
+        requires order { SceneInOrder S.spans S.kept S.is_whole self.now }
         ensures few { IsTrue result
             → Has (λ s. HasFewHoldsAbove (S.spans s) self.now.lane.id parent.Current) self.now.world
             self.now.dispatch }
@@ -156,7 +156,7 @@ impl<S: Stack> Scene<S> {
 
     /// Whether an entry of a span is open on the lane.
     pub(crate) fn is_open(&self, span: &Span) -> bool
-        requires order { InOrder S.spans S.kept S.is_whole self.now }
+        requires order { SceneInOrder S.spans S.kept S.is_whole self.now }
         ensures { IsTrue result
             → HasOn (λ s id. is_in id (entries_on self.now.lane.id (S.spans s).lanes) ≡ true) self.now.world
             span.now.held }

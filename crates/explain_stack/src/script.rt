@@ -2,7 +2,7 @@
 ghost use Rattle.std.specs.Prelude.{◌≡◌, ℕ, [], false, length};
 ghost use Rattle.span_registry.specs.Both.{KnowsNone};
 ghost use Rattle.span_registry.specs.Registering.{no_spans};
-ghost use Rattle.explain_stack.specs.Order.{InOrder};
+ghost use Rattle.explain_stack.specs.Order.{SceneInOrder};
 ghost use Rattle.explain_stack.specs.Places.{InPlay};
 
 use crate::handles::Handles;
@@ -184,7 +184,7 @@ fn play<S: Stack>(
     cx: &mut Context<'_>,
 ) -> Result<String, Memory>
     requires { InPlay S.spans S.kept S.is_whole scene.old handles.old }
-    ensures { InOrder S.spans S.kept S.is_whole scene.new }
+    ensures { SceneInOrder S.spans S.kept S.is_whole scene.new }
 {
     let mut told = String::new(alloc);
     for line in lines {

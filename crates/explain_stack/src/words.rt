@@ -1,6 +1,6 @@
 //! What the words of a line name.
 ghost use Rattle.std.specs.Prelude.{◌≡◌, IfOk};
-ghost use Rattle.explain_stack.specs.Telling.{status_of};
+ghost use Rattle.explain_stack.specs.Telling.{status_of_word};
 
 use otel_base::context::SpanContext;
 use otel_base::list::Items;
@@ -84,7 +84,7 @@ pub fn ids(words: &str) -> SpanContext {
 
 /// The status of a word: `ok`, or the description of an error.
 pub fn status(alloc: Global, word: &str) -> Result<Status, Memory>
-    ensures { IfOk result (λ status. status ≡ status_of word.now) }
+    ensures { IfOk result (λ status. status ≡ status_of_word word.now) }
 {
     match word {
         "ok" => Ok(Status::Ok),

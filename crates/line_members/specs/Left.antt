@@ -3,5 +3,5 @@ use Rattle.serde_json.specs.Data.{Members}
 use Rattle.serde_json.specs.View.{members_view}
 use Rattle.line_members.specs.declared.members.Members.{Members as Taken}
 
-abbrev pub left : Taken → Members
-left taken = members_view taken.rest.entries
+abbrev pub members_left : Taken → Members
+members_left taken = members_view taken.rest.entries

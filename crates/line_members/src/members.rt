@@ -2,10 +2,10 @@
 ghost use Rattle.std.specs.Prelude.{◌≡◌, option_map};
 ghost use Rattle.serde_json.specs.Find.{as_array, as_object, as_str, get_member};
 ghost use Rattle.serde_json.specs.View.{view, items_view};
-ghost use Rattle.trace_pipeline.specs.forms.Forms.{array, as_whole, member, nothing, text, whole, without};
+ghost use Rattle.trace_pipeline.specs.forms.Forms.{array, as_whole, member, no_more, text, natural, without_member};
 ghost use Rattle.trace_pipeline.specs.reading.Gives.{Gives};
 ghost use Rattle.trace_pipeline.specs.forms.RequestForm.{fields_form};
-ghost use Rattle.line_members.specs.Left.{left};
+ghost use Rattle.line_members.specs.Left.{members_left};
 
 use otel_base::list::Items;
 use otel_base::text::Text;
@@ -51,7 +51,7 @@ fn items_of(value: Json) -> Result<Vec<Json>, LineError>
 impl Members {
     /// Those of a value, which has to be an object.
     pub fn of(value: Json) -> Result<Members, LineError>
-        ensures { Gives left result (as_object (view value)) }
+        ensures { Gives members_left result (as_object (view value)) }
     {
         match value {
             Json::Object(rest) => Ok(Members { rest }),
@@ -62,15 +62,15 @@ impl Members {
     /// Takes a member, if it is there.
     #[tactic(auto, using(trace_pipeline::proofs::readings::MembersLemmas::found, trace_pipeline::proofs::readings::MembersLemmas::kept))]
     pub fn optional(&mut self, name: &str) -> Option<Json>
-        ensures found { option_map view result ≡ get_member name.now (left self.old) }
-        ensures left { left self.new ≡ without name.now (left self.old) }
+        ensures found { option_map view result ≡ get_member name.now (members_left self.old) }
+        ensures left { members_left self.new ≡ without_member name.now (members_left self.old) }
     {
         self.rest.remove(name)
     }
 
     /// Takes a member.
     pub fn member(&mut self, name: &str) -> Result<Json, LineError>
-        ensures { Gives (λ v. (view v, left self.new)) result (member name.now (left self.old)) }
+        ensures { Gives (λ v. (view v, members_left self.new)) result (member name.now (members_left self.old)) }
     {
         match self.optional(name) {
             Some(value) => Ok(value),
@@ -80,7 +80,7 @@ impl Members {
 
     /// Takes a whole number.
     pub fn whole(&mut self, name: &str) -> Result<u64, LineError>
-        ensures { Gives (λ n. (n, left self.new)) result (whole name.now (left self.old)) }
+        ensures { Gives (λ n. (n, members_left self.new)) result (natural name.now (members_left self.old)) }
     {
         let value = self.member(name)?;
         whole_of(&value)
@@ -88,21 +88,21 @@ impl Members {
 
     /// Takes a text.
     pub fn text(&mut self, name: &str) -> Result<Text, LineError>
-        ensures { Gives (λ t. (t, left self.new)) result (text name.now (left self.old)) }
+        ensures { Gives (λ t. (t, members_left self.new)) result (text name.now (members_left self.old)) }
     {
         text_of(self.member(name)?)
     }
 
     /// Takes an array.
     pub fn array(&mut self, name: &str) -> Result<Vec<Json>, LineError>
-        ensures { Gives (λ v. (items_view v.items, left self.new)) result (array name.now (left self.old)) }
+        ensures { Gives (λ v. (items_view v.items, members_left self.new)) result (array name.now (members_left self.old)) }
     {
         items_of(self.member(name)?)
     }
 
     /// Takes the fields that are given, which are none where nothing is said. `Memory` freely.
     pub fn given_fields(&mut self, alloc: Global) -> Result<Items<(Text, Value)>, LineError>
-        ensures { Gives (λ fields. (fields, left self.new)) result (fields_form (left self.old)) }
+        ensures { Gives (λ fields. (fields, members_left self.new)) result (fields_form (members_left self.old)) }
     {
         match self.optional("fields") {
             Some(value) => read_fields(alloc, &value),
@@ -113,7 +113,7 @@ impl Members {
     /// Makes sure that no member is left.
     #[tactic(auto, using(trace_pipeline::proofs::readings::MembersLemmas::nothing_left, trace_pipeline::proofs::readings::MembersLemmas::something_left))]
     pub fn end(&self) -> Result<(), LineError>
-        ensures { Gives (λ u. u) result (nothing (left self.now)) }
+        ensures { Gives (λ u. u) result (no_more (members_left self.now)) }
     {
         if self.rest.is_empty() {
             Ok(())

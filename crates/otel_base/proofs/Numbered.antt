@@ -4,17 +4,17 @@ use Rattle.std.specs.Prelude.{slice_index_or, eqb}
 use Rattle.std.proofs.lemmas.Bool.{cases_Bool, ne_eqb, eq-eqb}
 use Rattle.std.proofs.lemmas.Grind.{common_steps}
 use Rattle.otel_base.specs.declared.context.Context.{Context}
-use Rattle.otel_base.specs.Stack.{has, without, next_number, last_context, room_left, Rises}
+use Rattle.otel_base.specs.Stack.{has_number, without_number, next_number, last_context, room_left, NumbersRise}
 
-pub rises_from_less : (a b : ℕ) (items : List (ℕ × Context)) → a ≤ b → Rises b items → Rises a items
+pub rises_from_less : (a b : ℕ) (items : List (ℕ × Context)) → a ≤ b → NumbersRise b items → NumbersRise a items
 rises_from_less a b [] h r = tt
 rises_from_less a b (item ∷ items) h r = (omega (arith, r.0), r.1)
 
-pub rises_push : (b : ℕ) (items : List (ℕ × Context)) (context : Context) → Rises b items → Rises b (items ++ (next_number b items, context) ∷ [])
+pub rises_push : (b : ℕ) (items : List (ℕ × Context)) (context : Context) → NumbersRise b items → NumbersRise b (items ++ (next_number b items, context) ∷ [])
 rises_push b [] context r = (omega arith, tt)
 rises_push b (item ∷ items) context r = (r.0, rises_push (suc item.0) items context r.1)
 
-pub rises_without : (b number : ℕ) (items : List (ℕ × Context)) → Rises b items → Rises b (without number items)
+pub rises_without : (b number : ℕ) (items : List (ℕ × Context)) → NumbersRise b items → NumbersRise b (without_number number items)
 rises_without b number [] r = tt
 rises_without b number (item ∷ items) r = elim (cases_Bool (eqb item.0 number)) [
   | inl same ↦ rw same (rises_from_less b (suc item.0) items (omega (arith, r.0)) r.1)
@@ -25,7 +25,7 @@ pub next_from_less : (a b : ℕ) (items : List (ℕ × Context)) → a ≤ b →
 next_from_less a b [] h = h
 next_from_less a b (item ∷ items) h = omega arith
 
-pub next_without : (b number : ℕ) (items : List (ℕ × Context)) → Rises b items → next_number b (without number items) ≤ next_number b items
+pub next_without : (b number : ℕ) (items : List (ℕ × Context)) → NumbersRise b items → next_number b (without_number number items) ≤ next_number b items
 next_without b number [] r = omega arith
 next_without b number (item ∷ items) r = elim (cases_Bool (eqb item.0 number)) [
   | inl same ↦ rw same (next_from_less b (suc item.0) items (omega (arith, r.0)))
@@ -36,11 +36,11 @@ pub next_push : (b number : ℕ) (items : List (ℕ × Context)) (context : Cont
 next_push b number [] context = refl
 next_push b number (item ∷ items) context = next_push (suc item.0) number items context
 
-pub least_next : (b : ℕ) (items : List (ℕ × Context)) → Rises b items → b ≤ next_number b items
+pub least_next : (b : ℕ) (items : List (ℕ × Context)) → NumbersRise b items → b ≤ next_number b items
 least_next b [] r = omega arith
 least_next b (item ∷ items) r = omega (arith, r.0, least_next (suc item.0) items r.1)
 
-pub next_is_new : (b : ℕ) (items : List (ℕ × Context)) → Rises b items → has (next_number b items) items ≡ false
+pub next_is_new : (b : ℕ) (items : List (ℕ × Context)) → NumbersRise b items → has_number (next_number b items) items ≡ false
 next_is_new b [] r = refl
 next_is_new b (item ∷ items) r =
     let past = least_next (suc item.0) items r.1 in
@@ -60,19 +60,19 @@ last_is_current start (item ∷ []) (suc k) x h e = absurd (omega arith)
 last_is_current start (item ∷ more ∷ items) zero x h e = absurd (omega arith)
 last_is_current start (item ∷ more ∷ items) (suc k) x h e = last_is_current item.1 (more ∷ items) k x (omega arith) e
 
-pub least_at : (b : ℕ) (items : List (ℕ × Context)) (k : ℕ) (d : ℕ × Context) → Rises b items → k < length items → b ≤ (slice_index_or items k d).0
+pub least_at : (b : ℕ) (items : List (ℕ × Context)) (k : ℕ) (d : ℕ × Context) → NumbersRise b items → k < length items → b ≤ (slice_index_or items k d).0
 least_at b [] k d r h = absurd (omega arith)
 least_at b (item ∷ items) zero d r h = r.0
 least_at b (item ∷ items) (suc k) d r h = omega (arith, r.0, least_at (suc item.0) items k d r.1 (omega arith))
 
-pub removed : (b number : ℕ) (items : List (ℕ × Context)) (k : ℕ) (d : ℕ × Context) → Rises b items → k < length items → (slice_index_or items k d).0 ≡ number → take k items ++ drop (suc k) items ≡ without number items
+pub removed : (b number : ℕ) (items : List (ℕ × Context)) (k : ℕ) (d : ℕ × Context) → NumbersRise b items → k < length items → (slice_index_or items k d).0 ≡ number → take k items ++ drop (suc k) items ≡ without_number number items
 removed b number [] k d r h e = absurd (omega arith)
 removed b number (item ∷ items) zero d r h e = rw (eq-eqb item.0 number e) refl
 removed b number (item ∷ items) (suc k) d r h e =
     let past = least_at (suc item.0) items k d r.1 (omega arith) in
     rw (ne_eqb item.0 number (λ same. omega arith)) (ap (λ (rest : List (ℕ × Context)). item ∷ rest) (removed (suc item.0) number items k d r.1 (omega arith) e))
 
-pub stands_before : (number : ℕ) (items : List (ℕ × Context)) (k : ℕ) (d : ℕ × Context) → k < length items → eqb (slice_index_or items k d).0 number ≡ false → has number (take (suc k) items) ≡ true → has number (take k items) ≡ true
+pub stands_before : (number : ℕ) (items : List (ℕ × Context)) (k : ℕ) (d : ℕ × Context) → k < length items → eqb (slice_index_or items k d).0 number ≡ false → has_number number (take (suc k) items) ≡ true → has_number number (take k items) ≡ true
 stands_before number [] k d h other is = absurd (omega arith)
 stands_before number (item ∷ items) zero d h other is = rw other at is
 stands_before number (item ∷ items) (suc k) d h other is = elim (cases_Bool (eqb item.0 number)) [
@@ -80,14 +80,14 @@ stands_before number (item ∷ items) (suc k) d h other is = elim (cases_Bool (e
   | inr not ↦ rw not (stands_before number items k d (omega arith) other (rw not at is))
 ]
 
-pub without_is_no_longer : (number : ℕ) (items : List (ℕ × Context)) → length (without number items) ≤ length items
+pub without_is_no_longer : (number : ℕ) (items : List (ℕ × Context)) → length (without_number number items) ≤ length items
 without_is_no_longer number [] = omega arith
 without_is_no_longer number (item ∷ items) = elim (cases_Bool (eqb item.0 number)) [
   | inl same ↦ rw same (omega arith)
   | inr other ↦ rw other (omega (arith, without_is_no_longer number items))
 ]
 
-pub has_pushed : (number : ℕ) (items : List (ℕ × Context)) (context : Context) → has number (items ++ (number, context) ∷ []) ≡ true
+pub has_pushed : (number : ℕ) (items : List (ℕ × Context)) (context : Context) → has_number number (items ++ (number, context) ∷ []) ≡ true
 has_pushed number [] context = rw (eq-eqb number number refl) refl
 has_pushed number (item ∷ items) context = elim (cases_Bool (eqb item.0 number)) [
   | inl same ↦ rw same refl
@@ -103,9 +103,9 @@ room_after_attach items context capacity capacity2 h =
     let count = length-append items ((next_number 0 items, context) ∷ []) in
     less_room (2 ^ 64) capacity capacity2 (length items) (length (items ++ (next_number 0 items, context) ∷ [])) (next_number 0 items) (next_number 0 (items ++ (next_number 0 items, context) ∷ [])) 1 h (omega arith) (omega arith)
 
-pub room_after_detach : (number : ℕ) (items : List (ℕ × Context)) (capacity : ℕ) → Rises 0 items → room_left items capacity ≤ room_left (without number items) capacity
+pub room_after_detach : (number : ℕ) (items : List (ℕ × Context)) (capacity : ℕ) → NumbersRise 0 items → room_left items capacity ≤ room_left (without_number number items) capacity
 room_after_detach number items capacity r =
     let next = next_without 0 number items r in
     let count = without_is_no_longer number items in
-    let less = less_room (2 ^ 64) capacity capacity (length items) (length (without number items)) (next_number 0 items) (next_number 0 (without number items)) 0 (omega arith) (omega arith) (omega arith) in
+    let less = less_room (2 ^ 64) capacity capacity (length items) (length (without_number number items)) (next_number 0 items) (next_number 0 (without_number number items)) 0 (omega arith) (omega arith) (omega arith) in
     omega arith

@@ -1,18 +1,18 @@
 -- How the counts of the tracers go with each call: that a recorder and a tracer that keeps nothing keep the law of tracers.
 use Rattle.std.proofs.Common.{ℕ, arith, ap, refl}
 use Rattle.otel_base.specs.Tracer.{TracerCall, Start, Reserve, Finish, Spares, Starts}
-use Rattle.otel_base.specs.Recorder.{Recorded, Records}
+use Rattle.otel_base.specs.Recorder.{RecorderValue, Records}
 use Rattle.otel_base.specs.Noop.{Ignores}
 
-pub recorder_counts : (s : Recorded) (call : TracerCall) (t : Recorded) → Records s call t → Spares s.spare call t.spare × Starts s.started call t.started
+pub recorder_counts : (s : RecorderValue) (call : TracerCall) (t : RecorderValue) → Records s call t → Spares s.spare call t.spare × Starts s.started call t.started
 recorder_counts s (Start parent given) t did =
-    let started = ap (λ (r : Recorded). r.started) did.1 in
-    let spare = ap (λ (r : Recorded). r.spare) did.1 in
+    let started = ap (λ (r : RecorderValue). r.started) did.1 in
+    let spare = ap (λ (r : RecorderValue). r.spare) did.1 in
     (omega (arith, spare), omega (arith, started))
-recorder_counts s Reserve t did = (ap (λ (r : Recorded). r.spare) did, ap (λ (r : Recorded). r.started) did)
+recorder_counts s Reserve t did = (ap (λ (r : RecorderValue). r.spare) did, ap (λ (r : RecorderValue). r.started) did)
 recorder_counts s (Finish span) t did =
-    let spare = ap (λ (r : Recorded). r.spare) did.1 in
-    (omega (arith, did.0, spare), ap (λ (r : Recorded). r.started) did.1)
+    let spare = ap (λ (r : RecorderValue). r.spare) did.1 in
+    (omega (arith, did.0, spare), ap (λ (r : RecorderValue). r.started) did.1)
 
 pub noop_counts : (s : ℕ) (call : TracerCall) (t : ℕ) → Ignores s call t → Spares s call t × Starts 0 call 0
 noop_counts s (Start parent given) t did = (omega (arith, did.1), omega arith)

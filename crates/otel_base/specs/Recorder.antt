@@ -5,13 +5,13 @@ use Rattle.otel_base.specs.RecorderIds.{recorder_ids}
 use Rattle.otel_base.specs.Tracer.{TracerCall, Start, Reserve, Finish}
 
 -- how many spans were started, how many finishes have their room, and the finished spans that weren't taken, the oldest first
-pub record Recorded : Type 0 where
+pub record RecorderValue : Type 0 where
   pub started : ℕ
   pub spare : ℕ
   pub finished : List Record
 
 -- what a call makes of a recorder: a start gives the ids of the next number, a reserve adds a spare, a finish needs one, uses it and adds its span at the end
-abbrev pub Records : Recorded → TracerCall → Recorded → Type 0
+abbrev pub Records : RecorderValue → TracerCall → RecorderValue → Type 0
 Records old (Start parent given) new = (given ≡ recorder_ids (old.started + 1) parent) × (new ≡ record old { started = old.started + 1 })
 Records old Reserve new = new ≡ record old { spare = old.spare + 1 }
 Records old (Finish span) new = (0 < old.spare) × (new ≡ record old { spare = old.spare - 1; finished = old.finished ++ span ∷ [] })

@@ -1,6 +1,6 @@
 //! A recorder: a tracer that numbers the spans it starts and keeps those that finish.
 ghost use Rattle.std.specs.Prelude.{◌≡◌, [], ◌<◌, ◌↔◌, IsSome, length, drop, slice_get};
-ghost use Rattle.otel_base.specs.Recorder.{Recorded, Records};
+ghost use Rattle.otel_base.specs.Recorder.{RecorderValue, Records};
 ghost use Rattle.otel_base.specs.Counts.{recorder_counts};
 
 use crate::context::{Context, SpanContext};
@@ -23,9 +23,9 @@ pub struct Recorder {
 impl Model for Recorder {
     ghost use Rattle.std.specs.Prelude.{◌+◌, ◌≤◌};
     ghost use Rattle.std.specs.VecDeque.{deque_len, deque_capacity};
-    ghost use Rattle.otel_base.specs.Recorder.{Recorded};
+    ghost use Rattle.otel_base.specs.Recorder.{RecorderValue};
 
-    ghost Value = { Recorded };
+    ghost Value = { RecorderValue };
 
     ghost view = { λ r. record { started = r.started; spare = r.spare; finished = r.finished.items } };
 

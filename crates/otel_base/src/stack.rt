@@ -1,8 +1,8 @@
 //! The contexts that are attached to a lane.
 ghost use Rattle.std.specs.Prelude.{◌≡◌, ◌↔◌, ◌+◌, ◌<◌, ◌≤◌, ◌++◌, [], ◌∷◌, ℕ, length, Err, IfOk, IsOk, OnOk, OnErr, IfSome, IsNone, false, true, ◌^◌, slice_index_or};
-ghost use Rattle.otel_base.specs.Stack.{has, without, next_number, last_context, empty_context, Attaches, IsReady};
+ghost use Rattle.otel_base.specs.Stack.{has_number, without_number, next_number, last_context, empty_context, StackValue, IsReadyToAttach};
 ghost use Rattle.otel_base.specs.declared.enter_error.EnterError.TheVariants.{Full, Memory};
-ghost use Rattle.otel_base.specs.declared.stack.TheConstants.{MOST};
+ghost use Rattle.otel_base.specs.declared.stack.TheConstants.{MAX_CONTEXTS};
 
 use crate::context::Context;
 use crate::enter_error::EnterError;
@@ -10,7 +10,7 @@ use std::alloc::Global;
 use std::marker::Model;
 
 /// How many contexts may be live at once.
-pub const MOST: usize = 65_534;
+pub const MAX_CONTEXTS: usize = 65_534;
 
 /// What an attach gives, and what its detach takes: `opentelemetry::ContextGuard`, which isn't spent by itself.
 /// It has to be spent, by `ContextStack::detach` or by `discard`.
@@ -42,13 +42,13 @@ pub struct ContextStack {
 
 impl Model for ContextStack {
     ghost use Rattle.std.specs.Prelude.{◌≤◌, length, vec_capacity};
-    ghost use Rattle.otel_base.specs.Stack.{Attaches, Rises, room_left};
+    ghost use Rattle.otel_base.specs.Stack.{StackValue, NumbersRise, room_left};
 
-    ghost Value = { Attaches };
+    ghost Value = { StackValue };
 
     ghost view = { λ s. record { live = s.items.items; room = room_left s.items.items (vec_capacity s.items) } };
 
-    ghost invariant = { λ s. Rises 0 s.items.items × (length s.items.items ≤ 65534) };
+    ghost invariant = { λ s. NumbersRise 0 s.items.items × (length s.items.items ≤ 65534) };
 }
 
 impl ContextStack {
@@ -64,17 +64,17 @@ impl ContextStack {
     /// Attaches a context above all others. It is `Full` exactly where 65,534 are live.
     pub fn attach(&mut self, context: Context) -> Result<Attached, EnterError>
         ensures ok { IfOk result (λ number. self.new.live ≡ self.old.live ++ (number, context) ∷ []) }
-        ensures number { IfOk result (λ number. has number self.old.live ≡ false) }
-        ensures holds { IfOk result (λ number. has number self.new.live ≡ true) }
-        ensures full { (result ≡ Err Full) ↔ (length self.old.live ≡ MOST) }
+        ensures number { IfOk result (λ number. has_number number self.old.live ≡ false) }
+        ensures holds { IfOk result (λ number. has_number number self.new.live ≡ true) }
+        ensures full { (result ≡ Err Full) ↔ (length self.old.live ≡ MAX_CONTEXTS) }
         ensures err_leaves { OnErr result (self.new.live ≡ self.old.live) }
 
         // An attach uses up room for one.
-        ensures ready { IsReady self.old → IsOk result }
+        ensures ready { IsReadyToAttach self.old → IsOk result }
         ensures with_room { 0 < self.old.room → ¬ (result ≡ Err Memory) }
         ensures room { self.old.room ≤ self.new.room + 1 }
     {
-        if self.items.len() >= MOST {
+        if self.items.len() >= MAX_CONTEXTS {
             return Err(EnterError::Full);
         }
         let Some(number) = next_number(self.items.as_slice()) else {
@@ -87,12 +87,12 @@ impl ContextStack {
     /// Sees to it that the next attach has the memory it needs, whatever is detached until then. It is `Full` exactly
     /// where 65,534 are live.
     pub fn reserve(&mut self) -> Result<(), EnterError>
-        ensures ok { OnOk result (IsReady self.new) }
+        ensures ok { OnOk result (IsReadyToAttach self.new) }
         ensures leaves { self.new.live ≡ self.old.live }
-        ensures full { (result ≡ Err Full) ↔ (length self.old.live ≡ MOST) }
+        ensures full { (result ≡ Err Full) ↔ (length self.old.live ≡ MAX_CONTEXTS) }
         ensures room { self.old.room ≤ self.new.room }
     {
-        if self.items.len() >= MOST {
+        if self.items.len() >= MAX_CONTEXTS {
             return Err(EnterError::Full);
         }
         if next_number(self.items.as_slice()).is_none() {
@@ -104,9 +104,9 @@ impl ContextStack {
 
     /// Detaches the context of one attach, whichever stand above it. The cost is that of passing those.
     pub fn detach(&mut self, attached: Attached)
-        requires { has attached self.old.live ≡ true }
-        ensures live { self.new.live ≡ without attached self.old.live }
-        ensures ready { IsReady self.old → IsReady self.new }
+        requires { has_number attached self.old.live ≡ true }
+        ensures live { self.new.live ≡ without_number attached self.old.live }
+        ensures ready { IsReadyToAttach self.old → IsReadyToAttach self.new }
         ensures room { self.old.room ≤ self.new.room }
     {
         let Attached { number } = attached;
@@ -147,7 +147,7 @@ fn next_number(items: &[(u64, Context)]) -> Option<u64>
 
 // Where the item with a number stands, searched from the end, since the newest mostly goes first.
 fn place(items: &[(u64, Context)], number: u64) -> usize
-    requires { has number items.now ≡ true }
+    requires { has_number number items.now ≡ true }
     ensures within { result < length items.now }
     ensures found { (d : ℕ × Context) → (slice_index_or items.now result d).0 ≡ number }
 {

@@ -6,25 +6,25 @@ use Rattle.otel_base.specs.declared.context.SpanContext.{SpanContext}
 use Rattle.otel_base.specs.declared.memory.Memory.{Memory}
 use Rattle.otel_state.specs.declared.op.Op.{Op}
 use Rattle.otel_state.specs.declared.op.OpReply.{OpReply}
-use Rattle.otel_state.specs.States.{Told, reply, is_growing}
+use Rattle.otel_state.specs.States.{SpanData, reply, is_growing}
 use Rattle.otel_layer.specs.Table.{with_op}
 use Rattle.otel_layer.specs.Parts.{AppliesTo, context_at}
 
-none_isnt : (told : Told) → (let o : Option Told = None in o) ≡ Some told → ⊥
+none_isnt : (told : SpanData) → (let o : Option SpanData = None in o) ≡ Some told → ⊥
 none_isnt told h = cc
 
-some_isnt : (told : Told) → Some told ≡ None → ⊥
+some_isnt : (told : SpanData) → Some told ≡ None → ⊥
 some_isnt told h = cc
 
-pub applies_found : (o : Option Told) (told : Told) (spans now : List (ℕ × Told)) (id at : ℕ) (op : Op) (r : Result OpReply Memory) → o ≡ Some told → OnOk r (now ≡ with_op id at op spans) → IfOk r (λ x. x ≡ reply told op) → OnErr r (now ≡ spans) → OnErr r (IsTrue (is_growing op))
+pub applies_found : (o : Option SpanData) (told : SpanData) (spans now : List (ℕ × SpanData)) (id at : ℕ) (op : Op) (r : Result OpReply Memory) → o ≡ Some told → OnOk r (now ≡ with_op id at op spans) → IfOk r (λ x. x ≡ reply told op) → OnErr r (now ≡ spans) → OnErr r (IsTrue (is_growing op))
     → AppliesTo o spans id at op (Some r) now
 applies_found None told spans now id at op r is did answer leaves growing = absurd (none_isnt told is)
-applies_found (Some u) told spans now id at op (Ok x) is did answer leaves growing = (answer ∙ ap (λ (t : Told). reply t op) (sym (ap (λ (y : Option Told). unwrap_or y told) is)), did)
+applies_found (Some u) told spans now id at op (Ok x) is did answer leaves growing = (answer ∙ ap (λ (t : SpanData). reply t op) (sym (ap (λ (y : Option SpanData). unwrap_or y told) is)), did)
 applies_found (Some u) told spans now id at op (Err x) is did answer leaves growing = (growing, leaves)
 
-pub applies_none : (o : Option Told) (spans : List (ℕ × Told)) (id at : ℕ) (op : Op) → o ≡ None → AppliesTo o spans id at op None spans
+pub applies_none : (o : Option SpanData) (spans : List (ℕ × SpanData)) (id at : ℕ) (op : Op) → o ≡ None → AppliesTo o spans id at op None spans
 applies_none None spans id at op h = (refl, refl)
 applies_none (Some told) spans id at op h = absurd (some_isnt told h)
 
-pub shown_is : (o : Option Told) (told : Told) (s : Option SpanContext) → o ≡ Some told → s ≡ told.own → (let x : Option Context = Some (record { span = s }) in x) ≡ context_at o
+pub shown_is : (o : Option SpanData) (told : SpanData) (s : Option SpanContext) → o ≡ Some told → s ≡ told.own → (let x : Option Context = Some (record { span = s }) in x) ≡ context_at o
 shown_is o told s is same = ap (λ (y : Option SpanContext). let x : Option Context = Some (record { span = y }) in x) same ∙ sym (ap context_at is)

@@ -8,99 +8,99 @@ use Rattle.otel_base.specs.declared.context.SpanContext.{SpanContext}
 use Rattle.otel_base.specs.Ids.{ids_of}
 use Rattle.otel_base.specs.RecorderIds.{recorder_ids}
 use Rattle.trace_base.specs.Spans.{Spans}
-use Rattle.trace_base.specs.layers.Hooks.{Seen}
+use Rattle.trace_base.specs.layers.Hooks.{KnownSpans}
 use Rattle.span_registry.specs.Both.{InStep}
 use Rattle.otel_state.specs.declared.op.Op.{Op}
 use Rattle.otel_state.specs.declared.op.Op.TheVariants as ops
-use Rattle.otel_state.specs.States.{Told, changed, record_of}
-use Rattle.otel_layer.specs.Table.{told_at, knows_span, with_span, with_op, waits, waits_by, is_id}
-use Rattle.otel_layer.specs.Recording.{Recording, started_under, with_start, closed, closed_started, with_close, told_after, told_started, started_by, count_after, Closes}
+use Rattle.otel_state.specs.States.{SpanData, after_op, record_of}
+use Rattle.otel_layer.specs.Table.{data_at, knows_span, with_span_data, with_op, waits, waits_by, is_id}
+use Rattle.otel_layer.specs.Recording.{Recording, started_under, with_start, without_closed, closed_started, with_close, data_after, data_started, started_by, count_after, Closes}
 use Rattle.otel_layer.proofs.Recalling.{untold}
 
 -- ---- an op
 
-told_none : (b : Bool) (at : ℕ) (op : Op) → None ≡ told_after b at op None
+told_none : (b : Bool) (at : ℕ) (op : Op) → None ≡ data_after b at op None
 told_none true at op = refl
 told_none false at op = refl
 
-pub told_at_op : (id other at : ℕ) (op : Op) (spans : List (ℕ × Told)) → told_at other (with_op id at op spans) ≡ told_after (other == id) at op (told_at other spans)
+pub told_at_op : (id other at : ℕ) (op : Op) (spans : List (ℕ × SpanData)) → data_at other (with_op id at op spans) ≡ data_after (other == id) at op (data_at other spans)
 told_at_op id other at op [] = told_none (other == id) at op
 told_at_op id other at op (e ∷ es) =
-    let f : Told → Told = λ t. changed t at op in
+    let f : SpanData → SpanData = λ t. after_op t at op in
     elim (cases_Bool (e.0 == id)) [
       | inl here ↦ (
-          let left = ap (told_at other) (cond-true {A = List (ℕ × Told)} (e.0 == id) ((e.0, f e.1) ∷ es) (e ∷ with_op id at op es) here) in
+          let left = ap (data_at other) (cond-true {A = List (ℕ × SpanData)} (e.0 == id) ((e.0, f e.1) ∷ es) (e ∷ with_op id at op es) here) in
           elim (cases_Bool (e.0 == other)) [
             | inl found ↦ (
                 let same = eq-eqb other id (sym (eqb-true e.0 other found) ∙ eqb-true e.0 id here) in
-                left ∙ cond-true {A = Option Told} (e.0 == other) (Some (f e.1)) (told_at other es) found
-                ∙ sym (ap (λ b. told_after b at op (told_at other (e ∷ es))) same ∙ ap (told_after true at op) (cond-true {A = Option Told} (e.0 == other) (Some e.1) (told_at other es) found)))
+                left ∙ cond-true {A = Option SpanData} (e.0 == other) (Some (f e.1)) (data_at other es) found
+                ∙ sym (ap (λ b. data_after b at op (data_at other (e ∷ es))) same ∙ ap (data_after true at op) (cond-true {A = Option SpanData} (e.0 == other) (Some e.1) (data_at other es) found)))
             | inr off ↦ (
                 let apart = ne_eqb other id (λ h. true≢false (sym (eq-eqb e.0 other (eqb-true e.0 id here ∙ sym h)) ∙ off)) in
-                left ∙ cond-false {A = Option Told} (e.0 == other) (Some (f e.1)) (told_at other es) off
-                ∙ sym (ap (λ b. told_after b at op (told_at other (e ∷ es))) apart ∙ cond-false {A = Option Told} (e.0 == other) (Some e.1) (told_at other es) off))
+                left ∙ cond-false {A = Option SpanData} (e.0 == other) (Some (f e.1)) (data_at other es) off
+                ∙ sym (ap (λ b. data_after b at op (data_at other (e ∷ es))) apart ∙ cond-false {A = Option SpanData} (e.0 == other) (Some e.1) (data_at other es) off))
           ])
       | inr not_here ↦ (
-          let left = ap (told_at other) (cond-false {A = List (ℕ × Told)} (e.0 == id) ((e.0, f e.1) ∷ es) (e ∷ with_op id at op es) not_here) in
+          let left = ap (data_at other) (cond-false {A = List (ℕ × SpanData)} (e.0 == id) ((e.0, f e.1) ∷ es) (e ∷ with_op id at op es) not_here) in
           elim (cases_Bool (e.0 == other)) [
             | inl found ↦ (
                 let apart = ne_eqb other id (λ h. true≢false (sym (eq-eqb e.0 id (eqb-true e.0 other found ∙ h)) ∙ not_here)) in
-                left ∙ cond-true {A = Option Told} (e.0 == other) (Some e.1) (told_at other (with_op id at op es)) found
-                ∙ sym (ap (λ b. told_after b at op (told_at other (e ∷ es))) apart ∙ cond-true {A = Option Told} (e.0 == other) (Some e.1) (told_at other es) found))
+                left ∙ cond-true {A = Option SpanData} (e.0 == other) (Some e.1) (data_at other (with_op id at op es)) found
+                ∙ sym (ap (λ b. data_after b at op (data_at other (e ∷ es))) apart ∙ cond-true {A = Option SpanData} (e.0 == other) (Some e.1) (data_at other es) found))
             | inr off ↦ (
-                left ∙ cond-false {A = Option Told} (e.0 == other) (Some e.1) (told_at other (with_op id at op es)) off ∙ told_at_op id other at op es
-                ∙ ap (told_after (other == id) at op) (sym (cond-false {A = Option Told} (e.0 == other) (Some e.1) (told_at other es) off)))
+                left ∙ cond-false {A = Option SpanData} (e.0 == other) (Some e.1) (data_at other (with_op id at op es)) off ∙ told_at_op id other at op es
+                ∙ ap (data_after (other == id) at op) (sym (cond-false {A = Option SpanData} (e.0 == other) (Some e.1) (data_at other es) off)))
           ])
     ]
 
 -- ---- a start
 
-started_reads : (under : Option Context) (id other at : ℕ) (r : Recording) → told_at other (started_under under id at r).spans ≡ told_started under (other == id) r.started at (told_at other r.spans)
+started_reads : (under : Option Context) (id other at : ℕ) (r : Recording) → data_at other (started_under under id at r).spans ≡ data_started under (other == id) r.started at (data_at other r.spans)
 started_reads None id other at r = refl
 started_reads (Some under) id other at r = told_at_op id other at (ops.Start (recorder_ids (r.started + 1) (ids_of under))) r.spans
 
-pub told_at_start : (id other at : ℕ) (r : Recording) → told_at other (with_start id at r).spans ≡ told_started (waits (told_at id r.spans)) (other == id) r.started at (told_at other r.spans)
-told_at_start id other at r = started_reads (waits (told_at id r.spans)) id other at r
+pub told_at_start : (id other at : ℕ) (r : Recording) → data_at other (with_start id at r).spans ≡ data_started (waits (data_at id r.spans)) (other == id) r.started at (data_at other r.spans)
+told_at_start id other at r = started_reads (waits (data_at id r.spans)) id other at r
 
 -- ---- a span more, and one less
 
-pub told_at_made : (id other : ℕ) (told : Told) (spans : List (ℕ × Told)) → told_at id spans ≡ None → told_at other (with_span id told spans) ≡ (if other == id then Some told else told_at other spans)
+pub told_at_made : (id other : ℕ) (told : SpanData) (spans : List (ℕ × SpanData)) → data_at id spans ≡ None → data_at other (with_span_data id told spans) ≡ (if other == id then Some told else data_at other spans)
 told_at_made id other told [] none =
     elim (cases_Bool (other == id)) [
-      | inl same ↦ cond-true {A = Option Told} (id == other) (Some told) None (eq-eqb id other (sym (eqb-true other id same))) ∙ sym (cond-true {A = Option Told} (other == id) (Some told) None same)
-      | inr apart ↦ cond-false {A = Option Told} (id == other) (Some told) None (ne_eqb id other (λ h. true≢false (sym (eq-eqb other id (sym h)) ∙ apart))) ∙ sym (cond-false {A = Option Told} (other == id) (Some told) None apart)
+      | inl same ↦ cond-true {A = Option SpanData} (id == other) (Some told) None (eq-eqb id other (sym (eqb-true other id same))) ∙ sym (cond-true {A = Option SpanData} (other == id) (Some told) None same)
+      | inr apart ↦ cond-false {A = Option SpanData} (id == other) (Some told) None (ne_eqb id other (λ h. true≢false (sym (eq-eqb other id (sym h)) ∙ apart))) ∙ sym (cond-false {A = Option SpanData} (other == id) (Some told) None apart)
     ]
 told_at_made id other told (e ∷ es) none =
     elim (cases_Bool (e.0 == id)) [
-      | inl here ↦ absurd (cc (sym (cond-true {A = Option Told} (e.0 == id) (Some e.1) (told_at id es) here) ∙ none))
+      | inl here ↦ absurd (cc (sym (cond-true {A = Option SpanData} (e.0 == id) (Some e.1) (data_at id es) here) ∙ none))
       | inr off ↦ (
-          let rest = told_at_made id other told es (sym (cond-false {A = Option Told} (e.0 == id) (Some e.1) (told_at id es) off) ∙ none) in
+          let rest = told_at_made id other told es (sym (cond-false {A = Option SpanData} (e.0 == id) (Some e.1) (data_at id es) off) ∙ none) in
           elim (cases_Bool (e.0 == other)) [
             | inl found ↦ (
                 let apart = ne_eqb other id (λ h. true≢false (sym (eq-eqb e.0 id (eqb-true e.0 other found ∙ h)) ∙ off)) in
-                cond-true {A = Option Told} (e.0 == other) (Some e.1) (told_at other (with_span id told es)) found
-                ∙ sym (cond-false {A = Option Told} (other == id) (Some told) (told_at other (e ∷ es)) apart ∙ cond-true {A = Option Told} (e.0 == other) (Some e.1) (told_at other es) found))
+                cond-true {A = Option SpanData} (e.0 == other) (Some e.1) (data_at other (with_span_data id told es)) found
+                ∙ sym (cond-false {A = Option SpanData} (other == id) (Some told) (data_at other (e ∷ es)) apart ∙ cond-true {A = Option SpanData} (e.0 == other) (Some e.1) (data_at other es) found))
             | inr missed ↦ (
-                cond-false {A = Option Told} (e.0 == other) (Some e.1) (told_at other (with_span id told es)) missed ∙ rest
-                ∙ ap (λ (o : Option Told). if other == id then Some told else o) (sym (cond-false {A = Option Told} (e.0 == other) (Some e.1) (told_at other es) missed)))
+                cond-false {A = Option SpanData} (e.0 == other) (Some e.1) (data_at other (with_span_data id told es)) missed ∙ rest
+                ∙ ap (λ (o : Option SpanData). if other == id then Some told else o) (sym (cond-false {A = Option SpanData} (e.0 == other) (Some e.1) (data_at other es) missed)))
           ])
     ]
 
-pub told_at_removed : (id other : ℕ) (spans : List (ℕ × Told)) → other ≢ id → told_at other (remove_entry (is_id id) spans) ≡ told_at other spans
+pub told_at_removed : (id other : ℕ) (spans : List (ℕ × SpanData)) → other ≢ id → data_at other (remove_entry (is_id id) spans) ≡ data_at other spans
 told_at_removed id other [] apart = refl
 told_at_removed id other (e ∷ es) apart =
     elim (cases_Bool (e.0 == id)) [
       | inl here ↦ (
           let missed = ne_eqb e.0 other (λ h. apart (sym h ∙ eqb-true e.0 id here)) in
-          ap (told_at other) (cond-true {A = List (ℕ × Told)} (e.0 == id) es (e ∷ remove_entry (is_id id) es) here)
-          ∙ sym (cond-false {A = Option Told} (e.0 == other) (Some e.1) (told_at other es) missed))
+          ap (data_at other) (cond-true {A = List (ℕ × SpanData)} (e.0 == id) es (e ∷ remove_entry (is_id id) es) here)
+          ∙ sym (cond-false {A = Option SpanData} (e.0 == other) (Some e.1) (data_at other es) missed))
       | inr off ↦ (
-          ap (told_at other) (cond-false {A = List (ℕ × Told)} (e.0 == id) es (e ∷ remove_entry (is_id id) es) off)
-          ∙ ap (λ (o : Option Told). if e.0 == other then Some e.1 else o) (told_at_removed id other es apart))
+          ap (data_at other) (cond-false {A = List (ℕ × SpanData)} (e.0 == id) es (e ∷ remove_entry (is_id id) es) off)
+          ∙ ap (λ (o : Option SpanData). if e.0 == other then Some e.1 else o) (told_at_removed id other es apart))
     ]
 
 -- no span is known yet with the id of the next
-pub told_at_next : (made : ℕ) (spans : List (ℕ × Told)) → (knows_span made spans ≡ true → made < made) → told_at made spans ≡ None
+pub told_at_next : (made : ℕ) (spans : List (ℕ × SpanData)) → (knows_span made spans ≡ true → made < made) → data_at made spans ≡ None
 told_at_next made spans known =
     elim (cases_Bool (knows_span made spans)) [
       | inl yes_known ↦ (let h = known yes_known in absurd (omega (arith, h)))
@@ -109,44 +109,44 @@ told_at_next made spans known =
 
 -- ---- a close
 
-same_told : (told u : Told) → ◌≡◌ {A = Option Told} (Some told) (Some u) → told ≡ u
+same_told : (told u : SpanData) → ◌≡◌ {A = Option SpanData} (Some told) (Some u) → told ≡ u
 same_told told u e = cc e
 
-own_start : (own : Option SpanContext) (id at : ℕ) (r : Recording) (told : Told) → told.own ≡ own → told_at id r.spans ≡ Some told
-    → (told_at id (with_start id at r).spans ≡ Some (started_by own r.started at told)) × ((with_start id at r).started ≡ count_after own r.started)
+own_start : (own : Option SpanContext) (id at : ℕ) (r : Recording) (told : SpanData) → told.own ≡ own → data_at id r.spans ≡ Some told
+    → (data_at id (with_start id at r).spans ≡ Some (started_by own r.started at told)) × ((with_start id at r).started ≡ count_after own r.started)
 own_start (Some own) id at r told is found =
     let under = ap waits found ∙ ap (λ (o : Option SpanContext). waits_by o told.parent) is in
-    (ap (λ (o : Option Context). told_at id (started_under o id at r).spans) under ∙ found, ap (λ (o : Option Context). (started_under o id at r).started) under)
+    (ap (λ (o : Option Context). data_at id (started_under o id at r).spans) under ∙ found, ap (λ (o : Option Context). (started_under o id at r).started) under)
 own_start None id at r told is found =
     let under = ap waits found ∙ ap (λ (o : Option SpanContext). waits_by o told.parent) is in
     let op = ops.Start (recorder_ids (r.started + 1) (ids_of told.parent)) in (
-      ap (λ (o : Option Context). told_at id (started_under o id at r).spans) under ∙ told_at_op id id at op r.spans
-          ∙ ap (λ (b : Bool). told_after b at op (told_at id r.spans)) (eq-eqb id id refl) ∙ ap (told_after true at op) found,
+      ap (λ (o : Option Context). data_at id (started_under o id at r).spans) under ∙ told_at_op id id at op r.spans
+          ∙ ap (λ (b : Bool). data_after b at op (data_at id r.spans)) (eq-eqb id id refl) ∙ ap (data_after true at op) found,
       ap (λ (o : Option Context). (started_under o id at r).started) under,
     )
 
-other_start : (under : Option Context) (id other at : ℕ) (r : Recording) → other ≢ id → told_at other (started_under under id at r).spans ≡ told_at other r.spans
+other_start : (under : Option Context) (id other at : ℕ) (r : Recording) → other ≢ id → data_at other (started_under under id at r).spans ≡ data_at other r.spans
 other_start None id other at r apart = refl
 other_start (Some under) id other at r apart =
     let op = ops.Start (recorder_ids (r.started + 1) (ids_of under)) in
-    told_at_op id other at op r.spans ∙ ap (λ (b : Bool). told_after b at op (told_at other r.spans)) (ne_eqb other id apart)
+    told_at_op id other at op r.spans ∙ ap (λ (b : Bool). data_after b at op (data_at other r.spans)) (ne_eqb other id apart)
 
 start_rest : (under : Option Context) (id at : ℕ) (r : Recording) → let t = started_under under id at r in (t.finished ≡ r.finished) × (t.tokens ≡ r.tokens) × (t.settings ≡ r.settings) × (t.counting ≡ r.counting)
 start_rest None id at r = (refl, refl, refl, refl)
 start_rest (Some under) id at r = (refl, refl, refl, refl)
 
-pub closes_span : (id at : ℕ) (r : Recording) (told : Told) → told_at id r.spans ≡ Some told → Closes id at r told (with_close id at r)
+pub closes_span : (id at : ℕ) (r : Recording) (told : SpanData) → data_at id r.spans ≡ Some told → Closes id at r told (with_close id at r)
 closes_span id at r told found =
     let s = with_start id at r in
     let own = own_start told.own id at r told refl found in
-    let rest = start_rest (waits (told_at id r.spans)) id at r in
+    let rest = start_rest (waits (data_at id r.spans)) id at r in
     let last = started_by told.own r.started at told in
-    let is : with_close id at r ≡ closed (Some last) id at s = ap (λ (o : Option Told). closed o id at s) own.0 in
+    let is : with_close id at r ≡ without_closed (Some last) id at s = ap (λ (o : Option SpanData). without_closed o id at s) own.0 in
     record {
       finished = ap (λ (t : Recording). t.finished) is ∙ ap (λ fs. fs ++ record_of last at ∷ []) rest.0;
       started = ap (λ (t : Recording). t.started) is ∙ own.1;
       tokens = ap (λ (t : Recording). t.tokens) is ∙ rest.1;
       settings = ap (λ (t : Recording). t.settings) is ∙ rest.2;
       counting = ap (λ (t : Recording). t.counting) is ∙ rest.3;
-      others = λ other apart. ap (λ (t : Recording). told_at other t.spans) is ∙ told_at_removed id other s.spans apart ∙ other_start (waits (told_at id r.spans)) id other at r apart;
+      others = λ other apart. ap (λ (t : Recording). data_at other t.spans) is ∙ told_at_removed id other s.spans apart ∙ other_start (waits (data_at id r.spans)) id other at r apart;
     }

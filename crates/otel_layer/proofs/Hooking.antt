@@ -19,49 +19,49 @@ use Rattle.otel_state.specs.declared.settings.LayerSettings.{LayerSettings}
 use Rattle.otel_state.specs.declared.update.Update.{Update}
 use Rattle.otel_state.specs.fields.FirstAttributes.{first_attributes}
 use Rattle.otel_state.specs.Stack.{last_passing}
-use Rattle.otel_state.specs.States.{Told, Room, HasRoom, begun, changed, record_of}
+use Rattle.otel_state.specs.States.{SpanData, Room, HasRoom, data_at_making, after_op, record_of}
 use Rattle.otel_layer.specs.declared.tokens.Token.{Token}
-use Rattle.otel_layer.specs.Table.{told_at, with_span, with_op, own_or, is_id, RoomFor}
+use Rattle.otel_layer.specs.Table.{data_at, with_span_data, with_op, own_or, is_id, RoomFor}
 use Rattle.otel_layer.specs.Core.{Core, is_token, is_number, keeps_as, kept_by, IsWholeCore}
-use Rattle.otel_layer.specs.Steps.{Starts, StartsAny, above, around, context_from, made_told, MakesSpan, EntersLane, EntersSpan, ClosesSpan}
-use Rattle.otel_layer.specs.Ready.{retimed}
+use Rattle.otel_layer.specs.Steps.{StartsSpan, StartsAny, parent_source, around, context_from, new_span_data, MakesSpan, EntersLane, EntersSpan, ClosesSpan}
+use Rattle.otel_layer.specs.Ready.{with_moment}
 use Rattle.otel_layer.specs.laws.CountsLemmas.{last_passes, last_counted}
 use Rattle.otel_layer.specs.laws.HookLemmas.{whole_kin, starts_kin, removed_length}
 
-pub makes : {T : Type 0} (does : T → TracerCall → T → Type 0) (c between added d : Core T) (id : ℕ) (lane : Lane) (at : ℕ) (place : Parent) (current : Option ℕ) (callsite : Callsite) (values : ValueSet) (source again first : Option ℕ) (active eager : Bool) (put : Parent) (context : Context) (told : Told)
-    → active ≡ c.settings.activation → put ≡ place → source ≡ above active put current → again ≡ source → StartsAny does again at c between → context ≡ context_from between.spans (around lane place) source
-    → told ≡ made_told callsite lane values context at c.settings c.counting → length c.spans < c.reserved → c.made + 1 < 2 ^ 62
-    → added ≡ record between { spans = with_span id told between.spans; made = between.made + 1 } → eager ≡ c.settings.eager → first ≡ (if eager then Some id else None) → StartsAny does first at added d
+pub makes : {T : Type 0} (does : T → TracerCall → T → Type 0) (c between added d : Core T) (id : ℕ) (lane : Lane) (at : ℕ) (place : Parent) (current : Option ℕ) (callsite : Callsite) (values : ValueSet) (source again first : Option ℕ) (active eager : Bool) (put : Parent) (context : Context) (told : SpanData)
+    → active ≡ c.settings.activation → put ≡ place → source ≡ parent_source active put current → again ≡ source → StartsAny does again at c between → context ≡ context_from between.spans (around lane place) source
+    → told ≡ new_span_data callsite lane values context at c.settings c.counting → length c.spans < c.reserved → c.made + 1 < 2 ^ 62
+    → added ≡ record between { spans = with_span_data id told between.spans; made = between.made + 1 } → eager ≡ c.settings.eager → first ≡ (if eager then Some id else None) → StartsAny does first at added d
     → MakesSpan does c id lane at place current callsite values d
 makes {T} does c between added d id lane at place current callsite values source again first active eager put context told is_active is_put is_source is_again starts is_context is_told spare few rest is_eager is_first begins =
-    let from = is_source ∙ ap (λ (p : Parent). above active p current) is_put ∙ ap (λ (b : Bool). above b place current) is_active in
+    let from = is_source ∙ ap (λ (p : Parent). parent_source active p current) is_put ∙ ap (λ (b : Bool). parent_source b place current) is_active in
     record {
       between = between;
       spare = spare;
       few = few;
       starts = subst (λ (o : Option ℕ). StartsAny does o at c between) (is_again ∙ from) starts;
       added = added;
-      rest = rest ∙ ap (λ (t : Told). let x : Core T = record between { spans = with_span id t between.spans; made = between.made + 1 } in x)
-          (is_told ∙ ap (λ (x : Context). made_told callsite lane values x at c.settings c.counting) (is_context ∙ ap (λ (o : Option ℕ). context_from between.spans (around lane place) o) from));
+      rest = rest ∙ ap (λ (t : SpanData). let x : Core T = record between { spans = with_span_data id t between.spans; made = between.made + 1 } in x)
+          (is_told ∙ ap (λ (x : Context). new_span_data callsite lane values x at c.settings c.counting) (is_context ∙ ap (λ (o : Option ℕ). context_from between.spans (around lane place) o) from));
       begins = subst (λ (o : Option ℕ). StartsAny does o at added d) (is_first ∙ ap (λ (b : Bool). if b then Some id else None) is_eager) begins;
     }
 
 -- a span that was just made, by what its fields write
-abbrev pub told_by : Callsite → Lane → Context → ℕ → LayerSettings → Bool → Update → Told
-told_by callsite lane context at settings counting update = changed
-    (begun (record { name = callsite.name; parent = context; made = at; first = first_attributes callsite lane settings; counting = counting; inactivity = settings.inactivity }))
+abbrev pub told_by : Callsite → Lane → Context → ℕ → LayerSettings → Bool → Update → SpanData
+told_by callsite lane context at settings counting update = after_op
+    (data_at_making (record { name = callsite.name; parent = context; made = at; first = first_attributes callsite lane settings; counting = counting; inactivity = settings.inactivity }))
     at
     (ops.Update update)
 
 pub enters : {T : Type 0} (does : T → TracerCall → T → Type 0) (c between put d : Core T) (id at : ℕ) (before later : Lane) (source : Option ℕ) (active : Bool) (attached : Option ℕ)
     → active ≡ c.settings.activation → source ≡ (if active then Some id else None) → StartsAny does source at c between → between.settings ≡ c.settings
-    → EntersLane between.settings.activation (own_or empty_context (told_at id between.spans)) before later attached
+    → EntersLane between.settings.activation (own_or empty_context (data_at id between.spans)) before later attached
     → later.id ≡ before.id → put ≡ record between { spans = with_op id at ops.Enter between.spans } → d ≡ record put { tokens = put.tokens ++ record { lane = later.id; id = id; attached = attached } ∷ [] } → EntersSpan does c id at before later d
 enters {T} does c between put d id at before later source active attached is_active is_source starts same lane lane_id is_put rest = record {
   between = between;
   attached = attached;
   starts = subst (λ (o : Option ℕ). StartsAny does o at c between) (is_source ∙ ap (λ (b : Bool). if b then Some id else None) is_active) starts;
-  lane = subst (λ (s : LayerSettings). EntersLane s.activation (own_or empty_context (told_at id between.spans)) before later attached) same lane;
+  lane = subst (λ (s : LayerSettings). EntersLane s.activation (own_or empty_context (data_at id between.spans)) before later attached) same lane;
   rest = rest ∙ ap (λ (x : Core T). let y : Core T = record x { tokens = x.tokens ++ record { lane = later.id; id = id; attached = attached } ∷ [] } in y) is_put
       ∙ ap (λ (l : ℕ). let y : Core T = record between { spans = with_op id at ops.Enter between.spans; tokens = between.tokens ++ record { lane = l; id = id; attached = attached } ∷ [] } in y) lane_id;
 }
@@ -82,7 +82,7 @@ leaves_still active tokens token id lane still last is =
 
 -- a close
 module _ {T : Type 0} (does : T → TracerCall → T → Type 0) (spare started : T → ℕ) (counts : (s : T) (call : TracerCall) (t : T) → does s call t → Spares (spare s) call (spare t) × CountsStarts (started s) call (started t)) where
-  pub close_spare : (c between : Core T) (id at : ℕ) (told : Told) → IsWholeCore spare started c → Starts does id at c between → told_at id between.spans ≡ Some told → (0 < spare between.tracer) × (0 < between.reserved)
+  pub close_spare : (c between : Core T) (id at : ℕ) (told : SpanData) → IsWholeCore spare started c → StartsSpan does id at c between → data_at id between.spans ≡ Some told → (0 < spare between.tracer) × (0 < between.reserved)
   close_spare c between id at told whole starts is =
       let w = whole_kin does spare started counts c between (starts_kin does spare started counts id at c between starts) whole in
       let n = removed_length id between.spans told is in
@@ -90,7 +90,7 @@ module _ {T : Type 0} (does : T → TracerCall → T → Type 0) (spare started 
       let b = w.rooms in
       (omega (arith, a, b, n), omega (arith, b, n))
 
-pub closes : {T : Type 0} (does : T → TracerCall → T → Type 0) (c between left d : Core T) (id at : ℕ) (told : Told) (span : Record) → Starts does id at c between → told_at id between.spans ≡ Some told → left ≡ record between { spans = remove_entry (is_id id) between.spans }
+pub closes : {T : Type 0} (does : T → TracerCall → T → Type 0) (c between left d : Core T) (id at : ℕ) (told : SpanData) (span : Record) → StartsSpan does id at c between → data_at id between.spans ≡ Some told → left ≡ record between { spans = remove_entry (is_id id) between.spans }
     → span ≡ record_of told at → does left.tracer (Finish span) d.tracer → d ≡ record left { tracer = d.tracer; reserved = left.reserved - 1 } → ClosesSpan does c id at d
 closes {T} does c between left d id at told span starts is removed is_record finishes rest = record {
   between = between;
@@ -106,7 +106,7 @@ pub op_is : {T : Type 0} (c d : Core T) (id at : ℕ) (op wanted : Op) → op �
 op_is {T} c d id at op wanted is rest = rest ∙ ap (λ (o : Op). let x : Core T = record c { spans = with_op id at o c.spans } in x) is
 
 -- an event's op at another moment takes the same room
-room_of_retimed : (room : Room) (at : ℕ) (op : Op) → HasRoom room op → HasRoom room (retimed at op)
+room_of_retimed : (room : Room) (at : ℕ) (op : Op) → HasRoom room op → HasRoom room (with_moment at op)
 room_of_retimed room at (ops.Event is_error update event) h = record { attributes = h.attributes; events = h.events; links = h.links }
 room_of_retimed room at (ops.Update update) h = h
 room_of_retimed room at ops.Counted h = h
@@ -119,5 +119,5 @@ room_of_retimed room at (ops.Start own) h = h
 room_of_retimed room at ops.Enter h = h
 room_of_retimed room at ops.Exit h = h
 
-pub room_retimed : (id at : ℕ) (op timed : Op) (rooms : List (ℕ × Room)) → timed ≡ retimed at op → RoomFor id op rooms → RoomFor id timed rooms
+pub room_retimed : (id at : ℕ) (op timed : Op) (rooms : List (ℕ × Room)) → timed ≡ with_moment at op → RoomFor id op rooms → RoomFor id timed rooms
 room_retimed id at op timed rooms is room = subst (λ (o : Op). RoomFor id o rooms) (sym is) (λ r found. room_of_retimed r at op (room r found))

@@ -8,28 +8,28 @@ use Rattle.otel_base.specs.declared.context.Context.{Context}
 use Rattle.otel_base.specs.declared.context.SpanContext.{SpanContext}
 use Rattle.otel_base.specs.declared.record.Record.{Record}
 use Rattle.otel_base.specs.Ids.{ids_of}
-use Rattle.otel_base.specs.Recorder.{Recorded}
+use Rattle.otel_base.specs.Recorder.{RecorderValue}
 use Rattle.otel_base.specs.Recorder.{Records as RecordsBy}
 use Rattle.otel_base.specs.RecorderIds.{recorder_ids}
-use Rattle.otel_base.specs.Stack.{without, empty_context}
+use Rattle.otel_base.specs.Stack.{without_number, empty_context}
 use Rattle.trace_base.specs.declared.lane.Lane.{Lane}
 use Rattle.trace_base.specs.layers.Hooks.{Hook, OnNewSpan, OnRecord, OnFollows, OnEvent, OnEnter, OnExit, OnClose}
 use Rattle.otel_state.specs.declared.op.Op.TheVariants as ops
-use Rattle.otel_state.specs.States.{Told, record_of}
+use Rattle.otel_state.specs.States.{SpanData, record_of}
 use Rattle.otel_layer.specs.Core.{Core}
-use Rattle.otel_layer.specs.Steps.{Reserves, SameCore, StartsIf, Starts, StartsAny, above, MakesSpan, FollowsSpan, EntersLane, LeavesLane, EntersSpan, ExitsSpan, ClosesSpan, IfKnown, all_events, Step, DoesHook}
-use Rattle.otel_layer.specs.Table.{told_at, knows_span, with_op, waits, waits_by, own_or, is_id}
-use Rattle.otel_layer.specs.Recording.{Recording, recording_of, with_applied, started_under, with_start, with_starts, made_under, with_made, linked, with_follow, source_of, entered, with_entry, closed, closed_started, with_close, Attaches, Detaches, Enters, Exits, Stays, RecordsHook}
+use Rattle.otel_layer.specs.Steps.{Reserves, SameCore, StartsIf, StartsSpan, StartsAny, parent_source, MakesSpan, FollowsSpan, EntersLane, DetachesOwn, EntersSpan, ExitsSpan, ClosesSpan, IfKnown, all_events, Step, DoesHook}
+use Rattle.otel_layer.specs.Table.{data_at, knows_span, with_op, waits, waits_by, own_or, is_id}
+use Rattle.otel_layer.specs.Recording.{Recording, recording_of, with_applied, started_under, with_start, with_starts, made_under, with_new_recorded, with_started_link, with_follow, source_of, with_entry_op, with_entry, without_closed, closed_started, with_close, AttachesOwn, Detaches, Enters, Exits, Stays, RecordsHook}
 
 -- ---- room
 
-reserves_finished : (n : ℕ) (s t : Recorded) → Reserves RecordsBy n s t → (t.finished ≡ s.finished) × (t.started ≡ s.started)
-reserves_finished zero s t h = (ap (λ (r : Recorded). r.finished) h, ap (λ (r : Recorded). r.started) h)
+reserves_finished : (n : ℕ) (s t : RecorderValue) → Reserves RecordsBy n s t → (t.finished ≡ s.finished) × (t.started ≡ s.started)
+reserves_finished zero s t h = (ap (λ (r : RecorderValue). r.finished) h, ap (λ (r : RecorderValue). r.started) h)
 reserves_finished (suc n) s t h =
     let rest = reserves_finished n h.0 t h.2 in
-    (rest.0 ∙ ap (λ (r : Recorded). r.finished) h.1, rest.1 ∙ ap (λ (r : Recorded). r.started) h.1)
+    (rest.0 ∙ ap (λ (r : RecorderValue). r.finished) h.1, rest.1 ∙ ap (λ (r : RecorderValue). r.started) h.1)
 
-pub room_recording : (c d : Core Recorded) → SameCore RecordsBy c d → recording_of d ≡ recording_of c
+pub room_recording : (c d : Core RecorderValue) → SameCore RecordsBy c d → recording_of d ≡ recording_of c
 room_recording c d h =
     let t = reserves_finished h.count c.tracer d.tracer h.reserves in
     ap recording_of h.rest
@@ -38,42 +38,42 @@ room_recording c d h =
 
 -- ---- starts
 
-if_recording : (under : Option Context) (id at : ℕ) (c d : Core Recorded) → StartsIf RecordsBy under id at c d → recording_of d ≡ started_under under id at (recording_of c)
+if_recording : (under : Option Context) (id at : ℕ) (c d : Core RecorderValue) → StartsIf RecordsBy under id at c d → recording_of d ≡ started_under under id at (recording_of c)
 if_recording None id at c d h = ap recording_of h
 if_recording (Some under) id at c d h =
     ap recording_of h.2
-    ∙ ap (λ (t : Recorded). let x : Recording = record (recording_of c) { started = t.started; finished = t.finished; spans = with_op id at (ops.Start h.0) c.spans } in x) h.1.1
+    ∙ ap (λ (t : RecorderValue). let x : Recording = record (recording_of c) { started = t.started; finished = t.finished; spans = with_op id at (ops.Start h.0) c.spans } in x) h.1.1
     ∙ ap (λ (own : SpanContext). let x : Recording = record (recording_of c) { started = c.tracer.started + 1; spans = with_op id at (ops.Start own) c.spans } in x) h.1.0
 
-pub start_recording : (id at : ℕ) (c d : Core Recorded) → Starts RecordsBy id at c d → recording_of d ≡ with_start id at (recording_of c)
-start_recording id at c d h = if_recording (waits (told_at id c.spans)) id at c d h
+pub start_recording : (id at : ℕ) (c d : Core RecorderValue) → StartsSpan RecordsBy id at c d → recording_of d ≡ with_start id at (recording_of c)
+start_recording id at c d h = if_recording (waits (data_at id c.spans)) id at c d h
 
-starts_recording : (o : Option ℕ) (at : ℕ) (c d : Core Recorded) → StartsAny RecordsBy o at c d → recording_of d ≡ with_starts o at (recording_of c)
+starts_recording : (o : Option ℕ) (at : ℕ) (c d : Core RecorderValue) → StartsAny RecordsBy o at c d → recording_of d ≡ with_starts o at (recording_of c)
 starts_recording None at c d h = ap recording_of h
 starts_recording (Some id) at c d h = start_recording id at c d h
 
 -- ---- lanes
 
-attaches : (active : Bool) (own : Context) (before later : Lane) (attached : Option ℕ) → EntersLane active own before later attached → Attaches active own before later attached
+attaches : (active : Bool) (own : Context) (before later : Lane) (attached : Option ℕ) → EntersLane active own before later attached → AttachesOwn active own before later attached
 attaches true own before later attached h = record { number = h.number; is = h.is; fresh = h.fresh; live = h.live }
 attaches false own before later attached h = (ap (λ (l : Lane). l.contexts.live) h.0, h.1)
 
-detaches : (o : Option ℕ) (before later : Lane) → LeavesLane o before later → Detaches o before later
+detaches : (o : Option ℕ) (before later : Lane) → DetachesOwn o before later → Detaches o before later
 detaches None before later h = ap (λ (l : Lane). l.contexts.live) h
 detaches (Some number) before later h = h.live
 
-enters : (c d : Core Recorded) (id at : ℕ) (before later : Lane) → EntersSpan RecordsBy c id at before later d → Enters (recording_of c) id at before later (recording_of d)
+enters : (c d : Core RecorderValue) (id at : ℕ) (before later : Lane) → EntersSpan RecordsBy c id at before later d → Enters (recording_of c) id at before later (recording_of d)
 enters c d id at before later h =
     let active = c.settings.activation in
     let between = starts_recording (source_of active id) at c h.between h.starts in
     record {
       attached = h.attached;
-      lane = subst (λ (r : Recording). Attaches active (own_or empty_context (told_at id r.spans)) before later h.attached) between
-          (attaches active (own_or empty_context (told_at id h.between.spans)) before later h.attached h.lane);
-      is = ap recording_of h.rest ∙ ap (λ (r : Recording). entered id before.id at h.attached r) between;
+      lane = subst (λ (r : Recording). AttachesOwn active (own_or empty_context (data_at id r.spans)) before later h.attached) between
+          (attaches active (own_or empty_context (data_at id h.between.spans)) before later h.attached h.lane);
+      is = ap recording_of h.rest ∙ ap (λ (r : Recording). with_entry_op id before.id at h.attached r) between;
     }
 
-exits : (c d : Core Recorded) (id at : ℕ) (before later : Lane) → ExitsSpan c id at before later d → Exits (recording_of c) id at before later (recording_of d)
+exits : (c d : Core RecorderValue) (id at : ℕ) (before later : Lane) → ExitsSpan c id at before later d → Exits (recording_of c) id at before later (recording_of d)
 exits c d id at before later h = record {
   token = h.token;
   last = h.last;
@@ -81,40 +81,40 @@ exits c d id at before later h = record {
   is = ap recording_of h.rest;
 }
 
-stays : (c d : Core Recorded) (before later : Lane) → (d ≡ c) × (later ≡ before) → Stays (recording_of c) before later (recording_of d)
+stays : (c d : Core RecorderValue) (before later : Lane) → (d ≡ c) × (later ≡ before) → Stays (recording_of c) before later (recording_of d)
 stays c d before later h = (ap recording_of h.0, ap (λ (l : Lane). l.contexts.live) h.1)
 
 -- ---- a close
 
-none_of : (o : Option Told) → is_some o ≡ false → o ≡ None
+none_of : (o : Option SpanData) → is_some o ≡ false → o ≡ None
 none_of None h = refl
 none_of (Some told) h = absurd (true≢false h)
 
-pub untold : (id : ℕ) (spans : List (ℕ × Told)) → knows_span id spans ≡ false → told_at id spans ≡ None
-untold id spans h = none_of (told_at id spans) (is_some-lookup (is_id id) spans ∙ h)
+pub untold : (id : ℕ) (spans : List (ℕ × SpanData)) → knows_span id spans ≡ false → data_at id spans ≡ None
+untold id spans h = none_of (data_at id spans) (is_some-lookup (is_id id) spans ∙ h)
 
-closes_known : (c d : Core Recorded) (id at : ℕ) → ClosesSpan RecordsBy c id at d → recording_of d ≡ with_close id at (recording_of c)
+closes_known : (c d : Core RecorderValue) (id at : ℕ) → ClosesSpan RecordsBy c id at d → recording_of d ≡ with_close id at (recording_of c)
 closes_known c d id at h =
     let b = h.between in
     ap recording_of h.rest
-    ∙ ap (λ (t : Recorded). let x : Recording = record (recording_of b) { spans = remove_entry (is_id id) b.spans; started = t.started; finished = t.finished } in x) h.finishes.1
-    ∙ ap (λ (o : Option Told). closed o id at (recording_of b)) (sym h.is)
+    ∙ ap (λ (t : RecorderValue). let x : Recording = record (recording_of b) { spans = remove_entry (is_id id) b.spans; started = t.started; finished = t.finished } in x) h.finishes.1
+    ∙ ap (λ (o : Option SpanData). without_closed o id at (recording_of b)) (sym h.is)
     ∙ ap (closed_started id at) (start_recording id at c b h.starts)
 
-closes_unknown : (o : Option Told) (r : Recording) (id at : ℕ) → o ≡ told_at id r.spans → o ≡ None → with_close id at r ≡ r
+closes_unknown : (o : Option SpanData) (r : Recording) (id at : ℕ) → o ≡ data_at id r.spans → o ≡ None → with_close id at r ≡ r
 closes_unknown o r id at is none =
     let gone = sym is ∙ none in
-    ap (λ (t : Option Told). closed_started id at (started_under (waits t) id at r)) gone ∙ ap (λ (t : Option Told). closed t id at r) gone
+    ap (λ (t : Option SpanData). closed_started id at (started_under (waits t) id at r)) gone ∙ ap (λ (t : Option SpanData). without_closed t id at r) gone
 
 -- ---- all hooks
 
-step_recording : (c : Core Recorded) (hook : Hook) (d : Core Recorded) → Step RecordsBy all_events c hook d → RecordsHook (recording_of c) hook (recording_of d)
+step_recording : (c : Core RecorderValue) (hook : Hook) (d : Core RecorderValue) → Step RecordsBy all_events c hook d → RecordsHook (recording_of c) hook (recording_of d)
 step_recording c (OnNewSpan id lane at place current callsite values) d h =
-    let source = above c.settings.activation place current in
+    let source = parent_source c.settings.activation place current in
     starts_recording (source_of c.settings.eager id) at h.added d h.begins
     ∙ ap (with_starts (source_of c.settings.eager id) at) (ap recording_of h.rest ∙ ap (made_under source id lane at place callsite values c.settings c.counting) (starts_recording source at c h.between h.starts))
 step_recording c (OnRecord id at callsite values) d h = ap recording_of h
-step_recording c (OnFollows id from at) d h = ap recording_of h.rest ∙ ap (linked id from at) (start_recording from at c h.between h.starts)
+step_recording c (OnFollows id from at) d h = ap recording_of h.rest ∙ ap (with_started_link id from at) (start_recording from at c h.between h.starts)
 step_recording c (OnEvent None lane at callsite values) d h = ap recording_of h
 step_recording c (OnEvent (Some id) lane at callsite values) d h = ap recording_of h
 step_recording c (OnEnter id at before later) d h = record {
@@ -128,9 +128,9 @@ step_recording c (OnExit id at before later) d h = record {
 step_recording c (OnClose id at) d h =
     elim (cases_Bool (knows_span id c.spans)) [
       | inl known ↦ closes_known c d id at (h.is_known known)
-      | inr unknown ↦ ap recording_of (h.isnt unknown) ∙ sym (closes_unknown (told_at id c.spans) (recording_of c) id at refl (untold id c.spans unknown))
+      | inr unknown ↦ ap recording_of (h.isnt unknown) ∙ sym (closes_unknown (data_at id c.spans) (recording_of c) id at refl (untold id c.spans unknown))
     ]
 
-pub hook_recording : (c : Core Recorded) (hook : Hook) (d : Core Recorded) → DoesHook RecordsBy all_events c hook d → RecordsHook (recording_of c) hook (recording_of d)
+pub hook_recording : (c : Core RecorderValue) (hook : Hook) (d : Core RecorderValue) → DoesHook RecordsBy all_events c hook d → RecordsHook (recording_of c) hook (recording_of d)
 hook_recording c hook d h =
     subst (λ (r : Recording). RecordsHook r hook (recording_of d)) (room_recording c h.prepared h.room) (step_recording h.prepared hook d h.step)

@@ -4,49 +4,49 @@ use Rattle.std.specs.Prelude.{◌==◌, if◌then◌else◌, fold}
 use Rattle.std.specs.Option.{option_map_or}
 use Rattle.std.proofs.lemmas.Bool.{cases_eq, cases_Bool, true≢false, eq-eqb, ne_eqb, cond-true, cond-false}
 use Rattle.otel_base.specs.declared.context.Context.{Context}
-use Rattle.otel_base.specs.Recorder.{Recorded}
+use Rattle.otel_base.specs.Recorder.{RecorderValue}
 use Rattle.otel_base.specs.Recorder.{Records as RecordsBy}
-use Rattle.otel_base.specs.Stack.{has, without, empty_context}
+use Rattle.otel_base.specs.Stack.{has_number, without_number, empty_context}
 use Rattle.trace_base.specs.declared.lane.Lane.{Lane}
 use Rattle.trace_base.specs.Gate.{Worlds}
 use Rattle.trace_base.specs.layers.Hooks.{Hook}
 use Rattle.trace_base.specs.Spans.{Spans, next_of, span_at}
-use Rattle.trace_base.specs.Calls.{SubscriberCall, NewSpan, Records, Follows, Event, Enter, Exit, CloneSpan, TryClose, after}
+use Rattle.trace_base.specs.Calls.{SubscriberCall, NewSpan, Records, Follows, Event, Enter, Exit, CloneSpan, TryClose, spans_after_call}
 use Rattle.trace_base.specs.Conditions.{Allowed}
 use Rattle.span_registry.specs.declared.layered.Layered.{Layered}
 use Rattle.span_registry.specs.Both.{DoesBoth, InStep}
 use Rattle.span_registry.specs.Layering.{both_allowed, both_shows}
-use Rattle.span_registry.specs.Registering.{Registered, DoesRegistry}
-use Rattle.span_handles.specs.Worlds.{Replaced, seen, Chain, ended, closes, all_released, releases, closed_in, no_spans}
+use Rattle.span_registry.specs.Registering.{RegistryValue, DoesRegistry}
+use Rattle.span_handles.specs.Worlds.{Replaced, member_of, Chain, ended, closes, all_released, releases, closed_in, no_spans}
 use Rattle.span_handles.proofs.Showing.{seen_before, seen_later}
 use Rattle.otel_state.specs.Stack.{last_passing}
-use Rattle.otel_layer.specs.Core.{Core, Roomed, is_token, seen_in}
+use Rattle.otel_layer.specs.Core.{Core, CoreWithRoom, is_token, seen_in}
 use Rattle.otel_layer.specs.Parts.{PartCall, Applies, Shows, Touches, TouchesFirst, TouchesNone}
 use Rattle.otel_layer.specs.Steps.{IfKnown, SameCore, DoesHook, all_events}
-use Rattle.otel_layer.specs.Table.{told_at, knows_span, own_or}
-use Rattle.otel_layer.specs.Recording.{Recording, recording_of, no_recording, with_starts, source_of, with_entry, with_exit, with_close, Attaches, Detaches, Enters, Exits, Stays, RecordsCall, RecordsChain, RecordsPart, recorded}
+use Rattle.otel_layer.specs.Table.{data_at, knows_span, own_or}
+use Rattle.otel_layer.specs.Recording.{Recording, recording_of, no_recording, with_starts, source_of, with_entry, with_exit, with_close, AttachesOwn, Detaches, Enters, Exits, Stays, RecordsCall, RecordsChain, RecordsPart, layer_recording}
 use Rattle.otel_layer.proofs.Finding.{told_at_next}
 use Rattle.otel_layer.proofs.Recalling.{room_recording, start_recording, hook_recording}
 
 -- ---- a lane with the same id and contexts
 
-attaches_from : (active : Bool) (own : Context) (between before later : Lane) (attached : Option ℕ) → between.contexts.live ≡ before.contexts.live → Attaches active own between later attached → Attaches active own before later attached
+attaches_from : (active : Bool) (own : Context) (between before later : Lane) (attached : Option ℕ) → between.contexts.live ≡ before.contexts.live → AttachesOwn active own between later attached → AttachesOwn active own before later attached
 attaches_from true own between before later attached e h = record {
   number = h.number;
   is = h.is;
-  fresh = ap (has h.number) (sym e) ∙ h.fresh;
+  fresh = ap (has_number h.number) (sym e) ∙ h.fresh;
   live = h.live ∙ ap (λ (live : List (ℕ × Context)). live ++ (h.number, own) ∷ []) e;
 }
 attaches_from false own between before later attached e h = (h.0 ∙ e, h.1)
 
 detaches_from : (o : Option ℕ) (between before later : Lane) → between.contexts.live ≡ before.contexts.live → Detaches o between later → Detaches o before later
 detaches_from None between before later e h = h ∙ e
-detaches_from (Some number) between before later e h = h ∙ ap (without number) e
+detaches_from (Some number) between before later e h = h ∙ ap (without_number number) e
 
 enters_from : (r : Recording) (id at : ℕ) (between before later : Lane) (t : Recording) → between.id ≡ before.id → between.contexts.live ≡ before.contexts.live → Enters r id at between later t → Enters r id at before later t
 enters_from r id at between before later t i e h = record {
   attached = h.attached;
-  lane = attaches_from r.settings.activation (own_or empty_context (told_at id (with_starts (source_of r.settings.activation id) at r).spans)) between before later h.attached e h.lane;
+  lane = attaches_from r.settings.activation (own_or empty_context (data_at id (with_starts (source_of r.settings.activation id) at r).spans)) between before later h.attached e h.lane;
   is = h.is ∙ ap (λ (lane : ℕ). with_entry id lane at h.attached r) i;
 }
 
@@ -60,22 +60,22 @@ exits_from r id at between before later t i e h = record {
 
 -- ---- the layer straight over the registry
 
-abbrev outer : Roomed Recorded → Hook → Roomed Recorded → Type 0
+abbrev outer : CoreWithRoom RecorderValue → Hook → CoreWithRoom RecorderValue → Type 0
 outer l hook m = DoesHook RecordsBy all_events l.core hook m.core
 
-abbrev same_layer : Roomed Recorded → Roomed Recorded → Type 0
+abbrev same_layer : CoreWithRoom RecorderValue → CoreWithRoom RecorderValue → Type 0
 same_layer l m = SameCore RecordsBy l.core m.core
 
-abbrev spans_of : Registered → Spans
+abbrev spans_of : RegistryValue → Spans
 spans_of s = s.spans
 
-abbrev active : Roomed Recorded → Bool
+abbrev active : CoreWithRoom RecorderValue → Bool
 active l = l.core.settings.activation
 
-abbrev Does : Registered → Roomed Recorded → SubscriberCall → Registered → Roomed Recorded → Type 0
+abbrev Does : RegistryValue → CoreWithRoom RecorderValue → SubscriberCall → RegistryValue → CoreWithRoom RecorderValue → Type 0
 Does s l call t m = DoesBoth spans_of DoesRegistry outer same_layer active s l call t m
 
-both_recording : (s : Registered) (l : Roomed Recorded) (call : SubscriberCall) (t : Registered) (m : Roomed Recorded) → Does s l call t m → RecordsCall s.spans (recording_of l.core) call (recording_of m.core)
+both_recording : (s : RegistryValue) (l : CoreWithRoom RecorderValue) (call : SubscriberCall) (t : RegistryValue) (m : CoreWithRoom RecorderValue) → Does s l call t m → RecordsCall s.spans (recording_of l.core) call (recording_of m.core)
 both_recording s l (NewSpan lane at place site callsite values) t m d = hook_recording _ _ _ d.1
 both_recording s l (Records id at callsite values) t m d = hook_recording _ _ _ d.1
 both_recording s l (Follows id from at) t m d = hook_recording _ _ _ d.1
@@ -111,18 +111,18 @@ both_recording s l (TryClose id at) t m d =
 
 module _ {S : Type 0} (spans : S → Spans) (does : S → SubscriberCall → S → Type 0) (read : S → Recording) (reads : (s : S) (call : SubscriberCall) (t : S) → does s call t → RecordsCall (spans s) (read s) call (read t)) where
   pub call_recording : (old new : Worlds S) (dispatch : ℕ) (call : SubscriberCall) → Replaced (λ s t. does s call t) old new dispatch
-      → RecordsCall (seen spans no_spans old dispatch) (seen read no_recording old dispatch) call (seen read no_recording new dispatch)
+      → RecordsCall (member_of spans no_spans old dispatch) (member_of read no_recording old dispatch) call (member_of read no_recording new dispatch)
   call_recording old new dispatch call r =
       let R : S → S → Type 0 = λ s t. does s call t in
       rw (seen_before R old new dispatch r spans no_spans, seen_before R old new dispatch r read no_recording, seen_later R old new dispatch r read no_recording) (reads r.before call r.later r.did)
 
-  module _ (allowed : (s : S) (call : SubscriberCall) (t : S) → does s call t → Allowed (spans s) call) (shows : (s : S) (call : SubscriberCall) (t : S) → does s call t → spans t ≡ after (spans s) call) (at : ℕ) where
+  module _ (allowed : (s : S) (call : SubscriberCall) (t : S) → does s call t → Allowed (spans s) call) (shows : (s : S) (call : SubscriberCall) (t : S) → does s call t → spans t ≡ spans_after_call (spans s) call) (at : ℕ) where
     chained : (next : Option ℕ) (s t : S) → Chain spans does at next s t → (x : Spans) → x ≡ spans s → RecordsChain at next x (spans t) (read s) (read t)
     chained _ _ _ (ended s) x is = subst (λ (z : Spans). RecordsChain at None z (spans s) (read s) (read s)) (sym is) (record { chain = all_released (spans s); is = refl })
     chained _ _ _ (closes id s m t did rest) x is =
         subst (λ (z : Spans). RecordsChain at (Some id) z (spans t) (read s) (read t)) (sym is)
         (let next = next_of (spans s).made id in
-        let x' = after (spans s) (TryClose id at) in
+        let x' = spans_after_call (spans s) (TryClose id at) in
         let more = chained next m t rest x' (sym (shows s (TryClose id at) m did)) in
         let says = reads s (TryClose id at) m did in
         let holds = (span_at (spans s).made id).holds in
@@ -141,17 +141,17 @@ module _ {S : Type 0} (spans : S → Spans) (does : S → SubscriberCall → S �
         })
 
     pub chain_recording : (old new : Worlds S) (dispatch id : ℕ) → Replaced (λ s t. Chain spans does at (Some id) s t) old new dispatch
-        → RecordsChain at (Some id) (seen spans no_spans old dispatch) (seen spans no_spans new dispatch) (seen read no_recording old dispatch) (seen read no_recording new dispatch)
+        → RecordsChain at (Some id) (member_of spans no_spans old dispatch) (member_of spans no_spans new dispatch) (member_of read no_recording old dispatch) (member_of read no_recording new dispatch)
     chain_recording old new dispatch id r =
         let R : S → S → Type 0 = λ s t. Chain spans does at (Some id) s t in
         rw (seen_before R old new dispatch r spans no_spans, seen_later R old new dispatch r spans no_spans, seen_before R old new dispatch r read no_recording, seen_later R old new dispatch r read no_recording)
         (chained (Some id) r.before r.later r.did (spans r.before) refl)
 
-pub layered_recording : (s : Layered (Roomed Recorded) Registered) (call : SubscriberCall) (t : Layered (Roomed Recorded) Registered) → Does s.inner s.layer call t.inner t.layer → RecordsCall s.inner.spans (recorded s) call (recorded t)
+pub layered_recording : (s : Layered (CoreWithRoom RecorderValue) RegistryValue) (call : SubscriberCall) (t : Layered (CoreWithRoom RecorderValue) RegistryValue) → Does s.inner s.layer call t.inner t.layer → RecordsCall s.inner.spans (layer_recording s) call (layer_recording t)
 layered_recording s call t d = both_recording s.inner s.layer call t.inner t.layer d
 
 abbrev Stack : Type 0
-Stack = Layered (Roomed Recorded) Registered
+Stack = Layered (CoreWithRoom RecorderValue) RegistryValue
 
 abbrev stack_spans : Stack → Spans
 stack_spans s = s.inner.spans
@@ -163,39 +163,39 @@ stack_allowed : (s : Stack) (call : SubscriberCall) (t : Stack) → StackDoes s 
 stack_allowed s call t d =
     both_allowed spans_of DoesRegistry outer same_layer active s.inner t.inner s.layer t.layer call (λ c h. h.allowed) d
 
-stack_shows : (s : Stack) (call : SubscriberCall) (t : Stack) → StackDoes s call t → stack_spans t ≡ after (stack_spans s) call
+stack_shows : (s : Stack) (call : SubscriberCall) (t : Stack) → StackDoes s call t → stack_spans t ≡ spans_after_call (stack_spans s) call
 stack_shows s call t d =
     both_shows spans_of DoesRegistry outer same_layer active s.inner t.inner s.layer t.layer call (λ c h. h.shows) d
 
 pub stack_chain : (at : ℕ) (old new : Worlds Stack) (dispatch id : ℕ) → Replaced (λ s t. Chain stack_spans StackDoes at (Some id) s t) old new dispatch
-    → RecordsChain at (Some id) (seen stack_spans no_spans old dispatch) (seen stack_spans no_spans new dispatch) (seen recorded no_recording old dispatch) (seen recorded no_recording new dispatch)
-stack_chain at old new dispatch id r = chain_recording stack_spans StackDoes recorded layered_recording stack_allowed stack_shows at old new dispatch id r
+    → RecordsChain at (Some id) (member_of stack_spans no_spans old dispatch) (member_of stack_spans no_spans new dispatch) (member_of layer_recording no_recording old dispatch) (member_of layer_recording no_recording new dispatch)
+stack_chain at old new dispatch id r = chain_recording stack_spans StackDoes layer_recording layered_recording stack_allowed stack_shows at old new dispatch id r
 
 -- room is taken
 pub same_recording : (old new : Worlds Stack) (dispatch : ℕ) → Replaced (λ s t. (t.inner ≡ s.inner) × same_layer s.layer t.layer) old new dispatch
-    → seen recorded no_recording new dispatch ≡ seen recorded no_recording old dispatch
+    → member_of layer_recording no_recording new dispatch ≡ member_of layer_recording no_recording old dispatch
 same_recording old new dispatch r =
     let R : Stack → Stack → Type 0 = λ s t. (t.inner ≡ s.inner) × same_layer s.layer t.layer in
-    seen_later R old new dispatch r recorded no_recording ∙ room_recording r.before.layer.core r.later.layer.core r.did.1 ∙ sym (seen_before R old new dispatch r recorded no_recording)
+    seen_later R old new dispatch r layer_recording no_recording ∙ room_recording r.before.layer.core r.later.layer.core r.did.1 ∙ sym (seen_before R old new dispatch r layer_recording no_recording)
 
 -- no span is known yet under the id of the next one
 pub next_untold : (world : Worlds Stack) (dispatch : ℕ) (s : Stack) → slice_get world.subscribers dispatch ≡ Some s → InStep s.inner.spans (seen_in s.layer.core)
-    → told_at (length (seen stack_spans no_spans world dispatch).made) (seen recorded no_recording world dispatch).spans ≡ None
+    → data_at (length (member_of stack_spans no_spans world dispatch).made) (member_of layer_recording no_recording world dispatch).spans ≡ None
 next_untold world dispatch s there step =
     let spans = ap (λ (o : Option Stack). option_map_or stack_spans o no_spans) there in
-    let own = ap (λ (o : Option Stack). option_map_or recorded o no_recording) there in
+    let own = ap (λ (o : Option Stack). option_map_or layer_recording o no_recording) there in
     rw (spans, own) (told_at_next (length s.inner.spans.made) s.layer.core.spans (step.made (length s.inner.spans.made)))
 
 -- a call from outside
-part_recording : (c : Core Recorded) (call : PartCall) (d : Core Recorded) → Touches RecordsBy c call d → RecordsPart (recording_of c) call (recording_of d)
+part_recording : (c : Core RecorderValue) (call : PartCall) (d : Core RecorderValue) → Touches RecordsBy c call d → RecordsPart (recording_of c) call (recording_of d)
 part_recording c (Applies id at op answer) d h = (h.1, ap recording_of h.2)
 part_recording c (Shows id at answer) d h = (start_recording id at c d h.0, h.1)
 
 abbrev StackTouches : Stack → PartCall → Stack → Type 0
-StackTouches s call t = TouchesFirst true (λ (l : Roomed Recorded) (c : PartCall) (m : Roomed Recorded). Touches RecordsBy l.core c m.core) (λ (x : Registered) (c : PartCall) (y : Registered). TouchesNone x c y) s.layer s.inner call t.layer t.inner
+StackTouches s call t = TouchesFirst true (λ (l : CoreWithRoom RecorderValue) (c : PartCall) (m : CoreWithRoom RecorderValue). Touches RecordsBy l.core c m.core) (λ (x : RegistryValue) (c : PartCall) (y : RegistryValue). TouchesNone x c y) s.layer s.inner call t.layer t.inner
 
 pub asks_recording : (old new : Worlds Stack) (dispatch : ℕ) (call : PartCall) → Replaced (λ s t. StackTouches s call t) old new dispatch
-    → RecordsPart (seen recorded no_recording old dispatch) call (seen recorded no_recording new dispatch)
+    → RecordsPart (member_of layer_recording no_recording old dispatch) call (member_of layer_recording no_recording new dispatch)
 asks_recording old new dispatch call r =
     let R : Stack → Stack → Type 0 = λ s t. StackTouches s call t in
-    rw (seen_before R old new dispatch r recorded no_recording, seen_later R old new dispatch r recorded no_recording) (part_recording r.before.layer.core call r.later.layer.core r.did.0)
+    rw (seen_before R old new dispatch r layer_recording no_recording, seen_later R old new dispatch r layer_recording no_recording) (part_recording r.before.layer.core call r.later.layer.core r.did.0)

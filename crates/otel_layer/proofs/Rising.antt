@@ -8,26 +8,26 @@ use Rattle.std.proofs.lemmas.Bool.{cases_Bool, cond-true, cond-false, lt-ltb, lt
 use Rattle.std.proofs.lemmas.List.{map-append}
 use Rattle.std.proofs.lemmas.List.Sums.{position_or_len_is}
 use Rattle.otel_layer.specs.declared.table.Entry.{Entry}
-use Rattle.otel_layer.specs.Table.{Rises, MayRise, RisesTo, IsKept, is_of, is_id, ids, with_read, tolds, knows_span}
+use Rattle.otel_layer.specs.Table.{IdsRise, MayRise, RisesTo, IsKept, is_of_id, is_id, entry_ids, with_entry_read, all_data, knows_span}
 use Rattle.otel_layer.proofs.Gaps.{read_added, removed_count}
-use Rattle.otel_state.specs.States.{Told, Kept}
+use Rattle.otel_state.specs.States.{SpanData, StateValue}
 
 -- ---- what keeps ids keeps them rising
 
-pub same_rise : (rising : Bool) (old new : List Entry) → ids new ≡ ids old → MayRise rising old → MayRise rising new
-same_rise rising old new e h = λ is. subst (λ (ks : List ℕ). Rises 0 ks) (sym e) (h is)
+pub same_rise : (rising : Bool) (old new : List Entry) → entry_ids new ≡ entry_ids old → MayRise rising old → MayRise rising new
+same_rise rising old new e h = λ is. subst (λ (ks : List ℕ). IdsRise 0 ks) (sym e) (h is)
 
-lower : (least less : ℕ) (ks : List ℕ) → less ≤ least → Rises least ks → Rises less ks
+lower : (least less : ℕ) (ks : List ℕ) → less ≤ least → IdsRise least ks → IdsRise less ks
 lower least less [] le h = tt
 lower least less (k ∷ ks) le h = (let a = h.0 in omega (arith, le, a), h.1)
 
-filtered : (test : Entry → Bool) (least : ℕ) (xs : List Entry) → Rises least (ids xs) → Rises least (ids (filter test xs))
+filtered : (test : Entry → Bool) (least : ℕ) (xs : List Entry) → IdsRise least (entry_ids xs) → IdsRise least (entry_ids (filter test xs))
 filtered test least [] h = tt
 filtered test least (x ∷ xs) h =
-    let Goal : List Entry → Type 0 = λ es. Rises least (ids es) in
+    let Goal : List Entry → Type 0 = λ es. IdsRise least (entry_ids es) in
     elim (cases_Bool (test x)) [
       | inl here ↦ subst Goal (sym (cond-true {A = List Entry} (test x) (x ∷ filter test xs) (filter test xs) here)) (h.0, filtered test (suc x.id) xs h.1)
-      | inr off ↦ subst Goal (sym (cond-false {A = List Entry} (test x) (x ∷ filter test xs) (filter test xs) off)) (lower (suc x.id) least (ids (filter test xs)) (let a = h.0 in omega (arith, a)) (filtered test (suc x.id) xs h.1))
+      | inr off ↦ subst Goal (sym (cond-false {A = List Entry} (test x) (x ∷ filter test xs) (filter test xs) off)) (lower (suc x.id) least (entry_ids (filter test xs)) (let a = h.0 in omega (arith, a)) (filtered test (suc x.id) xs h.1))
     ]
 
 pub filtered_rise : (test : Entry → Bool) (xs : List Entry) → MayRise true xs → MayRise true (filter test xs)
@@ -35,16 +35,16 @@ filtered_rise test xs h = λ is. filtered test 0 xs (h is)
 
 -- ---- one more
 
-ids_added : (xs : List Entry) (e : Entry) → ids (xs ++ e ∷ []) ≡ ids xs ++ e.id ∷ []
+ids_added : (xs : List Entry) (e : Entry) → entry_ids (xs ++ e ∷ []) ≡ entry_ids xs ++ e.id ∷ []
 ids_added xs e = map-append (λ (x : Entry). x.id) xs (e ∷ [])
 
-pub added_kept : (rising rises : Bool) (known : ℕ) (old new : List Entry) (e : Entry) (state : Kept) → new ≡ old ++ e ∷ [] → e.state ≡ Some state → (rises ≡ true → RisesTo e.id old) → IsKept rising known old → IsKept rises (known + 1) new
+pub added_kept : (rising rises : Bool) (known : ℕ) (old new : List Entry) (e : Entry) (state : StateValue) → new ≡ old ++ e ∷ [] → e.state ≡ Some state → (rises ≡ true → RisesTo e.id old) → IsKept rising known old → IsKept rises (known + 1) new
 added_kept rising rises known old new e state is there young h =
-    let long = ap (λ (es : List (ℕ × Told)). length es) (ap (λ (xs : List Entry). tolds xs) is ∙ read_added (λ s. s.told) old e ∙ ap (λ (o : Option Kept). tolds old ++ with_read e.id (λ s. s.told) o []) there) in
+    let long = ap (λ (es : List (ℕ × SpanData)). length es) (ap (λ (xs : List Entry). all_data xs) is ∙ read_added (λ s. s.told) old e ∙ ap (λ (o : Option StateValue). all_data old ++ with_entry_read e.id (λ s. s.told) o []) there) in
     let counts = h.counts in
-    let sum = length-append (tolds old) ((e.id, state.told) ∷ []) in
+    let sum = length-append (all_data old) ((e.id, state.told) ∷ []) in
     record {
-      rises = λ so. subst (λ (ks : List ℕ). Rises 0 ks) (sym (ap (λ (xs : List Entry). ids xs) is ∙ ids_added old e)) (young so);
+      rises = λ so. subst (λ (ks : List ℕ). IdsRise 0 ks) (sym (ap (λ (xs : List Entry). entry_ids xs) is ∙ ids_added old e)) (young so);
       counts = omega (arith, long, counts, sum);
     }
 
@@ -52,12 +52,12 @@ pub rise_none : (xs : List Entry) (id : ℕ) → length xs ≡ 0 → RisesTo id 
 rise_none [] id none = (omega arith, tt)
 rise_none (x ∷ xs) id none = absurd (omega (arith, none))
 
-at_least : (least : ℕ) (xs : List Entry) (k : ℕ) (d : Entry) → k < length xs → Rises least (ids xs) → least ≤ (get_or xs k d).id
+at_least : (least : ℕ) (xs : List Entry) (k : ℕ) (d : Entry) → k < length xs → IdsRise least (entry_ids xs) → least ≤ (get_or xs k d).id
 at_least least [] k d within h = absurd (omega (arith, within))
 at_least least (x ∷ xs) zero d within h = h.0
 at_least least (x ∷ xs) (suc k) d within h = (let a = at_least (suc x.id) xs k d (omega (arith, within)) h.1 in let b = h.0 in omega (arith, a, b))
 
-rise_to : (least : ℕ) (xs : List Entry) (n id : ℕ) (d : Entry) → length xs ≡ suc n → (get_or xs n d).id < id → Rises least (ids xs) → Rises least (ids xs ++ id ∷ [])
+rise_to : (least : ℕ) (xs : List Entry) (n id : ℕ) (d : Entry) → length xs ≡ suc n → (get_or xs n d).id < id → IdsRise least (entry_ids xs) → IdsRise least (entry_ids xs ++ id ∷ [])
 rise_to least [] n id d long less h = absurd (omega (arith, long))
 rise_to least (x ∷ []) zero id d long less h = (h.0, (omega (arith, less), tt))
 rise_to least (x ∷ []) (suc n) id d long less h = absurd (omega (arith, long))
@@ -69,7 +69,7 @@ rise_last xs n id d long less h = rise_to 0 xs n id d long less (h refl)
 
 -- ---- the search
 
-between : (least : ℕ) (xs : List Entry) (i j : ℕ) (d : Entry) → i < j → j < length xs → Rises least (ids xs) → (get_or xs i d).id < (get_or xs j d).id
+between : (least : ℕ) (xs : List Entry) (i j : ℕ) (d : Entry) → i < j → j < length xs → IdsRise least (entry_ids xs) → (get_or xs i d).id < (get_or xs j d).id
 between least [] i j d less within h = absurd (omega (arith, within))
 between least (x ∷ xs) i zero d less within h = absurd (omega (arith, less))
 between least (x ∷ xs) zero (suc j) d less within h = (let a = at_least (suc x.id) xs j d (omega (arith, within)) h.1 in omega (arith, a))
@@ -121,11 +121,11 @@ younger_from xs id middle e rise inside more = λ k d from within.
           omega (arith, more, same))
     ]
 
-nothing : (xs : List Entry) (id : ℕ) → ((k : ℕ) (d : Entry) → k < length xs → is_of id (get_or xs k d) ≡ false) → (let n : Option ℕ = None in n) ≡ position (is_of id) xs
+nothing : (xs : List Entry) (id : ℕ) → ((k : ℕ) (d : Entry) → k < length xs → is_of_id id (get_or xs k d) ≡ false) → (let n : Option ℕ = None in n) ≡ position (is_of_id id) xs
 nothing [] id none = refl
 nothing (x ∷ xs) id none =
     let all : List Entry = x ∷ xs in
-    let at = position_or_len_is (is_of id) all (length all) x (omega arith) (λ k within. none k x within) (λ less. absurd (omega (arith, less))) in
+    let at = position_or_len_is (is_of_id id) all (length all) x (omega arith) (λ k within. none k x within) (λ less. absurd (omega (arith, less))) in
     sym (ap (λ (n : ℕ). cond {A = Option ℕ} (nat_lt n (length all)) (Some n) None) at ∙ cond-false {A = Option ℕ} (nat_lt (length all) (length all)) (Some (length all)) None (not_less (length all)))
   where
     not_less : (n : ℕ) → nat_lt n n ≡ false
@@ -135,21 +135,21 @@ nothing (x ∷ xs) id none =
           | inr not ↦ not
         ]
 
-other_id : (id : ℕ) (e : Entry) → (e.id ≡ id → ⊥) → is_of id e ≡ false
+other_id : (id : ℕ) (e : Entry) → (e.id ≡ id → ⊥) → is_of_id id e ≡ false
 other_id id e other = ap (λ b. b && is_some e.state) (ne_eqb e.id id other)
 
 -- the entry with the id is found, unless it is a gap
-pub placed : (xs : List Entry) (id middle : ℕ) (e : Entry) → MayRise true xs → middle < length xs → (get_or xs middle e).id ≡ id → is_some (get_or xs middle e).state ≡ true → Some middle ≡ position (is_of id) xs
+pub placed : (xs : List Entry) (id middle : ℕ) (e : Entry) → MayRise true xs → middle < length xs → (get_or xs middle e).id ≡ id → is_some (get_or xs middle e).state ≡ true → Some middle ≡ position (is_of_id id) xs
 placed xs id middle e rise inside is live =
-    let before : (k : ℕ) → k < middle → is_of id (get_or xs k e) ≡ false = λ k less.
+    let before : (k : ℕ) → k < middle → is_of_id id (get_or xs k e) ≡ false = λ k less.
     let a = between 0 xs k middle e less inside (rise refl) in
     other_id id (get_or xs k e) (λ same. (let s = same in absurd (omega (arith, a, is, s))))
     in
-    let here : is_of id (get_or xs middle e) ≡ true = ap (λ b. b && is_some (get_or xs middle e).state) (eq-eqb (get_or xs middle e).id id is) ∙ live in
-    let at = position_or_len_is (is_of id) xs middle e (omega (arith, inside)) before (λ _. here) in
+    let here : is_of_id id (get_or xs middle e) ≡ true = ap (λ b. b && is_some (get_or xs middle e).state) (eq-eqb (get_or xs middle e).id id is) ∙ live in
+    let at = position_or_len_is (is_of_id id) xs middle e (omega (arith, inside)) before (λ _. here) in
     sym (ap (λ (n : ℕ). cond {A = Option ℕ} (nat_lt n (length xs)) (Some n) None) at ∙ cond-true {A = Option ℕ} (nat_lt middle (length xs)) (Some middle) None (lt-ltb middle (length xs) inside))
 
-passed_gap : (xs : List Entry) (id middle : ℕ) (e : Entry) → MayRise true xs → middle < length xs → (get_or xs middle e).id ≡ id → is_some (get_or xs middle e).state ≡ false → (let n : Option ℕ = None in n) ≡ position (is_of id) xs
+passed_gap : (xs : List Entry) (id middle : ℕ) (e : Entry) → MayRise true xs → middle < length xs → (get_or xs middle e).id ≡ id → is_some (get_or xs middle e).state ≡ false → (let n : Option ℕ = None in n) ≡ position (is_of_id id) xs
 passed_gap xs id middle e rise inside is gap = nothing xs id (λ k d within.
     elim (cases_Bool (nat_lt k middle)) [
       | inl before ↦ (
@@ -174,11 +174,11 @@ passed_gap xs id middle e rise inside is gap = nothing xs id (λ k d within.
     and_false true c h = h
     and_false false c h = refl
 
-pub found_or_gap : (xs : List Entry) (id middle : ℕ) (e : Entry) (live : Bool) → MayRise true xs → middle < length xs → (get_or xs middle e).id ≡ id → live ≡ is_some (get_or xs middle e).state → then_some live middle ≡ position (is_of id) xs
+pub found_or_gap : (xs : List Entry) (id middle : ℕ) (e : Entry) (live : Bool) → MayRise true xs → middle < length xs → (get_or xs middle e).id ≡ id → live ≡ is_some (get_or xs middle e).state → then_some live middle ≡ position (is_of_id id) xs
 found_or_gap xs id middle e true rise inside is live = placed xs id middle e rise inside is (sym live)
 found_or_gap xs id middle e false rise inside is live = passed_gap xs id middle e rise inside is (sym live)
 
-pub nowhere : (xs : List Entry) (id low high : ℕ) → AreOlder xs id low → AreYounger xs id high → high ≤ low → (let n : Option ℕ = None in n) ≡ position (is_of id) xs
+pub nowhere : (xs : List Entry) (id low high : ℕ) → AreOlder xs id low → AreYounger xs id high → high ≤ low → (let n : Option ℕ = None in n) ≡ position (is_of_id id) xs
 nowhere xs id low high older younger met = nothing xs id (λ k d within.
     elim (cases_Bool (nat_lt k low)) [
       | inl before ↦ (let a = older k d (ltb-true k low before) within in other_id id (get_or xs k d) (λ same. (let s = same in absurd (omega (arith, a, s)))))
@@ -197,7 +197,7 @@ whole_kept (suc n) (x ∷ xs) ys e = ap (λ (zs : List Entry). x ∷ zs) (whole_
 
 -- ---- a table whose entries keep their ids
 
-pub kept_whole : (rising : Bool) (known len : ℕ) (old now : List Entry) → length now ≡ len → ids now ≡ ids old → length (tolds now) ≡ length (tolds old) → IsKept rising known old → IsKept rising known (take len (now ++ drop (length now) old))
+pub kept_whole : (rising : Bool) (known len : ℕ) (old now : List Entry) → length now ≡ len → entry_ids now ≡ entry_ids old → length (all_data now) ≡ length (all_data old) → IsKept rising known old → IsKept rising known (take len (now ++ drop (length now) old))
 kept_whole rising known len old now as_many same count h =
     subst (λ (xs : List Entry). IsKept rising known xs) (sym (whole_kept len now (drop (length now) old) as_many)) (record {
       rises = same_rise rising old now same h.rises;
@@ -205,14 +205,14 @@ kept_whole rising known len old now as_many same count h =
     })
 
 -- one is taken out, and the gaps may be closed
-pub removed_kept : (rising : Bool) (known id len : ℕ) (old now new : List Entry) → length now ≡ len → ids now ≡ ids old → tolds now ≡ remove_entry (is_id id) (tolds old) → knows_span id (tolds old) ≡ true
-    → tolds new ≡ tolds (take len (now ++ drop (length now) old)) → (MayRise true (take len (now ++ drop (length now) old)) → MayRise true new) → IsKept rising known old → IsKept rising (known - 1) new
+pub removed_kept : (rising : Bool) (known id len : ℕ) (old now new : List Entry) → length now ≡ len → entry_ids now ≡ entry_ids old → all_data now ≡ remove_entry (is_id id) (all_data old) → knows_span id (all_data old) ≡ true
+    → all_data new ≡ all_data (take len (now ++ drop (length now) old)) → (MayRise true (take len (now ++ drop (length now) old)) → MayRise true new) → IsKept rising known old → IsKept rising (known - 1) new
 removed_kept rising known id len old now new as_many same rest there told rise h =
     let whole = whole_kept len now (drop (length now) old) as_many in
-    let a = ap (λ (es : List (ℕ × Told)). length es) (told ∙ ap (λ (xs : List Entry). tolds xs) whole ∙ rest) in
-    let b = removed_count id (tolds old) there in
+    let a = ap (λ (es : List (ℕ × SpanData)). length es) (told ∙ ap (λ (xs : List Entry). all_data xs) whole ∙ rest) in
+    let b = removed_count id (all_data old) there in
     let counts = h.counts in
     record {
-      rises = λ is. rise (subst (λ (xs : List Entry). MayRise true xs) (sym whole) (λ _. subst (λ (ks : List ℕ). Rises 0 ks) (sym same) (h.rises is))) refl;
+      rises = λ is. rise (subst (λ (xs : List Entry). MayRise true xs) (sym whole) (λ _. subst (λ (ks : List ℕ). IdsRise 0 ks) (sym same) (h.rises is))) refl;
       counts = omega (arith, a, b, counts);
     }

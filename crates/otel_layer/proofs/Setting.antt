@@ -7,27 +7,27 @@ use Rattle.otel_base.specs.declared.memory.Memory.{Memory}
 use Rattle.otel_state.specs.declared.op.Op.TheVariants as ops
 use Rattle.otel_state.specs.declared.op.OpReply.{OpReply}
 use Rattle.otel_state.specs.declared.op.SetParentError.{SetParentError}
-use Rattle.otel_state.specs.States.{Told}
+use Rattle.otel_state.specs.States.{SpanData}
 use Rattle.span_handles.specs.Handles.{Held}
-use Rattle.otel_layer.specs.Table.{told_at}
-use Rattle.otel_layer.specs.Parts.{Applies, AppliesTo, TellsIf}
+use Rattle.otel_layer.specs.Table.{data_at}
+use Rattle.otel_layer.specs.Parts.{Applies, AppliesTo, AnswersCallIf}
 use Rattle.otel_layer.specs.Asking.{parent_answer, parent_reply, set_while_waiting}
 
 none_isnt : {A : Type 0} (a : A) → (let o : Option A = None in o) ≡ Some a → ⊥
 none_isnt a h = cc
 
-sets_by : (o : Option Told) (told : Told) (spans now : List (ℕ × Told)) (id at : ℕ) (context : Context) (answer : Option (Result OpReply Memory)) (held : ℕ × ℕ) → o ≡ Some told → AppliesTo o spans id at (ops.SetParent context) answer now
+sets_by : (o : Option SpanData) (told : SpanData) (spans now : List (ℕ × SpanData)) (id at : ℕ) (context : Context) (answer : Option (Result OpReply Memory)) (held : ℕ × ℕ) → o ≡ Some told → AppliesTo o spans id at (ops.SetParent context) answer now
     → parent_answer (Some held) answer ≡ set_while_waiting told
 sets_by None told spans now id at context answer held is h = absurd (none_isnt told is)
 sets_by (Some u) told spans now id at context None held is h = absurd h
-sets_by (Some u) told spans now id at context (Some (Ok r)) held is h = ap parent_reply h.0 ∙ ap (λ (o : Option Told). set_while_waiting (unwrap_or o told)) is
+sets_by (Some u) told spans now id at context (Some (Ok r)) held is h = ap parent_reply h.0 ∙ ap (λ (o : Option SpanData). set_while_waiting (unwrap_or o told)) is
 sets_by (Some u) told spans now id at context (Some (Err memory)) held is h = absurd (true≢false (sym h.0))
 
-pub sets_told : (o : Option (List (ℕ × Told))) (spans : List (ℕ × Told)) (told : Told) (now : Option (List (ℕ × Told))) (id at : ℕ) (context : Context) (answer : Option (Result OpReply Memory)) (held : ℕ × ℕ) → o ≡ Some spans → told_at id spans ≡ Some told
-    → TellsIf o (Applies id at (ops.SetParent context) answer) now → parent_answer (Some held) answer ≡ set_while_waiting told
+pub sets_told : (o : Option (List (ℕ × SpanData))) (spans : List (ℕ × SpanData)) (told : SpanData) (now : Option (List (ℕ × SpanData))) (id at : ℕ) (context : Context) (answer : Option (Result OpReply Memory)) (held : ℕ × ℕ) → o ≡ Some spans → data_at id spans ≡ Some told
+    → AnswersCallIf o (Applies id at (ops.SetParent context) answer) now → parent_answer (Some held) answer ≡ set_while_waiting told
 sets_told None spans told now id at context answer held is found h = absurd (none_isnt spans is)
 sets_told (Some xs) spans told now id at context answer held is found h =
-    sets_by (told_at id xs) told xs h.0 id at context answer held (ap (λ (o : Option (List (ℕ × Told))). told_at id (unwrap_or o spans)) is ∙ found) h.2
+    sets_by (data_at id xs) told xs h.0 id at context answer held (ap (λ (o : Option (List (ℕ × SpanData))). data_at id (unwrap_or o spans)) is ∙ found) h.2
 
 pub set_by_handle : (held : Held) (x : ℕ × ℕ) (r : Result (Unit {0}) SetParentError) (answer : Option (Result OpReply Memory)) → option_map (λ h. (h.1, h.0)) held ≡ Some x → ((h : ℕ × ℕ) → r ≡ parent_answer (Some h) answer) → r ≡ parent_answer held answer
 set_by_handle None x r answer is each = absurd (none_isnt x is)

@@ -4,9 +4,9 @@ use Rattle.std.specs.Prelude.{if◌then◌else◌, ◌==◌}
 use Rattle.std.proofs.lemmas.Bool.{cases_Bool, cond-true, cond-false}
 use Rattle.otel_state.specs.declared.op.Op.{Op}
 use Rattle.otel_state.specs.declared.op.Op.TheVariants as ops
-use Rattle.otel_state.specs.States.{Told, Room, HasRoom, changed}
+use Rattle.otel_state.specs.States.{SpanData, Room, HasRoom, after_op}
 use Rattle.otel_layer.specs.Core.{Core}
-use Rattle.otel_layer.specs.Counting.{counted}
+use Rattle.otel_layer.specs.Counting.{after_counted}
 use Rattle.otel_layer.specs.Table.{update, with_op, RoomFor}
 
 pub counted_room : (id : ℕ) (rooms : List (ℕ × Room)) → RoomFor id ops.Counted rooms
@@ -16,11 +16,11 @@ counted_room id rooms = λ room found. (
     let l = room.links in
     record { attributes = omega arith; events = omega arith; links = omega arith })
 
-update_twice : (id : ℕ) (f g : Told → Told) (spans : List (ℕ × Told)) → update id g (update id f spans) ≡ update id (λ told. g (f told)) spans
+update_twice : (id : ℕ) (f g : SpanData → SpanData) (spans : List (ℕ × SpanData)) → update id g (update id f spans) ≡ update id (λ told. g (f told)) spans
 update_twice id f g [] = refl
 update_twice id f g (e ∷ es) =
-    let Spans : Type 0 = List (ℕ × Told) in
-    let h : Told → Told = λ told. g (f told) in
+    let Spans : Type 0 = List (ℕ × SpanData) in
+    let h : SpanData → SpanData = λ told. g (f told) in
     elim (cases_Bool (e.0 == id)) [
       | inl here ↦ (
           ap (update id g) (cond-true {A = Spans} (e.0 == id) ((e.0, f e.1) ∷ es) (e ∷ update id f es) here)
@@ -34,18 +34,18 @@ update_twice id f g (e ∷ es) =
     ]
 
 pub counts_taken : {T : Type 0} (c between d : Core T) (id at : ℕ) (op : Op) (is_taken : Bool) → is_taken ≡ true → between ≡ record c { spans = with_op id at ops.Counted c.spans } → d ≡ record between { spans = with_op id at op between.spans }
-    → d ≡ record c { spans = update id (counted is_taken at op) c.spans }
+    → d ≡ record c { spans = update id (after_counted is_taken at op) c.spans }
 counts_taken {T} c between d id at op is_taken taken first second =
     second ∙ ap (λ (x : Core T). let y : Core T = record x { spans = with_op id at op x.spans } in y) first
-    ∙ ap (λ (xs : List (ℕ × Told)). let y : Core T = record c { spans = xs } in y) (update_twice id (λ told. changed told at ops.Counted) (λ told. changed told at op) c.spans)
-    ∙ ap (λ (b : Bool). let y : Core T = record c { spans = update id (counted b at op) c.spans } in y) (sym taken)
+    ∙ ap (λ (xs : List (ℕ × SpanData)). let y : Core T = record c { spans = xs } in y) (update_twice id (λ told. after_op told at ops.Counted) (λ told. after_op told at op) c.spans)
+    ∙ ap (λ (b : Bool). let y : Core T = record c { spans = update id (after_counted b at op) c.spans } in y) (sym taken)
 
-pub counts_refused : {T : Type 0} (c d : Core T) (id at : ℕ) (op : Op) (is_taken : Bool) → is_taken ≡ false → d ≡ record c { spans = with_op id at ops.Counted c.spans } → d ≡ record c { spans = update id (counted is_taken at op) c.spans }
+pub counts_refused : {T : Type 0} (c d : Core T) (id at : ℕ) (op : Op) (is_taken : Bool) → is_taken ≡ false → d ≡ record c { spans = with_op id at ops.Counted c.spans } → d ≡ record c { spans = update id (after_counted is_taken at op) c.spans }
 counts_refused {T} c d id at op is_taken refused first =
-    first ∙ ap (λ (b : Bool). let y : Core T = record c { spans = update id (counted b at op) c.spans } in y) (sym refused)
+    first ∙ ap (λ (b : Bool). let y : Core T = record c { spans = update id (after_counted b at op) c.spans } in y) (sym refused)
 
-pub counted_is : {T : Type 0} (c d : Core T) (id at : ℕ) (op wanted : Op) (is_taken takes : Bool) → op ≡ wanted → is_taken ≡ takes → d ≡ record c { spans = update id (counted is_taken at op) c.spans }
-    → d ≡ record c { spans = update id (counted takes at wanted) c.spans }
+pub counted_is : {T : Type 0} (c d : Core T) (id at : ℕ) (op wanted : Op) (is_taken takes : Bool) → op ≡ wanted → is_taken ≡ takes → d ≡ record c { spans = update id (after_counted is_taken at op) c.spans }
+    → d ≡ record c { spans = update id (after_counted takes at wanted) c.spans }
 counted_is {T} c d id at op wanted is_taken takes is_op is_it rest =
-    rest ∙ ap (λ (o : Op). let x : Core T = record c { spans = update id (counted is_taken at o) c.spans } in x) is_op
-    ∙ ap (λ (b : Bool). let x : Core T = record c { spans = update id (counted b at wanted) c.spans } in x) is_it
+    rest ∙ ap (λ (o : Op). let x : Core T = record c { spans = update id (after_counted is_taken at o) c.spans } in x) is_op
+    ∙ ap (λ (b : Bool). let x : Core T = record c { spans = update id (after_counted b at wanted) c.spans } in x) is_it

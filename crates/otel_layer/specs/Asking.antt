@@ -12,7 +12,7 @@ use Rattle.otel_state.specs.declared.op.OpReply.{OpReply}
 use Rattle.otel_state.specs.declared.op.OpReply.TheVariants as replies
 use Rattle.otel_state.specs.declared.op.SetParentError.{SetParentError}
 use Rattle.otel_state.specs.declared.op.SetParentError.TheVariants as refusals
-use Rattle.otel_state.specs.States.{Told}
+use Rattle.otel_state.specs.States.{SpanData}
 use Rattle.span_handles.specs.Worlds.{Replaced}
 use Rattle.span_handles.specs.Handles.{Held}
 use Rattle.otel_layer.specs.Parts.{PartCall, Applies, Shows}
@@ -76,5 +76,5 @@ pub record AsksContext {S : Type 0} (touches : S → PartCall → S → Type 0) 
   pub is : result ≡ context_or_empty answer
 
 -- the parent of an enabled handle's span is set exactly while it isn't started, if the stack shows a layer
-abbrev pub set_while_waiting : Told → Result (Unit {0}) SetParentError
+abbrev pub set_while_waiting : SpanData → Result (Unit {0}) SetParentError
 set_while_waiting told = if is_some told.own then Err refusals.AlreadyStarted else Ok tt

@@ -2,16 +2,16 @@
 use Rattle.std.specs.Prelude.{ℕ, ◌+◌, ◌<◌, ◌≤◌, ◌==◌, ◌^◌, ◌&&◌, if◌then◌else◌, Bool, false, List, [], length, Option, Some, None, count_by}
 use Rattle.std.specs.List.{list_any}
 use Rattle.std.specs.Map.{keys_of}
-use Rattle.trace_base.specs.layers.Hooks.{Seen}
+use Rattle.trace_base.specs.layers.Hooks.{KnownSpans}
 use Rattle.otel_state.specs.declared.settings.LayerSettings.{LayerSettings}
-use Rattle.otel_state.specs.States.{Told, Room}
+use Rattle.otel_state.specs.States.{SpanData, Room}
 use Rattle.otel_layer.specs.declared.tokens.Token.{Token}
 use Rattle.otel_layer.specs.Table.{is_id, waiting_in}
 
 -- a layer: the spans that it knows, its open entries, its tracer, for how many finishes it has reserved room there, how
 -- many spans were made, its settings, and whether a close tells how many events were counted
 pub record Core (T : Type 0) : Type 0 where
-  pub spans : List (ℕ × Told)
+  pub spans : List (ℕ × SpanData)
   pub tokens : List Token
   pub tracer : T
   pub reserved : ℕ
@@ -20,14 +20,14 @@ pub record Core (T : Type 0) : Type 0 where
   pub counting : Bool
 
 -- the same with its spare room: in each span's state, for spans, and for open entries
-pub record Roomed (T : Type 0) : Type 0 where
+pub record CoreWithRoom (T : Type 0) : Type 0 where
   pub core : Core T
   pub rooms : List (ℕ × Room)
   pub room : ℕ
   pub token_room : ℕ
 
 -- the same with other spans, and with other settings
-abbrev pub on_spans : {T : Type 0} → (List (ℕ × Told) → List (ℕ × Told)) → Core T → Core T
+abbrev pub on_spans : {T : Type 0} → (List (ℕ × SpanData) → List (ℕ × SpanData)) → Core T → Core T
 on_spans f c = record c { spans = f c.spans }
 
 abbrev pub set_in : {T : Type 0} → (LayerSettings → LayerSettings) → Core T → Core T
@@ -61,14 +61,14 @@ keeps_as lane number token = token.lane == lane && is_number number token.attach
 abbrev pub kept_by : Bool → List Token → ℕ → ℕ → ℕ
 kept_by activation tokens lane number = if activation then count_by (keeps_as lane number) tokens else 0
 
-abbrev pub seen_by : List ℕ → List Token → Seen
+abbrev pub seen_by : List ℕ → List Token → KnownSpans
 seen_by ids tokens = record { knows = λ id. list_any (is_id id) ids; entries = λ lane id. entries_by tokens lane id }
 
 -- the same of a layer
 abbrev pub kept_in : {T : Type 0} → Core T → ℕ → ℕ → ℕ
 kept_in c = kept_by c.settings.activation c.tokens
 
-abbrev pub seen_in : {T : Type 0} → Core T → Seen
+abbrev pub seen_in : {T : Type 0} → Core T → KnownSpans
 seen_in c = seen_by (keys_of c.spans) c.tokens
 
 -- The tracer has a spare for each live span, and can start each that waits: it counts starts below 2^63, began with

@@ -9,19 +9,19 @@ use Rattle.otel_state.specs.declared.op.Op.{Op}
 use Rattle.otel_state.specs.declared.op.Op.TheVariants as ops
 use Rattle.otel_state.specs.declared.settings.LayerSettings.{LayerSettings}
 use Rattle.otel_state.specs.fields.EventFields.{event_of}
-use Rattle.otel_state.specs.States.{Told, changed}
+use Rattle.otel_state.specs.States.{SpanData, after_op}
 use Rattle.otel_layer.specs.Core.{Core}
 use Rattle.otel_layer.specs.laws.HookLemmas.{KeepsOwn}
 use Rattle.otel_layer.specs.Rooming.{same_core_does}
 use Rattle.otel_layer.specs.Steps.{Events, SameCore, Step, DoesHook}
 
 -- an event is counted, and applied after that if it is taken
-abbrev pub counted : Bool → ℕ → Op → Told → Told
-counted is_taken at op told = if is_taken then changed (changed told at ops.Counted) at op else changed told at ops.Counted
+abbrev pub after_counted : Bool → ℕ → Op → SpanData → SpanData
+after_counted is_taken at op told = if is_taken then after_op (after_op told at ops.Counted) at op else after_op told at ops.Counted
 
 -- what events make of their spans, where a filter decides by lane and callsite which it takes
 abbrev pub counted_events : (ℕ → Callsite → Bool) → Events
-counted_events enables settings lane at callsite values told = counted (enables lane callsite) at (event_of callsite values settings at) told
+counted_events enables settings lane at callsite values told = after_counted (enables lane callsite) at (event_of callsite values settings at) told
 
 -- the same layer, which counts
 abbrev pub counting_core : {T : Type 0} → Core T → Core T
@@ -29,7 +29,7 @@ counting_core c = record c { counting = true }
 
 -- ---- laws
 
-counted_own : (is_taken : Bool) (settings : LayerSettings) (at : ℕ) (callsite : Callsite) (values : ValueSet) (told : Told) → (counted is_taken at (event_of callsite values settings at) told).own ≡ told.own
+counted_own : (is_taken : Bool) (settings : LayerSettings) (at : ℕ) (callsite : Callsite) (values : ValueSet) (told : SpanData) → (after_counted is_taken at (event_of callsite values settings at) told).own ≡ told.own
 counted_own true settings at callsite values told = refl
 counted_own false settings at callsite values told = refl
 

@@ -4,15 +4,15 @@ use Rattle.otel_base.specs.declared.context.Context.{Context}
 use Rattle.otel_base.specs.declared.context.SpanContext.{SpanContext}
 use Rattle.otel_base.specs.declared.memory.Memory.{Memory}
 use Rattle.otel_base.specs.Tracer.{TracerCall}
-use Rattle.trace_base.specs.layers.Hooks.{Seen}
+use Rattle.trace_base.specs.layers.Hooks.{KnownSpans}
 use Rattle.trace_base.specs.Spans.{Spans}
 use Rattle.otel_state.specs.declared.op.Op.{Op}
 use Rattle.otel_state.specs.declared.op.Op.TheVariants as ops
 use Rattle.otel_state.specs.declared.op.OpReply.{OpReply}
-use Rattle.otel_state.specs.States.{Told, reply, is_growing}
-use Rattle.otel_layer.specs.Table.{told_at, with_op, waits}
+use Rattle.otel_state.specs.States.{SpanData, reply, is_growing}
+use Rattle.otel_layer.specs.Table.{data_at, with_op, waits}
 use Rattle.otel_layer.specs.Core.{Core}
-use Rattle.otel_layer.specs.Steps.{Starts}
+use Rattle.otel_layer.specs.Steps.{StartsSpan}
 
 -- the calls, with their answers: an op of a span, and the own context of one
 pub data PartCall : Type 0 where
@@ -34,18 +34,18 @@ IsOutside ops.Enter = ⊥
 IsOutside ops.Exit = ⊥
 
 -- an op of a span that is known or isn't: the answer, and the spans after it
-abbrev pub AppliesTo : Option Told → List (ℕ × Told) → ℕ → ℕ → Op → Option (Result OpReply Memory) → List (ℕ × Told) → Type 0
+abbrev pub AppliesTo : Option SpanData → List (ℕ × SpanData) → ℕ → ℕ → Op → Option (Result OpReply Memory) → List (ℕ × SpanData) → Type 0
 AppliesTo None spans id at op answer now = (answer ≡ None) × (now ≡ spans)
 AppliesTo (Some told) spans id at op None now = ⊥
 AppliesTo (Some told) spans id at op (Some (Ok r)) now = (r ≡ reply told op) × (now ≡ with_op id at op spans)
 AppliesTo (Some told) spans id at op (Some (Err memory)) now = IsTrue (is_growing op) × (now ≡ spans)
 
 -- the same among spans
-abbrev pub AppliesIn : List (ℕ × Told) → ℕ → ℕ → Op → Option (Result OpReply Memory) → List (ℕ × Told) → Type 0
-AppliesIn spans id at op answer now = AppliesTo (told_at id spans) spans id at op answer now
+abbrev pub AppliesIn : List (ℕ × SpanData) → ℕ → ℕ → Op → Option (Result OpReply Memory) → List (ℕ × SpanData) → Type 0
+AppliesIn spans id at op answer now = AppliesTo (data_at id spans) spans id at op answer now
 
 -- the own context of a span, if it is known
-abbrev pub context_at : Option Told → Option Context
+abbrev pub context_at : Option SpanData → Option Context
 context_at None = None
 context_at (Some told) = Some (record { span = told.own })
 
@@ -54,23 +54,23 @@ context_at (Some told) = Some (record { span = told.own })
 -- an op is applied to the span's state; a span that is shown starts
 abbrev pub Touches : {T : Type 0} → (T → TracerCall → T → Type 0) → Core T → PartCall → Core T → Type 0
 Touches does c (Applies id at op answer) d = IsOutside op × AppliesIn c.spans id at op answer d.spans × (d ≡ record c { spans = d.spans })
-Touches does c (Shows id at answer) d = Starts does id at c d × (answer ≡ context_at (told_at id d.spans))
+Touches does c (Shows id at answer) d = StartsSpan does id at c d × (answer ≡ context_at (data_at id d.spans))
 
 -- ---- what is told
 
 -- the span starts under a context, if there is one to start under
-abbrev pub ShowsIn : Option Context → List (ℕ × Told) → ℕ → ℕ → Option Context → List (ℕ × Told) → Type 0
-ShowsIn None spans id at answer now = (now ≡ spans) × (answer ≡ context_at (told_at id now))
-ShowsIn (Some under) spans id at answer now = (given : SpanContext) × (now ≡ with_op id at (ops.Start given) spans) × (answer ≡ context_at (told_at id now))
+abbrev pub ShowsIn : Option Context → List (ℕ × SpanData) → ℕ → ℕ → Option Context → List (ℕ × SpanData) → Type 0
+ShowsIn None spans id at answer now = (now ≡ spans) × (answer ≡ context_at (data_at id now))
+ShowsIn (Some under) spans id at answer now = (given : SpanContext) × (now ≡ with_op id at (ops.Start given) spans) × (answer ≡ context_at (data_at id now))
 
 -- the spans after a call, where they are told
-abbrev pub Tells : List (ℕ × Told) → PartCall → List (ℕ × Told) → Type 0
-Tells spans (Applies id at op answer) now = AppliesIn spans id at op answer now
-Tells spans (Shows id at answer) now = ShowsIn (waits (told_at id spans)) spans id at answer now
+abbrev pub AnswersCall : List (ℕ × SpanData) → PartCall → List (ℕ × SpanData) → Type 0
+AnswersCall spans (Applies id at op answer) now = AppliesIn spans id at op answer now
+AnswersCall spans (Shows id at answer) now = ShowsIn (waits (data_at id spans)) spans id at answer now
 
-abbrev pub TellsIf : Option (List (ℕ × Told)) → PartCall → Option (List (ℕ × Told)) → Type 0
-TellsIf None call now = now ≡ None
-TellsIf (Some spans) call now = (later : List (ℕ × Told)) × (now ≡ Some later) × Tells spans call later
+abbrev pub AnswersCallIf : Option (List (ℕ × SpanData)) → PartCall → Option (List (ℕ × SpanData)) → Type 0
+AnswersCallIf None call now = now ≡ None
+AnswersCallIf (Some spans) call now = (later : List (ℕ × SpanData)) × (now ≡ Some later) × AnswersCall spans call later
 
 -- ---- a stack without a layer, and one with two parts
 
@@ -90,7 +90,7 @@ TouchesFirst false outer inner l s call m t = (m ≡ l) × inner s call t
 
 -- ---- what a call leaves
 
-pub record StaysLayer {L : Type 0} (seen : L → Seen) (kept : L → ℕ → ℕ → ℕ) (attaches : L → Bool) (is_whole : L → Type 0) (s t : L) : Type 0 where
+pub record StaysLayer {L : Type 0} (seen : L → KnownSpans) (kept : L → ℕ → ℕ → ℕ) (attaches : L → Bool) (is_whole : L → Type 0) (s t : L) : Type 0 where
   pub seen_same : seen t ≡ seen s
   pub kept_same : kept t ≡ kept s
   pub attaches_same : attaches t ≡ attaches s

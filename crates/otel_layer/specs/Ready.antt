@@ -1,6 +1,6 @@
 -- What a prepare makes for its hook.
 use Rattle.std.specs.Prelude.{◌≡◌, true, ℕ, ◌+◌, ◌<◌, ◌≤◌, ◌^◌, Some, None, length}
-use Rattle.otel_base.specs.Stack.{IsReady, empty_context}
+use Rattle.otel_base.specs.Stack.{IsReadyToAttach, empty_context}
 use Rattle.trace_base.specs.declared.callsite.Callsite.{Callsite}
 use Rattle.trace_base.specs.declared.field.ValueSet.{ValueSet}
 use Rattle.trace_base.specs.declared.lane.Lane.{Lane}
@@ -12,45 +12,45 @@ use Rattle.otel_state.specs.declared.update.Update.{Update}
 use Rattle.otel_state.specs.fields.EventFields.{event_of}
 use Rattle.otel_state.specs.fields.FirstAttributes.{first_attributes}
 use Rattle.otel_state.specs.fields.SpanFields.{span_update}
-use Rattle.otel_state.specs.States.{Told, Kept, begun}
+use Rattle.otel_state.specs.States.{SpanData, StateValue, data_at_making}
 use Rattle.otel_layer.specs.declared.ready.Ready.{Ready}
 use Rattle.otel_layer.specs.declared.ready.Ready.TheVariants as ready
 use Rattle.otel_layer.specs.Table.{knows_span, RoomFor, RoomForLink}
-use Rattle.otel_layer.specs.Core.{Core, Roomed, entries_by, kept_in}
+use Rattle.otel_layer.specs.Core.{Core, CoreWithRoom, entries_by, kept_in}
 
 -- the room for a new span, with the layer and with its tracer
-pub record IsReadySpan {T : Type 0} (s : Roomed T) : Type 0 where
+pub record IsReadySpan {T : Type 0} (s : CoreWithRoom T) : Type 0 where
   pub place : 0 < s.room
   pub spare : length s.core.spans < s.core.reserved
   pub few : s.core.made + 1 < 2 ^ 62
 
 -- what a new span has come to that doesn't know its parent and its moment yet
-abbrev pub fresh_told : {T : Type 0} → Core T → Lane → Callsite → Told
-fresh_told c lane callsite = begun (record { name = callsite.name; parent = empty_context; made = 0; first = first_attributes callsite lane c.settings; counting = c.counting; inactivity = c.settings.inactivity })
+abbrev pub fresh_data : {T : Type 0} → Core T → Lane → Callsite → SpanData
+fresh_data c lane callsite = data_at_making (record { name = callsite.name; parent = empty_context; made = 0; first = first_attributes callsite lane c.settings; counting = c.counting; inactivity = c.settings.inactivity })
 
 -- its state, and what its fields write
-pub record IsReadyState {T : Type 0} (s : Roomed T) (lane : Lane) (callsite : Callsite) (values : ValueSet) (state : Kept) (update : Update) : Type 0 where
+pub record IsReadyState {T : Type 0} (s : CoreWithRoom T) (lane : Lane) (callsite : Callsite) (values : ValueSet) (state : StateValue) (update : Update) : Type 0 where
   pub span : IsReadySpan s
-  pub told : state.told ≡ fresh_told s.core lane callsite
+  pub told : state.told ≡ fresh_data s.core lane callsite
   pub is : update ≡ span_update callsite values s.core.settings
   pub room : length update.attributes ≤ state.room.attributes
 
 -- the op of an event at another moment
-abbrev pub retimed : ℕ → Op → Op
-retimed at (ops.Event is_error update event) = ops.Event is_error update (record event { time = at })
-retimed at op = op
+abbrev pub with_moment : ℕ → Op → Op
+with_moment at (ops.Event is_error update event) = ops.Event is_error update (record event { time = at })
+with_moment at op = op
 
 -- a state with room for what fields write
-abbrev pub IsRoomed : Told → Update → Ready → Type 0
-IsRoomed told update (ready.Made state written) = (state.told ≡ told) × (written ≡ update) × (length written.attributes ≤ state.room.attributes)
-IsRoomed told update _ = ⊥
+abbrev pub HasRoomForUpdate : SpanData → Update → Ready → Type 0
+HasRoomForUpdate told update (ready.Made state written) = (state.told ≡ told) × (written ≡ update) × (length written.attributes ≤ state.room.attributes)
+HasRoomForUpdate told update _ = ⊥
 
 -- an op, with the room that it needs
-abbrev pub IsReadyOp : {T : Type 0} → Roomed T → ℕ → Op → Ready → Type 0
+abbrev pub IsReadyOp : {T : Type 0} → CoreWithRoom T → ℕ → Op → Ready → Type 0
 IsReadyOp s id wanted (ready.Happened op) = (op ≡ wanted) × RoomFor id op s.rooms
 IsReadyOp s id wanted _ = ⊥
 
-abbrev pub IsReadyOtel : {T : Type 0} → Roomed T → Preparation → Ready → Type 0
+abbrev pub IsReadyOtel : {T : Type 0} → CoreWithRoom T → Preparation → Ready → Type 0
 IsReadyOtel s (ForNewSpan lane callsite values) (ready.Made state update) = IsReadyState s lane callsite values state update
 IsReadyOtel s (ForNewSpan lane callsite values) _ = ⊥
 IsReadyOtel s (ForRecord id callsite values) r = IsReadyOp s id (ops.Update (span_update callsite values s.core.settings)) r
@@ -63,14 +63,14 @@ IsReadyOtel s (ForEnter id lane) r = 0 < s.token_room
 
 -- with activation there is room on the lane for the span's own context, and there can't be
 abbrev pub IsReadyLane : {T : Type 0} → Core T → ℕ → Lane → Type 0
-IsReadyLane c id lane = c.settings.activation ≡ true → knows_span id c.spans ≡ true → IsReady lane.contexts
+IsReadyLane c id lane = c.settings.activation ≡ true → knows_span id c.spans ≡ true → IsReadyToAttach lane.contexts
 
 abbrev pub MeetsFull : {T : Type 0} → Core T → ℕ → Lane → Type 0
 MeetsFull c id lane = (c.settings.activation ≡ true) × (knows_span id c.spans ≡ true) × IsFull lane
 
 -- an entry of it is open on the lane, and what entries attached is attached there
-abbrev pub IsOpenOn : {T : Type 0} → Core T → ℕ → Lane → Type 0
-IsOpenOn c id lane = knows_span id c.spans ≡ true → 0 < entries_by c.tokens lane.id id
+abbrev pub HasOpenEntry : {T : Type 0} → Core T → ℕ → Lane → Type 0
+HasOpenEntry c id lane = knows_span id c.spans ≡ true → 0 < entries_by c.tokens lane.id id
 
-abbrev pub IsStillOn : {T : Type 0} → Core T → ℕ → Lane → Type 0
-IsStillOn c id lane = knows_span id c.spans ≡ true → AreAttached (kept_in c) lane
+abbrev pub IsAttachedIfKnown : {T : Type 0} → Core T → ℕ → Lane → Type 0
+IsAttachedIfKnown c id lane = knows_span id c.spans ≡ true → AreAttached (kept_in c) lane

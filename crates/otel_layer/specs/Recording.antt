@@ -5,9 +5,9 @@ use Rattle.otel_base.specs.declared.context.Context.{Context}
 use Rattle.otel_base.specs.declared.context.SpanContext.{SpanContext}
 use Rattle.otel_base.specs.declared.record.Record.{Record}
 use Rattle.otel_base.specs.Ids.{ids_of}
-use Rattle.otel_base.specs.Recorder.{Recorded}
+use Rattle.otel_base.specs.Recorder.{RecorderValue}
 use Rattle.otel_base.specs.RecorderIds.{recorder_ids}
-use Rattle.otel_base.specs.Stack.{has, without, empty_context}
+use Rattle.otel_base.specs.Stack.{has_number, without_number, empty_context}
 use Rattle.trace_base.specs.declared.callsite.Callsite.{Callsite}
 use Rattle.trace_base.specs.declared.field.ValueSet.{ValueSet}
 use Rattle.trace_base.specs.declared.lane.Lane.{Lane}
@@ -17,8 +17,8 @@ use Rattle.trace_base.specs.Gate.{Worlds}
 use Rattle.trace_base.specs.layers.Hooks.{Hook, OnNewSpan, OnRecord, OnFollows, OnEvent, OnEnter, OnExit, OnClose}
 use Rattle.trace_base.specs.Spans.{Spans, span_at, entries_on, current_of, place_on, without_last}
 use Rattle.span_registry.specs.declared.layered.Layered.{Layered}
-use Rattle.span_registry.specs.Registering.{Registered}
-use Rattle.span_handles.specs.Worlds.{seen, Released, closed_in}
+use Rattle.span_registry.specs.Registering.{RegistryValue}
+use Rattle.span_handles.specs.Worlds.{member_of, ReleasesChain, closed_in}
 use Rattle.otel_state.specs.declared.op.Op.{Op}
 use Rattle.otel_state.specs.declared.op.Op.TheVariants as ops
 use Rattle.otel_state.specs.declared.settings.LayerSettings.{LayerSettings}
@@ -26,24 +26,24 @@ use Rattle.otel_state.specs.fields.EventFields.{event_of}
 use Rattle.otel_state.specs.Settings.{default_settings}
 use Rattle.otel_state.specs.fields.SpanFields.{span_update}
 use Rattle.otel_state.specs.Stack.{last_passing}
-use Rattle.otel_state.specs.States.{Told, changed, record_of}
+use Rattle.otel_state.specs.States.{SpanData, after_op, record_of}
 use Rattle.otel_layer.specs.declared.tokens.Token.{Token}
-use Rattle.otel_layer.specs.Core.{Core, Roomed, is_token}
+use Rattle.otel_layer.specs.Core.{Core, CoreWithRoom, is_token}
 use Rattle.otel_layer.specs.Parts.{PartCall, Applies, Shows, AppliesIn, context_at}
-use Rattle.otel_layer.specs.Steps.{IfKnown, above, around, context_from, made_told, with_link}
-use Rattle.otel_layer.specs.Table.{told_at, knows_span, with_span, with_op, waits, own_or, ids_at, is_id}
+use Rattle.otel_layer.specs.Steps.{IfKnown, parent_source, around, context_from, new_span_data, with_link}
+use Rattle.otel_layer.specs.Table.{data_at, knows_span, with_span_data, with_op, waits, own_or, ids_at, is_id}
 
 -- the spans that are known, with what each has come to, the open entries, how many spans the recorder has started, the
 -- finished ones that weren't taken, and the settings
 pub record Recording : Type 0 where
-  pub spans : List (ℕ × Told)
+  pub spans : List (ℕ × SpanData)
   pub tokens : List Token
   pub started : ℕ
   pub finished : List Record
   pub settings : LayerSettings
   pub counting : Bool
 
-abbrev pub recording_of : Core Recorded → Recording
+abbrev pub recording_of : Core RecorderValue → Recording
 recording_of c = record {
   spans = c.spans;
   tokens = c.tokens;
@@ -71,7 +71,7 @@ started_under (Some under) id at r = record r {
 
 -- a span starts, if it is known and hasn't
 abbrev pub with_start : ℕ → ℕ → Recording → Recording
-with_start id at r = started_under (waits (told_at id r.spans)) id at r
+with_start id at r = started_under (waits (data_at id r.spans)) id at r
 
 -- the span that is named starts, if one is
 abbrev pub with_starts : Option ℕ → ℕ → Recording → Recording
@@ -85,21 +85,21 @@ source_of on id = if on then Some id else None
 -- a span is made, after the one started that gives its parent's context
 abbrev pub made_under : Option ℕ → ℕ → Lane → ℕ → Parent → Callsite → ValueSet → LayerSettings → Bool → Recording → Recording
 made_under source id lane at place callsite values settings counting r = record r {
-  spans = with_span id (made_told callsite lane values (context_from r.spans (around lane place) source) at settings counting) r.spans;
+  spans = with_span_data id (new_span_data callsite lane values (context_from r.spans (around lane place) source) at settings counting) r.spans;
 }
 
 -- and where spans start early it starts at once
-abbrev pub with_made : ℕ → Lane → ℕ → Parent → Option ℕ → Callsite → ValueSet → Recording → Recording
-with_made id lane at place current callsite values r =
-    let source = above r.settings.activation place current in
+abbrev pub with_new_recorded : ℕ → Lane → ℕ → Parent → Option ℕ → Callsite → ValueSet → Recording → Recording
+with_new_recorded id lane at place current callsite values r =
+    let source = parent_source r.settings.activation place current in
     with_starts (source_of r.settings.eager id) at (made_under source id lane at place callsite values r.settings r.counting (with_starts source at r))
 
 -- a span is linked to another, which is started
-abbrev pub linked : ℕ → ℕ → ℕ → Recording → Recording
-linked id from at r = record r { spans = with_link id at (ids_at (told_at from r.spans)) r.spans }
+abbrev pub with_started_link : ℕ → ℕ → ℕ → Recording → Recording
+with_started_link id from at r = record r { spans = with_link id at (ids_at (data_at from r.spans)) r.spans }
 
 abbrev pub with_follow : ℕ → ℕ → ℕ → Recording → Recording
-with_follow id from at r = linked id from at (with_start from at r)
+with_follow id from at r = with_started_link id from at (with_start from at r)
 
 -- an event is told to the span that it reaches
 abbrev pub with_event : Option ℕ → ℕ → Callsite → ValueSet → Recording → Recording
@@ -107,14 +107,14 @@ with_event None at callsite values r = r
 with_event (Some id) at callsite values r = with_applied id at (event_of callsite values r.settings at) r
 
 -- an entry, which attached a context as that number, or none
-abbrev pub entered : ℕ → ℕ → ℕ → Option ℕ → Recording → Recording
-entered id lane at attached r = record r {
+abbrev pub with_entry_op : ℕ → ℕ → ℕ → Option ℕ → Recording → Recording
+with_entry_op id lane at attached r = record r {
   spans = with_op id at ops.Enter r.spans;
   tokens = r.tokens ++ record { lane = lane; id = id; attached = attached } ∷ [];
 }
 
 abbrev pub with_entry : ℕ → ℕ → ℕ → Option ℕ → Recording → Recording
-with_entry id lane at attached r = entered id lane at attached (with_starts (source_of r.settings.activation id) at r)
+with_entry id lane at attached r = with_entry_op id lane at attached (with_starts (source_of r.settings.activation id) at r)
 
 -- an exit takes off the span's last entry on the lane
 abbrev pub with_exit : ℕ → ℕ → ℕ → Recording → Recording
@@ -124,12 +124,12 @@ with_exit id lane at r = record r {
 }
 
 -- a known span's record is the next that is finished
-abbrev pub closed : Option Told → ℕ → ℕ → Recording → Recording
-closed None id at r = r
-closed (Some told) id at r = record r { spans = remove_entry (is_id id) r.spans; finished = r.finished ++ record_of told at ∷ [] }
+abbrev pub without_closed : Option SpanData → ℕ → ℕ → Recording → Recording
+without_closed None id at r = r
+without_closed (Some told) id at r = record r { spans = remove_entry (is_id id) r.spans; finished = r.finished ++ record_of told at ∷ [] }
 
 abbrev pub closed_started : ℕ → ℕ → Recording → Recording
-closed_started id at r = closed (told_at id r.spans) id at r
+closed_started id at r = without_closed (data_at id r.spans) id at r
 
 -- a span starts, if it hasn't, and closes
 abbrev pub with_close : ℕ → ℕ → Recording → Recording
@@ -141,22 +141,22 @@ with_close id at r = closed_started id at (with_start id at r)
 pub record AttachesAs (own : Context) (before later : Lane) (attached : Option ℕ) : Type 0 where
   pub number : ℕ
   pub is : attached ≡ Some number
-  pub fresh : has number before.contexts.live ≡ false
+  pub fresh : has_number number before.contexts.live ≡ false
   pub live : later.contexts.live ≡ before.contexts.live ++ (number, own) ∷ []
 
 -- with activation the span's own context is attached to the lane
-abbrev pub Attaches : Bool → Context → Lane → Lane → Option ℕ → Type 0
-Attaches true own before later attached = AttachesAs own before later attached
-Attaches false own before later attached = (later.contexts.live ≡ before.contexts.live) × (attached ≡ None)
+abbrev pub AttachesOwn : Bool → Context → Lane → Lane → Option ℕ → Type 0
+AttachesOwn true own before later attached = AttachesAs own before later attached
+AttachesOwn false own before later attached = (later.contexts.live ≡ before.contexts.live) × (attached ≡ None)
 
 -- what an entry attached is detached
 abbrev pub Detaches : Option ℕ → Lane → Lane → Type 0
 Detaches None before later = later.contexts.live ≡ before.contexts.live
-Detaches (Some number) before later = later.contexts.live ≡ without number before.contexts.live
+Detaches (Some number) before later = later.contexts.live ≡ without_number number before.contexts.live
 
 pub record Enters (r : Recording) (id at : ℕ) (before later : Lane) (t : Recording) : Type 0 where
   pub attached : Option ℕ
-  pub lane : Attaches r.settings.activation (own_or empty_context (told_at id (with_starts (source_of r.settings.activation id) at r).spans)) before later attached
+  pub lane : AttachesOwn r.settings.activation (own_or empty_context (data_at id (with_starts (source_of r.settings.activation id) at r).spans)) before later attached
   pub is : t ≡ with_entry id before.id at attached r
 
 pub record Exits (r : Recording) (id at : ℕ) (before later : Lane) (t : Recording) : Type 0 where
@@ -172,7 +172,7 @@ Stays r before later t = (t ≡ r) × (later.contexts.live ≡ before.contexts.l
 -- ---- all hooks and all calls
 
 abbrev pub RecordsHook : Recording → Hook → Recording → Type 0
-RecordsHook r (OnNewSpan id lane at place current callsite values) t = t ≡ with_made id lane at place current callsite values r
+RecordsHook r (OnNewSpan id lane at place current callsite values) t = t ≡ with_new_recorded id lane at place current callsite values r
 RecordsHook r (OnRecord id at callsite values) t = t ≡ with_applied id at (ops.Update (span_update callsite values r.settings)) r
 RecordsHook r (OnFollows id from at) t = t ≡ with_follow id from at r
 RecordsHook r (OnEvent reached lane at callsite values) t = t ≡ with_event reached at callsite values r
@@ -193,54 +193,54 @@ RecordsCall spans r (TryClose id at) t = t ≡ (if (span_at spans.made id).holds
 
 -- a chain of closes: each span that closes, in order
 pub record RecordsChain (at : ℕ) (next : Option ℕ) (x y : Spans) (before later : Recording) : Type 0 where
-  pub chain : Released next x y
+  pub chain : ReleasesChain next x y
   pub is : later ≡ fold (λ r id. with_close id at r) before (closed_in next x y chain)
 
 -- a call from outside: an op is applied, or a span starts whose own context is shown
 abbrev pub RecordsPart : Recording → PartCall → Recording → Type 0
 RecordsPart r (Applies id at op answer) t = AppliesIn r.spans id at op answer t.spans × (t ≡ record r { spans = t.spans })
-RecordsPart r (Shows id at answer) t = (t ≡ with_start id at r) × (answer ≡ context_at (told_at id t.spans))
+RecordsPart r (Shows id at answer) t = (t ≡ with_start id at r) × (answer ≡ context_at (data_at id t.spans))
 
 -- ---- the stack
 
 -- what the layer straight over the registry keeps
-abbrev pub recorded : Layered (Roomed Recorded) Registered → Recording
-recorded s = recording_of s.layer.core
+abbrev pub layer_recording : Layered (CoreWithRoom RecorderValue) RegistryValue → Recording
+layer_recording s = recording_of s.layer.core
 
 -- worlds whose subscribers are such stacks
-abbrev pub StackWorlds : Type 0
-StackWorlds = Worlds (Layered (Roomed Recorded) Registered)
+abbrev pub RecordingWorlds : Type 0
+RecordingWorlds = Worlds (Layered (CoreWithRoom RecorderValue) RegistryValue)
 
-abbrev pub recording_in : StackWorlds → ℕ → Recording
-recording_in world dispatch = seen recorded no_recording world dispatch
+abbrev pub recording_in : RecordingWorlds → ℕ → Recording
+recording_in world dispatch = member_of layer_recording no_recording world dispatch
 
 -- ---- the state of any span
 
 -- what an op of one span makes of the state of any
-abbrev pub told_after : Bool → ℕ → Op → Option Told → Option Told
-told_after false at op told = told
-told_after true at op None = None
-told_after true at op (Some told) = Some (changed told at op)
+abbrev pub data_after : Bool → ℕ → Op → Option SpanData → Option SpanData
+data_after false at op told = told
+data_after true at op None = None
+data_after true at op (Some told) = Some (after_op told at op)
 
 -- the same for a start as the recorder's next span, if there is a context to start under
-abbrev pub told_started : Option Context → Bool → ℕ → ℕ → Option Told → Option Told
-told_started None same count at told = told
-told_started (Some under) same count at told = told_after same at (ops.Start (recorder_ids (count + 1) (ids_of under))) told
+abbrev pub data_started : Option Context → Bool → ℕ → ℕ → Option SpanData → Option SpanData
+data_started None same count at told = told
+data_started (Some under) same count at told = data_after same at (ops.Start (recorder_ids (count + 1) (ids_of under))) told
 
 -- a state with a start as the recorder's next span, where it hasn't started
-abbrev pub started_by : Option SpanContext → ℕ → ℕ → Told → Told
+abbrev pub started_by : Option SpanContext → ℕ → ℕ → SpanData → SpanData
 started_by (Some own) count at told = told
-started_by None count at told = changed told at (ops.Start (recorder_ids (count + 1) (ids_of told.parent)))
+started_by None count at told = after_op told at (ops.Start (recorder_ids (count + 1) (ids_of told.parent)))
 
 abbrev pub count_after : Option SpanContext → ℕ → ℕ
 count_after (Some own) count = count
 count_after None count = count + 1
 
 -- what a close of a known span leaves
-pub record Closes (id at : ℕ) (r : Recording) (told : Told) (t : Recording) : Type 0 where
+pub record Closes (id at : ℕ) (r : Recording) (told : SpanData) (t : Recording) : Type 0 where
   pub finished : t.finished ≡ r.finished ++ record_of (started_by told.own r.started at told) at ∷ []
   pub started : t.started ≡ count_after told.own r.started
   pub tokens : t.tokens ≡ r.tokens
   pub settings : t.settings ≡ r.settings
   pub counting : t.counting ≡ r.counting
-  pub others : (other : ℕ) → other ≢ id → told_at other t.spans ≡ told_at other r.spans
+  pub others : (other : ℕ) → other ≢ id → data_at other t.spans ≡ data_at other r.spans

@@ -4,7 +4,7 @@ use Rattle.std.specs.Map.{remove_entry}
 use Rattle.otel_base.specs.declared.context.Context.{Context}
 use Rattle.otel_base.specs.declared.context.SpanContext.{SpanContext}
 use Rattle.otel_base.specs.Ids.{ids_of}
-use Rattle.otel_base.specs.Stack.{has, without, last_context, empty_context}
+use Rattle.otel_base.specs.Stack.{has_number, without_number, last_context, empty_context}
 use Rattle.otel_base.specs.Tracer.{TracerCall, Start, Reserve, Finish}
 use Rattle.trace_base.specs.declared.callsite.Callsite.{Callsite}
 use Rattle.trace_base.specs.declared.field.ValueSet.{ValueSet}
@@ -22,9 +22,9 @@ use Rattle.otel_state.specs.fields.EventFields.{event_of}
 use Rattle.otel_state.specs.fields.FirstAttributes.{first_attributes}
 use Rattle.otel_state.specs.fields.SpanFields.{span_update}
 use Rattle.otel_state.specs.Stack.{last_passing}
-use Rattle.otel_state.specs.States.{Told, begun, changed, record_of}
+use Rattle.otel_state.specs.States.{SpanData, data_at_making, after_op, record_of}
 use Rattle.otel_layer.specs.declared.tokens.Token.{Token}
-use Rattle.otel_layer.specs.Table.{told_at, knows_span, with_span, update, with_op, waits, own_or, ids_at, is_id}
+use Rattle.otel_layer.specs.Table.{data_at, knows_span, with_span_data, update, with_op, waits, own_or, ids_at, is_id}
 use Rattle.otel_layer.specs.Core.{Core, on_spans, is_token}
 
 -- ---- room
@@ -48,22 +48,22 @@ StartsIf does None id at c d = d ≡ c
 StartsIf does (Some under) id at c d =
     (given : SpanContext) × does c.tracer (Start (ids_of under) given) d.tracer × (d ≡ record c { tracer = d.tracer; spans = with_op id at (ops.Start given) c.spans })
 
-abbrev pub Starts : {T : Type 0} → (T → TracerCall → T → Type 0) → ℕ → ℕ → Core T → Core T → Type 0
-Starts does id at c d = StartsIf does (waits (told_at id c.spans)) id at c d
+abbrev pub StartsSpan : {T : Type 0} → (T → TracerCall → T → Type 0) → ℕ → ℕ → Core T → Core T → Type 0
+StartsSpan does id at c d = StartsIf does (waits (data_at id c.spans)) id at c d
 
 -- the span that is named starts, if one is
 abbrev pub StartsAny : {T : Type 0} → (T → TracerCall → T → Type 0) → Option ℕ → ℕ → Core T → Core T → Type 0
 StartsAny does None at c d = d ≡ c
-StartsAny does (Some id) at c d = Starts does id at c d
+StartsAny does (Some id) at c d = StartsSpan does id at c d
 
 -- ---- a making
 
 -- the span that a new one gets its parent's context from: an explicit parent, or without activation the current span
-abbrev pub above : Bool → Parent → Option ℕ → Option ℕ
-above activation parent.Root current = None
-above activation (parent.Of id) current = Some id
-above true parent.Current current = None
-above false parent.Current current = current
+abbrev pub parent_source : Bool → Parent → Option ℕ → Option ℕ
+parent_source activation parent.Root current = None
+parent_source activation (parent.Of id) current = Some id
+parent_source true parent.Current current = None
+parent_source false parent.Current current = current
 
 -- the context where there is no such span: the lane's current one for a contextual span, else the empty one
 abbrev pub around : Lane → Parent → Context
@@ -71,61 +71,61 @@ around lane parent.Root = empty_context
 around lane (parent.Of id) = empty_context
 around lane parent.Current = last_context empty_context lane.contexts.live
 
-abbrev pub context_from : List (ℕ × Told) → Context → Option ℕ → Context
+abbrev pub context_from : List (ℕ × SpanData) → Context → Option ℕ → Context
 context_from spans other None = other
-context_from spans other (Some id) = own_or other (told_at id spans)
+context_from spans other (Some id) = own_or other (data_at id spans)
 
 -- a making whose context and moment come later, with what its fields write
-abbrev pub begun_under : Making → Context → ℕ → Update → Told
-begun_under making context at update = changed (begun (record making { parent = context; made = at })) at (ops.Update update)
+abbrev pub begun_under : Making → Context → ℕ → Update → SpanData
+begun_under making context at update = after_op (data_at_making (record making { parent = context; made = at })) at (ops.Update update)
 
 -- a span that was just made: its first attributes, then what its fields write
-abbrev pub made_told : Callsite → Lane → ValueSet → Context → ℕ → LayerSettings → Bool → Told
-made_told callsite lane values context at settings counting = changed
-    (begun (record { name = callsite.name; parent = context; made = at; first = first_attributes callsite lane settings; counting = counting; inactivity = settings.inactivity }))
+abbrev pub new_span_data : Callsite → Lane → ValueSet → Context → ℕ → LayerSettings → Bool → SpanData
+new_span_data callsite lane values context at settings counting = after_op
+    (data_at_making (record { name = callsite.name; parent = context; made = at; first = first_attributes callsite lane settings; counting = counting; inactivity = settings.inactivity }))
     at
     (ops.Update (span_update callsite values settings))
 
 -- a span that was made is added
-abbrev pub with_new : {T : Type 0} → ℕ → Told → Core T → Core T
-with_new id told c = record c { spans = with_span id told c.spans; made = c.made + 1 }
+abbrev pub with_added_span : {T : Type 0} → ℕ → SpanData → Core T → Core T
+with_added_span id told c = record c { spans = with_span_data id told c.spans; made = c.made + 1 }
 
 -- the span that gives the parent's context starts, the new one is added, and it starts if spans start early
 pub record MakesSpan {T : Type 0} (does : T → TracerCall → T → Type 0) (c : Core T) (id : ℕ) (lane : Lane) (at : ℕ) (place : Parent) (current : Option ℕ) (callsite : Callsite) (values : ValueSet) (d : Core T) : Type 0 where
   pub between : Core T
   pub spare : length c.spans < c.reserved
   pub few : c.made + 1 < 2 ^ 62
-  pub starts : StartsAny does (above c.settings.activation place current) at c between
+  pub starts : StartsAny does (parent_source c.settings.activation place current) at c between
   pub added : Core T
-  pub rest : added ≡ with_new id (made_told callsite lane values (context_from between.spans (around lane place) (above c.settings.activation place current)) at c.settings c.counting) between
+  pub rest : added ≡ with_added_span id (new_span_data callsite lane values (context_from between.spans (around lane place) (parent_source c.settings.activation place current)) at c.settings c.counting) between
   pub begins : StartsAny does (if c.settings.eager then Some id else None) at added d
 
 -- ---- follows
 
 -- a link to a span's own context, none where it isn't known
-abbrev pub with_link : ℕ → ℕ → Option SpanContext → List (ℕ × Told) → List (ℕ × Told)
+abbrev pub with_link : ℕ → ℕ → Option SpanContext → List (ℕ × SpanData) → List (ℕ × SpanData)
 with_link id at None spans = spans
 with_link id at (Some context) spans = with_op id at (ops.Link (record { context = context; attributes = [] })) spans
 
 -- a span is linked to another one's own context
-abbrev pub linked_to : ℕ → ℕ → ℕ → List (ℕ × Told) → List (ℕ × Told)
-linked_to id from at spans = with_link id at (ids_at (told_at from spans)) spans
+abbrev pub linked_to : ℕ → ℕ → ℕ → List (ℕ × SpanData) → List (ℕ × SpanData)
+linked_to id from at spans = with_link id at (ids_at (data_at from spans)) spans
 
 -- the followed span starts, and the other is linked to it
 pub record FollowsSpan {T : Type 0} (does : T → TracerCall → T → Type 0) (c : Core T) (id from at : ℕ) (d : Core T) : Type 0 where
   pub between : Core T
-  pub starts : Starts does from at c between
+  pub starts : StartsSpan does from at c between
   pub rest : d ≡ on_spans (linked_to id from at) between
 
 -- ---- events
 
 -- what an event makes of the span that it reaches, by settings, lane, moment, callsite and values
 abbrev pub Events : Type 0
-Events = LayerSettings → ℕ → ℕ → Callsite → ValueSet → Told → Told
+Events = LayerSettings → ℕ → ℕ → Callsite → ValueSet → SpanData → SpanData
 
 -- each event is told to its span
 abbrev pub all_events : Events
-all_events settings lane at callsite values told = changed told at (event_of callsite values settings at)
+all_events settings lane at callsite values told = after_op told at (event_of callsite values settings at)
 
 -- ---- entries and exits
 
@@ -133,18 +133,18 @@ all_events settings lane at callsite values told = changed told at (event_of cal
 pub record AttachesContext (own : Context) (before later : Lane) (attached : Option ℕ) : Type 0 where
   pub number : ℕ
   pub is : attached ≡ Some number
-  pub fresh : has number before.contexts.live ≡ false
+  pub fresh : has_number number before.contexts.live ≡ false
   pub keeps : KeepsLane true before later
   pub live : later.contexts.live ≡ before.contexts.live ++ (number, own) ∷ []
 
 pub record DetachesContext (number : ℕ) (before later : Lane) : Type 0 where
   pub keeps : KeepsLane true before later
   pub attached : 0 < attached_as number before
-  pub live : later.contexts.live ≡ without number before.contexts.live
+  pub live : later.contexts.live ≡ without_number number before.contexts.live
 
-abbrev pub LeavesLane : Option ℕ → Lane → Lane → Type 0
-LeavesLane None before later = later ≡ before
-LeavesLane (Some number) before later = DetachesContext number before later
+abbrev pub DetachesOwn : Option ℕ → Lane → Lane → Type 0
+DetachesOwn None before later = later ≡ before
+DetachesOwn (Some number) before later = DetachesContext number before later
 
 -- with activation the span's own context is attached
 abbrev pub EntersLane : Bool → Context → Lane → Lane → Option ℕ → Type 0
@@ -153,7 +153,7 @@ EntersLane false own before later attached = (later ≡ before) × (attached ≡
 
 -- the own context of a span, the empty one where it isn't known
 abbrev pub own_in : {T : Type 0} → Core T → ℕ → Context
-own_in c id = own_or empty_context (told_at id c.spans)
+own_in c id = own_or empty_context (data_at id c.spans)
 
 -- one open entry more, and the last one of a span on a lane taken off
 abbrev pub with_token : {T : Type 0} → Token → Core T → Core T
@@ -174,7 +174,7 @@ pub record EntersSpan {T : Type 0} (does : T → TracerCall → T → Type 0) (c
 pub record ExitsSpan {T : Type 0} (c : Core T) (id at : ℕ) (before later : Lane) (d : Core T) : Type 0 where
   pub token : Token
   pub last : last_passing (is_token before.id id) c.tokens ≡ Some token
-  pub leaves : LeavesLane (if c.settings.activation then token.attached else None) before later
+  pub leaves : DetachesOwn (if c.settings.activation then token.attached else None) before later
   pub rest : d ≡ record c { spans = with_op id at ops.Exit c.spans; tokens = without_last (is_token before.id id) c.tokens }
 
 -- ---- a close
@@ -186,9 +186,9 @@ with_finish tracer c = record c { tracer = tracer; reserved = c.reserved - 1 }
 -- the span starts, and its record is finished
 pub record ClosesSpan {T : Type 0} (does : T → TracerCall → T → Type 0) (c : Core T) (id at : ℕ) (d : Core T) : Type 0 where
   pub between : Core T
-  pub told : Told
-  pub starts : Starts does id at c between
-  pub is : told_at id between.spans ≡ Some told
+  pub told : SpanData
+  pub starts : StartsSpan does id at c between
+  pub is : data_at id between.spans ≡ Some told
   pub finishes : does between.tracer (Finish (record_of told at)) d.tracer
   pub rest : d ≡ record between { spans = remove_entry (is_id id) between.spans; reserved = between.reserved - 1; tracer = d.tracer }
 

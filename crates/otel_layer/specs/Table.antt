@@ -8,68 +8,68 @@ use Rattle.otel_base.specs.Ids.{ids_of}
 use Rattle.otel_base.specs.declared.record.Link.{Link}
 use Rattle.otel_state.specs.declared.op.Op.{Op}
 use Rattle.otel_state.specs.declared.op.Op.TheVariants as ops
-use Rattle.otel_state.specs.States.{Told, Room, Kept, changed, HasRoom}
+use Rattle.otel_state.specs.States.{SpanData, Room, StateValue, after_op, HasRoom}
 use Rattle.otel_layer.specs.declared.table.Entry.{Entry}
 
 -- a table: the spans, the spare room of each, and how many more spans there is room for
-pub record Tabled : Type 0 where
-  pub spans : List (ℕ × Told)
+pub record SpanTableValue : Type 0 where
+  pub spans : List (ℕ × SpanData)
   pub rooms : List (ℕ × Room)
   pub room : ℕ
 
 -- what is read off the states, by id; an entry without one is a gap, and left out
-abbrev pub with_read : {A : Type 0} → ℕ → (Kept → A) → Option Kept → List (ℕ × A) → List (ℕ × A)
-with_read id f None others = others
-with_read id f (Some state) others = (id, f state) ∷ others
+abbrev pub with_entry_read : {A : Type 0} → ℕ → (StateValue → A) → Option StateValue → List (ℕ × A) → List (ℕ × A)
+with_entry_read id f None others = others
+with_entry_read id f (Some state) others = (id, f state) ∷ others
 
-abbrev pub read_off : {A : Type 0} → (Kept → A) → List Entry → List (ℕ × A)
+abbrev pub read_off : {A : Type 0} → (StateValue → A) → List Entry → List (ℕ × A)
 read_off f [] = []
-read_off f (e ∷ es) = with_read e.id f e.state (read_off f es)
+read_off f (e ∷ es) = with_entry_read e.id f e.state (read_off f es)
 
-abbrev pub tolds : List Entry → List (ℕ × Told)
-tolds entries = read_off (λ state. state.told) entries
+abbrev pub all_data : List Entry → List (ℕ × SpanData)
+all_data entries = read_off (λ state. state.told) entries
 
 abbrev pub rooms : List Entry → List (ℕ × Room)
 rooms entries = read_off (λ state. state.room) entries
 
 -- the ids, those of gaps too
-abbrev pub ids : List Entry → List ℕ
-ids entries = map (λ e. e.id) entries
+abbrev pub entry_ids : List Entry → List ℕ
+entry_ids entries = map (λ e. e.id) entries
 
-abbrev pub tabled : List Entry → ℕ → Tabled
-tabled entries room = record { spans = tolds entries; rooms = rooms entries; room = room }
+abbrev pub span_table_value : List Entry → ℕ → SpanTableValue
+span_table_value entries room = record { spans = all_data entries; rooms = rooms entries; room = room }
 
-abbrev pub is_of : ℕ → Entry → Bool
-is_of id = λ e. (e.id == id) && is_some e.state
+abbrev pub is_of_id : ℕ → Entry → Bool
+is_of_id id = λ e. (e.id == id) && is_some e.state
 
 abbrev pub is_id : ℕ → ℕ → Bool
 is_id id = λ k. k == id
 
 -- what a span has come to, if it is known
-abbrev pub told_at : ℕ → List (ℕ × Told) → Option Told
-told_at id spans = lookup (is_id id) spans
+abbrev pub data_at : ℕ → List (ℕ × SpanData) → Option SpanData
+data_at id spans = lookup (is_id id) spans
 
-abbrev pub knows_span : ℕ → List (ℕ × Told) → Bool
+abbrev pub knows_span : ℕ → List (ℕ × SpanData) → Bool
 knows_span id spans = list_any (is_id id) (keys_of spans)
 
 -- one span more
-abbrev pub with_span : ℕ → Told → List (ℕ × Told) → List (ℕ × Told)
-with_span id told spans = spans ++ (id, told) ∷ []
+abbrev pub with_span_data : ℕ → SpanData → List (ℕ × SpanData) → List (ℕ × SpanData)
+with_span_data id told spans = spans ++ (id, told) ∷ []
 
 -- the spans with one of them changed; nothing changes where it isn't known
-abbrev pub update : ℕ → (Told → Told) → List (ℕ × Told) → List (ℕ × Told)
+abbrev pub update : ℕ → (SpanData → SpanData) → List (ℕ × SpanData) → List (ℕ × SpanData)
 update id f [] = []
 update id f (e ∷ es) = if e.0 == id then (e.0, f e.1) ∷ es else e ∷ update id f es
 
-abbrev pub with_op : ℕ → ℕ → Op → List (ℕ × Told) → List (ℕ × Told)
-with_op id at op spans = update id (λ told. changed told at op) spans
+abbrev pub with_op : ℕ → ℕ → Op → List (ℕ × SpanData) → List (ℕ × SpanData)
+with_op id at op spans = update id (λ told. after_op told at op) spans
 
 -- how many spans haven't started
 abbrev pub one_waiting : Option SpanContext → ℕ
 one_waiting None = 1
 one_waiting (Some own) = 0
 
-abbrev pub waiting_in : List (ℕ × Told) → ℕ
+abbrev pub waiting_in : List (ℕ × SpanData) → ℕ
 waiting_in [] = 0
 waiting_in (e ∷ es) = one_waiting e.1.own + waiting_in es
 
@@ -78,17 +78,17 @@ abbrev pub waits_by : Option SpanContext → Context → Option Context
 waits_by None context = Some context
 waits_by (Some own) context = None
 
-abbrev pub waits : Option Told → Option Context
+abbrev pub waits : Option SpanData → Option Context
 waits None = None
 waits (Some told) = waits_by told.own told.parent
 
 -- the own context of a span, the other one where it isn't known
-abbrev pub own_or : Context → Option Told → Context
+abbrev pub own_or : Context → Option SpanData → Context
 own_or other None = other
 own_or other (Some told) = record { span = told.own }
 
 -- the ids of a span, if it is known
-abbrev pub ids_at : Option Told → Option SpanContext
+abbrev pub ids_at : Option SpanData → Option SpanContext
 ids_at None = None
 ids_at (Some told) = Some (ids_of (record { span = told.own }))
 
@@ -101,19 +101,19 @@ pub record RoomForLink (id : ℕ) (rooms : List (ℕ × Room)) : Type 0 where
   pub any : (link : Link) → RoomFor id (ops.Link link) rooms
 
 -- the ids rise, from the first argument on
-abbrev pub Rises : ℕ → List ℕ → Type 0
-Rises least [] = Unit {0}
-Rises least (id ∷ ids) = (least ≤ id) × Rises (suc id) ids
+abbrev pub IdsRise : ℕ → List ℕ → Type 0
+IdsRise least [] = Unit {0}
+IdsRise least (id ∷ ids) = (least ≤ id) × IdsRise (suc id) ids
 
 -- those of the entries do, if that is said
 abbrev pub MayRise : Bool → List Entry → Type 0
-MayRise rising entries = rising ≡ true → Rises 0 (ids entries)
+MayRise rising entries = rising ≡ true → IdsRise 0 (entry_ids entries)
 
 -- they do with one more
 abbrev pub RisesTo : ℕ → List Entry → Type 0
-RisesTo id entries = Rises 0 (ids entries ++ id ∷ [])
+RisesTo id entries = IdsRise 0 (entry_ids entries ++ id ∷ [])
 
 -- what a table says of its entries: whether the ids rise, and how many aren't gaps
 pub record IsKept (rising : Bool) (known : ℕ) (entries : List Entry) : Type 0 where
   pub rises : MayRise rising entries
-  pub counts : known ≡ length (tolds entries)
+  pub counts : known ≡ length (all_data entries)

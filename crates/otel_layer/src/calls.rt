@@ -1,20 +1,20 @@
 //! What the hooks of the layer do, a part at a time, in room that was taken.
 ghost use Rattle.std.specs.Prelude.{◌≡◌, ◌<◌, ◌≤◌, ◌^◌, ◌+◌, true, false, length, None, Some, if◌then◌else◌};
 ghost use Rattle.std.specs.Map.{remove_entry};
-ghost use Rattle.otel_base.specs.Stack.{IsReady};
+ghost use Rattle.otel_base.specs.Stack.{IsReadyToAttach};
 ghost use Rattle.otel_base.specs.Tracer.{Finish};
 ghost use Rattle.trace_base.specs.lanes.Contexts.{AreAttached};
 ghost use Rattle.otel_state.specs.declared.op.Op.TheVariants as ops;
 ghost use Rattle.otel_state.specs.Content.{Making};
 ghost use Rattle.otel_state.specs.Stack.{last_passing};
-ghost use Rattle.otel_state.specs.States.{begun, is_growing};
-ghost use Rattle.otel_layer.specs.Table.{told_at, knows_span, update, with_op, is_id, RoomFor, RoomForLink};
-ghost use Rattle.otel_layer.specs.Counting.{counted};
+ghost use Rattle.otel_state.specs.States.{data_at_making, is_growing};
+ghost use Rattle.otel_layer.specs.Table.{data_at, knows_span, update, with_op, is_id, RoomFor, RoomForLink};
+ghost use Rattle.otel_layer.specs.Counting.{after_counted};
 ghost use Rattle.otel_layer.specs.Core.{on_spans, entries_by, kept_in, is_token, IsWholeCore};
-ghost use Rattle.otel_layer.specs.Steps.{Starts, StartsAny, above, around, context_from, begun_under, with_new, MakesSpan};
+ghost use Rattle.otel_layer.specs.Steps.{StartsSpan, StartsAny, parent_source, around, context_from, begun_under, with_added_span, MakesSpan};
 ghost use Rattle.otel_layer.specs.Steps.{linked_to, FollowsSpan, own_in, with_token, without_token, EntersLane, EntersSpan};
 ghost use Rattle.otel_layer.specs.Steps.{ExitsSpan, with_finish, ClosesSpan, EntersIfKnown, ExitsIfKnown, ClosesIfKnown};
-ghost use Rattle.otel_layer.specs.Ready.{IsReadyState, IsReadyLane, IsOpenOn, IsStillOn};
+ghost use Rattle.otel_layer.specs.Ready.{IsReadyState, IsReadyLane, HasOpenEntry, IsAttachedIfKnown};
 
 use crate::layer::OpenTelemetryLayer;
 use crate::tokens::{Token, attach, leave, take_last};
@@ -36,7 +36,7 @@ impl<T: Tracer> OpenTelemetryLayer<T> {
     pub(crate) fn start(&mut self, id: Id, at: u64)
         requires { T.started self.old.core.tracer < 2 ^ 63 }
 
-        ensures starts { Starts T.does id at self.old.core self.new.core }
+        ensures starts { StartsSpan T.does id at self.old.core self.new.core }
         ensures rooms { self.new.rooms ≡ self.old.rooms }
         ensures room { self.new.room ≡ self.old.room }
         ensures token_room { self.new.token_room ≡ self.old.token_room }
@@ -81,7 +81,7 @@ impl<T: Tracer> OpenTelemetryLayer<T> {
     // Counts an event, and tells it to its span where it is taken.
     pub(crate) fn count_op(&mut self, id: Id, at: u64, op: Op, is_taken: bool)
         requires { RoomFor id op self.old.rooms }
-        ensures { self.new.core ≡ on_spans (update id (counted is_taken at op)) self.old.core }
+        ensures { self.new.core ≡ on_spans (update id (after_counted is_taken at op)) self.old.core }
     {
         self.put_op(id, at, Op::Counted);
         if is_taken {
@@ -130,7 +130,7 @@ impl<T: Tracer> OpenTelemetryLayer<T> {
     fn add(&mut self, id: Id, state: SpanState)
         requires room { 0 < self.old.room }
         requires few { self.old.core.made + 1 < 2 ^ 62 }
-        ensures { self.new.core ≡ with_new id state.told self.old.core }
+        ensures { self.new.core ≡ with_added_span id state.told self.old.core }
     {
         self.table.add(id, state);
         self.made += 1;
@@ -179,7 +179,7 @@ impl<T: Tracer> OpenTelemetryLayer<T> {
     fn enter_known(&mut self, id: Id, lane: &mut Lane, at: u64)
         requires few { T.started self.old.core.tracer < 2 ^ 63 }
         requires token { 0 < self.old.token_room }
-        requires room { self.old.core.settings.activation ≡ true → IsReady lane.old.contexts }
+        requires room { self.old.core.settings.activation ≡ true → IsReadyToAttach lane.old.contexts }
         ensures { EntersSpan T.does self.old.core id at lane.old lane.new self.new.core }
     {
         let source = if_on(self.settings.activation, id);
@@ -191,7 +191,7 @@ impl<T: Tracer> OpenTelemetryLayer<T> {
 
     // Attaches a span's own context, with activation.
     fn attach(&self, id: Id, lane: &mut Lane) -> Option<Attached>
-        requires { self.now.core.settings.activation ≡ true → IsReady lane.old.contexts }
+        requires { self.now.core.settings.activation ≡ true → IsReadyToAttach lane.old.contexts }
         ensures lane { EntersLane self.now.core.settings.activation (own_in self.now.core id) lane.old lane.new
             result }
         ensures id { lane.new.id ≡ lane.old.id }
@@ -216,8 +216,8 @@ impl<T: Tracer> OpenTelemetryLayer<T> {
 
     // Exits a span, if it is known.
     pub(crate) fn exit_if_known(&mut self, id: Id, lane: &mut Lane, at: u64)
-        requires open { IsOpenOn self.old.core id lane.old }
-        requires still { IsStillOn self.old.core id lane.old }
+        requires open { HasOpenEntry self.old.core id lane.old }
+        requires still { IsAttachedIfKnown self.old.core id lane.old }
         ensures { ExitsIfKnown self.old.core id at lane.old lane.new self.new.core }
     {
         if self.table.knows(id) {
@@ -271,7 +271,7 @@ impl<T: Tracer> OpenTelemetryLayer<T> {
     // Takes out the state of a span.
     fn remove(&mut self, id: Id) -> SpanState
         requires { knows_span id self.old.core.spans ≡ true }
-        ensures told { told_at id self.old.core.spans ≡ Some result.told }
+        ensures told { data_at id self.old.core.spans ≡ Some result.told }
         ensures core { self.new.core ≡ on_spans (remove_entry (is_id id)) self.old.core }
     {
         self.table.remove(id)
@@ -292,7 +292,7 @@ impl<T: Tracer> OpenTelemetryLayer<T> {
 // The state of a span that is made, with what its fields write.
 fn begun_state(state: SpanState, update: Update, context: Context, at: u64) -> SpanState
     requires { length update.attributes ≤ state.room.attributes }
-    ensures { (making : Making) → state.told ≡ begun making → result.told ≡ begun_under making context at update }
+    ensures { (making : Making) → state.told ≡ data_at_making making → result.told ≡ begun_under making context at update }
 {
     let mut state = state;
     state.begin(context, at);
@@ -319,7 +319,7 @@ fn again(id: &Option<Id>) -> Option<Id>
 
 // The span that a new one gets its parent's context from.
 fn above(activation: bool, place: Parent, current: Option<Id>) -> Option<Id>
-    ensures { result ≡ above activation place current }
+    ensures { result ≡ parent_source activation place current }
 {
     match place {
         Parent::Root => None,

@@ -3,7 +3,7 @@ ghost use Rattle.std.specs.Prelude.{◌≡◌, ◌^◌, ◌<◌, true, None, Som
 ghost use Rattle.std.proofs.Common.{refl};
 ghost use Rattle.std.proofs.lemmas.Bool.{true≢false};
 ghost use Rattle.std.specs.Borrow.{sem};
-ghost use Rattle.otel_layer.specs.Core.{Roomed, StaysWhole};
+ghost use Rattle.otel_layer.specs.Core.{CoreWithRoom, StaysWhole};
 ghost use Rattle.otel_layer.specs.Counting.{counting_core};
 ghost use Rattle.otel_layer.specs.lending.CountingLending.{LendsCountingTracer};
 ghost use Rattle.otel_layer.specs.Parts.{Touches};
@@ -51,7 +51,7 @@ impl<T: Tracer, F: Filter> FilteredOpenTelemetryLayer<T, F> {
         map: M,
     ) -> FilteredOpenTelemetryLayer<U, F>
         requires { M.pre map self.inner }
-        ensures core { (inner : Roomed U) × M.post map self.inner inner
+        ensures core { (inner : CoreWithRoom U) × M.post map self.inner inner
             × (result.inner.core ≡ counting_core inner.core) }
         ensures filter { result.filter ≡ self.filter }
     {

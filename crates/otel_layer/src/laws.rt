@@ -4,8 +4,8 @@ ghost use Rattle.otel_base.specs.declared.context.Context.{Context};
 ghost use Rattle.otel_base.specs.declared.memory.Memory.{Memory};
 ghost use Rattle.otel_state.specs.declared.op.Op.TheVariants as ops;
 ghost use Rattle.otel_state.specs.declared.op.OpReply.{OpReply};
-ghost use Rattle.otel_state.specs.States.{Told};
-ghost use Rattle.otel_layer.specs.Table.{told_at};
+ghost use Rattle.otel_state.specs.States.{SpanData};
+ghost use Rattle.otel_layer.specs.Table.{data_at};
 ghost use Rattle.otel_layer.specs.Parts.{Applies};
 ghost use Rattle.otel_layer.specs.Asking.{parent_answer, set_while_waiting};
 
@@ -14,7 +14,7 @@ use crate::part::OtelPart;
 /// A parent is set exactly while the span, of an enabled handle over a layer that shows it, hasn't started.
 pub fn parents<S: OtelPart>()
     ensures { (s t : S) (id at : ℕ) (context : Context) (answer : Option (Result OpReply Memory))
-        (spans : List (ℕ × Told)) (told : Told) (held : ℕ × ℕ) → S.touches s (Applies id at (ops.SetParent context) answer) t
-        → S.told s ≡ Some spans → told_at id spans ≡ Some told
+        (spans : List (ℕ × SpanData)) (told : SpanData) (held : ℕ × ℕ) → S.touches s (Applies id at (ops.SetParent context) answer) t
+        → S.told s ≡ Some spans → data_at id spans ≡ Some told
         → parent_answer (Some held) answer ≡ set_while_waiting told }
 {}

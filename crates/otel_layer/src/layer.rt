@@ -32,9 +32,9 @@ pub struct OpenTelemetryLayer<T> {
 
 impl<T> Model for OpenTelemetryLayer<T> {
     ghost use Rattle.std.specs.Prelude.{◌-◌, length, vec_capacity};
-    ghost use Rattle.otel_layer.specs.Core.{Roomed};
+    ghost use Rattle.otel_layer.specs.Core.{CoreWithRoom};
 
-    ghost Value = { Roomed T };
+    ghost Value = { CoreWithRoom T };
 
     ghost view = { λ l. record {
       core = record {

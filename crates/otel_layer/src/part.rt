@@ -2,8 +2,8 @@
 ghost use Rattle.std.specs.Prelude.{◌≡◌, ◌||◌, ◌^◌, ◌<◌, if◌then◌else◌, ℕ, Bool, true, false, List, Option, None, Some};
 ghost use Rattle.std.proofs.Common.{refl, ap};
 ghost use Rattle.std.proofs.lemmas.Bool.{true≢false};
-ghost use Rattle.otel_state.specs.States.{Told};
-ghost use Rattle.otel_layer.specs.Parts.{PartCall, Applies, Shows, IsOutside, Touches, TouchesNone, TouchesFirst, TellsIf, IsUnanswered, StaysLayer, StaysStack};
+ghost use Rattle.otel_state.specs.States.{SpanData};
+ghost use Rattle.otel_layer.specs.Parts.{PartCall, Applies, Shows, IsOutside, Touches, TouchesNone, TouchesFirst, AnswersCallIf, IsUnanswered, StaysLayer, StaysStack};
 ghost use Rattle.otel_layer.specs.laws.CallsLemmas.{touches_tell, core_stays, layer_can_start, first_tells, first_none, first_has, first_stay, layered_is};
 ghost use Rattle.span_registry.specs.Layering.{kept_same, or_same, whole_both, in_step_same};
 
@@ -25,7 +25,7 @@ pub trait OtelPart {
     ghost has: { Self → Bool };
 
     /// What the spans that the layer knows have come to, where that is told.
-    ghost told: { Self → Option (List (ℕ × Told)) };
+    ghost told: { Self → Option (List (ℕ × SpanData)) };
 
     /// A call, and what it makes of it.
     ghost touches: { Self → PartCall → Self → Type 0 };
@@ -54,7 +54,7 @@ pub trait OtelPart {
     ghost none: { (s : Self) (call : PartCall) (t : Self) → touches s call t → has s ≡ false → IsUnanswered call × (t ≡ s) };
 
     /// What is told is told again after a call, as the call makes it.
-    ghost tells: { (s : Self) (call : PartCall) (t : Self) → touches s call t → TellsIf (told s) call (told t) };
+    ghost tells: { (s : Self) (call : PartCall) (t : Self) → touches s call t → AnswersCallIf (told s) call (told t) };
 
     ghost keeps_has: { (s : Self) (call : PartCall) (t : Self) → touches s call t → has t ≡ has s };
 }

@@ -1,6 +1,6 @@
 //! What the hooks of a layer need, and is made before them.
 ghost use Rattle.std.specs.Prelude.{◌≡◌};
-ghost use Rattle.otel_layer.specs.Ready.{retimed};
+ghost use Rattle.otel_layer.specs.Ready.{with_moment};
 
 use otel_base::record::OtelEvent;
 use otel_state::op::Op;
@@ -20,7 +20,7 @@ pub enum Ready {
 
 // The op of an event at another moment.
 pub(crate) fn at_moment(op: Op, at: u64) -> Op
-    ensures { result ≡ retimed at op }
+    ensures { result ≡ with_moment at op }
 {
     match op {
         Op::Event {

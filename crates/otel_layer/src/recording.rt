@@ -6,11 +6,11 @@ ghost use Rattle.trace_base.specs.Gate.{Worlds};
 ghost use Rattle.trace_base.specs.Calls.{SubscriberCall};
 ghost use Rattle.span_handles.specs.Worlds.{Replaced, Alike, Chain, spans_in};
 ghost use Rattle.otel_state.specs.declared.op.Op.{Op};
-ghost use Rattle.otel_state.specs.States.{Told};
+ghost use Rattle.otel_state.specs.States.{SpanData};
 ghost use Rattle.otel_layer.specs.Parts.{PartCall};
-ghost use Rattle.otel_layer.specs.Table.{told_at, with_op, with_span, waits, is_id};
-ghost use Rattle.otel_layer.specs.Recording.{StackWorlds, Recording, RecordsCall, RecordsChain, RecordsPart, recording_in};
-ghost use Rattle.otel_layer.specs.Recording.{with_start, with_close, told_after, told_started, Closes};
+ghost use Rattle.otel_layer.specs.Table.{data_at, with_op, with_span_data, waits, is_id};
+ghost use Rattle.otel_layer.specs.Recording.{RecordingWorlds, Recording, RecordsCall, RecordsChain, RecordsPart, recording_in};
+ghost use Rattle.otel_layer.specs.Recording.{with_start, with_close, data_after, data_started, Closes};
 
 use crate::layer::OpenTelemetryLayer;
 use crate::part::{OtelPart, OtelSubscriber};
@@ -24,7 +24,7 @@ pub type RecordedStack = Layered<OpenTelemetryLayer<Recorder>, Registry>;
 
 /// One call is one step of what the layer keeps.
 pub fn calls()
-    ensures { (old new : StackWorlds) (dispatch : ℕ) (call : SubscriberCall)
+    ensures { (old new : RecordingWorlds) (dispatch : ℕ) (call : SubscriberCall)
         → Replaced (λ s t. ⟦<RecordedStack as Subscriber>⟧.does s call t) old new dispatch
         → RecordsCall (spans_in ⟦<RecordedStack as Subscriber>⟧.spans old dispatch) (recording_in old dispatch)
         call (recording_in new dispatch) }
@@ -32,14 +32,14 @@ pub fn calls()
 
 /// Spare room is nothing that is kept.
 pub fn same()
-    ensures { (old new : StackWorlds) (dispatch : ℕ)
+    ensures { (old new : RecordingWorlds) (dispatch : ℕ)
         → Replaced ⟦<RecordedStack as Subscriber>⟧.same old new dispatch
         → recording_in new dispatch ≡ recording_in old dispatch }
 {}
 
 /// A chain of closes closes each span that it closes in the recording, in order.
 pub fn chains()
-    ensures { (old new : StackWorlds) (dispatch at id : ℕ)
+    ensures { (old new : RecordingWorlds) (dispatch at id : ℕ)
         → Replaced (λ s t. Chain ⟦<RecordedStack as Subscriber>⟧.spans ⟦<RecordedStack as Subscriber>⟧.does at
         (Some id) s t) old new dispatch
         → RecordsChain at (Some id) (spans_in ⟦<RecordedStack as Subscriber>⟧.spans old dispatch)
@@ -49,29 +49,29 @@ pub fn chains()
 
 /// What each change makes of the state of any span.
 pub fn states()
-    ensures op { (id other at : ℕ) (op : Op) (spans : List (ℕ × Told))
-        → told_at other (with_op id at op spans) ≡ told_after (other == id) at op (told_at other spans) }
-    ensures start { (id other at : ℕ) (r : Recording) → told_at other (with_start id at r).spans
-        ≡ told_started (waits (told_at id r.spans)) (other == id) r.started at (told_at other r.spans) }
-    ensures made { (id other : ℕ) (told : Told) (spans : List (ℕ × Told)) → told_at id spans ≡ None
-        → told_at other (with_span id told spans) ≡ (if other == id then Some told else told_at other spans) }
-    ensures removed { (id other : ℕ) (spans : List (ℕ × Told)) → other ≢ id
-        → told_at other (remove_entry (is_id id) spans) ≡ told_at other spans }
-    ensures closes { (id at : ℕ) (r : Recording) (told : Told) → told_at id r.spans ≡ Some told
+    ensures op { (id other at : ℕ) (op : Op) (spans : List (ℕ × SpanData))
+        → data_at other (with_op id at op spans) ≡ data_after (other == id) at op (data_at other spans) }
+    ensures start { (id other at : ℕ) (r : Recording) → data_at other (with_start id at r).spans
+        ≡ data_started (waits (data_at id r.spans)) (other == id) r.started at (data_at other r.spans) }
+    ensures made { (id other : ℕ) (told : SpanData) (spans : List (ℕ × SpanData)) → data_at id spans ≡ None
+        → data_at other (with_span_data id told spans) ≡ (if other == id then Some told else data_at other spans) }
+    ensures removed { (id other : ℕ) (spans : List (ℕ × SpanData)) → other ≢ id
+        → data_at other (remove_entry (is_id id) spans) ≡ data_at other spans }
+    ensures closes { (id at : ℕ) (r : Recording) (told : SpanData) → data_at id r.spans ≡ Some told
         → Closes id at r told (with_close id at r) }
 {}
 
 /// No span is known yet under the id of the next one.
 pub fn next()
-    ensures { (world : StackWorlds) (dispatch : ℕ) (s : _)
+    ensures { (world : RecordingWorlds) (dispatch : ℕ) (s : _)
         → slice_get world.subscribers dispatch ≡ Some s → ⟦<RecordedStack as Subscriber>⟧.is_whole s
-        → told_at (length (spans_in ⟦<RecordedStack as Subscriber>⟧.spans world dispatch).made)
+        → data_at (length (spans_in ⟦<RecordedStack as Subscriber>⟧.spans world dispatch).made)
         (recording_in world dispatch).spans ≡ None }
 {}
 
 /// A call from outside is one step of what the layer keeps.
 pub fn asks()
-    ensures { (old new : StackWorlds) (dispatch : ℕ) (call : PartCall)
+    ensures { (old new : RecordingWorlds) (dispatch : ℕ) (call : PartCall)
         → Replaced (λ s t. ⟦<RecordedStack as OtelPart>⟧.touches s call t) old new dispatch
         → RecordsPart (recording_in old dispatch) call (recording_in new dispatch) }
 {}

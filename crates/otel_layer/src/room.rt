@@ -4,7 +4,7 @@ ghost use Rattle.otel_base.specs.declared.enter_error.EnterError.TheVariants.{Fu
 ghost use Rattle.trace_base.specs.lanes.Contexts.{KeepsLive};
 ghost use Rattle.trace_base.specs.layers.Hooks.{ForNewSpan, ForRecord, ForFollows, ForEvent, ForEnter};
 ghost use Rattle.otel_layer.specs.Steps.{SameCore};
-ghost use Rattle.otel_layer.specs.Ready.{IsReadySpan, IsReadyOtel, IsReadyOp, IsReadyLane, MeetsFull, fresh_told, IsRoomed};
+ghost use Rattle.otel_layer.specs.Ready.{IsReadySpan, IsReadyOtel, IsReadyOp, IsReadyLane, MeetsFull, fresh_data, HasRoomForUpdate};
 
 use crate::layer::OpenTelemetryLayer;
 use crate::ready::Ready;
@@ -24,7 +24,7 @@ use trace_base::lane::Lane;
 use trace_base::span::Id;
 
 // How many spans a layer makes at most: 2^62 - 1.
-const MOST: u64 = 0x3fff_ffff_ffff_ffff;
+const MAX_SPANS: u64 = 0x3fff_ffff_ffff_ffff;
 
 impl<T: Tracer> OpenTelemetryLayer<T> {
     // What a new span needs.
@@ -50,7 +50,7 @@ impl<T: Tracer> OpenTelemetryLayer<T> {
 
     // The state of a new span, which doesn't know its parent and its moment yet.
     fn new_state(&self, lane: &Lane, callsite: &Callsite) -> Result<SpanState, Memory>
-        ensures { IfOk result (λ state. state.told ≡ fresh_told self.now.core lane.now callsite.now) }
+        ensures { IfOk result (λ state. state.told ≡ fresh_data self.now.core lane.now callsite.now) }
     {
         let first = first_attributes(self.alloc, callsite, lane, &self.settings)?;
         SpanState::new(
@@ -147,7 +147,7 @@ impl<T: Tracer> OpenTelemetryLayer<T> {
         ensures same { SameCore T.does self.old.core self.new.core }
         ensures ok { OnOk result (IsReadySpan self.new) }
     {
-        if self.made >= MOST {
+        if self.made >= MAX_SPANS {
             return Err(Memory);
         }
         self.table.reserve()?;
@@ -176,7 +176,7 @@ impl<T: Tracer> OpenTelemetryLayer<T> {
 
 // The state of a new span, with room for what its fields write.
 fn with_room(mut state: SpanState, update: Update) -> Result<Ready, Memory>
-    ensures { IfOk result (IsRoomed state.told update) }
+    ensures { IfOk result (HasRoomForUpdate state.told update) }
 {
     match state.reserve_room(update.attributes.as_slice().len(), 0, 0) {
         Ok(()) => Ok(Ready::Made { state, update }),

@@ -4,7 +4,7 @@ ghost use Rattle.std.specs.List.{position};
 ghost use Rattle.std.specs.Map.{remove_entry};
 ghost use Rattle.otel_state.specs.States.{is_growing};
 ghost use Rattle.otel_layer.specs.Parts.{AppliesIn, context_at};
-ghost use Rattle.otel_layer.specs.Table.{MayRise, RisesTo, is_of, tolds, rooms, ids, is_id, told_at, knows_span, with_op, with_span, waits, own_or, ids_at, RoomFor, RoomForLink};
+ghost use Rattle.otel_layer.specs.Table.{MayRise, RisesTo, is_of_id, all_data, rooms, entry_ids, is_id, data_at, knows_span, with_op, with_span_data, waits, own_or, ids_at, RoomFor, RoomForLink};
 
 use otel_base::context::{Context, SpanContext};
 use otel_base::memory::Memory;
@@ -36,11 +36,11 @@ pub(crate) struct Table {
 impl Model for Table {
     ghost use Rattle.std.specs.Prelude.{◌-◌, length, vec_capacity};
     ghost use Rattle.otel_layer.specs.Parts.{AppliesIn, context_at};
-    ghost use Rattle.otel_layer.specs.Table.{Tabled, tabled, IsKept};
+    ghost use Rattle.otel_layer.specs.Table.{SpanTableValue, span_table_value, IsKept};
 
-    ghost Value = { Tabled };
+    ghost Value = { SpanTableValue };
 
-    ghost view = { λ t. tabled t.entries.items (vec_capacity t.entries - length t.entries.items) };
+    ghost view = { λ t. span_table_value t.entries.items (vec_capacity t.entries - length t.entries.items) };
 
     ghost invariant = { λ t. IsKept t.rising t.known t.entries.items };
 }
@@ -75,14 +75,14 @@ impl Table {
 
     // The context that a span will start under, if it is there and hasn't started.
     pub(crate) fn waits(&self, id: Id) -> Option<Context>
-        ensures { result ≡ waits (told_at id self.now.spans) }
+        ensures { result ≡ waits (data_at id self.now.spans) }
     {
         waiting_context(self.entries.as_slice(), &self.places, self.rising, id)
     }
 
     // The own context of a span, the other one where it isn't there.
     pub(crate) fn own_or(&self, id: Id, other: Context) -> Context
-        ensures { result ≡ own_or other (told_at id self.now.spans) }
+        ensures { result ≡ own_or other (data_at id self.now.spans) }
     {
         own_context(
             self.entries.as_slice(),
@@ -95,7 +95,7 @@ impl Table {
 
     // The ids of a span that is there.
     pub(crate) fn ids(&self, id: Id) -> Option<SpanContext>
-        ensures { result ≡ ids_at (told_at id self.now.spans) }
+        ensures { result ≡ ids_at (data_at id self.now.spans) }
     {
         own_ids(self.entries.as_slice(), &self.places, self.rising, id)
     }
@@ -133,7 +133,7 @@ impl Table {
 
     // The own context of a span, none where it isn't there.
     pub(crate) fn context(&self, id: Id) -> Option<Context>
-        ensures { result ≡ context_at (told_at id self.now.spans) }
+        ensures { result ≡ context_at (data_at id self.now.spans) }
     {
         shown_context(self.entries.as_slice(), &self.places, self.rising, id)
     }
@@ -175,7 +175,7 @@ impl Table {
     // Adds a span, in room that was reserved.
     pub(crate) fn add(&mut self, id: Id, state: SpanState)
         requires { 0 < self.old.room }
-        ensures { self.new.spans ≡ with_span id state.told self.old.spans }
+        ensures { self.new.spans ≡ with_span_data id state.told self.old.spans }
     {
         note(&mut self.places, id, self.entries.len());
         self.rising = self.rising && is_youngest(self.entries.as_slice(), id);
@@ -192,7 +192,7 @@ impl Table {
     // Takes out the state of a span.
     pub(crate) fn remove(&mut self, id: Id) -> SpanState
         requires { knows_span id self.old.spans ≡ true }
-        ensures told { told_at id self.old.spans ≡ Some result.told }
+        ensures told { data_at id self.old.spans ≡ Some result.told }
         ensures spans { self.new.spans ≡ remove_entry (is_id id) self.old.spans }
     {
         let state = take(self.entries.as_mut_slice(), &self.places, self.rising, id);
@@ -218,7 +218,7 @@ fn is_youngest(entries: &[Entry], id: Id) -> bool
 // Where the entry of a span stands.
 fn find(entries: &[Entry], places: &Vec<u32>, rising: bool, id: Id) -> Option<usize>
     requires { MayRise rising entries.now }
-    ensures { result ≡ position (is_of id) entries.now }
+    ensures { result ≡ position (is_of_id id) entries.now }
 {
     if rising {
         match guess(entries, places, id) {
@@ -233,7 +233,7 @@ fn find(entries: &[Entry], places: &Vec<u32>, rising: bool, id: Id) -> Option<us
 // The same by the place where the entry was put, if it stands there.
 fn guess(entries: &[Entry], places: &Vec<u32>, id: Id) -> Option<usize>
     requires { MayRise true entries.now }
-    ensures { IfSome result (λ place. Some place ≡ position (is_of id) entries.now) }
+    ensures { IfSome result (λ place. Some place ≡ position (is_of_id id) entries.now) }
 {
     let place = *places.get(id.place() as usize)? as usize;
     if place >= entries.len() {
@@ -273,7 +273,7 @@ fn note_moved(before: usize, places: &mut Vec<u32>, entries: &[Entry]) {
 // The same where the ids rise: half of what is left falls away at each step.
 fn search(entries: &[Entry], id: Id) -> Option<usize>
     requires { MayRise true entries.now }
-    ensures { result ≡ position (is_of id) entries.now }
+    ensures { result ≡ position (is_of_id id) entries.now }
 {
     let wanted = id.place();
     let mut low = 0;
@@ -295,7 +295,7 @@ fn search(entries: &[Entry], id: Id) -> Option<usize>
 
 fn is_known(entries: &[Entry], places: &Vec<u32>, rising: bool, id: Id) -> bool
     requires { MayRise rising entries.now }
-    ensures { result ≡ knows_span id (tolds entries.now) }
+    ensures { result ≡ knows_span id (all_data entries.now) }
 {
     find(entries, places, rising, id).is_some()
 }
@@ -308,7 +308,7 @@ fn state_of<'a>(
     id: Id,
 ) -> Option<&'a SpanState>
     requires { MayRise rising entries.now }
-    ensures { option_map (λ state. state.now.told) result ≡ told_at id (tolds entries.now) }
+    ensures { option_map (λ state. state.now.told) result ≡ data_at id (all_data entries.now) }
 {
     match find(entries, places, rising, id) {
         Some(place) => match &entries[place].state {
@@ -321,7 +321,7 @@ fn state_of<'a>(
 
 fn waiting_context(entries: &[Entry], places: &Vec<u32>, rising: bool, id: Id) -> Option<Context>
     requires rises { MayRise rising entries.now }
-    ensures { result ≡ waits (told_at id (tolds entries.now)) }
+    ensures { result ≡ waits (data_at id (all_data entries.now)) }
 {
     let state = state_of(entries, places, rising, id)?;
     match state.started() {
@@ -338,7 +338,7 @@ fn own_context(
     other: Context,
 ) -> Context
     requires rises { MayRise rising entries.now }
-    ensures { result ≡ own_or other (told_at id (tolds entries.now)) }
+    ensures { result ≡ own_or other (data_at id (all_data entries.now)) }
 {
     match state_of(entries, places, rising, id) {
         Some(state) => Context {
@@ -350,7 +350,7 @@ fn own_context(
 
 fn own_ids(entries: &[Entry], places: &Vec<u32>, rising: bool, id: Id) -> Option<SpanContext>
     requires rises { MayRise rising entries.now }
-    ensures { result ≡ ids_at (told_at id (tolds entries.now)) }
+    ensures { result ≡ ids_at (data_at id (all_data entries.now)) }
 {
     match state_of(entries, places, rising, id) {
         Some(state) => Some(Context {
@@ -363,7 +363,7 @@ fn own_ids(entries: &[Entry], places: &Vec<u32>, rising: bool, id: Id) -> Option
 
 fn shown_context(entries: &[Entry], places: &Vec<u32>, rising: bool, id: Id) -> Option<Context>
     requires rises { MayRise rising entries.now }
-    ensures { result ≡ context_at (told_at id (tolds entries.now)) }
+    ensures { result ≡ context_at (data_at id (all_data entries.now)) }
 {
     match state_of(entries, places, rising, id) {
         Some(state) => Some(Context {
@@ -376,9 +376,9 @@ fn shown_context(entries: &[Entry], places: &Vec<u32>, rising: bool, id: Id) -> 
 fn put(entries: &mut [Entry], places: &Vec<u32>, rising: bool, id: Id, at: u64, op: Op)
     requires rises { MayRise rising entries.old }
     requires room { RoomFor id op (rooms entries.old) }
-    ensures told { tolds entries.new ≡ with_op id at op (tolds entries.old) }
+    ensures told { all_data entries.new ≡ with_op id at op (all_data entries.old) }
     ensures rooms { is_growing op ≡ false → rooms entries.new ≡ rooms entries.old }
-    ensures ids { ids entries.new ≡ ids entries.old }
+    ensures ids { entry_ids entries.new ≡ entry_ids entries.old }
 {
     match find(entries, places, rising, id) {
         Some(place) => match &mut entries[place].state {
@@ -397,9 +397,9 @@ fn reserve_op(
     op: &Op,
 ) -> Result<(), Memory>
     requires rises { MayRise rising entries.old }
-    ensures told { tolds entries.new ≡ tolds entries.old }
+    ensures told { all_data entries.new ≡ all_data entries.old }
     ensures room { OnOk result (RoomFor id op.now (rooms entries.new)) }
-    ensures ids { ids entries.new ≡ ids entries.old }
+    ensures ids { entry_ids entries.new ≡ entry_ids entries.old }
 {
     match find(entries, places, rising, id) {
         Some(place) => match &mut entries[place].state {
@@ -417,9 +417,9 @@ fn reserve_link(
     id: Id,
 ) -> Result<(), Memory>
     requires rises { MayRise rising entries.old }
-    ensures told { tolds entries.new ≡ tolds entries.old }
+    ensures told { all_data entries.new ≡ all_data entries.old }
     ensures room { OnOk result (RoomForLink id (rooms entries.new)) }
-    ensures ids { ids entries.new ≡ ids entries.old }
+    ensures ids { entry_ids entries.new ≡ entry_ids entries.old }
 {
     match find(entries, places, rising, id) {
         Some(place) => match &mut entries[place].state {
@@ -439,8 +439,8 @@ fn apply(
     op: Op,
 ) -> Option<Result<OpReply, Memory>>
     requires rises { MayRise rising entries.old }
-    ensures did { AppliesIn (tolds entries.old) id at op result (tolds entries.new) }
-    ensures ids { ids entries.new ≡ ids entries.old }
+    ensures did { AppliesIn (all_data entries.old) id at op result (all_data entries.new) }
+    ensures ids { entry_ids entries.new ≡ entry_ids entries.old }
 {
     match find(entries, places, rising, id) {
         Some(place) => match &mut entries[place].state {
@@ -457,10 +457,10 @@ fn apply(
 // Takes out the state of a span, and leaves a gap.
 fn take(entries: &mut [Entry], places: &Vec<u32>, rising: bool, id: Id) -> SpanState
     requires rises { MayRise rising entries.old }
-    requires known { knows_span id (tolds entries.old) ≡ true }
-    ensures told { told_at id (tolds entries.old) ≡ Some result.told }
-    ensures rest { tolds entries.new ≡ remove_entry (is_id id) (tolds entries.old) }
-    ensures ids { ids entries.new ≡ ids entries.old }
+    requires known { knows_span id (all_data entries.old) ≡ true }
+    ensures told { data_at id (all_data entries.old) ≡ Some result.told }
+    ensures rest { all_data entries.new ≡ remove_entry (is_id id) (all_data entries.old) }
+    ensures ids { entry_ids entries.new ≡ entry_ids entries.old }
 {
     match find(entries, places, rising, id) {
         Some(place) => match entries[place].state.take() {
@@ -473,7 +473,7 @@ fn take(entries: &mut [Entry], places: &Vec<u32>, rising: bool, id: Id) -> SpanS
 
 // Moves the states together where gaps outnumber them: each gap then costs little, whichever spans are taken out.
 fn close_gaps(entries: &mut Vec<Entry>, known: usize)
-    ensures told { tolds entries.new.items ≡ tolds entries.old.items }
+    ensures told { all_data entries.new.items ≡ all_data entries.old.items }
     ensures rises { MayRise true entries.old.items → MayRise true entries.new.items }
 {
     if known < entries.len() / 2 {

@@ -1,12 +1,12 @@
 //! The entries that a layer has open.
 ghost use Rattle.std.specs.Prelude.{◌≡◌, ℕ, ◌<◌, ◌≤◌, true, false, length, Some, None, IfSome, if◌then◌else◌};
 ghost use Rattle.std.specs.List.{list_any};
-ghost use Rattle.otel_base.specs.Stack.{IsReady};
+ghost use Rattle.otel_base.specs.Stack.{IsReadyToAttach};
 ghost use Rattle.trace_base.specs.lanes.Contexts.{attached_as};
 ghost use Rattle.trace_base.specs.Spans.{without_last};
 ghost use Rattle.otel_state.specs.Stack.{last_passing, IsLastPlace};
 ghost use Rattle.otel_layer.specs.Core.{entries_by, is_token};
-ghost use Rattle.otel_layer.specs.Steps.{AttachesContext, DetachesContext, LeavesLane};
+ghost use Rattle.otel_layer.specs.Steps.{AttachesContext, DetachesContext, DetachesOwn};
 
 use otel_base::context::Context;
 use otel_base::stack::Attached;
@@ -60,7 +60,7 @@ fn last_place(tokens: &[Token], lane: u64, id: Id) -> usize
 
 // Attaches a context to a lane that has room for it.
 pub(crate) fn attach(context: Context, lane: &mut Lane) -> Attached
-    requires { IsReady lane.old.contexts }
+    requires { IsReadyToAttach lane.old.contexts }
     ensures { AttachesContext context lane.old lane.new (Some result) }
 {
     let Ok(attached) = lane.contexts.attach(context) else {
@@ -72,7 +72,7 @@ pub(crate) fn attach(context: Context, lane: &mut Lane) -> Attached
 // Detaches what an entry attached, with activation.
 pub(crate) fn leave(activation: bool, attached: Option<Attached>, lane: &mut Lane)
     requires { activation ≡ true → IfSome attached (λ n. 0 < attached_as n lane.old) }
-    ensures lane { LeavesLane (if activation then attached else None) lane.old lane.new }
+    ensures lane { DetachesOwn (if activation then attached else None) lane.old lane.new }
     ensures id { lane.new.id ≡ lane.old.id }
 {
     match attached {

@@ -9,7 +9,7 @@ use Rattle.otel_metrics.specs.declared.instruments.Instrument.{Instrument}
 use Rattle.otel_metrics.specs.declared.measure.Measure.{Measure}
 use Rattle.otel_metrics.specs.declared.measure.MetricKind.{MetricKind}
 use Rattle.otel_metrics.specs.declared.measure.MetricKind.TheVariants.{CounterU64, UpDownCounterI64, HistogramU64, GaugeU64, GaugeI64}
-use Rattle.otel_metrics.specs.Instruments.{same_kind, is_of, instrument_of, place_of}
+use Rattle.otel_metrics.specs.Instruments.{same_kind, is_instrument_of, instrument_of, place_of}
 
 pub some_mapped : {A B : Type 0} (f : A → B) (o : Option A) (r : Option B) → r ≡ option_map f o → is_some r ≡ is_some o
 some_mapped f None r h = ap (λ v. is_some v) h
@@ -54,9 +54,9 @@ same_itself HistogramU64 = refl
 same_itself GaugeU64 = refl
 same_itself GaugeI64 = refl
 
-own : (m : Measure) → is_of m (instrument_of m) ≡ true
+own : (m : Measure) → is_instrument_of m (instrument_of m) ≡ true
 own m = rw (same_itself m.kind, (bytes_eq-Decides m.name m.name).1 refl) refl
 
 -- an instrument that is made stands behind the others
 pub found_new : (m : Measure) (known : List Instrument) → place_of m known ≡ None → place_of m (known ++ instrument_of m ∷ []) ≡ Some (length known)
-found_new m known none = found_last (is_of m) known (instrument_of m) none (own m)
+found_new m known none = found_last (is_instrument_of m) known (instrument_of m) none (own m)

@@ -5,11 +5,11 @@ use Rattle.std.specs.Str.{IsCharBoundary}
 use Rattle.std.specs.Str.Pattern.{FindsTextPrefix, StripsPrefix}
 use Rattle.std.proofs.Common.{◌≡◌, ℕ, List, Bor, Option, None, Some, MatchOption, true, false, option_map, length, drop, refl, sym, ap, ◌∙◌, subst}
 use Rattle.std.proofs.lemmas.Str.Pattern.{starts_text}
-use Rattle.otel_metrics.specs.Families.{behind}
+use Rattle.otel_metrics.specs.Families.{text_behind}
 
 pub stripped : (front text : List ℕ) (r : Option (Bor (List ℕ)))
     → MatchOption r (FindsTextPrefix front text None) (λ x. StripsPrefix (FindsTextPrefix front) text x.now)
-    → option_map (λ rest. rest.now) r ≡ behind front text
+    → option_map (λ rest. rest.now) r ≡ text_behind front text
 stripped front text None h =
     let lacks : starts_with eqb text front ≡ false = sym (starts_text false front text h) in
     rw lacks refl

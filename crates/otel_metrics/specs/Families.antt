@@ -8,8 +8,8 @@ use Rattle.otel_metrics.specs.declared.family.Family.{Family}
 use Rattle.otel_metrics.specs.declared.family.Family.TheVariants.{Gauge, MonotonicCounter, Counter, Histogram}
 
 -- what stands behind a front of a text, where it has that front
-abbrev pub behind : List ℕ → List ℕ → Option (List ℕ)
-behind front text = if starts_with eqb text front then Some (drop (length front) text) else None
+abbrev pub text_behind : List ℕ → List ℕ → Option (List ℕ)
+text_behind front text = if starts_with eqb text front then Some (drop (length front) text) else None
 
 -- the family, where the text has its front, else what else is read
 abbrev pub or_else : Family → Option (List ℕ) → Option (Family × List ℕ) → Option (Family × List ℕ)
@@ -18,8 +18,8 @@ or_else family (Some rest) other = Some (family, rest)
 
 -- the family that a field's name begins with, and what stands behind it
 unfoldable pub family_of : List ℕ → Option (Family × List ℕ)
-family_of name = or_else Gauge (behind (codes "gauge.") name) (or_else MonotonicCounter (behind (codes "monotonic_counter.") name)
-    (or_else Counter (behind (codes "counter.") name) (or_else Histogram (behind (codes "histogram.") name) None)))
+family_of name = or_else Gauge (text_behind (codes "gauge.") name) (or_else MonotonicCounter (text_behind (codes "monotonic_counter.") name)
+    (or_else Counter (text_behind (codes "counter.") name) (or_else Histogram (text_behind (codes "histogram.") name) None)))
 
 abbrev pub is_of_family : List ℕ → Bool
 is_of_family name = is_some (family_of name)

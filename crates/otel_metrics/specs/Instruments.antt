@@ -16,12 +16,12 @@ same_kind _ _ = false
 abbrev pub instrument_of : Measure → Instrument
 instrument_of m = record { kind = m.kind; name = m.name }
 
-abbrev pub is_of : Measure → Instrument → Bool
-is_of m instrument = same_kind instrument.kind m.kind && bytes_eq instrument.name m.name
+abbrev pub is_instrument_of : Measure → Instrument → Bool
+is_instrument_of m instrument = same_kind instrument.kind m.kind && bytes_eq instrument.name m.name
 
 -- the place of a measure's instrument, if it is known
 abbrev pub place_of : Measure → List Instrument → Option ℕ
-place_of m known = position (is_of m) known
+place_of m known = position (is_instrument_of m) known
 
 -- the instruments with a measure's
 abbrev pub with_instrument : Measure → List Instrument → List Instrument

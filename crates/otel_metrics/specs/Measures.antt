@@ -24,32 +24,32 @@ if_short n a = if nat_lt n (2 ^ 63) then Some a else None
 -- ---- numbers
 
 -- what a number from 0 on is to an instrument of a family
-abbrev pub natural_told : Family → ℕ → Option (MetricKind × ℤ)
-natural_told Gauge n = Some (GaugeU64, pos n)
-natural_told MonotonicCounter n = Some (CounterU64, pos n)
-natural_told Counter n = if_short n (UpDownCounterI64, pos n)
-natural_told Histogram n = Some (HistogramU64, pos n)
+abbrev pub natural_measured : Family → ℕ → Option (MetricKind × ℤ)
+natural_measured Gauge n = Some (GaugeU64, pos n)
+natural_measured MonotonicCounter n = Some (CounterU64, pos n)
+natural_measured Counter n = if_short n (UpDownCounterI64, pos n)
+natural_measured Histogram n = Some (HistogramU64, pos n)
 
 -- what a signed number is to one: a monotonic counter doesn't fall, and no signed number is one of a histogram
-abbrev pub signed_told : Family → ℤ → Option (MetricKind × ℤ)
-signed_told Gauge z = Some (GaugeI64, z)
-signed_told MonotonicCounter (pos n) = Some (CounterU64, pos n)
-signed_told MonotonicCounter (negsuc n) = None
-signed_told Counter z = Some (UpDownCounterI64, z)
-signed_told Histogram z = None
+abbrev pub signed_measured : Family → ℤ → Option (MetricKind × ℤ)
+signed_measured Gauge z = Some (GaugeI64, z)
+signed_measured MonotonicCounter (pos n) = Some (CounterU64, pos n)
+signed_measured MonotonicCounter (negsuc n) = None
+signed_measured Counter z = Some (UpDownCounterI64, z)
+signed_measured Histogram z = None
 
-abbrev pub number_told : Family → Value → Option (MetricKind × ℤ)
-number_told family (given.U64 n) = natural_told family n
-number_told family (given.I64 z) = signed_told family z
-number_told family _ = None
+abbrev pub number_measured : Family → Value → Option (MetricKind × ℤ)
+number_measured family (given.U64 n) = natural_measured family n
+number_measured family (given.I64 z) = signed_measured family z
+number_measured family _ = None
 
-abbrev pub named : List ℕ → MetricKind × ℤ → Number
-named name n = record { kind = n.0; name = name; value = n.1 }
+abbrev pub number_named : List ℕ → MetricKind × ℤ → Number
+number_named name n = record { kind = n.0; name = name; value = n.1 }
 
 -- the number of a field of a family
 abbrev pub number_of : Option (Family × List ℕ) → Value → Option Number
 number_of None value = None
-number_of (Some family) value = option_map (named family.1) (number_told family.0 value)
+number_of (Some family) value = option_map (number_named family.1) (number_measured family.0 value)
 
 -- ---- attributes
 
@@ -64,21 +64,21 @@ signed_kept (Some Histogram) z = Some (told.I64 z)
 signed_kept (Some family) z = None
 
 -- all else is an attribute as it is, or by its text
-abbrev pub kept : Option Family → Value → Option OtelValue
-kept family (given.U64 n) = natural_kept family n
-kept family (given.I64 z) = signed_kept family z
-kept family (given.Bool b) = Some (told.Bool b)
-kept family (given.Str text) = Some (told.Str text)
-kept family (given.Debug text) = Some (told.Str text)
-kept family (given.I128 z) = Some (told.Str (signed_decimal z))
-kept family (given.U128 n) = Some (told.Str (decimal n))
-kept family (given.Error message chain) = Some (told.Str message)
+abbrev pub value_as_attribute : Option Family → Value → Option OtelValue
+value_as_attribute family (given.U64 n) = natural_kept family n
+value_as_attribute family (given.I64 z) = signed_kept family z
+value_as_attribute family (given.Bool b) = Some (told.Bool b)
+value_as_attribute family (given.Str text) = Some (told.Str text)
+value_as_attribute family (given.Debug text) = Some (told.Str text)
+value_as_attribute family (given.I128 z) = Some (told.Str (signed_decimal z))
+value_as_attribute family (given.U128 n) = Some (told.Str (decimal n))
+value_as_attribute family (given.Error message chain) = Some (told.Str message)
 
-abbrev pub keyed : List ℕ → OtelValue → KeyValue
-keyed name value = record { key = name; value = value }
+abbrev pub attribute_named : List ℕ → OtelValue → KeyValue
+attribute_named name value = record { key = name; value = value }
 
 abbrev pub attribute_in : Option Family → List ℕ → Value → Option KeyValue
-attribute_in family name value = option_map (keyed name) (kept family value)
+attribute_in family name value = option_map (attribute_named name) (value_as_attribute family value)
 
 -- the attribute of a field, under its whole name
 abbrev pub attribute_of : List ℕ → Value → Option KeyValue

@@ -13,20 +13,20 @@ abbrev pub interest_in : Callsite → Interest
 interest_in c = if is_metrics_event c then Always else Never
 
 -- the measures that wait, oldest first, and the room for more
-pub record Waiting : Type 0 where
+pub record MeasuresWithRoom : Type 0 where
   pub measures : List Measure
   pub room : ℕ
 
 -- what a hook adds: an event its measures
-abbrev pub told_by : Hook → List Measure
-told_by (OnEvent reached lane at callsite values) = measures callsite values
-told_by _ = []
+abbrev pub measures_of_hook : Hook → List Measure
+measures_of_hook (OnEvent reached lane at callsite values) = measures callsite values
+measures_of_hook _ = []
 
 -- room for an event's measures, which were made before
-abbrev pub IsReady : Preparation → List Measure → ℕ → Type 0
-IsReady (ForEvent reached callsite values) made room = (made ≡ measures callsite values) × (length made ≤ room)
-IsReady _ made room = Unit {0}
+abbrev pub IsReadyEvent : Preparation → List Measure → ℕ → Type 0
+IsReadyEvent (ForEvent reached callsite values) made room = (made ≡ measures callsite values) × (length made ≤ room)
+IsReadyEvent _ made room = Unit {0}
 
 -- the measures of a hook stand behind those that wait
-abbrev pub Tells : Waiting → Hook → Waiting → Type 0
-Tells s hook t = t.measures ≡ s.measures ++ told_by hook
+abbrev pub AddsMeasuresOf : MeasuresWithRoom → Hook → MeasuresWithRoom → Type 0
+AddsMeasuresOf s hook t = t.measures ≡ s.measures ++ measures_of_hook hook

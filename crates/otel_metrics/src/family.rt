@@ -1,7 +1,7 @@
 //! The kinds of instruments that the name of a field begins with.
 ghost use Rattle.std.specs.Prelude.{◌≡◌, option_map};
 ghost use Rattle.std.specs.List.{list_any};
-ghost use Rattle.otel_metrics.specs.Families.{behind, family_of, is_of_family, is_metrics_event};
+ghost use Rattle.otel_metrics.specs.Families.{text_behind, family_of, is_of_family, is_metrics_event};
 
 use otel_base::text::Text;
 use trace_base::callsite::{Callsite, Kind};
@@ -37,7 +37,7 @@ pub(crate) fn family_of(name: &str) -> Option<(Family, &str)>
 
 // What stands behind a front of a text, where it has that front.
 fn behind<'a>(front: &str, text: &'a str) -> Option<&'a str>
-    ensures { option_map (λ rest. rest.now) result ≡ behind front.now text.now }
+    ensures { option_map (λ rest. rest.now) result ≡ text_behind front.now text.now }
 {
     text.strip_prefix(front)
 }

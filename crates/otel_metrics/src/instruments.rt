@@ -1,6 +1,6 @@
 //! Instruments: one for each kind and name that a measure came for.
 ghost use Rattle.std.specs.Prelude.{◌≡◌, [], Some, IfOk, OnOk, OnErr};
-ghost use Rattle.otel_metrics.specs.Instruments.{is_of, place_of, with_instrument, same_kind};
+ghost use Rattle.otel_metrics.specs.Instruments.{is_instrument_of, place_of, with_instrument, same_kind};
 
 use crate::measure::{Measure, MetricKind};
 use otel_base::list::Items;
@@ -73,7 +73,7 @@ fn place_of(known: &[Instrument], measure: &Measure) -> Option<usize>
 }
 
 fn is_of(measure: &Measure, instrument: &Instrument) -> bool
-    ensures { result ≡ is_of measure.now instrument.now }
+    ensures { result ≡ is_instrument_of measure.now instrument.now }
 {
     instrument.kind == measure.kind && instrument.name.as_str() == measure.name.as_str()
 }

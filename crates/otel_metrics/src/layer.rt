@@ -3,9 +3,9 @@ ghost use Rattle.std.specs.Prelude.{◌≡◌, ◌<◌, ◌≤◌, [], ◌∷◌
 ghost use Rattle.std.proofs.Common.{refl, sym, ap, ◌∙◌};
 ghost use Rattle.trace_base.specs.declared.lane.Lane.{Lane};
 ghost use Rattle.trace_base.specs.declared.subscriber.Interest.TheVariants.{Always};
-ghost use Rattle.trace_base.specs.layers.Unseeing.{unseeing, LeavesLanes, unseeing_sees, unseeing_lanes};
+ghost use Rattle.trace_base.specs.layers.Unseeing.{no_known_spans, LeavesLanes, unseeing_sees, unseeing_lanes};
 ghost use Rattle.otel_metrics.specs.Measures.{measures};
-ghost use Rattle.otel_metrics.specs.Waiting.{Waiting, IsReady, Tells, told_by};
+ghost use Rattle.otel_metrics.specs.Waiting.{MeasuresWithRoom, IsReadyEvent, AddsMeasuresOf, measures_of_hook};
 
 use crate::measure::{Measure, measures};
 use otel_base::enter_error::EnterError;
@@ -32,9 +32,9 @@ pub struct MetricsLayer {
 impl Model for MetricsLayer {
     ghost use Rattle.std.specs.Prelude.{◌-◌};
     ghost use Rattle.std.specs.VecDeque.{deque_len, deque_capacity};
-    ghost use Rattle.otel_metrics.specs.Waiting.{Waiting};
+    ghost use Rattle.otel_metrics.specs.Waiting.{MeasuresWithRoom};
 
-    ghost Value = { Waiting };
+    ghost Value = { MeasuresWithRoom };
 
     ghost view = { λ l. record { measures = l.waiting.items; room = deque_capacity l.waiting - deque_len l.waiting } };
 }
@@ -77,7 +77,7 @@ impl MetricsLayer {
 impl Layer for MetricsLayer {
     type Ready = Prepared;
 
-    ghost seen = { λ s. unseeing };
+    ghost seen = { λ s. no_known_spans };
 
     ghost kept = { λ s lane number. 0 };
 
@@ -93,9 +93,9 @@ impl Layer for MetricsLayer {
 
     ghost same = { λ s t. t.measures ≡ s.measures };
 
-    ghost does = { λ s hook t. Tells s hook t × LeavesLanes hook };
+    ghost does = { λ s hook t. AddsMeasuresOf s hook t × LeavesLanes hook };
 
-    ghost ready = { λ s preparation r. IsReady preparation r.measures.items s.room };
+    ghost ready = { λ s preparation r. IsReadyEvent preparation r.measures.items s.room };
 
     ghost same_refl = { λ s. refl };
 
@@ -113,7 +113,7 @@ impl Layer for MetricsLayer {
 
     ghost same_whole = { λ s t h w. w };
 
-    ghost same_does = { λ s t hook u h d. (d.0 ∙ ap (λ l. l ++ told_by hook) h, d.1) };
+    ghost same_does = { λ s t hook u h d. (d.0 ∙ ap (λ l. l ++ measures_of_hook hook) h, d.1) };
 
     ghost sees = { λ s hook t d. unseeing_sees hook };
 

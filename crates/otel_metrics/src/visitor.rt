@@ -2,7 +2,7 @@
 ghost use Rattle.std.specs.Prelude.{◌≡◌, ◌++◌, IfOk, OnOk, slice_get, option_map};
 ghost use Rattle.std.specs.Option.{option_copied};
 ghost use Rattle.otel_metrics.specs.Families.{family_of};
-ghost use Rattle.otel_metrics.specs.Measures.{number_told, natural_told, signed_told, number_of, number_at, kept, natural_kept, signed_kept, attribute_in, attribute_of, attribute_at, numbers, attributes};
+ghost use Rattle.otel_metrics.specs.Measures.{number_measured, natural_measured, signed_measured, number_of, number_at, value_as_attribute, natural_kept, signed_kept, attribute_in, attribute_of, attribute_at, numbers, attributes};
 
 use crate::family::{Family, family_alone, family_of};
 use crate::measure::MetricKind;
@@ -129,7 +129,7 @@ fn number_of(
 }
 
 fn number_told(family: Family, value: &Value) -> Option<(MetricKind, i128)>
-    ensures { result ≡ number_told family value.now }
+    ensures { result ≡ number_measured family value.now }
 {
     match value {
         Value::U64(number) => natural_told(family, *number),
@@ -139,7 +139,7 @@ fn number_told(family: Family, value: &Value) -> Option<(MetricKind, i128)>
 }
 
 fn natural_told(family: Family, number: u64) -> Option<(MetricKind, i128)>
-    ensures { result ≡ natural_told family number }
+    ensures { result ≡ natural_measured family number }
 {
     let value = i128::from(number);
     match family {
@@ -152,7 +152,7 @@ fn natural_told(family: Family, number: u64) -> Option<(MetricKind, i128)>
 }
 
 fn signed_told(family: Family, number: i64) -> Option<(MetricKind, i128)>
-    ensures { result ≡ signed_told family number }
+    ensures { result ≡ signed_measured family number }
 {
     let value = i128::from(number);
     match family {
@@ -219,7 +219,7 @@ fn attribute_in(
 }
 
 fn kept(alloc: Global, family: Option<Family>, value: &Value) -> Result<Option<OtelValue>, Memory>
-    ensures { IfOk result (λ v. v ≡ kept family value.now) }
+    ensures { IfOk result (λ v. v ≡ value_as_attribute family value.now) }
 {
     Ok(match value {
         Value::U64(number) => natural_kept(family, *number),

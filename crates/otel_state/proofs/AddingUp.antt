@@ -4,10 +4,10 @@ use Rattle.std.specs.Prelude.{if◌then◌else◌, ◌==◌, ◌||◌, min, fold
 use Rattle.std.specs.List.{cons_option}
 use Rattle.std.proofs.lemmas.Bool.{eqb-true}
 use Rattle.otel_state.specs.declared.times.TheConstants.{GREATEST}
-use Rattle.otel_state.specs.Deeds.{Deed, Stamped, deed}
-use Rattle.otel_state.specs.Times.{open_after, open_by, gap, busy_of, exit_in, last_exit, idle_of, InOrder}
+use Rattle.otel_state.specs.Deeds.{Deed, TimedOp, deed}
+use Rattle.otel_state.specs.Times.{open_after, open_by, gap, busy_of, exit_in, last_exit, idle_of, MomentsRise}
 use Rattle.otel_state.specs.Content.{Making, attributes_of, counted_of, closing_count, content}
-use Rattle.otel_state.specs.States.{Told, begun, moment, changed_by}
+use Rattle.otel_state.specs.States.{SpanData, data_at_making, moment, after_stamped}
 use Rattle.otel_state.specs.Laws.{TellsTimes, was_entered}
 use Rattle.otel_state.proofs.Summing.{folded, constant, busy_all, left_all, first_within}
 
@@ -52,12 +52,12 @@ one_bounded busy entries made last at left d later most bounded false false =
 later_moment : (last at : ℕ) → last ≤ GREATEST → (last ≤ moment last at) × (moment last at ≤ GREATEST)
 later_moment last at most = (omega (arith, most), omega arith)
 
-all_bounded : (told : Told) (ops : List Stamped) → Bounded told.busy told.entries told.made told.last told.left
-    → Bounded (fold changed_by told ops).busy (fold changed_by told ops).entries (fold changed_by told ops).made (fold changed_by told ops).last (fold changed_by told ops).left
+all_bounded : (told : SpanData) (ops : List TimedOp) → Bounded told.busy told.entries told.made told.last told.left
+    → Bounded (fold after_stamped told ops).busy (fold after_stamped told ops).entries (fold after_stamped told ops).made (fold after_stamped told ops).last (fold after_stamped told ops).left
 all_bounded told [] bounded = bounded
 all_bounded told (op ∷ ops) bounded =
     let later = later_moment told.last op.at bounded.is_moment in
-    all_bounded (changed_by told op) ops (one_bounded told.busy told.entries told.made told.last (moment told.last op.at) told.left (deed op.op) later.0 later.1 bounded (deed op.op).exits (deed op.op).enters)
+    all_bounded (after_stamped told op) ops (one_bounded told.busy told.entries told.made told.last (moment told.last op.at) told.left (deed op.op) later.0 later.1 bounded (deed op.op).exits (deed op.op).enters)
 
 -- ---- a span that was entered and has no open entry was left
 
@@ -65,7 +65,7 @@ never_none : (at : ℕ) (moments : List ℕ) → fold (λ _ n. Some n) (Some at)
 never_none at [] is = cc
 never_none at (n ∷ moments) is = never_none n moments is
 
-stays_open : (entries : ℕ) (ops : List Stamped) (left : Option ℕ) → 0 < entries → fold (λ _ at. Some at) left (filter_map exit_in ops) ≡ None → 0 < fold (λ n op. open_after n (deed op.op)) entries ops
+stays_open : (entries : ℕ) (ops : List TimedOp) (left : Option ℕ) → 0 < entries → fold (λ _ at. Some at) left (filter_map exit_in ops) ≡ None → 0 < fold (λ n op. open_after n (deed op.op)) entries ops
 stays_open entries [] left more is = more
 stays_open entries (op ∷ ops) left more is = by_op (λ n less here. stays_open n ops left less here) (deed op.op).exits (deed op.op).enters is
   where
@@ -76,7 +76,7 @@ stays_open entries (op ∷ ops) left more is = by_op (λ n less here. stays_open
     by_op more_ops false true none = more_ops (min (entries + 1) GREATEST) (omega arith) none
     by_op more_ops false false none = more_ops entries more none
 
-left_if_entered : (entries : ℕ) (ops : List Stamped) (left : Option ℕ) → open_by entries ops ≡ 0 → was_entered ops ≡ true → fold (λ _ at. Some at) left (filter_map exit_in ops) ≡ None → ⊥
+left_if_entered : (entries : ℕ) (ops : List TimedOp) (left : Option ℕ) → open_by entries ops ≡ 0 → was_entered ops ≡ true → fold (λ _ at. Some at) left (filter_map exit_in ops) ≡ None → ⊥
 left_if_entered entries [] left shut entered none = cc
 left_if_entered entries (op ∷ ops) left shut entered none = by_op (λ n. left_if_entered n ops left) (deed op.op).exits (deed op.op).enters shut entered none
   where
@@ -103,22 +103,22 @@ no_idle made busy left is = ap (λ l. idle_of l made busy) is
 no_busy : (made busy : ℕ) (left : Option ℕ) → left ≡ None → busy + made ≤ unwrap_or left made → busy ≡ 0
 no_busy made busy left is reach = let none = ap (λ l. unwrap_or l made) is in omega (arith, none, reach)
 
-reached : (making : Making) (ops : List Stamped) → InOrder making.made ops → open_by 0 ops ≡ 0 → busy_of making.made ops + making.made ≤ unwrap_or (last_exit ops) making.made
+reached : (making : Making) (ops : List TimedOp) → MomentsRise making.made ops → open_by 0 ops ≡ 0 → busy_of making.made ops + making.made ≤ unwrap_or (last_exit ops) making.made
 reached making ops order shut =
-    let start = begun making in
+    let start = data_at_making making in
     let made = first_within making.made ops order in
     let within : min making.made GREATEST ≡ making.made = omega (arith, made) in
-    let in_order = subst (λ n. InOrder n ops) (sym within) order in
+    let in_order = subst (λ n. MomentsRise n ops) (sym within) order in
     let bounded = all_bounded start ops (record { is_moment = omega arith; while_open = λ more. absurd (omega (arith, more)); while_shut = λ is. omega arith; within = omega (arith, within) }) in
     let entries = folded (λ t. t.entries) (λ n op. open_after n (deed op.op)) (λ t op. refl) start ops ∙ shut in
     let reach = bounded.while_shut entries in
     let busy = busy_all start ops in_order ∙ ap (λ n. 0 + busy_of n ops) within in
     let left = ap (λ l. unwrap_or l making.made) (left_all start ops in_order) in
     let kept = constant (λ t. t.made) (λ t op. refl) start ops in
-    let left_made = ap (λ n. unwrap_or (fold changed_by start ops).left n) kept in
+    let left_made = ap (λ n. unwrap_or (fold after_stamped start ops).left n) kept in
     omega (arith, reach, busy, left, kept, left_made)
 
-pub tells_times : (making : Making) (ops : List Stamped) (closed : ℕ) → IsTrue making.inactivity → InOrder making.made ops → open_by 0 ops ≡ 0
+pub tells_times : (making : Making) (ops : List TimedOp) (closed : ℕ) → IsTrue making.inactivity → MomentsRise making.made ops → open_by 0 ops ≡ 0
     → TellsTimes (was_entered ops) (last_exit ops) (content making ops closed)
 tells_times making ops closed tracked order shut =
     let reach = reached making ops order shut in

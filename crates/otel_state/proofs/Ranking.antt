@@ -12,9 +12,9 @@ use Rattle.std.proofs.lemmas.List.Sums.{fold-append}
 use Rattle.otel_base.specs.declared.status.Status.{Status}
 use Rattle.otel_base.specs.declared.status.Status.TheVariants.{Unset, Error, Ok}
 use Rattle.otel_base.specs.Statuses.{status_cmp}
-use Rattle.otel_state.specs.Deeds.{Stamped, deed}
+use Rattle.otel_state.specs.Deeds.{TimedOp, deed}
 use Rattle.otel_state.specs.Statuses.{writes, greatest, status_of}
-use Rattle.otel_state.specs.Laws.{NeverFalls}
+use Rattle.otel_state.specs.Laws.{StatusNeverFalls}
 
 -- a text for each status, in the same order
 abbrev rank : Status → List ℕ
@@ -67,7 +67,7 @@ status_total = record {
   congr = λ a b c is. ranked a c ∙ nat_list_cmp_total.congr (rank a) (rank b) (rank c) (sym (ranked a b) ∙ is) ∙ sym (ranked b c);
 }
 
-pub never_falls : (ops more : List Stamped) → NeverFalls ops more
+pub never_falls : (ops more : List TimedOp) → StatusNeverFalls ops more
 never_falls ops more =
     ap (λ (s : Status). is_le (status_cmp (status_of ops) s))
     (ap (λ (w : List Status). greatest Unset w) (flat_map-append (λ op. writes (deed op.op)) ops more) ∙ fold-append (ord_max status_cmp) Unset (flat_map (λ op. writes (deed op.op)) ops) (flat_map (λ op. writes (deed op.op)) more))

@@ -10,23 +10,23 @@ use Rattle.otel_base.specs.declared.status.Status.TheVariants.{Unset}
 use Rattle.otel_base.specs.Statuses.{status_cmp}
 use Rattle.otel_state.specs.declared.times.TheConstants.{GREATEST}
 use Rattle.otel_state.specs.declared.op.Op.{Op}
-use Rattle.otel_state.specs.Deeds.{Deed, Stamped, deed}
-use Rattle.otel_state.specs.Opening.{before_start, own_of, last_or, name_of, kind_of, parent_of}
+use Rattle.otel_state.specs.Deeds.{Deed, TimedOp, deed}
+use Rattle.otel_state.specs.Opening.{before_start, own_of, last_or, name_of, kind_of, parent_context_of}
 use Rattle.otel_state.specs.Statuses.{writes, greatest, status_of}
-use Rattle.otel_state.specs.Times.{open_after, open_by, gap, busy_from, busy_of, exit_in, last_exit, InOrder}
+use Rattle.otel_state.specs.Times.{open_after, open_by, gap, busy_from, busy_of, exit_in, last_exit, MomentsRise}
 use Rattle.otel_state.specs.Content.{Making, attributes_of, events_of, links_of, counted_of, content}
-use Rattle.otel_state.specs.States.{Told, begun, moment, unless_started, first_start, with_all, with_one, changed, changed_by, Stands, Appends, IsReadOff, reply, reply_after, record_of}
+use Rattle.otel_state.specs.States.{SpanData, data_at_making, moment, unless_started, first_start, with_all, with_one, after_op, after_stamped, Stands, AppendsOp, IsReadOff, reply, reply_after, record_of}
 
 -- a field that each op changes by itself
-pub folded : {B : Type 0} (field : Told → B) (step : B → Stamped → B) → ((told : Told) (op : Stamped) → field (changed_by told op) ≡ step (field told) op)
-    → (told : Told) (ops : List Stamped) → field (fold changed_by told ops) ≡ fold step (field told) ops
+pub folded : {B : Type 0} (field : SpanData → B) (step : B → TimedOp → B) → ((told : SpanData) (op : TimedOp) → field (after_stamped told op) ≡ step (field told) op)
+    → (told : SpanData) (ops : List TimedOp) → field (fold after_stamped told ops) ≡ fold step (field told) ops
 folded field step one told [] = refl
-folded field step one told (op ∷ ops) = folded field step one (changed_by told op) ops ∙ ap (λ b. fold step b ops) (one told op)
+folded field step one told (op ∷ ops) = folded field step one (after_stamped told op) ops ∙ ap (λ b. fold step b ops) (one told op)
 
 -- a field that no op changes
-pub constant : {B : Type 0} (field : Told → B) → ((told : Told) (op : Stamped) → field (changed_by told op) ≡ field told) → (told : Told) (ops : List Stamped) → field (fold changed_by told ops) ≡ field told
+pub constant : {B : Type 0} (field : SpanData → B) → ((told : SpanData) (op : TimedOp) → field (after_stamped told op) ≡ field told) → (told : SpanData) (ops : List TimedOp) → field (fold after_stamped told ops) ≡ field told
 constant field one told [] = refl
-constant field one told (op ∷ ops) = constant field one (changed_by told op) ops ∙ one told op
+constant field one told (op ∷ ops) = constant field one (after_stamped told op) ops ∙ one told op
 
 -- ---- what is added
 
@@ -34,7 +34,7 @@ with_all_is : {A : Type 0} (xs ys : List A) → with_all xs ys ≡ xs ++ ys
 with_all_is xs [] = sym (append-nil xs)
 with_all_is xs (y ∷ ys) = refl
 
-all_added : {A : Type 0} (g : Stamped → List A) (xs : List A) (ops : List Stamped) → fold (λ items op. with_all items (g op)) xs ops ≡ xs ++ flat_map g ops
+all_added : {A : Type 0} (g : TimedOp → List A) (xs : List A) (ops : List TimedOp) → fold (λ items op. with_all items (g op)) xs ops ≡ xs ++ flat_map g ops
 all_added g xs [] = sym (append-nil xs)
 all_added {A} g xs (op ∷ ops) =
     all_added g (with_all xs (g op)) ops ∙ ap (λ (items : List A). items ++ flat_map g ops) (with_all_is xs (g op)) ∙ append_assoc xs (g op) (flat_map g ops)
@@ -43,13 +43,13 @@ with_one_is : {A : Type 0} (xs : List A) (one : Option A) (rest : List A) → wi
 with_one_is xs None rest = refl
 with_one_is xs (Some x) rest = append_assoc xs (x ∷ []) rest
 
-one_added : {A : Type 0} (g : Stamped → Option A) (xs : List A) (ops : List Stamped) → fold (λ items op. with_one items (g op)) xs ops ≡ xs ++ filter_map g ops
+one_added : {A : Type 0} (g : TimedOp → Option A) (xs : List A) (ops : List TimedOp) → fold (λ items op. with_one items (g op)) xs ops ≡ xs ++ filter_map g ops
 one_added g xs [] = sym (append-nil xs)
 one_added g xs (op ∷ ops) = one_added g (with_one xs (g op)) ops ∙ with_one_is xs (g op) (filter_map g ops)
 
 -- ---- the status
 
-folded_flat : {A B : Type 0} (f : B → A → B) (g : Stamped → List A) (b : B) (ops : List Stamped) → fold (λ c op. fold f c (g op)) b ops ≡ fold f b (flat_map g ops)
+folded_flat : {A B : Type 0} (f : B → A → B) (g : TimedOp → List A) (b : B) (ops : List TimedOp) → fold (λ c op. fold f c (g op)) b ops ≡ fold f b (flat_map g ops)
 folded_flat f g b [] = refl
 folded_flat f g b (op ∷ ops) = folded_flat f g (fold f b (g op)) ops ∙ sym (fold-append f b (g op) (flat_map g ops))
 
@@ -59,7 +59,7 @@ count_step : (counts : Bool) (n m : ℕ) → min ((if counts then min (n + 1) GR
 count_step true n m = omega arith
 count_step false n m = omega arith
 
-counted_all : (n : ℕ) (ops : List Stamped) → n ≤ GREATEST → fold (λ m op. if (deed op.op).counts then min (m + 1) GREATEST else m) n ops ≡ min (n + count_by (λ op. (deed op.op).counts) ops) GREATEST
+counted_all : (n : ℕ) (ops : List TimedOp) → n ≤ GREATEST → fold (λ m op. if (deed op.op).counts then min (m + 1) GREATEST else m) n ops ≡ min (n + count_by (λ op. (deed op.op).counts) ops) GREATEST
 counted_all n [] within = omega (arith, within)
 counted_all n (op ∷ ops) within =
     counted_all (if (deed op.op).counts then min (n + 1) GREATEST else n) ops (still (deed op.op).counts) ∙ count_step (deed op.op).counts n (count_by (λ o. (deed o.op).counts) ops)
@@ -69,12 +69,12 @@ counted_all n (op ∷ ops) within =
     still true = omega arith
     still false = within
 
-counted_is : (ops : List Stamped) → fold (λ m op. if (deed op.op).counts then min (m + 1) GREATEST else m) 0 ops ≡ counted_of ops
+counted_is : (ops : List TimedOp) → fold (λ m op. if (deed op.op).counts then min (m + 1) GREATEST else m) 0 ops ≡ counted_of ops
 counted_is ops = let all = counted_all 0 ops (omega arith) in omega (arith, all)
 
 -- ---- the start, and what is settled until then
 
-started_stays : (own : SpanContext) (ops : List Stamped) → fold (λ o op. first_start o (deed op.op).own) (Some own) ops ≡ Some own
+started_stays : (own : SpanContext) (ops : List TimedOp) → fold (λ o op. first_start o (deed op.op).own) (Some own) ops ≡ Some own
 started_stays own [] = refl
 started_stays own (op ∷ ops) = ap (λ o. fold (λ p q. first_start p (deed q.op).own) o ops) (stays (deed op.op).own) ∙ started_stays own ops
   where
@@ -82,7 +82,7 @@ started_stays own (op ∷ ops) = ap (λ o. fold (λ p q. first_start p (deed q.o
     stays None = refl
     stays (Some given) = refl
 
-own_all : (ops : List Stamped) → fold (λ o op. first_start o (deed op.op).own) None ops ≡ own_of ops
+own_all : (ops : List TimedOp) → fold (λ o op. first_start o (deed op.op).own) None ops ≡ own_of ops
 own_all [] = refl
 own_all (op ∷ ops) = by_start (own_all ops) (deed op.op).own
   where
@@ -92,7 +92,7 @@ own_all (op ∷ ops) = by_start (own_all ops) (deed op.op).own
     by_start none (Some own) = started_stays own ops
 
 -- a field that is settled by the start
-module _ {A : Type 0} (field : Told → A) (write : Deed → Option A) (one : (told : Told) (op : Stamped) → field (changed_by told op) ≡ unless_started (first_start told.own (deed op.op).own) (field told) (write (deed op.op))) where
+module _ {A : Type 0} (field : SpanData → A) (write : Deed → Option A) (one : (told : SpanData) (op : TimedOp) → field (after_stamped told op) ≡ unless_started (first_start told.own (deed op.op).own) (field told) (write (deed op.op))) where
   kept_by : (own : SpanContext) (before : A) (written : Option A) → unless_started (Some own) before written ≡ before
   kept_by own before None = refl
   kept_by own before (Some new) = refl
@@ -101,66 +101,66 @@ module _ {A : Type 0} (field : Told → A) (write : Deed → Option A) (one : (t
   own_stays own None = refl
   own_stays own (Some given) = refl
 
-  settled : (own : SpanContext) (told : Told) (ops : List Stamped) → told.own ≡ Some own → field (fold changed_by told ops) ≡ field told
+  settled : (own : SpanContext) (told : SpanData) (ops : List TimedOp) → told.own ≡ Some own → field (fold after_stamped told ops) ≡ field told
   settled own told [] is = refl
   settled own told (op ∷ ops) is =
       let now : first_start told.own (deed op.op).own ≡ Some own = ap (λ o. first_start o (deed op.op).own) is ∙ own_stays own (deed op.op).own in
-      settled own (changed_by told op) ops now ∙ one told op ∙ ap (λ o. unless_started o (field told) (write (deed op.op))) now ∙ kept_by own (field told) (write (deed op.op))
+      settled own (after_stamped told op) ops now ∙ one told op ∙ ap (λ o. unless_started o (field told) (write (deed op.op))) now ∙ kept_by own (field told) (write (deed op.op))
 
   written_last : (before : A) (written : Option A) (rest : List A) → last_or (unless_started None before written) rest ≡ last_or before (cons_option written rest)
   written_last before None rest = refl
   written_last before (Some new) rest = refl
 
-  waiting : (told : Told) (ops : List Stamped) → told.own ≡ None → field (fold changed_by told ops) ≡ last_or (field told) (filter_map (λ op. write (deed op.op)) (before_start ops))
+  waiting : (told : SpanData) (ops : List TimedOp) → told.own ≡ None → field (fold after_stamped told ops) ≡ last_or (field told) (filter_map (λ op. write (deed op.op)) (before_start ops))
   waiting told [] is = refl
-  waiting told (op ∷ ops) is = by_start (waiting (changed_by told op) ops) (deed op.op).own refl
+  waiting told (op ∷ ops) is = by_start (waiting (after_stamped told op) ops) (deed op.op).own refl
     where
-      by_start : ((changed_by told op).own ≡ None → field (fold changed_by (changed_by told op) ops) ≡ last_or (field (changed_by told op)) (filter_map (λ o. write (deed o.op)) (before_start ops)))
+      by_start : ((after_stamped told op).own ≡ None → field (fold after_stamped (after_stamped told op) ops) ≡ last_or (field (after_stamped told op)) (filter_map (λ o. write (deed o.op)) (before_start ops)))
           → (given : Option SpanContext) → (deed op.op).own ≡ given
-          → field (fold changed_by (changed_by told op) ops) ≡ last_or (field told) (filter_map (λ o. write (deed o.op)) (if is_some given then [] else op ∷ before_start ops))
+          → field (fold after_stamped (after_stamped told op) ops) ≡ last_or (field told) (filter_map (λ o. write (deed o.op)) (if is_some given then [] else op ∷ before_start ops))
       by_start later None e =
           let now : first_start told.own (deed op.op).own ≡ None = ap (λ o. first_start told.own o) e ∙ is in
           later now ∙ ap (λ a. last_or a (filter_map (λ o. write (deed o.op)) (before_start ops))) (one told op ∙ ap (λ o. unless_started o (field told) (write (deed op.op))) now)
           ∙ written_last (field told) (write (deed op.op)) (filter_map (λ o. write (deed o.op)) (before_start ops))
       by_start later (Some own) e =
           let now : first_start told.own (deed op.op).own ≡ Some own = ap (λ o. first_start o (deed op.op).own) is ∙ ap (λ o. first_start None o) e in
-          settled own (changed_by told op) ops now ∙ one told op ∙ ap (λ o. unless_started o (field told) (write (deed op.op))) now ∙ kept_by own (field told) (write (deed op.op))
+          settled own (after_stamped told op) ops now ∙ one told op ∙ ap (λ o. unless_started o (field told) (write (deed op.op))) now ∙ kept_by own (field told) (write (deed op.op))
 
 -- ---- times
 
 moment_is : (last at : ℕ) → last ≤ at → at ≤ GREATEST → moment last at ≡ at
 moment_is last at later within = omega (arith, later, within)
 
-pub first_within : (last : ℕ) (ops : List Stamped) → InOrder last ops → last ≤ GREATEST
+pub first_within : (last : ℕ) (ops : List TimedOp) → MomentsRise last ops → last ≤ GREATEST
 first_within last [] order = order
 first_within last (op ∷ ops) order = let within = first_within op.at ops order.1 in omega (arith, order.0, within)
 
-pub left_all : (told : Told) (ops : List Stamped) → InOrder told.last ops → (fold changed_by told ops).left ≡ fold (λ _ at. Some at) told.left (filter_map exit_in ops)
+pub left_all : (told : SpanData) (ops : List TimedOp) → MomentsRise told.last ops → (fold after_stamped told ops).left ≡ fold (λ _ at. Some at) told.left (filter_map exit_in ops)
 left_all told [] order = refl
 left_all told (op ∷ ops) order =
     let is = moment_is told.last op.at order.0 (first_within op.at ops order.1) in
-    left_all (changed_by told op) ops (subst (λ n. InOrder n ops) (sym is) order.1) ∙ by_exit (deed op.op).exits is
+    left_all (after_stamped told op) ops (subst (λ n. MomentsRise n ops) (sym is) order.1) ∙ by_exit (deed op.op).exits is
   where
     by_exit : (exits : Bool) → moment told.last op.at ≡ op.at → fold (λ _ at. Some at) (if exits then Some (moment told.last op.at) else told.left) (filter_map exit_in ops)
         ≡ fold (λ _ at. Some at) told.left (cons_option (if exits then Some op.at else None) (filter_map exit_in ops))
     by_exit true is = ap (λ n. fold (λ _ at. Some at) (Some n) (filter_map exit_in ops)) is
     by_exit false is = refl
 
-pub busy_all : (told : Told) (ops : List Stamped) → InOrder told.last ops → (fold changed_by told ops).busy ≡ told.busy + busy_from told.entries told.last ops
+pub busy_all : (told : SpanData) (ops : List TimedOp) → MomentsRise told.last ops → (fold after_stamped told ops).busy ≡ told.busy + busy_from told.entries told.last ops
 busy_all told [] order = omega arith
 busy_all told (op ∷ ops) order =
     let is = moment_is told.last op.at order.0 (first_within op.at ops order.1) in
-    let rest = busy_all (changed_by told op) ops (subst (λ n. InOrder n ops) (sym is) order.1) in
+    let rest = busy_all (after_stamped told op) ops (subst (λ n. MomentsRise n ops) (sym is) order.1) in
     let here = ap (λ n. gap told.entries told.last n) is in
     let after = ap (λ n. busy_from (open_after told.entries (deed op.op)) n ops) is in
     omega (arith, rest, here, after)
 
 -- ---- the record
 
-busy_is : (made within busy : ℕ) (ops : List Stamped) → busy ≡ 0 + busy_from 0 within ops → within ≡ made → busy ≡ busy_of made ops
+busy_is : (made within busy : ℕ) (ops : List TimedOp) → busy ≡ 0 + busy_from 0 within ops → within ≡ made → busy ≡ busy_of made ops
 busy_is made within busy ops is same = let here = ap (λ n. busy_from 0 n ops) same in omega (arith, is, here)
 
-the_record : (told : Told) (making : Making) (ops : List Stamped) (closed : ℕ) → told.name ≡ name_of making.name ops → told.kind ≡ kind_of ops → told.parent ≡ parent_of making.parent ops → told.made ≡ making.made
+the_record : (told : SpanData) (making : Making) (ops : List TimedOp) (closed : ℕ) → told.name ≡ name_of making.name ops → told.kind ≡ kind_of ops → told.parent ≡ parent_context_of making.parent ops → told.made ≡ making.made
     → told.counting ≡ making.counting → told.inactivity ≡ making.inactivity → told.own ≡ own_of ops → told.attributes ≡ making.first ++ attributes_of ops → told.events ≡ events_of ops → told.links ≡ links_of ops
     → told.status ≡ status_of ops → told.counted ≡ counted_of ops → told.busy ≡ busy_of making.made ops → told.left ≡ last_exit ops → record_of told closed ≡ content making ops closed
 the_record told making ops closed name kind parent made counting inactivity own attributes events links status counted busy left =
@@ -168,29 +168,29 @@ the_record told making ops closed name kind parent made counting inactivity own 
 
 -- ---- what a state is asked
 
-pub appended : (told : Told) (at : ℕ) (op : Op) → Appends at op told (changed told at op)
-appended told at op making ops stands = ap (λ (t : Told). changed t at op) stands ∙ sym (fold_push changed_by (begun making) ops (record { at = at; op = op }))
+pub appended : (told : SpanData) (at : ℕ) (op : Op) → AppendsOp at op told (after_op told at op)
+appended told at op making ops stands = ap (λ (t : SpanData). after_op t at op) stands ∙ sym (fold_push after_stamped (data_at_making making) ops (record { at = at; op = op }))
 
-pub own_is : (told : Told) → IsReadOff (λ _ ops. own_of ops) told told.own
-own_is told making ops stands = ap (λ (t : Told). t.own) stands ∙ folded (λ t. t.own) (λ o op. first_start o (deed op.op).own) (λ t op. refl) (begun making) ops ∙ own_all ops
+pub own_is : (told : SpanData) → IsReadOff (λ _ ops. own_of ops) told told.own
+own_is told making ops stands = ap (λ (t : SpanData). t.own) stands ∙ folded (λ t. t.own) (λ o op. first_start o (deed op.op).own) (λ t op. refl) (data_at_making making) ops ∙ own_all ops
 
-pub parent_is : (told : Told) → IsReadOff (λ making ops. parent_of making.parent ops) told told.parent
-parent_is told making ops stands = ap (λ (t : Told). t.parent) stands ∙ waiting (λ t. t.parent) (λ d. d.parent) (λ t op. refl) (begun making) ops refl
+pub parent_is : (told : SpanData) → IsReadOff (λ making ops. parent_context_of making.parent ops) told told.parent
+parent_is told making ops stands = ap (λ (t : SpanData). t.parent) stands ∙ waiting (λ t. t.parent) (λ d. d.parent) (λ t op. refl) (data_at_making making) ops refl
 
-pub entries_is : (told : Told) → IsReadOff (λ _ ops. open_by 0 ops) told told.entries
-entries_is told making ops stands = ap (λ (t : Told). t.entries) stands ∙ folded (λ t. t.entries) (λ n op. open_after n (deed op.op)) (λ t op. refl) (begun making) ops
+pub entries_is : (told : SpanData) → IsReadOff (λ _ ops. open_by 0 ops) told told.entries
+entries_is told making ops stands = ap (λ (t : SpanData). t.entries) stands ∙ folded (λ t. t.entries) (λ n op. open_after n (deed op.op)) (λ t op. refl) (data_at_making making) ops
 
-pub reply_is : (told : Told) (op : Op) → IsReadOff (λ _ ops. reply_after (own_of ops) op) told (reply told op)
+pub reply_is : (told : SpanData) (op : Op) → IsReadOff (λ _ ops. reply_after (own_of ops) op) told (reply told op)
 reply_is told op making ops stands = ap (λ (own : Option SpanContext). reply_after own op) (own_is told making ops stands)
 
-pub content_is : (making : Making) (ops : List Stamped) (told : Told) (closed : ℕ) → Stands making ops told → InOrder making.made ops → record_of told closed ≡ content making ops closed
+pub content_is : (making : Making) (ops : List TimedOp) (told : SpanData) (closed : ℕ) → Stands making ops told → MomentsRise making.made ops → record_of told closed ≡ content making ops closed
 content_is making ops told closed stands order =
-    let start = begun making in
+    let start = data_at_making making in
     let made = first_within making.made ops order in
     let within : min making.made GREATEST ≡ making.made = omega (arith, made) in
-    let in_order = subst (λ n. InOrder n ops) (sym within) order in
-    let busy : (fold changed_by start ops).busy ≡ busy_of making.made ops = busy_is making.made start.last (fold changed_by start ops).busy ops (busy_all start ops in_order) within in
-    ap (λ t. record_of t closed) stands ∙ the_record (fold changed_by start ops) making ops closed
+    let in_order = subst (λ n. MomentsRise n ops) (sym within) order in
+    let busy : (fold after_stamped start ops).busy ≡ busy_of making.made ops = busy_is making.made start.last (fold after_stamped start ops).busy ops (busy_all start ops in_order) within in
+    ap (λ t. record_of t closed) stands ∙ the_record (fold after_stamped start ops) making ops closed
     (waiting (λ t. t.name) (λ d. d.name) (λ t op. refl) start ops refl)
     (waiting (λ t. t.kind) (λ d. d.kind) (λ t op. refl) start ops refl)
     (waiting (λ t. t.parent) (λ d. d.parent) (λ t op. refl) start ops refl)

@@ -8,8 +8,8 @@ use Rattle.otel_base.specs.declared.value.KeyValue.{KeyValue}
 use Rattle.otel_base.specs.declared.value.OtelValue.TheVariants.{I64}
 use Rattle.otel_base.specs.Ids.{ids_of, ids_or_zeros, parent_id}
 use Rattle.otel_state.specs.declared.times.TheConstants.{GREATEST}
-use Rattle.otel_state.specs.Deeds.{Stamped, deed}
-use Rattle.otel_state.specs.Opening.{own_of, name_of, kind_of, parent_of}
+use Rattle.otel_state.specs.Deeds.{TimedOp, deed}
+use Rattle.otel_state.specs.Opening.{own_of, name_of, kind_of, parent_context_of}
 use Rattle.otel_state.specs.Statuses.{status_of}
 use Rattle.otel_state.specs.Times.{busy_of, last_exit, end_of, idle_of}
 
@@ -23,17 +23,17 @@ pub record Making : Type 0 where
   pub inactivity : Bool
 
 -- what the ops add, in order
-abbrev pub attributes_of : List Stamped → List KeyValue
+abbrev pub attributes_of : List TimedOp → List KeyValue
 attributes_of ops = flat_map (λ op. (deed op.op).attributes) ops
 
-abbrev pub events_of : List Stamped → List OtelEvent
+abbrev pub events_of : List TimedOp → List OtelEvent
 events_of ops = filter_map (λ op. (deed op.op).event) ops
 
-abbrev pub links_of : List Stamped → List Link
+abbrev pub links_of : List TimedOp → List Link
 links_of ops = filter_map (λ op. (deed op.op).link) ops
 
 -- how many events were counted; the count stands still at its greatest
-abbrev pub counted_of : List Stamped → ℕ
+abbrev pub counted_of : List TimedOp → ℕ
 counted_of ops = min (count_by (λ op. (deed op.op).counts) ops) GREATEST
 
 -- an attribute that tells a number
@@ -48,7 +48,7 @@ abbrev pub closing_times : Bool → ℕ → ℕ → List KeyValue
 closing_times inactivity busy idle = if inactivity then number (codes "busy_ns") busy ∷ number (codes "idle_ns") idle ∷ [] else []
 
 -- the record
-abbrev pub content : Making → List Stamped → ℕ → Record
+abbrev pub content : Making → List TimedOp → ℕ → Record
 content making ops closed =
     let left = last_exit ops in
     let busy = busy_of making.made ops in
@@ -56,7 +56,7 @@ content making ops closed =
       name = name_of making.name ops;
       kind = kind_of ops;
       context = ids_or_zeros (own_of ops);
-      parent = parent_id (ids_of (parent_of making.parent ops));
+      parent = parent_id (ids_of (parent_context_of making.parent ops));
       start = making.made;
       end = end_of left closed;
       attributes = making.first ++ attributes_of ops ++ closing_count making.counting (counted_of ops)

@@ -12,7 +12,7 @@ use Rattle.otel_state.specs.declared.op.Op.TheVariants as ops
 use Rattle.otel_state.specs.declared.update.Update.{Update}
 
 -- an op with its moment
-pub record Stamped : Type 0 where
+pub record TimedOp : Type 0 where
   pub at : ℕ
   pub op : Op
 
@@ -31,8 +31,8 @@ pub record Deed : Type 0 where
   pub enters : Bool
   pub exits : Bool
 
-abbrev pub nothing : Deed
-nothing = record {
+abbrev pub no_deed : Deed
+no_deed = record {
   name = None;
   kind = None;
   parent = None;
@@ -48,17 +48,17 @@ nothing = record {
 }
 
 abbrev pub written_by : Update → Deed
-written_by update = record nothing { name = update.name; kind = update.kind; status = update.status; attributes = update.attributes }
+written_by update = record no_deed { name = update.name; kind = update.kind; status = update.status; attributes = update.attributes }
 
 abbrev pub deed : Op → Deed
 deed (ops.Update update) = written_by update
 deed (ops.Event is_error update event) = record (written_by update) { is_error = is_error; event = Some event }
-deed ops.Counted = record nothing { counts = true }
-deed (ops.AddEvent event) = record nothing { event = Some event }
-deed (ops.Link link) = record nothing { link = Some link }
-deed (ops.SetAttribute pair) = record nothing { attributes = pair ∷ [] }
-deed (ops.SetStatus status) = record nothing { status = Some status }
-deed (ops.SetParent context) = record nothing { parent = Some context }
-deed (ops.Start own) = record nothing { own = Some own }
-deed ops.Enter = record nothing { enters = true }
-deed ops.Exit = record nothing { exits = true }
+deed ops.Counted = record no_deed { counts = true }
+deed (ops.AddEvent event) = record no_deed { event = Some event }
+deed (ops.Link link) = record no_deed { link = Some link }
+deed (ops.SetAttribute pair) = record no_deed { attributes = pair ∷ [] }
+deed (ops.SetStatus status) = record no_deed { status = Some status }
+deed (ops.SetParent context) = record no_deed { parent = Some context }
+deed (ops.Start own) = record no_deed { own = Some own }
+deed ops.Enter = record no_deed { enters = true }
+deed ops.Exit = record no_deed { exits = true }

@@ -8,14 +8,14 @@ use Rattle.otel_base.specs.declared.value.KeyValue.{KeyValue}
 use Rattle.otel_base.specs.Statuses.{status_cmp}
 use Rattle.otel_state.specs.declared.op.Op.{Op}
 use Rattle.otel_state.specs.declared.op.Op.TheVariants as ops
-use Rattle.otel_state.specs.Deeds.{Deed, Stamped, deed}
+use Rattle.otel_state.specs.Deeds.{Deed, TimedOp, deed}
 use Rattle.otel_state.specs.Statuses.{status_of}
 use Rattle.otel_state.specs.Content.{number}
 
 -- ---- busy and idle
 
 -- an entry was opened
-abbrev pub was_entered : List Stamped → Bool
+abbrev pub was_entered : List TimedOp → Bool
 was_entered ops = list_any (λ op. (deed op.op).enters) ops
 
 -- a record's last two attributes tell a busy and an idle time. They add up to the time from its start to its end where
@@ -32,25 +32,25 @@ pub record TellsTimes (entered : Bool) (left : Option ℕ) (r : Record) : Type 0
 -- ---- what is settled by the start
 
 -- what an op does beside writing a name, a kind or a parent
-abbrev pub unsettling : Deed → Deed
-unsettling d = record d { name = None; kind = None; parent = None }
+abbrev pub other_deeds : Deed → Deed
+other_deeds d = record d { name = None; kind = None; parent = None }
 
 -- two ops do the same but for the name, the kind and the parent
 abbrev pub SameButSettled : Op → Op → Type 0
-SameButSettled a b = unsettling (deed a) ≡ unsettling (deed b)
+SameButSettled a b = other_deeds (deed a) ≡ other_deeds (deed b)
 
 -- an op writes no name, no kind and no parent
-abbrev pub SettlesNothing : Stamped → Type 0
-SettlesNothing op = deed op.op ≡ unsettling (deed op.op)
+abbrev pub SettlesNothing : TimedOp → Type 0
+SettlesNothing op = deed op.op ≡ other_deeds (deed op.op)
 
-abbrev pub start_at : ℕ → SpanContext → Stamped
+abbrev pub start_at : ℕ → SpanContext → TimedOp
 start_at at own = record { at = at; op = ops.Start own }
 
 -- the ops with a start early, or late
-abbrev pub with_early : List Stamped → Stamped → List Stamped → List Stamped → List Stamped
+abbrev pub with_early : List TimedOp → TimedOp → List TimedOp → List TimedOp → List TimedOp
 with_early before start between after = before ++ (start ∷ between ++ after)
 
-abbrev pub with_late : List Stamped → List Stamped → Stamped → List Stamped → List Stamped
+abbrev pub with_late : List TimedOp → List TimedOp → TimedOp → List TimedOp → List TimedOp
 with_late before between start after = (before ++ between) ++ start ∷ after
 
 -- two records differ in their ids alone
@@ -60,5 +60,5 @@ SameButIds a b = a ≡ record b { context = a.context }
 -- ---- the status
 
 -- the status after more ops is no less
-abbrev pub NeverFalls : List Stamped → List Stamped → Type 0
-NeverFalls ops more = IsTrue (is_le (status_cmp (status_of ops) (status_of (ops ++ more))))
+abbrev pub StatusNeverFalls : List TimedOp → List TimedOp → Type 0
+StatusNeverFalls ops more = IsTrue (is_le (status_cmp (status_of ops) (status_of (ops ++ more))))

@@ -4,18 +4,18 @@ use Rattle.otel_base.specs.declared.context.Context.{Context}
 use Rattle.otel_base.specs.declared.context.SpanContext.{SpanContext}
 use Rattle.otel_base.specs.declared.record.SpanKind.{SpanKind}
 use Rattle.otel_base.specs.declared.record.SpanKind.TheVariants.{Internal}
-use Rattle.otel_state.specs.Deeds.{Stamped, deed}
+use Rattle.otel_state.specs.Deeds.{TimedOp, deed}
 
-abbrev pub is_start : Stamped → Bool
+abbrev pub is_start : TimedOp → Bool
 is_start op = is_some (deed op.op).own
 
 -- the ops before the first start, all where there is none
-abbrev pub before_start : List Stamped → List Stamped
+abbrev pub before_start : List TimedOp → List TimedOp
 before_start [] = []
 before_start (op ∷ ops) = if is_start op then [] else op ∷ before_start ops
 
 -- the ids of the first start
-abbrev pub own_of : List Stamped → Option SpanContext
+abbrev pub own_of : List TimedOp → Option SpanContext
 own_of ops = slice_get (filter_map (λ op. (deed op.op).own) ops) 0
 
 -- the last of some values, and another where there are none
@@ -23,11 +23,11 @@ abbrev pub last_or : {A : Type 0} → A → List A → A
 last_or a values = fold (λ _ value. value) a values
 
 -- the name, the kind and the parent's context are those written last before the start, else those of the making
-abbrev pub name_of : List ℕ → List Stamped → List ℕ
+abbrev pub name_of : List ℕ → List TimedOp → List ℕ
 name_of name ops = last_or name (filter_map (λ op. (deed op.op).name) (before_start ops))
 
-abbrev pub kind_of : List Stamped → SpanKind
+abbrev pub kind_of : List TimedOp → SpanKind
 kind_of ops = last_or Internal (filter_map (λ op. (deed op.op).kind) (before_start ops))
 
-abbrev pub parent_of : Context → List Stamped → Context
-parent_of parent ops = last_or parent (filter_map (λ op. (deed op.op).parent) (before_start ops))
+abbrev pub parent_context_of : Context → List TimedOp → Context
+parent_context_of parent ops = last_or parent (filter_map (λ op. (deed op.op).parent) (before_start ops))

@@ -3,8 +3,8 @@ use Rattle.std.specs.Prelude.{◌≡◌, ℕ, ◌+◌, ◌<◌, ◌==◌, true, 
 use Rattle.std.specs.List.{list_any}
 
 -- the pair is of the id
-abbrev pub is_of : {T : Type 0} → ℕ → ℕ × T → Bool
-is_of id pair = pair.0 == id
+abbrev pub is_pair_of : {T : Type 0} → ℕ → ℕ × T → Bool
+is_pair_of id pair = pair.0 == id
 
 -- the last of some items that passes, if one does
 abbrev pub last_passing : {X : Type 0} → (X → Bool) → List X → Option X

@@ -18,13 +18,13 @@ use Rattle.otel_state.specs.declared.op.OpReply.{OpReply}
 use Rattle.otel_state.specs.declared.op.OpReply.TheVariants.{Done, Parent}
 use Rattle.otel_state.specs.declared.op.SetParentError.TheVariants.{AlreadyStarted}
 use Rattle.otel_state.specs.declared.times.TheConstants.{GREATEST}
-use Rattle.otel_state.specs.Deeds.{Deed, Stamped, deed}
+use Rattle.otel_state.specs.Deeds.{Deed, TimedOp, deed}
 use Rattle.otel_state.specs.Statuses.{writes, greatest}
-use Rattle.otel_state.specs.Times.{open_after, gap, end_of, idle_of, InOrder}
+use Rattle.otel_state.specs.Times.{open_after, gap, end_of, idle_of, MomentsRise}
 use Rattle.otel_state.specs.Content.{Making, content, closing_count, closing_times}
 
 -- what a span has come to
-pub record Told : Type 0 where
+pub record SpanData : Type 0 where
   pub name : List ℕ
   pub kind : SpanKind
   pub parent : Context
@@ -50,13 +50,13 @@ pub record Room : Type 0 where
   pub links : ℕ
 
 -- a state: what the span has come to, and the spare room
-pub record Kept : Type 0 where
-  pub told : Told
+pub record StateValue : Type 0 where
+  pub told : SpanData
   pub room : Room
 
 -- a span without ops
-abbrev pub begun : Making → Told
-begun making = record {
+abbrev pub data_at_making : Making → SpanData
+data_at_making making = record {
   name = making.name;
   kind = Internal;
   parent = making.parent;
@@ -101,11 +101,11 @@ with_one items None = items
 with_one items (Some one) = items ++ one ∷ []
 
 -- time passes up to a moment
-abbrev pub passed : Told → ℕ → Told
-passed told at = record told { busy = told.busy + gap told.entries told.last (moment told.last at); last = moment told.last at }
+abbrev pub after_time : SpanData → ℕ → SpanData
+after_time told at = record told { busy = told.busy + gap told.entries told.last (moment told.last at); last = moment told.last at }
 
 -- what an op does at the last moment
-abbrev pub did : Told → Deed → Told
+abbrev pub did : SpanData → Deed → SpanData
 did told d =
     let own = first_start told.own d.own in
     record told {
@@ -122,37 +122,37 @@ did told d =
       left = if d.exits then Some told.last else told.left;
     }
 
-abbrev pub changed : Told → ℕ → Op → Told
-changed told at op = did (passed told at) (deed op)
+abbrev pub after_op : SpanData → ℕ → Op → SpanData
+after_op told at op = did (after_time told at) (deed op)
 
 -- ---- a list of ops
 
-abbrev pub changed_by : Told → Stamped → Told
-changed_by told op = changed told op.at op.op
+abbrev pub after_stamped : SpanData → TimedOp → SpanData
+after_stamped told op = after_op told op.at op.op
 
 -- a state stands for a making and the ops since
-abbrev pub Stands : Making → List Stamped → Told → Type 0
-Stands making ops told = told ≡ fold changed_by (begun making) ops
+abbrev pub Stands : Making → List TimedOp → SpanData → Type 0
+Stands making ops told = told ≡ fold after_stamped (data_at_making making) ops
 
 -- a state stands for one op more, whatever making and ops it stood for
-abbrev pub Appends : ℕ → Op → Told → Told → Type 0
-Appends at op before now = (making : Making) (ops : List Stamped) → Stands making ops before → Stands making (ops ++ record { at = at; op = op } ∷ []) now
+abbrev pub AppendsOp : ℕ → Op → SpanData → SpanData → Type 0
+AppendsOp at op before now = (making : Making) (ops : List TimedOp) → Stands making ops before → Stands making (ops ++ record { at = at; op = op } ∷ []) now
 
 -- a value is read off the making and the ops that a state stands for
-abbrev pub IsReadOff : {A : Type 0} → (Making → List Stamped → A) → Told → A → Type 0
-IsReadOff read told value = (making : Making) (ops : List Stamped) → Stands making ops told → value ≡ read making ops
+abbrev pub IsReadOff : {A : Type 0} → (Making → List TimedOp → A) → SpanData → A → Type 0
+IsReadOff read told value = (making : Making) (ops : List TimedOp) → Stands making ops told → value ≡ read making ops
 
 -- a state gets the parent and the moment of its making anew, and no time has passed since
-abbrev pub made_at : Context → ℕ → Told → Told
-made_at parent made told = record told { parent = parent; made = made; last = min made GREATEST; busy = 0; left = None }
+abbrev pub with_making : Context → ℕ → SpanData → SpanData
+with_making parent made told = record told { parent = parent; made = made; last = min made GREATEST; busy = 0; left = None }
 
 -- a state that stood for a making and no ops stands for the same making with another parent and moment, and no ops
-abbrev pub Begins : Context → ℕ → Told → Told → Type 0
-Begins parent made before now = (making : Making) → Stands making [] before → Stands (record making { parent = parent; made = made }) [] now
+abbrev pub BeginsAt : Context → ℕ → SpanData → SpanData → Type 0
+BeginsAt parent made before now = (making : Making) → Stands making [] before → Stands (record making { parent = parent; made = made }) [] now
 
 -- a record is the content of the making and the ops that a state stands for, where moments don't fall
-abbrev pub IsContent : ℕ → Told → Record → Type 0
-IsContent at told result = (making : Making) (ops : List Stamped) → Stands making ops told → InOrder making.made ops → result ≡ content making ops at
+abbrev pub IsContent : ℕ → SpanData → Record → Type 0
+IsContent at told result = (making : Making) (ops : List TimedOp) → Stands making ops told → MomentsRise making.made ops → result ≡ content making ops at
 
 -- ---- answers
 
@@ -161,7 +161,7 @@ abbrev pub reply_after : Option SpanContext → Op → OpReply
 reply_after own (ops.SetParent context) = Parent (if is_some own then Err AlreadyStarted else Ok tt)
 reply_after own _ = Done
 
-abbrev pub reply : Told → Op → OpReply
+abbrev pub reply : SpanData → Op → OpReply
 reply told op = reply_after told.own op
 
 -- the ops for which memory may be wanted
@@ -196,7 +196,7 @@ pub record Keeps (room now : Room) : Type 0 where
 -- ---- the close
 
 -- the record of a state that is closed at a moment
-abbrev pub record_of : Told → ℕ → Record
+abbrev pub record_of : SpanData → ℕ → Record
 record_of told closed = record {
   name = told.name;
   kind = told.kind;

@@ -5,7 +5,7 @@ use Rattle.std.specs.Ordering.{ord_max}
 use Rattle.otel_base.specs.Statuses.{status_cmp}
 use Rattle.otel_base.specs.declared.status.Status.{Status}
 use Rattle.otel_base.specs.declared.status.Status.TheVariants.{Unset, Error}
-use Rattle.otel_state.specs.Deeds.{Stamped, Deed, deed}
+use Rattle.otel_state.specs.Deeds.{TimedOp, Deed, deed}
 
 -- what an op writes: that of an error, which has no description, comes before its own
 abbrev pub error_in : Bool → List Status
@@ -19,5 +19,5 @@ abbrev pub greatest : Status → List Status → Status
 greatest before statuses = fold (ord_max status_cmp) before statuses
 
 -- the status of a span, Unset where nothing is written
-abbrev pub status_of : List Stamped → Status
+abbrev pub status_of : List TimedOp → Status
 status_of ops = greatest Unset (flat_map (λ op. writes (deed op.op)) ops)

@@ -2,14 +2,14 @@
 use Rattle.std.specs.Prelude.{ℕ, ◌+◌, ◌-◌, ◌≤◌, ◌==◌, min, List, [], ◌∷◌, Option, None, Some, if◌then◌else◌, filter_map, fold, unwrap_or}
 use Rattle.std.specs.Option.{option_map_or}
 use Rattle.otel_state.specs.declared.times.TheConstants.{GREATEST}
-use Rattle.otel_state.specs.Deeds.{Deed, Stamped, deed}
+use Rattle.otel_state.specs.Deeds.{Deed, TimedOp, deed}
 
 -- how many entries are open after an op; the count stands still at its greatest
 abbrev pub open_after : ℕ → Deed → ℕ
 open_after entries d = if d.exits then entries - 1 else if d.enters then min (entries + 1) GREATEST else entries
 
 -- how many entries are open after some ops
-abbrev pub open_by : ℕ → List Stamped → ℕ
+abbrev pub open_by : ℕ → List TimedOp → ℕ
 open_by entries ops = fold (λ n op. open_after n (deed op.op)) entries ops
 
 -- the time since the op before, where an entry is open
@@ -17,20 +17,20 @@ abbrev pub gap : ℕ → ℕ → ℕ → ℕ
 gap entries last at = if entries == 0 then 0 else at - last
 
 -- the sum of the gaps between ops that follow one another, from so many entries and a moment on
-abbrev pub busy_from : ℕ → ℕ → List Stamped → ℕ
+abbrev pub busy_from : ℕ → ℕ → List TimedOp → ℕ
 busy_from entries last [] = 0
 busy_from entries last (op ∷ ops) = gap entries last op.at + busy_from (open_after entries (deed op.op)) op.at ops
 
 -- busy is the time in which some entry was open
-abbrev pub busy_of : ℕ → List Stamped → ℕ
+abbrev pub busy_of : ℕ → List TimedOp → ℕ
 busy_of made ops = busy_from 0 made ops
 
 -- the moment of an op that closes an entry
-abbrev pub exit_in : Stamped → Option ℕ
+abbrev pub exit_in : TimedOp → Option ℕ
 exit_in op = if (deed op.op).exits then Some op.at else None
 
 -- the moment of the last exit, if there is one
-abbrev pub last_exit : List Stamped → Option ℕ
+abbrev pub last_exit : List TimedOp → Option ℕ
 last_exit ops = fold (λ _ at. Some at) None (filter_map exit_in ops)
 
 -- the end is the last exit, else the close
@@ -42,6 +42,6 @@ abbrev pub idle_of : Option ℕ → ℕ → ℕ → ℕ
 idle_of left made busy = option_map_or (λ end. end - made - busy) left 0
 
 -- moments don't fall, and are at most the greatest
-abbrev pub InOrder : ℕ → List Stamped → Type 0
-InOrder last [] = last ≤ GREATEST
-InOrder last (op ∷ ops) = (last ≤ op.at) × InOrder op.at ops
+abbrev pub MomentsRise : ℕ → List TimedOp → Type 0
+MomentsRise last [] = last ≤ GREATEST
+MomentsRise last (op ∷ ops) = (last ≤ op.at) × MomentsRise op.at ops

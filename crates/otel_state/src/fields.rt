@@ -3,7 +3,7 @@ ghost use Rattle.std.specs.Prelude.{◌≡◌, ◌++◌, ◌∷◌, [], OnOk, If
 ghost use Rattle.std.specs.Option.{option_copied};
 ghost use Rattle.otel_base.specs.Words.{word_text};
 ghost use Rattle.otel_base.specs.declared.word.Word.TheVariants.{LineNumber};
-ghost use Rattle.otel_state.specs.fields.Fields.{with_text, wanted, known_text, known_number, location, plain_text, debug_text, as_exception, as_field};
+ghost use Rattle.otel_state.specs.fields.Fields.{with_text, if_wanted, known_text, known_number, location, plain_text, debug_text, as_exception, as_field};
 
 use otel_base::list::Items;
 use otel_base::memory::Memory;
@@ -72,7 +72,7 @@ fn add_location(
     is_wanted: bool,
     callsite: &Callsite,
 ) -> Result<(), Memory>
-    ensures { OnOk result (attributes.new ≡ attributes.old ++ wanted is_wanted (location callsite.now)) }
+    ensures { OnOk result (attributes.new ≡ attributes.old ++ if_wanted is_wanted (location callsite.now)) }
 {
     if is_wanted {
         add_known_text(alloc, attributes, Word::FilePath, &callsite.file)?;
@@ -125,7 +125,7 @@ fn add_exception(
     message: &Text,
     chain: &Items<Text>,
 ) -> Result<(), Memory>
-    ensures { OnOk result (attributes.new ≡ attributes.old ++ wanted is_wanted (as_exception message.now chain.now)) }
+    ensures { OnOk result (attributes.new ≡ attributes.old ++ if_wanted is_wanted (as_exception message.now chain.now)) }
 {
     if is_wanted {
         add_text(

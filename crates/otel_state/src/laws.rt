@@ -2,28 +2,28 @@
 ghost use Rattle.std.specs.Prelude.{◌≡◌, ℕ, List, [], ◌∷◌, ◌++◌, IsTrue, All, is_some};
 ghost use Rattle.otel_base.specs.declared.context.SpanContext.{SpanContext};
 ghost use Rattle.otel_state.specs.declared.op.Op.{Op};
-ghost use Rattle.otel_state.specs.Deeds.{Stamped};
+ghost use Rattle.otel_state.specs.Deeds.{TimedOp};
 ghost use Rattle.otel_state.specs.Opening.{own_of};
-ghost use Rattle.otel_state.specs.Times.{InOrder, open_by, last_exit};
+ghost use Rattle.otel_state.specs.Times.{MomentsRise, open_by, last_exit};
 ghost use Rattle.otel_state.specs.Content.{Making, content};
-ghost use Rattle.otel_state.specs.States.{Told, Appends, changed};
-ghost use Rattle.otel_state.specs.Laws.{TellsTimes, was_entered, SameButSettled, SettlesNothing, start_at, with_early, with_late, SameButIds, NeverFalls};
+ghost use Rattle.otel_state.specs.States.{SpanData, AppendsOp, after_op};
+ghost use Rattle.otel_state.specs.Laws.{TellsTimes, was_entered, SameButSettled, SettlesNothing, start_at, with_early, with_late, SameButIds, StatusNeverFalls};
 
 /// A state that stands for some ops stands, after one more, for these and that one.
 pub fn appends()
-    ensures { (told : Told) (at : ℕ) (op : Op) → Appends at op told (changed told at op) }
+    ensures { (told : SpanData) (at : ℕ) (op : Op) → AppendsOp at op told (after_op told at op) }
 {}
 
 /// Where inactivity is tracked, moments don't fall and no entry is left open: the record's busy and idle times add up to
 /// the time from its start to its end if the span was left, as each is that was entered; else both are 0.
 pub fn times()
-    ensures { (making : Making) (ops : List Stamped) (closed : ℕ) → IsTrue making.inactivity → InOrder making.made ops
+    ensures { (making : Making) (ops : List TimedOp) (closed : ℕ) → IsTrue making.inactivity → MomentsRise making.made ops
         → open_by 0 ops ≡ 0 → TellsTimes (was_entered ops) (last_exit ops) (content making ops closed) }
 {}
 
 /// A name, a kind or a parent that is written after the start leaves the record as it is.
 pub fn late_writes()
-    ensures { (making : Making) (before after : List Stamped) (at closed : ℕ) (a b : Op)
+    ensures { (making : Making) (before after : List TimedOp) (at closed : ℕ) (a b : Op)
         → IsTrue (is_some (own_of before)) → SameButSettled a b
         → content making (before ++ record { at = at; op = a } ∷ after) closed
         ≡ content making (before ++ record { at = at; op = b } ∷ after) closed }
@@ -32,15 +32,15 @@ pub fn late_writes()
 /// A start may come early or late: where moments don't fall in either order, no entry is left open, and no name, kind or
 /// parent is written between the two places, the records differ in their ids alone.
 pub fn early_starts()
-    ensures { (making : Making) (before between after : List Stamped) (early late : ℕ) (own given : SpanContext)
+    ensures { (making : Making) (before between after : List TimedOp) (early late : ℕ) (own given : SpanContext)
         (closed : ℕ) → All SettlesNothing between → open_by 0 (before ++ between ++ after) ≡ 0
-        → InOrder making.made (with_early before (start_at early own) between after)
-        → InOrder making.made (with_late before between (start_at late given) after)
+        → MomentsRise making.made (with_early before (start_at early own) between after)
+        → MomentsRise making.made (with_late before between (start_at late given) after)
         → SameButIds (content making (with_early before (start_at early own) between after) closed)
         (content making (with_late before between (start_at late given) after) closed) }
 {}
 
 /// The status never falls as ops are appended.
 pub fn statuses()
-    ensures { (ops more : List Stamped) → NeverFalls ops more }
+    ensures { (ops more : List TimedOp) → StatusNeverFalls ops more }
 {}

@@ -2,7 +2,7 @@
 ghost use Rattle.std.specs.Prelude.{◌≡◌, ◌↔◌, ◌<◌, ◌≤◌, ◌+◌, ℕ, List, [], ◌∷◌, ◌++◌, length, drop, false, true, IsNone, IfSome, IsErr, IfErr, OnOk, OnErr, option_map};
 ghost use Rattle.std.specs.List.{list_any};
 ghost use Rattle.trace_base.specs.Spans.{without_last};
-ghost use Rattle.otel_state.specs.Stack.{is_of, last_passing, IsLastPlace};
+ghost use Rattle.otel_state.specs.Stack.{is_pair_of, last_passing, IsLastPlace};
 
 use otel_base::memory::Memory;
 use std::alloc::Global;
@@ -50,9 +50,9 @@ impl<T> IdValueStack<T> {
 
     /// Takes out the latest value of a span; none exactly where it has none. The others keep their order.
     pub fn pop(&mut self, id: &Id) -> Option<T>
-        ensures latest { result ≡ option_map (λ pair. pair.1) (last_passing (is_of id.now) self.old) }
-        ensures others { self.new ≡ without_last (is_of id.now) self.old }
-        ensures none { IsNone result ↔ (list_any (is_of id.now) self.old ≡ false) }
+        ensures latest { result ≡ option_map (λ pair. pair.1) (last_passing (is_pair_of id.now) self.old) }
+        ensures others { self.new ≡ without_last (is_pair_of id.now) self.old }
+        ensures none { IsNone result ↔ (list_any (is_pair_of id.now) self.old ≡ false) }
     {
         let at = last_place(self.items.as_slice(), *id)?;
         let (_, value) = self.items.remove(at);
@@ -69,8 +69,8 @@ impl<T> IdValueStack<T> {
 
 // The place of the last value of a span, if it has one.
 fn last_place<T>(items: &[(Id, T)], id: Id) -> Option<usize>
-    ensures some { IfSome result (IsLastPlace (is_of id) items.now) }
-    ensures none { IsNone result → list_any (is_of id) items.now ≡ false }
+    ensures some { IfSome result (IsLastPlace (is_pair_of id) items.now) }
+    ensures none { IsNone result → list_any (is_pair_of id) items.now ≡ false }
 {
     let mut at = items.len();
     while at > 0 {

@@ -3,11 +3,11 @@ ghost use Rattle.std.specs.Prelude.{◌≡◌, ◌+◌, ◌≤◌, ◌<◌, ◌^
 ghost use Rattle.std.specs.Option.{option_to_list};
 ghost use Rattle.std.specs.Ordering.{ord_max};
 ghost use Rattle.otel_base.specs.Statuses.{status_cmp};
-ghost use Rattle.otel_state.specs.Deeds.{deed, nothing, written_by};
-ghost use Rattle.otel_state.specs.Opening.{own_of, parent_of};
+ghost use Rattle.otel_state.specs.Deeds.{deed, no_deed, written_by};
+ghost use Rattle.otel_state.specs.Opening.{own_of, parent_context_of};
 ghost use Rattle.otel_state.specs.Statuses.{greatest, error_in};
 ghost use Rattle.otel_state.specs.Times.{open_by};
-ghost use Rattle.otel_state.specs.States.{passed, unless_started, with_all, did, changed, reply, reply_after, is_growing, record_of, made_at, less, Stands, Appends, Begins, IsReadOff, IsContent, HasRoom, Keeps};
+ghost use Rattle.otel_state.specs.States.{after_time, unless_started, with_all, did, after_op, reply, reply_after, is_growing, record_of, with_making, less, Stands, AppendsOp, BeginsAt, IsReadOff, IsContent, HasRoom, Keeps};
 
 use crate::closing::{add_count, add_times};
 use crate::op::{Op, OpReply, SetParentError};
@@ -56,9 +56,9 @@ struct Opening {
 
 impl Model for SpanState {
     ghost use Rattle.std.specs.Prelude.{◌-◌, length, vec_capacity};
-    ghost use Rattle.otel_state.specs.States.{Kept, IsInTime};
+    ghost use Rattle.otel_state.specs.States.{StateValue, IsInTime};
 
-    ghost Value = { Kept };
+    ghost Value = { StateValue };
 
     ghost view = { λ s. record {
       told = record {
@@ -148,7 +148,7 @@ impl SpanState {
     #[tactic(auto, using(crate::proofs::Summing::parent_is))]
     pub fn parent(&self) -> Context
         ensures value { result ≡ self.now.told.parent }
-        ensures listed { IsReadOff (λ making ops. parent_of making.parent ops) self.now.told result }
+        ensures listed { IsReadOff (λ making ops. parent_context_of making.parent ops) self.now.told result }
     {
         self.opening.parent
     }
@@ -167,8 +167,8 @@ impl SpanState {
     /// lost.
     #[tactic(auto, using(crate::proofs::Summing::appended))]
     pub fn apply(&mut self, at: Moment, op: Op) -> Result<OpReply, Memory>
-        ensures appends { OnOk result (Appends at op self.old.told self.new.told) }
-        ensures did { OnOk result (self.new.told ≡ changed self.old.told at op) }
+        ensures appends { OnOk result (AppendsOp at op self.old.told self.new.told) }
+        ensures did { OnOk result (self.new.told ≡ after_op self.old.told at op) }
         ensures reply { IfOk result (λ r. r ≡ reply self.old.told op) }
         ensures listed { IfOk result (IsReadOff (λ _ ops. reply_after (own_of ops) op) self.old.told) }
 
@@ -189,7 +189,7 @@ impl SpanState {
     /// Applies an op in room that was reserved for it. The rest of the room stays.
     pub fn put(&mut self, at: Moment, op: Op)
         requires room { HasRoom self.old.room op }
-        ensures told { self.new.told ≡ changed self.old.told at op }
+        ensures told { self.new.told ≡ after_op self.old.told at op }
         ensures room { is_growing op ≡ false → self.new.room ≡ self.old.room }
         ensures rest { Keeps (less self.old.room (deed op)) self.new.room }
     {
@@ -230,7 +230,7 @@ impl SpanState {
 
     // Time passes up to a moment.
     fn pass(&mut self, at: Moment)
-        ensures told { self.new.told ≡ passed self.old.told at }
+        ensures told { self.new.told ≡ after_time self.old.told at }
         ensures room { self.new.room ≡ self.old.room }
     {
         let at = moment_after(self.last, at);
@@ -312,7 +312,7 @@ impl SpanState {
     fn put_attributes(&mut self, attributes: Items<KeyValue>)
         requires { length attributes ≤ self.old.room.attributes }
         ensures told { self.new.told ≡ record self.old.told { attributes = with_all self.old.told.attributes attributes } }
-        ensures rest { Keeps (less self.old.room (record nothing { attributes = attributes })) self.new.room }
+        ensures rest { Keeps (less self.old.room (record no_deed { attributes = attributes })) self.new.room }
     {
         let mut attributes = attributes.into_vec();
         match self.attributes.append(&mut attributes) {
@@ -324,7 +324,7 @@ impl SpanState {
     fn put_attribute(&mut self, pair: KeyValue)
         requires { 1 ≤ self.old.room.attributes }
         ensures told { self.new.told ≡ record self.old.told { attributes = self.old.told.attributes ++ pair ∷ [] } }
-        ensures rest { Keeps (less self.old.room (record nothing { attributes = pair ∷ [] })) self.new.room }
+        ensures rest { Keeps (less self.old.room (record no_deed { attributes = pair ∷ [] })) self.new.room }
     {
         match self.attributes.push(pair) {
             Ok(()) => {}
@@ -335,7 +335,7 @@ impl SpanState {
     fn put_event(&mut self, event: OtelEvent)
         requires { 1 ≤ self.old.room.events }
         ensures told { self.new.told ≡ record self.old.told { events = self.old.told.events ++ event ∷ [] } }
-        ensures rest { Keeps (less self.old.room (record nothing { event = Some event })) self.new.room }
+        ensures rest { Keeps (less self.old.room (record no_deed { event = Some event })) self.new.room }
     {
         match self.events.push(event) {
             Ok(()) => {}
@@ -346,7 +346,7 @@ impl SpanState {
     fn put_link(&mut self, link: Link)
         requires { 1 ≤ self.old.room.links }
         ensures told { self.new.told ≡ record self.old.told { links = self.old.told.links ++ link ∷ [] } }
-        ensures rest { Keeps (less self.old.room (record nothing { link = Some link })) self.new.room }
+        ensures rest { Keeps (less self.old.room (record no_deed { link = Some link })) self.new.room }
     {
         match self.links.push(link) {
             Ok(()) => {}
@@ -357,8 +357,8 @@ impl SpanState {
     /// Gives a state the parent and the moment of its making, where these weren't known when its room was taken. Its last
     /// moment, its busy time and its last exit start anew; all else stays.
     pub fn begin(&mut self, parent: Context, made: Moment)
-        ensures told { self.new.told ≡ made_at parent made self.old.told }
-        ensures begins { Begins parent made self.old.told self.new.told }
+        ensures told { self.new.told ≡ with_making parent made self.old.told }
+        ensures begins { BeginsAt parent made self.old.told self.new.told }
         ensures room { self.new.room ≡ self.old.room }
     {
         self.opening.parent = parent;

@@ -7,7 +7,7 @@ use Rattle.event_gate.specs.declared.levels.Admission.{Admission}
 use Rattle.event_gate.specs.declared.levels.Levels.{Levels}
 use Rattle.event_gate.specs.Rules.{text_filter, gate_rule, levels_under}
 use Rattle.shared_gate.specs.Order.{Texts, opening_of}
-use Rattle.shared_gate.specs.Gates.{Gated, IsOpening, Answers}
+use Rattle.shared_gate.specs.Gates.{GateValue, IsOpening, AnswersByText}
 
 pub opening_same : (xs ys : Texts) → slice_get ys 0 ≡ slice_get xs 0 → opening_of ys ≡ opening_of xs
 opening_same [] [] same = refl
@@ -20,13 +20,13 @@ first_is [] text h = absurd cc
 first_is (t ∷ ts) text h = cc h
 
 pub answers_opening : (texts : Texts) (opening : List ℕ) (answer : Admission) (c : Callsite) (levels : Levels)
-    → opening_of texts ≡ opening → Answers texts answer c levels → answer.reload ≡ 0 → answer.yes ≡ gate_rule (text_filter opening) (levels_under 0 levels) c
+    → opening_of texts ≡ opening → AnswersByText texts answer c levels → answer.reload ≡ 0 → answer.yes ≡ gate_rule (text_filter opening) (levels_under 0 levels) c
 answers_opening texts opening answer c levels same answers none =
     let first : answers.text ≡ opening = sym (first_is texts answers.text (subst (λ (n : ℕ). slice_get texts n ≡ Some answers.text) none answers.put)) ∙ same in
     answers.is ∙ (ap (λ (t : List ℕ). gate_rule (text_filter t) (levels_under answer.reload levels) c) first
     ∙ ap (λ (n : ℕ). gate_rule (text_filter opening) (levels_under n levels) c) none)
 
 -- gates of readers that were made with a filter of this text
-pub opened_by : (table : TableId) (text filter : List ℕ) (readers : List (Known (List ℕ))) (gates : List Gated) → filter ≡ text → All (IsNew table filter) readers
+pub opened_by : (table : TableId) (text filter : List ℕ) (readers : List (Known (List ℕ))) (gates : List GateValue) → filter ≡ text → All (IsNew table filter) readers
     → ((table : TableId) (text : List ℕ) → All (IsNew table text) readers → All (IsOpening table text) gates) → All (IsOpening table text) gates
 opened_by table text filter readers gates is all each = each table text (subst (λ (t : List ℕ). All (IsNew table t) readers) is all)

@@ -8,7 +8,7 @@ use Rattle.event_gate.specs.Rules.{text_filter, gate_rule, levels_under}
 use Rattle.shared_gate.specs.Order.{Texts}
 
 -- A gate: whose it is, the texts that it has seen put in force, and the number of the one that it answers by.
-pub record Gated : Type 0 where
+pub record GateValue : Type 0 where
   pub table : TableId
   pub texts : Texts
   pub number : ℕ
@@ -20,17 +20,17 @@ pub record Written : Type 0 where
 
 -- An answer by the text of the number that it names, which was put in force: the rule of the gate for that text, with the
 -- levels where they have that number too.
-pub record Answers (texts : Texts) (answer : Admission) (c : Callsite) (levels : Levels) : Type 0 where
+pub record AnswersByText (texts : Texts) (answer : Admission) (c : Callsite) (levels : Levels) : Type 0 where
   pub text : List ℕ
   pub put : slice_get texts answer.reload ≡ Some text
   pub is : answer.yes ≡ gate_rule (text_filter text) (levels_under answer.reload levels) c
 
 -- a new gate of this writer, which has seen the opening text
-abbrev pub IsOpening : TableId → List ℕ → Gated → Type 0
+abbrev pub IsOpening : TableId → List ℕ → GateValue → Type 0
 IsOpening table text g = (g.table ≡ table) × (g.texts ≡ text ∷ []) × (g.number ≡ 0)
 
 -- from now on a gate answers by texts from a number on, and under that number by this text
-pub record IsFrom (number : ℕ) (text : List ℕ) (g : Gated) : Type 0 where
+pub record IsFrom (number : ℕ) (text : List ℕ) (g : GateValue) : Type 0 where
   pub later : number ≤ g.number
   pub same : g.number ≡ number → slice_get g.texts number ≡ Some text
 

@@ -3,9 +3,9 @@ ghost use Rattle.std.specs.Prelude.{◌≡◌, ℕ, List, ◌+◌, ◌<◌, ◌�
 ghost use mathlib.Core.List.{IsPrefix};
 ghost use Rattle.atomic_table.specs.Seated.{TableId};
 ghost use Rattle.shared_value.specs.Knowing.{IsNew};
-ghost use Rattle.event_gate.specs.Rules.{IsRefused};
+ghost use Rattle.event_gate.specs.Rules.{GivesGate};
 ghost use Rattle.shared_gate.specs.Order.{opening_of};
-ghost use Rattle.shared_gate.specs.Gates.{Answers, IsOpening};
+ghost use Rattle.shared_gate.specs.Gates.{AnswersByText, IsOpening};
 ghost use Rattle.shared_gate.specs.declared.writer.TheConstants.{MOST_GATES};
 
 use crate::note::GateNote;
@@ -25,9 +25,9 @@ pub struct SharedGate {
 }
 
 impl Model for SharedGate {
-    ghost use Rattle.shared_gate.specs.Gates.{Gated};
+    ghost use Rattle.shared_gate.specs.Gates.{GateValue};
 
-    ghost Value = { Gated };
+    ghost Value = { GateValue };
 
     ghost view = { λ g. record { table = g.reader.table; texts = g.reader.values; number = g.reader.number } };
 }
@@ -44,7 +44,7 @@ impl SharedGate {
         ensures opening { IfOk result (λ r. r.0.texts ≡ text.now ∷ []) }
         ensures count { IfOk result (λ r. vec_len r.1 ≡ readers) }
         ensures gates { IfOk result (λ r. All (IsOpening r.0.table text.now) r.1.items) }
-        ensures refused { IsRefused text.now result }
+        ensures refused { GivesGate text.now result }
     {
         let filter = TextFilter::read(alloc, text)?;
         // Once there is a writer nothing can be refused: without leave to wait it can't be ended.
@@ -62,7 +62,7 @@ impl SharedGate {
         ensures begins { IsPrefix self.old.texts self.new.texts }
         ensures opening { opening_of self.new.texts ≡ opening_of self.old.texts }
         ensures later { (self.old.number ≤ result.reload) × (self.new.number ≡ result.reload) }
-        ensures answers { Answers self.new.texts result c.now levels.now }
+        ensures answers { AnswersByText self.new.texts result c.now levels.now }
     {
         self.reader.look();
         let list = self

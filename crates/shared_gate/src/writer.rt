@@ -1,6 +1,6 @@
 //! The writer, which puts texts in force.
 ghost use Rattle.std.specs.Prelude.{◌≡◌, ◌++◌, [], ◌∷◌, length, IfOk, OnErr};
-ghost use Rattle.event_gate.specs.Rules.{IsRefused};
+ghost use Rattle.event_gate.specs.Rules.{GivesGate};
 
 use crate::note::GateNote;
 use event_gate::{GateError, TextFilter};
@@ -35,7 +35,7 @@ impl GateWriter {
         ensures table { self.new.table ≡ self.old.table }
         ensures put { IfOk result (λ n. (n ≡ length self.old.texts)
             × (self.new.texts ≡ self.old.texts ++ text.now ∷ [])) }
-        ensures refused { IsRefused text.now result }
+        ensures refused { GivesGate text.now result }
         ensures leaves { OnErr result (self.new ≡ self.old) }
     {
         let filter = TextFilter::read(self.alloc, text)?;

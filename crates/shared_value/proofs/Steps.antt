@@ -8,7 +8,7 @@ use Rattle.atomic_table.proofs.Lists.{at_set, at_snoc}
 use Rattle.shared_value.specs.declared.numbered.Numbered.{Numbered}
 use Rattle.shared_value.specs.declared.numbered.Shown.{Shown}
 use Rattle.shared_value.specs.declared.order.View.{View}
-use Rattle.shared_value.specs.Order.{having, newcomer, in_place, EndsWith, IsKept, Looked, Put}
+use Rattle.shared_value.specs.Order.{view_of, newcomer, in_place, EndsWith, IsKept, SeesAll, Put}
 use Rattle.shared_value.proofs.Lists.{prefix_self, prefix_more, get_last}
 
 abbrev Each : {A : Type 0} → List A → List (View A) → Type 0
@@ -46,21 +46,21 @@ starts_with {A} s t is none = starts s (ap (λ (u : Numbered A). u.number) is �
 pub admits : {A : Type 0} → Admits (λ (s : Shown A) (views : List (View A)). IsKept s views) newcomer
 admits s views k = record { values = k.values; ends = k.ends; each = each_more k.values views newcomer k.each (none_begins k.values) }
 
-pub looks : {A : Type 0} (seat : ℕ) (v : View A) → Turns IsKept seat v (λ s. s) Looked
+pub looks : {A : Type 0} (seat : ℕ) (v : View A) → Turns IsKept seat v (λ s. s) SeesAll
 looks seat v s views k at = (
-  having k.values,
-  record { values = k.values; ends = k.ends; each = each_set k.values views seat (having k.values) k.each (prefix_self k.values) },
+  view_of k.values,
+  record { values = k.values; ends = k.ends; each = each_set k.values views seat (view_of k.values) k.each (prefix_self k.values) },
   record { begins = k.each seat v at; ends = k.ends },
 )
 
 puts : {A : Type 0} (seat : ℕ) (v : View A) (s next : Shown A) → (in_place next).number ≡ (in_place s).number + 1 → TurnsAt IsKept seat v s next Put
 puts seat v s next number views k at =
     let value = (in_place next).value in let more = k.values ++ value ∷ [] in (
-      having more,
+      view_of more,
       record {
         values = more;
         ends = ends_more k.values (in_place s) (in_place next) k.ends number;
-        each = each_set more views seat (having more) (λ j u e. prefix_more u.seen k.values value (k.each j u e)) (prefix_self more);
+        each = each_set more views seat (view_of more) (λ j u e. prefix_more u.seen k.values value (k.each j u e)) (prefix_self more);
       },
       record { values = k.values; begins = k.each seat v at; ends = k.ends; put = refl },
     )

@@ -52,6 +52,6 @@ abbrev pub IsLeft : {A : Type 0} → View A → Shown A → View A → Shown A �
 IsLeft v s w s' = (w ≡ v) × (s' ≡ s)
 
 -- a reader that looked for a value past a number, and what it found
-abbrev pub Finds : {A : Type 0} → View A → View A → ℕ → Option (Numbered A) → Type 0
-Finds v w number None = IsPrefix v.seen w.seen
-Finds v w number (Some t) = IsPrefix v.seen w.seen × (number < t.number) × EndsWith w.seen t
+abbrev pub FindsLater : {A : Type 0} → View A → View A → ℕ → Option (Numbered A) → Type 0
+FindsLater v w number None = IsPrefix v.seen w.seen
+FindsLater v w number (Some t) = IsPrefix v.seen w.seen × (number < t.number) × EndsWith w.seen t

@@ -8,12 +8,12 @@ use Rattle.shared_value.specs.declared.numbered.Numbered.{Numbered}
 use Rattle.shared_value.specs.declared.numbered.Shown.{Shown}
 use Rattle.shared_value.specs.declared.order.View.{View}
 
-abbrev pub having : {A : Type 0} → List A → View A
-having seen = record { seen = seen }
+abbrev pub view_of : {A : Type 0} → List A → View A
+view_of seen = record { seen = seen }
 
 -- who has looked at nothing yet
 abbrev pub newcomer : {A : Type 0} → View A
-newcomer = having []
+newcomer = view_of []
 
 -- what is in place
 abbrev pub in_place : {A : Type 0} → Shown A → Numbered A
@@ -31,7 +31,7 @@ pub record IsKept {A : Type 0} (s : Shown A) (views : List (View A)) : Type 0 wh
   pub each : (j : ℕ) (v : View A) → get_elem? views j ≡ some v → IsPrefix v.seen values
 
 -- all values are seen, which begin with what had been seen
-pub record Looked {A : Type 0} (v : View A) (s s' : Shown A) (w : View A) : Type 0 where
+pub record SeesAll {A : Type 0} (v : View A) (s s' : Shown A) (w : View A) : Type 0 where
   pub begins : IsPrefix v.seen w.seen
   pub ends : EndsWith w.seen (in_place s')
 

@@ -33,9 +33,9 @@ pub(crate) type OrderedWriter<T> = Writer<Shown<T>, Arc<Numbered<T>, Global>, Vi
 pub(crate) struct Looks;
 
 impl<T: Drop> Outcome<Shown<T>, View<T>> for Looks {
-    ghost use Rattle.shared_value.specs.Order.{Looked};
+    ghost use Rattle.shared_value.specs.Order.{SeesAll};
 
-    ghost then = { Looked };
+    ghost then = { SeesAll };
 }
 
 /// The writer puts a value in place.

@@ -3,7 +3,7 @@ ghost use Rattle.std.specs.Prelude.{◌≡◌, ◌+◌, ◌<◌, ◌≤◌, [], 
 ghost use mathlib.Core.List.{IsPrefix};
 ghost use Rattle.std.specs.Arc.{arc_value};
 ghost use Rattle.left_right.specs.Sides.{view};
-ghost use Rattle.shared_value.specs.Knowing.{Finds};
+ghost use Rattle.shared_value.specs.Knowing.{FindsLater};
 
 use crate::note::ValueNote;
 use crate::numbered::{Numbered, Shown};
@@ -113,7 +113,7 @@ fn find<T: Drop>(
     reader: OrderedReader<T>,
     number: u64,
 ) -> (OrderedReader<T>, Option<Arc<Numbered<T>, Global>>)
-    ensures { Finds (view reader.place) (view result.0.place) number (option_map arc_value result.1) }
+    ensures { FindsLater (view reader.place) (view result.0.place) number (option_map arc_value result.1) }
 {
     match reader.enter_as::<Looks>() {
         Ok(reading) => {

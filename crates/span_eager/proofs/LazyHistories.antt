@@ -5,17 +5,17 @@ use Rattle.std.proofs.lemmas.Bool.Decides.{nat_tests}
 use Rattle.std.proofs.lemmas.Bool.{le-ltb}
 use Rattle.std.proofs.lemmas.List.{append-nil}
 use Rattle.std.proofs.lemmas.List.Sums.{fold_push}
-use Rattle.otel_state.specs.States.{Told}
-use Rattle.otel_layer.specs.Table.{told_at}
+use Rattle.otel_state.specs.States.{SpanData}
+use Rattle.otel_layer.specs.Table.{data_at}
 use Rattle.span_script.specs.declared.request.Request.{Request}
 use Rattle.span_script.specs.Setups.{Setup}
-use Rattle.span_script.specs.Tables.{Made, Effect, History, Tables, no_tables, tables, done_by, after}
+use Rattle.span_script.specs.Tables.{MadeSpan, Effect, History, Tables, no_tables, tables, done_by, after_effect}
 use Rattle.span_script.specs.calls.Here.{Resolved}
 use Rattle.span_script.specs.Effects.{effect_of}
 use Rattle.span_script.specs.Outcomes.{followed_by, history_from}
 use Rattle.span_laws.specs.Closes.{is_drop}
 use Rattle.span_laws.specs.Laws.{IsHistory, more, occurrences}
-use Rattle.span_laws.specs.Starts.{at_making, started}
+use Rattle.span_laws.specs.Starts.{at_making, starting_order}
 use Rattle.span_laws.proofs.records.HistoriesLemmas.{closing_once, closing_shut, fits, whole}
 use Rattle.span_laws.proofs.spans.OccurrencesLemmas.{is_in_counted, occurs_cons}
 use Rattle.span_laws.proofs.spans.StartOrdersLemmas.{order_in, effect_order}
@@ -25,16 +25,16 @@ use Rattle.span_eager.proofs.SameRecordings.{AreOnce, Shut, entries_in}
 -- the spans of a history that goes on from some tables, in the order in which they start
 abbrev pub order_from : Tables → History → List ℕ
 order_from t [] = []
-order_from t (e ∷ h) = order_in t e ++ order_from (after t e) h
+order_from t (e ∷ h) = order_in t e ++ order_from (after_effect t e) h
 
 -- the spans that close do so once, and no entry of theirs is open
 pub record Ends (t : Tables) (e : Effect) : Type 0 where
   pub once : AreOnce e.closes
-  pub shut : Shut e.closes (done_by (length t.made) e t.recording).spans
+  pub shut : Shut e.closes (done_by (length t.spans) e t.recording).spans
 
 abbrev pub AreShut : Tables → History → Type 0
 AreShut t [] = Unit {0}
-AreShut t (e ∷ h) = Ends t e × AreShut (after t e) h
+AreShut t (e ∷ h) = Ends t e × AreShut (after_effect t e) h
 
 -- ---- one effect
 
@@ -45,7 +45,7 @@ once_by (s ∷ ss) once = (
   once_by ss (λ q. (let c = occurs_cons q s ss in let o = once q in omega (arith, c, o))),
 )
 
-no_entries : (o : Option Told) → ((t : Told) → o ≡ Some t → t.entries ≡ 0) → entries_in o ≡ 0
+no_entries : (o : Option SpanData) → ((t : SpanData) → o ≡ Some t → t.entries ≡ 0) → entries_in o ≡ 0
 no_entries None shut = refl
 no_entries (Some t) shut = shut t refl
 
@@ -57,38 +57,38 @@ module _ (setup : Setup) (lazily : setup.layer.eager ≡ false) where
       let step = step_of setup t (fits setup h now) request e is in
       record {
         once = once_by e.closes (λ s. (let once = closing_once setup h now request.at (is_drop request.call) e step.0 step.1 s in grind (arith, nat_tests, once)));
-        shut = λ s there. no_entries (told_at s (done_by (length t.made) e t.recording).spans)
+        shut = λ s there. no_entries (data_at s (done_by (length t.spans) e t.recording).spans)
             (closing_shut setup h now request.at (is_drop request.call) e step.0 step.1 s (let counted = is_in_counted s e.closes in grind (arith, nat_tests, counted, there)));
       }
 
   none_begins : (h : History) (request : Request) (e : Effect) → IsHistory setup h → effect_of setup (tables setup h) request ≡ Ok e → e.begins ≡ None
   none_begins h request e legal is =
       let t : Tables = tables setup h in
-      (step_of setup t (fits setup h (whole setup h legal)) request e is).1.early ∙ ap (λ (b : Bool). at_making b (length t.made) e.made) lazily ∙ by_made (length t.made) e.made
+      (step_of setup t (fits setup h (whole setup h legal)) request e is).1.early ∙ ap (λ (b : Bool). at_making b (length t.spans) e.new_span) lazily ∙ by_made (length t.spans) e.new_span
     where
-      by_made : (n : ℕ) (o : Option Made) → at_making false n o ≡ None
+      by_made : (n : ℕ) (o : Option MadeSpan) → at_making false n o ≡ None
       by_made n None = refl
       by_made n (Some m) = refl
 
   -- ---- what goes on from a history
 
   abbrev GoesOn : History → Tables → History → Type 0
-  GoesOn h t rest = AreShut t rest × (started (h ++ rest) ≡ started h ++ order_from t rest)
+  GoesOn h t rest = AreShut t rest × (starting_order (h ++ rest) ≡ starting_order h ++ order_from t rest)
 
   by_effect : (requests : List Request) (h : History) (request : Request) (r : Resolved) → effect_of setup (tables setup h) request ≡ r → IsHistory setup h
       → ((e : Effect) → IsHistory setup (h ++ e ∷ []) → GoesOn (h ++ e ∷ []) (tables setup (h ++ e ∷ [])) (history_from setup (tables setup (h ++ e ∷ [])) requests))
-      → GoesOn h (tables setup h) (followed_by r (λ e. history_from setup (after (tables setup h) e) requests))
-  by_effect requests h request (Err refusal) is legal behind = (tt, ap started (append-nil h) ∙ sym (append-nil (started h)))
+      → GoesOn h (tables setup h) (followed_by r (λ e. history_from setup (after_effect (tables setup h) e) requests))
+  by_effect requests h request (Err refusal) is legal behind = (tt, ap starting_order (append-nil h) ∙ sym (append-nil (starting_order h)))
   by_effect requests h request (Ok e) is legal behind =
       let t : Tables = tables setup h in
-      let rest = history_from setup (after t e) requests in
-      let next = subst (λ (u : Tables). GoesOn (h ++ e ∷ []) u (history_from setup u requests)) (fold_push after (no_tables setup) h e) (behind e (more h request e legal is)) in (
+      let rest = history_from setup (after_effect t e) requests in
+      let next = subst (λ (u : Tables). GoesOn (h ++ e ∷ []) u (history_from setup u requests)) (fold_push after_effect (no_tables setup) h e) (behind e (more h request e legal is)) in (
         (ends h request e legal is, next.0),
-        ap started (sym (append_assoc h (e ∷ []) rest)) ∙ next.1
-            ∙ ap (λ (o : List ℕ). o ++ order_from (after t e) rest) (effect_order setup h request e legal is (none_begins h request e legal is))
-            ∙ append_assoc (started h) (order_in t e) (order_from (after t e) rest),
+        ap starting_order (sym (append_assoc h (e ∷ []) rest)) ∙ next.1
+            ∙ ap (λ (o : List ℕ). o ++ order_from (after_effect t e) rest) (effect_order setup h request e legal is (none_begins h request e legal is))
+            ∙ append_assoc (starting_order h) (order_in t e) (order_from (after_effect t e) rest),
       )
 
   pub goes_on : (requests : List Request) (h : History) → IsHistory setup h → GoesOn h (tables setup h) (history_from setup (tables setup h) requests)
-  goes_on [] h legal = (tt, ap started (append-nil h) ∙ sym (append-nil (started h)))
+  goes_on [] h legal = (tt, ap starting_order (append-nil h) ∙ sym (append-nil (starting_order h)))
   goes_on (request ∷ requests) h legal = by_effect requests h request (effect_of setup (tables setup h) request) refl legal (λ e. goes_on requests (h ++ e ∷ []))

@@ -8,15 +8,15 @@ use Rattle.otel_state.specs.declared.times.TheConstants.{GREATEST}
 use Rattle.otel_state.specs.Deeds.{deed}
 use Rattle.otel_layer.specs.Recording.{Recording, with_start, with_starts, with_applied}
 use Rattle.trace_base.specs.Spans.{without_last}
-use Rattle.span_script.specs.Tables.{Made, Done, Owner, Attached, is_by, Effect, Tables, with_new, with_attached, with_detached, with_made, begun_by, done_by, recorded_by, open_part, after}
+use Rattle.span_script.specs.Tables.{MadeSpan, SpanOp, Owner, Attached, is_by, Effect, Tables, with_item, with_attached, with_detached, with_span_made, begun_by, done_by, recorded_by, open_part, after_effect}
 use Rattle.span_laws.proofs.spans.StartOrdersLemmas.{starts_from, closes_from}
 use Rattle.span_eager.specs.Early.{IsSettled}
 use Rattle.span_eager.specs.Renaming.{context_by, reply_by}
 use Rattle.span_eager.proofs.SameSpan.{Ids, told_by}
 use Rattle.span_eager.proofs.SameRecordings.{SameRecording, Shut, AreOnce, done_with, later_same, starts_same, made_same, ops_same, closes_same}
 
-abbrev pub made_by : (ℕ → ℕ) → Made → Made
-made_by f m = record m { told = told_by f m.told }
+abbrev pub made_by : (ℕ → ℕ) → MadeSpan → MadeSpan
+made_by f m = record m { made_with = told_by f m.made_with }
 
 abbrev pub attached_by : (ℕ → ℕ) → Attached → Attached
 attached_by f a = record a { context = context_by f a.context }
@@ -25,8 +25,8 @@ attached_by f a = record a { context = context_by f a.context }
 abbrev pub effect_by : (ℕ → ℕ) → ℕ → Effect → Effect
 effect_by f n e = record e {
   new_context = option_map (context_by f) e.new_context;
-  made = option_map (made_by f) e.made;
-  begins = option_map (λ (m : Made). n) e.made;
+  new_span = option_map (made_by f) e.new_span;
+  begins = option_map (λ (m : MadeSpan). n) e.new_span;
   ops = map (done_with f) e.ops;
   attach = option_map (attached_by f) e.attach;
   reply = reply_by f e.reply;
@@ -35,15 +35,15 @@ effect_by f n e = record e {
 -- the tables, with what was recorded
 abbrev pub tables_by : (ℕ → ℕ) → Recording → Tables → Tables
 tables_by f r t = record t {
-  named = map (context_by f) t.named;
-  made = map (made_by f) t.made;
+  named_contexts = map (context_by f) t.named_contexts;
+  spans = map (made_by f) t.spans;
   contexts = λ lane. map (attached_by f) (t.contexts lane);
   recording = r;
 }
 
 -- ---- the tables after one effect more
 
-map_new : {A : Type 0} (g : A → A) (xs : List A) (x : Option A) → with_new (map g xs) (option_map g x) ≡ map g (with_new xs x)
+map_new : {A : Type 0} (g : A → A) (xs : List A) (x : Option A) → with_item (map g xs) (option_map g x) ≡ map g (with_item xs x)
 map_new g xs None = refl
 map_new g xs (Some x) = sym (map-append g xs (x ∷ []))
 
@@ -81,69 +81,69 @@ map_detached f ds cs lane (Some o) same l =
     ∙ map_if f (lane == l) (without_last (is_by o) (cs lane)) (cs l)
 
 pub after_by : (f : ℕ → ℕ) (n : ℕ) (r : Recording) (t : Tables) (e : Effect)
-    → after (tables_by f r t) (effect_by f n e) ≡ tables_by f (open_part (recorded_by (length (map (made_by f) t.made)) (effect_by f n e) r)) (after t e)
-after_by f n r t e = λ i. record (after (tables_by f r t) (effect_by f n e)) {
-  named = map_new (context_by f) t.named e.new_context i;
-  made = map_new (made_by f) t.made e.made i;
+    → after_effect (tables_by f r t) (effect_by f n e) ≡ tables_by f (open_part (recorded_by (length (map (made_by f) t.spans)) (effect_by f n e) r)) (after_effect t e)
+after_by f n r t e = λ i. record (after_effect (tables_by f r t) (effect_by f n e)) {
+  named_contexts = map_new (context_by f) t.named_contexts e.new_context i;
+  spans = map_new (made_by f) t.spans e.new_span i;
   contexts = λ l. map_detached f (with_attached (λ m. map (attached_by f) (t.contexts m)) e.lane (option_map (attached_by f) e.attach)) (with_attached t.contexts e.lane e.attach) e.lane e.detach (map_attached f t.contexts e.lane e.attach) l i;
 }
 
 -- ---- what is recorded after one effect more
 
 -- so many have been made
-abbrev pub count_made : ℕ → Option Made → ℕ
+abbrev pub count_made : ℕ → Option MadeSpan → ℕ
 count_made n None = n
 count_made n (Some m) = suc n
 
-pub made_count : (ms : List Made) (m : Option Made) → length (with_new ms m) ≡ count_made (length ms) m
+pub made_count : (ms : List MadeSpan) (m : Option MadeSpan) → length (with_item ms m) ≡ count_made (length ms) m
 made_count ms None = refl
 made_count ms (Some m) = let more = length-append ms (m ∷ []) in omega (arith, more)
 
 -- a span that was just made hasn't started, and no time passes up to it
-abbrev pub IsJustMade : ℕ → Option Made → Type 0
+abbrev pub IsJustMade : ℕ → Option MadeSpan → Type 0
 IsJustMade at None = Unit {0}
-IsJustMade at (Some m) = (m.told.own ≡ None) × (m.told.last ≤ at)
+IsJustMade at (Some m) = (m.made_with.own ≡ None) × (m.made_with.last ≤ at)
 
 -- what holds of the effect of any request, where spans don't start at their making
 pub record IsPlain (at : ℕ) (e : Effect) : Type 0 where
   pub at_is : e.at ≡ at
   pub begins : e.begins ≡ None
-  pub made : IsJustMade at e.made
-  pub starts_none : AllByRecursion (λ (d : Done). (deed d.op).own ≡ None) e.ops
+  pub made : IsJustMade at e.new_span
+  pub starts_none : AllByRecursion (λ (d : SpanOp). (deed d.op).own ≡ None) e.ops
 
 module _ (f : Ids) (layer : LayerSettings) where
   abbrev Same : ℕ → ℕ → List ℕ → Recording → Recording → Type 0
   Same = SameRecording f layer
 
-  made_by_effect : (n at : ℕ) (pending : List ℕ) (e l : Recording) (m : Option Made) → at ≤ GREATEST → IsJustMade at m → Same n at pending e l
-      → Same (count_made n m) at pending (with_starts (option_map (λ (m : Made). n) m) at (with_made n (option_map (made_by f.new) m) e)) (with_made n m l)
+  made_by_effect : (n at : ℕ) (pending : List ℕ) (e l : Recording) (m : Option MadeSpan) → at ≤ GREATEST → IsJustMade at m → Same n at pending e l
+      → Same (count_made n m) at pending (with_starts (option_map (λ (m : MadeSpan). n) m) at (with_span_made n (option_map (made_by f.new) m) e)) (with_span_made n m l)
   made_by_effect n at pending e l None within just same = same
-  made_by_effect n at pending e l (Some m) within just same = made_same f layer n at pending e l m.told just.0 just.1 within same
+  made_by_effect n at pending e l (Some m) within just same = made_same f layer n at pending e l m.made_with just.0 just.1 within same
 
   -- what is recorded before spans close
   pub done_same : (n at : ℕ) (pending : List ℕ) (e : Effect) (r l : Recording) → e.at ≡ at → at ≤ GREATEST → IsPlain at e
       → AllByRecursion (IsSettled (begun_by n e l)) e.ops → Same n at (starts_from at l e.starts ++ pending) r l
-      → Same (count_made n e.made) at pending (done_by n (effect_by f.new n e) r) (done_by n e l)
+      → Same (count_made n e.new_span) at pending (done_by n (effect_by f.new n e) r) (done_by n e l)
   done_same n at pending e r l at_is within plain settled same =
       let started = starts_same f layer n at e.starts pending r l within same in
-      let begun = made_by_effect n at pending (fold (λ r s. with_start s at r) r e.starts) (fold (λ r s. with_start s at r) l e.starts) e.made within plain.made started in
-      let lazily : begun_by n e l ≡ with_made n e.made (fold (λ r s. with_start s at r) l e.starts) =
-      ap (λ (b : Option ℕ). with_starts b e.at (with_made n e.made (fold (λ r s. with_start s e.at r) l e.starts))) plain.begins
-      ∙ ap (λ (m : ℕ). with_made n e.made (fold (λ r s. with_start s m r) l e.starts)) at_is in
-      let early : begun_by n (effect_by f.new n e) r ≡ with_starts (option_map (λ (m : Made). n) e.made) at (with_made n (option_map (made_by f.new) e.made) (fold (λ r s. with_start s at r) r e.starts)) =
-      ap (λ (m : ℕ). with_starts (option_map (λ (m : Made). n) e.made) m (with_made n (option_map (made_by f.new) e.made) (fold (λ r s. with_start s m r) r e.starts))) at_is in
-      let ready = subst₂ (Same (count_made n e.made) at pending) (sym early) (sym lazily) begun in
-      let done = ops_same f layer (count_made n e.made) at pending e.ops (begun_by n (effect_by f.new n e) r) (begun_by n e l) within plain.starts_none settled ready in
-      subst (λ (m : ℕ). Same (count_made n e.made) at pending (fold (λ r d. with_applied d.span m d.op r) (begun_by n (effect_by f.new n e) r) (map (done_with f.new) e.ops)) (fold (λ r d. with_applied d.span m d.op r) (begun_by n e l) e.ops))
+      let begun = made_by_effect n at pending (fold (λ r s. with_start s at r) r e.starts) (fold (λ r s. with_start s at r) l e.starts) e.new_span within plain.made started in
+      let lazily : begun_by n e l ≡ with_span_made n e.new_span (fold (λ r s. with_start s at r) l e.starts) =
+      ap (λ (b : Option ℕ). with_starts b e.at (with_span_made n e.new_span (fold (λ r s. with_start s e.at r) l e.starts))) plain.begins
+      ∙ ap (λ (m : ℕ). with_span_made n e.new_span (fold (λ r s. with_start s m r) l e.starts)) at_is in
+      let early : begun_by n (effect_by f.new n e) r ≡ with_starts (option_map (λ (m : MadeSpan). n) e.new_span) at (with_span_made n (option_map (made_by f.new) e.new_span) (fold (λ r s. with_start s at r) r e.starts)) =
+      ap (λ (m : ℕ). with_starts (option_map (λ (m : MadeSpan). n) e.new_span) m (with_span_made n (option_map (made_by f.new) e.new_span) (fold (λ r s. with_start s m r) r e.starts))) at_is in
+      let ready = subst₂ (Same (count_made n e.new_span) at pending) (sym early) (sym lazily) begun in
+      let done = ops_same f layer (count_made n e.new_span) at pending e.ops (begun_by n (effect_by f.new n e) r) (begun_by n e l) within plain.starts_none settled ready in
+      subst (λ (m : ℕ). Same (count_made n e.new_span) at pending (fold (λ r d. with_applied d.span m d.op r) (begun_by n (effect_by f.new n e) r) (map (done_with f.new) e.ops)) (fold (λ r d. with_applied d.span m d.op r) (begun_by n e l) e.ops))
       (sym at_is) done
 
   pub recorded_same : (n before : ℕ) (pending : List ℕ) (e : Effect) (r l : Recording) → before ≤ e.at → e.at ≤ GREATEST → IsPlain e.at e
       → AllByRecursion (IsSettled (begun_by n e l)) e.ops → AreOnce e.closes → Shut e.closes (done_by n e l).spans
       → Same n before ((starts_from e.at l e.starts ++ closes_from e.at (done_by n e l) e.closes) ++ pending) r l
-      → Same (count_made n e.made) e.at pending (recorded_by n (effect_by f.new n e) r) (recorded_by n e l)
+      → Same (count_made n e.new_span) e.at pending (recorded_by n (effect_by f.new n e) r) (recorded_by n e l)
   recorded_same n before pending e r l past within plain settled once shut same =
       let closing = closes_from e.at (done_by n e l) e.closes in
       let now = later_same f layer n before e.at ((starts_from e.at l e.starts ++ closing) ++ pending) r l past same in
       let first = subst (λ (xs : List ℕ). Same n e.at xs r l) (append_assoc (starts_from e.at l e.starts) closing pending) now in
       let done = done_same n e.at (closing ++ pending) e r l refl within plain settled first in
-      closes_same f layer (count_made n e.made) e.at e.closes pending (done_by n (effect_by f.new n e) r) (done_by n e l) within once shut done
+      closes_same f layer (count_made n e.new_span) e.at e.closes pending (done_by n (effect_by f.new n e) r) (done_by n e l) within once shut done

@@ -9,7 +9,7 @@ use Rattle.env_directives.specs.orders.Choice.{admits}
 use Rattle.otel_base.specs.declared.context.Context.{Context}
 use Rattle.otel_base.specs.declared.context.SpanContext.{SpanContext}
 use Rattle.otel_base.specs.declared.value.KeyValue.{KeyValue}
-use Rattle.otel_base.specs.declared.stack.TheConstants.{MOST}
+use Rattle.otel_base.specs.declared.stack.TheConstants.{MAX_CONTEXTS}
 use Rattle.otel_base.specs.Ids.{is_valid, ids_of}
 use Rattle.otel_base.specs.Stack.{empty_context}
 use Rattle.otel_metrics.specs.Measures.{measures}
@@ -19,11 +19,11 @@ use Rattle.otel_state.specs.declared.settings.LayerSettings.{LayerSettings}
 use Rattle.otel_state.specs.declared.times.TheConstants.{GREATEST}
 use Rattle.otel_state.specs.fields.EventFields.{event_of}
 use Rattle.otel_state.specs.Deeds.{deed}
-use Rattle.otel_state.specs.States.{Told}
+use Rattle.otel_state.specs.States.{SpanData}
 use Rattle.otel_layer.specs.Asking.{link_of, event_at}
 use Rattle.otel_layer.specs.Recording.{Recording, source_of, with_start, with_starts}
-use Rattle.otel_layer.specs.Steps.{above, context_from, made_told}
-use Rattle.otel_layer.specs.Table.{told_at, waits, own_or}
+use Rattle.otel_layer.specs.Steps.{parent_source, context_from, new_span_data}
+use Rattle.otel_layer.specs.Table.{data_at, waits, own_or}
 use Rattle.trace_base.specs.declared.callsite.Callsite.{Callsite}
 use Rattle.trace_base.specs.declared.field.ValueSet.{ValueSet}
 use Rattle.trace_base.specs.declared.lane.Lane.{Lane}
@@ -48,12 +48,12 @@ use Rattle.span_script.specs.calls.Here.{Here, here_at, Resolved, refuse_if, ◌
 use Rattle.span_script.specs.Effects.{effect_of_call, is_bad_moment, effect_of}
 use Rattle.span_script.specs.calls.Contexts.{context_effect, own_context, attach_effect, detach_effect}
 use Rattle.span_script.specs.calls.Entries.{active, enter_effect, is_full, meets_full, entry_call, exit_effect, is_shared, attached_by as attaches_by}
-use Rattle.span_script.specs.calls.Events.{if_told, counted_ops, event_effect}
-use Rattle.span_script.specs.calls.Fields.{callsite_of, update_ops, heard_values, record_effect}
-use Rattle.span_script.specs.calls.Filter.{admitted, enabled_effect, reload_by}
+use Rattle.span_script.specs.calls.Events.{if_enabled, counted_ops, event_effect}
+use Rattle.span_script.specs.calls.Fields.{callsite_of, update_ops, hooks_of_values, record_effect}
+use Rattle.span_script.specs.calls.Filter.{admits_at, enabled_effect, reload_by}
 use Rattle.span_script.specs.calls.Links.{follow_effect, set_while, is_set, link_ops, happens_at}
 use Rattle.span_script.specs.calls.Spans.{scope_at, disabled_effect, parent_at, last_attached, context_around, lane_in, span_effect, new_effect, clone_effect, drop_effect, is_borrowed, current_scope, scope_or_current, exchange_effect}
-use Rattle.span_script.specs.Tables.{Scope, Done, Made, EntryOf, Attached, HeardNew, Tables, slot_at, own, site_of, scope_of, made_of, begun_by, quiet}
+use Rattle.span_script.specs.Tables.{Scope, SpanOp, MadeSpan, EntryOf, Attached, HookNew, Tables, slot_at, own_span, site_of, scope_of, made_of, begun_by, quiet_effect}
 use Rattle.span_eager.specs.Early.{lazy, IsSettled, is_far, gives_far}
 use Rattle.span_eager.specs.Renaming.{ids_by, context_by, reply_by}
 use Rattle.span_eager.proofs.SameSpan.{Ids, early_ids, op_by, told_by, valid_by, ids_of_by}
@@ -76,21 +76,21 @@ IsReady f layer n at r l (Err refusal) = Unit {0}
 
 -- ---- what is looked up
 
-scope_by : (f : ℕ → ℕ) (ms : List Made) (s : ℕ) → (made_of (map (made_by f) ms) s).scope ≡ (made_of ms s).scope
+scope_by : (f : ℕ → ℕ) (ms : List MadeSpan) (s : ℕ) → (made_of (map (made_by f) ms) s).scope ≡ (made_of ms s).scope
 scope_by f [] s = refl
 scope_by f (m ∷ ms) zero = refl
 scope_by f (m ∷ ms) (suc s) = scope_by f ms s
 
-site_by : (f : ℕ → ℕ) (ms : List Made) (s : ℕ) → (made_of (map (made_by f) ms) s).site ≡ (made_of ms s).site
+site_by : (f : ℕ → ℕ) (ms : List MadeSpan) (s : ℕ) → (made_of (map (made_by f) ms) s).site ≡ (made_of ms s).site
 site_by f [] s = refl
 site_by f (m ∷ ms) zero = refl
 site_by f (m ∷ ms) (suc s) = site_by f ms s
 
-scoped : (f : ℕ → ℕ) (ms : List Made) (s : Option ℕ) → scope_of (map (made_by f) ms) s ≡ scope_of ms s
+scoped : (f : ℕ → ℕ) (ms : List MadeSpan) (s : Option ℕ) → scope_of (map (made_by f) ms) s ≡ scope_of ms s
 scoped f ms None = refl
 scoped f ms (Some s) = scope_by f ms s
 
-sited : (f : ℕ → ℕ) (ms : List Made) (scope : Scope) → site_of (map (made_by f) ms) scope ≡ site_of ms scope
+sited : (f : ℕ → ℕ) (ms : List MadeSpan) (scope : Scope) → site_of (map (made_by f) ms) scope ≡ site_of ms scope
 sited f ms [] = refl
 sited f ms (s ∷ up) = ap (λ (n : ℕ). Some n) (site_by f ms s)
 
@@ -108,10 +108,10 @@ module _ (f : Ids) (setup : Setup) (eager : setup.layer.eager ≡ true) (t : Tab
   te = tables_by f.new r t
 
   abbrev A : Resolved → Resolved → Type 0
-  A = Agrees f.new (length t.made) at
+  A = Agrees f.new (length t.spans) at
 
   abbrev P : Resolved → Type 0
-  P = IsReady f setup.layer (length t.made) at r t.recording
+  P = IsReady f setup.layer (length t.spans) at r t.recording
 
   -- where the request stands, with spans that start early and without
   abbrev he : Here
@@ -137,25 +137,25 @@ module _ (f : Ids) (setup : Setup) (eager : setup.layer.eager ≡ true) (t : Tab
 
   -- ---- contexts
 
-  own_by : (s : ℕ) (e l : Option Told) (d c : Context) → SameAt f.new s at e l → ((m : Told) → l ≡ Some m → (ids : SpanContext) × (m.own ≡ Some ids)) → d ≡ context_by f.new c → own_or d e ≡ context_by f.new (own_or c l)
+  own_by : (s : ℕ) (e l : Option SpanData) (d c : Context) → SameAt f.new s at e l → ((m : SpanData) → l ≡ Some m → (ids : SpanContext) × (m.own ≡ Some ids)) → d ≡ context_by f.new c → own_or d e ≡ context_by f.new (own_or c l)
   own_by s None None d c alike started same = same
   own_by s None (Some m) d c alike started same = absurd alike
   own_by s (Some e) None d c alike started same = absurd alike
   own_by s (Some e) (Some m) d c alike started same =
       let has = started m refl in
       let is : ids_by f.new has.0 ≡ early_ids f.new s m.parent = own_is has.0 has.1 in
-      λ i. record { span = (ap (λ (t : Told). t.own) alike.is ∙ ap (λ (ids : SpanContext). Some ids) (sym is) ∙ sym (ap (option_map (ids_by f.new)) has.1)) i }
+      λ i. record { span = (ap (λ (t : SpanData). t.own) alike.is ∙ ap (λ (ids : SpanContext). Some ids) (sym is) ∙ sym (ap (option_map (ids_by f.new)) has.1)) i }
     where
       own_is : (ids : SpanContext) → m.own ≡ Some ids → ids_by f.new ids ≡ early_ids f.new s m.parent
       own_is ids is = subst (λ (o : Option SpanContext). IfSome o (λ ids. ids_by f.new ids ≡ early_ids f.new s m.parent)) is alike.own_is
 
-  context_alike : (pending : List ℕ) (s : ℕ) (d c : Context) → SameRecording f setup.layer (length t.made) at pending r (with_start s at t.recording) → d ≡ context_by f.new c
-      → own_or d (told_at s (with_start s at r).spans) ≡ context_by f.new (own_or c (told_at s (with_start s at t.recording).spans))
+  context_alike : (pending : List ℕ) (s : ℕ) (d c : Context) → SameRecording f setup.layer (length t.spans) at pending r (with_start s at t.recording) → d ≡ context_by f.new c
+      → own_or d (data_at s (with_start s at r).spans) ≡ context_by f.new (own_or c (data_at s (with_start s at t.recording).spans))
   context_alike pending s d c same others =
       let now = with_start s at t.recording in
-      ap (λ (x : Recording). own_or d (told_at s x.spans)) (early_stays f setup.layer (length t.made) at at s pending r now same)
-      ∙ own_by s (told_at s r.spans) (told_at s now.spans) d c (same_at f.new at r.spans now.spans s same.spans)
-      (λ m found. has_started f setup.layer s at t.recording m (waits (told_at s t.recording.spans)) refl found) others
+      ap (λ (x : Recording). own_or d (data_at s x.spans)) (early_stays f setup.layer (length t.spans) at at s pending r now same)
+      ∙ own_by s (data_at s r.spans) (data_at s now.spans) d c (same_at f.new at r.spans now.spans s same.spans)
+      (λ m found. has_started f setup.layer s at t.recording m (waits (data_at s t.recording.spans)) refl found) others
 
   -- ---- handles
 
@@ -170,13 +170,13 @@ module _ (f : Ids) (setup : Setup) (eager : setup.layer.eager ≡ true) (t : Tab
       subst (λ (x : Scope). A (Ok (exchange_effect he handle x)) (Ok (exchange_effect hl handle scope))) (sym same) (refl, record { at_is = refl; begins = refl; made = tt; starts_none = tt })
 
   or_current_by : (scope : Scope) → scope_or_current te id scope ≡ scope_or_current t id scope
-  or_current_by [] = scoped f.new t.made (current_of (t.entries id))
+  or_current_by [] = scoped f.new t.spans (current_of (t.entries id))
   or_current_by (s ∷ up) = refl
 
   -- ---- entries
 
-  abbrev plain_of : List Done → Type 0
-  plain_of done = AllByRecursion (λ (d : Done). (deed d.op).own ≡ None) done
+  abbrev plain_of : List SpanOp → Type 0
+  plain_of done = AllByRecursion (λ (d : SpanOp). (deed d.op).own ≡ None) done
 
   on_by : (scope : Scope) (op : Op) → op_on scope (op_by f.new op) ≡ map (done_with f.new) (op_on scope op)
   on_by [] op = refl
@@ -204,7 +204,7 @@ module _ (f : Ids) (setup : Setup) (eager : setup.layer.eager ≡ true) (t : Tab
   )
 
   full_by : is_full (te.contexts id) ≡ is_full (t.contexts id)
-  full_by = ap (λ (k : ℕ). k == MOST) (length-map (t.contexts id) (attached_by f.new))
+  full_by = ap (λ (k : ℕ). k == MAX_CONTEXTS) (length-map (t.contexts id) (attached_by f.new))
 
   opens_agree : (handle : ℕ) (owns : Bool) → P (entry_call hl handle owns) → A (entry_call he handle owns) (entry_call hl handle owns)
   opens_agree handle owns ready =
@@ -233,31 +233,31 @@ module _ (f : Ids) (setup : Setup) (eager : setup.layer.eager ≡ true) (t : Tab
   )
 
   callsite_by : (scope : Scope) → callsite_of setup te scope ≡ callsite_of (lazy setup) t scope
-  callsite_by scope = ap (option_and_then (λ (site : ℕ). slice_get setup.sites site)) (sited f.new t.made scope)
+  callsite_by scope = ap (option_and_then (λ (site : ℕ). slice_get setup.sites site)) (sited f.new t.spans scope)
 
   records_agree : (scope : Scope) (fields : Fields) (c : Option Callsite)
-      → A (Ok (record (ops_effect hl reply.Done (update_ops setup.layer scope fields c)) { heard = heard_values scope fields c }))
-      (Ok (record (ops_effect hl reply.Done (update_ops (lazy setup).layer scope fields c)) { heard = heard_values scope fields c }))
+      → A (Ok (record (ops_effect hl reply.Done (update_ops setup.layer scope fields c)) { hooks = hooks_of_values scope fields c }))
+      (Ok (record (ops_effect hl reply.Done (update_ops (lazy setup).layer scope fields c)) { hooks = hooks_of_values scope fields c }))
   records_agree scope fields None = (refl, record { at_is = refl; begins = refl; made = tt; starts_none = tt })
   records_agree [] fields (Some c) = (refl, record { at_is = refl; begins = refl; made = tt; starts_none = tt })
   records_agree (s ∷ up) fields (Some c) = (refl, record { at_is = refl; begins = refl; made = tt; starts_none = (refl, tt) })
 
   events_agree : (c : Callsite) (values : ValueSet) (enabled : Bool) (reached : Scope) (counting : Option (List ℕ))
-      → A (Ok (record (ops_effect hl (reply.Enabled enabled) (if_told enabled (ops_on reached (counted_ops counting c (event_of c values setup.layer at))))) { measures = if_told enabled (measures c values) }))
-      (Ok (record (ops_effect hl (reply.Enabled enabled) (if_told enabled (ops_on reached (counted_ops counting c (event_of c values (lazy setup).layer at))))) { measures = if_told enabled (measures c values) }))
+      → A (Ok (record (ops_effect hl (reply.Enabled enabled) (if_enabled enabled (ops_on reached (counted_ops counting c (event_of c values setup.layer at))))) { measures = if_enabled enabled (measures c values) }))
+      (Ok (record (ops_effect hl (reply.Enabled enabled) (if_enabled enabled (ops_on reached (counted_ops counting c (event_of c values (lazy setup).layer at))))) { measures = if_enabled enabled (measures c values) }))
   events_agree c values false reached counting = (refl, record { at_is = refl; begins = refl; made = tt; starts_none = tt })
   events_agree c values true [] counting = (refl, record { at_is = refl; begins = refl; made = tt; starts_none = tt })
   events_agree c values true (s ∷ up) None = (refl, record { at_is = refl; begins = refl; made = tt; starts_none = (refl, tt) })
   events_agree c values true (s ∷ up) (Some text) = by_test (admits (text_filter text).statics.directives c)
     where
-      by_test : (b : Bool) → A (Ok (record (ops_effect hl (reply.Enabled true) (ops_on (s ∷ up) (ops.Counted ∷ if_told b (event_of c values setup.layer at ∷ [])))) { measures = measures c values }))
-          (Ok (record (ops_effect hl (reply.Enabled true) (ops_on (s ∷ up) (ops.Counted ∷ if_told b (event_of c values (lazy setup).layer at ∷ [])))) { measures = measures c values }))
+      by_test : (b : Bool) → A (Ok (record (ops_effect hl (reply.Enabled true) (ops_on (s ∷ up) (ops.Counted ∷ if_enabled b (event_of c values setup.layer at ∷ [])))) { measures = measures c values }))
+          (Ok (record (ops_effect hl (reply.Enabled true) (ops_on (s ∷ up) (ops.Counted ∷ if_enabled b (event_of c values (lazy setup).layer at ∷ [])))) { measures = measures c values }))
       by_test true = (refl, record { at_is = refl; begins = refl; made = tt; starts_none = (refl, (refl, tt)) })
       by_test false = (refl, record { at_is = refl; begins = refl; made = tt; starts_none = (refl, tt) })
 
   scope_at_by : (under : Place) → scope_at te id under ≡ scope_at t id under
   scope_at_by place.Root = refl
-  scope_at_by place.Contextual = ap (λ (s : Scope). Some s) (scoped f.new t.made (current_of (t.entries id)))
+  scope_at_by place.Contextual = ap (λ (s : Scope). Some s) (scoped f.new t.spans (current_of (t.entries id)))
   scope_at_by (place.Under handle) = refl
 
   -- ---- contexts
@@ -266,12 +266,12 @@ module _ (f : Ids) (setup : Setup) (eager : setup.layer.eager ≡ true) (t : Tab
   gives_agree starting d c same = (
     (λ i. record (context_effect hl starting c) {
       new_context = Some (same i);
-      reply = reply.Context (length-map t.named (context_by f.new) i) ((ap ids_of same ∙ ids_of_by f c) i);
+      reply = reply.Context (length-map t.named_contexts (context_by f.new) i) ((ap ids_of same ∙ ids_of_by f c) i);
     }),
     record { at_is = refl; begins = refl; made = tt; starts_none = tt },
   )
 
-  context_agrees : (scope : Scope) → P (Ok (context_effect hl (own scope) (own_context t.recording at scope))) → A (Ok (context_effect he (own scope) (own_context r at scope))) (Ok (context_effect hl (own scope) (own_context t.recording at scope)))
+  context_agrees : (scope : Scope) → P (Ok (context_effect hl (own_span scope) (own_context t.recording at scope))) → A (Ok (context_effect he (own_span scope) (own_context r at scope))) (Ok (context_effect hl (own_span scope) (own_context t.recording at scope)))
   context_agrees [] ready = gives_agree None empty_context empty_context refl
   context_agrees (s ∷ up) ready =
       gives_agree (Some s) (own_context r at (s ∷ up)) (own_context t.recording at (s ∷ up)) (context_alike (ready refl).0.0 s empty_context empty_context (ready refl).0.1 refl)
@@ -307,9 +307,9 @@ module _ (f : Ids) (setup : Setup) (eager : setup.layer.eager ≡ true) (t : Tab
     record { at_is = refl; begins = refl; made = tt; starts_none = (refl, tt) },
   )
     where
-      waits_not : is_some (waits (told_at s r.spans)) ≡ is_some (waits (told_at s t.recording.spans))
+      waits_not : is_some (waits (data_at s r.spans)) ≡ is_some (waits (data_at s t.recording.spans))
       waits_not =
-          ap (λ (o : Option Context). is_some o) (none_waits f setup.layer s at (told_at s r.spans) (told_at s t.recording.spans) (same_at f.new at r.spans t.recording.spans s (ready refl).0.1.spans))
+          ap (λ (o : Option Context). is_some o) (none_waits f setup.layer s at (data_at s r.spans) (data_at s t.recording.spans) (same_at f.new at r.spans t.recording.spans s (ready refl).0.1.spans))
           ∙ sym (ready refl).1.0
 
   links_agree : (scope : Scope) (given : SpanContext) (attributes : List KeyValue) (b : Bool)
@@ -323,20 +323,20 @@ module _ (f : Ids) (setup : Setup) (eager : setup.layer.eager ≡ true) (t : Tab
   last_of m = omega arith
 
   told_alike : (c : Callsite) (l : Lane) (values : ValueSet) (d x : Context) (se sl : LayerSettings) (ke kl : Bool) → d ≡ context_by f.new x → se ≡ setup.layer → sl ≡ (lazy setup).layer → ke ≡ kl
-      → made_told c l values d at se ke ≡ told_by f.new (made_told c l values x at sl kl)
+      → new_span_data c l values d at se ke ≡ told_by f.new (new_span_data c l values x at sl kl)
   told_alike c l values d x se sl ke kl same e_set l_set count =
-      (λ i. made_told c l values (same i) at (e_set i) (count i))
-      ∙ ap (λ (s : LayerSettings). told_by f.new (made_told c l values x at s kl)) (sym l_set)
+      (λ i. new_span_data c l values (same i) at (e_set i) (count i))
+      ∙ ap (λ (s : LayerSettings). told_by f.new (new_span_data c l values x at s kl)) (sym l_set)
 
   made_agrees : (c : Callsite) (l : Lane) (values : ValueSet) (d x : Context) (o : Option ℕ) (pending : List ℕ) → d ≡ context_by f.new x
-      → SameRecording f setup.layer (length t.made) at pending r (fold (λ r s. with_start s at r) t.recording (option_to_list o))
-      → made_told c l values (context_from (with_starts o at r).spans d o) at (with_starts o at r).settings (with_starts o at r).counting
-      ≡ told_by f.new (made_told c l values (context_from (with_starts o at t.recording).spans x o) at (with_starts o at t.recording).settings (with_starts o at t.recording).counting)
+      → SameRecording f setup.layer (length t.spans) at pending r (fold (λ r s. with_start s at r) t.recording (option_to_list o))
+      → new_span_data c l values (context_from (with_starts o at r).spans d o) at (with_starts o at r).settings (with_starts o at r).counting
+      ≡ told_by f.new (new_span_data c l values (context_from (with_starts o at t.recording).spans x o) at (with_starts o at t.recording).settings (with_starts o at t.recording).counting)
   made_agrees c l values d x None pending same ready = told_alike c l values d x r.settings t.recording.settings r.counting t.recording.counting same ready.e_settings ready.l_settings ready.counting
   made_agrees c l values d x (Some s) pending same ready =
       let now = with_start s at t.recording in
-      let still = early_stays f setup.layer (length t.made) at at s pending r now ready in
-      told_alike c l values (own_or d (told_at s (with_start s at r).spans)) (own_or x (told_at s now.spans)) (with_start s at r).settings now.settings (with_start s at r).counting now.counting
+      let still = early_stays f setup.layer (length t.spans) at at s pending r now ready in
+      told_alike c l values (own_or d (data_at s (with_start s at r).spans)) (own_or x (data_at s now.spans)) (with_start s at r).settings now.settings (with_start s at r).counting now.counting
       (context_alike pending s d x ready same)
       (ap (λ (y : Recording). y.settings) still ∙ ready.e_settings) ready.l_settings
       (ap (λ (y : Recording). y.counting) still ∙ ready.counting)
@@ -344,15 +344,15 @@ module _ (f : Ids) (setup : Setup) (eager : setup.layer.eager ≡ true) (t : Tab
   spans_agree : (site : ℕ) (c : Callsite) (values : ValueSet) (under : Place) (up : Scope) → P (Ok (span_effect hl site c values under up))
       → A (Ok (span_effect he site c values under up)) (Ok (span_effect hl site c values under up))
   spans_agree site c values under up ready =
-      let k : length te.made ≡ length t.made = length-map t.made (made_by f.new) in
+      let k : length te.spans ≡ length t.spans = length-map t.spans (made_by f.new) in
       let p = parent_at under up in
-      let source = above setup.layer.activation p (current_of (t.entries id)) in
+      let source = parent_source setup.layer.activation p (current_of (t.entries id)) in
       let told = made_agrees c (lane_in hl) values (context_around (te.contexts id) p) (context_around (t.contexts id) p) source (ready refl).0.0 (around_by f.new (t.contexts id) p) (ready refl).0.1 in (
         (λ i. record (span_effect hl site c values under up) {
           new_handle = Some (k i ∷ up);
-          made = Some (record { site = site; scope = k i ∷ up; told = told i });
+          new_span = Some (record { site = site; scope = k i ∷ up; made_with = told i });
           begins = source_of (eager i) (k i);
-          heard = HeardNew (k i) c values ∷ [];
+          hooks = HookNew (k i) c values ∷ [];
         }),
         record { at_is = refl; begins = refl; made = (refl, last_of at); starts_none = tt },
       )
@@ -377,7 +377,7 @@ module _ (f : Ids) (setup : Setup) (eager : setup.layer.eager ≡ true) (t : Tab
       (λ up. need what.Field (all_values c fields) >>= (λ values. Ok (new_effect he site c values under up)))
       (λ up. need what.Field (all_values c fields) >>= (λ values. Ok (new_effect hl site c values under up))) given
       (λ up more. named_agrees what.Field (all_values c fields) (λ values. Ok (new_effect he site c values under up)) (λ values. Ok (new_effect hl site c values under up)) more
-      (λ values last. makes_agree site c values under up (admitted setup t id c) last))))
+      (λ values last. makes_agree site c values under up (admits_at setup t id c) last))))
   call_agrees (call.Clone handle) far ready =
       named_agrees what.Handle (slot_at t.handles handle) (λ scope. Ok (clone_effect he scope)) (λ scope. Ok (clone_effect hl scope)) ready (λ scope given. clones_agree scope)
   call_agrees (call.Drop handle) far ready =
@@ -387,12 +387,12 @@ module _ (f : Ids) (setup : Setup) (eager : setup.layer.eager ≡ true) (t : Tab
   call_agrees (call.Enter handle) far ready = opens_agree handle false ready
   call_agrees (call.Exit guard) far ready =
       named_agrees what.Guard (slot_at t.guards guard)
-      (λ g. refuse_if (is_shared t.guards g) refusal.InUse (refuse_if (not (g.lane == lane)) (refusal.WrongLane g.lane) (Ok (exit_effect he guard g.scope))))
-      (λ g. refuse_if (is_shared t.guards g) refusal.InUse (refuse_if (not (g.lane == lane)) (refusal.WrongLane g.lane) (Ok (exit_effect hl guard g.scope)))) ready
-      (λ g given. if_agrees (is_shared t.guards g) refusal.InUse (refuse_if (not (g.lane == lane)) (refusal.WrongLane g.lane) (Ok (exit_effect he guard g.scope))) (refuse_if (not (g.lane == lane)) (refusal.WrongLane g.lane) (Ok (exit_effect hl guard g.scope))) given
-      (λ go. else_agrees (g.lane == lane) (refusal.WrongLane g.lane) (Ok (exit_effect he guard g.scope)) (Ok (exit_effect hl guard g.scope)) go (λ last. exits_agree guard g.scope)))
+      (λ g. refuse_if (is_shared t.guards g) refusal.InUse (refuse_if (not (g.place == lane)) (refusal.WrongLane g.place) (Ok (exit_effect he guard g.scope))))
+      (λ g. refuse_if (is_shared t.guards g) refusal.InUse (refuse_if (not (g.place == lane)) (refusal.WrongLane g.place) (Ok (exit_effect hl guard g.scope)))) ready
+      (λ g given. if_agrees (is_shared t.guards g) refusal.InUse (refuse_if (not (g.place == lane)) (refusal.WrongLane g.place) (Ok (exit_effect he guard g.scope))) (refuse_if (not (g.place == lane)) (refusal.WrongLane g.place) (Ok (exit_effect hl guard g.scope))) given
+      (λ go. else_agrees (g.place == lane) (refusal.WrongLane g.place) (Ok (exit_effect he guard g.scope)) (Ok (exit_effect hl guard g.scope)) go (λ last. exits_agree guard g.scope)))
   call_agrees call.Current far ready =
-      subst (λ (scope : Scope). A (Ok (clone_effect he scope)) (Ok (clone_effect hl (current_scope t id)))) (sym (scoped f.new t.made (current_of (t.entries id)))) (clones_agree (current_scope t id))
+      subst (λ (scope : Scope). A (Ok (clone_effect he scope)) (Ok (clone_effect hl (current_scope t id)))) (sym (scoped f.new t.spans (current_of (t.entries id)))) (clones_agree (current_scope t id))
   call_agrees (call.OrCurrent handle) far ready =
       named_agrees what.Handle (slot_at t.handles handle)
       (λ scope. refuse_if (is_borrowed t.guards handle) refusal.InUse (Ok (exchange_effect he handle (scope_or_current te id scope))))
@@ -407,12 +407,12 @@ module _ (f : Ids) (setup : Setup) (eager : setup.layer.eager ≡ true) (t : Tab
   call_agrees (call.Record handle fields) far ready =
       named_agrees what.Handle (slot_at t.handles handle)
       (λ scope. Ok (record_effect he scope fields)) (λ scope. Ok (record_effect hl scope fields)) ready
-      (λ scope given. subst (λ (c : Option Callsite). A (Ok (record (ops_effect hl reply.Done (update_ops setup.layer scope fields c)) { heard = heard_values scope fields c })) (Ok (record_effect hl scope fields)))
+      (λ scope given. subst (λ (c : Option Callsite). A (Ok (record (ops_effect hl reply.Done (update_ops setup.layer scope fields c)) { hooks = hooks_of_values scope fields c })) (Ok (record_effect hl scope fields)))
       (sym (callsite_by scope)) (records_agree scope fields (callsite_of (lazy setup) t scope)))
   call_agrees (call.HasField handle name) far ready =
       named_agrees what.Handle (slot_at t.handles handle)
-      (λ scope. Ok (quiet at id (reply.Has (declared_by (callsite_of setup te scope) name)))) (λ scope. Ok (quiet at id (reply.Has (declared_by (callsite_of (lazy setup) t scope) name)))) ready
-      (λ scope given. subst (λ (c : Option Callsite). A (Ok (quiet at id (reply.Has (declared_by c name)))) (Ok (quiet at id (reply.Has (declared_by (callsite_of (lazy setup) t scope) name)))))
+      (λ scope. Ok (quiet_effect at id (reply.Has (declared_by (callsite_of setup te scope) name)))) (λ scope. Ok (quiet_effect at id (reply.Has (declared_by (callsite_of (lazy setup) t scope) name)))) ready
+      (λ scope given. subst (λ (c : Option Callsite). A (Ok (quiet_effect at id (reply.Has (declared_by c name)))) (Ok (quiet_effect at id (reply.Has (declared_by (callsite_of (lazy setup) t scope) name)))))
       (sym (callsite_by scope)) (refl, record { at_is = refl; begins = refl; made = tt; starts_none = tt }))
   call_agrees (call.Event site under fields) far ready =
       named_agrees what.Site (event_site setup.sites site)
@@ -425,15 +425,15 @@ module _ (f : Ids) (setup : Setup) (eager : setup.layer.eager ≡ true) (t : Tab
       (λ reached. need what.Field (all_values c fields) >>= (λ values. Ok (event_effect he c values reached)))
       (λ reached. need what.Field (all_values c fields) >>= (λ values. Ok (event_effect hl c values reached))) given
       (λ reached more. named_agrees what.Field (all_values c fields) (λ values. Ok (event_effect he c values reached)) (λ values. Ok (event_effect hl c values reached)) more
-      (λ values last. events_agree c values (admitted setup t id c) reached setup.counting))))
+      (λ values last. events_agree c values (admits_at setup t id c) reached setup.counting))))
   call_agrees (call.Remote ids) far ready = remote_agrees ids far
   call_agrees (call.Context handle) far ready =
       named_agrees what.Handle (slot_at t.handles handle)
-      (λ scope. Ok (context_effect he (own scope) (own_context r at scope))) (λ scope. Ok (context_effect hl (own scope) (own_context t.recording at scope))) ready
+      (λ scope. Ok (context_effect he (own_span scope) (own_context r at scope))) (λ scope. Ok (context_effect hl (own_span scope) (own_context t.recording at scope))) ready
       (λ scope given. context_agrees scope given)
   call_agrees (call.Attach context) far ready =
       subst₂ (λ (o : Option Context) (b : Bool). A (need what.Context o >>= (λ given. refuse_if b (refusal.Full lane) (Ok (attach_effect he given)))) (effect_of_call (lazy setup) t at lane (call.Attach context)))
-      (sym (slice_get-map (context_by f.new) t.named context)) (sym full_by) (by_slot (slice_get t.named context) ready)
+      (sym (slice_get-map (context_by f.new) t.named_contexts context)) (sym full_by) (by_slot (slice_get t.named_contexts context) ready)
     where
       by_slot : (o : Option Context) → P (need what.Context o >>= (λ given. refuse_if (is_full (t.contexts id)) (refusal.Full lane) (Ok (attach_effect hl given))))
           → A (need what.Context (option_map (context_by f.new) o) >>= (λ given. refuse_if (is_full (t.contexts id)) (refusal.Full lane) (Ok (attach_effect he given)))) (need what.Context o >>= (λ given. refuse_if (is_full (t.contexts id)) (refusal.Full lane) (Ok (attach_effect hl given))))
@@ -450,11 +450,11 @@ module _ (f : Ids) (setup : Setup) (eager : setup.layer.eager ≡ true) (t : Tab
       (λ followed last. follows_agree scope followed last))
   call_agrees (call.SetParent handle context) far ready =
       named_agrees what.Handle (slot_at t.handles handle)
-      (λ scope. need what.Context (slice_get te.named context) >>= (λ given. Ok (ops_effect he (reply.Set (is_set r scope)) (op_on scope (ops.SetParent given)))))
-      (λ scope. need what.Context (slice_get t.named context) >>= (λ given. Ok (ops_effect hl (reply.Set (is_set t.recording scope)) (op_on scope (ops.SetParent given))))) ready
+      (λ scope. need what.Context (slice_get te.named_contexts context) >>= (λ given. Ok (ops_effect he (reply.Set (is_set r scope)) (op_on scope (ops.SetParent given)))))
+      (λ scope. need what.Context (slice_get t.named_contexts context) >>= (λ given. Ok (ops_effect hl (reply.Set (is_set t.recording scope)) (op_on scope (ops.SetParent given))))) ready
       (λ scope more. subst (λ (o : Option Context). A (need what.Context o >>= (λ given. Ok (ops_effect he (reply.Set (is_set r scope)) (op_on scope (ops.SetParent given)))))
-      (need what.Context (slice_get t.named context) >>= (λ given. Ok (ops_effect hl (reply.Set (is_set t.recording scope)) (op_on scope (ops.SetParent given))))))
-      (sym (slice_get-map (context_by f.new) t.named context)) (by_slot scope (slice_get t.named context) more))
+      (need what.Context (slice_get t.named_contexts context) >>= (λ given. Ok (ops_effect hl (reply.Set (is_set t.recording scope)) (op_on scope (ops.SetParent given))))))
+      (sym (slice_get-map (context_by f.new) t.named_contexts context)) (by_slot scope (slice_get t.named_contexts context) more))
     where
       by_slot : (scope : Scope) (o : Option Context) → P (need what.Context o >>= (λ given. Ok (ops_effect hl (reply.Set (is_set t.recording scope)) (op_on scope (ops.SetParent given)))))
           → A (need what.Context (option_map (context_by f.new) o) >>= (λ given. Ok (ops_effect he (reply.Set (is_set r scope)) (op_on scope (ops.SetParent given)))))
@@ -463,11 +463,11 @@ module _ (f : Ids) (setup : Setup) (eager : setup.layer.eager ≡ true) (t : Tab
       by_slot scope (Some given) ready = sets_agree scope given ready
   call_agrees (call.AddLink handle context attributes) far ready =
       named_agrees what.Handle (slot_at t.handles handle)
-      (λ scope. need what.Context (slice_get te.named context) >>= (λ given. Ok (ops_effect hl reply.Done (link_ops scope (ids_of given) attributes))))
-      (λ scope. need what.Context (slice_get t.named context) >>= (λ given. Ok (ops_effect hl reply.Done (link_ops scope (ids_of given) attributes)))) ready
+      (λ scope. need what.Context (slice_get te.named_contexts context) >>= (λ given. Ok (ops_effect hl reply.Done (link_ops scope (ids_of given) attributes))))
+      (λ scope. need what.Context (slice_get t.named_contexts context) >>= (λ given. Ok (ops_effect hl reply.Done (link_ops scope (ids_of given) attributes)))) ready
       (λ scope more. subst (λ (o : Option Context). A (need what.Context o >>= (λ given. Ok (ops_effect hl reply.Done (link_ops scope (ids_of given) attributes))))
-      (need what.Context (slice_get t.named context) >>= (λ given. Ok (ops_effect hl reply.Done (link_ops scope (ids_of given) attributes)))))
-      (sym (slice_get-map (context_by f.new) t.named context)) (by_slot scope (slice_get t.named context)))
+      (need what.Context (slice_get t.named_contexts context) >>= (λ given. Ok (ops_effect hl reply.Done (link_ops scope (ids_of given) attributes)))))
+      (sym (slice_get-map (context_by f.new) t.named_contexts context)) (by_slot scope (slice_get t.named_contexts context)))
     where
       by_slot : (scope : Scope) (o : Option Context)
           → A (need what.Context (option_map (context_by f.new) o) >>= (λ given. Ok (ops_effect hl reply.Done (link_ops scope (ids_of given) attributes)))) (need what.Context o >>= (λ given. Ok (ops_effect hl reply.Done (link_ops scope (ids_of given) attributes))))
@@ -498,8 +498,8 @@ module _ (f : Ids) (setup : Setup) (eager : setup.layer.eager ≡ true) (t : Tab
 -- ---- all requests
 
 pub request_agrees : (f : Ids) (setup : Setup) → setup.layer.eager ≡ true → (t : Tables) (r : Recording) (request : Request) → gives_far f.many request.call ≡ true
-    → IsReady f setup.layer (length t.made) request.at r t.recording (effect_of (lazy setup) t request)
-    → Agrees f.new (length t.made) request.at (effect_of setup (tables_by f.new r t) request) (effect_of (lazy setup) t request)
+    → IsReady f setup.layer (length t.spans) request.at r t.recording (effect_of (lazy setup) t request)
+    → Agrees f.new (length t.spans) request.at (effect_of setup (tables_by f.new r t) request) (effect_of (lazy setup) t request)
 request_agrees f setup eager t r request far ready =
     if_agrees f setup eager t r request.at request.lane (is_bad_moment t.moment request.at) (refusal.BadMoment t.moment request.at)
     (need what.Lane (slice_get setup.ids request.lane) >>= (λ id. effect_of_call setup (tables_by f.new r t) request.at request.lane request.call))

@@ -9,11 +9,11 @@ use Rattle.std.proofs.lemmas.Option.{slice_get_past}
 use Rattle.span_script.specs.declared.reply.Reply.{Reply}
 use Rattle.span_script.specs.declared.request.Request.{Request}
 use Rattle.span_script.specs.Setups.{Setup}
-use Rattle.span_script.specs.Tables.{Effect, History, Tables, no_tables, nothing_recorded, tables, after}
+use Rattle.span_script.specs.Tables.{Effect, History, Tables, no_tables, nothing_recorded, tables, after_effect}
 use Rattle.span_script.specs.calls.Spans.{is_open, open_spans}
 use Rattle.span_script.specs.Outcomes.{history_of, outcome_of}
 use Rattle.span_laws.specs.Laws.{none}
-use Rattle.span_laws.specs.Starts.{started}
+use Rattle.span_laws.specs.Starts.{starting_order}
 use Rattle.span_laws.proofs.spans.AllSpansLemmas.{started_few}
 use Rattle.span_laws.proofs.steps.LegalLemmas.{scripts_are_legal}
 use Rattle.span_eager.specs.Early.{lazy, eager_id, answers, is_far, MayStartEarly}
@@ -51,11 +51,11 @@ ids_far order many few (suc k) far =
 
 replies_by : (f : ℕ → ℕ) (t : Tables) (h : History) → map (λ (e : Effect). e.reply) (history_by f t h) ≡ map (reply_by f) (map (λ (e : Effect). e.reply) h)
 replies_by f t [] = refl
-replies_by f t (e ∷ h) = ap (λ (rs : List Reply). reply_by f e.reply ∷ rs) (replies_by f (after t e) h)
+replies_by f t (e ∷ h) = ap (λ (rs : List Reply). reply_by f e.reply ∷ rs) (replies_by f (after_effect t e) h)
 
 as_many : (f : ℕ → ℕ) (t : Tables) (h : History) → length (history_by f t h) ≡ length h
 as_many f t [] = refl
-as_many f t (e ∷ h) = ap suc (as_many f (after t e) h)
+as_many f t (e ∷ h) = ap suc (as_many f (after_effect t e) h)
 
 -- both scripts from their beginnings
 beside : (setup : Setup) (requests : List Request) → setup.layer.eager ≡ true → MayStartEarly (lazy setup) requests
@@ -63,8 +63,8 @@ beside : (setup : Setup) (requests : List Request) → setup.layer.eager ≡ tru
 beside setup requests eager may =
     let t = no_tables (lazy setup) in
     let h = history_of (lazy setup) requests in
-    let order = started h in
-    let many = length (tables (lazy setup) h).made in
+    let order = starting_order h in
+    let many = length (tables (lazy setup) h).spans in
     let on = goes_on (lazy setup) refl requests [] none in
     let f : Ids = record {
       new = new_id order;
@@ -95,5 +95,5 @@ early_is_late setup requests eager may =
       replies = (ap (map (λ (e : Effect). e.reply)) both.history ∙ replies_by f t h) i;
       records = both.records i;
       refused = (both.refused (length early) ∙ ap (λ (place : ℕ). refused_from (lazy setup) t place requests h) (ap length both.history ∙ as_many f t h)) i;
-      left_open = (ap open_spans both.final ∙ ap (λ (n : ℕ). count_by (is_open (tables (lazy setup) h).handles) (range_with_len 0 n)) (length-map (tables (lazy setup) h).made (made_by f))) i;
+      left_open = (ap open_spans both.final ∙ ap (λ (n : ℕ). count_by (is_open (tables (lazy setup) h).handles) (range_with_len 0 n)) (length-map (tables (lazy setup) h).spans (made_by f))) i;
     }

@@ -13,7 +13,7 @@ use Rattle.span_script.specs.declared.reply.Refusal.TheVariants as refusal
 use Rattle.span_script.specs.declared.reply.What.TheVariants as what
 use Rattle.span_script.specs.declared.request.Request.{Request}
 use Rattle.span_script.specs.Setups.{Setup}
-use Rattle.span_script.specs.Tables.{Effect, History, Tables, done_by, recorded_by, open_part, records_of, after}
+use Rattle.span_script.specs.Tables.{Effect, History, Tables, done_by, recorded_by, open_part, records_of, after_effect}
 use Rattle.span_script.specs.calls.Here.{Resolved, ◌>>=◌, need}
 use Rattle.span_script.specs.Effects.{effect_of, effect_of_call, is_bad_moment}
 use Rattle.span_script.specs.Outcomes.{followed_by, history_from, records_from, refusal_at}
@@ -29,11 +29,11 @@ use Rattle.span_eager.proofs.SameCalls.{Agrees, IsReady, request_agrees}
 -- the history where spans start at their making
 abbrev pub history_by : (ℕ → ℕ) → Tables → History → History
 history_by f t [] = []
-history_by f t (e ∷ h) = effect_by f (length t.made) e ∷ history_by f (after t e) h
+history_by f t (e ∷ h) = effect_by f (length t.spans) e ∷ history_by f (after_effect t e) h
 
 -- the request behind a history, if it is refused
 abbrev pub refused_from : Setup → Tables → ℕ → List Request → History → Option (ℕ × Refusal)
-refused_from setup t place requests h = option_and_then (λ (request : Request). refusal_at place (effect_of setup (fold after t h) request)) (slice_get requests (length h))
+refused_from setup t place requests h = option_and_then (λ (request : Request). refusal_at place (effect_of setup (fold after_effect t h) request)) (slice_get requests (length h))
 
 -- what both come to from some tables on
 pub record Beside (f : ℕ → ℕ) (setup : Setup) (u t : Tables) (requests : List Request) (early late : History) : Type 0 where
@@ -41,7 +41,7 @@ pub record Beside (f : ℕ → ℕ) (setup : Setup) (u t : Tables) (requests : L
   pub records : records_from u early ≡ map (record_by f) (records_from t late)
   pub answers : answers_from u early ≡ map (answer_by f) (answers_from t late)
   pub last : Recording
-  pub final : fold after u early ≡ tables_by f last (fold after t late)
+  pub final : fold after_effect u early ≡ tables_by f last (fold after_effect t late)
   pub refused : (place : ℕ) → refused_from setup u place requests early ≡ refused_from (lazy setup) t place requests late
 
 -- ---- a moment that isn't refused
@@ -84,13 +84,13 @@ module _ (f : Ids) (setup : Setup) (eager : setup.layer.eager ≡ true) where
 
   -- a request that gives an effect is ready for the calls' lemmas
   ready_by : (t : Tables) (r : Recording) (request : Request) (behind : Effect → History) (res : Resolved) → effect_of (lazy setup) t request ≡ res
-      → Same (length t.made) t.moment (order_from t (followed_by res behind)) r t.recording → AreSettled t (followed_by res behind)
-      → IsReady f setup.layer (length t.made) request.at r t.recording res
+      → Same (length t.spans) t.moment (order_from t (followed_by res behind)) r t.recording → AreSettled t (followed_by res behind)
+      → IsReady f setup.layer (length t.spans) request.at r t.recording res
   ready_by t r request behind (Err why) is same settled = tt
   ready_by t r request behind (Ok e) is same settled = λ at_is.
-      let n = length t.made in
+      let n = length t.spans in
       let good = good_moment (lazy setup) t request e is in
-      let rest = order_from (after t e) (behind e) in
+      let rest = order_from (after_effect t e) (behind e) in
       let closing = closes_from e.at (done_by n e t.recording) e.closes in
       let order_is : order_from t (e ∷ behind e) ≡ starts_from request.at t.recording e.starts ++ (closing ++ rest) =
       append_assoc (starts_from e.at t.recording e.starts) closing rest ∙ ap (λ (m : ℕ). starts_from m t.recording e.starts ++ (closing ++ rest)) at_is in
@@ -105,25 +105,25 @@ module _ (f : Ids) (setup : Setup) (eager : setup.layer.eager ≡ true) where
 
   -- one effect more
   next_same : (t : Tables) (r : Recording) (request : Request) (e : Effect) (h : History) → effect_of (lazy setup) t request ≡ Ok e → IsPlain request.at e
-      → Same (length t.made) t.moment (order_from t (e ∷ h)) r t.recording → AreSettled t (e ∷ h) → AreShut t (e ∷ h)
-      → Same (count_made (length t.made) e.made) e.at (order_from (after t e) h) (recorded_by (length t.made) (effect_by f.new (length t.made) e) r) (recorded_by (length t.made) e t.recording)
+      → Same (length t.spans) t.moment (order_from t (e ∷ h)) r t.recording → AreSettled t (e ∷ h) → AreShut t (e ∷ h)
+      → Same (count_made (length t.spans) e.new_span) e.at (order_from (after_effect t e) h) (recorded_by (length t.spans) (effect_by f.new (length t.spans) e) r) (recorded_by (length t.spans) e t.recording)
   next_same t r request e h is plain same settled shut =
       let good = good_moment (lazy setup) t request e is in
       let past = good.0 in
       let within = good.1 in
       let at_is = plain.at_is in
-      recorded_same f setup.layer (length t.made) t.moment (order_from (after t e) h) e r t.recording (omega (arith, past, at_is)) (omega (arith, within, at_is))
-      (record { at_is = refl; begins = plain.begins; made = subst (λ (m : ℕ). IsJustMade m e.made) (sym at_is) plain.made; starts_none = plain.starts_none }) settled.0 shut.0.once shut.0.shut same
+      recorded_same f setup.layer (length t.spans) t.moment (order_from (after_effect t e) h) e r t.recording (omega (arith, past, at_is)) (omega (arith, within, at_is))
+      (record { at_is = refl; begins = plain.begins; made = subst (λ (m : ℕ). IsJustMade m e.new_span) (sym at_is) plain.made; starts_none = plain.starts_none }) settled.0 shut.0.once shut.0.shut same
 
   by_both : (t : Tables) (r : Recording) (request : Request) (requests : List Request)
-      → ((s : Tables) (q : Recording) → Same (length s.made) s.moment (order_from s (history_from (lazy setup) s requests)) q s.recording
+      → ((s : Tables) (q : Recording) → Same (length s.spans) s.moment (order_from s (history_from (lazy setup) s requests)) q s.recording
       → AreSettled s (history_from (lazy setup) s requests) → AreShut s (history_from (lazy setup) s requests)
       → Beside f.new setup (tables_by f.new q s) s requests (history_from setup (tables_by f.new q s) requests) (history_from (lazy setup) s requests))
-      → (re : Resolved) → effect_of setup (tables_by f.new r t) request ≡ re → (rl : Resolved) → effect_of (lazy setup) t request ≡ rl → Agrees f.new (length t.made) request.at re rl
-      → Same (length t.made) t.moment (order_from t (followed_by rl (λ e. history_from (lazy setup) (after t e) requests))) r t.recording
-      → AreSettled t (followed_by rl (λ e. history_from (lazy setup) (after t e) requests)) → AreShut t (followed_by rl (λ e. history_from (lazy setup) (after t e) requests))
+      → (re : Resolved) → effect_of setup (tables_by f.new r t) request ≡ re → (rl : Resolved) → effect_of (lazy setup) t request ≡ rl → Agrees f.new (length t.spans) request.at re rl
+      → Same (length t.spans) t.moment (order_from t (followed_by rl (λ e. history_from (lazy setup) (after_effect t e) requests))) r t.recording
+      → AreSettled t (followed_by rl (λ e. history_from (lazy setup) (after_effect t e) requests)) → AreShut t (followed_by rl (λ e. history_from (lazy setup) (after_effect t e) requests))
       → Beside f.new setup (tables_by f.new r t) t (request ∷ requests)
-      (followed_by re (λ e. history_from setup (after (tables_by f.new r t) e) requests)) (followed_by rl (λ e. history_from (lazy setup) (after t e) requests))
+      (followed_by re (λ e. history_from setup (after_effect (tables_by f.new r t) e) requests)) (followed_by rl (λ e. history_from (lazy setup) (after_effect t e) requests))
   by_both t r request requests rest (Err a) is_e (Err b) is_l agrees same settled shut = record {
     history = refl;
     records = refl;
@@ -136,20 +136,20 @@ module _ (f : Ids) (setup : Setup) (eager : setup.layer.eager ≡ true) where
   by_both t r request requests rest (Ok e) is_e (Err b) is_l agrees same settled shut = absurd agrees
   by_both t r request requests rest (Ok e) is_e (Ok l) is_l agrees same settled shut =
       let u = tables_by f.new r t in
-      let n = length t.made in
+      let n = length t.spans in
       let ee = effect_by f.new n l in
-      let s = after t l in
-      let k : length (map (made_by f.new) t.made) ≡ n = length-map t.made (made_by f.new) in
-      let q = open_part (recorded_by (length (map (made_by f.new) t.made)) ee r) in
-      let is : after u ee ≡ tables_by f.new q s = after_by f.new n r t l in
+      let s = after_effect t l in
+      let k : length (map (made_by f.new) t.spans) ≡ n = length-map t.spans (made_by f.new) in
+      let q = open_part (recorded_by (length (map (made_by f.new) t.spans)) ee r) in
+      let is : after_effect u ee ≡ tables_by f.new q s = after_by f.new n r t l in
       let hl = history_from (lazy setup) s requests in
       let next = next_same t r request l hl is_l agrees.1 same settled shut in
       let opened = open_same f setup.layer (count_made n l.made) l.at (order_from s hl) (recorded_by n ee r) (recorded_by n l t.recording) next in
-      let ready : Same (length s.made) s.moment (order_from s hl) q s.recording =
-      subst₂ (λ (c m : ℕ). Same c l.at (order_from s hl) (open_part (recorded_by m ee r)) s.recording) (sym (made_count t.made l.made)) (sym k) opened in
+      let ready : Same (length s.spans) s.moment (order_from s hl) q s.recording =
+      subst₂ (λ (c m : ℕ). Same c l.at (order_from s hl) (open_part (recorded_by m ee r)) s.recording) (sym (made_count t.spans l.made)) (sym k) opened in
       let behind = subst (λ (x : Tables). Beside f.new setup x s requests (history_from setup x requests) hl) (sym is) (rest s q ready settled.1 shut.1) in
       let mine : records_of u ee ≡ map (record_by f.new) (records_of t l) = ap (λ (m : ℕ). (recorded_by m ee r).finished) k ∙ next.finished in
-      subst (λ (x : Effect). Beside f.new setup u t (request ∷ requests) (x ∷ history_from setup (after u x) requests) (l ∷ hl)) (sym agrees.0) (record {
+      subst (λ (x : Effect). Beside f.new setup u t (request ∷ requests) (x ∷ history_from setup (after_effect u x) requests) (l ∷ hl)) (sym agrees.0) (record {
         history = ap (λ (h : History). ee ∷ h) behind.history;
         records = ap₂ (λ (xs ys : List Record). xs ++ ys) mine behind.records ∙ sym (map-append (record_by f.new) (records_of t l) (records_from s hl));
         answers = ap₂ (λ (xs : List Record) (rest : List (Reply × List Record)). (reply_by f.new l.reply, xs) ∷ rest) mine behind.answers;
@@ -159,11 +159,11 @@ module _ (f : Ids) (setup : Setup) (eager : setup.layer.eager ≡ true) where
       })
 
   pub along : (requests : List Request) (t : Tables) (r : Recording) → AreFar f.many requests
-      → Same (length t.made) t.moment (order_from t (history_from (lazy setup) t requests)) r t.recording
+      → Same (length t.spans) t.moment (order_from t (history_from (lazy setup) t requests)) r t.recording
       → AreSettled t (history_from (lazy setup) t requests) → AreShut t (history_from (lazy setup) t requests)
       → Beside f.new setup (tables_by f.new r t) t requests (history_from setup (tables_by f.new r t) requests) (history_from (lazy setup) t requests)
   along [] t r far same settled shut = record { history = refl; records = refl; answers = refl; last = r; final = refl; refused = λ place. refl }
   along (request ∷ requests) t r far same settled shut =
       by_both t r request requests (λ s q. along requests s q far.1) (effect_of setup (tables_by f.new r t) request) refl (effect_of (lazy setup) t request) refl
-      (request_agrees f setup eager t r request far.0 (ready_by t r request (λ e. history_from (lazy setup) (after t e) requests) (effect_of (lazy setup) t request) refl same settled))
+      (request_agrees f setup eager t r request far.0 (ready_by t r request (λ e. history_from (lazy setup) (after_effect t e) requests) (effect_of (lazy setup) t request) refl same settled))
       same settled shut

@@ -4,15 +4,15 @@ use Rattle.std.specs.List.{AllByRecursion}
 use Rattle.otel_base.specs.declared.record.Record.{Record}
 use Rattle.otel_state.specs.Deeds.{Deed, deed}
 use Rattle.otel_layer.specs.Recording.{Recording}
-use Rattle.otel_layer.specs.Table.{told_at, waits}
+use Rattle.otel_layer.specs.Table.{data_at, waits}
 use Rattle.span_script.specs.declared.reply.Reply.{Reply}
 use Rattle.span_script.specs.declared.request.Call.{Call}
 use Rattle.span_script.specs.declared.request.Call.TheVariants as call
 use Rattle.span_script.specs.declared.request.Request.{Request}
 use Rattle.span_script.specs.Outcomes.{history_of}
 use Rattle.span_script.specs.Setups.{Setup}
-use Rattle.span_script.specs.Tables.{Done, History, Tables, no_tables, tables, after, begun_by, records_of}
-use Rattle.span_laws.specs.Starts.{started}
+use Rattle.span_script.specs.Tables.{SpanOp, History, Tables, no_tables, tables, after_effect, begun_by, records_of}
+use Rattle.span_laws.specs.Starts.{starting_order}
 use Rattle.span_eager.specs.Renaming.{new_id}
 
 -- the same script where no span starts at its making
@@ -21,12 +21,12 @@ lazy setup = record setup { layer = record setup.layer { eager = false } }
 
 -- each id by the place of a start, and the id by the number of the making
 abbrev pub eager_id : Setup → List Request → ℕ → ℕ
-eager_id setup requests = new_id (started (history_of setup requests))
+eager_id setup requests = new_id (starting_order (history_of setup requests))
 
 -- for each request of a history its reply, and the records of the spans that it closed
 abbrev pub answers_from : Tables → History → List (Reply × List Record)
 answers_from t [] = []
-answers_from t (e ∷ h) = (e.reply, records_of t e) ∷ answers_from (after t e) h
+answers_from t (e ∷ h) = (e.reply, records_of t e) ∷ answers_from (after_effect t e) h
 
 abbrev pub answers : Setup → List Request → List (Reply × List Record)
 answers setup requests = answers_from (no_tables setup) (history_of setup requests)
@@ -38,13 +38,13 @@ abbrev pub settles : Deed → Bool
 settles d = is_some d.name || is_some d.kind || is_some d.parent
 
 -- an op that does isn't done to a span that hasn't started
-abbrev pub IsSettled : Recording → Done → Type 0
-IsSettled r d = (settles (deed d.op) && is_some (waits (told_at d.span r.spans))) ≡ false
+abbrev pub IsSettled : Recording → SpanOp → Type 0
+IsSettled r d = (settles (deed d.op) && is_some (waits (data_at d.span r.spans))) ≡ false
 
 -- no op of an effect is, the making's own left aside
 abbrev pub AreSettled : Tables → History → Type 0
 AreSettled t [] = Unit {0}
-AreSettled t (e ∷ h) = AllByRecursion (IsSettled (begun_by (length t.made) e t.recording)) e.ops × AreSettled (after t e) h
+AreSettled t (e ∷ h) = AllByRecursion (IsSettled (begun_by (length t.spans) e t.recording)) e.ops × AreSettled (after_effect t e) h
 
 -- ids from elsewhere are no ids of spans: each is 0 or greater than a number
 abbrev pub is_far : ℕ → ℕ → Bool
@@ -61,4 +61,4 @@ AreFar many requests = AllByRecursion (λ (request : Request). gives_far many re
 -- and contexts from elsewhere have no ids up to the number of spans made.
 pub record MayStartEarly (setup : Setup) (requests : List Request) : Type 0 where
   pub settled : AreSettled (no_tables setup) (history_of setup requests)
-  pub far : AreFar (length (tables setup (history_of setup requests)).made) requests
+  pub far : AreFar (length (tables setup (history_of setup requests)).spans) requests

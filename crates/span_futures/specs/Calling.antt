@@ -5,9 +5,9 @@ use Rattle.trace_base.specs.Gate.{Worlds}
 use Rattle.trace_base.specs.Calls.{SubscriberCall, NewSpan, Records, Follows, Event, Enter, Exit, CloneSpan, TryClose}
 
 -- a call of a subscriber, or something that is done to it beside its calls, at a moment
-pub data Change : Type 0 where
-  Calls : (call : SubscriberCall) → Change
-  Beside : (at : ℕ) → Change
+pub data WorldChange : Type 0 where
+  Calls : (call : SubscriberCall) → WorldChange
+  Beside : (at : ℕ) → WorldChange
 
 -- the moment of a call, if it has one, is at most this
 abbrev pub IsCallBy : ℕ → SubscriberCall → Type 0
@@ -20,23 +20,23 @@ IsCallBy last (Exit id at before later) = at ≤ last
 IsCallBy last (CloneSpan id) = Unit {0}
 IsCallBy last (TryClose id at) = at ≤ last
 
-abbrev pub IsBy : ℕ → Change → Type 0
+abbrev pub IsBy : ℕ → WorldChange → Type 0
 IsBy last (Calls call) = IsCallBy last call
 IsBy last (Beside at) = at ≤ last
 
 -- what a change makes of a subscriber
-abbrev pub DoesChange : {S : Type 0} → (S → SubscriberCall → S → Type 0) → (ℕ → S → S → Type 0) → S → Change → S → Type 0
+abbrev pub DoesChange : {S : Type 0} → (S → SubscriberCall → S → Type 0) → (ℕ → S → S → Type 0) → S → WorldChange → S → Type 0
 DoesChange does besides s (Calls call) t = does s call t
 DoesChange does besides s (Beside at) t = besides at s t
 
 -- These changes were done to a subscriber, one after another, and nothing else changed it; spare room may have grown.
-abbrev pub DoesAll : {S : Type 0} → (S → SubscriberCall → S → Type 0) → (ℕ → S → S → Type 0) → (S → S → Type 0) → S → List Change → S → Type 0
+abbrev pub DoesAll : {S : Type 0} → (S → SubscriberCall → S → Type 0) → (ℕ → S → S → Type 0) → (S → S → Type 0) → S → List WorldChange → S → Type 0
 DoesAll does besides same s [] t = same s t
 DoesAll {S} does besides same s (change ∷ changes) t = (m : S) × (n : S) × same s m × DoesChange does besides m change n × DoesAll does besides same n changes t
 
 -- some changes, none of a later moment than this, and nothing else made one subscriber of another
 pub record IsCalledBy {S : Type 0} (does : S → SubscriberCall → S → Type 0) (besides : ℕ → S → S → Type 0) (same : S → S → Type 0) (last : ℕ) (s t : S) : Type 0 where
-  pub changes : List Change
+  pub changes : List WorldChange
   pub moments : All (IsBy last) changes
   pub runs : DoesAll does besides same s changes t
 

@@ -8,7 +8,7 @@ use Rattle.trace_base.specs.declared.lane.Lane.{Lane}
 use Rattle.trace_base.specs.declared.span.Parent.{Parent}
 use Rattle.trace_base.specs.Gate.{Worlds}
 use Rattle.trace_base.specs.Spans.{Spans, entries_on, place_on}
-use Rattle.trace_base.specs.Calls.{SubscriberCall, NewSpan, CloneSpan, after, with_span}
+use Rattle.trace_base.specs.Calls.{SubscriberCall, NewSpan, CloneSpan, spans_after_call, with_new_span}
 use Rattle.trace_base.specs.Conditions.{Allowed, HasOwnHold}
 use Rattle.trace_base.specs.Sound.{IsSound}
 use Rattle.trace_base.proofs.Sound.{place_live, new_own, clone_own}
@@ -86,7 +86,7 @@ module _ {S : Type 0} (spans : S → Spans) (same : S → S → Type 0) (same_sp
   keeps_same = handles_same.known
 
 module _ {S : Type 0} (spans : S → Spans) (does : S → SubscriberCall → S → Type 0) (sound : (s : S) (call : SubscriberCall) (t : S) → does s call t → IsSound (spans s))
-    (allowed : (s : S) (call : SubscriberCall) (t : S) → does s call t → Allowed (spans s) call) (shows : (s : S) (call : SubscriberCall) (t : S) → does s call t → spans t ≡ after (spans s) call) where
+    (allowed : (s : S) (call : SubscriberCall) (t : S) → does s call t → Allowed (spans s) call) (shows : (s : S) (call : SubscriberCall) (t : S) → does s call t → spans t ≡ spans_after_call (spans s) call) where
   call_beside : (old new : Worlds S) (dispatch : ℕ) (call : SubscriberCall) → Replaced (λ s t. does s call t) old new dispatch → IsNoClose call → (n : ℕ) (held : Held) → IsKnownBeside spans n old held → IsKnownBeside spans n new held
   call_beside old new dispatch call r kind n None known = tt
   call_beside old new dispatch call r kind n (Some h) known =
@@ -115,7 +115,7 @@ module _ {S : Type 0} (spans : S → Spans) (does : S → SubscriberCall → S �
 
 -- a chain of closes, from a span on
 module _ {S : Type 0} (spans : S → Spans) (does : S → SubscriberCall → S → Type 0) (allowed : (s : S) (call : SubscriberCall) (t : S) → does s call t → Allowed (spans s) call)
-    (shows : (s : S) (call : SubscriberCall) (t : S) → does s call t → spans t ≡ after (spans s) call) (old new : Worlds S) (dispatch at id : ℕ) (r : Replaced (λ s t. Chain spans does at (Some id) s t) old new dispatch) where
+    (shows : (s : S) (call : SubscriberCall) (t : S) → does s call t → spans t ≡ spans_after_call (spans s) call) (old new : Worlds S) (dispatch at id : ℕ) (r : Replaced (λ s t. Chain spans does at (Some id) s t) old new dispatch) where
   apart_beside : (n : ℕ) (held : Held) → (held ≡ Some (dispatch, id) → ⊥) → IsKnownBeside spans n old held → IsKnownBeside spans n new held
   apart_beside n None apart known = tt
   apart_beside n (Some h) apart known =
@@ -136,7 +136,7 @@ module _ {S : Type 0} (spans : S → Spans) (does : S → SubscriberCall → S �
 
 -- a handle just made is known, and so is a copy
 module _ {S : Type 0} (spans : S → Spans) (does : S → SubscriberCall → S → Type 0) (sound : (s : S) (call : SubscriberCall) (t : S) → does s call t → IsSound (spans s))
-    (allowed : (s : S) (call : SubscriberCall) (t : S) → does s call t → Allowed (spans s) call) (shows : (s : S) (call : SubscriberCall) (t : S) → does s call t → spans t ≡ after (spans s) call)
+    (allowed : (s : S) (call : SubscriberCall) (t : S) → does s call t → Allowed (spans s) call) (shows : (s : S) (call : SubscriberCall) (t : S) → does s call t → spans t ≡ spans_after_call (spans s) call)
     (old new : Worlds S) (dispatch id : ℕ) (there : dispatch < length old.subscribers) where
   pub made_known : (lane : Lane) (at : ℕ) (place : Parent) (site : ℕ) (callsite : Callsite) (values : ValueSet)
       → Replaced (λ s t. (id ≡ length (spans s).made) × does s (NewSpan lane at place site callsite values) t) old new dispatch → IsKnown spans new (Some (dispatch, id))
@@ -147,7 +147,7 @@ module _ {S : Type 0} (spans : S → Spans) (does : S → SubscriberCall → S �
       let above = place_on (entries_on lane.id x.lanes) place in
       let fine = sound r.before call r.later r.did.1 in
       let own = new_own x above site fine (place_live x lane.id place fine (allowed r.before call r.later r.did.1)) in
-      let own_id = subst (λ (k : ℕ). HasOwnHold (with_span x above site) k) (sym r.did.0) own in (
+      let own_id = subst (λ (k : ℕ). HasOwnHold (with_new_span x above site) k) (sym r.did.0) own in (
         (let n = as_many R old new dispatch r in omega (arith, n, there)),
         λ s here. subst (λ (t : S). HasOwnHold (spans t) id) (the_later spans R old new dispatch r s here) (subst (λ (y : Spans). HasOwnHold y id) (sym (shows r.before call r.later r.did.1)) own_id),
       )

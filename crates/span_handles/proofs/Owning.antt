@@ -3,8 +3,8 @@ use Rattle.std.proofs.Common.{◌≡◌, ℕ, ◌+◌, ◌<◌, List, [], ◌∷
 use Rattle.std.specs.Prelude.{◌==◌, IfSome}
 use Rattle.std.proofs.lemmas.Bool.{cases_Bool, cases_eq, cond-true, cond-false, eq-eqb, ne_eqb, eqb-true, eqb-false}
 use Rattle.std.proofs.lemmas.List.{get_or_append_left}
-use Rattle.trace_base.specs.Spans.{Span, Spans, no_span, span_at, entries_on, is_in, times_in, is_child_of, is_open_child, open_children, bound_holds, held, less_held, released, held_by_child, place_on, next_of}
-use Rattle.trace_base.specs.Calls.{SubscriberCall, NewSpan, Records, Follows, Event, Enter, Exit, CloneSpan, TryClose, after, with_span, entered, exited}
+use Rattle.trace_base.specs.Spans.{Span, Spans, no_span, span_at, entries_on, is_in, times_in, is_child_of, is_open_child, open_children, bound_holds, with_hold, less_hold, without_hold, held_by_child, place_on, next_of}
+use Rattle.trace_base.specs.Calls.{SubscriberCall, NewSpan, Records, Follows, Event, Enter, Exit, CloneSpan, TryClose, spans_after_call, with_new_span, with_span_entry, with_span_exit}
 use Rattle.trace_base.specs.Conditions.{Allowed, IsLive, HasOwnHold, MayExit}
 use Rattle.trace_base.specs.Sound.{IsSound}
 use Rattle.trace_base.proofs.Sound.{place_live, exit_live}
@@ -15,16 +15,16 @@ use Rattle.span_handles.specs.Worlds.{Chain, ended, closes}
 use Rattle.span_handles.specs.Knowing.{IsNoClose}
 
 -- the children of a span after an entry, and after an exit
-entered_children : (x : Spans) (id lane q : ℕ) → IsLive x.made id → open_children (entered x id lane).made q ≡ open_children x.made q
+entered_children : (x : Spans) (id lane q : ℕ) → IsLive x.made id → open_children (with_span_entry x id lane).made q ≡ open_children x.made q
 entered_children x id lane q live =
     let ids = entries_on lane x.lanes in
     let now : Span = record (span_at x.made id) { holds = (span_at x.made id).holds + 1 } in
     elim (cases_Bool (is_in id ids)) [
-      | inl again ↦ ap (λ (made : List Span). open_children made q) (cond-true {A = List Span} (is_in id ids) x.made (held x.made id) again)
-      | inr new ↦ ap (λ (made : List Span). open_children made q) (cond-false {A = List Span} (is_in id ids) x.made (held x.made id) new) ∙ keeps_children x.made id now (made_if_held x.made id live) refl live (omega arith) q
+      | inl again ↦ ap (λ (made : List Span). open_children made q) (cond-true {A = List Span} (is_in id ids) x.made (with_hold x.made id) again)
+      | inr new ↦ ap (λ (made : List Span). open_children made q) (cond-false {A = List Span} (is_in id ids) x.made (with_hold x.made id) new) ∙ keeps_children x.made id now (made_if_held x.made id live) refl live (omega arith) q
     ]
 
-exited_children : (x : Spans) (id lane q : ℕ) → MayExit x id lane → open_children (exited x id lane).made q ≡ open_children x.made q
+exited_children : (x : Spans) (id lane q : ℕ) → MayExit x id lane → open_children (with_span_exit x id lane).made q ≡ open_children x.made q
 exited_children x id lane q may =
     let ids = entries_on lane x.lanes in
     let was = span_at x.made id in
@@ -33,9 +33,9 @@ exited_children x id lane q may =
           let more = may.1 (eqb-true (times_in id ids) 1 last) in
           let fewer = less_holds was in
           let parent = ap (λ (s : Span). s.parent) (less_more was (λ e. omega (arith, e, more))) in
-          ap (λ (made : List Span). open_children made q) (cond-true {A = List Span} (times_in id ids == 1) (released x.made id) x.made last)
-          ∙ keeps_children x.made id (less_held was) (made_if_held x.made id (omega (arith, more))) parent (omega (arith, more)) (omega (arith, more, fewer)) q)
-      | inr again ↦ ap (λ (made : List Span). open_children made q) (cond-false {A = List Span} (times_in id ids == 1) (released x.made id) x.made again)
+          ap (λ (made : List Span). open_children made q) (cond-true {A = List Span} (times_in id ids == 1) (without_hold x.made id) x.made last)
+          ∙ keeps_children x.made id (less_hold was) (made_if_held x.made id (omega (arith, more))) parent (omega (arith, more)) (omega (arith, more, fewer)) q)
+      | inr again ↦ ap (λ (made : List Span). open_children made q) (cond-false {A = List Span} (times_in id ids == 1) (without_hold x.made id) x.made again)
     ]
 
 -- a span has a hold of its own, and some more
@@ -43,7 +43,7 @@ abbrev pub OwnBeside : ℕ → Spans → ℕ → Type 0
 OwnBeside n x q = bound_holds x q + n < (span_at x.made q).holds
 
 -- one hold more of a live span
-held_own : (n : ℕ) (x : Spans) (id q : ℕ) → IsLive x.made id → OwnBeside n x q → OwnBeside n (record x { made = held x.made id }) q
+held_own : (n : ℕ) (x : Spans) (id q : ℕ) → IsLive x.made id → OwnBeside n x q → OwnBeside n (record x { made = with_hold x.made id }) q
 held_own n x id q live own =
     let within = made_if_held x.made id live in
     let now : Span = record (span_at x.made id) { holds = (span_at x.made id).holds + 1 } in
@@ -57,7 +57,7 @@ held_own n x id q live own =
     ]
 
 -- the span itself has one more then
-pub held_more : (n : ℕ) (x : Spans) (id : ℕ) → OwnBeside n x id → OwnBeside (n + 1) (record x { made = held x.made id }) id
+pub held_more : (n : ℕ) (x : Spans) (id : ℕ) → OwnBeside n x id → OwnBeside (n + 1) (record x { made = with_hold x.made id }) id
 held_more n x id own =
     let within = made_if_held x.made id (omega (arith, own)) in
     let now : Span = record (span_at x.made id) { holds = (span_at x.made id).holds + 1 } in
@@ -73,13 +73,13 @@ push_own n x new q own =
     let h = ap (λ (s : Span). s.holds) (get_or_append_left x.made (new ∷ []) no_span q within) in
     omega (arith, children, h, own)
 
-new_keeps : (n : ℕ) (x : Spans) (above : Option ℕ) (site q : ℕ) → IfSome above (λ p. IsLive x.made p) → OwnBeside n x q → OwnBeside n (with_span x above site) q
+new_keeps : (n : ℕ) (x : Spans) (above : Option ℕ) (site q : ℕ) → IfSome above (λ p. IsLive x.made p) → OwnBeside n x q → OwnBeside n (with_new_span x above site) q
 new_keeps n x None site q live own = push_own n x (record { holds = 1; parent = None; site = site }) q (omega (arith, own))
 new_keeps n x (Some p) site q live own =
     let within = made_if_held x.made p live in
     let now : Span = record (span_at x.made p) { holds = (span_at x.made p).holds + 1 } in
     let children = keeps_children x.made p now within refl live (omega arith) q in
-    push_own n (record x { made = held x.made p }) (record { holds = 1; parent = Some p; site = site }) q (elim (cases_eq q p) [
+    push_own n (record x { made = with_hold x.made p }) (record { holds = 1; parent = Some p; site = site }) q (elim (cases_eq q p) [
       | inl here ↦ (
           let h = holds_set x.made p now within q here in
           let w = ap (λ (k : ℕ). (span_at x.made k).holds) here in
@@ -92,7 +92,7 @@ new_keeps n x (Some p) site q live own =
     ])
 
 -- a call that isn't a close
-pub call_own : (n : ℕ) (x : Spans) (call : SubscriberCall) (q : ℕ) → IsSound x → Allowed x call → IsNoClose call → OwnBeside n x q → OwnBeside n (after x call) q
+pub call_own : (n : ℕ) (x : Spans) (call : SubscriberCall) (q : ℕ) → IsSound x → Allowed x call → IsNoClose call → OwnBeside n x q → OwnBeside n (spans_after_call x call) q
 call_own n x (NewSpan lane at place site callsite values) q sound allowed kind own = new_keeps n x (place_on (entries_on lane.id x.lanes) place) site q (place_live x lane.id place sound allowed) own
 call_own n x (Records id at callsite values) q sound allowed kind own = own
 call_own n x (Follows id from at) q sound allowed kind own = own
@@ -108,10 +108,10 @@ pub record OwnUnder (n : ℕ) (next : Option ℕ) (x : Spans) (q : ℕ) : Type 0
   pub more : next ≡ Some q → OwnBeside (n + 1) x q
 
 -- a release of another span
-release_other : (n : ℕ) (x : Spans) (id q : ℕ) → HasOwnHold x id → (q ≡ id → ⊥) → OwnBeside n x q → OwnUnder n (next_of x.made id) (record x { made = released x.made id }) q
+release_other : (n : ℕ) (x : Spans) (id q : ℕ) → HasOwnHold x id → (q ≡ id → ⊥) → OwnBeside n x q → OwnUnder n (next_of x.made id) (record x { made = without_hold x.made id }) q
 release_other n x id q mine other own =
     let was = span_at x.made id in
-    let now : Span = less_held was in
+    let now : Span = less_hold was in
     let within = made_if_held x.made id (omega (arith, mine)) in
     let write = children_set x.made id now q within in
     let h = holds_other x.made id now q other in
@@ -139,10 +139,10 @@ release_other n x id q mine other own =
     ]
 
 -- a release of the span itself, which has another hold of its own
-release_same : (n : ℕ) (x : Spans) (id : ℕ) → OwnBeside (n + 1) x id → OwnUnder n (next_of x.made id) (record x { made = released x.made id }) id
+release_same : (n : ℕ) (x : Spans) (id : ℕ) → OwnBeside (n + 1) x id → OwnUnder n (next_of x.made id) (record x { made = without_hold x.made id }) id
 release_same n x id own =
     let was = span_at x.made id in
-    let now : Span = less_held was in
+    let now : Span = less_hold was in
     let within = made_if_held x.made id (omega (arith, own)) in
     let fewer = less_holds was in
     let several : was.holds ≡ 1 → ⊥ = λ e. omega (arith, e, own) in
@@ -155,14 +155,14 @@ release_same n x id own =
     }
 
 module _ {S : Type 0} (spans : S → Spans) (does : S → SubscriberCall → S → Type 0) (allowed : (s : S) (call : SubscriberCall) (t : S) → does s call t → Allowed (spans s) call)
-    (shows : (s : S) (call : SubscriberCall) (t : S) → does s call t → spans t ≡ after (spans s) call) (at : ℕ) where
+    (shows : (s : S) (call : SubscriberCall) (t : S) → does s call t → spans t ≡ spans_after_call (spans s) call) (at : ℕ) where
   pub chain_own : (n : ℕ) (next : Option ℕ) (s t : S) → Chain spans does at next s t → (q : ℕ) → OwnUnder n next (spans s) q → OwnBeside n (spans t) q
   chain_own n _ _ _ (ended s) q under = under.own
   chain_own n _ _ _ (closes id s m t did rest) q under =
       let now = shows s (TryClose id at) m did in
       let next = next_of (spans s).made id in
       chain_own n next m t rest q (subst (λ (x : Spans). OwnUnder n next x q) (sym now) (elim (cases_eq q id) [
-        | inl here ↦ subst (λ (k : ℕ). OwnUnder n next (record (spans s) { made = released (spans s).made id }) k) (sym here)
+        | inl here ↦ subst (λ (k : ℕ). OwnUnder n next (record (spans s) { made = without_hold (spans s).made id }) k) (sym here)
             (release_same n (spans s) id (subst (λ (k : ℕ). OwnBeside (n + 1) (spans s) k) here (under.more (ap (λ (k : ℕ). Some k) (sym here)))))
         | inr other ↦ release_other n (spans s) id q (allowed s (TryClose id at) m did) other under.own
       ]))

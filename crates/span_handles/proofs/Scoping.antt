@@ -4,19 +4,19 @@ use Rattle.std.specs.Prelude.{◌==◌}
 use Rattle.std.proofs.lemmas.Bool.{cases_Bool, cond-true, cond-false, eq-eqb}
 use Rattle.trace_base.specs.declared.lane.Lane.{Lane}
 use Rattle.trace_base.specs.Gate.{Worlds}
-use Rattle.trace_base.specs.Spans.{Span, Spans, span_at, entries_on, is_in, times_in, held}
-use Rattle.trace_base.specs.Calls.{SubscriberCall, Enter, entered, after}
+use Rattle.trace_base.specs.Spans.{Span, Spans, span_at, entries_on, is_in, times_in, with_hold}
+use Rattle.trace_base.specs.Calls.{SubscriberCall, Enter, with_span_entry, spans_after_call}
 use Rattle.trace_base.specs.Conditions.{HasOwnHold, MayExit}
 use Rattle.trace_base.specs.lanes.Contexts.{AreAttached, KeepsAttached, Lanes, attached_as}
 use Rattle.trace_base.proofs.Entering.{count_push, any_if_counted, with_same, made_if_held}
 use Rattle.trace_base.proofs.Holding.{first_if_in, first_with, in_push_same, keeps_children, holds_set}
 use Rattle.span_handles.specs.Worlds.{Has, Replaced}
 use Rattle.span_handles.specs.Handles.{Held, IsKnown, HasOn}
-use Rattle.span_handles.specs.Entries.{IsThere, IsOpenOn, IsStillOn, Begins, Keeps}
+use Rattle.span_handles.specs.Entries.{IsThere, IsOpenOn, IsStillOn, BeginsInside, Keeps}
 use Rattle.span_handles.proofs.Showing.{now_there, as_many}
 
 -- a span that is entered keeps its own holds
-own_entered : (x : Spans) (id lane : ℕ) → HasOwnHold x id → HasOwnHold (entered x id lane) id
+own_entered : (x : Spans) (id lane : ℕ) → HasOwnHold x id → HasOwnHold (with_span_entry x id lane) id
 own_entered x id lane own =
     let ids = entries_on lane x.lanes in
     let within = made_if_held x.made id (omega (arith, own)) in
@@ -25,18 +25,18 @@ own_entered x id lane own =
     let there = cond-true {A = ℕ} (is_in id (ids ++ id ∷ [])) 1 0 (in_push_same ids id) in
     elim (cases_Bool (is_in id ids)) [
       | inl again ↦ (
-          let same : (entered x id lane).made ≡ x.made = cond-true {A = List Span} (is_in id ids) x.made (held x.made id) again in
+          let same : (with_span_entry x id lane).made ≡ x.made = cond-true {A = List Span} (is_in id ids) x.made (with_hold x.made id) again in
           let was = cond-true {A = ℕ} (is_in id ids) 1 0 again in
-          subst (λ (made : List Span). HasOwnHold (record (entered x id lane) { made = made }) id) (sym same) (omega (arith, first, there, was, own)))
+          subst (λ (made : List Span). HasOwnHold (record (with_span_entry x id lane) { made = made }) id) (sym same) (omega (arith, first, there, was, own)))
       | inr new ↦ (
-          let same : (entered x id lane).made ≡ held x.made id = cond-false {A = List Span} (is_in id ids) x.made (held x.made id) new in
+          let same : (with_span_entry x id lane).made ≡ with_hold x.made id = cond-false {A = List Span} (is_in id ids) x.made (with_hold x.made id) new in
           let was = cond-false {A = ℕ} (is_in id ids) 1 0 new in
           let children = keeps_children x.made id now within refl (omega (arith, own)) (omega arith) id in
           let h = holds_set x.made id now within id refl in
-          subst (λ (made : List Span). HasOwnHold (record (entered x id lane) { made = made }) id) (sym same) (omega (arith, first, there, was, own, children, h)))
+          subst (λ (made : List Span). HasOwnHold (record (with_span_entry x id lane) { made = made }) id) (sym same) (omega (arith, first, there, was, own, children, h)))
     ]
 
-open_entered : (x : Spans) (id lane : ℕ) → 0 < times_in id (entries_on lane (entered x id lane).lanes)
+open_entered : (x : Spans) (id lane : ℕ) → 0 < times_in id (entries_on lane (with_span_entry x id lane).lanes)
 open_entered x id lane =
     let ids = entries_on lane x.lanes in
     let there = ap (times_in id) (with_same lane (ids ++ id ∷ []) x.lanes) in
@@ -75,10 +75,10 @@ pub record MayEnd {S : Type 0} (spans : S → Spans) (kept : S → ℕ → ℕ �
   pub still : HasOn (λ s id. AreAttached (kept s) lane) world held
 
 module _ {S : Type 0} (spans : S → Spans) (attaches : S → Bool) (kept : S → ℕ → ℕ → ℕ) (is_whole : S → Type 0) (does : S → SubscriberCall → S → Type 0)
-    (shows : (s : S) (call : SubscriberCall) (t : S) → does s call t → spans t ≡ after (spans s) call) (lanes : (s : S) (call : SubscriberCall) (t : S) → does s call t → Lanes (attaches s) (kept s) call (kept t))
+    (shows : (s : S) (call : SubscriberCall) (t : S) → does s call t → spans t ≡ spans_after_call (spans s) call) (lanes : (s : S) (call : SubscriberCall) (t : S) → does s call t → Lanes (attaches s) (kept s) call (kept t))
     (keeps_whole : (s : S) (call : SubscriberCall) (t : S) → does s call t → is_whole s → is_whole t)
     (at : ℕ) (old world later : Worlds S) (before lane left : Lane) where
-  pub may_end : (held : Held) → IsKnown spans old held → HasOn (λ s id. is_whole s) old held → IsStillOn kept before old held → Begins does at held old before world lane → Keeps spans kept is_whole held world lane later left → MayEnd spans kept is_whole held later left
+  pub may_end : (held : Held) → IsKnown spans old held → HasOn (λ s id. is_whole s) old held → IsStillOn kept before old held → BeginsInside does at held old before world lane → Keeps spans kept is_whole held world lane later left → MayEnd spans kept is_whole held later left
   may_end None known whole still begins keep = record { there = tt; whole = tt; may = tt; still = tt }
   may_end (Some h) known whole still begins keep =
       let call : SubscriberCall = Enter h.1 at before lane in

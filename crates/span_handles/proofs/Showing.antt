@@ -4,10 +4,10 @@ use Rattle.std.specs.Option.{option_map_or}
 use Rattle.std.proofs.lemmas.List.{length-set}
 use Rattle.trace_base.specs.Gate.{Worlds}
 use Rattle.trace_base.specs.Spans.{Spans, next_of}
-use Rattle.trace_base.specs.Calls.{SubscriberCall, TryClose, after}
+use Rattle.trace_base.specs.Calls.{SubscriberCall, TryClose, spans_after_call}
 use Rattle.trace_base.specs.Conditions.{Allowed}
 use Rattle.trace_base.specs.lanes.Contexts.{Lanes}
-use Rattle.span_handles.specs.Worlds.{Has, Replaced, seen, Shown, Alike, Chain, ended, closes, Released, all_released, releases, ChainShown, no_spans}
+use Rattle.span_handles.specs.Worlds.{Has, Replaced, member_of, Shown, Alike, Chain, ended, closes, ReleasesChain, all_released, releases, ChainShown, no_spans}
 
 get_set : {X : Type 0} (xs : List X) (n : ℕ) (x y : X) → slice_get xs n ≡ Some x → slice_get (slice_set xs n y) n ≡ Some y
 get_set [] n x y there = absurd (cc there)
@@ -21,10 +21,10 @@ module _ {S : Type 0} (R : S → S → Type 0) (old new : Worlds S) (dispatch : 
   pub as_many : length new.subscribers ≡ length old.subscribers
   as_many = ap (λ (w : Worlds S). length w.subscribers) r.others ∙ length-set old.subscribers dispatch r.later
 
-  pub seen_before : {A : Type 0} (read : S → A) (none : A) → seen read none old dispatch ≡ read r.before
+  pub seen_before : {A : Type 0} (read : S → A) (none : A) → member_of read none old dispatch ≡ read r.before
   seen_before {A} read none = ap (λ (o : Option S). option_map_or read o none) r.there
 
-  pub seen_later : {A : Type 0} (read : S → A) (none : A) → seen read none new dispatch ≡ read r.later
+  pub seen_later : {A : Type 0} (read : S → A) (none : A) → member_of read none new dispatch ≡ read r.later
   seen_later {A} read none = ap (λ (o : Option S). option_map_or read o none) now_there
 
   the_same : (s t : S) → ◌≡◌ {A = Option S} (Some s) (Some t) → s ≡ t
@@ -34,15 +34,15 @@ module _ {S : Type 0} (R : S → S → Type 0) (old new : Worlds S) (dispatch : 
   keeps P step has s there = subst P (the_same r.later s (sym now_there ∙ there)) (step r.before r.later r.did (has r.before r.there))
 
 pub shown : {S : Type 0} (spans : S → Spans) (attaches : S → Bool) (kept : S → ℕ → ℕ → ℕ) (is_whole : S → Type 0) (does : S → SubscriberCall → S → Type 0)
-    → ((s : S) (call : SubscriberCall) (t : S) → does s call t → spans t ≡ after (spans s) call) → ((s : S) (call : SubscriberCall) (t : S) → does s call t → Lanes (attaches s) (kept s) call (kept t))
+    → ((s : S) (call : SubscriberCall) (t : S) → does s call t → spans t ≡ spans_after_call (spans s) call) → ((s : S) (call : SubscriberCall) (t : S) → does s call t → Lanes (attaches s) (kept s) call (kept t))
     → ((s : S) (call : SubscriberCall) (t : S) → does s call t → attaches t ≡ attaches s) → ((s : S) (call : SubscriberCall) (t : S) → does s call t → is_whole s → is_whole t)
     → (old new : Worlds S) (dispatch : ℕ) (call : SubscriberCall) → Replaced (λ s t. does s call t) old new dispatch → Shown spans attaches kept is_whole old new dispatch call
 shown {S} spans attaches kept is_whole does shows lanes keeps_attaches keeps_whole old new dispatch call r =
     let R : S → S → Type 0 = λ s t. does s call t in
     record {
-      spans_after = seen_later R old new dispatch r spans _ ∙ shows r.before call r.later r.did ∙ ap (λ (x : Spans). after x call) (sym (seen_before R old new dispatch r spans _));
-      lanes = subst (λ (b : Bool). Lanes b (seen kept (λ lane number. 0) old dispatch) call (seen kept (λ lane number. 0) new dispatch)) (sym (seen_before R old new dispatch r attaches false))
-          (subst (λ (f : ℕ → ℕ → ℕ). Lanes (attaches r.before) f call (seen kept (λ lane number. 0) new dispatch)) (sym (seen_before R old new dispatch r kept _))
+      spans_after = seen_later R old new dispatch r spans _ ∙ shows r.before call r.later r.did ∙ ap (λ (x : Spans). spans_after_call x call) (sym (seen_before R old new dispatch r spans _));
+      lanes = subst (λ (b : Bool). Lanes b (member_of kept (λ lane number. 0) old dispatch) call (member_of kept (λ lane number. 0) new dispatch)) (sym (seen_before R old new dispatch r attaches false))
+          (subst (λ (f : ℕ → ℕ → ℕ). Lanes (attaches r.before) f call (member_of kept (λ lane number. 0) new dispatch)) (sym (seen_before R old new dispatch r kept _))
           (subst (λ (f : ℕ → ℕ → ℕ). Lanes (attaches r.before) (kept r.before) call f) (sym (seen_later R old new dispatch r kept _)) (lanes r.before call r.later r.did)));
       attaches_same = seen_later R old new dispatch r attaches false ∙ keeps_attaches r.before call r.later r.did ∙ sym (seen_before R old new dispatch r attaches false);
       count = as_many R old new dispatch r;
@@ -62,13 +62,13 @@ alike {S} spans attaches kept is_whole same same_spans same_attaches same_kept s
 
 -- a chain, whatever its length
 record Chained {S : Type 0} (spans : S → Spans) (attaches : S → Bool) (kept : S → ℕ → ℕ → ℕ) (is_whole : S → Type 0) (next : Option ℕ) (s t : S) : Type 0 where
-  released : Released next (spans s) (spans t)
+  released : ReleasesChain next (spans s) (spans t)
   attaches_same : attaches t ≡ attaches s
   kept_same : kept t ≡ kept s
   whole : is_whole s → is_whole t
 
 module _ {S : Type 0} (spans : S → Spans) (attaches : S → Bool) (kept : S → ℕ → ℕ → ℕ) (is_whole : S → Type 0) (does : S → SubscriberCall → S → Type 0)
-    (allowed : (s : S) (call : SubscriberCall) (t : S) → does s call t → Allowed (spans s) call) (shows : (s : S) (call : SubscriberCall) (t : S) → does s call t → spans t ≡ after (spans s) call)
+    (allowed : (s : S) (call : SubscriberCall) (t : S) → does s call t → Allowed (spans s) call) (shows : (s : S) (call : SubscriberCall) (t : S) → does s call t → spans t ≡ spans_after_call (spans s) call)
     (lanes : (s : S) (call : SubscriberCall) (t : S) → does s call t → Lanes (attaches s) (kept s) call (kept t))
     (keeps_attaches : (s : S) (call : SubscriberCall) (t : S) → does s call t → attaches t ≡ attaches s) (keeps_whole : (s : S) (call : SubscriberCall) (t : S) → does s call t → is_whole s → is_whole t) (at : ℕ) where
   chained : (next : Option ℕ) (s t : S) → Chain spans does at next s t → Chained spans attaches kept is_whole next s t
@@ -76,7 +76,7 @@ module _ {S : Type 0} (spans : S → Spans) (attaches : S → Bool) (kept : S �
   chained _ _ _ (closes id s m t did rest) =
       let more = chained (next_of (spans s).made id) m t rest in
       record {
-        released = releases id at (spans s) (spans t) (allowed s (TryClose id at) m did) (subst (λ (x : Spans). Released (next_of (spans s).made id) x (spans t)) (shows s (TryClose id at) m did) more.released);
+        released = releases id at (spans s) (spans t) (allowed s (TryClose id at) m did) (subst (λ (x : Spans). ReleasesChain (next_of (spans s).made id) x (spans t)) (shows s (TryClose id at) m did) more.released);
         attaches_same = more.attaches_same ∙ keeps_attaches s (TryClose id at) m did;
         kept_same = more.kept_same ∙ lanes s (TryClose id at) m did;
         whole = λ w. more.whole (keeps_whole s (TryClose id at) m did w);
@@ -87,7 +87,7 @@ module _ {S : Type 0} (spans : S → Spans) (attaches : S → Bool) (kept : S �
       let R : S → S → Type 0 = λ s t. Chain spans does at (Some id) s t in
       let all = chained (Some id) r.before r.later r.did in
       record {
-        released = subst (λ (x : Spans). Released (Some id) x (seen spans no_spans new dispatch)) (sym (seen_before R old new dispatch r spans _)) (subst (λ (y : Spans). Released (Some id) (spans r.before) y) (sym (seen_later R old new dispatch r spans _)) all.released);
+        released = subst (λ (x : Spans). ReleasesChain (Some id) x (member_of spans no_spans new dispatch)) (sym (seen_before R old new dispatch r spans _)) (subst (λ (y : Spans). ReleasesChain (Some id) (spans r.before) y) (sym (seen_later R old new dispatch r spans _)) all.released);
         attaches_same = seen_later R old new dispatch r attaches false ∙ all.attaches_same ∙ sym (seen_before R old new dispatch r attaches false);
         kept_same = seen_later R old new dispatch r kept _ ∙ all.kept_same ∙ sym (seen_before R old new dispatch r kept _);
         count = as_many R old new dispatch r;

@@ -4,21 +4,21 @@ use Rattle.std.proofs.Common.{◌≡◌, ℕ, List, [], ◌∷◌, Option, Some,
 use Rattle.std.proofs.lemmas.Bool.{cases_eq, eq-eqb, ne_eqb, cond-true, cond-false}
 use Rattle.trace_base.specs.Gate.{Worlds}
 use Rattle.trace_base.specs.Spans.{Spans, next_of, span_at}
-use Rattle.trace_base.specs.Calls.{SubscriberCall, TryClose, after}
+use Rattle.trace_base.specs.Calls.{SubscriberCall, TryClose, spans_after_call}
 use Rattle.trace_base.specs.Conditions.{Allowed}
-use Rattle.span_handles.specs.Worlds.{Replaced, seen, Chain, ended, closes, all_released, releases, closed_in, no_spans, ToldChain, AreToldBy}
+use Rattle.span_handles.specs.Worlds.{Replaced, member_of, Chain, ended, closes, all_released, releases, closed_in, no_spans, ToldChain, ChangesByCloses}
 use Rattle.span_handles.proofs.Showing.{seen_before, seen_later}
 
 module _ {S A : Type 0} (spans : S → Spans) (does : S → SubscriberCall → S → Type 0)
-    (allowed : (s : S) (call : SubscriberCall) (t : S) → does s call t → Allowed (spans s) call) (shows : (s : S) (call : SubscriberCall) (t : S) → does s call t → spans t ≡ after (spans s) call)
+    (allowed : (s : S) (call : SubscriberCall) (t : S) → does s call t → Allowed (spans s) call) (shows : (s : S) (call : SubscriberCall) (t : S) → does s call t → spans t ≡ spans_after_call (spans s) call)
     (read : S → A) (none : A) (close : A → ℕ → A)
-    (tells : AreToldBy spans does read close) (at : ℕ) where
+    (tells : ChangesByCloses spans does read close) (at : ℕ) where
   told_chain : (next : Option ℕ) (s t : S) → Chain spans does at next s t → (x : Spans) → x ≡ spans s → ToldChain close next x (spans t) (read s) (read t)
   told_chain _ _ _ (ended s) x is = subst (λ (z : Spans). ToldChain close None z (spans s) (read s) (read s)) (sym is) (record { chain = all_released (spans s); told = refl })
   told_chain _ _ _ (closes id s m t did rest) x is =
       subst (λ (z : Spans). ToldChain close (Some id) z (spans t) (read s) (read t)) (sym is)
       (let next = next_of (spans s).made id in
-      let x' = after (spans s) (TryClose id at) in
+      let x' = spans_after_call (spans s) (TryClose id at) in
       let more = told_chain next m t rest x' (sym (shows s (TryClose id at) m did)) in
       let says = tells s id at m did in
       let holds = (span_at (spans s).made id).holds in
@@ -32,7 +32,7 @@ module _ {S A : Type 0} (spans : S → Spans) (does : S → SubscriberCall → S
       })
 
   pub told_world : (old new : Worlds S) (dispatch id : ℕ) → Replaced (λ s t. Chain spans does at (Some id) s t) old new dispatch
-      → ToldChain close (Some id) (seen spans no_spans old dispatch) (seen spans no_spans new dispatch) (seen read none old dispatch) (seen read none new dispatch)
+      → ToldChain close (Some id) (member_of spans no_spans old dispatch) (member_of spans no_spans new dispatch) (member_of read none old dispatch) (member_of read none new dispatch)
   told_world old new dispatch id r =
       let R : S → S → Type 0 = λ s t. Chain spans does at (Some id) s t in
       rw (seen_before R old new dispatch r spans no_spans, seen_later R old new dispatch r spans no_spans, seen_before R old new dispatch r read none, seen_later R old new dispatch r read none) (told_chain (Some id) r.before r.later r.did (spans r.before) refl)

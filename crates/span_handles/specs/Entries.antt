@@ -26,7 +26,7 @@ MeetsFullLane activates world lane None = ⊥
 MeetsFullLane activates world lane (Some held) = Has (λ s. activates s held.1 ≡ true) world held.0 × IsFull lane
 
 -- a guard: the handle whose span was entered, and the lane
-pub record Opened : Type 0 where
+pub record EntryGuard : Type 0 where
   pub span : Handle
   pub lane : ℕ
 
@@ -39,7 +39,7 @@ abbrev pub IsStillOn : {S : Type 0} → (S → ℕ → ℕ → ℕ) → Lane →
 IsStillOn kept lane world held = HasOn (λ s id. AreAttached (kept s) lane) world held
 
 -- inside a handle's span: it was entered, and nothing else happened
-pub record Begins {S : Type 0} (does : S → SubscriberCall → S → Type 0) (at : ℕ) (held : Held) (old : Worlds S) (before : Lane) (world : Worlds S) (lane : Lane) : Type 0 where
+pub record BeginsInside {S : Type 0} (does : S → SubscriberCall → S → Type 0) (at : ℕ) (held : Held) (old : Worlds S) (before : Lane) (world : Worlds S) (lane : Lane) : Type 0 where
   pub entered : ReplacedOn (λ id s t. does s (Enter id at before lane) t) old world held
   pub none : held ≡ None → lane ≡ before
 

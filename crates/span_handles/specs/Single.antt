@@ -5,40 +5,40 @@ use Rattle.trace_base.specs.declared.lane.Lane.{Lane}
 use Rattle.trace_base.specs.declared.span.Parent.{Parent}
 use Rattle.trace_base.specs.Gate.{Worlds}
 use Rattle.trace_base.specs.Spans.{Spans, entries_on, place_on}
-use Rattle.trace_base.specs.Calls.{with_span}
+use Rattle.trace_base.specs.Calls.{with_new_span}
 use Rattle.trace_base.specs.Conditions.{AreFew, HasFewHoldsAbove, IsLivePlace}
-use Rattle.span_registry.specs.Registering.{Registered}
+use Rattle.span_registry.specs.Registering.{RegistryValue}
 use Rattle.span_handles.specs.Worlds.{spans_in}
 use Rattle.span_handles.specs.Handles.{Handle, handle_of}
 
 -- the spans of the registry
-abbrev pub spans_of : Worlds Registered → Spans
+abbrev pub spans_of : Worlds RegistryValue → Spans
 spans_of world = spans_in (λ r. r.spans) world 0
 
-pub record IsSingle (world : Worlds Registered) : Type 0 where
+pub record IsSingle (world : Worlds RegistryValue) : Type 0 where
   pub one : length world.subscribers ≡ 1
   pub global : world.global ≡ Some 0
 
 -- the registry is another one, with these spans
-pub record Leaves (old new : Worlds Registered) (spans : Spans) : Type 0 where
+pub record BecomesSpans (old new : Worlds RegistryValue) (spans : Spans) : Type 0 where
   pub one : length new.subscribers ≡ 1
   pub global : new.global ≡ Some 0
   pub sites : new.sites ≡ old.sites
   pub spans_are : spans_of new ≡ spans
 
 -- a span may be made at a place on a lane
-pub record MayStand (world : Worlds Registered) (lane : Lane) (place : Parent) : Type 0 where
+pub record MayStand (world : Worlds RegistryValue) (lane : Lane) (place : Parent) : Type 0 where
   pub own : lane.default ≡ None
   pub live : IsLivePlace (spans_of world).made place
   pub few : AreFew (spans_of world)
   pub few_holds : HasFewHoldsAbove (spans_of world) lane.id place
 
 -- the spans with one more at a place on a lane
-abbrev pub made_at : Worlds Registered → ℕ → Parent → ℕ → Spans
-made_at world lane place site = with_span (spans_of world) (place_on (entries_on lane (spans_of world).lanes) place) site
+abbrev pub with_span_at : Worlds RegistryValue → ℕ → Parent → ℕ → Spans
+with_span_at world lane place site = with_new_span (spans_of world) (place_on (entries_on lane (spans_of world).lanes) place) site
 
 -- A first span was made, a root, and nothing else happened; a lane of number 1 has no subscriber of its own.
-pub record IsFirst (world : Worlds Registered) (lane : Lane) (site registry : ℕ) (first : Handle) : Type 0 where
+pub record IsFirst (world : Worlds RegistryValue) (lane : Lane) (site registry : ℕ) (first : Handle) : Type 0 where
   pub one : length world.subscribers ≡ 1
   pub global : world.global ≡ Some 0
   pub sites : length world.sites ≡ 1

@@ -6,7 +6,7 @@ ghost use Rattle.trace_base.specs.Conditions.{HasFewHolds, MayExit};
 ghost use Rattle.trace_base.specs.lanes.Contexts.{AreAttached};
 ghost use Rattle.span_handles.specs.Handles.{Handle, IsKnown, HasOn, ReplacedOn, id_of};
 ghost use Rattle.span_handles.specs.Knowing.{KeepsHandles};
-ghost use Rattle.span_handles.specs.Entries.{IsThere, IsStillOn, Begins, Keeps, LeavesLane, MeetsFullLane};
+ghost use Rattle.span_handles.specs.Entries.{IsThere, IsStillOn, BeginsInside, Keeps, LeavesLane, MeetsFullLane};
 
 use crate::entry::Entry;
 use crate::span::Span;
@@ -27,9 +27,9 @@ pub struct Entered<'a> {
 
 impl<'a> Model for Entered<'a> {
     ghost use Rattle.std.specs.Prelude.{◌≡◌};
-    ghost use Rattle.span_handles.specs.Entries.{Opened};
+    ghost use Rattle.span_handles.specs.Entries.{EntryGuard};
 
-    ghost Value = { Opened };
+    ghost Value = { EntryGuard };
 
     ghost view = { λ g. record { span = g.span.now; lane = g.lane } };
 
@@ -46,9 +46,9 @@ pub struct EnteredSpan {
 
 impl Model for EnteredSpan {
     ghost use Rattle.std.specs.Prelude.{◌≡◌};
-    ghost use Rattle.span_handles.specs.Entries.{Opened};
+    ghost use Rattle.span_handles.specs.Entries.{EntryGuard};
 
-    ghost Value = { Opened };
+    ghost Value = { EntryGuard };
 
     ghost view = { λ g. record { span = g.span; lane = g.lane } };
 
@@ -150,22 +150,22 @@ impl Span {
         requires still { IsStillOn S.kept lane.old world.old self.now.held }
 
         // The closure finds the span entered, and leaves it so that it can be exited.
-        requires callable { (w : _) (l : _) → Begins S.does at self.now.held world.old lane.old w.now l.now
+        requires callable { (w : _) (l : _) → BeginsInside S.does at self.now.held world.old lane.old w.now l.now
             → F.pre f w l }
         requires keeps { (w : _) (l : _) (r : T) (t : _) (m : _)
-            → Begins S.does at self.now.held world.old lane.old w.now l.now → F.post f w l r t m
+            → BeginsInside S.does at self.now.held world.old lane.old w.now l.now → F.post f w l r t m
             → Keeps S.spans S.kept S.is_whole self.now.held w.now l.now t.now m.now }
 
         ensures ok { IfOk result
             (λ answer. (w : _) × (l : _) × (t : _) × (m : _)
-            × Begins S.does at self.now.held world.old lane.old w.now l.now × F.post f w l answer t m
+            × BeginsInside S.does at self.now.held world.old lane.old w.now l.now × F.post f w l answer t m
             × ReplacedOn (λ id s u. S.does s (Exit id at m.now lane.new) u) t.now world.new self.now.held
             × (self.now.held ≡ None → lane.new ≡ m.now)) }
         ensures known { IsKnown S.spans world.new self.now.held }
 
         // Where the closure leaves known handles known, the call does.
         ensures keeps { ((w : _) (l : _) (r : T) (t : _) (m : _)
-            → Begins S.does at self.now.held world.old lane.old w.now l.now → F.post f w l r t m
+            → BeginsInside S.does at self.now.held world.old lane.old w.now l.now → F.post f w l r t m
             → KeepsHandles S.spans w.now t.now) → KeepsHandles S.spans world.old world.new }
         ensures disabled { self.now.held ≡ None → IsOk result }
 

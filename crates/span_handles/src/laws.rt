@@ -2,7 +2,7 @@
 ghost use Rattle.std.specs.Prelude.{ℕ, Some};
 ghost use Rattle.trace_base.specs.Gate.{Worlds};
 ghost use Rattle.trace_base.specs.Calls.{SubscriberCall, CloneSpan};
-ghost use Rattle.span_handles.specs.Worlds.{Replaced, Shown, Alike, Chain, ChainShown, ToldChain, AreToldBy, spans_in, seen};
+ghost use Rattle.span_handles.specs.Worlds.{Replaced, Shown, Alike, Chain, ChainShown, ToldChain, ChangesByCloses, spans_in, member_of};
 ghost use Rattle.span_handles.specs.Knowing.{KeepsHandles, KeepsOthers, GainsOne, LosesOne, IsNoClose};
 
 use trace_base::subscriber::Subscriber;
@@ -49,9 +49,9 @@ pub fn keeps<S: Subscriber>()
 
 /// What a close makes of something that the subscriber keeps, the chain makes of it for each span that closes, in order.
 pub fn told<S: Subscriber, A>()
-    ensures { (read : S → A) (none : A) (close : A → ℕ → A) → AreToldBy S.spans S.does read close
+    ensures { (read : S → A) (none : A) (close : A → ℕ → A) → ChangesByCloses S.spans S.does read close
         → (old new : Worlds S) (dispatch at id : ℕ)
         → Replaced (λ s t. Chain S.spans S.does at (Some id) s t) old new dispatch
         → ToldChain close (Some id) (spans_in S.spans old dispatch) (spans_in S.spans new dispatch)
-        (seen read none old dispatch) (seen read none new dispatch) }
+        (member_of read none old dispatch) (member_of read none new dispatch) }
 {}

@@ -20,7 +20,7 @@ directives_in setup h = (text_filter (in_force setup (tables setup h))).dynamics
 
 -- the hooks by which the filter in force heard what it heard
 abbrev pub hooks_in : Setup → History → List Hook
-hooks_in setup h = map hook_of (tables setup h).heard
+hooks_in setup h = map hook_of (tables setup h).hooks
 
 -- no other filter is put in force
 abbrev pub HasNoReload : History → Type 0

@@ -5,7 +5,7 @@ use Rattle.otel_base.specs.declared.context.Context.{Context}
 use Rattle.otel_base.specs.declared.record.Record.{Record}
 use Rattle.otel_base.specs.Stack.{empty_context}
 use Rattle.otel_layer.specs.Recording.{with_start}
-use Rattle.otel_layer.specs.Table.{own_or, told_at}
+use Rattle.otel_layer.specs.Table.{own_or, data_at}
 use Rattle.otel_state.specs.Content.{Making}
 use Rattle.otel_state.specs.fields.FirstAttributes.{first_attributes}
 use Rattle.otel_state.specs.fields.SpanFields.{span_update}
@@ -20,17 +20,17 @@ use Rattle.span_script.specs.declared.request.Request.{Request}
 use Rattle.span_script.specs.calls.Here.{here_at}
 use Rattle.span_script.specs.Effects.{effect_of}
 use Rattle.span_script.specs.calls.Contexts.{own_context}
-use Rattle.span_script.specs.calls.Filter.{admitted}
+use Rattle.span_script.specs.calls.Filter.{admits_at}
 use Rattle.span_script.specs.calls.Spans.{lane_in, last_attached, scope_at}
 use Rattle.span_script.specs.Fields.{Fields, all_values}
 use Rattle.span_script.specs.Setups.{Setup, span_site}
-use Rattle.span_script.specs.Tables.{Effect, History, Made, Scope, Tables, own, tables}
+use Rattle.span_script.specs.Tables.{Effect, History, MadeSpan, Scope, Tables, own_span, tables}
 use Rattle.span_laws.specs.Records.{Began, IsRecord, closed_at, ops_of}
-use Rattle.span_laws.specs.Starts.{place_in, started}
+use Rattle.span_laws.specs.Starts.{place_in, starting_order}
 
 -- a call asks for a span of a callsite that the directives in force admit, on the lane of an id
 abbrev pub asks_admitted : Setup → Tables → ℕ → Call → Bool
-asks_admitted setup t id (call.New site under fields) = option_map_or (admitted setup t id) (span_site setup.sites site) false
+asks_admitted setup t id (call.New site under fields) = option_map_or (admits_at setup t id) (span_site setup.sites site) false
 asks_admitted setup t id _ = false
 
 -- so does a request
@@ -40,7 +40,7 @@ is_making setup t request = asks_admitted setup t (here_at setup t request.at re
 -- the own context of a span, which has started by then, if one is named; else the one that was attached last to the lane of an id
 abbrev pub context_of_lane : Tables → ℕ → ℕ → Option ℕ → Context
 context_of_lane t at id None = last_attached empty_context (t.contexts id)
-context_of_lane t at id (Some s) = own_or (last_attached empty_context (t.contexts id)) (told_at s (with_start s at t.recording).spans)
+context_of_lane t at id (Some s) = own_or (last_attached empty_context (t.contexts id)) (data_at s (with_start s at t.recording).spans)
 
 -- The context that a new span is put under: none's for a root, the own one of an explicit parent, and for a contextual span that
 -- of the lane: with activation the one that was attached last, without it that of the current span.
@@ -50,7 +50,7 @@ parent_context setup t at id (place.Under handle) up = own_context t.recording a
 parent_context setup t at id place.Contextual up = context_of_lane t at id (if setup.layer.activation then None else current_of (t.entries id))
 
 -- A span was made as a request says: of its callsite, under its place, at its moment, with the values of its fields.
-pub record IsMadeBy (setup : Setup) (t : Tables) (at lane : ℕ) (what_for : Call) (m : Made) : Type 0 where
+pub record IsMadeBy (setup : Setup) (t : Tables) (at lane : ℕ) (what_for : Call) (m : MadeSpan) : Type 0 where
   pub under : Place
   pub fields : Fields
   pub up : Scope
@@ -60,23 +60,23 @@ pub record IsMadeBy (setup : Setup) (t : Tables) (at lane : ℕ) (what_for : Cal
   pub site : span_site setup.sites m.site ≡ Some callsite
   pub parent : scope_at t (here_at setup t at lane).lane under ≡ Some up
   pub given : all_values callsite fields ≡ Some values
-  pub scope : m.scope ≡ length t.made ∷ up
+  pub scope : m.scope ≡ length t.spans ∷ up
   pub making : Making
   pub name : making.name ≡ callsite.name
   pub context : making.parent ≡ parent_context setup t at (here_at setup t at lane).lane under up
   pub first : making.first ≡ first_attributes callsite (lane_in (here_at setup t at lane)) setup.layer
-  pub began : Began setup at m.told making
+  pub began : Began setup at m.made_with making
   pub written : began.update ≡ span_update callsite values setup.layer
 
 -- a request behind the front of a history made the span of a number, as it says
 pub record MakesSpan (setup : Setup) (h : History) (s : ℕ) (fore : History) (request : Request) : Type 0 where
   pub e : Effect
   pub rest : History
-  pub m : Made
+  pub m : MadeSpan
   pub is : h ≡ fore ++ e ∷ rest
   pub effect : effect_of setup (tables setup fore) request ≡ Ok e
-  pub made : e.made ≡ Some m
-  pub number : length (tables setup fore).made ≡ s
+  pub made : e.new_span ≡ Some m
+  pub number : length (tables setup fore).spans ≡ s
   pub by : IsMadeBy setup (tables setup fore) request.at request.lane request.call m
 
 -- The record of a span in a history: it is made with what the request says that made it, and has the span's ops in the history.
@@ -84,17 +84,17 @@ pub record IsRecordOf (setup : Setup) (h : History) (s : ℕ) (r : Record) : Typ
   pub fore : History
   pub request : Request
   pub made : MakesSpan setup h s fore request
-  pub told : IsRecord made.by.making made.by.began.update (λ own. ops_of own h s) (place_in (started h) s) (closed_at h s) r
+  pub told : IsRecord made.by.making made.by.began.update (λ own. ops_of own h s) (place_in (starting_order h) s) (closed_at h s) r
 
 -- the span whose own context a new span is put under: an explicit parent, or without activation the current span
 abbrev pub context_span : Bool → Place → Scope → Option ℕ → Option ℕ
 context_span activation place.Root up current = None
-context_span activation (place.Under handle) up current = own up
+context_span activation (place.Under handle) up current = own_span up
 context_span activation place.Contextual up current = if activation then None else current
 
 -- what is put under a span is put under the context of the span's record
-abbrev pub IsUnder : Setup → History → ℕ → Record → Type 0
-IsUnder setup h p r = (s : ℕ) (fore : History) (request : Request) (made : MakesSpan setup h s fore request)
+abbrev pub HasContextOf : Setup → History → ℕ → Record → Type 0
+HasContextOf setup h p r = (s : ℕ) (fore : History) (request : Request) (made : MakesSpan setup h s fore request)
     → context_span setup.layer.activation made.by.under made.by.up (current_of ((tables setup fore).entries (here_at setup (tables setup fore) request.at request.lane).lane)) ≡ Some p
     → made.by.making.parent ≡ record { span = Some r.context }
 

@@ -3,14 +3,14 @@ use Rattle.std.specs.Prelude.{ℕ, ◌+◌, ◌==◌, List, [], ◌∷◌, ◌++
 use Rattle.std.specs.Option.{option_to_list}
 use Rattle.trace_base.specs.Spans.{is_in}
 use Rattle.otel_layer.specs.Recording.{source_of}
-use Rattle.span_script.specs.Tables.{Made, Effect, History}
+use Rattle.span_script.specs.Tables.{MadeSpan, Effect, History}
 
 -- a span more that started, unless it had
 abbrev pub with_started : List ℕ → ℕ → List ℕ
 with_started order s = if is_in s order then order else order ++ s ∷ []
 
 -- the span that starts as it is made, by its number, where spans start early
-abbrev pub at_making : Bool → ℕ → Option Made → Option ℕ
+abbrev pub at_making : Bool → ℕ → Option MadeSpan → Option ℕ
 at_making eager n None = None
 at_making eager n (Some m) = source_of eager n
 
@@ -19,8 +19,8 @@ abbrev pub starts_of : Effect → List ℕ
 starts_of e = e.starts ++ option_to_list e.begins ++ e.closes
 
 -- the spans in the order in which they started
-abbrev pub started : History → List ℕ
-started h = fold with_started [] (flat_map starts_of h)
+abbrev pub starting_order : History → List ℕ
+starting_order h = fold with_started [] (flat_map starts_of h)
 
 -- the place of a span in an order, counted from a number on; 0 where it isn't there
 abbrev pub place_from : ℕ → List ℕ → ℕ → ℕ

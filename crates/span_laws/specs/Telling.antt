@@ -4,7 +4,7 @@ use Rattle.otel_base.specs.declared.record.Record.{Record}
 use Rattle.otel_base.specs.declared.value.KeyValue.{KeyValue}
 use Rattle.otel_base.specs.Ids.{ids_or_zeros}
 use Rattle.otel_state.specs.Content.{closing_count, closing_times}
-use Rattle.otel_state.specs.States.{Told}
+use Rattle.otel_state.specs.States.{SpanData}
 use Rattle.otel_state.specs.Times.{end_of}
 use Rattle.span_script.specs.Setups.{Setup}
 
@@ -12,9 +12,9 @@ use Rattle.span_script.specs.Setups.{Setup}
 abbrev pub id_of : Record → ℕ
 id_of r = r.context.span
 
-abbrev pub id_told : Option Told → ℕ
-id_told None = 0
-id_told (Some told) = (ids_or_zeros told.own).span
+abbrev pub id_in_data : Option SpanData → ℕ
+id_in_data None = 0
+id_in_data (Some told) = (ids_or_zeros told.own).span
 
 -- It starts with the making, and ends with the last exit, else with the close.
 pub record TellsSpan (made : ℕ) (left : Option ℕ) (closed : ℕ) (r : Record) : Type 0 where

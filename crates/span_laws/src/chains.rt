@@ -18,6 +18,6 @@ pub fn chains()
         → slot_at (tables setup h).handles handle ≡ Some scope → e.spent_handle ≡ Some handle
         → BeginsWith e.closes scope }
     ensures children_first { (setup : Setup) (h : History) (s p : ℕ) (up fore rest : List ℕ) → IsHistory setup h
-        → (made_of (tables setup h).made s).scope ≡ s ∷ p ∷ up
+        → (made_of (tables setup h).spans s).scope ≡ s ∷ p ∷ up
         → (tables setup h).closed ≡ fore ++ p ∷ rest → is_in s fore ≡ true }
 {}

@@ -6,7 +6,7 @@ ghost use Rattle.span_script.specs.Setups.{Setup};
 ghost use Rattle.span_script.specs.Tables.{Effect, History, records_of, tables};
 ghost use Rattle.span_laws.specs.Laws.{IsHistory};
 ghost use Rattle.span_laws.specs.Makings.{IsRecordOf};
-ghost use Rattle.span_laws.specs.Records.{Each, records};
+ghost use Rattle.span_laws.specs.Records.{EachRecord, records};
 
 /// The records of a history are as many as its closed spans, and in their order. Each is the content of what the request
 /// says that made its span and of the ops that requests did to it, with no entry open, at the moment of its close; the ids
@@ -18,5 +18,5 @@ pub fn contents()
         → effect_of setup (tables setup h) request ≡ Ok e
         → length (records_of (tables setup h) e) ≡ length e.closes }
     ensures contents { (setup : Setup) (h : History) → IsHistory setup h
-        → Each (IsRecordOf setup h) (tables setup h).closed (records setup h) }
+        → EachRecord (IsRecordOf setup h) (tables setup h).closed (records setup h) }
 {}

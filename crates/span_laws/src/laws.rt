@@ -11,11 +11,11 @@ pub fn records()
     ensures recorded_once { (setup : Setup) (h : History) (s : ℕ) → IsHistory setup h
         → occurrences s (tables setup h).closed ≤ 1 }
     ensures recorded_when_ended { (setup : Setup) (h : History) (s : ℕ) → IsHistory setup h
-        → s < length (tables setup h).made
+        → s < length (tables setup h).spans
         → is_in s (tables setup h).closed ≡ not (is_open (tables setup h).handles s) }
     ensures only_made_recorded { (setup : Setup) (h : History) (s : ℕ) → IsHistory setup h
-        → length (tables setup h).made ≤ s → is_in s (tables setup h).closed ≡ false }
+        → length (tables setup h).spans ≤ s → is_in s (tables setup h).closed ≡ false }
     ensures records_and_open { (setup : Setup) (h : History) → IsHistory setup h
         → length (tables setup h).closed + open_spans (tables setup h)
-        ≡ length (tables setup h).made }
+        ≡ length (tables setup h).spans }
 {}

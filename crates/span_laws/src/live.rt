@@ -9,7 +9,7 @@ ghost use Rattle.span_handles.specs.Worlds.{Replaced, spans_in, no_spans};
 ghost use Rattle.otel_state.specs.declared.settings.LayerSettings.{LayerSettings};
 ghost use Rattle.otel_layer.specs.Parts.{PartCall};
 ghost use Rattle.otel_layer.specs.Recording.{Recording, RecordsCall, RecordsChain, RecordsPart};
-ghost use Rattle.env_filter.specs.Filtering.{Filtered};
+ghost use Rattle.env_filter.specs.Filtering.{FilterState};
 ghost use Rattle.span_stack.specs.Counting.{RecordsCallBy};
 ghost use Rattle.span_stack.specs.Reading.{new_recording};
 ghost use Rattle.span_laws.specs.Live.{KeepsLive, IsAnsweredLive};
@@ -21,7 +21,7 @@ use trace_base::subscriber::Subscriber;
 /// are taken.
 pub fn keeps<S: Subscriber>()
     ensures begins { (settings : LayerSettings) (counting : Bool) → KeepsLive no_spans (new_recording settings counting) }
-    ensures call { (old new : Worlds S) (dispatch : ℕ) (call : SubscriberCall) (counter : Option Filtered)
+    ensures call { (old new : Worlds S) (dispatch : ℕ) (call : SubscriberCall) (counter : Option FilterState)
         (r t : Recording) → Replaced (λ s t. S.does s call t) old new dispatch
         → RecordsCallBy counter (spans_in S.spans old dispatch) r call t
         → KeepsLive (spans_in S.spans old dispatch) r → KeepsLive (spans_in S.spans new dispatch) t }

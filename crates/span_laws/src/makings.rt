@@ -3,19 +3,19 @@ ghost use Rattle.std.specs.Prelude.{◌≡◌, is_some, Ok, Some};
 ghost use Rattle.span_script.specs.declared.request.Request.{Request};
 ghost use Rattle.span_script.specs.Effects.{effect_of};
 ghost use Rattle.span_script.specs.Setups.{Setup};
-ghost use Rattle.span_script.specs.Tables.{Effect, History, Made, tables};
+ghost use Rattle.span_script.specs.Tables.{Effect, History, MadeSpan, tables};
 ghost use Rattle.span_laws.specs.Laws.{IsHistory};
-ghost use Rattle.span_laws.specs.Makings.{IsMadeBy, IsUnder, SeesOwn, is_making};
-ghost use Rattle.span_laws.specs.Records.{Each, records};
+ghost use Rattle.span_laws.specs.Makings.{IsMadeBy, HasContextOf, SeesOwn, is_making};
+ghost use Rattle.span_laws.specs.Records.{EachRecord, records};
 
 /// A request makes a span exactly where it asks for one of a callsite that the directives in force admit. What the span is
 /// made with is what the request says: the callsite's name and first attributes, the context of an explicit parent, of the
 /// lane or of its current span, the request's moment, and the values of the fields.
 pub fn makings()
     ensures admitted { (setup : Setup) (h : History) (request : Request) (e : Effect) → IsHistory setup h
-        → effect_of setup (tables setup h) request ≡ Ok e → is_some e.made ≡ is_making setup (tables setup h) request }
-    ensures told { (setup : Setup) (h : History) (request : Request) (e : Effect) (m : Made) → IsHistory setup h
-        → effect_of setup (tables setup h) request ≡ Ok e → e.made ≡ Some m
+        → effect_of setup (tables setup h) request ≡ Ok e → is_some e.new_span ≡ is_making setup (tables setup h) request }
+    ensures told { (setup : Setup) (h : History) (request : Request) (e : Effect) (m : MadeSpan) → IsHistory setup h
+        → effect_of setup (tables setup h) request ≡ Ok e → e.new_span ≡ Some m
         → IsMadeBy setup (tables setup h) request.at request.lane request.call m }
 {}
 
@@ -23,7 +23,7 @@ pub fn makings()
 /// of a span's own context that starts the span, or finds it started.
 pub fn contexts()
     ensures under { (setup : Setup) (h : History) → IsHistory setup h
-        → Each (IsUnder setup h) (tables setup h).closed (records setup h) }
+        → EachRecord (HasContextOf setup h) (tables setup h).closed (records setup h) }
     ensures seen { (setup : Setup) (h : History) → IsHistory setup h
-        → Each (SeesOwn setup h) (tables setup h).closed (records setup h) }
+        → EachRecord (SeesOwn setup h) (tables setup h).closed (records setup h) }
 {}

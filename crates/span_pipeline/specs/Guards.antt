@@ -4,12 +4,12 @@ use Rattle.span_script.specs.declared.slots.Guard.{Guard}
 use Rattle.span_script.specs.Slots.{names_handle}
 
 -- the guards by their numbers, for how many more numbers and guards there is room, and how many handles have a count
-pub record Guarding : Type 0 where
+pub record GuardsValue : Type 0 where
   pub items : List (Option Guard)
   pub room : ℕ
   pub space : ℕ
   pub counted : ℕ
 
 -- each handle's count is that of the guards that name it; past the end there are none
-abbrev pub AreCounted : List (Option Guard) → List ℕ → Type 0
-AreCounted guards counts = (handle : ℕ) → slice_index_or counts handle 0 ≡ count_by (names_handle handle) guards
+abbrev pub GuardsAreCounted : List (Option Guard) → List ℕ → Type 0
+GuardsAreCounted guards counts = (handle : ℕ) → slice_index_or counts handle 0 ≡ count_by (names_handle handle) guards

@@ -19,9 +19,9 @@ pub struct Guards {
 
 impl Model for Guards {
     ghost use Rattle.std.specs.Prelude.{length};
-    ghost use Rattle.span_pipeline.specs.Guards.{Guarding, AreCounted};
+    ghost use Rattle.span_pipeline.specs.Guards.{GuardsValue, GuardsAreCounted};
 
-    ghost Value = { Guarding };
+    ghost Value = { GuardsValue };
 
     ghost view = { λ g. record {
       items = g.slots.items;
@@ -30,7 +30,7 @@ impl Model for Guards {
       counted = length g.counts.items;
     } };
 
-    ghost invariant = { λ g. AreCounted g.slots.items g.counts.items };
+    ghost invariant = { λ g. GuardsAreCounted g.slots.items g.counts.items };
 }
 
 impl Guards {

@@ -1,7 +1,7 @@
 //! A pipeline runs the requests of a script over a stack of a registry, the OpenTelemetry layer, the layer of metrics and a
 //! filter.
 ghost use Rattle.std.specs.Prelude.{◌≡◌, ◌<◌, ℕ, [], true, map, option_map, length, IfOk, OnOk, IfErr, OnErr, Ok, Err};
-ghost use Rattle.env_filter.specs.Filtering.{plain, IsNew};
+ghost use Rattle.env_filter.specs.Filtering.{plain, IsNewFilter};
 ghost use Rattle.span_script.specs.Admission.{opening_read, IsUnread, IsTextFilter, IsCounter};
 ghost use Rattle.span_script.specs.Setups.{HasOwnIds, setup_by};
 ghost use Rattle.span_script.specs.Effects.{is_bad_moment};
@@ -75,7 +75,7 @@ impl Discard for Pipeline {
 }
 
 // So many handles and guards are never exceeded.
-pub(crate) const MOST: usize = 1_000_000_000_000;
+pub(crate) const MAX_NAMES: usize = 1_000_000_000_000;
 
 fn is_bad_moment(before: Moment, given: Moment) -> bool
     ensures { result ≡ is_bad_moment before given }
@@ -86,7 +86,7 @@ fn is_bad_moment(before: Moment, given: Moment) -> bool
 impl Pipeline {
     ghost use Rattle.span_script.specs.Tables.{History, tables};
     ghost use Rattle.span_script.specs.Effects.{effect_of};
-    ghost use Rattle.span_script.specs.Fits.{StandsFor, Serves, Recorded, IsRefusal};
+    ghost use Rattle.span_script.specs.Fits.{StandsFor, Serves, ServedByHistory, IsRefusal};
     ghost use Rattle.span_script.specs.calls.Refusals.{takes_no_memory};
     ghost use Rattle.span_script.specs.declared.reply.Refusal.TheVariants.{Memory as NoMemory};
 
@@ -121,7 +121,7 @@ impl Pipeline {
     ) -> Result<Pipeline, Memory>
         requires ids { HasOwnIds (map (λ l. l.0) settings.lanes) }
         requires gate { IsTextFilter settings.filter (plain gate) }
-        requires new { IsNew (plain gate) }
+        requires new { IsNewFilter (plain gate) }
         requires counter { IsCounter settings.counting (option_map plain counter) }
 
         ensures setup { IfOk result (λ pipeline. pipeline.setup ≡ setup_by settings) }
@@ -160,7 +160,7 @@ impl Pipeline {
     /// answer `Memory`, but not to a drop, an exit, a detach, a `has_field`, an `enabled`, a `set_parent` or a `set_status`.
     pub fn step(&mut self, request: Request) -> Result<Reply, Refusal>
         ensures ok { (h : History) → StandsFor self.old (tables self.old.setup h)
-            → IfOk result (Recorded (effect_of self.old.setup (tables self.old.setup h) request) h self.old self.new) }
+            → IfOk result (ServedByHistory (effect_of self.old.setup (tables self.old.setup h) request) h self.old self.new) }
         ensures refused { (h : History) → StandsFor self.old (tables self.old.setup h)
             → IfErr result (IsRefusal (effect_of self.old.setup (tables self.old.setup h) request)) }
 

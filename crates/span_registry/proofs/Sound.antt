@@ -2,15 +2,15 @@
 use Rattle.std.proofs.Common.{◌≡◌, ℕ, ◌+◌, List, length, None, Result, Ok, Err, refl, sym, ap, subst, ◌∙◌, arith}
 use Rattle.std.specs.Prelude.{OnOk, OnErr}
 use Rattle.std.proofs.lemmas.List.{length-set, length_push, get_or_past, get_or_push}
-use Rattle.trace_base.specs.Spans.{Span, Spans, no_span, is_open_child, released}
-use Rattle.trace_base.specs.Calls.{with_span}
+use Rattle.trace_base.specs.Spans.{Span, Spans, no_span, is_open_child, without_hold}
+use Rattle.trace_base.specs.Calls.{with_new_span}
 use Rattle.trace_base.specs.Conditions.{HasOwnHold}
 use Rattle.trace_base.specs.Sound.{IsSound}
 use Rattle.trace_base.proofs.Entering.{count_push, no_entries}
-use Rattle.trace_base.specs.layers.Hooks.{Seen}
+use Rattle.trace_base.specs.layers.Hooks.{KnownSpans}
 use Rattle.span_registry.specs.Both.{InStep, KnowsNone}
 use Rattle.span_registry.specs.Stepping.{in_step_start}
-use Rattle.span_registry.specs.Tabling.{Tabled}
+use Rattle.span_registry.specs.Tabling.{SlotTableValue}
 
 -- what holds after an Ok and after an Err
 pub either_way : {T E A : Type 0} (P : A → Type 0) (result : Result T E) (now x y : A) → OnOk result (now ≡ x) → OnErr result (now ≡ y) → P x → P y → P now
@@ -18,7 +18,7 @@ either_way P (Ok v) now x y ok err px py = subst P (sym ok) px
 either_way P (Err e) now x y ok err px py = subst P (sym err) py
 
 -- a layer that knows nothing is in step
-pub sound_in_step : (spans : Spans) (seen : Seen) → IsSound spans → KnowsNone seen → InStep spans seen
+pub sound_in_step : (spans : Spans) (seen : KnownSpans) → IsSound spans → KnowsNone seen → InStep spans seen
 sound_in_step spans seen sound fresh =
     in_step_start spans seen fresh
     (λ lane id past.
@@ -26,12 +26,12 @@ sound_in_step spans seen sound fresh =
     let bound = sound.bound id in
     no_entries spans.lanes id lane (omega (arith, none, bound)))
 
-pub err_made : {T E : Type 0} (result : Result T E) (now old : Tabled) → OnErr result (now ≡ old) → OnErr result (now.made ≡ old.made)
+pub err_made : {T E : Type 0} (result : Result T E) (now old : SlotTableValue) → OnErr result (now ≡ old) → OnErr result (now.made ≡ old.made)
 err_made (Ok v) now old e = tt
-err_made (Err v) now old e = ap (λ (t : Tabled). t.made) e
+err_made (Err v) now old e = ap (λ (t : SlotTableValue). t.made) e
 
 -- a root that is made has a hold of its own
-pub made_own : (x y : Spans) (site : ℕ) → IsSound x → y ≡ with_span x None site → HasOwnHold y (length x.made)
+pub made_own : (x y : Spans) (site : ℕ) → IsSound x → y ≡ with_new_span x None site → HasOwnHold y (length x.made)
 made_own x y site sound is =
     let new : Span = record { holds = 1; parent = None; site = site } in
     let n = length x.made in
@@ -41,7 +41,7 @@ made_own x y site sound is =
     let h = ap (λ (s : Span). s.holds) (get_or_push x.made new no_span n refl) in
     subst (λ (z : Spans). HasOwnHold z n) (sym is) (omega (arith, children, past, bound, h))
 
-pub made_count : (x y z : Spans) (site id : ℕ) → y ≡ with_span x None site → z.made ≡ released y.made id → length z.made ≡ length x.made + 1
+pub made_count : (x y z : Spans) (site id : ℕ) → y ≡ with_new_span x None site → z.made ≡ without_hold y.made id → length z.made ≡ length x.made + 1
 made_count x y z site id is closed =
     let new : Span = record { holds = 1; parent = None; site = site } in
     let longer = length_push x.made new in

@@ -7,7 +7,7 @@ use Rattle.trace_base.specs.declared.subscriber.Interest.TheVariants as interest
 use Rattle.trace_base.specs.declared.lane.Lane.{Lane}
 use Rattle.trace_base.specs.Spans.{Spans, span_at, entries_on, times_in, current_of, place_on}
 use Rattle.trace_base.specs.Calls.{SubscriberCall, NewSpan, Records, Follows, Event, Enter, Exit, CloneSpan, TryClose}
-use Rattle.trace_base.specs.layers.Hooks.{Hook, OnNewSpan, OnRecord, OnFollows, OnEvent, OnEnter, OnExit, OnClose, Seen}
+use Rattle.trace_base.specs.layers.Hooks.{Hook, OnNewSpan, OnRecord, OnFollows, OnEvent, OnEnter, OnExit, OnClose, KnownSpans}
 use Rattle.trace_base.specs.lanes.Contexts.{KeepsLive}
 use Rattle.trace_base.specs.words.Level.{greatest_verbosity}
 
@@ -44,26 +44,26 @@ DoesBoth spans inner outer same attaches s l (TryClose id at) t m = ClosesBoth i
 
 -- The layer is in step: it knows spans that were made, and has open of each that it knows the entries that the
 -- subscriber has. Only spans that were made have entries.
-pub record InStep (spans : Spans) (seen : Seen) : Type 0 where
+pub record InStep (spans : Spans) (seen : KnownSpans) : Type 0 where
   pub made : (id : ℕ) → seen.knows id ≡ true → id < length spans.made
   pub entries : (lane id : ℕ) → seen.entries lane id ≡ (if seen.knows id then times_in id (entries_on lane spans.lanes) else 0)
   pub below : (lane id : ℕ) → length spans.made ≤ id → times_in id (entries_on lane spans.lanes) ≡ 0
 
 -- what an exchange of a part can lose
-pub record IsWholeBoth (is_inner is_outer : Type 0) (spans : Spans) (seen : Seen) (inner_attaches attaches : Bool) : Type 0 where
+pub record IsWholeBoth (is_inner is_outer : Type 0) (spans : Spans) (seen : KnownSpans) (inner_attaches attaches : Bool) : Type 0 where
   pub inner : is_inner
   pub outer : is_outer
   pub in_step : InStep spans seen
   pub one_attaches : (attaches && inner_attaches) ≡ false
 
 -- the layer's interest, and the subscriber's where the layer always takes what the callsite makes
-abbrev pub picked : Interest → Interest → Interest
-picked interests.Never inner = interests.Never
-picked interests.Sometimes inner = interests.Sometimes
-picked interests.Always inner = inner
+abbrev pub joint_interest : Interest → Interest → Interest
+joint_interest interests.Never inner = interests.Never
+joint_interest interests.Sometimes inner = interests.Sometimes
+joint_interest interests.Always inner = inner
 
 abbrev pub picked_both : (Callsite → Interest) → (Callsite → Interest) → Callsite → Interest
-picked_both layer inner = λ c. picked (layer c) (inner c)
+picked_both layer inner = λ c. joint_interest (layer c) (inner c)
 
 -- the greater of both hints, and the one where the other part has none
 abbrev pub greater : LevelFilter → LevelFilter → LevelFilter
@@ -79,10 +79,10 @@ abbrev pub enables_both : (ℕ → Callsite → Bool) → (ℕ → Callsite → 
 enables_both layer inner = λ lane c. layer lane c && inner lane c
 
 -- an entry of a span attaches a context where that of one part does
-abbrev pub activates_both : Bool → Seen → (ℕ → Bool) → ℕ → Bool
+abbrev pub activates_both : Bool → KnownSpans → (ℕ → Bool) → ℕ → Bool
 activates_both attaches seen inner = λ id. (attaches && seen.knows id) || inner id
 
 -- a layer that knows no span yet
-pub record KnowsNone (seen : Seen) : Type 0 where
+pub record KnowsNone (seen : KnownSpans) : Type 0 where
   pub none : (id : ℕ) → seen.knows id ≡ false
   pub no_entries : (lane id : ℕ) → seen.entries lane id ≡ 0

@@ -21,38 +21,38 @@ entries_after lane ids (Event l at place site callsite values) = ids
 entries_after lane ids (CloneSpan id) = ids
 entries_after lane ids (TryClose id at) = ids
 
-abbrev pub entries_told : ℕ → List SubscriberCall → List ℕ
-entries_told lane calls = fold (entries_after lane) [] calls
+abbrev pub entries_by_calls : ℕ → List SubscriberCall → List ℕ
+entries_by_calls lane calls = fold (entries_after lane) [] calls
 
 -- what a span was made with
-pub record Making : Type 0 where
+pub record ParentAndSite : Type 0 where
   pub parent : Option ℕ
   pub site : ℕ
 
-abbrev pub no_making : Making
-no_making = record { parent = None; site = 0 }
+abbrev pub no_parent_and_site : ParentAndSite
+no_parent_and_site = record { parent = None; site = 0 }
 
 -- the span that a call makes after others, if it makes one: its place is that on the lane then
-abbrev pub made_by : List SubscriberCall → SubscriberCall → List Making
-made_by before (NewSpan lane at place site callsite values) = record { parent = place_on (entries_told lane.id before) place; site = site } ∷ []
-made_by before (Records id at callsite values) = []
-made_by before (Follows id from at) = []
-made_by before (Event lane at place site callsite values) = []
-made_by before (Enter id at pre later) = []
-made_by before (Exit id at pre later) = []
-made_by before (CloneSpan id) = []
-made_by before (TryClose id at) = []
+abbrev pub span_made_by : List SubscriberCall → SubscriberCall → List ParentAndSite
+span_made_by before (NewSpan lane at place site callsite values) = record { parent = place_on (entries_by_calls lane.id before) place; site = site } ∷ []
+span_made_by before (Records id at callsite values) = []
+span_made_by before (Follows id from at) = []
+span_made_by before (Event lane at place site callsite values) = []
+span_made_by before (Enter id at pre later) = []
+span_made_by before (Exit id at pre later) = []
+span_made_by before (CloneSpan id) = []
+span_made_by before (TryClose id at) = []
 
-abbrev pub made_from : List SubscriberCall → List SubscriberCall → List Making
+abbrev pub made_from : List SubscriberCall → List SubscriberCall → List ParentAndSite
 made_from before [] = []
-made_from before (call ∷ calls) = made_by before call ++ made_from (before ++ call ∷ []) calls
+made_from before (call ∷ calls) = span_made_by before call ++ made_from (before ++ call ∷ []) calls
 
 -- all spans that were made, in order, and the one of an id
-abbrev pub made_told : List SubscriberCall → List Making
-made_told calls = made_from [] calls
+abbrev pub spans_made_by_calls : List SubscriberCall → List ParentAndSite
+spans_made_by_calls calls = made_from [] calls
 
-abbrev pub making_of : ℕ → List SubscriberCall → Making
-making_of id calls = slice_index_or (made_told calls) id no_making
+abbrev pub parent_and_site_of : ℕ → List SubscriberCall → ParentAndSite
+parent_and_site_of id calls = slice_index_or (spans_made_by_calls calls) id no_parent_and_site
 
 abbrev pub is_clone : ℕ → SubscriberCall → Bool
 is_clone q (CloneSpan id) = id == q
@@ -76,25 +76,25 @@ is_release q (Exit id at before later) = false
 
 -- how many handles of a span were made: one with it, and one more at each clone
 abbrev pub handles_made : ℕ → List SubscriberCall → ℕ
-handles_made id calls = one_if (nat_lt id (length (made_told calls))) + count_by (is_clone id) calls
+handles_made id calls = one_if (nat_lt id (length (spans_made_by_calls calls))) + count_by (is_clone id) calls
 
 -- how many children of a span were made
 abbrev pub children_made : ℕ → List SubscriberCall → ℕ
-children_made id calls = count_by (λ m. is_child_of id m.parent) (made_told calls)
+children_made id calls = count_by (λ m. is_child_of id m.parent) (spans_made_by_calls calls)
 
 -- how often a hold of it was released: that of a handle which was spent, or that of a child which closed
-abbrev pub releases_told : ℕ → List SubscriberCall → ℕ
-releases_told id calls = count_by (is_release id) calls
+abbrev pub releases_by_calls : ℕ → List SubscriberCall → ℕ
+releases_by_calls id calls = count_by (is_release id) calls
 
 -- The spans are what the rules say of some calls: a span has the holds of its handles and of its children, without
 -- those that were released, and one for each lane that it is entered on. A lane that something was entered on has one
 -- row, with the entries that the calls tell.
-pub record IsTold (calls : List SubscriberCall) (spans : Spans) : Type 0 where
-  pub made : length spans.made ≡ length (made_told calls)
-  pub holds : (id : ℕ) → (span_at spans.made id).holds + releases_told id calls ≡ handles_made id calls + children_made id calls + first_entries spans.lanes id
-  pub live : (id : ℕ) → 0 < (span_at spans.made id).holds → span_at spans.made id ≡ record { holds = (span_at spans.made id).holds; parent = (making_of id calls).parent; site = (making_of id calls).site }
+pub record AreSpansOf (calls : List SubscriberCall) (spans : Spans) : Type 0 where
+  pub made : length spans.made ≡ length (spans_made_by_calls calls)
+  pub holds : (id : ℕ) → (span_at spans.made id).holds + releases_by_calls id calls ≡ handles_made id calls + children_made id calls + first_entries spans.lanes id
+  pub live : (id : ℕ) → 0 < (span_at spans.made id).holds → span_at spans.made id ≡ record { holds = (span_at spans.made id).holds; parent = (parent_and_site_of id calls).parent; site = (parent_and_site_of id calls).site }
   pub closed : (id : ℕ) → (span_at spans.made id).holds ≡ 0 → span_at spans.made id ≡ no_span
-  pub older : (id p : ℕ) → (making_of id calls).parent ≡ Some p → p < id
-  pub next : (id : ℕ) → (span_at spans.made id).holds ≡ 1 → next_of spans.made id ≡ (making_of id calls).parent
-  pub entries : (lane : ℕ) → entries_on lane spans.lanes ≡ entries_told lane calls
+  pub older : (id p : ℕ) → (parent_and_site_of id calls).parent ≡ Some p → p < id
+  pub next : (id : ℕ) → (span_at spans.made id).holds ≡ 1 → next_of spans.made id ≡ (parent_and_site_of id calls).parent
+  pub entries : (lane : ℕ) → entries_on lane spans.lanes ≡ entries_by_calls lane calls
   pub one_row : OneEach spans.lanes

@@ -7,10 +7,10 @@ use Rattle.trace_base.specs.declared.callsite.Callsite.{Callsite}
 use Rattle.trace_base.specs.declared.level.LevelFilter.{LevelFilter}
 use Rattle.trace_base.specs.declared.subscriber.Interest.{Interest}
 use Rattle.trace_base.specs.declared.lane.Lane.{Lane}
-use Rattle.trace_base.specs.Spans.{Spans, span_at, entries_on, place_on, current_of, released, held}
-use Rattle.trace_base.specs.Calls.{SubscriberCall, NewSpan, Records, Follows, Event, Enter, Exit, CloneSpan, TryClose, after, entered, exited}
+use Rattle.trace_base.specs.Spans.{Spans, span_at, entries_on, place_on, current_of, without_hold, with_hold}
+use Rattle.trace_base.specs.Calls.{SubscriberCall, NewSpan, Records, Follows, Event, Enter, Exit, CloneSpan, TryClose, spans_after_call, with_span_entry, with_span_exit}
 use Rattle.trace_base.specs.Conditions.{Allowed}
-use Rattle.trace_base.specs.layers.Hooks.{Hook, OnNewSpan, OnFollows, OnEvent, OnEnter, OnExit, Seen, Sees, HookLanes}
+use Rattle.trace_base.specs.layers.Hooks.{Hook, OnNewSpan, OnFollows, OnEvent, OnEnter, OnExit, KnownSpans, Sees, HookLanes}
 use Rattle.trace_base.specs.lanes.Contexts.{attached_as, attached_on, KeepsAttached, KeepsLane, KeepsLive, Lanes}
 use Rattle.std.proofs.lemmas.List.{length-set}
 use Rattle.span_registry.specs.Both.{DoesBoth, EntersBoth, InStep, IsWholeBoth, picked_both, hint_both, enables_both, activates_both}
@@ -58,13 +58,13 @@ both_allowed spans inner outer same attaches s t l m (CloneSpan id) si d = si _ 
 both_allowed spans inner outer same attaches s t l m (TryClose id at) si d = si _ d.first
 
 pub both_shows : {S L : Type 0} (spans : S → Spans) (inner : S → SubscriberCall → S → Type 0) (outer : L → Hook → L → Type 0) (same : L → L → Type 0) (attaches : L → Bool)
-    → (s t : S) (l m : L) (call : SubscriberCall) → ((c : SubscriberCall) → inner s c t → spans t ≡ after (spans s) c)
-    → DoesBoth spans inner outer same attaches s l call t m → spans t ≡ after (spans s) call
+    → (s t : S) (l m : L) (call : SubscriberCall) → ((c : SubscriberCall) → inner s c t → spans t ≡ spans_after_call (spans s) c)
+    → DoesBoth spans inner outer same attaches s l call t m → spans t ≡ spans_after_call (spans s) call
 both_shows spans inner outer same attaches s t l m (NewSpan lane at place site callsite values) si d = si _ d.0
 both_shows spans inner outer same attaches s t l m (Records id at callsite values) si d = si _ d.0
 both_shows spans inner outer same attaches s t l m (Follows id from at) si d = si _ d.0
 both_shows spans inner outer same attaches s t l m (Event lane at place site callsite values) si d = si _ d.0
-both_shows spans inner outer same attaches s t l m (Enter id at before later) si d = si _ d.first ∙ ap (λ (lane : ℕ). entered (spans s) id lane) d.room.keeps.id
+both_shows spans inner outer same attaches s t l m (Enter id at before later) si d = si _ d.first ∙ ap (λ (lane : ℕ). with_span_entry (spans s) id lane) d.room.keeps.id
 both_shows spans inner outer same attaches s t l m (Exit id at before later) si d = si _ d.first
 both_shows spans inner outer same attaches s t l m (CloneSpan id) si d = si _ d.0
 both_shows spans inner outer same attaches s t l m (TryClose id at) si d = si _ d.first
@@ -138,7 +138,7 @@ one_is_off false k off first second = first refl
 
 -- an entry that attaches nothing in either part leaves the contexts as they are
 pub both_passive : {S L : Type 0} (inner : S → SubscriberCall → S → Type 0) (outer : L → Hook → L → Type 0) (attaches : Bool)
-    → (s t : S) (l m : L) (id at : ℕ) (before later : Lane) (seen : Seen) (activates : ℕ → Bool)
+    → (s t : S) (l m : L) (id at : ℕ) (before later : Lane) (seen : KnownSpans) (activates : ℕ → Bool)
     → ((b c : Lane) → inner s (Enter id at b c) t → activates id ≡ false → c.contexts.live ≡ b.contexts.live)
     → ((b c : Lane) → outer l (OnEnter id at b c) m → attaches ≡ false → c ≡ b)
     → ((b c : Lane) → outer l (OnEnter id at b c) m → seen.knows id ≡ false → c.contexts.live ≡ b.contexts.live)
@@ -165,8 +165,8 @@ both_keep spans inner outer same attaches s t l m (TryClose id at) P Q si so ss 
 
 -- the layer stays in step
 pub both_in_step : {S L : Type 0} (spans : S → Spans) (inner : S → SubscriberCall → S → Type 0) (outer : L → Hook → L → Type 0) (same : L → L → Type 0) (attaches : L → Bool)
-    → (s t : S) (l m : L) (call : SubscriberCall) (seen now : Seen)
-    → ((c : SubscriberCall) → inner s c t → spans t ≡ after (spans s) c) → ((c : SubscriberCall) → inner s c t → Allowed (spans s) c)
+    → (s t : S) (l m : L) (call : SubscriberCall) (seen now : KnownSpans)
+    → ((c : SubscriberCall) → inner s c t → spans t ≡ spans_after_call (spans s) c) → ((c : SubscriberCall) → inner s c t → Allowed (spans s) c)
     → (a : Bool) (k n : ℕ → ℕ → ℕ) → ((c : SubscriberCall) → inner s c t → Lanes a k c n)
     → ((h : Hook) → outer l h m → Sees seen h now) → (same l m → now ≡ seen)
     → DoesBoth spans inner outer same attaches s l call t m → InStep (spans s) seen → InStep (spans t) now
@@ -180,31 +180,31 @@ both_in_step spans inner outer same attaches s t l m (Event lane at place site c
     subst (λ (x : Spans). InStep x now) (sym (si _ d.0)) (in_step _ _ _ seen now step (tracks_event (spans s) seen step _ lane at callsite values) (so _ d.1))
 both_in_step spans inner outer same attaches s t l m (Enter id at before later) seen now si sa a k n sl so ss d step =
     subst (λ (x : Spans). InStep x now) (sym (si _ d.first))
-    (in_step (spans s) (entered (spans s) id d.prepared.id) (OnEnter id at d.between later) seen now step
+    (in_step (spans s) (with_span_entry (spans s) id d.prepared.id) (OnEnter id at d.between later) seen now step
     (tracks_enter (spans s) seen step id at d.between later d.prepared.id (sl _ d.first).0.id (sa _ d.first)) (so _ d.second))
 both_in_step spans inner outer same attaches s t l m (Exit id at before later) seen now si sa a k n sl so ss d step =
     subst (λ (x : Spans). InStep x now) (sym (si _ d.first))
-    (in_step (spans s) (exited (spans s) id before.id) (OnExit id at d.between later) seen now step
+    (in_step (spans s) (with_span_exit (spans s) id before.id) (OnExit id at d.between later) seen now step
     (tracks_exit (spans s) seen step id at d.between later before.id (sl _ d.first).0.id (sa _ d.first)) (so _ d.second))
 both_in_step spans inner outer same attaches s t l m (CloneSpan id) seen now si sa a k n sl so ss d step =
-    subst (λ (x : Seen). InStep (spans t) x) (sym (ss d.1)) (subst (λ (x : Spans). InStep x seen) (sym (si _ d.0))
-    (in_step (spans s) (record (spans s) { made = held (spans s).made id }) (OnFollows 0 0 0) seen seen step
-    (tracks_quiet (spans s) (record (spans s) { made = held (spans s).made id }) seen step (length-set (spans s).made id _) refl) (sees_quiet seen)))
+    subst (λ (x : KnownSpans). InStep (spans t) x) (sym (ss d.1)) (subst (λ (x : Spans). InStep x seen) (sym (si _ d.0))
+    (in_step (spans s) (record (spans s) { made = with_hold (spans s).made id }) (OnFollows 0 0 0) seen seen step
+    (tracks_quiet (spans s) (record (spans s) { made = with_hold (spans s).made id }) seen step (length-set (spans s).made id _) refl) (sees_quiet seen)))
 both_in_step spans inner outer same attaches s t l m (TryClose id at) seen now si sa a k n sl so ss d step =
     elim (cases_eq (span_at (spans s).made id).holds 1) [
       | inl one ↦ subst (λ (x : Spans). InStep x now) (sym (si _ d.first)) (in_step _ _ _ seen now step (tracks_close (spans s) seen step id at (sa _ d.first) one) (so _ (d.closed one)))
-      | inr more ↦ subst (λ (x : Seen). InStep (spans t) x) (sym (ss (d.open_still more))) (subst (λ (x : Spans). InStep x seen) (sym (si _ d.first))
-          (in_step (spans s) (record (spans s) { made = released (spans s).made id }) (OnFollows 0 0 0) seen seen step
-          (tracks_quiet (spans s) (record (spans s) { made = released (spans s).made id }) seen step (length-set (spans s).made id _) refl) (sees_quiet seen)))
+      | inr more ↦ subst (λ (x : KnownSpans). InStep (spans t) x) (sym (ss (d.open_still more))) (subst (λ (x : Spans). InStep x seen) (sym (si _ d.first))
+          (in_step (spans s) (record (spans s) { made = without_hold (spans s).made id }) (OnFollows 0 0 0) seen seen step
+          (tracks_quiet (spans s) (record (spans s) { made = without_hold (spans s).made id }) seen step (length-set (spans s).made id _) refl) (sees_quiet seen)))
     ]
 
 pub or_same : (la la' sa sa' : Bool) → la' ≡ la → sa' ≡ sa → (la' || sa') ≡ (la || sa)
 or_same la la' sa sa' e f = ap (λ b. b || sa') e ∙ ap (λ b. la || b) f
 
-pub in_step_same : (x y : Spans) (a b : Seen) → y ≡ x → b ≡ a → InStep x a → InStep y b
-in_step_same x y a b e f step = subst (λ (z : Seen). InStep y z) (sym f) (subst (λ (z : Spans). InStep z a) (sym e) step)
+pub in_step_same : (x y : Spans) (a b : KnownSpans) → y ≡ x → b ≡ a → InStep x a → InStep y b
+in_step_same x y a b e f step = subst (λ (z : KnownSpans). InStep y z) (sym f) (subst (λ (z : Spans). InStep z a) (sym e) step)
 
-pub whole_both : (P P' Q Q' : Type 0) (x y : Spans) (a b : Seen) (sa sa' la la' : Bool) → (P → P') → (Q → Q') → (InStep x a → InStep y b) → sa' ≡ sa → la' ≡ la → IsWholeBoth P Q x a sa la → IsWholeBoth P' Q' y b sa' la'
+pub whole_both : (P P' Q Q' : Type 0) (x y : Spans) (a b : KnownSpans) (sa sa' la la' : Bool) → (P → P') → (Q → Q') → (InStep x a → InStep y b) → sa' ≡ sa → la' ≡ la → IsWholeBoth P Q x a sa la → IsWholeBoth P' Q' y b sa' la'
 whole_both P P' Q Q' x y a b sa sa' la la' p q step e f w = record {
   inner = p w.inner;
   outer = q w.outer;
@@ -221,5 +221,5 @@ gate_both li li' si si' lh lh' sh sh' s l = (
 pub enables_same : (le le' se se' : ℕ → Callsite → Bool) → le' ≡ le → se' ≡ se → enables_both le' se' ≡ enables_both le se
 enables_same le le' se se' e f = ap (λ (k : ℕ → Callsite → Bool). enables_both k se') e ∙ ap (λ (k : ℕ → Callsite → Bool). enables_both le k) f
 
-pub activates_same : (la la' : Bool) (x x' : Seen) (sa sa' : ℕ → Bool) → la' ≡ la → x' ≡ x → sa' ≡ sa → activates_both la' x' sa' ≡ activates_both la x sa
-activates_same la la' x x' sa sa' e f g = ap (λ b. activates_both b x' sa') e ∙ ap (λ (y : Seen). activates_both la y sa') f ∙ ap (λ (k : ℕ → Bool). activates_both la x k) g
+pub activates_same : (la la' : Bool) (x x' : KnownSpans) (sa sa' : ℕ → Bool) → la' ≡ la → x' ≡ x → sa' ≡ sa → activates_both la' x' sa' ≡ activates_both la x sa
+activates_same la la' x x' sa sa' e f g = ap (λ b. activates_both b x' sa') e ∙ ap (λ (y : KnownSpans). activates_both la y sa') f ∙ ap (λ (k : ℕ → Bool). activates_both la x k) g

@@ -7,10 +7,10 @@ use Rattle.trace_base.specs.declared.lane.Lane.{Lane}
 use Rattle.trace_base.specs.declared.span.Parent.{Parent}
 use Rattle.trace_base.specs.declared.callsite.Callsite.{Callsite}
 use Rattle.trace_base.specs.declared.field.ValueSet.{ValueSet}
-use Rattle.trace_base.specs.Spans.{Span, Entries, Spans, span_at, entries_on, is_in, times_in, without_last, held, less_held, released, held_by_child}
-use Rattle.trace_base.specs.Calls.{with_span, entered, exited}
+use Rattle.trace_base.specs.Spans.{Span, Entries, Spans, span_at, entries_on, is_in, times_in, without_last, with_hold, less_hold, without_hold, held_by_child}
+use Rattle.trace_base.specs.Calls.{with_new_span, with_span_entry, with_span_exit}
 use Rattle.trace_base.specs.Conditions.{IsLive, MayExit, HasOwnHold}
-use Rattle.trace_base.specs.layers.Hooks.{Hook, OnNewSpan, OnRecord, OnFollows, OnEvent, OnEnter, OnExit, OnClose, Seen, Sees, makes, closes, comes, goes, one_if}
+use Rattle.trace_base.specs.layers.Hooks.{Hook, OnNewSpan, OnRecord, OnFollows, OnEvent, OnEnter, OnExit, OnClose, KnownSpans, Sees, makes, closes, comes, goes, one_if}
 use Rattle.trace_base.proofs.Entering.{count_push, count_without_last, any_if_counted, with_same, with_other, made_if_held, length_held, no_entries}
 use Rattle.span_registry.specs.Both.{InStep, KnowsNone}
 
@@ -22,7 +22,7 @@ pub record Tracks (old : Spans) (hook : Hook) (new : Spans) : Type 0 where
   pub gone : (id : ℕ) → closes hook id ≡ true → (lane : ℕ) → times_in id (entries_on lane new.lanes) ≡ 0
   pub below : (lane id : ℕ) → length new.made ≤ id → times_in id (entries_on lane new.lanes) ≡ 0
 
-in_step_entries : (old new : Spans) (hook : Hook) (seen now : Seen) → InStep old seen → Tracks old hook new → Sees seen hook now → (lane id : ℕ) → now.entries lane id ≡ (if now.knows id then times_in id (entries_on lane new.lanes) else 0)
+in_step_entries : (old new : Spans) (hook : Hook) (seen now : KnownSpans) → InStep old seen → Tracks old hook new → Sees seen hook now → (lane id : ℕ) → now.entries lane id ≡ (if now.knows id then times_in id (entries_on lane new.lanes) else 0)
 in_step_entries old new hook seen now step tracks sees lane id =
     let before = step.entries lane id in
     let t = times_in id (entries_on lane old.lanes) in
@@ -51,7 +51,7 @@ in_step_entries old new hook seen now step tracks sees lane id =
       ]
     ]
 
-pub in_step : (old new : Spans) (hook : Hook) (seen now : Seen) → InStep old seen → Tracks old hook new → Sees seen hook now → InStep new now
+pub in_step : (old new : Spans) (hook : Hook) (seen now : KnownSpans) → InStep old seen → Tracks old hook new → Sees seen hook now → InStep new now
 in_step old new hook seen now step tracks sees = record {
   made = λ id knows. elim (cases_Bool (seen.knows id)) [
     | inl knew ↦ (let h = step.made id knew in omega (arith, h, tracks.longer))
@@ -62,11 +62,11 @@ in_step old new hook seen now step tracks sees = record {
 }
 
 -- a hook that neither makes, closes, enters nor exits
-pub quiet : Hook
-quiet = OnFollows 0 0 0
+pub quiet_hook : Hook
+quiet_hook = OnFollows 0 0 0
 
 -- nothing of the entries changes
-pub tracks_quiet : (old new : Spans) (seen : Seen) → InStep old seen → length new.made ≡ length old.made → new.lanes ≡ old.lanes → Tracks old (OnFollows 0 0 0) new
+pub tracks_quiet : (old new : Spans) (seen : KnownSpans) → InStep old seen → length new.made ≡ length old.made → new.lanes ≡ old.lanes → Tracks old (OnFollows 0 0 0) new
 tracks_quiet old new seen step as_many same = record {
   longer = omega (arith, as_many);
   times = λ lane id. ap (λ (es : List Entries). times_in id (entries_on lane es) + 0) same;
@@ -75,7 +75,7 @@ tracks_quiet old new seen step as_many same = record {
   below = λ lane id past. ap (λ (es : List Entries). times_in id (entries_on lane es)) same ∙ step.below lane id (omega (arith, past, as_many));
 }
 
-pub sees_quiet : (seen : Seen) → Sees seen (OnFollows 0 0 0) seen
+pub sees_quiet : (seen : KnownSpans) → Sees seen (OnFollows 0 0 0) seen
 sees_quiet seen = record {
   gains = λ id knows not. absurd (true≢false (sym knows ∙ not));
   loses = λ id knew not. absurd (true≢false (sym knew ∙ not));
@@ -84,7 +84,7 @@ sees_quiet seen = record {
 }
 
 -- the same for the other quiet hooks
-pub tracks_record : (old : Spans) (seen : Seen) → InStep old seen → (id at : ℕ) (callsite : Callsite) (values : ValueSet) → Tracks old (OnRecord id at callsite values) old
+pub tracks_record : (old : Spans) (seen : KnownSpans) → InStep old seen → (id at : ℕ) (callsite : Callsite) (values : ValueSet) → Tracks old (OnRecord id at callsite values) old
 tracks_record old seen step id at callsite values = record {
   longer = omega arith;
   times = λ lane other. refl;
@@ -93,7 +93,7 @@ tracks_record old seen step id at callsite values = record {
   below = step.below;
 }
 
-pub tracks_follows : (old : Spans) (seen : Seen) → InStep old seen → (id from at : ℕ) → Tracks old (OnFollows id from at) old
+pub tracks_follows : (old : Spans) (seen : KnownSpans) → InStep old seen → (id from at : ℕ) → Tracks old (OnFollows id from at) old
 tracks_follows old seen step id from at = record {
   longer = omega arith;
   times = λ lane other. refl;
@@ -102,7 +102,7 @@ tracks_follows old seen step id from at = record {
   below = step.below;
 }
 
-pub tracks_event : (old : Spans) (seen : Seen) → InStep old seen → (reached : Option ℕ) (l : Lane) (at : ℕ) (callsite : Callsite) (values : ValueSet) → Tracks old (OnEvent reached l at callsite values) old
+pub tracks_event : (old : Spans) (seen : KnownSpans) → InStep old seen → (reached : Option ℕ) (l : Lane) (at : ℕ) (callsite : Callsite) (values : ValueSet) → Tracks old (OnEvent reached l at callsite values) old
 tracks_event old seen step reached l at callsite values = record {
   longer = omega arith;
   times = λ lane other. refl;
@@ -111,8 +111,8 @@ tracks_event old seen step reached l at callsite values = record {
   below = step.below;
 }
 
-pub tracks_new : (old : Spans) (seen : Seen) → InStep old seen → (l : Lane) (at : ℕ) (parent : Parent) (current : Option ℕ) (callsite : Callsite) (values : ValueSet) (above : Option ℕ) (site : ℕ)
-    → Tracks old (OnNewSpan (length old.made) l at parent current callsite values) (with_span old above site)
+pub tracks_new : (old : Spans) (seen : KnownSpans) → InStep old seen → (l : Lane) (at : ℕ) (parent : Parent) (current : Option ℕ) (callsite : Callsite) (values : ValueSet) (above : Option ℕ) (site : ℕ)
+    → Tracks old (OnNewSpan (length old.made) l at parent current callsite values) (with_new_span old above site)
 tracks_new old seen step l at parent current callsite values above site =
     let held_length = length_held old.made above in
     let count = length_push (held_by_child old.made above) (record { holds = 1; parent = above; site = site }) in
@@ -126,18 +126,18 @@ tracks_new old seen step l at parent current callsite values above site =
       below = λ lane id past. step.below lane id (omega (arith, past, held_length, count));
     }
 
-pub tracks_enter : (old : Spans) (seen : Seen) → InStep old seen → (id at : ℕ) (before later : Lane) (lane : ℕ) → before.id ≡ lane → IsLive old.made id → Tracks old (OnEnter id at before later) (entered old id lane)
+pub tracks_enter : (old : Spans) (seen : KnownSpans) → InStep old seen → (id at : ℕ) (before later : Lane) (lane : ℕ) → before.id ≡ lane → IsLive old.made id → Tracks old (OnEnter id at before later) (with_span_entry old id lane)
 tracks_enter old seen step id at before later lane here live =
     let made_there = made_if_held old.made id live in
     let es = entries_on lane old.lanes in
-    let as_many : length (entered old id lane).made ≡ length old.made = elim (cases_Bool (is_in id es)) [
-      | inl again ↦ ap (λ (xs : List Span). length xs) (cond-true {A = List Span} (is_in id es) old.made (held old.made id) again)
-      | inr first ↦ ap (λ (xs : List Span). length xs) (cond-false {A = List Span} (is_in id es) old.made (held old.made id) first) ∙ length-set old.made id _
+    let as_many : length (with_span_entry old id lane).made ≡ length old.made = elim (cases_Bool (is_in id es)) [
+      | inl again ↦ ap (λ (xs : List Span). length xs) (cond-true {A = List Span} (is_in id es) old.made (with_hold old.made id) again)
+      | inr first ↦ ap (λ (xs : List Span). length xs) (cond-false {A = List Span} (is_in id es) old.made (with_hold old.made id) first) ∙ length-set old.made id _
     ] in
-    let counts : (l other : ℕ) → times_in other (entries_on l (entered old id lane).lanes) ≡ times_in other (entries_on l old.lanes) + one_if (before.id == l && id == other) = λ l other.
+    let counts : (l other : ℕ) → times_in other (entries_on l (with_span_entry old id lane).lanes) ≡ times_in other (entries_on l old.lanes) + one_if (before.id == l && id == other) = λ l other.
     elim (cases_eq lane l) [
       | inl on ↦ (
-          let at_l = ap (λ (m : ℕ). times_in other (entries_on m (entered old id lane).lanes)) (sym on) in
+          let at_l = ap (λ (m : ℕ). times_in other (entries_on m (with_span_entry old id lane).lanes)) (sym on) in
           let there = ap (times_in other) (with_same lane (es ++ id ∷ []) old.lanes) in
           let push = count_push (λ x. x == other) es id in
           let old_l = ap (λ (m : ℕ). times_in other (entries_on m old.lanes)) on in
@@ -169,18 +169,18 @@ tracks_enter old seen step id at before later lane here live =
           omega (arith, c, none, b));
     }
 
-pub tracks_exit : (old : Spans) (seen : Seen) → InStep old seen → (id at : ℕ) (before later : Lane) (lane : ℕ) → before.id ≡ lane → MayExit old id lane → Tracks old (OnExit id at before later) (exited old id lane)
+pub tracks_exit : (old : Spans) (seen : KnownSpans) → InStep old seen → (id at : ℕ) (before later : Lane) (lane : ℕ) → before.id ≡ lane → MayExit old id lane → Tracks old (OnExit id at before later) (with_span_exit old id lane)
 tracks_exit old seen step id at before later lane here may =
     let es = entries_on lane old.lanes in
     let last = times_in id es == 1 in
-    let as_many : length (exited old id lane).made ≡ length old.made = elim (cases_Bool last) [
-      | inl goes_too ↦ ap (λ (xs : List Span). length xs) (cond-true {A = List Span} last (released old.made id) old.made goes_too) ∙ length-set old.made id _
-      | inr stays ↦ ap (λ (xs : List Span). length xs) (cond-false {A = List Span} last (released old.made id) old.made stays)
+    let as_many : length (with_span_exit old id lane).made ≡ length old.made = elim (cases_Bool last) [
+      | inl goes_too ↦ ap (λ (xs : List Span). length xs) (cond-true {A = List Span} last (without_hold old.made id) old.made goes_too) ∙ length-set old.made id _
+      | inr stays ↦ ap (λ (xs : List Span). length xs) (cond-false {A = List Span} last (without_hold old.made id) old.made stays)
     ] in
-    let counts : (l other : ℕ) → times_in other (entries_on l (exited old id lane).lanes) + one_if (before.id == l && id == other) ≡ times_in other (entries_on l old.lanes) = λ l other.
+    let counts : (l other : ℕ) → times_in other (entries_on l (with_span_exit old id lane).lanes) + one_if (before.id == l && id == other) ≡ times_in other (entries_on l old.lanes) = λ l other.
     elim (cases_eq lane l) [
       | inl on ↦ (
-          let at_l = ap (λ (m : ℕ). times_in other (entries_on m (exited old id lane).lanes)) (sym on) in
+          let at_l = ap (λ (m : ℕ). times_in other (entries_on m (with_span_exit old id lane).lanes)) (sym on) in
           let there = ap (times_in other) (with_same lane (without_last (λ x. x == id) es) old.lanes) in
           let less = count_without_last (λ x. x == id) (λ x. x == other) (id == other) es (λ x is. ap (λ (y : ℕ). y == other) (eqb-true x id is)) (any_if_counted (λ x. x == id) es may.0) in
           let old_l = ap (λ (m : ℕ). times_in other (entries_on m old.lanes)) on in
@@ -215,9 +215,9 @@ tracks_exit old seen step id at before later lane here may =
 pub closes_without_entries : (old : Spans) (id lane : ℕ) → HasOwnHold old id → (span_at old.made id).holds ≡ 1 → times_in id (entries_on lane old.lanes) ≡ 0
 closes_without_entries old id lane own one = no_entries old.lanes id lane (omega (arith, own, one))
 
-pub tracks_close : (old : Spans) (seen : Seen) → InStep old seen → (id at : ℕ) → HasOwnHold old id → (span_at old.made id).holds ≡ 1 → Tracks old (OnClose id at) (record old { made = released old.made id })
+pub tracks_close : (old : Spans) (seen : KnownSpans) → InStep old seen → (id at : ℕ) → HasOwnHold old id → (span_at old.made id).holds ≡ 1 → Tracks old (OnClose id at) (record old { made = without_hold old.made id })
 tracks_close old seen step id at own one =
-    let as_many = length-set old.made id (less_held (span_at old.made id)) in
+    let as_many = length-set old.made id (less_hold (span_at old.made id)) in
     record {
       longer = omega (arith, as_many);
       times = λ lane other. refl;
@@ -227,7 +227,7 @@ tracks_close old seen step id at own one =
     }
 
 -- at a close the layer has no entry of the span
-pub left_at_close : (spans : Spans) (seen : Seen) → InStep spans seen → (id : ℕ) → HasOwnHold spans id → (span_at spans.made id).holds ≡ 1 → (lane : ℕ) → seen.entries lane id ≡ 0
+pub left_at_close : (spans : Spans) (seen : KnownSpans) → InStep spans seen → (id : ℕ) → HasOwnHold spans id → (span_at spans.made id).holds ≡ 1 → (lane : ℕ) → seen.entries lane id ≡ 0
 left_at_close spans seen step id own one lane =
     let none = closes_without_entries spans id lane own one in
     let t = times_in id (entries_on lane spans.lanes) in
@@ -237,7 +237,7 @@ left_at_close spans seen step id own one lane =
     ]
 
 -- a layer that knows nothing is in step with a subscriber that has entries of spans that were made alone
-pub in_step_start : (spans : Spans) (seen : Seen) → KnowsNone seen → ((lane id : ℕ) → length spans.made ≤ id → times_in id (entries_on lane spans.lanes) ≡ 0) → InStep spans seen
+pub in_step_start : (spans : Spans) (seen : KnownSpans) → KnowsNone seen → ((lane id : ℕ) → length spans.made ≤ id → times_in id (entries_on lane spans.lanes) ≡ 0) → InStep spans seen
 in_step_start spans seen fresh below = record {
   made = λ id knows. absurd (true≢false (sym knows ∙ fresh.none id));
   entries = λ lane id. fresh.no_entries lane id ∙ sym (cond-false {A = ℕ} (seen.knows id) (times_in id (entries_on lane spans.lanes)) 0 (fresh.none id));

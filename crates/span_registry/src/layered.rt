@@ -2,7 +2,7 @@
 ghost use Rattle.std.specs.Prelude.{◌≡◌, ℕ, ◌+◌, ◌||◌, ◌&&◌, true, false, if◌then◌else◌};
 ghost use Rattle.trace_base.specs.Spans.{entries_on, place_on};
 ghost use Rattle.trace_base.specs.Sound.{IsSound};
-ghost use Rattle.span_registry.specs.Both.{DoesBoth, InStep, IsWholeBoth, KnowsNone, picked, picked_both, hint_both, enables_both, activates_both};
+ghost use Rattle.span_registry.specs.Both.{DoesBoth, InStep, IsWholeBoth, KnowsNone, joint_interest, picked_both, hint_both, enables_both, activates_both};
 ghost use Rattle.span_registry.specs.Layering.{kept_same, or_same, whole_both, in_step_same, both_same, both_allowed, both_shows, both_lanes, both_keep, both_in_step, gate_both, enables_same, activates_same, both_passive};
 ghost use Rattle.trace_base.specs.layers.Hooks.{OnEnter};
 ghost use Rattle.std.specs.Borrow.{sem};
@@ -283,7 +283,7 @@ impl<L: Discard, S: Discard> Discard for Layered<L, S> {
 
 // The layer's interest, and the subscriber's where the layer always takes what the callsite makes.
 fn pick(layer: Interest, inner: Interest) -> Interest
-    ensures { result ≡ picked layer inner }
+    ensures { result ≡ joint_interest layer inner }
 {
     match layer {
         Interest::Never => Interest::Never,

@@ -3,11 +3,11 @@ ghost use Rattle.std.specs.Prelude.{◌≡◌, ℕ, ◌<◌, ◌==◌, [], true,
 ghost use Rattle.std.proofs.Common.{refl, ◌∙◌, ap};
 ghost use Rattle.trace_base.specs.declared.lane.Lane.{Lane};
 ghost use Rattle.trace_base.specs.declared.subscriber.Interest.TheVariants as interests;
-ghost use Rattle.trace_base.specs.Spans.{Spans, span_at, entries_on, place_on, held, released, next_of};
+ghost use Rattle.trace_base.specs.Spans.{Spans, span_at, entries_on, place_on, with_hold, without_hold, next_of};
 ghost use Rattle.trace_base.specs.Calls.{TryClose};
 ghost use Rattle.trace_base.specs.Conditions.{HasOwnHold, IsLive, HasFewHolds};
 ghost use Rattle.trace_base.specs.Sound.{IsSound};
-ghost use Rattle.span_registry.specs.Registering.{Registered, DoesRegistry, no_spans, registry_same, registry_lanes};
+ghost use Rattle.span_registry.specs.Registering.{RegistryValue, DoesRegistry, no_spans, registry_same, registry_lanes};
 
 use crate::entries::{add_entry, current, entries, remove_entry};
 use crate::lane_entries::LaneEntries;
@@ -35,9 +35,9 @@ pub struct Registry {
 
 impl Model for Registry {
     ghost use Rattle.trace_base.specs.Sound.{IsSound};
-    ghost use Rattle.span_registry.specs.Registering.{Registered};
+    ghost use Rattle.span_registry.specs.Registering.{RegistryValue};
 
-    ghost Value = { Registered };
+    ghost Value = { RegistryValue };
 
     ghost view = { λ r. record { spans = record { made = r.table.made; lanes = r.lanes.items }; slots = r.table.slots } };
 
@@ -96,7 +96,7 @@ impl Registry {
     pub fn next_closed(&mut self, id: Id) -> Option<Id>
         requires { HasOwnHold self.old.spans id }
         ensures value { result ≡ next_of self.old.spans.made id }
-        ensures spans { self.new.spans ≡ record self.old.spans { made = released self.old.spans.made id } }
+        ensures spans { self.new.spans ≡ record self.old.spans { made = without_hold self.old.spans.made id } }
         ensures slots { self.new.slots ≡ self.old.slots }
         ensures next_held { IfSome result (λ p. (p < id) × HasOwnHold self.new.spans p) }
         ensures did { (at : ℕ) → DoesRegistry self.old (TryClose id at) self.new }
@@ -130,7 +130,7 @@ impl Subscriber for Registry {
 
     ghost same_trans = { λ s t u h k. k ∙ h };
 
-    ghost same_spans = { λ s t h. ap (λ (r : Registered). r.spans) h };
+    ghost same_spans = { λ s t h. ap (λ (r : RegistryValue). r.spans) h };
 
     ghost same_kept = { λ s t h. refl };
 
@@ -260,7 +260,7 @@ fn place(lanes: &[LaneEntries], lane: u64, parent: Parent) -> Option<Id>
 fn hold_unless(again: bool, table: &mut Table, id: Id)
     requires live { IsLive table.old.made id }
     requires few { HasFewHolds table.old.made id }
-    ensures made { table.new.made ≡ (if again then table.old.made else held table.old.made id) }
+    ensures made { table.new.made ≡ (if again then table.old.made else with_hold table.old.made id) }
     ensures slots { table.new.slots ≡ table.old.slots }
 {
     if !again {
@@ -271,7 +271,7 @@ fn hold_unless(again: bool, table: &mut Table, id: Id)
 // One hold less, with the last entry.
 fn release_if(last: bool, table: &mut Table, id: Id)
     requires { IsLive table.old.made id }
-    ensures made { table.new.made ≡ (if last then released table.old.made id else table.old.made) }
+    ensures made { table.new.made ≡ (if last then without_hold table.old.made id else table.old.made) }
     ensures slots { table.new.slots ≡ table.old.slots }
 {
     if last {

@@ -1,8 +1,8 @@
 //! The spans that are live, each in a slot that is used again after its span closed.
 ghost use Rattle.std.specs.Prelude.{◌≡◌, ◌==◌, ◌+◌, ◌-◌, ◌<◌, ◌≤◌, ◌^◌, ◌∷◌, [], ◌++◌, ℕ, length, take, max, slice_index_or, slice_set, vec_len, vec_capacity, Some, None, OnOk, OnErr, IfSome, IfOk, if◌then◌else◌};
-ghost use Rattle.trace_base.specs.Spans.{Span, no_span, span_at, held, held_by_child, released, next_of};
+ghost use Rattle.trace_base.specs.Spans.{Span, no_span, span_at, with_hold, held_by_child, without_hold, next_of};
 ghost use Rattle.trace_base.specs.Conditions.{IsLive, HasFewHolds};
-ghost use Rattle.span_registry.specs.Tabling.{Slotted, IsPlace, place_in, slot_at, live_spans};
+ghost use Rattle.span_registry.specs.Tabling.{SlotValue, IsPlace, place_in, slot_value_at, live_spans};
 
 use otel_base::memory::Memory;
 use std::alloc::Global;
@@ -23,9 +23,9 @@ struct Slot {
 }
 
 impl Model for Slot {
-    ghost use Rattle.span_registry.specs.Tabling.{Slotted};
+    ghost use Rattle.span_registry.specs.Tabling.{SlotValue};
 
-    ghost Value = { Slotted };
+    ghost Value = { SlotValue };
 
     ghost view = { λ s. record { id = s.id; span = record { holds = s.holds; parent = s.parent; site = s.site } } };
 }
@@ -44,11 +44,11 @@ pub(crate) struct Table {
 
 impl Model for Table {
     ghost use Rattle.std.specs.Prelude.{vec_capacity};
-    ghost use Rattle.span_registry.specs.Tabling.{Tabled, tabled, place_in, IsTabled};
+    ghost use Rattle.span_registry.specs.Tabling.{SlotTableValue, slot_table_value, place_in, IsTabled};
 
-    ghost Value = { Tabled };
+    ghost Value = { SlotTableValue };
 
-    ghost view = { λ t. tabled t.count (place_in t.places.items) t.slots.items };
+    ghost view = { λ t. slot_table_value t.count (place_in t.places.items) t.slots.items };
 
     ghost invariant = { λ t. IsTabled t.count (place_in t.places.items) t.slots.items t.free.items (vec_capacity t.free) };
 }
@@ -171,7 +171,7 @@ impl Table {
     pub(crate) fn hold(&mut self, id: Id)
         requires live { IsLive self.old.made id }
         requires few { HasFewHolds self.old.made id }
-        ensures { self.new ≡ record self.old { made = held self.old.made id } }
+        ensures { self.new ≡ record self.old { made = with_hold self.old.made id } }
     {
         let Some(place) = find(&self.places, id) else {
             unreachable!()
@@ -183,7 +183,7 @@ impl Table {
     // One hold less; with the last one the span closes, and its slot is free.
     pub(crate) fn release(&mut self, id: Id) -> Closing
         requires { IsLive self.old.made id }
-        ensures made { self.new ≡ record self.old { made = released self.old.made id } }
+        ensures made { self.new ≡ record self.old { made = without_hold self.old.made id } }
         ensures closed { result.closed ≡ ((span_at self.old.made id).holds == 1) }
         ensures next { result.next ≡ next_of self.old.made id }
     {

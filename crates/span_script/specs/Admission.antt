@@ -6,7 +6,7 @@ use Rattle.env_directives.specs.reading.Separators.{comma_pieces}
 use Rattle.env_directives.specs.orders.Table.{empty_table}
 use Rattle.env_directives.specs.declared.env.directive.Directive.{Directive}
 use Rattle.env_directives.specs.declared.directive.ParseError.{ParseError}
-use Rattle.env_filter.specs.Filtering.{Filtered, IsNew}
+use Rattle.env_filter.specs.Filtering.{FilterState, IsNewFilter}
 use Rattle.env_filter.specs.texts.Pieces.{is_memory}
 use Rattle.span_script.specs.declared.open_error.OpenError.{OpenError}
 use Rattle.span_script.specs.declared.open_error.OpenError.TheVariants as errors
@@ -17,15 +17,15 @@ abbrev pub TextRead : Type 0
 TextRead = Result (List Directive) ℕ
 
 -- what a piece of a number is read as, before what those behind it are
-abbrev pub with_read : ℕ → Read → TextRead → TextRead
-with_read number (Err fault) behind = Err number
-with_read number (Ok d) (Err later) = Err later
-with_read number (Ok d) (Ok ds) = Ok (d ∷ ds)
+abbrev pub with_piece_read : ℕ → Read → TextRead → TextRead
+with_piece_read number (Err fault) behind = Err number
+with_piece_read number (Ok d) (Err later) = Err later
+with_piece_read number (Ok d) (Ok ds) = Ok (d ∷ ds)
 
 -- an empty one is no directive, and no fault; values of texts are taken as they stand
 abbrev pub with_piece : ℕ → List ℕ → TextRead → TextRead
 with_piece number [] behind = behind
-with_piece number (b ∷ bs) behind = with_read number (reading false (trim (b ∷ bs))) behind
+with_piece number (b ∷ bs) behind = with_piece_read number (reading false (trim (b ∷ bs))) behind
 
 -- pieces, which are numbered on from a number
 abbrev pub pieces_read : ℕ → List (List ℕ) → TextRead
@@ -37,15 +37,15 @@ abbrev pub text_read : List ℕ → TextRead
 text_read text = pieces_read 1 (comma_pieces text)
 
 -- a filter of some directives, with no span and no level
-abbrev pub filter_of : List Directive → Filtered
-filter_of ds = with_tables false (statics_of ds) (dynamics_of ds)
+abbrev pub new_filter_of : List Directive → FilterState
+new_filter_of ds = with_tables false (statics_of ds) (dynamics_of ds)
 
 -- the filter of a text, none but where all its pieces are directives
-abbrev pub filter_if : TextRead → Filtered
-filter_if (Ok ds) = filter_of ds
+abbrev pub filter_if : TextRead → FilterState
+filter_if (Ok ds) = new_filter_of ds
 filter_if (Err number) = with_tables false empty_table empty_table
 
-abbrev pub text_filter : List ℕ → Filtered
+abbrev pub text_filter : List ℕ → FilterState
 text_filter text = filter_if (text_read text)
 
 -- nothing where the pieces of an opening's texts are directives, else whether it is the text for counting that has a piece
@@ -53,14 +53,14 @@ text_filter text = filter_if (text_read text)
 abbrev pub OpeningRead : Type 0
 OpeningRead = Result (Unit {0}) (Bool × ℕ)
 
-abbrev pub judged : Bool → TextRead → OpeningRead
-judged counting (Ok ds) = Ok tt
-judged counting (Err piece) = Err (counting, piece)
+abbrev pub fault_in : Bool → TextRead → OpeningRead
+fault_in counting (Ok ds) = Ok tt
+fault_in counting (Err piece) = Err (counting, piece)
 
 -- the text for counting, where there is one
 abbrev pub counting_read : Option (List ℕ) → OpeningRead
 counting_read None = Ok tt
-counting_read (Some text) = judged true (text_read text)
+counting_read (Some text) = fault_in true (text_read text)
 
 -- the filter's text is read before the text for counting
 abbrev pub first_fault : OpeningRead → OpeningRead → OpeningRead
@@ -68,7 +68,7 @@ first_fault (Ok none) later = later
 first_fault (Err fault) later = Err fault
 
 abbrev pub opening_read : List ℕ → Option (List ℕ) → OpeningRead
-opening_read filter counting = first_fault (judged false (text_read filter)) (counting_read counting)
+opening_read filter counting = first_fault (fault_in false (text_read filter)) (counting_read counting)
 
 -- why a pipeline isn't opened
 abbrev pub IsUnread : OpeningRead → OpenError → Type 0
@@ -80,13 +80,13 @@ abbrev pub unread_by : Bool → ℕ → ParseError → OpenError
 unread_by counting piece fault = if is_memory fault then errors.Memory else errors.Directive counting piece
 
 -- a filter is that of a text, whose pieces are all directives
-pub record IsTextFilter (text : List ℕ) (f : Filtered) : Type 0 where
+pub record IsTextFilter (text : List ℕ) (f : FilterState) : Type 0 where
   pub directives : List Directive
   pub read : text_read text ≡ Ok directives
-  pub is : f ≡ filter_of directives
+  pub is : f ≡ new_filter_of directives
 
 -- what events are counted by is a new filter of the text for that, whose pieces are all directives
-pub record IsCounter (text : Option (List ℕ)) (f : Option Filtered) : Type 0 where
+pub record IsCounter (text : Option (List ℕ)) (f : Option FilterState) : Type 0 where
   pub read : counting_read text ≡ Ok tt
   pub is : f ≡ option_map text_filter text
-  pub new : IfSome f IsNew
+  pub new : IfSome f IsNewFilter

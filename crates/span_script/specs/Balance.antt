@@ -1,42 +1,42 @@
 -- The holds and entries of spans, by what the history says of handles and guards.
 use Rattle.std.specs.Prelude.{◌≡◌, ℕ, ◌+◌, ◌==◌, ◌&&◌, Bool, false, List, [], ◌∷◌, Option, Some, None, count_by}
 use Rattle.trace_base.specs.Spans.{Spans, span_at, entries_on, times_in, first_entries, open_children}
-use Rattle.span_script.specs.Tables.{Scope, Guarded, slot_at, own}
+use Rattle.span_script.specs.Tables.{Scope, ScopeGuard, slot_at, own_span}
 use Rattle.span_script.specs.Setups.{id_at}
 
 -- what an open guard stands for: its handle, the span that was entered, and the id of the lane
-pub record Opened : Type 0 where
+pub record OpenGuard : Type 0 where
   pub handle : ℕ
   pub span : ℕ
   pub lane : ℕ
 
 -- an unspent handle names that span; an open guard is of that span on that lane
-abbrev pub names : ℕ → Option ℕ → Bool
-names s None = false
-names s (Some t) = t == s
+abbrev pub names_span : ℕ → Option ℕ → Bool
+names_span s None = false
+names_span s (Some t) = t == s
 
-abbrev pub guards : ℕ → ℕ → Option Opened → Bool
+abbrev pub guards : ℕ → ℕ → Option OpenGuard → Bool
 guards lane s None = false
 guards lane s (Some g) = g.lane == lane && g.span == s
 
 -- The holds of a span are its unspent handles, its first entries and its open children. The entries of a lane are
 -- those of the history, and each has an open guard, whose handle is unspent and names the span.
-pub record Balanced (spans : Spans) (hs : List (Option ℕ)) (gs : List (Option Opened)) (es : ℕ → List ℕ) : Type 0 where
+pub record Balanced (spans : Spans) (hs : List (Option ℕ)) (gs : List (Option OpenGuard)) (es : ℕ → List ℕ) : Type 0 where
   pub holds : (s : ℕ) → (span_at spans.made s).holds
-      ≡ count_by (names s) hs + first_entries spans.lanes s + open_children spans.made s
+      ≡ count_by (names_span s) hs + first_entries spans.lanes s + open_children spans.made s
   pub entries : (lane : ℕ) → entries_on lane spans.lanes ≡ es lane
   pub guarded : (lane s : ℕ) → times_in s (es lane) ≡ count_by (guards lane s) gs
-  pub borrowed : (n : ℕ) (g : Opened) → slot_at gs n ≡ Some g → slot_at hs g.handle ≡ Some g.span
+  pub borrowed : (n : ℕ) (g : OpenGuard) → slot_at gs n ≡ Some g → slot_at hs g.handle ≡ Some g.span
 
 -- the span that an unspent handle names, and what an open guard of an enabled one stands for
 abbrev pub named_by : Option Scope → Option ℕ
 named_by None = None
-named_by (Some scope) = own scope
+named_by (Some scope) = own_span scope
 
-abbrev pub opened_on : ℕ → ℕ → Scope → Option Opened
+abbrev pub opened_on : ℕ → ℕ → Scope → Option OpenGuard
 opened_on handle lane [] = None
 opened_on handle lane (s ∷ up) = Some (record { handle = handle; span = s; lane = lane })
 
-abbrev pub opened_by : List ℕ → Option Guarded → Option Opened
+abbrev pub opened_by : List ℕ → Option ScopeGuard → Option OpenGuard
 opened_by ids None = None
 opened_by ids (Some g) = opened_on g.handle (id_at ids g.lane) g.scope

@@ -7,22 +7,22 @@ use Rattle.trace_base.specs.declared.subscriber.Interest.{Interest}
 use Rattle.trace_base.specs.Gate.{Worlds}
 use Rattle.trace_base.specs.Spans.{Spans, Span, span_at}
 use Rattle.trace_base.specs.Sound.{OneEach}
-use Rattle.otel_base.specs.Stack.{has}
+use Rattle.otel_base.specs.Stack.{has_number}
 use Rattle.otel_state.specs.declared.settings.LayerSettings.{LayerSettings}
 use Rattle.otel_layer.specs.declared.tokens.Token.{Token}
 use Rattle.otel_layer.specs.Core.{is_token}
-use Rattle.otel_layer.specs.Table.{told_at}
+use Rattle.otel_layer.specs.Table.{data_at}
 use Rattle.otel_layer.specs.Recording.{Recording, no_recording}
 use Rattle.env_directives.specs.orders.Table.{Table}
 use Rattle.env_directives.specs.declared.directive.StaticDirective.{StaticDirective}
 use Rattle.env_directives.specs.declared.env.directive.Directive.{Directive}
-use Rattle.env_filter.specs.Filtering.{Filtered, IsNew, interest_in}
-use Rattle.env_filter.specs.spans.Levels.{Opened}
-use Rattle.env_filter.specs.spans.Watching.{Watched}
-use Rattle.span_handles.specs.Worlds.{Has, seen, spans_in, kept_in}
+use Rattle.env_filter.specs.Filtering.{FilterState, IsNewFilter, interest_in}
+use Rattle.env_filter.specs.spans.Levels.{OpenLevel}
+use Rattle.env_filter.specs.spans.Watching.{MatchState}
+use Rattle.span_handles.specs.Worlds.{Has, member_of, spans_in, kept_in}
 use Rattle.span_handles.specs.Handles.{Handle, Held}
 use Rattle.otel_metrics.specs.declared.measure.Measure.{Measure}
-use Rattle.span_stack.specs.Reading.{Stacks, recorded, in_place, counts_by, measured}
+use Rattle.span_stack.specs.Reading.{Stacks, stack_recording, in_place, counts_by, stack_measures}
 use Rattle.span_script.specs.declared.slots.Guard.{Guard}
 use Rattle.span_script.specs.declared.contexts.Attach.{Attach}
 use Rattle.span_script.specs.declared.reply.Reply.{Reply}
@@ -33,61 +33,61 @@ use Rattle.span_script.specs.declared.settings.Texts.{Texts}
 use Rattle.span_script.specs.Admission.{text_filter}
 use Rattle.span_script.specs.Setups.{Setup}
 use Rattle.span_script.specs.Balance.{Balanced, named_by, opened_by}
-use Rattle.span_script.specs.Tables.{Scope, Made, Owner, EntryOf, GuardOf, Attached, is_by, Guarded, Effect, Tables, History, tables, after, open_part, records_of, slot_at, own, site_of, made_of}
+use Rattle.span_script.specs.Tables.{Scope, MadeSpan, Owner, EntryOf, GuardOf, Attached, is_by, ScopeGuard, Effect, Tables, History, tables, after_effect, open_part, records_of, slot_at, own_span, site_of, made_of}
 use Rattle.span_script.specs.calls.Here.{Resolved}
 use Rattle.span_script.specs.Effects.{effect_of_call}
 use Rattle.span_script.specs.calls.Filter.{filter_at}
 use Rattle.span_script.specs.calls.Refusals.{takes_no_memory}
 
 -- a lane, without its room
-pub record Laned : Type 0 where
+pub record LaneValue : Type 0 where
   pub id : ℕ
   pub live : List (ℕ × Context)
 
-abbrev pub laned : Lane → Laned
-laned lane = record { id = lane.id; live = lane.contexts.live }
+abbrev pub lane_value : Lane → LaneValue
+lane_value lane = record { id = lane.id; live = lane.contexts.live }
 
-abbrev pub no_lane : Laned
-no_lane = record { id = 0; live = [] }
+abbrev pub no_lane_value : LaneValue
+no_lane_value = record { id = 0; live = [] }
 
-abbrev pub lane_at : List Laned → ℕ → Laned
-lane_at lanes n = slice_index_or lanes n no_lane
+abbrev pub lane_at : List LaneValue → ℕ → LaneValue
+lane_at lanes n = slice_index_or lanes n no_lane_value
 
 -- the contexts that a script names, and the guards of its attaches
-pub record Named : Type 0 where
-  pub made : List Context
+pub record ContextSlots : Type 0 where
+  pub contexts : List Context
   pub attaches : List (Option Attach)
 
 -- how what was recorded, the filter that is in place, the filter that counts and the measures that wait are read of a subscriber
 pub record Views (S : Type 0) : Type 0 where
   pub recorded : S → Recording
-  pub filtered : S → Option Filtered
-  pub counter : S → Option Filtered
+  pub filtered : S → Option FilterState
+  pub counter : S → Option FilterState
   pub measured : S → List Measure
 
 -- those of the stack that pipelines run on
 abbrev pub stack_views : Views Stacks
-stack_views = record { recorded = recorded; filtered = in_place; counter = counts_by; measured = measured }
+stack_views = record { recorded = stack_recording; filtered = in_place; counter = counts_by; measured = stack_measures }
 
 -- What is seen of a filter at the spans of the first ids, from the last one on, and at the lanes of some ids.
 pub record ShownFilter : Type 0 where
   pub statics : Table StaticDirective
   pub dynamics : Table Directive
-  pub spans : List (Option Watched)
-  pub lanes : List (List Opened)
+  pub spans : List (Option MatchState)
+  pub lanes : List (List OpenLevel)
 
 abbrev pub first_of : {X : Type 0} → (ℕ → X) → ℕ → List X
 first_of f zero = []
 first_of f (suc n) = f n ∷ first_of f n
 
-abbrev pub shown_of : ℕ → List ℕ → Filtered → ShownFilter
+abbrev pub shown_of : ℕ → List ℕ → FilterState → ShownFilter
 shown_of many ids f = record { statics = f.statics; dynamics = f.dynamics; spans = first_of f.spans many; lanes = map f.lanes ids }
 
 -- what is kept, without spare room; the interests that are cached; and the measures that weren't taken
 pub record State : Type 0 where
   pub setup : Setup
   pub spans : Spans
-  pub lanes : List Laned
+  pub lanes : List LaneValue
   pub recording : Recording
   pub filter : Option ShownFilter
   pub cached : List (List Interest)
@@ -97,7 +97,7 @@ pub record State : Type 0 where
   pub handles : List (Option Held)
   pub handle_sites : List (Option (Option ℕ))
   pub guards : List (Option Guard)
-  pub contexts : Named
+  pub contexts : ContextSlots
   pub moment : ℕ
 
 -- what an unspent handle stands for
@@ -119,20 +119,20 @@ pub record Parts (S : Type 0) : Type 0 where
   pub lanes : List Lane
   pub handles : List (Option Handle)
   pub guards : List (Option Guard)
-  pub contexts : Named
+  pub contexts : ContextSlots
   pub moment : ℕ
 
 -- what it keeps, read off its parts
 abbrev pub state_of : {S : Type 0} → (S → Spans) → Views S → Parts S → State
 state_of spans views parts = record {
-  setup = setup_of parts.world.sites parts.lanes parts.opening (seen views.recorded no_recording parts.world parts.dispatch).settings;
+  setup = setup_of parts.world.sites parts.lanes parts.opening (member_of views.recorded no_recording parts.world parts.dispatch).settings;
   spans = spans_in spans parts.world parts.dispatch;
-  lanes = map laned parts.lanes;
-  recording = seen views.recorded no_recording parts.world parts.dispatch;
-  filter = option_map (shown_of (length (spans_in spans parts.world parts.dispatch).made) (map (λ l. l.id) parts.lanes)) (seen views.filtered None parts.world parts.dispatch);
+  lanes = map lane_value parts.lanes;
+  recording = member_of views.recorded no_recording parts.world parts.dispatch;
+  filter = option_map (shown_of (length (spans_in spans parts.world parts.dispatch).made) (map (λ l. l.id) parts.lanes)) (member_of views.filtered None parts.world parts.dispatch);
   cached = parts.world.cached;
-  counter = option_map (shown_of 0 (map (λ l. l.id) parts.lanes)) (seen views.counter None parts.world parts.dispatch);
-  measures = seen views.measured [] parts.world parts.dispatch;
+  counter = option_map (shown_of 0 (map (λ l. l.id) parts.lanes)) (member_of views.counter None parts.world parts.dispatch);
+  measures = member_of views.measured [] parts.world parts.dispatch;
   dispatch = parts.dispatch;
   handles = map held_by parts.handles;
   handle_sites = map site_by parts.handles;
@@ -146,35 +146,35 @@ abbrev pub held_of : ℕ → Scope → Held
 held_of dispatch [] = None
 held_of dispatch (s ∷ up) = Some (dispatch, s)
 
-abbrev pub guard_of : ℕ → Guarded → Guard
-guard_of dispatch g = record { handle = g.handle; lane = g.lane; owns = g.owns; entry = held_of dispatch g.scope }
+abbrev pub guard_of : ℕ → ScopeGuard → Guard
+guard_of dispatch g = record { handle = g.handle; place = g.place; owns = g.owns; entry = held_of dispatch g.scope }
 
 -- the place of the lane of an attach's guard
 abbrev pub lane_of : Attach → ℕ
-lane_of = λ a. a.lane
+lane_of = λ a. a.place
 
 -- a scope is of spans that were made, each under the next
-abbrev pub IsUnder : ℕ → Scope → Type 0
-IsUnder s [] = Unit {0}
-IsUnder s (p ∷ up) = p < s
+abbrev pub IsLaterThanParent : ℕ → Scope → Type 0
+IsLaterThanParent s [] = Unit {0}
+IsLaterThanParent s (p ∷ up) = p < s
 
-abbrev pub IsScope : List Made → Scope → Type 0
+abbrev pub IsScope : List MadeSpan → Scope → Type 0
 IsScope made [] = Unit {0}
-IsScope made (s ∷ up) = (s < length made) × ((made_of made s).scope ≡ s ∷ up) × IsUnder s up × IsScope made up
+IsScope made (s ∷ up) = (s < length made) × ((made_of made s).scope ≡ s ∷ up) × IsLaterThanParent s up × IsScope made up
 
 -- the parent that a scope gives to its own span
-abbrev pub above : Scope → Option ℕ
-above [] = None
-above (s ∷ up) = own up
+abbrev pub parent_in : Scope → Option ℕ
+parent_in [] = None
+parent_in (s ∷ up) = own_span up
 
 -- the spans are those that were made; of those that closed nothing is kept
-pub record MadeFit (spans : List Span) (made : List Made) : Type 0 where
+pub record MadeFit (spans : List Span) (made : List MadeSpan) : Type 0 where
   pub count : length spans ≡ length made
-  pub parent : (s : ℕ) → 0 < (span_at spans s).holds → (span_at spans s).parent ≡ above (made_of made s).scope
+  pub parent : (s : ℕ) → 0 < (span_at spans s).holds → (span_at spans s).parent ≡ parent_in (made_of made s).scope
   pub site : (s : ℕ) → 0 < (span_at spans s).holds → (span_at spans s).site ≡ (made_of made s).site
 
 -- what is kept attached is live on its lane, and lanes have ids of their own
-pub record LanesFit (kept : ℕ → ℕ → ℕ) (lanes : List Laned) : Type 0 where
+pub record LanesFit (kept : ℕ → ℕ → ℕ) (lanes : List LaneValue) : Type 0 where
   pub differ : (n m : ℕ) → n < length lanes → m < length lanes → (lane_at lanes n).id ≡ (lane_at lanes m).id → n ≡ m
   pub attached : (n number : ℕ) → n < length lanes
       → kept (lane_at lanes n).id number ≤ count_by (λ item. item.0 == number) (lane_at lanes n).live
@@ -193,7 +193,7 @@ tokens_of lane s tokens = map (λ k. k.attached) (filter (is_token lane s) token
 
 abbrev pub kept_on : ℕ → Option Attach → List (Option ℕ)
 kept_on place None = []
-kept_on place (Some a) = if a.lane == place then Some a.attached ∷ [] else []
+kept_on place (Some a) = if a.place == place then Some a.attached ∷ [] else []
 
 -- without activation entries attach nothing
 abbrev pub numbers_by : Bool → ℕ → ℕ → List Token → List (Option Attach) → Owner → List (Option ℕ)
@@ -201,24 +201,24 @@ numbers_by activation place lane tokens attaches (EntryOf s) = if activation the
 numbers_by activation place lane tokens attaches (GuardOf n) = kept_on place (slot_at attaches n)
 
 -- each live context has a number of its own
-abbrev pub AreDistinct : List (ℕ × Context) → Type 0
-AreDistinct [] = Unit {0}
-AreDistinct (x ∷ live) = (has x.0 live ≡ false) × AreDistinct live
+abbrev pub HaveOwnNumbers : List (ℕ × Context) → Type 0
+HaveOwnNumbers [] = Unit {0}
+HaveOwnNumbers (x ∷ live) = (has_number x.0 live ≡ false) × HaveOwnNumbers live
 
 -- a lane's contexts are those that the history attached, and each owner keeps the numbers of its own
 pub record ContextsFit (numbers : Owner → List (Option ℕ)) (live : List (ℕ × Context)) (items : List Attached) : Type 0 where
   pub contexts : map (λ x. x.1) live ≡ map (λ a. a.context) items
-  pub distinct : AreDistinct live
+  pub distinct : HaveOwnNumbers live
   pub numbers_are : (o : Owner) → numbers_of o live items ≡ numbers o
 
 -- so do those of all lanes
-abbrev pub AllContextsFit : Bool → List Laned → List Token → List (Option Attach) → (ℕ → List Attached) → Type 0
+abbrev pub AllContextsFit : Bool → List LaneValue → List Token → List (Option Attach) → (ℕ → List Attached) → Type 0
 AllContextsFit activation lanes tokens attaches contexts = (n : ℕ) → n < length lanes
     → ContextsFit (numbers_by activation n (lane_at lanes n).id tokens attaches) (lane_at lanes n).live (contexts (lane_at lanes n).id)
 
 pub record RecordingFits (k : State) (t : Tables) : Type 0 where
   pub recorded : open_part k.recording ≡ t.recording
-  pub known : (s : ℕ) → 0 < (span_at k.spans.made s).holds → told_at s k.recording.spans ≢ None
+  pub known : (s : ℕ) → 0 < (span_at k.spans.made s).holds → data_at s k.recording.spans ≢ None
   pub attached : AllContextsFit k.setup.layer.activation k.lanes k.recording.tokens k.contexts.attaches t.contexts
 
 -- what is seen of the filter that counts: that of the text for counting, where there is one
@@ -228,30 +228,30 @@ counter_by setup = option_map (shown_of 0 setup.ids) (option_map text_filter set
 -- The filter is the one in force, for each callsite its interest is cached, and events are counted by the filter of the text
 -- for that, which hears nothing.
 pub record FilteringFits (k : State) (t : Tables) : Type 0 where
-  pub in_place : k.filter ≡ Some (shown_of (length t.made) k.setup.ids (filter_at k.setup t))
+  pub in_place : k.filter ≡ Some (shown_of (length t.spans) k.setup.ids (filter_at k.setup t))
   pub fresh : k.cached ≡ map (λ c. interest_in (filter_at k.setup t) c ∷ []) k.setup.sites
   pub counter : k.counter ≡ counter_by k.setup
-  pub new : IfSome (option_map text_filter k.setup.counting) IsNew
+  pub new : IfSome (option_map text_filter k.setup.counting) IsNewFilter
 
 -- What is kept fits the tables of a history.
 pub record Fits (k : State) (t : Tables) : Type 0 where
   pub handle_slots : k.handles ≡ map (option_map (held_of k.dispatch)) t.handles
-  pub site_slots : k.handle_sites ≡ map (option_map (site_of t.made)) t.handles
+  pub site_slots : k.handle_sites ≡ map (option_map (site_of t.spans)) t.handles
   pub guard_slots : k.guards ≡ map (option_map (guard_of k.dispatch)) t.guards
   pub attach_slots : map (option_map lane_of) k.contexts.attaches ≡ t.attaches
   pub paired : length t.attaches ≡ length t.guards
-  pub named : k.contexts.made ≡ t.named
+  pub named_contexts : k.contexts.contexts ≡ t.named_contexts
   pub latest : k.moment ≡ t.moment
   pub balanced : Balanced k.spans (map named_by t.handles) (map (opened_by k.setup.ids) t.guards) t.entries
-  pub made : MadeFit k.spans.made t.made
+  pub made : MadeFit k.spans.made t.spans
   pub one_lane : OneEach k.spans.lanes
   -- facts of each history that leads here
-  pub scopes : (n : ℕ) (scope : Scope) → slot_at t.handles n ≡ Some scope → IsScope t.made scope
-  pub still : (n : ℕ) (g : Guarded) → slot_at t.guards n ≡ Some g → slot_at t.handles g.handle ≡ Some g.scope
-  pub own_scopes : (s : ℕ) → s < length t.made
-      → (own (made_of t.made s).scope ≡ Some s) × IsScope t.made (made_of t.made s).scope
-  pub sited : (s : ℕ) → s < length t.made → (made_of t.made s).site < length k.setup.sites
-  pub few : length t.made ≤ length t.handles
+  pub scopes : (n : ℕ) (scope : Scope) → slot_at t.handles n ≡ Some scope → IsScope t.spans scope
+  pub still : (n : ℕ) (g : ScopeGuard) → slot_at t.guards n ≡ Some g → slot_at t.handles g.handle ≡ Some g.scope
+  pub own_scopes : (s : ℕ) → s < length t.spans
+      → (own_span (made_of t.spans s).scope ≡ Some s) × IsScope t.spans (made_of t.spans s).scope
+  pub sited : (s : ℕ) → s < length t.spans → (made_of t.spans s).site < length k.setup.sites
+  pub few : length t.spans ≤ length t.handles
   pub few_holds : (s : ℕ) → (span_at k.spans.made s).holds ≤ length t.handles + length t.guards
 
 -- What is kept stands for a history with these tables: it fits them, and so do what was recorded, the lanes' contexts,
@@ -274,7 +274,7 @@ pub record IsKept {S : Type 0} (spans : S → Spans) (views : Views S) (kept : S
   pub there : parts.dispatch < length parts.world.subscribers
   pub alone : length parts.world.subscribers ≡ 1
   pub whole : Has is_whole parts.world parts.dispatch
-  pub lanes : LanesFit (kept_in kept parts.world parts.dispatch) (map laned parts.lanes)
+  pub lanes : LanesFit (kept_in kept parts.world parts.dispatch) (map lane_value parts.lanes)
   pub tables : Tables
   pub stands : StandsFor (state_of spans views parts) tables
 
@@ -287,21 +287,21 @@ pub record Served (resolved : Resolved) (t : Tables) (old new : State) (reply : 
   pub setup : new.setup ≡ old.setup
   pub records : new.recording.finished ≡ old.recording.finished ++ records_of t effect
   pub measures : new.measures ≡ old.measures ++ effect.measures
-  pub stands : StandsFor new (after t effect)
+  pub stands : StandsFor new (after_effect t effect)
 
 -- a refusal for want of memory
-abbrev pub is_room : Refusal → Bool
-is_room refusal.Memory = true
-is_room (refusal.Full lane) = false
-is_room (refusal.BadMoment before given) = false
-is_room (refusal.UnknownName unknown) = false
-is_room refusal.InUse = false
-is_room (refusal.WrongLane lane) = false
-is_room (refusal.Directive piece) = false
+abbrev pub is_for_memory : Refusal → Bool
+is_for_memory refusal.Memory = true
+is_for_memory (refusal.Full lane) = false
+is_for_memory (refusal.BadMoment before given) = false
+is_for_memory (refusal.UnknownName unknown) = false
+is_for_memory refusal.InUse = false
+is_for_memory (refusal.WrongLane lane) = false
+is_for_memory (refusal.Directive piece) = false
 
 -- Any other is the one that was resolved.
 abbrev pub IsRefusal : Resolved → Refusal → Type 0
-IsRefusal resolved given = is_room given ≡ false → resolved ≡ Err given
+IsRefusal resolved given = is_for_memory given ≡ false → resolved ≡ Err given
 
 -- What a pipeline promises of what is resolved on the tables of each history that it stands for: the effect is served, or the
 -- refusal is the first that applies and what is kept is as it was; and a call that takes no memory doesn't want it.
@@ -317,7 +317,7 @@ Serves old at lane request result new =
     ServesResolved (λ t. effect_of_call old.setup t at lane request) (takes_no_memory request) old result new
 
 -- The same of a history.
-pub record Recorded (resolved : Resolved) (h : History) (old new : State) (reply : Reply) : Type 0 where
+pub record ServedByHistory (resolved : Resolved) (h : History) (old new : State) (reply : Reply) : Type 0 where
   pub effect : Effect
   pub is : resolved ≡ Ok effect
   pub reply_is : reply ≡ effect.reply

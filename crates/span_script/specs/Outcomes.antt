@@ -6,7 +6,7 @@ use Rattle.span_script.specs.declared.reply.Refusal.{Refusal}
 use Rattle.span_script.specs.declared.request.Request.{Request}
 use Rattle.span_script.specs.declared.outcome.Outcome.{Outcome}
 use Rattle.span_script.specs.Setups.{Setup}
-use Rattle.span_script.specs.Tables.{Effect, History, Tables, no_tables, tables, after, records_of}
+use Rattle.span_script.specs.Tables.{Effect, History, Tables, no_tables, tables, after_effect, records_of}
 use Rattle.span_script.specs.calls.Here.{Resolved}
 use Rattle.span_script.specs.Effects.{effect_of}
 use Rattle.span_script.specs.calls.Spans.{open_spans}
@@ -21,7 +21,7 @@ followed_by (Err refusal) behind = []
 abbrev pub history_from : Setup → Tables → List Request → History
 history_from setup t [] = []
 history_from setup t (request ∷ requests) =
-    followed_by (effect_of setup t request) (λ effect. history_from setup (after t effect) requests)
+    followed_by (effect_of setup t request) (λ effect. history_from setup (after_effect t effect) requests)
 
 abbrev pub history_of : Setup → List Request → History
 history_of setup requests = history_from setup (no_tables setup) requests
@@ -29,10 +29,10 @@ history_of setup requests = history_from setup (no_tables setup) requests
 -- the records of a history that goes on from some tables: those of each effect, in order
 abbrev pub records_from : Tables → History → List Record
 records_from t [] = []
-records_from t (effect ∷ h) = records_of t effect ++ records_from (after t effect) h
+records_from t (effect ∷ h) = records_of t effect ++ records_from (after_effect t effect) h
 
-abbrev pub records : Setup → History → List Record
-records setup h = records_from (no_tables setup) h
+abbrev pub records_of_history : Setup → History → List Record
+records_of_history setup h = records_from (no_tables setup) h
 
 -- a request's place, and why it is refused, if it is
 abbrev pub refusal_at : ℕ → Resolved → Option (ℕ × Refusal)
@@ -48,7 +48,7 @@ refused_behind setup requests h =
 abbrev pub outcome_by : Setup → List Request → History → Outcome
 outcome_by setup requests h = record {
   replies = map (λ effect. effect.reply) h;
-  records = records setup h;
+  records = records_of_history setup h;
   refused = refused_behind setup requests h;
   left_open = open_spans (tables setup h);
 }
@@ -67,5 +67,5 @@ pub record Ran (setup : Setup) (requests : List Request) (new : State) (replies 
   pub setup_is : new.setup ≡ setup
   pub stands : StandsFor new (tables setup (history_of setup requests))
   pub replies_are : replies ≡ map (λ effect. effect.reply) (history_of setup requests)
-  pub records_are : new.recording.finished ≡ records setup (history_of setup requests)
+  pub records_are : new.recording.finished ≡ records_of_history setup (history_of setup requests)
   pub refused_is : refused ≡ refused_behind setup requests (history_of setup requests)

@@ -5,7 +5,7 @@ use Rattle.trace_base.specs.declared.field.ValueSet.{ValueSet}
 use Rattle.trace_base.specs.declared.lane.Lane.{Lane}
 use Rattle.trace_base.specs.Calls.{SubscriberCall, Event}
 use Rattle.trace_base.specs.declared.callsite.Callsite.{Callsite}
-use Rattle.env_filter.specs.Filtering.{Filtered, is_admitted}
+use Rattle.env_filter.specs.Filtering.{FilterState, is_admitted}
 use Rattle.span_handles.specs.Worlds.{Replaced}
 use Rattle.trace_base.specs.Gate.{Worlds}
 use Rattle.trace_base.specs.Spans.{Spans}
@@ -62,6 +62,6 @@ TellsOnly does true old new lane at place site values dispatch = Tells does old 
 TellsOnly does false old new lane at place site values dispatch = new ≡ old
 
 -- the gate's answer for a callsite on a lane, by the filter in place
-abbrev pub LetsThrough : Option Filtered → List Callsite → ℕ → ℕ → Bool → Type 0
+abbrev pub LetsThrough : Option FilterState → List Callsite → ℕ → ℕ → Bool → Type 0
 LetsThrough filter sites lane site answer =
-    (f : Filtered) (c : Callsite) → filter ≡ Some f → slice_get sites site ≡ Some c → answer ≡ is_admitted f lane c
+    (f : FilterState) (c : Callsite) → filter ≡ Some f → slice_get sites site ≡ Some c → answer ≡ is_admitted f lane c

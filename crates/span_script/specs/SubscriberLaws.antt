@@ -4,10 +4,10 @@ use Rattle.std.specs.Prelude.{◌≡◌, ℕ, Bool, List, [], ◌++◌, Option, 
 use Rattle.trace_base.specs.Gate.{Worlds}
 use Rattle.trace_base.specs.Spans.{Spans}
 use Rattle.trace_base.specs.Calls.{SubscriberCall}
-use Rattle.span_handles.specs.Worlds.{Replaced, Shown, Alike, Chain, ChainShown, seen, spans_in}
+use Rattle.span_handles.specs.Worlds.{Replaced, Shown, Alike, Chain, ChainShown, member_of, spans_in}
 use Rattle.otel_layer.specs.Parts.{PartCall}
 use Rattle.otel_layer.specs.Recording.{no_recording, RecordsChain, RecordsPart}
-use Rattle.env_filter.specs.Filtering.{Filtered}
+use Rattle.env_filter.specs.Filtering.{FilterState}
 use Rattle.otel_metrics.specs.declared.measure.Measure.{Measure}
 use Rattle.span_stack.specs.Counting.{RecordsCallBy}
 use Rattle.span_stack.specs.Filtered.{filter_after, FiltersChain}
@@ -16,13 +16,13 @@ use Rattle.span_script.specs.Fits.{Views}
 
 -- what stands beside the filter in place: the filter that counts, and the measures that wait
 abbrev pub Aside : Type 0
-Aside = Option Filtered × List Measure
+Aside = Option FilterState × List Measure
 
 abbrev pub aside_in : {S : Type 0} → Views S → Worlds S → ℕ → Aside
-aside_in views world dispatch = (seen views.counter None world dispatch, seen views.measured [] world dispatch)
+aside_in views world dispatch = (member_of views.counter None world dispatch, member_of views.measured [] world dispatch)
 
 -- what counts stays, and some measures wait behind the others
-pub record Adds (before later : Aside) (added : List Measure) : Type 0 where
+pub record AddsMeasures (before later : Aside) (added : List Measure) : Type 0 where
   pub counter : later.0 ≡ before.0
   pub measures : later.1 ≡ before.1 ++ added
 
@@ -37,28 +37,28 @@ pub record PlainLaws {S : Type 0} (spans : S → Spans) (attaches : S → Bool) 
 pub record CallsLaw {S : Type 0} (spans : S → Spans) (views : Views S) (attaches : S → Bool) (kept : S → ℕ → ℕ → ℕ) (is_whole : S → Type 0) (does : S → SubscriberCall → S → Type 0) : Type 0 where
   pub shown : (old new : Worlds S) (dispatch : ℕ) (call : SubscriberCall) → Replaced (λ s t. does s call t) old new dispatch → Shown spans attaches kept is_whole old new dispatch call
   pub recalled : (old new : Worlds S) (dispatch : ℕ) (call : SubscriberCall) → Replaced (λ s t. does s call t) old new dispatch
-      → RecordsCallBy (seen views.counter None old dispatch) (spans_in spans old dispatch) (seen views.recorded no_recording old dispatch) call (seen views.recorded no_recording new dispatch)
-      × (seen views.filtered None new dispatch ≡ option_map (filter_after (spans_in spans old dispatch) call) (seen views.filtered None old dispatch))
-      × Adds (aside_in views old dispatch) (aside_in views new dispatch) (measured_by call)
+      → RecordsCallBy (member_of views.counter None old dispatch) (spans_in spans old dispatch) (member_of views.recorded no_recording old dispatch) call (member_of views.recorded no_recording new dispatch)
+      × (member_of views.filtered None new dispatch ≡ option_map (filter_after (spans_in spans old dispatch) call) (member_of views.filtered None old dispatch))
+      × AddsMeasures (aside_in views old dispatch) (aside_in views new dispatch) (measured_by call)
 
 -- spare room is nothing that is kept
 pub record SameLaw {S : Type 0} (spans : S → Spans) (views : Views S) (attaches : S → Bool) (kept : S → ℕ → ℕ → ℕ) (is_whole : S → Type 0) (same : S → S → Type 0) : Type 0 where
   pub shown : (old new : Worlds S) (dispatch : ℕ) → Replaced same old new dispatch → Alike spans attaches kept is_whole old new dispatch
   pub recalled : (old new : Worlds S) (dispatch : ℕ) → Replaced same old new dispatch
-      → (seen views.recorded no_recording new dispatch ≡ seen views.recorded no_recording old dispatch) × (seen views.filtered None new dispatch ≡ seen views.filtered None old dispatch)
-      × Adds (aside_in views old dispatch) (aside_in views new dispatch) []
+      → (member_of views.recorded no_recording new dispatch ≡ member_of views.recorded no_recording old dispatch) × (member_of views.filtered None new dispatch ≡ member_of views.filtered None old dispatch)
+      × AddsMeasures (aside_in views old dispatch) (aside_in views new dispatch) []
 
 -- a chain of closes closes each span that it closes in the recording, in order, and the filter forgets it
 pub record ChainsLaw {S : Type 0} (spans : S → Spans) (views : Views S) (attaches : S → Bool) (kept : S → ℕ → ℕ → ℕ) (is_whole : S → Type 0) (does : S → SubscriberCall → S → Type 0) : Type 0 where
   pub shown : (old new : Worlds S) (dispatch at id : ℕ) → Replaced (λ s t. Chain spans does at (Some id) s t) old new dispatch → ChainShown spans attaches kept is_whole old new dispatch id
   pub recalled : (old new : Worlds S) (dispatch at id : ℕ) → Replaced (λ s t. Chain spans does at (Some id) s t) old new dispatch
-      → RecordsChain at (Some id) (spans_in spans old dispatch) (spans_in spans new dispatch) (seen views.recorded no_recording old dispatch) (seen views.recorded no_recording new dispatch)
-      × FiltersChain (Some id) (spans_in spans old dispatch) (spans_in spans new dispatch) (seen views.filtered None old dispatch) (seen views.filtered None new dispatch)
-      × Adds (aside_in views old dispatch) (aside_in views new dispatch) []
+      → RecordsChain at (Some id) (spans_in spans old dispatch) (spans_in spans new dispatch) (member_of views.recorded no_recording old dispatch) (member_of views.recorded no_recording new dispatch)
+      × FiltersChain (Some id) (spans_in spans old dispatch) (spans_in spans new dispatch) (member_of views.filtered None old dispatch) (member_of views.filtered None new dispatch)
+      × AddsMeasures (aside_in views old dispatch) (aside_in views new dispatch) []
 
 -- a call from outside leaves the plain data, and is one step of what is recorded
 pub record AsksLaw {S : Type 0} (spans : S → Spans) (views : Views S) (attaches : S → Bool) (kept : S → ℕ → ℕ → ℕ) (is_whole : S → Type 0) (touches : S → PartCall → S → Type 0) : Type 0 where
   pub shown : (old new : Worlds S) (dispatch : ℕ) (call : PartCall) → Replaced (λ s t. touches s call t) old new dispatch → Alike spans attaches kept is_whole old new dispatch
   pub recalled : (old new : Worlds S) (dispatch : ℕ) (call : PartCall) → Replaced (λ s t. touches s call t) old new dispatch
-      → RecordsPart (seen views.recorded no_recording old dispatch) call (seen views.recorded no_recording new dispatch) × (seen views.filtered None new dispatch ≡ seen views.filtered None old dispatch)
-      × Adds (aside_in views old dispatch) (aside_in views new dispatch) []
+      → RecordsPart (member_of views.recorded no_recording old dispatch) call (member_of views.recorded no_recording new dispatch) × (member_of views.filtered None new dispatch ≡ member_of views.filtered None old dispatch)
+      × AddsMeasures (aside_in views old dispatch) (aside_in views new dispatch) []

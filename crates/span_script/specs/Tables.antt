@@ -4,8 +4,8 @@ use Rattle.otel_base.specs.declared.context.Context.{Context}
 use Rattle.otel_base.specs.declared.record.Record.{Record}
 use Rattle.otel_state.specs.declared.op.Op.{Op}
 use Rattle.otel_metrics.specs.declared.measure.Measure.{Measure}
-use Rattle.otel_state.specs.States.{Told, begun}
-use Rattle.otel_layer.specs.Table.{with_span}
+use Rattle.otel_state.specs.States.{SpanData, data_at_making}
+use Rattle.otel_layer.specs.Table.{with_span_data}
 use Rattle.otel_layer.specs.Recording.{Recording, no_recording, with_start, with_starts, with_applied, with_close}
 use Rattle.trace_base.specs.Spans.{without_last}
 use Rattle.trace_base.specs.declared.callsite.Callsite.{Callsite}
@@ -18,19 +18,19 @@ abbrev pub Scope : Type 0
 Scope = List ℕ
 
 -- a span that was made: the place of its callsite, its scope, and what it was made with
-pub record Made : Type 0 where
+pub record MadeSpan : Type 0 where
   pub site : ℕ
   pub scope : Scope
-  pub told : Told
+  pub made_with : SpanData
 
-abbrev pub no_told : Told
-no_told = begun (record { name = []; parent = record { span = None }; made = 0; first = []; counting = false; inactivity = false })
+abbrev pub no_span_data : SpanData
+no_span_data = data_at_making (record { name = []; parent = record { span = None }; made = 0; first = []; counting = false; inactivity = false })
 
-abbrev pub no_making : Made
-no_making = record { site = 0; scope = []; told = no_told }
+abbrev pub no_made_span : MadeSpan
+no_made_span = record { site = 0; scope = []; made_with = no_span_data }
 
 -- an op on a span
-pub record Done : Type 0 where
+pub record SpanOp : Type 0 where
   pub span : ℕ
   pub op : Op
 
@@ -55,20 +55,20 @@ is_by owner = λ a. is_owner a.owner owner
 
 -- what the guard of an entry keeps: its handle, the place of the lane that it was made on, whether it owns the handle, and the scope
 -- that the handle had
-pub record Guarded : Type 0 where
+pub record ScopeGuard : Type 0 where
   pub handle : ℕ
-  pub lane : ℕ
+  pub place : ℕ
   pub owns : Bool
   pub scope : Scope
 
 -- what a filter hears: that a callsite makes a span with some values, that a span is given some, that it is entered or exited
 -- on the lane of an id, and that it closes
-pub data Heard : Type 0 where
-  HeardNew : (span : ℕ) → (callsite : Callsite) → (values : ValueSet) → Heard
-  HeardRecord : (span : ℕ) → (callsite : Callsite) → (values : ValueSet) → Heard
-  HeardEnter : (span lane : ℕ) → Heard
-  HeardExit : (span lane : ℕ) → Heard
-  HeardClose : (span : ℕ) → Heard
+pub data FilterHook : Type 0 where
+  HookNew : (span : ℕ) → (callsite : Callsite) → (values : ValueSet) → FilterHook
+  HookRecord : (span : ℕ) → (callsite : Callsite) → (values : ValueSet) → FilterHook
+  HookEnter : (span lane : ℕ) → FilterHook
+  HookExit : (span lane : ℕ) → FilterHook
+  HookClose : (span : ℕ) → FilterHook
 
 -- What a request changed, at a moment on the lane of an id. Of the names that it makes and spends each is one at most.
 pub record Effect : Type 0 where
@@ -78,7 +78,7 @@ pub record Effect : Type 0 where
   pub new_handle : Option Scope
   pub spent_handle : Option ℕ
   -- what the guard of an entry that it made keeps, and the one that it spent
-  pub new_guard : Option Guarded
+  pub new_guard : Option ScopeGuard
   pub spent_guard : Option ℕ
   -- the place of the lane that the guard of an attach was made on, and the one that it spent
   pub new_attach : Option ℕ
@@ -86,12 +86,12 @@ pub record Effect : Type 0 where
   -- the context that it made
   pub new_context : Option Context
   -- the span that it made
-  pub made : Option Made
+  pub new_span : Option MadeSpan
   -- the spans that it starts unless they have started, before it makes one; the one that it starts after that; and what else
   -- it does to spans, in order
   pub starts : List ℕ
   pub begins : Option ℕ
-  pub ops : List Done
+  pub ops : List SpanOp
   -- what it measured
   pub measures : List Measure
   -- the spans that it closed, each before its parent
@@ -104,12 +104,12 @@ pub record Effect : Type 0 where
   pub detach : Option Owner
   -- the text of the filter that it put in force, and what the filter in force heard of it
   pub filter : Option (List ℕ)
-  pub heard : List Heard
+  pub hooks : List FilterHook
   pub reply : Reply
 
 -- what changes nothing
-abbrev pub quiet : ℕ → ℕ → Reply → Effect
-quiet at lane answer = record {
+abbrev pub quiet_effect : ℕ → ℕ → Reply → Effect
+quiet_effect at lane answer = record {
   at = at;
   lane = lane;
   new_handle = None;
@@ -119,7 +119,7 @@ quiet at lane answer = record {
   new_attach = None;
   spent_attach = None;
   new_context = None;
-  made = None;
+  new_span = None;
   starts = [];
   begins = None;
   ops = [];
@@ -130,7 +130,7 @@ quiet at lane answer = record {
   attach = None;
   detach = None;
   filter = None;
-  heard = [];
+  hooks = [];
   reply = answer;
 }
 
@@ -145,16 +145,16 @@ History = List Effect
 -- nothing from before it was put in force.
 pub record Tables : Type 0 where
   pub handles : List (Option Scope)
-  pub guards : List (Option Guarded)
+  pub guards : List (Option ScopeGuard)
   pub attaches : List (Option ℕ)
-  pub named : List Context
-  pub made : List Made
+  pub named_contexts : List Context
+  pub spans : List MadeSpan
   pub closed : List ℕ
   pub entries : ℕ → List ℕ
   pub contexts : ℕ → List Attached
   pub recording : Recording
   pub filter : Option (List ℕ)
-  pub heard : List Heard
+  pub hooks : List FilterHook
   pub moment : ℕ
 
 -- nothing recorded by the layer of a setup
@@ -166,21 +166,21 @@ no_tables setup = record {
   handles = [];
   guards = [];
   attaches = [];
-  named = [];
-  made = [];
+  named_contexts = [];
+  spans = [];
   closed = [];
   entries = λ lane. [];
   contexts = λ lane. [];
   recording = nothing_recorded setup;
   filter = None;
-  heard = [];
+  hooks = [];
   moment = 0;
 }
 
 -- a list with one more item, if there is one
-abbrev pub with_new : {A : Type 0} → List A → Option A → List A
-with_new xs None = xs
-with_new xs (Some x) = xs ++ x ∷ []
+abbrev pub with_item : {A : Type 0} → List A → Option A → List A
+with_item xs None = xs
+with_item xs (Some x) = xs ++ x ∷ []
 
 -- names without one that is spent, if there is one
 abbrev pub spend : {A : Type 0} → List (Option A) → Option ℕ → List (Option A)
@@ -189,7 +189,7 @@ spend slots (Some n) = slice_set slots n None
 
 -- first the new name, then the spent one
 abbrev pub slots_after : {A : Type 0} → List (Option A) → Option A → Option ℕ → List (Option A)
-slots_after slots new spent = spend (with_new slots (option_map Some new)) spent
+slots_after slots new spent = spend (with_item slots (option_map Some new)) spent
 
 -- names that share their numbers with those of another kind: one more of these, or of those
 abbrev pub with_either : {A B : Type 0} → List (Option A) → Option A → Option B → List (Option A)
@@ -205,16 +205,16 @@ abbrev pub slot_at : {A : Type 0} → List (Option A) → ℕ → Option A
 slot_at slots n = slice_index_or slots n None
 
 -- the entries of all lanes with those of one of them changed
-abbrev pub on_lane : (ℕ → List ℕ) → ℕ → List ℕ → ℕ → List ℕ
-on_lane es lane ids = λ l. if lane == l then ids else es l
+abbrev pub lanes_with : (ℕ → List ℕ) → ℕ → List ℕ → ℕ → List ℕ
+lanes_with es lane ids = λ l. if lane == l then ids else es l
 
-abbrev pub with_entry : (ℕ → List ℕ) → ℕ → Option ℕ → ℕ → List ℕ
-with_entry es lane None = es
-with_entry es lane (Some s) = on_lane es lane (es lane ++ s ∷ [])
+abbrev pub lanes_with_entry : (ℕ → List ℕ) → ℕ → Option ℕ → ℕ → List ℕ
+lanes_with_entry es lane None = es
+lanes_with_entry es lane (Some s) = lanes_with es lane (es lane ++ s ∷ [])
 
-abbrev pub with_exit : (ℕ → List ℕ) → ℕ → Option ℕ → ℕ → List ℕ
-with_exit es lane None = es
-with_exit es lane (Some s) = on_lane es lane (without_last (λ x. x == s) (es lane))
+abbrev pub lanes_with_exit : (ℕ → List ℕ) → ℕ → Option ℕ → ℕ → List ℕ
+lanes_with_exit es lane None = es
+lanes_with_exit es lane (Some s) = lanes_with es lane (without_last (λ x. x == s) (es lane))
 
 -- the contexts of all lanes with one more on one of them, and without the last one of an owner
 abbrev pub with_attached : (ℕ → List Attached) → ℕ → Option Attached → ℕ → List Attached
@@ -226,12 +226,12 @@ with_detached cs lane None = cs
 with_detached cs lane (Some owner) = λ l. if lane == l then without_last (is_by owner) (cs lane) else cs l
 
 -- What an effect makes of what was recorded: spans start, one is made, and may start, ops are done, and spans close.
-abbrev pub with_made : ℕ → Option Made → Recording → Recording
-with_made s None r = r
-with_made s (Some m) r = record r { spans = with_span s m.told r.spans }
+abbrev pub with_span_made : ℕ → Option MadeSpan → Recording → Recording
+with_span_made s None r = r
+with_span_made s (Some m) r = record r { spans = with_span_data s m.made_with r.spans }
 
 abbrev pub begun_by : ℕ → Effect → Recording → Recording
-begun_by s e r = with_starts e.begins e.at (with_made s e.made (fold (λ r s. with_start s e.at r) r e.starts))
+begun_by s e r = with_starts e.begins e.at (with_span_made s e.new_span (fold (λ r s. with_start s e.at r) r e.starts))
 
 abbrev pub done_by : ℕ → Effect → Recording → Recording
 done_by s e r = fold (λ r d. with_applied d.span e.at d.op r) (begun_by s e r) e.ops
@@ -245,51 +245,51 @@ open_part r = record r { tokens = []; finished = [] }
 
 -- the records of the spans that an effect closes, in order
 abbrev pub records_of : Tables → Effect → List Record
-records_of t e = (recorded_by (length t.made) e t.recording).finished
+records_of t e = (recorded_by (length t.spans) e t.recording).finished
 
 -- the newer of two texts, and what was heard since
 abbrev pub newer : Option (List ℕ) → Option (List ℕ) → Option (List ℕ)
 newer old None = old
 newer old (Some text) = Some text
 
-abbrev pub heard_since : List Heard → Option (List ℕ) → List Heard
-heard_since past None = past
-heard_since past (Some text) = []
+abbrev pub hooks_since : List FilterHook → Option (List ℕ) → List FilterHook
+hooks_since past None = past
+hooks_since past (Some text) = []
 
 -- the tables after one effect more
-abbrev pub after : Tables → Effect → Tables
-after t e = record {
+abbrev pub after_effect : Tables → Effect → Tables
+after_effect t e = record {
   handles = slots_after t.handles e.new_handle e.spent_handle;
   guards = either_after t.guards e.new_guard e.new_attach e.spent_guard;
   attaches = either_after t.attaches e.new_attach e.new_guard e.spent_attach;
-  named = with_new t.named e.new_context;
-  made = with_new t.made e.made;
+  named_contexts = with_item t.named_contexts e.new_context;
+  spans = with_item t.spans e.new_span;
   closed = t.closed ++ e.closes;
-  entries = with_exit (with_entry t.entries e.lane e.entry) e.lane e.exit;
+  entries = lanes_with_exit (lanes_with_entry t.entries e.lane e.entry) e.lane e.exit;
   contexts = with_detached (with_attached t.contexts e.lane e.attach) e.lane e.detach;
-  recording = open_part (recorded_by (length t.made) e t.recording);
+  recording = open_part (recorded_by (length t.spans) e t.recording);
   filter = newer t.filter e.filter;
-  heard = heard_since t.heard e.filter ++ e.heard;
+  hooks = hooks_since t.hooks e.filter ++ e.hooks;
   moment = e.at;
 }
 
 abbrev pub tables : Setup → History → Tables
-tables setup h = fold after (no_tables setup) h
+tables setup h = fold after_effect (no_tables setup) h
 
 -- a scope's own span, if it has one
-abbrev pub own : Scope → Option ℕ
-own [] = None
-own (s ∷ up) = Some s
+abbrev pub own_span : Scope → Option ℕ
+own_span [] = None
+own_span (s ∷ up) = Some s
 
-abbrev pub made_of : List Made → ℕ → Made
-made_of makings s = slice_index_or makings s no_making
+abbrev pub made_of : List MadeSpan → ℕ → MadeSpan
+made_of makings s = slice_index_or makings s no_made_span
 
 -- the place of the callsite of a scope's own span, if it has one
-abbrev pub site_of : List Made → Scope → Option ℕ
+abbrev pub site_of : List MadeSpan → Scope → Option ℕ
 site_of makings [] = None
 site_of makings (s ∷ up) = Some (made_of makings s).site
 
 -- the scope of a span, if there is one
-abbrev pub scope_of : List Made → Option ℕ → Scope
+abbrev pub scope_of : List MadeSpan → Option ℕ → Scope
 scope_of makings None = []
 scope_of makings (Some s) = (made_of makings s).scope

@@ -5,7 +5,7 @@ use trace_base::discard::Discard;
 /// What the guard of an attach keeps.
 pub struct Attach {
     /// The place of its lane.
-    pub lane: u64,
+    pub place: u64,
     /// What was attached there.
     pub attached: Attached,
 }
@@ -13,7 +13,7 @@ pub struct Attach {
 /// Its context stays attached for good.
 impl Discard for Attach {
     fn discard(self) {
-        let Attach { lane: _, attached } = self;
+        let Attach { place: _, attached } = self;
         attached.discard();
     }
 }

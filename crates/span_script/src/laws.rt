@@ -1,8 +1,8 @@
 //! What holds of every pipeline and its history. Each law is a function that does nothing.
 ghost use Rattle.std.specs.Prelude.{◌≡◌, ℕ, ◌∷◌, ◌&&◌, not, nat_lt, None, Some, slice_set};
 ghost use Rattle.trace_base.specs.Spans.{span_at, is_in};
-ghost use Rattle.span_handles.specs.Worlds.{Released, closed_in};
-ghost use Rattle.span_script.specs.Tables.{Tables, Scope, slot_at, after};
+ghost use Rattle.span_handles.specs.Worlds.{ReleasesChain, closed_in};
+ghost use Rattle.span_script.specs.Tables.{Tables, Scope, slot_at, after_effect};
 ghost use Rattle.span_script.specs.calls.Here.{Here};
 ghost use Rattle.span_script.specs.calls.Spans.{is_open, closed_of, drop_effect};
 ghost use Rattle.span_script.specs.Fits.{State, Fits};
@@ -14,12 +14,12 @@ pub fn holds()
         → nat_lt 0 (span_at k.spans.made s).holds ≡ is_open t.handles s }
     ensures closes { (k next : State) (stands : Here) (handle : ℕ) (scope : Scope) → Fits k stands.script
         → slot_at stands.script.handles handle ≡ Some scope
-        → Fits next (after stands.script (drop_effect stands handle scope)) → (s : ℕ)
+        → Fits next (after_effect stands.script (drop_effect stands handle scope)) → (s : ℕ)
         → is_in s (closed_of (slice_set stands.script.handles handle None) scope)
         ≡ (nat_lt 0 (span_at k.spans.made s).holds && not (nat_lt 0 (span_at next.spans.made s).holds)) }
     ensures order { (k next : State) (stands : Here) (handle s : ℕ) (up : Scope) → Fits k stands.script
         → slot_at stands.script.handles handle ≡ Some (s ∷ up)
-        → Fits next (after stands.script (drop_effect stands handle (s ∷ up)))
-        → (r : Released (Some s) k.spans next.spans)
+        → Fits next (after_effect stands.script (drop_effect stands handle (s ∷ up)))
+        → (r : ReleasesChain (Some s) k.spans next.spans)
         → closed_in (Some s) k.spans next.spans r ≡ closed_of (slice_set stands.script.handles handle None) (s ∷ up) }
 {}

@@ -12,7 +12,7 @@ pub struct Guard {
     /// The number of its handle.
     pub handle: u64,
     /// The place of its lane.
-    pub lane: u64,
+    pub place: u64,
     /// Whether it owns the handle.
     pub owns: bool,
     /// The entry.
@@ -24,7 +24,7 @@ impl Discard for Guard {
     fn discard(self) {
         let Guard {
             handle: _,
-            lane: _,
+            place: _,
             owns: _,
             entry,
         } = self;

@@ -1,11 +1,11 @@
 -- A layer that may count events by a filter: what it keeps, and what an event makes of its span.
 use Rattle.std.proofs.Common.{◌≡◌, ℕ, Bool, subst, ◌∙◌}
 use Rattle.std.specs.Prelude.{Option, Some, None, drop}
-use Rattle.otel_base.specs.Recorder.{Recorded}
+use Rattle.otel_base.specs.Recorder.{RecorderValue}
 use Rattle.otel_base.specs.Tracer.{TracerCall}
 use Rattle.trace_base.specs.declared.callsite.Callsite.{Callsite}
 use Rattle.trace_base.specs.layers.Hooks.{Hook}
-use Rattle.otel_layer.specs.Core.{Core, Roomed}
+use Rattle.otel_layer.specs.Core.{Core, CoreWithRoom}
 use Rattle.otel_layer.specs.Counting.{counted_events, counted_keep_own}
 use Rattle.otel_layer.specs.laws.HookLemmas.{KeepsOwn, all_keep_own}
 use Rattle.otel_layer.specs.Rooming.{same_core_does}
@@ -13,12 +13,12 @@ use Rattle.otel_layer.specs.Steps.{Events, SameCore, DoesHook, all_events}
 use Rattle.span_stack.specs.declared.telemetry.Telemetry.{Telemetry}
 use Rattle.span_stack.specs.declared.telemetry.Telemetry.TheVariants.{Plain, Counting}
 
-abbrev pub roomed_of : {T F : Type 0} → Telemetry T F → Roomed T
-roomed_of (Plain layer) = layer
-roomed_of (Counting layer) = layer.inner
+abbrev pub core_with_room_of : {T F : Type 0} → Telemetry T F → CoreWithRoom T
+core_with_room_of (Plain layer) = layer
+core_with_room_of (Counting layer) = layer.inner
 
 abbrev pub core_of : {T F : Type 0} → Telemetry T F → Core T
-core_of s = (roomed_of s).core
+core_of s = (core_with_room_of s).core
 
 -- the filter that it counts by, if it counts
 abbrev pub counter_of : {T F : Type 0} → Telemetry T F → Option F
@@ -31,10 +31,10 @@ events_by enables None = all_events
 events_by enables (Some filter) = counted_events (enables filter)
 
 -- the same without the oldest record
-abbrev pub without_record : Roomed Recorded → Roomed Recorded
+abbrev pub without_record : CoreWithRoom RecorderValue → CoreWithRoom RecorderValue
 without_record l = record l { core = record l.core { tracer = record l.core.tracer { finished = drop 1 l.core.tracer.finished } } }
 
-abbrev pub taken_from : {F : Type 0} → Telemetry Recorded F → Telemetry Recorded F
+abbrev pub taken_from : {F : Type 0} → Telemetry RecorderValue F → Telemetry RecorderValue F
 taken_from (Plain layer) = Plain (without_record layer)
 taken_from (Counting layer) = Counting (record layer { inner = without_record layer.inner })
 

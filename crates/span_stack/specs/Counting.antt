@@ -7,7 +7,7 @@ use Rattle.trace_base.specs.Calls.{SubscriberCall, NewSpan, Records, Follows, Ev
 use Rattle.otel_state.specs.declared.op.Op.TheVariants as ops
 use Rattle.otel_state.specs.fields.EventFields.{event_of}
 use Rattle.otel_layer.specs.Recording.{Recording, with_applied, with_event, RecordsCall}
-use Rattle.env_filter.specs.Filtering.{Filtered, enables_in}
+use Rattle.env_filter.specs.Filtering.{FilterState, enables_in}
 
 -- an event is counted, and applied after that if it is taken
 abbrev pub with_counted : Bool → ℕ → ℕ → Callsite → ValueSet → Recording → Recording
@@ -15,13 +15,13 @@ with_counted true id at callsite values r = with_applied id at (event_of callsit
 with_counted false id at callsite values r = with_applied id at ops.Counted r
 
 -- the same of one that may reach no span, on a lane, where a filter counts or none does
-abbrev pub with_event_by : Option Filtered → Option ℕ → ℕ → ℕ → Callsite → ValueSet → Recording → Recording
+abbrev pub with_event_by : Option FilterState → Option ℕ → ℕ → ℕ → Callsite → ValueSet → Recording → Recording
 with_event_by None reached lane at callsite values r = with_event reached at callsite values r
 with_event_by (Some f) None lane at callsite values r = r
 with_event_by (Some f) (Some id) lane at callsite values r = with_counted (enables_in f lane callsite) id at callsite values r
 
 -- each call but an event is as it is where none is counted
-abbrev pub RecordsCallBy : Option Filtered → Spans → Recording → SubscriberCall → Recording → Type 0
+abbrev pub RecordsCallBy : Option FilterState → Spans → Recording → SubscriberCall → Recording → Type 0
 RecordsCallBy counter spans r (Event lane at place site callsite values) t =
     t ≡ with_event_by counter (place_on (entries_on lane.id spans.lanes) place) lane.id at callsite values r
 RecordsCallBy counter spans r (NewSpan lane at place site callsite values) t = RecordsCall spans r (NewSpan lane at place site callsite values) t

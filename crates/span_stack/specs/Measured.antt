@@ -3,16 +3,16 @@ use Rattle.std.specs.Prelude.{ℕ, List, []}
 use Rattle.trace_base.specs.Gate.{Worlds}
 use Rattle.trace_base.specs.Calls.{SubscriberCall, Event}
 use Rattle.span_registry.specs.declared.layered.Layered.{Layered}
-use Rattle.span_handles.specs.Worlds.{seen}
+use Rattle.span_handles.specs.Worlds.{member_of}
 use Rattle.otel_metrics.specs.declared.measure.Measure.{Measure}
 use Rattle.otel_metrics.specs.Measures.{measures}
 use Rattle.span_stack.specs.declared.measuring.Measuring.{Measuring}
 
-abbrev pub waiting : {S : Type 0} → Layered Measuring S → List Measure
-waiting s = s.layer.layer.measures
+abbrev pub waiting_measures : {S : Type 0} → Layered Measuring S → List Measure
+waiting_measures s = s.layer.layer.measures
 
 abbrev pub measures_over : {S : Type 0} → Worlds (Layered Measuring S) → ℕ → List Measure
-measures_over world dispatch = seen waiting [] world dispatch
+measures_over world dispatch = member_of waiting_measures [] world dispatch
 
 -- what a call adds
 abbrev pub measured_by : SubscriberCall → List Measure

@@ -6,7 +6,7 @@ ghost use Rattle.trace_base.specs.Calls.{SubscriberCall};
 ghost use Rattle.span_registry.specs.declared.layered.Layered.{Layered};
 ghost use Rattle.span_handles.specs.Worlds.{Replaced, Chain, spans_in};
 ghost use Rattle.env_filter.specs.declared.reload.Layer.{Layer};
-ghost use Rattle.env_filter.specs.Filtering.{Filtering};
+ghost use Rattle.env_filter.specs.Filtering.{FilterWithRoom};
 ghost use Rattle.span_stack.specs.Filtered.{filter_after, FiltersChain};
 ghost use Rattle.span_stack.specs.Reading.{filter_in};
 
@@ -20,14 +20,14 @@ pub type Filtered<S> = Layered<reload::Layer<EnvFilter>, S>;
 
 /// One call is one step of the filter in place.
 pub fn calls<S: Subscriber>()
-    ensures call { (old new : Worlds (Layered (Layer Filtering) S)) (dispatch : ℕ) (call : SubscriberCall)
+    ensures call { (old new : Worlds (Layered (Layer FilterWithRoom) S)) (dispatch : ℕ) (call : SubscriberCall)
         → Replaced (λ s t. ⟦<Filtered<S> as Subscriber>⟧.does s call t) old new dispatch
         → filter_in new dispatch ≡ option_map
         (filter_after (spans_in ⟦<Filtered<S> as Subscriber>⟧.spans old dispatch) call) (filter_in old dispatch) }
-    ensures same { (old new : Worlds (Layered (Layer Filtering) S)) (dispatch : ℕ)
+    ensures same { (old new : Worlds (Layered (Layer FilterWithRoom) S)) (dispatch : ℕ)
         → Replaced ⟦<Filtered<S> as Subscriber>⟧.same old new dispatch
         → filter_in new dispatch ≡ filter_in old dispatch }
-    ensures chain { (old new : Worlds (Layered (Layer Filtering) S)) (dispatch at id : ℕ)
+    ensures chain { (old new : Worlds (Layered (Layer FilterWithRoom) S)) (dispatch at id : ℕ)
         → Replaced (λ s t. Chain ⟦<Filtered<S> as Subscriber>⟧.spans ⟦<Filtered<S> as Subscriber>⟧.does at
         (Some id) s t) old new dispatch
         → FiltersChain (Some id) (spans_in ⟦<Filtered<S> as Subscriber>⟧.spans old dispatch)

@@ -4,9 +4,9 @@ ghost use Rattle.trace_base.specs.declared.callsite.Callsite.{Callsite};
 ghost use Rattle.trace_base.specs.Gate.{AreSame, Admits};
 ghost use Rattle.span_handles.specs.Worlds.{Has, Replaced, Alike};
 ghost use Rattle.otel_layer.specs.Parts.{StaysStack};
-ghost use Rattle.env_filter.specs.Filtering.{Filtered, plain, is_admitted, IsNew};
+ghost use Rattle.env_filter.specs.Filtering.{FilterState, plain, is_admitted, IsNewFilter};
 ghost use Rattle.env_filter.specs.Reloading.{Swaps};
-ghost use Rattle.span_stack.specs.Reading.{recording_in, filter_in, counter_in, measures_in, IsCurrent};
+ghost use Rattle.span_stack.specs.Reading.{recording_in, filter_in, counter_in, measures_in, HasCurrentInterests};
 
 use crate::stack::Stack;
 use env_filter::filter::EnvFilter;
@@ -39,8 +39,8 @@ pub fn admits(world: &World<Stack>, dispatch: Dispatch, lane: &Lane, site: SiteI
     requires site { site < length world.now.sites }
     requires there { dispatch < length world.now.subscribers }
     requires whole { Has ⟦<Stack as Subscriber>⟧.is_whole world.now dispatch }
-    requires current { IsCurrent world.now }
-    ensures { (f : Filtered) (c : Callsite) → filter_in world.now dispatch ≡ Some f
+    requires current { HasCurrentInterests world.now }
+    ensures { (f : FilterState) (c : Callsite) → filter_in world.now dispatch ≡ Some f
         → slice_get world.now.sites site ≡ Some c → result ≡ is_admitted f lane.now.id c }
 {
     admits_by(world, dispatch, lane, site)
@@ -67,7 +67,7 @@ pub fn put_in_force(
     dispatch: Dispatch,
     filter: EnvFilter,
 ) -> Result<(), Memory>
-    requires new { IsNew (plain filter) }
+    requires new { IsNewFilter (plain filter) }
     requires there { dispatch < length world.old.subscribers }
     requires in_place { is_some (filter_in world.old dispatch) ≡ true }
 
@@ -78,7 +78,7 @@ pub fn put_in_force(
 
     ensures others { Alike ⟦<Stack as Subscriber>⟧.spans ⟦<Stack as Subscriber>⟧.attaches
         ⟦<Stack as Subscriber>⟧.kept ⟦<Stack as Subscriber>⟧.is_whole world.old world.new dispatch }
-    ensures current { OnOk result (IsCurrent world.new) }
+    ensures current { OnOk result (HasCurrentInterests world.new) }
     ensures sites { world.new.sites ≡ world.old.sites }
     ensures global { world.new.global ≡ world.old.global }
 
@@ -92,7 +92,7 @@ pub fn put_in_force(
         (AreSame ⟦<Stack as Subscriber>⟧.same world.old.subscribers world.new.subscribers) }
     ensures memory_leaves { OnErr result (filter_in world.new dispatch ≡ filter_in world.old dispatch) }
     ensures memory_cached { OnErr result (world.new.cached ≡ world.old.cached) }
-    ensures memory_current { OnErr result (IsCurrent world.old → IsCurrent world.new) }
+    ensures memory_current { OnErr result (HasCurrentInterests world.old → HasCurrentInterests world.new) }
 {
     room::<Stack>();
     let mut other = filter;

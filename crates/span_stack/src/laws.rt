@@ -6,15 +6,15 @@ ghost use Rattle.trace_base.specs.declared.callsite.Kind.TheVariants as kind;
 ghost use Rattle.trace_base.specs.Calls.{SubscriberCall};
 ghost use Rattle.span_handles.specs.Worlds.{Replaced, Alike, Chain, spans_in};
 ghost use Rattle.otel_layer.specs.Parts.{PartCall};
-ghost use Rattle.otel_layer.specs.Table.{told_at};
+ghost use Rattle.otel_layer.specs.Table.{data_at};
 ghost use Rattle.otel_layer.specs.Recording.{RecordsChain, RecordsPart};
 ghost use Rattle.env_directives.specs.orders.Choice.{admits};
-ghost use Rattle.env_filter.specs.Filtering.{Filtered, IsNew, enables_in};
+ghost use Rattle.env_filter.specs.Filtering.{FilterState, IsNewFilter, enables_in};
 ghost use Rattle.span_stack.specs.Counting.{RecordsCallBy};
 ghost use Rattle.span_stack.specs.Filtered.{filter_after, FiltersChain};
 ghost use Rattle.span_stack.specs.Measured.{measured_by};
-ghost use Rattle.span_stack.specs.Over.{StepsOver, AsksOver};
-ghost use Rattle.span_stack.specs.Reading.{StackWorlds, recording_in, filter_in, counter_in, measures_in, IsCurrent, without_first, WithoutMeasure};
+ghost use Rattle.span_stack.specs.Over.{StepsWithOuter, AsksOuter};
+ghost use Rattle.span_stack.specs.Reading.{StackWorlds, recording_in, filter_in, counter_in, measures_in, HasCurrentInterests, without_first, WithoutMeasure};
 
 use crate::over;
 use crate::stack::{RecordedStack, Stack};
@@ -25,24 +25,24 @@ use trace_base::subscriber::Subscriber;
 fn of_stack()
     ensures calls { (old new : StackWorlds) (dispatch : ℕ) (call : SubscriberCall)
         → Replaced (λ s t. ⟦<Stack as Subscriber>⟧.does s call t) old new dispatch
-        → StepsOver (λ s t. ⟦<RecordedStack as Subscriber>⟧.does s call t)
+        → StepsWithOuter (λ s t. ⟦<RecordedStack as Subscriber>⟧.does s call t)
         (λ f g. g ≡ option_map (filter_after (spans_in ⟦<Stack as Subscriber>⟧.spans old dispatch) call) f)
         (λ ms. ms ++ measured_by call) ⟦<Stack as Subscriber>⟧.interest old new dispatch }
     ensures same { (old new : StackWorlds) (dispatch : ℕ)
         → Replaced ⟦<Stack as Subscriber>⟧.same old new dispatch
-        → StepsOver ⟦<RecordedStack as Subscriber>⟧.same (λ f g. g ≡ f) (λ ms. ms)
+        → StepsWithOuter ⟦<RecordedStack as Subscriber>⟧.same (λ f g. g ≡ f) (λ ms. ms)
         ⟦<Stack as Subscriber>⟧.interest old new dispatch }
     ensures chains { (old new : StackWorlds) (dispatch at id : ℕ)
         → Replaced (λ s t. Chain ⟦<Stack as Subscriber>⟧.spans ⟦<Stack as Subscriber>⟧.does at (Some id) s t)
         old new dispatch
-        → StepsOver
+        → StepsWithOuter
         (λ s t. Chain ⟦<RecordedStack as Subscriber>⟧.spans ⟦<RecordedStack as Subscriber>⟧.does at (Some id) s t)
         (λ f g. FiltersChain (Some id) (spans_in ⟦<Stack as Subscriber>⟧.spans old dispatch)
         (spans_in ⟦<Stack as Subscriber>⟧.spans new dispatch) f g)
         (λ ms. ms) ⟦<Stack as Subscriber>⟧.interest old new dispatch }
     ensures asks { (old new : StackWorlds) (dispatch : ℕ) (call : PartCall)
         → Replaced (λ s t. ⟦<Stack as OtelPart>⟧.touches s call t) old new dispatch
-        → AsksOver ⟦<RecordedStack as OtelPart>⟧.touches call old new dispatch }
+        → AsksOuter ⟦<RecordedStack as OtelPart>⟧.touches call old new dispatch }
 {
     over::steps::<RecordedStack>();
 }
@@ -66,7 +66,7 @@ pub fn calls()
         → measures_in new dispatch ≡ measures_in old dispatch ++ measured_by call }
     ensures current { (old new : StackWorlds) (dispatch : ℕ) (call : SubscriberCall)
         → Replaced (λ s t. ⟦<Stack as Subscriber>⟧.does s call t) old new dispatch
-        → IsCurrent old → IsCurrent new }
+        → HasCurrentInterests old → HasCurrentInterests new }
 {
     of_stack();
 }
@@ -86,7 +86,7 @@ pub fn same()
         → Replaced ⟦<Stack as Subscriber>⟧.same old new dispatch
         → measures_in new dispatch ≡ measures_in old dispatch }
     ensures current { (old new : StackWorlds) (dispatch : ℕ)
-        → Replaced ⟦<Stack as Subscriber>⟧.same old new dispatch → IsCurrent old → IsCurrent new }
+        → Replaced ⟦<Stack as Subscriber>⟧.same old new dispatch → HasCurrentInterests old → HasCurrentInterests new }
 {
     of_stack();
 }
@@ -115,7 +115,7 @@ pub fn chains()
     ensures current { (old new : StackWorlds) (dispatch at id : ℕ)
         → Replaced (λ s t. Chain ⟦<Stack as Subscriber>⟧.spans ⟦<Stack as Subscriber>⟧.does at (Some id) s t)
         old new dispatch
-        → IsCurrent old → IsCurrent new }
+        → HasCurrentInterests old → HasCurrentInterests new }
 {
     of_stack();
 }
@@ -136,7 +136,7 @@ pub fn asks()
         → measures_in new dispatch ≡ measures_in old dispatch }
     ensures current { (old new : StackWorlds) (dispatch : ℕ) (call : PartCall)
         → Replaced (λ s t. ⟦<Stack as OtelPart>⟧.touches s call t) old new dispatch
-        → IsCurrent old → IsCurrent new }
+        → HasCurrentInterests old → HasCurrentInterests new }
 {
     of_stack();
 }
@@ -145,7 +145,7 @@ pub fn asks()
 pub fn next()
     ensures { (world : StackWorlds) (dispatch : ℕ) (s : _)
         → slice_get world.subscribers dispatch ≡ Some s → ⟦<Stack as Subscriber>⟧.is_whole s
-        → told_at (length (spans_in ⟦<Stack as Subscriber>⟧.spans world dispatch).made)
+        → data_at (length (spans_in ⟦<Stack as Subscriber>⟧.spans world dispatch).made)
         (recording_in world dispatch).spans ≡ None }
 {}
 
@@ -161,7 +161,7 @@ pub fn takes()
     ensures measures { (old new : StackWorlds) (dispatch : ℕ) → Replaced (λ s t. t ≡ without_first s) old new dispatch
         → measures_in new dispatch ≡ measures_in old dispatch }
     ensures current { (old new : StackWorlds) (dispatch : ℕ) → Replaced (λ s t. t ≡ without_first s) old new dispatch
-        → IsCurrent old → IsCurrent new }
+        → HasCurrentInterests old → HasCurrentInterests new }
     ensures others { (old new : StackWorlds) (dispatch : ℕ) → Replaced (λ s t. t ≡ without_first s) old new dispatch
         → Alike ⟦<Stack as Subscriber>⟧.spans ⟦<Stack as Subscriber>⟧.attaches ⟦<Stack as Subscriber>⟧.kept
         ⟦<Stack as Subscriber>⟧.is_whole old new dispatch }
@@ -178,7 +178,7 @@ pub fn takes_measure()
     ensures counter { (old new : StackWorlds) (dispatch : ℕ) → Replaced WithoutMeasure old new dispatch
         → counter_in new dispatch ≡ counter_in old dispatch }
     ensures current { (old new : StackWorlds) (dispatch : ℕ) → Replaced WithoutMeasure old new dispatch
-        → IsCurrent old → IsCurrent new }
+        → HasCurrentInterests old → HasCurrentInterests new }
     ensures others { (old new : StackWorlds) (dispatch : ℕ) → Replaced WithoutMeasure old new dispatch
         → Alike ⟦<Stack as Subscriber>⟧.spans ⟦<Stack as Subscriber>⟧.attaches ⟦<Stack as Subscriber>⟧.kept
         ⟦<Stack as Subscriber>⟧.is_whole old new dispatch }
@@ -186,6 +186,6 @@ pub fn takes_measure()
 
 /// A filter that was just made, and is told of nothing, takes the events that its static directives let through.
 pub fn statics()
-    ensures { (f : Filtered) (lane : ℕ) (c : Callsite) → IsNew f → c.kind ≡ kind.Event
+    ensures { (f : FilterState) (lane : ℕ) (c : Callsite) → IsNewFilter f → c.kind ≡ kind.Event
         → enables_in f lane c ≡ admits f.statics.directives c }
 {}

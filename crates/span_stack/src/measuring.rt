@@ -3,7 +3,7 @@ ghost use Rattle.std.specs.Prelude.{◌≡◌, [], ◌∷◌, ◌++◌, drop, fa
 ghost use Rattle.std.proofs.Common.{refl, ap, ◌∙◌};
 ghost use Rattle.trace_base.specs.declared.lane.Lane.{Lane};
 ghost use Rattle.trace_base.specs.layers.Unseeing.{unseeing_sees, unseeing_lanes};
-ghost use Rattle.otel_metrics.specs.Waiting.{told_by};
+ghost use Rattle.otel_metrics.specs.Waiting.{measures_of_hook};
 ghost use Rattle.otel_layer.specs.Parts.{TouchesNone};
 ghost use Rattle.otel_layer.specs.laws.CallsLemmas.{still_layer};
 
@@ -96,7 +96,7 @@ impl Layer for Measuring {
 
     ghost same_whole = { λ s t h w. w };
 
-    ghost same_does = { λ s t hook u h d. (d.0 ∙ ap (λ l. l ++ told_by hook) h, d.1) };
+    ghost same_does = { λ s t hook u h d. (d.0 ∙ ap (λ l. l ++ measures_of_hook hook) h, d.1) };
 
     ghost sees = { λ s hook t d. unseeing_sees hook };
 

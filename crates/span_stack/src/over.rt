@@ -7,7 +7,7 @@ ghost use Rattle.span_handles.specs.Worlds.{Replaced, Chain, spans_in};
 ghost use Rattle.otel_layer.specs.Parts.{PartCall};
 ghost use Rattle.span_stack.specs.Filtered.{filter_after, FiltersChain};
 ghost use Rattle.span_stack.specs.Measured.{measured_by};
-ghost use Rattle.span_stack.specs.Over.{StepsOver, AsksOver};
+ghost use Rattle.span_stack.specs.Over.{StepsWithOuter, AsksOuter};
 ghost use Rattle.span_stack.specs.Reading.{StackOver};
 
 use crate::interests::stay_fresh;
@@ -27,22 +27,22 @@ pub type Over<S> = Layered<reload::Layer<EnvFilter>, Layered<Measuring, S>>;
 pub fn steps<S: OtelSubscriber>()
     ensures calls { (old new : Worlds (StackOver S)) (dispatch : ℕ) (call : SubscriberCall)
         → Replaced (λ s t. ⟦<Over<S> as Subscriber>⟧.does s call t) old new dispatch
-        → StepsOver (λ s t. S.does s call t)
+        → StepsWithOuter (λ s t. S.does s call t)
         (λ f g. g ≡ option_map (filter_after (spans_in ⟦<Over<S> as Subscriber>⟧.spans old dispatch) call) f)
         (λ ms. ms ++ measured_by call) ⟦<Over<S> as Subscriber>⟧.interest old new dispatch }
     ensures same { (old new : Worlds (StackOver S)) (dispatch : ℕ)
         → Replaced ⟦<Over<S> as Subscriber>⟧.same old new dispatch
-        → StepsOver S.same (λ f g. g ≡ f) (λ ms. ms) ⟦<Over<S> as Subscriber>⟧.interest old new dispatch }
+        → StepsWithOuter S.same (λ f g. g ≡ f) (λ ms. ms) ⟦<Over<S> as Subscriber>⟧.interest old new dispatch }
     ensures chains { (old new : Worlds (StackOver S)) (dispatch at id : ℕ)
         → Replaced (λ s t. Chain ⟦<Over<S> as Subscriber>⟧.spans ⟦<Over<S> as Subscriber>⟧.does at (Some id) s t)
         old new dispatch
-        → StepsOver (λ s t. Chain S.spans S.does at (Some id) s t)
+        → StepsWithOuter (λ s t. Chain S.spans S.does at (Some id) s t)
         (λ f g. FiltersChain (Some id) (spans_in ⟦<Over<S> as Subscriber>⟧.spans old dispatch)
         (spans_in ⟦<Over<S> as Subscriber>⟧.spans new dispatch) f g)
         (λ ms. ms) ⟦<Over<S> as Subscriber>⟧.interest old new dispatch }
     ensures asks { (old new : Worlds (StackOver S)) (dispatch : ℕ) (call : PartCall)
         → Replaced (λ s t. ⟦<Over<S> as OtelPart>⟧.touches s call t) old new dispatch
-        → AsksOver S.touches call old new dispatch }
+        → AsksOuter S.touches call old new dispatch }
 {
     through::calls::<reload::Layer<EnvFilter>, Layered<Measuring, S>>();
     through::calls::<Measuring, S>();

@@ -3,9 +3,9 @@ ghost use Rattle.std.specs.Prelude.{◌≡◌, ◌<◌, ℕ, Some, MatchOption, 
 ghost use Rattle.std.specs.Option.{option_map};
 ghost use Rattle.span_registry.specs.Registering.{no_spans};
 ghost use Rattle.otel_layer.specs.Core.{new_core};
-ghost use Rattle.env_filter.specs.Filtering.{plain, IsNew};
+ghost use Rattle.env_filter.specs.Filtering.{plain, IsNewFilter};
 ghost use Rattle.span_handles.specs.Worlds.{Replaced, spans_in};
-ghost use Rattle.span_stack.specs.Reading.{recorded, counts_by, measured, in_place, recording_in, measures_in, new_recording, without_first, WithoutMeasure};
+ghost use Rattle.span_stack.specs.Reading.{stack_recording, counts_by, stack_measures, in_place, recording_in, measures_in, new_recording, without_first, WithoutMeasure};
 
 use crate::measuring::Measuring;
 use crate::telemetry::Telemetry;
@@ -60,13 +60,13 @@ pub fn new_stack(
     filter: EnvFilter,
     counting: Option<EnvFilter>,
 ) -> Stack
-    requires new { IsNew (plain filter) }
+    requires new { IsNewFilter (plain filter) }
 
     ensures spans { ⟦<Stack as Subscriber>⟧.spans result ≡ no_spans }
     ensures kept { (lane number : ℕ) → ⟦<Stack as Subscriber>⟧.kept result lane number ≡ 0 }
-    ensures recording { recorded result ≡ new_recording settings (is_some counting) }
+    ensures recording { stack_recording result ≡ new_recording settings (is_some counting) }
     ensures counter { counts_by result ≡ option_map plain counting }
-    ensures measures { measured result ≡ [] }
+    ensures measures { stack_measures result ≡ [] }
     ensures filter { in_place result ≡ Some (plain filter) }
     ensures whole { ⟦<Stack as Subscriber>⟧.is_whole result }
 {

@@ -9,7 +9,7 @@ ghost use Rattle.otel_layer.specs.laws.HookLemmas.{does_whole, same_whole_core};
 ghost use Rattle.otel_layer.specs.laws.KnownSpansLemmas.{does_sees};
 ghost use Rattle.otel_layer.specs.laws.LaneLemmas.{does_lanes, does_passive, does_settings};
 ghost use Rattle.otel_layer.specs.Rooming.{same_core_refl, same_core_trans};
-ghost use Rattle.span_stack.specs.Counters.{roomed_of, core_of, counter_of, events_by, keep_own_by, does_by};
+ghost use Rattle.span_stack.specs.Counters.{core_with_room_of, core_of, counter_of, events_by, keep_own_by, does_by};
 
 use crate::telemetry::Telemetry;
 use otel_base::enter_error::EnterError;
@@ -47,7 +47,7 @@ impl<T: Tracer, F: Filter> Layer for Telemetry<T, F> {
 
     ghost does = { λ s hook t. DoesHook T.does (events_by F.enables (counter_of s)) (core_of s) hook (core_of t) × (counter_of t ≡ counter_of s) };
 
-    ghost ready = { λ s preparation r. IsReadyOtel (roomed_of s) preparation r };
+    ghost ready = { λ s preparation r. IsReadyOtel (core_with_room_of s) preparation r };
 
     ghost same_refl = { λ s. (same_core_refl T.does (core_of s), refl) };
 

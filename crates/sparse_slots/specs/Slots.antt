@@ -2,7 +2,7 @@
 use Rattle.std.specs.Prelude.{◌≡◌, ℕ, ◌+◌, ◌-◌, ◌<◌, ◌==◌, if◌then◌else◌, List, Option, Some, None, IfSome, option_map, slice_get, slice_index_or}
 
 -- the values by their numbers, none where one was taken out, and for how many more numbers and values there is room
-pub record Slotted (X : Type 0) : Type 0 where
+pub record SlotsValue (X : Type 0) : Type 0 where
   pub items : List (Option X)
   pub room : ℕ
   pub space : ℕ

@@ -11,7 +11,7 @@ use std::marker::Model;
 use trace_base::discard::Discard;
 
 // As many values may be there at once, since a place is counted in four bytes.
-const MOST: usize = 4_294_967_295;
+const MAX_LIVE: usize = 4_294_967_295;
 
 /// Values by their numbers, which are given in turn from 0. Each is there until it is taken out.
 pub struct Slots<T> {
@@ -23,15 +23,15 @@ pub struct Slots<T> {
 
 impl<T> Model for Slots<T> {
     ghost use Rattle.std.specs.Prelude.{◌-◌, map, min, length, vec_capacity};
-    ghost use Rattle.sparse_slots.specs.Slots.{Slotted, value_at, AreLinked};
-    ghost use Rattle.sparse_slots.specs.declared.TheConstants.{MOST};
+    ghost use Rattle.sparse_slots.specs.Slots.{SlotsValue, value_at, AreLinked};
+    ghost use Rattle.sparse_slots.specs.declared.TheConstants.{MAX_LIVE};
 
-    ghost Value = { Slotted T };
+    ghost Value = { SlotsValue T };
 
     ghost view = { λ s. record {
       items = map (value_at s.live.items) s.places.items;
       room = vec_capacity s.places - length s.places.items;
-      space = min MOST (vec_capacity s.live) - length s.live.items;
+      space = min MAX_LIVE (vec_capacity s.live) - length s.live.items;
     } };
 
     ghost invariant = { λ s. AreLinked s.places.items s.live.items };
@@ -74,7 +74,7 @@ impl<T> Slots<T> {
         ensures room { OnOk result (0 < self.new.room) }
         ensures space { OnOk result (0 < self.new.space) }
     {
-        if self.live.len() >= MOST {
+        if self.live.len() >= MAX_LIVE {
             return Err(Memory);
         }
         self.places.reserve(1)?;

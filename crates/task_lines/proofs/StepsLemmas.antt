@@ -15,7 +15,7 @@ use Rattle.trace_pipeline.specs.declared.told.Told.TheVariants.{BadLine}
 use Rattle.trace_pipeline.specs.forms.AttributeForm.{otel_value_of}
 use Rattle.trace_pipeline.specs.forms.FieldForm.{fields_of}
 use Rattle.trace_pipeline.specs.forms.Forms.{all_of, each}
-use Rattle.trace_pipeline.specs.text.Compact.{Reads, Begins}
+use Rattle.trace_pipeline.specs.text.Compact.{ReadsValue, BeginsWithValue}
 use Rattle.trace_pipeline.proofs.readings.CompactLemmas.{Pair, read_items, read_compact}
 use Rattle.trace_pipeline.proofs.readings.LinesLemmas.{read_value}
 use Rattle.trace_tasks.specs.declared.script.Step.{Step}
@@ -61,7 +61,7 @@ attribute_text words value rest = ap (λ (t : List ℕ). codes "{\"do\":\"set_at
     (ap (λ (t : List ℕ). quoted words ++ (codes ",\"value\":" ++ t)) (sym (append_assoc (compact_text value) (125 ∷ []) rest))
     ∙ sym (append_assoc (quoted words) (codes ",\"value\":" ++ (compact_text value ++ 125 ∷ [])) rest))
 
-pub event_begins : (text list tail rest : List ℕ) (site : ℕ) (d : Data) (fields : List (List ℕ × Value)) → text ≡ codes "{\"do\":\"event\",\"fields\":" ++ list → Begins 18 list d tail → fields_of d ≡ Some fields
+pub event_begins : (text list tail rest : List ℕ) (site : ℕ) (d : Data) (fields : List (List ℕ × Value)) → text ≡ codes "{\"do\":\"event\",\"fields\":" ++ list → BeginsWithValue 18 list d tail → fields_of d ≡ Some fields
     → tail ≡ codes ",\"site\":" ++ (decimal site ++ 125 ∷ rest) → site < 2 ^ 64 → BeginsStep text (step.Event site fields) rest
 unfolding step_form event_form escape_byte
 event_begins text list tail rest site d fields front b given behind fits = (
@@ -82,7 +82,7 @@ alone_begins text rest site fields is fits none = (
   ap (λ (fs : List (List ℕ × Value)). Some (step.Event site fs)) (sym none),
 )
 
-pub record_begins : (text list tail rest : List ℕ) (d : Data) (fields : List (List ℕ × Value)) → text ≡ codes "{\"do\":\"record\",\"fields\":" ++ list → Begins 18 list d tail → fields_of d ≡ Some fields
+pub record_begins : (text list tail rest : List ℕ) (d : Data) (fields : List (List ℕ × Value)) → text ≡ codes "{\"do\":\"record\",\"fields\":" ++ list → BeginsWithValue 18 list d tail → fields_of d ≡ Some fields
     → tail ≡ 125 ∷ rest → BeginsStep text (step.Record fields) rest
 unfolding step_form record_form escape_byte
 record_begins text list tail rest d fields front b given behind = (
@@ -96,7 +96,7 @@ record_begins text list tail rest d fields front b given behind = (
 )
 
 pub attribute_begins : (text named words tail inner end rest : List ℕ) (d : Data) (value : OtelValue) → text ≡ codes "{\"do\":\"set_attribute\",\"key\":" ++ named → named ≡ quoted words ++ tail
-    → tail ≡ codes ",\"value\":" ++ inner → Begins 16 inner d end → otel_value_of d ≡ Some value → end ≡ 125 ∷ rest → BeginsStep text (step.SetAttribute words value) rest
+    → tail ≡ codes ",\"value\":" ++ inner → BeginsWithValue 16 inner d end → otel_value_of d ≡ Some value → end ≡ 125 ∷ rest → BeginsStep text (step.SetAttribute words value) rest
 unfolding step_form set_attribute_form escape_byte
 attribute_begins text named words tail inner end rest d value front key middle b given behind = (
   attribute_data words d,
@@ -151,7 +151,7 @@ abbrev fielded_members : Data → ℕ → Data → Members
 fielded_members fields site list = member (codes "fields") fields (task_members site list)
 
 -- what an object's compact text spells
-spells : (raw ms : Members) (task : Task) (line : List ℕ) → IsUtf8 line → line ≡ compact_text (object raw) → Reads 21 (object raw) (object ms) → all_of task_form ms ≡ Some task → task_spelled line ≡ Ok task
+spells : (raw ms : Members) (task : Task) (line : List ℕ) → IsUtf8 line → line ≡ compact_text (object raw) → ReadsValue 21 (object raw) (object ms) → all_of task_form ms ≡ Some task → task_spelled line ≡ Ok task
 unfolding task_spelled
 spells raw ms task line utf8 is reads formed =
     let value = read_value line (object ms) utf8 (ap read is ∙ read_compact (object raw) (object ms) reads.0 (omega (arith, reads.1)) reads.2) in
@@ -169,7 +169,7 @@ task_read line site fields steps utf8 fits e none =
     (rw given refl)
     ∙ ap (λ (fs : List (List ℕ × Value)). Ok (record { site = site; fields = fs; steps = steps })) (sym none)
 
-pub fielded_read : (line list tail : List ℕ) (site : ℕ) (d : Data) (fields : List (List ℕ × Value)) (steps : List Step) → IsUtf8 line → line ≡ codes "{\"fields\":" ++ list → Begins 18 list d tail
+pub fielded_read : (line list tail : List ℕ) (site : ℕ) (d : Data) (fields : List (List ℕ × Value)) (steps : List Step) → IsUtf8 line → line ≡ codes "{\"fields\":" ++ list → BeginsWithValue 18 list d tail
     → fields_of d ≡ Some fields → site < 2 ^ 64 → EndsTask (codes ",\"site\":") tail site steps → task_spelled line ≡ Ok (record { site = site; fields = fields; steps = steps })
 unfolding task_form escape_byte
 fielded_read line list tail site d fields steps utf8 front f named fits e =

@@ -3,17 +3,17 @@ use Rattle.std.specs.Prelude.{◌≡◌, ℕ, ◌+◌, List, [], ◌∷◌, ◌+
 use Rattle.serde_json.specs.Data.{Data, Items, array}
 use Rattle.trace_pipeline.specs.declared.read.scan.TheConstants.{DEEPEST}
 use Rattle.trace_pipeline.specs.forms.Forms.{each}
-use Rattle.trace_pipeline.specs.text.Compact.{Begins}
+use Rattle.trace_pipeline.specs.text.Compact.{BeginsWithValue}
 use Rattle.trace_tasks.specs.declared.script.Step.{Step}
 use Rattle.task_lines.specs.TaskForm.{step_of}
 
 -- the text begins with a step
 abbrev pub BeginsStep : List ℕ → Step → List ℕ → Type 0
-BeginsStep text step rest = (d : Data) × Begins (DEEPEST + 3) text d rest × (step_of d ≡ Some step)
+BeginsStep text step rest = (d : Data) × BeginsWithValue (DEEPEST + 3) text d rest × (step_of d ≡ Some step)
 
 -- the text begins with an array of steps
 abbrev pub BeginsSteps : List ℕ → List Step → List ℕ → Type 0
-BeginsSteps text steps rest = (ds : Items) × Begins (DEEPEST + 4) text (array ds) rest × (each step_of ds ≡ Some steps)
+BeginsSteps text steps rest = (ds : Items) × BeginsWithValue (DEEPEST + 4) text (array ds) rest × (each step_of ds ≡ Some steps)
 
 -- the text is a front, a callsite's number, and the steps that close a task's object
 abbrev pub EndsTask : (front text : List ℕ) → ℕ → List Step → Type 0

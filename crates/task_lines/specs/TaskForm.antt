@@ -5,9 +5,9 @@ use Rattle.trace_pipeline.specs.declared.told.Told.{Told}
 use Rattle.trace_pipeline.specs.declared.told.Told.TheVariants.{BadLine}
 use Rattle.trace_pipeline.specs.forms.AttributeForm.{otel_value_of}
 use Rattle.trace_pipeline.specs.forms.FieldForm.{fields_of}
-use Rattle.trace_pipeline.specs.forms.Forms.{Form, ◌>>=◌, give, when, whole, text, member, array, each, object_of, all_of}
+use Rattle.trace_pipeline.specs.forms.Forms.{Form, ◌>>=◌, give, when, natural, text, member, array, each, object_of, all_of}
 use Rattle.trace_pipeline.specs.forms.RequestForm.{fields_form}
-use Rattle.trace_pipeline.specs.reading.Spelled.{spelled}
+use Rattle.trace_pipeline.specs.reading.Spelled.{value_on_line}
 use Rattle.trace_tasks.specs.declared.script.Step.{Step}
 use Rattle.trace_tasks.specs.declared.script.Step.TheVariants as step
 use Rattle.trace_tasks.specs.declared.script.Task.{Task}
@@ -30,7 +30,7 @@ word_form = do
 -- `event` tells an event of a callsite, with the values of some fields
 unfoldable pub event_form : Form Step
 event_form = do
-  site ← whole (codes "site")
+  site ← natural (codes "site")
   fields ← fields_form
   give (step.Event site fields)
 
@@ -67,7 +67,7 @@ step_of d = object_of step_form d
 -- a task: the callsite of its span, the values of some fields, and its steps
 unfoldable pub task_form : Form Task
 task_form = do
-  site ← whole (codes "site")
+  site ← natural (codes "site")
   fields ← fields_form
   values ← array (codes "task")
   steps ← when (each step_of values)
@@ -75,4 +75,4 @@ task_form = do
 
 -- the task that a line spells
 unfoldable pub task_spelled : List ℕ → Result Task Told
-task_spelled line = ok_or (spelled (all_of task_form) line) BadLine
+task_spelled line = ok_or (value_on_line (all_of task_form) line) BadLine

@@ -2,9 +2,9 @@
 ghost use Rattle.std.specs.Prelude.{◌≡◌, Ok, Err, IfOk, IsErrOf};
 ghost use Rattle.trace_pipeline.specs.forms.Forms.{all_of, each};
 ghost use Rattle.trace_pipeline.specs.reading.Gives.{Gives};
-ghost use Rattle.trace_pipeline.specs.reading.Left.{value_data, left};
+ghost use Rattle.trace_pipeline.specs.reading.Left.{value_data, members_left};
 ghost use Rattle.trace_pipeline.specs.reading.Object.{items};
-ghost use Rattle.trace_pipeline.specs.reading.Spelled.{spelled};
+ghost use Rattle.trace_pipeline.specs.reading.Spelled.{value_on_line};
 ghost use Rattle.trace_pipeline.specs.declared.told.Told.TheVariants as told;
 ghost use Rattle.task_lines.specs.TaskForm.{step_word, word_form, event_form, record_form, set_attribute_form, step_form_of, step_form, step_of, task_form, task_spelled};
 
@@ -37,7 +37,7 @@ fn step_word(word: &str) -> Option<StepWord>
 
 // Takes what is to be done.
 fn taken_word(object: &mut Object) -> Result<StepWord, LineError>
-    ensures { Gives (λ w. (w, left object.new)) result (word_form (left object.old)) }
+    ensures { Gives (λ w. (w, members_left object.new)) result (word_form (members_left object.old)) }
 {
     let word = object.member("do")?;
     step_word(word.word()?).ok_or(LineError::BadLine)
@@ -45,7 +45,7 @@ fn taken_word(object: &mut Object) -> Result<StepWord, LineError>
 
 #[tactic(auto, unfolding(crate::specs::TaskForm::event_form))]
 fn event_step(alloc: Global, object: &mut Object) -> Result<Step, LineError>
-    ensures { Gives (λ s. (s, left object.new)) result (event_form (left object.old)) }
+    ensures { Gives (λ s. (s, members_left object.new)) result (event_form (members_left object.old)) }
 {
     let site = object.whole("site")?;
     let fields = given_fields(alloc, object)?;
@@ -54,7 +54,7 @@ fn event_step(alloc: Global, object: &mut Object) -> Result<Step, LineError>
 
 #[tactic(auto, unfolding(crate::specs::TaskForm::record_form))]
 fn record_step(alloc: Global, object: &mut Object) -> Result<Step, LineError>
-    ensures { Gives (λ s. (s, left object.new)) result (record_form (left object.old)) }
+    ensures { Gives (λ s. (s, members_left object.new)) result (record_form (members_left object.old)) }
 {
     let fields = fields_of(alloc, object.member("fields")?)?;
     Ok(Step::Record { fields })
@@ -62,7 +62,7 @@ fn record_step(alloc: Global, object: &mut Object) -> Result<Step, LineError>
 
 #[tactic(auto, unfolding(crate::specs::TaskForm::set_attribute_form))]
 fn set_attribute_step(alloc: Global, object: &mut Object) -> Result<Step, LineError>
-    ensures { Gives (λ s. (s, left object.new)) result (set_attribute_form (left object.old)) }
+    ensures { Gives (λ s. (s, members_left object.new)) result (set_attribute_form (members_left object.old)) }
 {
     let key = object.text(alloc, "key")?;
     let value = otel_value_of(alloc, object.member("value")?)?;
@@ -70,7 +70,7 @@ fn set_attribute_step(alloc: Global, object: &mut Object) -> Result<Step, LineEr
 }
 
 fn step_by(alloc: Global, word: StepWord, object: &mut Object) -> Result<Step, LineError>
-    ensures { Gives (λ s. (s, left object.new)) result (step_form_of word (left object.old)) }
+    ensures { Gives (λ s. (s, members_left object.new)) result (step_form_of word (members_left object.old)) }
 {
     match word {
         StepWord::Event => event_step(alloc, object),
@@ -83,7 +83,7 @@ fn step_by(alloc: Global, word: StepWord, object: &mut Object) -> Result<Step, L
 // Takes the members of a step.
 #[tactic(auto, unfolding(crate::specs::TaskForm::step_form))]
 fn step_members(alloc: Global, object: &mut Object) -> Result<Step, LineError>
-    ensures { Gives (λ s. (s, left object.new)) result (step_form (left object.old)) }
+    ensures { Gives (λ s. (s, members_left object.new)) result (step_form (members_left object.old)) }
 {
     let word = taken_word(object)?;
     step_by(alloc, word, object)
@@ -113,7 +113,7 @@ fn steps(alloc: Global, values: Vec<Value<'_>>) -> Result<Items<Step>, LineError
 // Takes the members of a task.
 #[tactic(auto, unfolding(crate::specs::TaskForm::task_form))]
 fn task_members(alloc: Global, object: &mut Object) -> Result<Task, LineError>
-    ensures { Gives (λ t. (t, left object.new)) result (task_form (left object.old)) }
+    ensures { Gives (λ t. (t, members_left object.new)) result (task_form (members_left object.old)) }
 {
     let site = object.whole("site")?;
     let fields = given_fields(alloc, object)?;
@@ -127,7 +127,7 @@ fn task_members(alloc: Global, object: &mut Object) -> Result<Task, LineError>
 }
 
 fn task_of(alloc: Global, line: &[u8]) -> Result<Task, LineError>
-    ensures { Gives (λ t. t) result (spelled (all_of task_form) line.now) }
+    ensures { Gives (λ t. t) result (value_on_line (all_of task_form) line.now) }
 {
     let mut object = Object::open(alloc, line)?;
     let task = task_members(alloc, &mut object)?;

@@ -16,7 +16,7 @@ use Rattle.trace_tasks.specs.declared.script.Task.{Task}
 use Rattle.trace_tasks.specs.declared.script.TaskScript.{TaskScript}
 use Rattle.trace_tasks.specs.Begun.{AllSited}
 use Rattle.trace_tasks.specs.FieldNames.{declares_all, declares_by}
-use Rattle.trace_tasks.specs.Flat.{all_polls, begun, yields}
+use Rattle.trace_tasks.specs.Flat.{all_polls, tasks_at_first, yields}
 use Rattle.trace_tasks.specs.Spelled.{IsDeclared, IsTested, AreTested}
 use Rattle.trace_tasks.proofs.queues.BegunTasksLemmas.{answer_is}
 use Rattle.task_lines.specs.Fit.{has_lane, has_sites, has_fields, tells_fields, missing_name}

@@ -19,49 +19,49 @@ abbrev pub Lines : Type 0
 Lines = Result TaskScript RefusedLine
 
 -- goes on, or is refused at a line
-abbrev pub going_on : {A : Type 0} → Result A Told → ℕ → (A → Lines) → Lines
-going_on (Ok x) line go = go x
-going_on (Err why) line go = Err (record { line = line; told = why })
+abbrev pub lines_unless_refused : {A : Type 0} → Result A Told → ℕ → (A → Lines) → Lines
+lines_unless_refused (Ok x) line go = go x
+lines_unless_refused (Err why) line go = Err (record { line = line; told = why })
 
 -- settings whose texts of directives are read
 abbrev pub if_read : OpeningRead → Settings → Result Settings Told
 if_read (Ok read) settings = Ok settings
 if_read (Err unread) settings = Err (told.Directive unread.0 unread.1)
 
-abbrev pub opened : Result Settings Told → Result Settings Told
-opened (Ok settings) = if_read (opening_read settings.filter settings.counting) settings
-opened (Err why) = Err why
+abbrev pub settings_if_read : Result Settings Told → Result Settings Told
+settings_if_read (Ok settings) = if_read (opening_read settings.filter settings.counting) settings
+settings_if_read (Err why) = Err why
 
 -- the settings on a line, or why the line is refused
 unfoldable pub settings_on : List ℕ → Result Settings Told
-settings_on text = opened (settings_spelled text)
+settings_on text = settings_if_read (settings_spelled text)
 
 -- a task that names nothing that isn't there
 abbrev pub unless_missing : Option What → Task → Result Task Told
 unless_missing None task = Ok task
 unless_missing (Some missing) task = Err (told.Step (refusal.UnknownName missing))
 
-abbrev pub fitting : Settings → Result Task Told → Result Task Told
-fitting settings (Ok task) = unless_missing (missing_name settings task) task
-fitting settings (Err why) = Err why
+abbrev pub task_if_declared : Settings → Result Task Told → Result Task Told
+task_if_declared settings (Ok task) = unless_missing (missing_name settings task) task
+task_if_declared settings (Err why) = Err why
 
 -- the task on a line, or why the line is refused
 unfoldable pub task_on : Settings → List ℕ → Result Task Told
-task_on settings text = fitting settings (task_spelled text)
+task_on settings text = task_if_declared settings (task_spelled text)
 
 -- the script whose task lines follow, so many lines having come before
 abbrev pub tasks_on : Settings → List Task → ℕ → List (List ℕ) → Lines
 tasks_on settings tasks n [] = Ok (record { settings = settings; tasks = tasks })
 tasks_on settings tasks n (text ∷ lines) =
     if is_blank text then tasks_on settings tasks (n + 1) lines else
-    going_on (task_on settings text) (n + 1) (λ task. tasks_on settings (tasks ++ task ∷ []) (n + 1) lines)
+    lines_unless_refused (task_on settings text) (n + 1) (λ task. tasks_on settings (tasks ++ task ∷ []) (n + 1) lines)
 
 -- The first line that isn't blank is the settings line. If there is none, the lines are refused at their end.
 abbrev pub tasks_from : ℕ → List (List ℕ) → Lines
 tasks_from n [] = Err (record { line = n + 1; told = told.BadLine })
 tasks_from n (text ∷ lines) =
     if is_blank text then tasks_from (n + 1) lines else
-    going_on (settings_on text) (n + 1) (λ settings. tasks_on settings [] (n + 1) lines)
+    lines_unless_refused (settings_on text) (n + 1) (λ settings. tasks_on settings [] (n + 1) lines)
 
 -- what lines come to
 abbrev pub tasks_of : List (List ℕ) → Lines

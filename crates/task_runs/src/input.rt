@@ -2,7 +2,7 @@
 ghost use Rattle.std.specs.Prelude.{◌≡◌, not, None, IfSome, IfOk};
 ghost use Rattle.trace_pipeline.specs.Lines.{lines_of};
 ghost use Rattle.script_lines.specs.Refusals.{Refuses, NoneRefused};
-ghost use Rattle.task_runs.specs.Reading.{Reads};
+ghost use Rattle.task_runs.specs.Reading.{HasReadLines};
 ghost use Rattle.task_runs.specs.Texts.{accepts_tasks, TellsTasks};
 
 use crate::run::run_task_script;
@@ -15,7 +15,7 @@ use std::random::RandomSource;
 
 // A reader that has read the lines of some bytes.
 fn read_lines(alloc: Global, bytes: &[u8]) -> Result<TaskReader, Memory>
-    ensures { IfOk result (Reads (lines_of bytes.now)) }
+    ensures { IfOk result (HasReadLines (lines_of bytes.now)) }
 {
     let mut reader = TaskReader::new();
     let mut rest = bytes;

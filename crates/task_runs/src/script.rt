@@ -1,6 +1,6 @@
 //! A script of tasks that is read line by line.
 ghost use Rattle.std.specs.Prelude.{◌≡◌, ◌≢◌, ℕ, List, [], ◌∷◌, ◌++◌, OnOk, IfOk, IfErr};
-ghost use Rattle.task_runs.specs.Reading.{Reads, ReadsSettings, ReadsTask, IsRefusedBy, EndsAs};
+ghost use Rattle.task_runs.specs.Reading.{HasReadLines, ReadsSettings, ReadsTask, IsRefusedBy, EndsAs};
 
 use otel_base::list::Items;
 use otel_base::memory::Memory;
@@ -37,7 +37,7 @@ pub struct TaskReader {
 impl TaskReader {
     /// A reader before the first line.
     pub fn new() -> TaskReader
-        ensures { Reads [] result }
+        ensures { HasReadLines [] result }
     {
         TaskReader {
             lines: 0,
@@ -47,8 +47,8 @@ impl TaskReader {
 
     /// Reads one line more. Behind a refused line nothing is read. `Memory` freely; what is left then stands for no lines.
     pub fn line(&mut self, alloc: Global, line: &[u8]) -> Result<(), Memory>
-        ensures { (lines : List (List ℕ)) → Reads lines self.old
-            → OnOk result (Reads (lines ++ line.now ∷ []) self.new) }
+        ensures { (lines : List (List ℕ)) → HasReadLines lines self.old
+            → OnOk result (HasReadLines (lines ++ line.now ∷ []) self.new) }
     {
         // No input has so many lines that the sum wraps.
         let number = self.lines.checked_add(1).ok_or(Memory)?;
@@ -91,7 +91,7 @@ impl TaskReader {
 
     /// The line that is refused whatever lines follow, if one is.
     pub fn refused_line(&self) -> Option<RefusedLine>
-        ensures { (lines : List (List ℕ)) → Reads lines self.now → IsRefusedBy lines result }
+        ensures { (lines : List (List ℕ)) → HasReadLines lines self.now → IsRefusedBy lines result }
     {
         match &self.stage {
             Stage::Opening => None,
@@ -106,7 +106,7 @@ impl TaskReader {
     /// What came of the lines, where no line follows: the script, or the first refusal, which is that of an input without a
     /// settings line where all lines are blank. `Memory` freely.
     pub fn end(self) -> Result<Result<TaskScript, RefusedLine>, Memory>
-        ensures { (lines : List (List ℕ)) → Reads lines self → IfOk result (EndsAs lines) }
+        ensures { (lines : List (List ℕ)) → HasReadLines lines self → IfOk result (EndsAs lines) }
     {
         let TaskReader { lines, stage } = self;
         match stage {

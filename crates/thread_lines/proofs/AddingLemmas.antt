@@ -8,17 +8,17 @@ use Rattle.script_lines.specs.Refusals.{IsTold}
 use Rattle.thread_work.specs.declared.script.ThreadScript.{ThreadScript}
 use Rattle.thread_lines.specs.declared.stop.Stop.{Stop}
 use Rattle.thread_lines.specs.declared.stop.Stop.TheVariants as stop
-use Rattle.thread_lines.specs.Answers.{Answers, Adds}
+use Rattle.thread_lines.specs.Answers.{AnswersTest, AddsToScript}
 use Rattle.thread_lines.specs.Steps.{script_opened, text_added, at_line, lines_added, script_from, script_of}
 use Rattle.thread_lines.proofs.ToldLemmas.{script_told}
 
 -- ---- why a line is refused
 
-pub not_added : (U : Type 0) (new : ThreadScript) (why : Stop) (t : Told) (r : Result ThreadScript Told) → Adds {U = U} new (Err why) r → why ≡ stop.Refused t → r ≡ Err t
-not_added U new why t r adds is = subst (λ (x : Stop). Adds {U = U} new (Err x) r) is adds
+pub not_added : (U : Type 0) (new : ThreadScript) (why : Stop) (t : Told) (r : Result ThreadScript Told) → AddsToScript {U = U} new (Err why) r → why ≡ stop.Refused t → r ≡ Err t
+not_added U new why t r adds is = subst (λ (x : Stop). AddsToScript {U = U} new (Err x) r) is adds
 
-pub not_answered : {A B : Type 0} (view : A → B) (why : Stop) (t : Told) (r : Result B Told) → Answers view (Err why) r → why ≡ stop.Refused t → r ≡ Err t
-not_answered view why t r answers is = subst (λ (x : Stop). Answers view (Err x) r) is answers
+pub not_answered : {A B : Type 0} (view : A → B) (why : Stop) (t : Told) (r : Result B Told) → AnswersTest view (Err why) r → why ≡ stop.Refused t → r ≡ Err t
+not_answered view why t r answers is = subst (λ (x : Stop). AnswersTest view (Err x) r) is answers
 
 -- ---- behind the settings line
 

@@ -20,12 +20,12 @@ use Rattle.thread_work.specs.declared.script.ThreadScript.{ThreadScript}
 use Rattle.thread_work.specs.declared.script.WorkerOp.{WorkerOp}
 use Rattle.thread_work.specs.declared.script.WorkerCall.{WorkerCall}
 use Rattle.thread_work.specs.declared.script.WorkerCall.TheVariants as work
-use Rattle.thread_work.specs.Asks.{Ask, balanced, balanced_by}
+use Rattle.thread_work.specs.Asks.{Ask, is_balanced, balanced_by}
 use Rattle.thread_work.specs.Plans.{op_asked, record_asked, event_asked, site_of, part_by, part_on, AreTimed}
 use Rattle.thread_lines.specs.declared.line.ThreadOp.{ThreadOp}
 use Rattle.thread_lines.specs.declared.line.ThreadCall.{ThreadCall}
 use Rattle.thread_lines.specs.declared.line.ThreadCall.TheVariants as said
-use Rattle.thread_lines.specs.Steps.{◌>>=◌, required, unknown, named, in_time, move_of_call, entered_on, entered_after, has_entry_for, is_shared, is_entered, call_tested, op_tested, ops_tested}
+use Rattle.thread_lines.specs.Steps.{◌>>=◌, refuse_unless, names_nothing, need, in_time, move_of_call, entered_on, entered_after, has_entry_for, is_shared, is_entered, call_tested, op_tested, ops_tested}
 
 -- ---- tests that were passed
 
@@ -33,7 +33,7 @@ pub then_ok : {A B : Type 0} (r : Result A Told) (go : A → Result B Told) (b :
 then_ok (Ok a) go b e = (a, refl, e)
 then_ok (Err why) go b e = absurd (cc e)
 
-pub held : (why : Told) (b : Bool) (u : ⊤) → required why b ≡ Ok u → b ≡ true
+pub held : (why : Told) (b : Bool) (u : ⊤) → refuse_unless why b ≡ Ok u → b ≡ true
 held why true u e = refl
 held why false u e = absurd (cc e)
 
@@ -44,12 +44,12 @@ both false b e = absurd (cc e)
 -- ---- the span of a call is there
 
 there : (s : ThreadScript) (span : ℕ) (u : ⊤) → is_shared s span ≡ Ok u → span < length s.shared
-there s span u e = ltb-true span (length s.shared) (held (unknown names.Handle) (nat_lt span (length s.shared)) u e)
+there s span u e = ltb-true span (length s.shared) (held (names_nothing names.Handle) (nat_lt span (length s.shared)) u e)
 
 call_there : (s : ThreadScript) (entered : List ℕ) (span : ℕ) (call : ThreadCall) (what : WorkerCall) → call_tested s entered span call ≡ Ok what → span < length s.shared
 call_there s entered span (said.Record fields) what e = let a = then_ok (is_shared s span) _ what e in there s span a.0 a.1
 call_there s entered span (said.Event site fields) what e =
-    let a = then_ok (named names.Site (event_site s.callsites site)) _ what e in
+    let a = then_ok (need names.Site (event_site s.callsites site)) _ what e in
     let b = then_ok (is_shared s span) _ what a.2 in
     there s span b.0 b.1
 call_there s entered span (said.Own op) what e = let a = then_ok (is_shared s span) _ what e in there s span a.0 a.1
@@ -92,10 +92,10 @@ by_move n enters rest has e = e
 by_move n exits rest has e = ap (λ b. b && rest (n - 1)) has ∙ e
 by_move n stays rest has e = e
 
-by_part : (n at : ℕ) (m : Move) (op : Option Op) (rest : List Ask) → MovesAs m op → has_entry_for n m ≡ true → balanced rest (opens_after n m) ≡ true → balanced (part_by at op rest) n ≡ true
-by_part n at m None rest moves has e = subst (λ (x : Move). balanced rest (opens_after n x) ≡ true) moves e
+by_part : (n at : ℕ) (m : Move) (op : Option Op) (rest : List Ask) → MovesAs m op → has_entry_for n m ≡ true → is_balanced rest (opens_after n m) ≡ true → is_balanced (part_by at op rest) n ≡ true
+by_part n at m None rest moves has e = subst (λ (x : Move). is_balanced rest (opens_after n x) ≡ true) moves e
 by_part n at m (Some op) rest moves has e =
-    subst (λ (x : Move). balanced_by n x (balanced rest) ≡ true) (sym moves) (by_move n m (balanced rest) has e)
+    subst (λ (x : Move). balanced_by n x (is_balanced rest) ≡ true) (sym moves) (by_move n m (is_balanced rest) has e)
 
 -- ---- one call of a list
 
@@ -110,15 +110,15 @@ elsewhere entered span k m other = get_or-set_other entered span k (opens_after 
 
 one_more : (plan : Plan) (entered : List ℕ) (k : ℕ) (o : WorkerOp) (rest : List Ask) (b : Bool) → (o.span == k) ≡ b → k < length entered
     → has_entry_for (entered_on entered o.span) (move_of_call o.what) ≡ true
-    → balanced rest (slice_index_or (entered_after entered o.span (move_of_call o.what)) k 0) ≡ true
-    → balanced (part_by o.at (if b then op_asked plan o.span o.at o.what else None) rest) (slice_index_or entered k 0) ≡ true
+    → is_balanced rest (slice_index_or (entered_after entered o.span (move_of_call o.what)) k 0) ≡ true
+    → is_balanced (part_by o.at (if b then op_asked plan o.span o.at o.what else None) rest) (slice_index_or entered k 0) ≡ true
 one_more plan entered k o rest true is low has e =
     let same : o.span ≡ k = eqb-true o.span k is in
     by_part (slice_index_or entered k 0) o.at (move_of_call o.what) (op_asked plan o.span o.at o.what) rest (asked_moves plan o.span o.at o.what)
     (subst (λ (x : ℕ). has_entry_for (entered_on entered x) (move_of_call o.what) ≡ true) same has)
-    (subst (λ (n : ℕ). balanced rest n ≡ true) (here entered o.span k (move_of_call o.what) same low) e)
+    (subst (λ (n : ℕ). is_balanced rest n ≡ true) (here entered o.span k (move_of_call o.what) same low) e)
 one_more plan entered k o rest false is low has e =
-    subst (λ (n : ℕ). balanced rest n ≡ true) (elsewhere entered o.span k (move_of_call o.what) (λ same. eqb-false o.span k is (sym same))) e
+    subst (λ (n : ℕ). is_balanced rest n ≡ true) (elsewhere entered o.span k (move_of_call o.what) (λ same. eqb-false o.span k is (sym same))) e
 
 -- ---- what the tests of a call say
 
@@ -131,16 +131,16 @@ call_has s entered span (said.Record fields) what e =
     let is : work.Record fields ≡ what = cc a.2 in
     subst (λ (w : WorkerCall). has_entry_for (entered_on entered span) (move_of_call w) ≡ true) is refl
 call_has s entered span (said.Event site fields) what e =
-    let a = then_ok (named names.Site (event_site s.callsites site)) _ what e in
+    let a = then_ok (need names.Site (event_site s.callsites site)) _ what e in
     let b = then_ok (is_shared s span) _ what a.2 in
-    let c = then_ok (named names.Field (all_values a.0 fields)) _ what b.2 in
+    let c = then_ok (need names.Field (all_values a.0 fields)) _ what b.2 in
     let is : work.Event site c.0 ≡ what = cc c.2 in
     subst (λ (w : WorkerCall). has_entry_for (entered_on entered span) (move_of_call w) ≡ true) is refl
 call_has s entered span (said.Own op) what e =
     let a = then_ok (is_shared s span) _ what e in
     let b = then_ok (is_entered (entered_on entered span) op) _ what a.2 in
     let is : work.Own op ≡ what = cc b.2 in
-    subst (λ (w : WorkerCall). has_entry_for (entered_on entered span) (move_of_call w) ≡ true) is (held (unknown names.Guard) (has_entry_for (entered_on entered span) (move_of op)) b.0 b.1)
+    subst (λ (w : WorkerCall). has_entry_for (entered_on entered span) (move_of_call w) ≡ true) is (held (names_nothing names.Guard) (has_entry_for (entered_on entered span) (move_of op)) b.0 b.1)
 
 not_late : (a b : Bool) → not (a || b) ≡ true → b ≡ false
 not_late true b e = absurd (true≢false (sym e))
@@ -172,7 +172,7 @@ none_open (n ∷ entered) (suc k) all low = none_open entered k (both (n == 0) (
 -- no call is too late, and on no span of the plan an entry is closed that isn't open, or left open
 pub record Balances (plan : Plan) (entered : List ℕ) (ops : List WorkerOp) : Type 0 where
   pub timed : AreTimed ops
-  pub closed : (k : ℕ) → k < length entered → balanced (part_on plan k 0 ops) (slice_index_or entered k 0) ≡ true
+  pub closed : (k : ℕ) → k < length entered → is_balanced (part_on plan k 0 ops) (slice_index_or entered k 0) ≡ true
 
 more_balances : (plan : Plan) (entered : List ℕ) (o : WorkerOp) (ops : List WorkerOp) → Passed entered o → Balances plan (entered_after entered o.span (move_of_call o.what)) ops → Balances plan entered (o ∷ ops)
 more_balances plan entered o ops p b = record {

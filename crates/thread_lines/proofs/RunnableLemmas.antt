@@ -11,7 +11,7 @@ use Rattle.thread_work.specs.declared.plan.Plan.{Plan}
 use Rattle.thread_work.specs.declared.script.ThreadScript.{ThreadScript}
 use Rattle.thread_work.specs.declared.script.SharedLine.{SharedLine}
 use Rattle.thread_work.specs.declared.script.WorkerOp.{WorkerOp}
-use Rattle.thread_work.specs.Asks.{balanced}
+use Rattle.thread_work.specs.Asks.{is_balanced}
 use Rattle.thread_work.specs.Plans.{plan_of, part_on}
 use Rattle.thread_work.specs.Tests.{IsTested, AllTested}
 use Rattle.thread_lines.specs.declared.limits.TheConstants.{MOST_SPANS, MOST_WORKERS}
@@ -19,10 +19,10 @@ use Rattle.thread_lines.specs.declared.line.ThreadLine.{ThreadLine}
 use Rattle.thread_lines.specs.declared.line.ThreadLine.TheVariants as line
 use Rattle.thread_lines.specs.declared.line.ThreadOp.{ThreadOp}
 use Rattle.thread_lines.specs.Runnable.{AreShared, IsRunnable}
-use Rattle.thread_lines.specs.Steps.{named, in_time, has_lane, last_made, no_workers, with_shared, with_worker, shared_added, ops_tested, worker_added, line_added, text_added}
+use Rattle.thread_lines.specs.Steps.{need, in_time, has_lane, last_made, no_workers, with_shared, with_worker, shared_added, ops_tested, worker_added, line_added, text_added}
 use Rattle.thread_lines.proofs.BalanceLemmas.{then_ok, held, both, timely, all_balance}
 
-is_named : {A : Type 0} (w : What) (o : Option A) (a : A) → named w o ≡ Ok a → is_some o ≡ true
+is_named : {A : Type 0} (w : What) (o : Option A) (a : A) → need w o ≡ Ok a → is_some o ≡ true
 is_named w (Some x) a e = refl
 is_named w None a e = absurd (cc e)
 
@@ -45,7 +45,7 @@ with_shared_runs s l t e r =
     let a = then_ok _ _ t e in
     let b = then_ok (in_time (last_made s.shared) l.at) _ t a.2 in
     let c = then_ok (has_lane s 0) _ t b.2 in
-    let d = then_ok (named what.Site (span_site s.callsites l.site)) _ t c.2 in
+    let d = then_ok (need what.Site (span_site s.callsites l.site)) _ t c.2 in
     let room = both (no_workers s.workers) (nat_lt (length s.shared) MOST_SPANS) (held _ _ a.0 a.1) in
     let few = ltb-true (length s.shared) MOST_SPANS room.1 in
     let lanes = ltb-true 0 (length s.lanes) (held _ (nat_lt 0 (length s.lanes)) c.0 c.1) in
@@ -85,7 +85,7 @@ with_worker_runs s os t e r =
     let one : IsTested (plan_of s) c.0 = record {
       timed = balances.timed;
       closed = λ k low.
-          subst (λ (n : ℕ). balanced (part_on (plan_of s) k 0 c.0) n ≡ true) (zeros (length s.shared) k)
+          subst (λ (n : ℕ). is_balanced (part_on (plan_of s) k 0 c.0) n ≡ true) (zeros (length s.shared) k)
           (balances.closed k (omega (arith, low, so_many (length s.shared))));
     } in
     let runs : IsRunnable (with_worker s c.0) = record {

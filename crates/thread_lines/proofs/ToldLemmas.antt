@@ -15,7 +15,7 @@ use Rattle.trace_pipeline.specs.declared.told.Told.{Told}
 use Rattle.trace_pipeline.specs.declared.told.Told.TheVariants as told
 use Rattle.trace_pipeline.specs.forms.Forms.{all_of}
 use Rattle.trace_pipeline.specs.Lines.{is_blank}
-use Rattle.trace_pipeline.specs.reading.Spelled.{spelled, settings_spelled}
+use Rattle.trace_pipeline.specs.reading.Spelled.{value_on_line, settings_spelled}
 use Rattle.thread_work.specs.declared.script.ThreadScript.{ThreadScript}
 use Rattle.thread_work.specs.declared.script.SharedLine.{SharedLine}
 use Rattle.thread_lines.specs.declared.limits.TheConstants.{MOST_WORKERS}
@@ -26,7 +26,7 @@ use Rattle.thread_lines.specs.declared.line.ThreadCall.{ThreadCall}
 use Rattle.thread_lines.specs.declared.line.ThreadCall.TheVariants as said
 use Rattle.script_lines.specs.declared.refused_line.RefusedLine.{RefusedLine}
 use Rattle.script_lines.specs.Refusals.{IsTold}
-use Rattle.thread_lines.specs.Steps.{◌>>=◌, required, unknown, named, in_time, has_lane, directives, begun, opened, script_opened, last_made, has_room, shared_added, move_of_call, entered_on, entered_after, is_shared, is_entered, call_tested, op_tested, ops_tested, worker_added, line_added, text_added, at_line, lines_added, script_from, script_of}
+use Rattle.thread_lines.specs.Steps.{◌>>=◌, refuse_unless, names_nothing, need, in_time, has_lane, directives, script_at_first, script_if_read, script_opened, last_made, has_room, shared_added, move_of_call, entered_on, entered_after, is_shared, is_entered, call_tested, op_tested, ops_tested, worker_added, line_added, text_added, at_line, lines_added, script_from, script_of}
 use Rattle.thread_lines.specs.ThreadForm.{thread_form}
 
 -- what refuses is told
@@ -38,19 +38,19 @@ Tells r = (w : Told) → r ≡ Err w → IsTold w
 step_told : (r : Refusal) → r ≢ refusal.Memory → IsTold (told.Step r)
 step_told r other e = other (cc e)
 
-required_told : (t : Told) (b : Bool) → IsTold t → Tells (required t b)
+required_told : (t : Told) (b : Bool) → IsTold t → Tells (refuse_unless t b)
 required_told t true is w e = absurd (cc e)
 required_told t false is w e = (let same : t ≡ w = cc e in subst IsTold same is)
 
 bad_line : IsTold told.BadLine
 bad_line e = cc e
 
-no_name : (w : What) → IsTold (unknown w)
+no_name : (w : What) → IsTold (names_nothing w)
 no_name w = step_told (refusal.UnknownName w) (λ e. cc e)
 
-named_told : {A : Type 0} (w : What) (o : Option A) → Tells (named w o)
+named_told : {A : Type 0} (w : What) (o : Option A) → Tells (need w o)
 named_told w (Some x) v e = absurd (cc e)
-named_told w None v e = (let same : unknown w ≡ v = cc e in subst IsTold same (no_name w))
+named_told w None v e = (let same : names_nothing w ≡ v = cc e in subst IsTold same (no_name w))
 
 none_told : {A : Type 0} (a : A) → Tells {A = A} (Ok a)
 none_told a w e = absurd (cc e)
@@ -63,7 +63,7 @@ time_told : (before at : ℕ) → Tells (in_time before at)
 time_told before at = required_told (told.Step (refusal.BadMoment before at)) (not (is_bad_moment before at)) (step_told (refusal.BadMoment before at) (λ e. cc e))
 
 lane_told : (s : ThreadScript) (place : ℕ) → Tells (has_lane s place)
-lane_told s place = required_told (unknown what.Lane) (nat_lt place (length s.lanes)) (no_name what.Lane)
+lane_told s place = required_told (names_nothing what.Lane) (nat_lt place (length s.lanes)) (no_name what.Lane)
 
 -- ---- lines
 
@@ -75,21 +75,21 @@ directives_told : (r : OpeningRead) → Tells (directives r)
 directives_told (Ok read) w e = absurd (cc e)
 directives_told (Err unread) w e = (let same : told.Directive unread.0 unread.1 ≡ w = cc e in subst IsTold same (λ no. cc no))
 
-opened_told : (s : Settings) → Tells (opened s)
-opened_told s = then_told (directives (opening_read s.filter s.counting)) _ (directives_told (opening_read s.filter s.counting)) (λ a. none_told (begun s))
+opened_told : (s : Settings) → Tells (script_if_read s)
+opened_told s = then_told (directives (opening_read s.filter s.counting)) _ (directives_told (opening_read s.filter s.counting)) (λ a. none_told (script_at_first s))
 
 shared_told : (s : ThreadScript) (l : SharedLine) → Tells (shared_added s l)
 shared_told s l =
-    then_told (required told.BadLine (has_room s)) _ (required_told told.BadLine (has_room s) bad_line) (λ a.
+    then_told (refuse_unless told.BadLine (has_room s)) _ (required_told told.BadLine (has_room s) bad_line) (λ a.
     then_told (in_time (last_made s.shared) l.at) _ (time_told (last_made s.shared) l.at) (λ b.
     then_told (has_lane s 0) _ (lane_told s 0) (λ c.
-    then_told (named what.Site (span_site s.callsites l.site)) _ (named_told what.Site (span_site s.callsites l.site)) (λ d. none_told _))))
+    then_told (need what.Site (span_site s.callsites l.site)) _ (named_told what.Site (span_site s.callsites l.site)) (λ d. none_told _))))
 
 there_told : (s : ThreadScript) (span : ℕ) → Tells (is_shared s span)
-there_told s span = required_told (unknown what.Handle) (nat_lt span (length s.shared)) (no_name what.Handle)
+there_told s span = required_told (names_nothing what.Handle) (nat_lt span (length s.shared)) (no_name what.Handle)
 
 entered_told : (n : ℕ) (op : Op) → Tells (is_entered n op)
-entered_told n op = required_told (unknown what.Guard) _ (no_name what.Guard)
+entered_told n op = required_told (names_nothing what.Guard) _ (no_name what.Guard)
 
 call_told : (s : ThreadScript) (entered : List ℕ) (span : ℕ) (call : ThreadCall) → Tells (call_tested s entered span call)
 call_told s entered span (said.Record fields) = then_told (is_shared s span) _ (there_told s span) (λ a. none_told _)
@@ -115,7 +115,7 @@ ops_told s before entered (o ∷ os) =
 
 worker_told : (s : ThreadScript) (os : List ThreadOp) → Tells (worker_added s os)
 worker_told s os =
-    then_told (required told.BadLine (nat_lt (length s.workers) MOST_WORKERS)) _ (required_told told.BadLine (nat_lt (length s.workers) MOST_WORKERS) bad_line) (λ a.
+    then_told (refuse_unless told.BadLine (nat_lt (length s.workers) MOST_WORKERS)) _ (required_told told.BadLine (nat_lt (length s.workers) MOST_WORKERS) bad_line) (λ a.
     then_told (has_lane s (length s.workers)) _ (lane_told s (length s.workers)) (λ b.
     then_told (ops_tested s (last_made s.shared) (replicate (length s.shared) 0) os) _ (ops_told s (last_made s.shared) (replicate (length s.shared) 0) os) (λ c. none_told _)))
 
@@ -124,7 +124,7 @@ line_told s (line.Shared at site) = shared_told s (record { at = at; site = site
 line_told s (line.Worker ops) = worker_told s ops
 
 text_told : (s : ThreadScript) (text : List ℕ) → Tells (text_added s text)
-text_told s text = then_told (ok_or (spelled (all_of thread_form) text) told.BadLine) (line_added s) (spelled_told (spelled (all_of thread_form) text)) (λ l. line_told s l)
+text_told s text = then_told (ok_or (value_on_line (all_of thread_form) text) told.BadLine) (line_added s) (spelled_told (value_on_line (all_of thread_form) text)) (λ l. line_told s l)
 
 -- ---- all lines
 
@@ -160,7 +160,7 @@ from_told : (n : ℕ) (lines : List (List ℕ)) → TellsLine (script_from n lin
 from_told n [] = refused_bad (n + 1)
 from_told n (text ∷ lines) =
     by_blank (is_blank text) _ _ (from_told (n + 1) lines)
-    (at_told (n + 1) (script_opened text) _ (then_told (settings_spelled text) opened (settings_told text) opened_told) (λ s. added_told s (n + 1) lines))
+    (at_told (n + 1) (script_opened text) _ (then_told (settings_spelled text) script_if_read (settings_told text) opened_told) (λ s. added_told s (n + 1) lines))
 
 pub script_told : (lines : List (List ℕ)) → TellsLine (script_of lines)
 script_told lines = from_told 0 lines

@@ -8,16 +8,16 @@ use Rattle.thread_work.specs.declared.script.ThreadScript.{ThreadScript}
 use Rattle.thread_lines.specs.declared.stop.Stop.{Stop}
 use Rattle.thread_lines.specs.declared.stop.Stop.TheVariants as stop
 
-abbrev pub Answers : {A B : Type 0} → (A → B) → Result A Stop → Result B Told → Type 0
-Answers view (Ok a) tested = tested ≡ Ok (view a)
-Answers view (Err (stop.Refused why)) tested = tested ≡ Err why
-Answers view (Err stop.Memory) tested = Unit {0}
+abbrev pub AnswersTest : {A B : Type 0} → (A → B) → Result A Stop → Result B Told → Type 0
+AnswersTest view (Ok a) tested = tested ≡ Ok (view a)
+AnswersTest view (Err (stop.Refused why)) tested = tested ≡ Err why
+AnswersTest view (Err stop.Memory) tested = Unit {0}
 
 -- what is added to a script, which is left as it is where nothing is
-abbrev pub Adds : {U : Type 0} → ThreadScript → Result U Stop → Result ThreadScript Told → Type 0
-Adds new (Ok done) added = added ≡ Ok new
-Adds new (Err (stop.Refused why)) added = added ≡ Err why
-Adds new (Err stop.Memory) added = Unit {0}
+abbrev pub AddsToScript : {U : Type 0} → ThreadScript → Result U Stop → Result ThreadScript Told → Type 0
+AddsToScript new (Ok done) added = added ≡ Ok new
+AddsToScript new (Err (stop.Refused why)) added = added ≡ Err why
+AddsToScript new (Err stop.Memory) added = Unit {0}
 
 -- why nothing was read of a line
 abbrev pub stop_of : LineError → Stop

@@ -20,7 +20,7 @@ use Rattle.trace_pipeline.specs.declared.told.Told.{Told}
 use Rattle.trace_pipeline.specs.declared.told.Told.TheVariants as told
 use Rattle.trace_pipeline.specs.forms.Forms.{all_of}
 use Rattle.trace_pipeline.specs.Lines.{is_blank}
-use Rattle.trace_pipeline.specs.reading.Spelled.{spelled, settings_spelled}
+use Rattle.trace_pipeline.specs.reading.Spelled.{value_on_line, settings_spelled}
 use Rattle.thread_lines.specs.ThreadForm.{thread_form}
 use Rattle.script_lines.specs.declared.refused_line.RefusedLine.{RefusedLine}
 use Rattle.thread_lines.specs.declared.limits.TheConstants.{MOST_SPANS, MOST_WORKERS}
@@ -39,46 +39,46 @@ abbrev pub ◌>>=◌ : {A B : Type 0} → Result A Told → (A → Result B Told
 (Err why) >>= go = Err why
 
 -- refuses unless this holds
-abbrev pub required : Told → Bool → Result ⊤ Told
-required why true = Ok tt
-required why false = Err why
+abbrev pub refuse_unless : Told → Bool → Result ⊤ Told
+refuse_unless why true = Ok tt
+refuse_unless why false = Err why
 
 -- a name names nothing
-abbrev pub unknown : What → Told
-unknown w = told.Step (refusal.UnknownName w)
+abbrev pub names_nothing : What → Told
+names_nothing w = told.Step (refusal.UnknownName w)
 
 -- what a name names, which has to be there
-abbrev pub named : {A : Type 0} → What → Option A → Result A Told
-named w (Some x) = Ok x
-named w None = Err (unknown w)
+abbrev pub need : {A : Type 0} → What → Option A → Result A Told
+need w (Some x) = Ok x
+need w None = Err (names_nothing w)
 
 -- there is a lane at this place
 abbrev pub has_lane : ThreadScript → ℕ → Result ⊤ Told
-has_lane s place = required (unknown what.Lane) (nat_lt place (length s.lanes))
+has_lane s place = refuse_unless (names_nothing what.Lane) (nat_lt place (length s.lanes))
 
 -- the moment is neither too late nor below the one before
 abbrev pub in_time : ℕ → ℕ → Result ⊤ Told
-in_time before at = required (told.Step (refusal.BadMoment before at)) (not (is_bad_moment before at))
+in_time before at = refuse_unless (told.Step (refusal.BadMoment before at)) (not (is_bad_moment before at))
 
 -- ---- the settings line
 
 -- the script of some settings, before its lines
-abbrev pub begun : Settings → ThreadScript
-begun s = record { filter = s.filter; callsites = s.callsites; lanes = s.lanes; layer = s.layer; shared = []; workers = [] }
+abbrev pub script_at_first : Settings → ThreadScript
+script_at_first s = record { filter = s.filter; callsites = s.callsites; lanes = s.lanes; layer = s.layer; shared = []; workers = [] }
 
 -- a text of directives that isn't read is refused
 abbrev pub directives : OpeningRead → Result ⊤ Told
 directives (Ok read) = Ok tt
 directives (Err unread) = Err (told.Directive unread.0 unread.1)
 
-abbrev pub opened : Settings → Result ThreadScript Told
-opened s = do
+abbrev pub script_if_read : Settings → Result ThreadScript Told
+script_if_read s = do
   read ← directives (opening_read s.filter s.counting)
-  Ok (begun s)
+  Ok (script_at_first s)
 
 -- the script of a settings line
 abbrev pub script_opened : List ℕ → Result ThreadScript Told
-script_opened text = settings_spelled text >>= opened
+script_opened text = settings_spelled text >>= script_if_read
 
 -- ---- the line of a shared span
 
@@ -102,10 +102,10 @@ with_shared s l = record s { shared = s.shared ++ l ∷ [] }
 -- the first lane is that of the shared spans
 abbrev pub shared_added : ThreadScript → SharedLine → Result ThreadScript Told
 shared_added s l = do
-  room ← required told.BadLine (has_room s)
+  room ← refuse_unless told.BadLine (has_room s)
   time ← in_time (last_made s.shared) l.at
   lane ← has_lane s 0
-  callsite ← named what.Site (span_site s.callsites l.site)
+  callsite ← need what.Site (span_site s.callsites l.site)
   Ok (with_shared s l)
 
 -- ---- a call of a worker
@@ -125,7 +125,7 @@ entered_after entered span m = set entered span (opens_after (entered_on entered
 
 -- there is such a shared span
 abbrev pub is_shared : ThreadScript → ℕ → Result ⊤ Told
-is_shared s span = required (unknown what.Handle) (nat_lt span (length s.shared))
+is_shared s span = refuse_unless (names_nothing what.Handle) (nat_lt span (length s.shared))
 
 -- an exit needs an open entry, so many being open
 abbrev pub has_entry_for : ℕ → Move → Bool
@@ -134,7 +134,7 @@ has_entry_for n enters = true
 has_entry_for n stays = true
 
 abbrev pub is_entered : ℕ → Op → Result ⊤ Told
-is_entered n op = required (unknown what.Guard) (has_entry_for n (move_of op))
+is_entered n op = refuse_unless (names_nothing what.Guard) (has_entry_for n (move_of op))
 
 -- an op, where so many entries are open on the span
 abbrev pub own_tested : ℕ → Op → Result WorkerCall Told
@@ -148,9 +148,9 @@ call_tested s entered span (said.Record fields) = do
   there ← is_shared s span
   Ok (work.Record fields)
 call_tested s entered span (said.Event site fields) = do
-  callsite ← named what.Site (event_site s.callsites site)
+  callsite ← need what.Site (event_site s.callsites site)
   there ← is_shared s span
-  values ← named what.Field (all_values callsite fields)
+  values ← need what.Field (all_values callsite fields)
   Ok (work.Event site values)
 call_tested s entered span (said.Own op) = do
   there ← is_shared s span
@@ -164,7 +164,7 @@ op_tested s before entered o = do
 
 -- the calls of a worker, the last of those before them having come at a moment; at their end no entry may be open
 abbrev pub ops_tested : ThreadScript → ℕ → List ℕ → List ThreadOp → Result (List WorkerOp) Told
-ops_tested s before entered [] = required (told.Step refusal.InUse) (list_all (λ n. n == 0) entered) >>= (λ closed. Ok [])
+ops_tested s before entered [] = refuse_unless (told.Step refusal.InUse) (list_all (λ n. n == 0) entered) >>= (λ closed. Ok [])
 ops_tested s before entered (o ∷ os) =
     op_tested s before entered o
     >>= (λ op. ops_tested s op.at (entered_after entered op.span (move_of_call op.what)) os >>= (λ ops. Ok (op ∷ ops)))
@@ -177,7 +177,7 @@ with_worker s ops = record s { workers = s.workers ++ ops ∷ [] }
 -- each worker has a lane of its own
 abbrev pub worker_added : ThreadScript → List ThreadOp → Result ThreadScript Told
 worker_added s os = do
-  room ← required told.BadLine (nat_lt (length s.workers) MOST_WORKERS)
+  room ← refuse_unless told.BadLine (nat_lt (length s.workers) MOST_WORKERS)
   lane ← has_lane s (length s.workers)
   ops ← ops_tested s (last_made s.shared) (replicate (length s.shared) 0) os
   Ok (with_worker s ops)
@@ -192,7 +192,7 @@ line_added s (line.Worker ops) = worker_added s ops
 
 -- what a line behind the settings line adds
 abbrev pub text_added : ThreadScript → List ℕ → Result ThreadScript Told
-text_added s text = ok_or (spelled (all_of thread_form) text) told.BadLine >>= line_added s
+text_added s text = ok_or (value_on_line (all_of thread_form) text) told.BadLine >>= line_added s
 
 -- refused at a line
 abbrev pub at_line : {A B : Type 0} → ℕ → Result A Told → (A → Result B RefusedLine) → Result B RefusedLine

@@ -13,10 +13,10 @@ use Rattle.thread_lines.specs.declared.line.ThreadCall.TheVariants as calls
 use Rattle.thread_lines.specs.declared.line.ThreadOp.{ThreadOp}
 use Rattle.thread_lines.specs.declared.line.ThreadLine.{ThreadLine}
 use Rattle.thread_lines.specs.declared.line.ThreadLine.TheVariants as line
-use Rattle.trace_pipeline.specs.forms.AttributeForm.{otel_value_of, attributes_form, status_of}
+use Rattle.trace_pipeline.specs.forms.AttributeForm.{otel_value_of, attributes_form, status_spelled}
 use Rattle.trace_pipeline.specs.forms.ExtensionForm.{time_form}
 use Rattle.trace_pipeline.specs.forms.FieldForm.{fields_of}
-use Rattle.trace_pipeline.specs.forms.Forms.{Form, ◌>>=◌, give, when, whole, text, member, optional, each, object_of}
+use Rattle.trace_pipeline.specs.forms.Forms.{Form, ◌>>=◌, give, when, natural, text, member, optional, each, object_of}
 use Rattle.trace_pipeline.specs.text.Hex.{id_word, long_id_word}
 use Rattle.trace_pipeline.specs.forms.RequestForm.{fields_form}
 
@@ -48,7 +48,7 @@ record_op_form = do
 
 unfoldable pub event_op_form : Form ThreadCall
 event_op_form = do
-  site ← whole (codes "site")
+  site ← natural (codes "site")
   fields ← fields_form
   give (calls.Event site fields)
 
@@ -62,7 +62,7 @@ attribute_op_form = do
 unfoldable pub status_op_form : Form Op
 status_op_form = do
   there ← member (codes "status")
-  status ← when (status_of there)
+  status ← when (status_spelled there)
   give (op.SetStatus status)
 
 -- an event at the time that is said, else at the moment of its op
@@ -95,8 +95,8 @@ link_op_form = do
   give (op.Link (record { context = context; attributes = attributes }))
 
 -- an op by itself
-abbrev pub own : Form Op → Form ThreadCall
-own form = do
+abbrev pub own_call : Form Op → Form ThreadCall
+own_call form = do
   o ← form
   give (calls.Own o)
 
@@ -107,10 +107,10 @@ no_ids = record { trace = 0; span = 0 }
 abbrev pub call_form : ℕ → OpWord → Form ThreadCall
 call_form at word.Record = record_op_form
 call_form at word.Event = event_op_form
-call_form at word.SetAttribute = own attribute_op_form
-call_form at word.SetStatus = own status_op_form
-call_form at word.AddEvent = own (added_event_form at)
-call_form at word.AddLink = own link_op_form
+call_form at word.SetAttribute = own_call attribute_op_form
+call_form at word.SetStatus = own_call status_op_form
+call_form at word.AddEvent = own_call (added_event_form at)
+call_form at word.AddLink = own_call link_op_form
 call_form at word.Enter = give (calls.Own op.Enter)
 call_form at word.Exit = give (calls.Own op.Exit)
 call_form at word.Start = give (calls.Own (op.Start no_ids))
@@ -120,8 +120,8 @@ call_form at word.Start = give (calls.Own (op.Start no_ids))
 -- a moment, a shared span, and what is done there
 unfoldable pub op_form : Form ThreadOp
 op_form = do
-  at ← whole (codes "at")
-  span ← whole (codes "span")
+  at ← natural (codes "at")
+  span ← natural (codes "span")
   w ← word_form
   what ← call_form at w
   give (record { at = at; span = span; call = what })
@@ -136,8 +136,8 @@ worker_of d = option_map line.Worker (option_and_then (each op_of) (as_array d))
 -- a shared span: its moment and its callsite
 unfoldable pub shared_form : Form ThreadLine
 shared_form = do
-  at ← whole (codes "at")
-  site ← whole (codes "shared")
+  at ← natural (codes "at")
+  site ← natural (codes "shared")
   give (line.Shared at site)
 
 abbrev pub worker_or_shared : Option Data → Form ThreadLine

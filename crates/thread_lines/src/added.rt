@@ -1,7 +1,7 @@
 //! What one line adds to a script for threads.
 ghost use Rattle.std.specs.Prelude.{◌≡◌, IfOk, OnOk};
-ghost use Rattle.span_script.specs.Admission.{judged, text_read, opening_read};
-ghost use Rattle.thread_lines.specs.Answers.{Answers, Adds, stop_of};
+ghost use Rattle.span_script.specs.Admission.{fault_in, text_read, opening_read};
+ghost use Rattle.thread_lines.specs.Answers.{AnswersTest, AddsToScript, stop_of};
 ghost use Rattle.thread_lines.specs.Runnable.{HasFilter, IsRunnable};
 ghost use Rattle.thread_lines.specs.Steps.{last_made, directives, script_opened, shared_added, worker_added, text_added};
 
@@ -34,7 +34,7 @@ fn unread(error: LineError) -> Stop
 
 // Tests the text of a filter, which is one for counting or not.
 fn test_directives(alloc: Global, counting: bool, text: &Text) -> Result<(), Stop>
-    ensures directives { Answers (λ u. u) result (directives (judged counting (text_read text.now))) }
+    ensures directives { AnswersTest (λ u. u) result (directives (fault_in counting (text_read text.now))) }
     ensures filter { OnOk result (HasFilter text.now) }
 {
     match TextFilter::read(alloc, text.as_str()) {
@@ -48,7 +48,7 @@ fn test_directives(alloc: Global, counting: bool, text: &Text) -> Result<(), Sto
 
 // Tests the texts of settings, that of the filter first.
 fn test_texts(alloc: Global, settings: &Settings) -> Result<(), Stop>
-    ensures directives { Answers (λ u. u) result (directives (opening_read settings.now.filter settings.now.counting)) }
+    ensures directives { AnswersTest (λ u. u) result (directives (opening_read settings.now.filter settings.now.counting)) }
     ensures filter { OnOk result (HasFilter settings.now.filter) }
 {
     test_directives(alloc, false, &settings.filter)?;
@@ -60,7 +60,7 @@ fn test_texts(alloc: Global, settings: &Settings) -> Result<(), Stop>
 
 /// The script of a settings line, before its other lines.
 pub(crate) fn open_script(alloc: Global, line: &[u8]) -> Result<ThreadScript, Stop>
-    ensures opened { Answers (λ s. s) result (script_opened line.now) }
+    ensures opened { AnswersTest (λ s. s) result (script_opened line.now) }
     ensures runnable { IfOk result IsRunnable }
 {
     let settings = read_settings(alloc, line).map_err(unread)?;
@@ -94,7 +94,7 @@ fn last_made(shared: &[SharedLine]) -> Moment
 
 // Adds a shared span.
 fn add_shared(script: &mut ThreadScript, line: SharedLine) -> Result<(), Stop>
-    ensures { Adds script.new result (shared_added script.old line) }
+    ensures { AddsToScript script.new result (shared_added script.old line) }
 {
     let shared = script.shared.as_slice();
     let has_room = script.workers.as_slice().is_empty() && shared.len() < MOST_SPANS;
@@ -108,7 +108,7 @@ fn add_shared(script: &mut ThreadScript, line: SharedLine) -> Result<(), Stop>
 
 // Adds a worker.
 fn add_worker(alloc: Global, script: &mut ThreadScript, ops: Items<ThreadOp>) -> Result<(), Stop>
-    ensures { Adds script.new result (worker_added script.old ops) }
+    ensures { AddsToScript script.new result (worker_added script.old ops) }
 {
     let worker = script.workers.as_slice().len();
     require(Told::BadLine, worker < MOST_WORKERS)?;
@@ -121,7 +121,7 @@ fn add_worker(alloc: Global, script: &mut ThreadScript, ops: Items<ThreadOp>) ->
 
 /// Adds the line behind the settings line that a text spells.
 pub(crate) fn add_text(alloc: Global, script: &mut ThreadScript, text: &[u8]) -> Result<(), Stop>
-    ensures { Adds script.new result (text_added script.old text.now) }
+    ensures { AddsToScript script.new result (text_added script.old text.now) }
 {
     match read_thread_line(alloc, text).map_err(unread)? {
         ThreadLine::Shared { at, site } => add_shared(script, SharedLine { at, site }),

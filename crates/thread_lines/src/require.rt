@@ -2,8 +2,8 @@
 ghost use Rattle.std.specs.Prelude.{◌≡◌};
 ghost use Rattle.span_script.specs.Setups.{span_site, event_site};
 ghost use Rattle.span_script.specs.declared.reply.What.TheVariants.{Site};
-ghost use Rattle.thread_lines.specs.Answers.{Answers};
-ghost use Rattle.thread_lines.specs.Steps.{required, named, in_time, unknown, has_lane};
+ghost use Rattle.thread_lines.specs.Answers.{AnswersTest};
+ghost use Rattle.thread_lines.specs.Steps.{refuse_unless, need, in_time, names_nothing, has_lane};
 
 use crate::stop::Stop;
 use otel_base::record::Moment;
@@ -13,7 +13,7 @@ use trace_pipeline::{LAST_MOMENT, Refusal, Told, What};
 
 /// Refuses unless this holds.
 pub(crate) fn require(told: Told, holds: bool) -> Result<(), Stop>
-    ensures { Answers (λ u. u) result (required told holds) }
+    ensures { AnswersTest (λ u. u) result (refuse_unless told holds) }
 {
     if holds {
         Ok(())
@@ -24,7 +24,7 @@ pub(crate) fn require(told: Told, holds: bool) -> Result<(), Stop>
 
 /// The refusal of a name that names nothing.
 pub(crate) fn unknown(what: What) -> Told
-    ensures { result ≡ unknown what }
+    ensures { result ≡ names_nothing what }
 {
     Told::Step {
         refusal: Refusal::UnknownName { what },
@@ -33,7 +33,7 @@ pub(crate) fn unknown(what: What) -> Told
 
 /// Tests that a moment is neither too late nor below the one before.
 pub(crate) fn test_moment(before: Moment, at: Moment) -> Result<(), Stop>
-    ensures { Answers (λ u. u) result (in_time before at) }
+    ensures { AnswersTest (λ u. u) result (in_time before at) }
 {
     let refusal = Refusal::BadMoment { before, given: at };
     let is_bad = at < before || at > LAST_MOMENT;
@@ -42,14 +42,14 @@ pub(crate) fn test_moment(before: Moment, at: Moment) -> Result<(), Stop>
 
 /// Tests that there is a lane at a place.
 pub(crate) fn test_lane(script: &ThreadScript, place: usize) -> Result<(), Stop>
-    ensures { Answers (λ u. u) result (has_lane script.now place) }
+    ensures { AnswersTest (λ u. u) result (has_lane script.now place) }
 {
     require(unknown(What::Lane), place < script.lanes.as_slice().len())
 }
 
 /// The callsite at a place, which has to make spans.
 pub(crate) fn span_site(script: &ThreadScript, place: u64) -> Result<&Callsite, Stop>
-    ensures { Answers (λ c. c.now) result (named Site (span_site script.now.callsites place)) }
+    ensures { AnswersTest (λ c. c.now) result (need Site (span_site script.now.callsites place)) }
 {
     match script.callsites.as_slice().get(place as usize) {
         Some(callsite) if callsite.kind == Kind::Span => Ok(callsite),
@@ -61,7 +61,7 @@ pub(crate) fn span_site(script: &ThreadScript, place: u64) -> Result<&Callsite, 
 
 /// The callsite at a place, which has to make events.
 pub(crate) fn event_site(script: &ThreadScript, place: u64) -> Result<&Callsite, Stop>
-    ensures { Answers (λ c. c.now) result (named Site (event_site script.now.callsites place)) }
+    ensures { AnswersTest (λ c. c.now) result (need Site (event_site script.now.callsites place)) }
 {
     match script.callsites.as_slice().get(place as usize) {
         Some(callsite) if callsite.kind == Kind::Event => Ok(callsite),

@@ -3,8 +3,8 @@ ghost use Rattle.std.specs.List.{list_all};
 ghost use Rattle.std.specs.Prelude.{◌≡◌, ◌<◌, ◌==◌, IfOk, OnOk, length, replicate};
 ghost use Rattle.span_script.specs.Fields.{all_values};
 ghost use Rattle.span_script.specs.declared.reply.What.TheVariants.{Field};
-ghost use Rattle.thread_lines.specs.Answers.{Answers};
-ghost use Rattle.thread_lines.specs.Steps.{named, is_shared, has_entry_for, own_tested, move_of_call, entered_after, call_tested, op_tested, ops_tested};
+ghost use Rattle.thread_lines.specs.Answers.{AnswersTest};
+ghost use Rattle.thread_lines.specs.Steps.{need, is_shared, has_entry_for, own_tested, move_of_call, entered_after, call_tested, op_tested, ops_tested};
 ghost use Rattle.trace_threads.specs.Moves.{move_of, opens_after};
 
 use crate::line::{ThreadCall, ThreadOp};
@@ -23,7 +23,7 @@ use trace_pipeline::{Refusal, Told, What};
 
 // Tests that there is a shared span at a place.
 fn test_span(script: &ThreadScript, span: u64) -> Result<(), Stop>
-    ensures { Answers (λ u. u) result (is_shared script.now span) }
+    ensures { AnswersTest (λ u. u) result (is_shared script.now span) }
 {
     let count = script.shared.as_slice().len() as u64;
     require(unknown(What::Handle), span < count)
@@ -35,7 +35,7 @@ fn all_values(
     callsite: &Callsite,
     fields: Items<(Text, Value)>,
 ) -> Result<ValueSet, Stop>
-    ensures { Answers (λ v. v) result (named Field (all_values callsite.now fields)) }
+    ensures { AnswersTest (λ v. v) result (need Field (all_values callsite.now fields)) }
 {
     let given = fields.as_slice().len();
     let values = values_of(alloc, callsite, fields)?;
@@ -59,7 +59,7 @@ fn may_come(entries: u64, op: &Op) -> bool
 
 // An op of a worker, where it has so many entries open on the span: an exit needs one.
 fn own_call(entries: u64, op: Op) -> Result<WorkerCall, Stop>
-    ensures { Answers (λ c. c) result (own_tested entries op) }
+    ensures { AnswersTest (λ c. c) result (own_tested entries op) }
 {
     if may_come(entries, &op) {
         Ok(WorkerCall::Own { op })
@@ -79,7 +79,7 @@ fn test_call(
     call: ThreadCall,
 ) -> Result<WorkerCall, Stop>
     requires { length entered.now ≡ length script.now.shared }
-    ensures { Answers (λ c. c) result (call_tested script.now entered.now span call) }
+    ensures { AnswersTest (λ c. c) result (call_tested script.now entered.now span call) }
 {
     match call {
         ThreadCall::Record { fields } => {
@@ -108,7 +108,7 @@ fn test_op(
     op: ThreadOp,
 ) -> Result<WorkerOp, Stop>
     requires { length entered.now ≡ length script.now.shared }
-    ensures { Answers (λ o. o) result (op_tested script.now before entered.now op) }
+    ensures { AnswersTest (λ o. o) result (op_tested script.now before entered.now op) }
 {
     let ThreadOp { at, span, call } = op;
     test_moment(before, at)?;
@@ -154,7 +154,7 @@ fn test_counted(
     op: ThreadOp,
 ) -> Result<WorkerOp, Stop>
     requires { length entered.old ≡ length script.now.shared }
-    ensures tested { Answers (λ o. o) result (op_tested script.now before entered.old op) }
+    ensures tested { AnswersTest (λ o. o) result (op_tested script.now before entered.old op) }
     ensures len { length entered.new ≡ length entered.old }
     ensures counted { IfOk result (λ o. entered.new ≡ entered_after entered.old o.span (move_of_call o.what)) }
 {
@@ -172,7 +172,7 @@ fn test_each(
     ops: Items<ThreadOp>,
 ) -> Result<Items<WorkerOp>, Stop>
     requires { length entered.old ≡ length script.now.shared }
-    ensures { Answers (λ l. l) result (ops_tested script.now made entered.old ops) }
+    ensures { AnswersTest (λ l. l) result (ops_tested script.now made entered.old ops) }
 {
     let mut before = made;
     let mut tested = Items::new(alloc);
@@ -193,7 +193,7 @@ pub(crate) fn test_ops(
     made: Moment,
     ops: Items<ThreadOp>,
 ) -> Result<Items<WorkerOp>, Stop>
-    ensures { Answers (λ l. l) result (ops_tested script.now made (replicate (length script.now.shared) 0) ops) }
+    ensures { AnswersTest (λ l. l) result (ops_tested script.now made (replicate (length script.now.shared) 0) ops) }
 {
     let mut entered = vec![in alloc; 0u64; script.shared.as_slice().len()]?;
     test_each(alloc, script, made, entered.as_mut_slice(), ops)

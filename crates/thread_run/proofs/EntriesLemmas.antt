@@ -6,7 +6,7 @@ use Rattle.std.proofs.lemmas.List.{take_more, drop_more}
 use Rattle.trace_threads.specs.declared.history.Entry.{Entry}
 use Rattle.trace_threads.specs.declared.history.What.{What}
 use Rattle.thread_run.specs.declared.entry.EntryText.{EntryText}
-use Rattle.thread_run.specs.Texts.{is_call, calls_by, AreCounted, entry_after, entries_after}
+use Rattle.thread_run.specs.Texts.{is_call, calls_by, CallsAreCounted, entry_after, entries_after}
 
 -- ---- counts
 
@@ -48,7 +48,7 @@ calls_push k (x ∷ log) e = behind (x.caller == k) (e.caller == k) (calls_by k 
     behind false false n is = is
 
 -- what is no call is not counted
-pub counted_other : (log : List Entry) (e : Entry) (counts : List ℕ) → is_call e.what ≡ 0 → AreCounted log counts → AreCounted (log ++ e ∷ []) counts
+pub counted_other : (log : List Entry) (e : Entry) (counts : List ℕ) → is_call e.what ≡ 0 → CallsAreCounted log counts → CallsAreCounted (log ++ e ∷ []) counts
 counted_other log e counts none all k = all k ∙ sym (calls_push k log e ∙ by_caller (e.caller == k))
   where
     by_caller : (b : Bool) → (if b then calls_by k log + is_call e.what else calls_by k log) ≡ calls_by k log
@@ -56,15 +56,15 @@ counted_other log e counts none all k = all k ∙ sym (calls_push k log e ∙ by
     by_caller false = refl
 
 pub counted_call : (log : List Entry) (e : Entry) (old new : List ℕ) → is_call e.what ≡ 1
-    → ((k : ℕ) → slice_index_or new k 0 ≡ (if e.caller == k then slice_index_or old k 0 + 1 else slice_index_or old k 0)) → AreCounted log old → AreCounted (log ++ e ∷ []) new
+    → ((k : ℕ) → slice_index_or new k 0 ≡ (if e.caller == k then slice_index_or old k 0 + 1 else slice_index_or old k 0)) → CallsAreCounted log old → CallsAreCounted (log ++ e ∷ []) new
 counted_call log e old new one counted all k = counted k ∙ by_caller (e.caller == k) ∙ sym (calls_push k log e)
   where
     by_caller : (b : Bool) → (if b then slice_index_or old k 0 + 1 else slice_index_or old k 0) ≡ (if b then calls_by k log + is_call e.what else calls_by k log)
     by_caller true = (let same = all k in omega (arith, one, same))
     by_caller false = all k
 
-pub counted_more : (history : List Entry) (i : ℕ) (e : Entry) (counts : List ℕ) → i < length history → e ≡ slice_index_or history i e → AreCounted (take i history ++ e ∷ []) counts → AreCounted (take (i + 1) history) counts
-counted_more history i e counts low is all = subst (λ (l : List Entry). AreCounted l counts) (sym (taken history i e low is)) all
+pub counted_more : (history : List Entry) (i : ℕ) (e : Entry) (counts : List ℕ) → i < length history → e ≡ slice_index_or history i e → CallsAreCounted (take i history ++ e ∷ []) counts → CallsAreCounted (take (i + 1) history) counts
+counted_more history i e counts low is all = subst (λ (l : List Entry). CallsAreCounted l counts) (sym (taken history i e low is)) all
   where
     taken : (log : List Entry) (n : ℕ) (x : Entry) → n < length log → x ≡ slice_index_or log n x → take (n + 1) log ≡ take n log ++ x ∷ []
     taken log n x below same = take_more log n x below ∙ ap (λ (y : Entry). take n log ++ y ∷ []) (sym same)

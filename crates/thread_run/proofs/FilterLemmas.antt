@@ -12,10 +12,10 @@ use Rattle.env_directives.specs.declared.directive.ParseError.TheVariants as fau
 use Rattle.env_directives.specs.declared.env.directive.Directive.{Directive}
 use Rattle.env_directives.proofs.forms.GrammarLemmas.{directive_reads, level_told, field_told}
 use Rattle.env_filter.specs.declared.pieces.Ignored.{Ignored}
-use Rattle.env_filter.specs.texts.Pieces.{is_memory, Reads, ReadsAll, IsFirstFault}
+use Rattle.env_filter.specs.texts.Pieces.{is_memory, ReadsPiece, ReadsAll, IsFirstFault}
 use Rattle.event_gate.specs.declared.error.GateError.{GateError}
 use Rattle.event_gate.specs.declared.error.GateError.TheVariants as error
-use Rattle.event_gate.specs.Rules.{IsRefused}
+use Rattle.event_gate.specs.Rules.{GivesGate}
 use Rattle.thread_lines.specs.Runnable.{HasFilter}
 
 -- what is a directive has no fault
@@ -28,7 +28,7 @@ no_fault text fault.Equals d is h other = h
 no_fault text (fault.Fields many) d is h other = h
 no_fault text fault.Memory d is h other = true≢false other
 
-one_way : (n : ℕ) (piece : List ℕ) (ds es : List Directive) (i : Ignored) (is : List Ignored) → Reads false n piece ds [] → Reads false n piece es (i ∷ is) → ⊥
+one_way : (n : ℕ) (piece : List ℕ) (ds es : List Directive) (i : Ignored) (is : List Ignored) → ReadsPiece false n piece ds [] → ReadsPiece false n piece es (i ∷ is) → ⊥
 one_way n [] ds [] i is r q = q
 one_way n [] ds (e ∷ es) i is r q = q
 one_way n (b ∷ bs) [] es i is r q = r
@@ -45,8 +45,8 @@ all_ways n (piece ∷ pieces) ds es i is r q =
     by_ignored (λ xs ys j js rx ry. all_ways (n + 1) pieces xs ys j js rx ry) r.ignored r.later_ignored r.all_ignored r.reads r.behind q.ignored q.later_ignored q.all_ignored q.reads q.behind
   where
     by_ignored : ((xs ys : List Directive) (j : Ignored) (js : List Ignored) → ReadsAll false (n + 1) pieces xs [] → ReadsAll false (n + 1) pieces ys (j ∷ js) → ⊥)
-        → (a b : List Ignored) → [] ≡ a ++ b → Reads false n piece r.directives a → ReadsAll false (n + 1) pieces r.later b
-        → (c d : List Ignored) → i ∷ is ≡ c ++ d → Reads false n piece q.directives c → ReadsAll false (n + 1) pieces q.later d → ⊥
+        → (a b : List Ignored) → [] ≡ a ++ b → ReadsPiece false n piece r.directives a → ReadsAll false (n + 1) pieces r.later b
+        → (c d : List Ignored) → i ∷ is ≡ c ++ d → ReadsPiece false n piece q.directives c → ReadsAll false (n + 1) pieces q.later d → ⊥
     by_ignored behind (x ∷ a) b e ra rb c d f qc qd = absurd (cc e)
     by_ignored behind [] (x ∷ b) e ra rb c d f qc qd = absurd (cc e)
     by_ignored behind [] [] e ra rb (x ∷ c) d f qc qd = one_way n piece r.directives q.directives x c ra qc
@@ -57,8 +57,8 @@ pub is_read : (text : List ℕ) (piece : ℕ) (cause : ParseError) → HasFilter
 is_read text piece cause has first = all_ways 1 (comma_pieces text) has.0 first.directives first.first first.others has.1 first.reads
 
 -- the text of a script is never refused for a directive
-pub never_refused : {A : Type 0} (text : List ℕ) (piece : ℕ) (why : GateError) (r : Result A GateError) → HasFilter text → IsRefused {A = A} text r → r ≡ Err why → why ≡ error.Directive piece → ⊥
+pub never_refused : {A : Type 0} (text : List ℕ) (piece : ℕ) (why : GateError) (r : Result A GateError) → HasFilter text → GivesGate {A = A} text r → r ≡ Err why → why ≡ error.Directive piece → ⊥
 never_refused {A} text piece why r has refused is of_piece =
-    let told : IsRefused {A = A} text (Err why) = subst (λ (x : Result A GateError). IsRefused {A = A} text x) is refused in
-    let there : IsRefused {A = A} text (Err (error.Directive piece)) = subst (λ (x : GateError). IsRefused {A = A} text (Err x)) of_piece told in
+    let told : GivesGate {A = A} text (Err why) = subst (λ (x : Result A GateError). GivesGate {A = A} text x) is refused in
+    let there : GivesGate {A = A} text (Err (error.Directive piece)) = subst (λ (x : GateError). GivesGate {A = A} text (Err x)) of_piece told in
     is_read text piece there.0 has there.1

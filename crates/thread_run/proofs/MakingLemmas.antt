@@ -13,7 +13,7 @@ use Rattle.span_script.specs.Setups.{span_site}
 use Rattle.otel_base.specs.Stack.{empty_context}
 use Rattle.trace_threads.specs.declared.making.Making.{Making}
 use Rattle.trace_threads.specs.Making.{making_of}
-use Rattle.trace_threads.specs.Handles.{Held}
+use Rattle.trace_threads.specs.Handles.{SharedHandle}
 use Rattle.trace_threads.specs.Turns.{first_view}
 use Rattle.trace_threads.specs.declared.turns.View.{View}
 use Rattle.thread_work.specs.declared.script.SharedLine.{SharedLine}
@@ -55,7 +55,7 @@ low_at cs [] s l all low = absurd (omega (arith, low))
 low_at cs (x ∷ ls) zero l all low = all.0.0
 low_at cs (x ∷ ls) (suc s) l all low = low_at cs ls s l all.1 (omega (arith, low))
 
-pub are_firsts : (script : ThreadScript) (hs : List Held) → IsRunnable script → AreMadeFor script hs → AreFirsts (plan_of script) hs
+pub are_firsts : (script : ThreadScript) (hs : List SharedHandle) → IsRunnable script → AreMadeFor script hs → AreFirsts (plan_of script) hs
 are_firsts script hs r made =
     let len = made.0 in (
       sym len,
@@ -85,7 +85,7 @@ making_is script place l c lane low line_is there site_is lane_is =
     ∙ ap (λ (o : Option Callsite). option_and_then (λ site. option_map (λ first. making_of site (lane_of first) script.layer l.at (ids_at place) empty_context no_values) (slice_get script.lanes 0)) o) (got script.callsites l.site c there ∙ ap Some (sym site_is))
     ∙ ap (λ (o : Option (ℕ × Option (List ℕ))). option_map (λ first. making_of c (lane_of first) script.layer l.at (ids_at place) empty_context no_values) o) lane_is
 
-is_made : (script : ThreadScript) (place : ℕ) (h : Held) (m : Making) → h.number ≡ 0 → h.view ≡ first_view m → shared_making script place ≡ Some m → IsMadeFor script place h
+is_made : (script : ThreadScript) (place : ℕ) (h : SharedHandle) (m : Making) → h.number ≡ 0 → h.view ≡ first_view m → shared_making script place ≡ Some m → IsMadeFor script place h
 is_made script place h m number view making = record {
   number = number;
   view = view ∙ ap first_view (sym (ap (λ (v : View). v.origin) view));
@@ -93,7 +93,7 @@ is_made script place h m number view making = record {
 }
 
 -- what is made of what a script says, if anything is
-pub made_where : {E : Type 0} (script : ThreadScript) (place : ℕ) (l : SharedLine) (c : Callsite) (lane : Lane) (own : SpanContext) (parent : Context) (values : ValueSet) (r : Result Held E)
+pub made_where : {E : Type 0} (script : ThreadScript) (place : ℕ) (l : SharedLine) (c : Callsite) (lane : Lane) (own : SpanContext) (parent : Context) (values : ValueSet) (r : Result SharedHandle E)
     → place < length script.shared → l ≡ slice_index_or script.shared place l → l.site < length script.callsites → c ≡ slice_index_or script.callsites l.site c → IsLane script.lanes lane
     → own ≡ ids_at place → parent ≡ empty_context → values ≡ no_values
     → IfOk r (λ h. h.view ≡ first_view (making_of c lane script.layer l.at own parent values)) → IfOk r (λ h. h.number ≡ 0) → IfOk r (IsMadeFor script place)
@@ -108,15 +108,15 @@ made_where script place l c lane own parent values (Ok h) low line_is there site
 
 -- ---- a span more
 
-pushed_at : (Q : ℕ → Held → Type 0) (hs : List Held) (h : Held) → ((i : ℕ) (d : Held) → i < length hs → Q i (slice_index_or hs i d)) → Q (length hs) h
-    → (i : ℕ) (d : Held) → i < length (hs ++ h ∷ []) → Q i (slice_index_or (hs ++ h ∷ []) i d)
+pushed_at : (Q : ℕ → SharedHandle → Type 0) (hs : List SharedHandle) (h : SharedHandle) → ((i : ℕ) (d : SharedHandle) → i < length hs → Q i (slice_index_or hs i d)) → Q (length hs) h
+    → (i : ℕ) (d : SharedHandle) → i < length (hs ++ h ∷ []) → Q i (slice_index_or (hs ++ h ∷ []) i d)
 pushed_at Q [] h all one zero d low = one
 pushed_at Q [] h all one (suc i) d low = absurd (omega (arith, low))
 pushed_at Q (x ∷ hs) h all one zero d low = all 0 d (omega arith)
 pushed_at Q (x ∷ hs) h all one (suc i) d low =
     pushed_at (λ j. Q (suc j)) hs h (λ j e below. all (suc j) e (omega (arith, below))) one i d (omega (arith, low))
 
-pub made_push : (script : ThreadScript) (n : ℕ) (hs : List Held) (h : Held) → AreMadeUpTo script n hs → IsMadeFor script n h → AreMadeUpTo script (n + 1) (hs ++ h ∷ [])
+pub made_push : (script : ThreadScript) (n : ℕ) (hs : List SharedHandle) (h : SharedHandle) → AreMadeUpTo script n hs → IsMadeFor script n h → AreMadeUpTo script (n + 1) (hs ++ h ∷ [])
 made_push script n hs h made one =
     let so_many = made.0 in
     let more = length_push hs h in (
@@ -126,5 +126,5 @@ made_push script n hs h made one =
           (subst (λ (k : ℕ). IsMadeFor script k h) (sym so_many) one) place d (omega (arith, low, more, so_many)),
     )
 
-pub made_none : (script : ThreadScript) (hs : List Held) → hs ≡ [] → AreMadeUpTo script 0 hs
+pub made_none : (script : ThreadScript) (hs : List SharedHandle) → hs ≡ [] → AreMadeUpTo script 0 hs
 made_none script hs none = (ap length none, λ place d low. absurd (omega (arith, low)))

@@ -13,7 +13,7 @@ use Rattle.thread_run.specs.Spans.{shared_making}
 
 -- A history of the shared span at a place does what each worker's list asks of it and nothing else, and the record is its
 -- content.
-pub record Fits (script : ThreadScript) (place : ℕ) (log : List Entry) (finished : Record) : Type 0 where
+pub record FitsScript (script : ThreadScript) (place : ℕ) (log : List Entry) (finished : Record) : Type 0 where
   pub making : Making
   pub of_span : shared_making script place ≡ Some making
   pub does : DoesAll making.made (length script.workers) (parts_on (plan_of script) place making.made script.workers) log
@@ -21,7 +21,7 @@ pub record Fits (script : ThreadScript) (place : ℕ) (log : List Entry) (finish
 
 -- the pass that comes with it is of a span that was made so, and has seen just that history
 pub record FitsEnded (script : ThreadScript) (place : ℕ) (e : Ended) : Type 0 where
-  pub fits : Fits script place e.history e.finished
+  pub fits : FitsScript script place e.history e.finished
   pub origin : e.pass.view.origin ≡ fits.making
   pub seen : entries e.pass.view.seen ≡ e.history
 

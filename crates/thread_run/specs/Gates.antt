@@ -1,8 +1,8 @@
 -- The gates of the workers, before any is asked.
 use Rattle.std.specs.Prelude.{◌≡◌, ℕ, List, [], ◌∷◌, length}
 use Rattle.std.proofs.Common.{All}
-use Rattle.shared_gate.specs.Gates.{Gated}
+use Rattle.shared_gate.specs.Gates.{GateValue}
 
 -- so many gates, of which each has seen the opening text alone
-abbrev pub AreOpen : List ℕ → ℕ → List Gated → Type 0
+abbrev pub AreOpen : List ℕ → ℕ → List GateValue → Type 0
 AreOpen text count gates = (length gates ≡ count) × All (λ g. g.texts ≡ text ∷ []) gates

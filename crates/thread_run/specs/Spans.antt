@@ -6,7 +6,7 @@ use Rattle.otel_base.specs.Stack.{empty_context}
 use Rattle.trace_base.specs.declared.field.ValueSet.{ValueSet}
 use Rattle.trace_base.specs.declared.lane.Lane.{Lane}
 use Rattle.trace_threads.specs.declared.making.Making.{Making}
-use Rattle.trace_threads.specs.Handles.{Held}
+use Rattle.trace_threads.specs.Handles.{SharedHandle}
 use Rattle.trace_threads.specs.Making.{making_of}
 use Rattle.trace_threads.specs.Turns.{first_view}
 use Rattle.thread_work.specs.declared.script.SharedLine.{SharedLine}
@@ -40,14 +40,14 @@ shared_making script place = option_and_then (making_on script place) (slice_get
 -- ---- handles
 
 -- the first handle of the shared span at a place
-pub record IsMadeFor (script : ThreadScript) (place : ℕ) (h : Held) : Type 0 where
+pub record IsMadeFor (script : ThreadScript) (place : ℕ) (h : SharedHandle) : Type 0 where
   pub number : h.number ≡ 0
   pub view : h.view ≡ first_view h.view.origin
   pub making : shared_making script place ≡ Some h.view.origin
 
 -- those of the first so many shared spans
-abbrev pub AreMadeUpTo : ThreadScript → ℕ → List Held → Type 0
-AreMadeUpTo script n hs = (length hs ≡ n) × ((place : ℕ) (d : Held) → place < n → IsMadeFor script place (slice_index_or hs place d))
+abbrev pub AreMadeUpTo : ThreadScript → ℕ → List SharedHandle → Type 0
+AreMadeUpTo script n hs = (length hs ≡ n) × ((place : ℕ) (d : SharedHandle) → place < n → IsMadeFor script place (slice_index_or hs place d))
 
-abbrev pub AreMadeFor : ThreadScript → List Held → Type 0
+abbrev pub AreMadeFor : ThreadScript → List SharedHandle → Type 0
 AreMadeFor script hs = AreMadeUpTo script (length script.shared) hs

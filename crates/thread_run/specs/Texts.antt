@@ -24,8 +24,8 @@ calls_by k [] = 0
 calls_by k (e ∷ log) = if e.caller == k then is_call e.what + calls_by k log else calls_by k log
 
 -- the calls of each handle in a history are counted at its number
-abbrev pub AreCounted : List Entry → List ℕ → Type 0
-AreCounted log counts = (k : ℕ) → slice_index_or counts k 0 ≡ calls_by k log
+abbrev pub CallsAreCounted : List Entry → List ℕ → Type 0
+CallsAreCounted log counts = (k : ℕ) → slice_index_or counts k 0 ≡ calls_by k log
 
 -- what an entry tells: a call by its number among those that its handle made on the span, from 0
 abbrev pub deed_after : List Entry → ℕ → What → Deed

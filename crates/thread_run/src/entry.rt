@@ -1,6 +1,6 @@
 //! What the entries of a history tell.
 ghost use Rattle.std.specs.Prelude.{◌≡◌, ◌+◌, ◌<◌, ◌==◌, ℕ, List, [], ◌∷◌, ◌++◌, IfOk, OnOk, if◌then◌else◌, slice_index_or, vec_len};
-ghost use Rattle.thread_run.specs.Texts.{AreCounted, deed_after, entries_after};
+ghost use Rattle.thread_run.specs.Texts.{CallsAreCounted, deed_after, entries_after};
 ghost use Rattle.trace_threads.specs.declared.history.Entry.{Entry};
 
 use otel_base::memory::Memory;
@@ -57,10 +57,10 @@ fn next_call(counts: &mut Vec<u64>, caller: u64) -> Result<u64, Memory>
 
 // What an entry tells, where the calls of each handle before it were counted; its own is counted too.
 fn deed_of(counts: &mut Vec<u64>, entry: &Entry) -> Result<Deed, Memory>
-    ensures deed { (before : List Entry) → AreCounted before counts.old.items
+    ensures deed { (before : List Entry) → CallsAreCounted before counts.old.items
         → IfOk result (λ d. d ≡ deed_after before entry.now.caller entry.now.what) }
-    ensures counted { (before : List Entry) → AreCounted before counts.old.items
-        → OnOk result (AreCounted (before ++ entry.now ∷ []) counts.new.items) }
+    ensures counted { (before : List Entry) → CallsAreCounted before counts.old.items
+        → OnOk result (CallsAreCounted (before ++ entry.now ∷ []) counts.new.items) }
 {
     match &entry.what {
         What::Clone { new: _ } => Ok(Deed::Clone),

@@ -4,12 +4,12 @@ use mathlib.Core.Logic.{dite}
 use native.Mathlib.Decide.{ℕ_discrete}
 use Rattle.atomic_table.specs.Seated.{TableId}
 use Rattle.trace_threads.specs.declared.handle.Released.{Released}
-use Rattle.trace_threads.specs.Handles.{Held}
+use Rattle.trace_threads.specs.Handles.{SharedHandle}
 use Rattle.thread_work.specs.declared.job.Job.{Job}
 use Rattle.thread_work.specs.declared.gather.Ended.{Ended}
 use Rattle.thread_work.specs.Asks.{Ask}
 use Rattle.thread_work.specs.Shares.{IsShared}
-use Rattle.thread_work.specs.Gathers.{IsMet, MetAll, Gathered, IsEnded}
+use Rattle.thread_work.specs.Gathers.{IsMet, MetAll, GathersReleases, IsEnded}
 use Rattle.thread_work.specs.Spans.{column, HaveLeft, WereTaken, IsJoined}
 use Rattle.thread_work.proofs.Gathering.{asks_plain, is_ended, not_open}
 use Rattle.thread_work.proofs.Meeting.{LeftFrom, met_all, gathered_first}
@@ -17,8 +17,8 @@ use Rattle.thread_work.proofs.Working.{same_get, get_drop, get_before, get_last,
 
 -- ---- one span: the releases of its handles, whatever held them
 
-module _ (first : Held) (hs : List Held) (r : Released) (parts : ℕ → List Ask) (os : List Released) (count : ℕ) (plain : (w : ℕ) → w < count → asks_plain (parts w) ≡ true) (len : length hs ≡ count) (olen : length os ≡ count) (s : IsShared first hs r) (l : LeftFrom first.span first.view.origin parts 0 os) where
-  span_whole : (u : Released) → MetAll r os u → Gathered first.span first.view.origin count count parts u
+module _ (first : SharedHandle) (hs : List SharedHandle) (r : Released) (parts : ℕ → List Ask) (os : List Released) (count : ℕ) (plain : (w : ℕ) → w < count → asks_plain (parts w) ≡ true) (len : length hs ≡ count) (olen : length os ≡ count) (s : IsShared first hs r) (l : LeftFrom first.span first.view.origin parts 0 os) where
+  span_whole : (u : Released) → MetAll r os u → GathersReleases first.span first.view.origin count count parts u
   span_whole u met = met_all first.span first.view.origin count 0 count parts os r u (omega (arith, olen)) (gathered_first first hs r count parts len s) l met
 
   pub span_closed : (u : Released) → MetAll r os u → u.closed ≡ None → ⊥

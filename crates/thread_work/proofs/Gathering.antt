@@ -13,17 +13,17 @@ use Rattle.trace_threads.specs.declared.history.Entry.{Entry}
 use Rattle.trace_threads.specs.declared.history.What.{What}
 use Rattle.trace_threads.specs.declared.history.What.TheVariants.{Clone, Call, Join, Release}
 use Rattle.trace_threads.specs.declared.handle.Released.{Released}
-use Rattle.trace_threads.specs.History.{Sum, start, entry, after, may, is_legal, sum_of, sum, clones_after, IsLegal, is_closed, entries_by, ends, has_end}
+use Rattle.trace_threads.specs.History.{Sum, start, entry, sum_after, may, is_legal, sum_of, sum, clones_after, IsLegal, is_closed, entries_by, ends_handle, has_end}
 use Rattle.trace_threads.specs.Shared.{content_of}
 use Rattle.trace_threads.specs.Turns.{entries}
-use Rattle.trace_threads.specs.Handles.{Seen, ClosedAs}
+use Rattle.trace_threads.specs.Handles.{ReleasedHandle, ClosedAs}
 use Rattle.trace_threads.proofs.queue.FrontsLemmas.{prefix_trans, prefix_entries, comparable}
 use Rattle.trace_threads.proofs.histories.HoldersLemmas.{both}
 use Rattle.trace_threads.proofs.histories.HistoriesLemmas.{Numbered, numbered, numbered_start, numbered_step, none_above, legal_first, legal_rest, tested, nothing_follows, whole_is_seen, ended_is_done}
 use Rattle.thread_work.specs.declared.gather.Ended.{Ended}
-use Rattle.thread_work.specs.Asks.{Ask, Follows, opening, opening_from, DoesAll}
+use Rattle.thread_work.specs.Asks.{Ask, FollowsAsks, clone_entries, opening_from, DoesAll}
 use Rattle.thread_work.specs.Works.{IsLeft}
-use Rattle.thread_work.specs.Gathers.{or_else, Gathered, IsEnded}
+use Rattle.thread_work.specs.Gathers.{or_else, GathersReleases, IsEnded}
 use Rattle.thread_work.proofs.Following.{NextIs, by_append, follows_more}
 
 -- ---- ends
@@ -34,16 +34,16 @@ end_case k e xs ys false h ih = ih h
 
 end_more : (k : ℕ) (xs ys : List Entry) → has_end k xs ≡ true → has_end k (xs ++ ys) ≡ true
 end_more k [] ys h = absurd cc
-end_more k (e ∷ xs) ys h = end_case k e xs ys (ends k e.caller e.what) h (λ i. end_more k xs ys i)
+end_more k (e ∷ xs) ys h = end_case k e xs ys (ends_handle k e.caller e.what) h (λ i. end_more k xs ys i)
 
 pub end_within : (k : ℕ) (xs ys : List Entry) → IsPrefix xs ys → has_end k xs ≡ true → has_end k ys ≡ true
 end_within k xs ys p h = subst (λ (l : List Entry). has_end k l ≡ true) p.1 (end_more k xs p.0 h)
 
 -- what a handle that was ended was asked is in every later history
-follows_within : (k made : ℕ) (asks : List Ask) (xs ys : List Entry) → IsPrefix xs ys → IsLegal made ys → has_end k xs ≡ true → Follows k made asks xs → Follows k made asks ys
+follows_within : (k made : ℕ) (asks : List Ask) (xs ys : List Entry) → IsPrefix xs ys → IsLegal made ys → has_end k xs ≡ true → FollowsAsks k made asks xs → FollowsAsks k made asks ys
 follows_within k made asks xs ys p l h f =
     let legal : IsLegal made (xs ++ p.0) = subst (IsLegal made) (sym p.1) l in
-    subst (Follows k made asks) p.1 (follows_more k made asks xs p.0 (ended_is_done made k xs p.0 legal h) f)
+    subst (FollowsAsks k made asks) p.1 (follows_more k made asks xs p.0 (ended_is_done made k xs p.0 legal h) f)
 
 -- ---- which release closed the span
 
@@ -69,7 +69,7 @@ earlier_closes making p q None (Some last) r l x y =
 
 -- ---- one release more
 
-module _ (span : TableId) (making : Making) (count n : ℕ) (parts : ℕ → List Ask) (r o u : Released) (g : Gathered span making count n parts r) (left : IsLeft (n + 1) (parts n) span making o) (same_span : u.pass.span ≡ span) (same_origin : u.pass.view.origin ≡ making)
+module _ (span : TableId) (making : Making) (count n : ℕ) (parts : ℕ → List Ask) (r o u : Released) (g : GathersReleases span making count n parts r) (left : IsLeft (n + 1) (parts n) span making o) (same_span : u.pass.span ≡ span) (same_origin : u.pass.view.origin ≡ making)
     (legal : IsLegal making.made (entries u.pass.view.seen)) (ours : IsPrefix r.pass.view.seen u.pass.view.seen) (theirs : IsPrefix o.pass.view.seen u.pass.view.seen) (closes : u.closed ≡ or_else r.closed o.closed) where
   whole : List Entry
   whole = entries u.pass.view.seen
@@ -83,10 +83,10 @@ module _ (span : TableId) (making : Making) (count n : ℕ) (parts : ℕ → Lis
   our_longest : IsPrefix g.longest (entries u.pass.view.seen)
   our_longest = prefix_trans g.longest (entries r.pass.view.seen) (entries u.pass.view.seen) g.within our_log
 
-  follows_each : (w : ℕ) → w < n + 1 → Follows (w + 1) making.made (parts w) (entries u.pass.view.seen)
+  follows_each : (w : ℕ) → w < n + 1 → FollowsAsks (w + 1) making.made (parts w) (entries u.pass.view.seen)
   follows_each w low =
       dite (ℕ_discrete w n)
-      (λ (e : w ≡ n). subst (λ (v : ℕ). Follows (v + 1) making.made (parts v) (entries u.pass.view.seen)) (sym e) (follows_within (n + 1) making.made (parts n) (entries o.pass.view.seen) (entries u.pass.view.seen) their_log legal left.ended left.follows))
+      (λ (e : w ≡ n). subst (λ (v : ℕ). FollowsAsks (v + 1) making.made (parts v) (entries u.pass.view.seen)) (sym e) (follows_within (n + 1) making.made (parts n) (entries o.pass.view.seen) (entries u.pass.view.seen) their_log legal left.ended left.follows))
       (λ (apart : w ≢ n). let old = g.each w (grind (arith, low, apart)) in follows_within (w + 1) making.made (parts w) (entries r.pass.view.seen) (entries u.pass.view.seen) our_log legal (end_within (w + 1) g.longest (entries r.pass.view.seen) g.within old.1) old.0)
 
   end_each : (list : List Entry) → ((w : ℕ) → w < n → has_end (w + 1) list ≡ true) → has_end (n + 1) list ≡ true → (w : ℕ) → w < n + 1 → has_end (w + 1) list ≡ true
@@ -98,7 +98,7 @@ module _ (span : TableId) (making : Making) (count n : ℕ) (parts : ℕ → Lis
   closed_by : (list : List Entry) → ClosedAs making list (or_else r.closed o.closed) → ClosedAs making list u.closed
   closed_by list c = subst (ClosedAs making list) (sym closes) c
 
-  theirs_longer : IsPrefix g.longest (entries o.pass.view.seen) → Gathered span making count (n + 1) parts u
+  theirs_longer : IsPrefix g.longest (entries o.pass.view.seen) → GathersReleases span making count (n + 1) parts u
   theirs_longer p =
       let list = entries o.pass.view.seen in record {
         span = same_span;
@@ -106,12 +106,12 @@ module _ (span : TableId) (making : Making) (count n : ℕ) (parts : ℕ → Lis
         legal = legal;
         longest = list;
         within = their_log;
-        begins = prefix_trans (opening making.made count) g.longest list g.begins p;
+        begins = prefix_trans (clone_entries making.made count) g.longest list g.begins p;
         closed = closed_by list (later_closes making g.longest list r.closed o.closed p left.legal g.closed left.closed);
         each = λ w low. (follows_each w low, end_each list (λ v old. end_within (v + 1) g.longest list p (g.each v old).1) left.ended w low);
       }
 
-  ours_longer : IsPrefix (entries o.pass.view.seen) g.longest → Gathered span making count (n + 1) parts u
+  ours_longer : IsPrefix (entries o.pass.view.seen) g.longest → GathersReleases span making count (n + 1) parts u
   ours_longer p =
       let list = g.longest in record {
         span = same_span;
@@ -124,7 +124,7 @@ module _ (span : TableId) (making : Making) (count n : ℕ) (parts : ℕ → Lis
         each = λ w low. (follows_each w low, end_each list (λ v old. (g.each v old).1) (end_within (n + 1) (entries o.pass.view.seen) list p left.ended) w low);
       }
 
-  pub gathered_more : Gathered span making count (n + 1) parts u
+  pub gathered_more : GathersReleases span making count (n + 1) parts u
   gathered_more = ⊎_elim theirs_longer ours_longer (comparable g.longest (entries o.pass.view.seen) (entries u.pass.view.seen) our_longest their_log)
 
 -- ---- the whole history
@@ -144,14 +144,14 @@ abbrev pub asks_plain : List Ask → Bool
 asks_plain [] = true
 asks_plain (a ∷ asks) = is_plain a.what && asks_plain asks
 
-plain_case : (k last : ℕ) (asks : List Ask) (e : Entry) (es : List Entry) (b : Bool) → (e.caller == k) ≡ b → asks_plain asks ≡ true → Follows k last asks (e ∷ es) → ((rest : List Ask) → asks_plain rest ≡ true → Follows k e.at rest es → plain (entries_by k es) ≡ true) → plain (entries_by k (e ∷ es)) ≡ true
+plain_case : (k last : ℕ) (asks : List Ask) (e : Entry) (es : List Entry) (b : Bool) → (e.caller == k) ≡ b → asks_plain asks ≡ true → FollowsAsks k last asks (e ∷ es) → ((rest : List Ask) → asks_plain rest ≡ true → FollowsAsks k e.at rest es → plain (entries_by k es) ≡ true) → plain (entries_by k (e ∷ es)) ≡ true
 plain_case k last asks e es true is p f ih =
     let g : NextIs k last asks e es = rw is at f in
     let q = both (is_plain g.0.what) (asks_plain g.1) (ap asks_plain (sym g.2) ∙ p) in
     rw is (rw (ap is_plain g.3 ∙ q.0) (ih g.1 q.1 g.5))
 plain_case k last asks e es false is p f ih = rw is (ih asks p (rw is at f))
 
-plain_by : (k last : ℕ) (asks : List Ask) (log : List Entry) → asks_plain asks ≡ true → Follows k last asks log → plain (entries_by k log) ≡ true
+plain_by : (k last : ℕ) (asks : List Ask) (log : List Entry) → asks_plain asks ≡ true → FollowsAsks k last asks log → plain (entries_by k log) ≡ true
 plain_by k last asks [] p f = refl
 plain_by k last asks (e ∷ es) p f = plain_case k last asks e es (e.caller == k) refl p f (λ rest q g. plain_by k e.at rest es q g)
 
@@ -183,15 +183,15 @@ clones_stay s (e ∷ es) i l p =
     let q = both (may s e) _ l in
     let t = tested s e q.0 in
     let still = no_clone s.clones e.what (own_plain e es (p e.caller (i.within e.caller t.held))) in
-    clones_stay (after s e) es (numbered_step s e.caller e.at e.what i t.done) q.1 (λ k low. plain_tail_case k e es (e.caller == k) refl (p k (omega (arith, still, low)))) ∙ still
+    clones_stay (sum_after s e) es (numbered_step s e.caller e.at e.what i t.done) q.1 (λ k low. plain_tail_case k e es (e.caller == k) refl (p k (omega (arith, still, low)))) ∙ still
 
 sum_append : (s : Sum) (xs ys : List Entry) → sum_of s (xs ++ ys) ≡ sum_of (sum_of s xs) ys
 sum_append s [] ys = refl
-sum_append s (x ∷ xs) ys = sum_append (after s x) xs ys
+sum_append s (x ∷ xs) ys = sum_append (sum_after s x) xs ys
 
 opening_clones : (s : Sum) (made n count : ℕ) → (sum_of s (opening_from made n count)).clones ≡ s.clones + count
 opening_clones s made n zero = omega arith
-opening_clones s made n (suc count) = let ih = opening_clones (after s (entry 0 made (Clone n))) made (n + 1) count in omega (arith, ih)
+opening_clones s made n (suc count) = let ih = opening_clones (sum_after s (entry 0 made (Clone n))) made (n + 1) count in omega (arith, ih)
 
 opening_ends : (made n count : ℕ) → has_end 0 (opening_from made n count) ≡ true
 opening_ends made n zero = refl
@@ -201,28 +201,28 @@ opening_by : (made n count : ℕ) → entries_by 0 (opening_from made n count) �
 opening_by made n zero = refl
 opening_by made n (suc count) = ap (λ l. entry 0 made (Clone n) ∷ l) (opening_by made (n + 1) count)
 
-module _ (of_span : TableId) (making : Making) (count : ℕ) (parts : ℕ → List Ask) (are_plain : (w : ℕ) → w < count → asks_plain (parts w) ≡ true) (r : Released) (g : Gathered of_span making count count parts r) where
+module _ (of_span : TableId) (making : Making) (count : ℕ) (parts : ℕ → List Ask) (are_plain : (w : ℕ) → w < count → asks_plain (parts w) ≡ true) (r : Released) (g : GathersReleases of_span making count count parts r) where
   log : List Entry
   log = entries r.pass.view.seen
 
   first : List Entry
-  first = opening making.made count
+  first = clone_entries making.made count
 
-  more_is : opening making.made count ++ (g.begins.0 ++ g.within.0) ≡ entries r.pass.view.seen
-  more_is = sym (append_assoc (opening making.made count) g.begins.0 g.within.0) ∙ ap (λ l. l ++ g.within.0) g.begins.1 ∙ g.within.1
+  more_is : clone_entries making.made count ++ (g.begins.0 ++ g.within.0) ≡ entries r.pass.view.seen
+  more_is = sym (append_assoc (clone_entries making.made count) g.begins.0 g.within.0) ∙ ap (λ l. l ++ g.within.0) g.begins.1 ∙ g.within.1
 
   -- after the opening
-  abbrev more : IsPrefix (opening making.made count) (entries r.pass.view.seen)
+  abbrev more : IsPrefix (clone_entries making.made count) (entries r.pass.view.seen)
   more = (g.begins.0 ++ g.within.0, more_is)
 
-  legal_more : IsLegal making.made (opening making.made count ++ more.0)
+  legal_more : IsLegal making.made (clone_entries making.made count ++ more.0)
   legal_more = subst (IsLegal making.made) (sym more.1) g.legal
 
-  clones_first : (sum making.made (opening making.made count)).clones ≡ count
+  clones_first : (sum making.made (clone_entries making.made count)).clones ≡ count
   clones_first = let c = opening_clones (start making.made) making.made 1 count in omega (arith, c)
 
   none_of_first : entries_by 0 more.0 ≡ []
-  none_of_first = ended_is_done making.made 0 (opening making.made count) more.0 legal_more (opening_ends making.made 1 count)
+  none_of_first = ended_is_done making.made 0 (clone_entries making.made count) more.0 legal_more (opening_ends making.made 1 count)
 
   plain_each : (k : ℕ) → k ≤ count → plain (entries_by k more.0) ≡ true
   plain_each zero low = ap plain none_of_first
@@ -230,15 +230,15 @@ module _ (of_span : TableId) (making : Making) (count : ℕ) (parts : ℕ → Li
       let here : w < count = omega (arith, low) in
       let next : w + 1 ≡ suc w = omega arith in
       let all : plain (entries_by (suc w) (entries r.pass.view.seen)) ≡ true = subst (λ (k : ℕ). plain (entries_by k (entries r.pass.view.seen)) ≡ true) next (plain_by (w + 1) making.made (parts w) (entries r.pass.view.seen) (are_plain w here) (g.each w here).0) in
-      plain_rest (entries_by (suc w) (opening making.made count)) (entries_by (suc w) more.0) (ap plain (sym (by_append (suc w) (opening making.made count) more.0) ∙ ap (entries_by (suc w)) more.1) ∙ all)
+      plain_rest (entries_by (suc w) (clone_entries making.made count)) (entries_by (suc w) more.0) (ap plain (sym (by_append (suc w) (clone_entries making.made count) more.0) ∙ ap (entries_by (suc w)) more.1) ∙ all)
 
-  clones_all : (rest : List Entry) → IsPrefix rest more.0 → (sum making.made (opening making.made count ++ rest)).clones ≡ count
+  clones_all : (rest : List Entry) → IsPrefix rest more.0 → (sum making.made (clone_entries making.made count ++ rest)).clones ≡ count
   clones_all rest p =
-      let legal : IsLegal making.made ((opening making.made count ++ rest) ++ p.0) = subst (IsLegal making.made) (ap (λ l. opening making.made count ++ l) (sym p.1) ∙ sym (append_assoc (opening making.made count) rest p.0)) legal_more in
-      let legal' = legal_first (start making.made) (opening making.made count ++ rest) p.0 legal in
-      let i = numbered making.made (opening making.made count) (legal_first (start making.made) (opening making.made count) rest legal') in
-      ap (λ (s : Sum). s.clones) (sum_append (start making.made) (opening making.made count) rest)
-      ∙ clones_stay (sum making.made (opening making.made count)) rest i (legal_rest (start making.made) (opening making.made count) rest legal') (λ k low. plain_first (entries_by k rest) (entries_by k p.0) (ap plain (sym (by_append k rest p.0) ∙ ap (entries_by k) p.1) ∙ plain_each k (omega (arith, low, clones_first)))) ∙ clones_first
+      let legal : IsLegal making.made ((clone_entries making.made count ++ rest) ++ p.0) = subst (IsLegal making.made) (ap (λ l. clone_entries making.made count ++ l) (sym p.1) ∙ sym (append_assoc (clone_entries making.made count) rest p.0)) legal_more in
+      let legal' = legal_first (start making.made) (clone_entries making.made count ++ rest) p.0 legal in
+      let i = numbered making.made (clone_entries making.made count) (legal_first (start making.made) (clone_entries making.made count) rest legal') in
+      ap (λ (s : Sum). s.clones) (sum_append (start making.made) (clone_entries making.made count) rest)
+      ∙ clones_stay (sum making.made (clone_entries making.made count)) rest i (legal_rest (start making.made) (clone_entries making.made count) rest legal') (λ k low. plain_first (entries_by k rest) (entries_by k p.0) (ap plain (sym (by_append k rest p.0) ∙ ap (entries_by k) p.1) ∙ plain_each k (omega (arith, low, clones_first)))) ∙ clones_first
     where
       plain_first : (xs ys : List Entry) → plain (xs ++ ys) ≡ true → plain xs ≡ true
       plain_first [] ys p = refl
@@ -246,7 +246,7 @@ module _ (of_span : TableId) (making : Making) (count : ℕ) (parts : ℕ → Li
 
   -- the longest list is the whole
   ended_each : (k : ℕ) → k ≤ count → has_end k g.longest ≡ true
-  ended_each zero low = end_within 0 (opening making.made count) g.longest g.begins (opening_ends making.made 1 count)
+  ended_each zero low = end_within 0 (clone_entries making.made count) g.longest g.begins (opening_ends making.made 1 count)
   ended_each (suc w) low = let next : w + 1 ≡ suc w = omega arith in subst (λ (k : ℕ). has_end k g.longest ≡ true) next (g.each w (omega (arith, low))).1
 
   clones_longest : (sum making.made g.longest).clones ≡ count
@@ -265,7 +265,7 @@ module _ (of_span : TableId) (making : Making) (count : ℕ) (parts : ℕ → Li
     legal = g.legal;
     closed = subst (λ (l : List Entry). is_closed making.made l ≡ true) whole_log is_whole.0;
     begins = more;
-    first = ap (entries_by 0) (sym more.1) ∙ by_append 0 (opening making.made count) more.0 ∙ (λ i. opening_by making.made 1 count i ++ none_of_first i) ∙ append-nil (opening making.made count);
+    first = ap (entries_by 0) (sym more.1) ∙ by_append 0 (clone_entries making.made count) more.0 ∙ (λ i. opening_by making.made 1 count i ++ none_of_first i) ∙ append-nil (clone_entries making.made count);
     each = λ w low. (g.each w low).0;
     others = λ k high. none_above (start making.made) (entries r.pass.view.seen) k (numbered_start making.made) g.legal (let c = ap (λ (l : List Entry). (sum making.made l).clones) (sym whole_log) ∙ clones_longest in omega (arith, c, high));
   }
@@ -281,9 +281,9 @@ module _ (of_span : TableId) (making : Making) (count : ℕ) (parts : ℕ → Li
   is_ended e p c =
       let last : ClosedAs making (entries r.pass.view.seen) (Some (e.history, e.finished)) = subst (ClosedAs making (entries r.pass.view.seen)) c closed_whole in
       record {
-        span = ap (λ (s : Seen). s.span) p ∙ g.span;
-        origin = ap (λ (s : Seen). s.view.origin) p ∙ g.origin;
-        seen = ap (λ (s : Seen). entries s.view.seen) p ∙ sym last.0;
+        span = ap (λ (s : ReleasedHandle). s.span) p ∙ g.span;
+        origin = ap (λ (s : ReleasedHandle). s.view.origin) p ∙ g.origin;
+        seen = ap (λ (s : ReleasedHandle). entries s.view.seen) p ∙ sym last.0;
         content = last.1 ∙ ap (content_of making) (sym last.0);
         does = subst (DoesAll making.made count parts) (sym last.0) does_all;
       }

@@ -1,12 +1,12 @@
 -- Workers before they have handles.
 use Rattle.std.proofs.Common.{◌≡◌, ℕ, zero, suc, List, [], ◌∷◌, ◌++◌, length, refl, ap, sym, ◌∙◌, subst, arith, append_assoc, slice_index_or}
-use Rattle.trace_threads.specs.Handles.{Held}
+use Rattle.trace_threads.specs.Handles.{SharedHandle}
 use Rattle.otel_state.specs.declared.op.Op.{Op}
 use Rattle.std.specs.Prelude.{Option, Some, None}
 use Rattle.thread_work.specs.declared.job.Job.{Job}
 use Rattle.thread_work.specs.declared.plan.Plan.{Plan}
 use Rattle.thread_work.specs.declared.script.WorkerOp.{WorkerOp}
-use Rattle.thread_work.specs.Asks.{Ask, balanced, balanced_by}
+use Rattle.thread_work.specs.Asks.{Ask, is_balanced, balanced_by}
 use Rattle.trace_threads.specs.Moves.{Move, enters, exits, stays, move_of}
 use Rattle.std.specs.Prelude.{Bool, ◌+◌, ◌-◌, ◌&&◌, nat_lt}
 use Rattle.thread_work.specs.Plans.{part_by, asked_on, part_on, release_at, later_at, last_at}
@@ -49,17 +49,17 @@ by_moves enters f g n e = e (n + 1)
 by_moves exits f g n e = ap (λ b. nat_lt 0 n && b) (e (n - 1))
 by_moves stays f g n e = e n
 
-by_asked : (at : ℕ) (asked : Option Op) (xs ys : List Ask) (n : ℕ) → ((k : ℕ) → balanced xs k ≡ balanced ys k) → balanced (part_by at asked xs) n ≡ balanced (part_by at asked ys) n
+by_asked : (at : ℕ) (asked : Option Op) (xs ys : List Ask) (n : ℕ) → ((k : ℕ) → is_balanced xs k ≡ is_balanced ys k) → is_balanced (part_by at asked xs) n ≡ is_balanced (part_by at asked ys) n
 by_asked at None xs ys n e = e n
-by_asked at (Some op) xs ys n e = by_moves (move_of op) (balanced xs) (balanced ys) n e
+by_asked at (Some op) xs ys n e = by_moves (move_of op) (is_balanced xs) (is_balanced ys) n e
 
-balanced_at : (plan : Plan) (s a b : ℕ) (ops : List WorkerOp) (n : ℕ) → balanced (part_on plan s a ops) n ≡ balanced (part_on plan s b ops) n
+balanced_at : (plan : Plan) (s a b : ℕ) (ops : List WorkerOp) (n : ℕ) → is_balanced (part_on plan s a ops) n ≡ is_balanced (part_on plan s b ops) n
 balanced_at plan s a b [] n = refl
 balanced_at plan s a b (o ∷ ops) n = by_asked o.at (asked_on plan s o) (part_on plan s a ops) (part_on plan s b ops) n (λ k. balanced_at plan s a b ops k)
 
 -- ---- the workers may get their handles
 
-one_prepared : {G : Type 0} (opening : G → List ℕ) (plan : Plan) (spans : List Held) (job : Job G) → length plan.shared ≡ length spans → IsTested plan job.ops.items → opening job.gate ≡ plan.filter → IsBegun (length spans) job → IsPreparedFor opening plan spans job
+one_prepared : {G : Type 0} (opening : G → List ℕ) (plan : Plan) (spans : List SharedHandle) (job : Job G) → length plan.shared ≡ length spans → IsTested plan job.ops.items → opening job.gate ≡ plan.filter → IsBegun (length spans) job → IsPreparedFor opening plan spans job
 one_prepared opening plan spans job len t g b = record {
   timed = t.timed;
   last = b.last;
@@ -68,12 +68,12 @@ one_prepared opening plan spans job len t g b = record {
   room = b.room;
 }
 
-each_prepared : {G : Type 0} (opening : G → List ℕ) (plan : Plan) (spans : List Held) (jobs : List (Job G)) → length plan.shared ≡ length spans → AllTested plan (lists_of jobs) → AllAtOpening opening plan.filter (lists_of jobs) (gates_of jobs) → AllBegun (length spans) jobs → ArePreparedFor opening plan spans jobs
+each_prepared : {G : Type 0} (opening : G → List ℕ) (plan : Plan) (spans : List SharedHandle) (jobs : List (Job G)) → length plan.shared ≡ length spans → AllTested plan (lists_of jobs) → AllAtOpening opening plan.filter (lists_of jobs) (gates_of jobs) → AllBegun (length spans) jobs → ArePreparedFor opening plan spans jobs
 each_prepared opening plan spans [] len t g b w d low = absurd (omega (arith, low))
 each_prepared opening plan spans (job ∷ jobs) len t g b zero d low = one_prepared opening plan spans job len t.0 g.0 b.0
 each_prepared opening plan spans (job ∷ jobs) len t g b (suc w) d low = each_prepared opening plan spans jobs len t.1 g.1 b.1 w d (omega (arith, low))
 
-pub all_prepared : {G : Type 0} (opening : G → List ℕ) (plan : Plan) (spans : List Held) (jobs : List (Job G)) (workers : List (List WorkerOp)) (gates : List G) → lists_of jobs ≡ workers → gates_of jobs ≡ gates → length plan.shared ≡ length spans
+pub all_prepared : {G : Type 0} (opening : G → List ℕ) (plan : Plan) (spans : List SharedHandle) (jobs : List (Job G)) (workers : List (List WorkerOp)) (gates : List G) → lists_of jobs ≡ workers → gates_of jobs ≡ gates → length plan.shared ≡ length spans
     → AllTested plan workers → AllAtOpening opening plan.filter workers gates → AllBegun (length spans) jobs → ArePreparedFor opening plan spans jobs
 all_prepared {G} opening plan spans jobs workers gates lists is_gates len t g b =
     each_prepared opening plan spans jobs len (subst (AllTested plan) (sym lists) t)

@@ -7,17 +7,17 @@ use Rattle.atomic_table.specs.Seated.{TableId}
 use Rattle.otel_state.specs.declared.op.Op.{Op}
 use Rattle.trace_threads.specs.declared.making.Making.{Making}
 use Rattle.trace_threads.specs.declared.handle.Released.{Released}
-use Rattle.trace_threads.specs.History.{opens}
+use Rattle.trace_threads.specs.History.{opens_entry}
 use Rattle.trace_threads.specs.Turns.{entries}
-use Rattle.trace_threads.specs.Handles.{Held}
+use Rattle.trace_threads.specs.Handles.{SharedHandle}
 use Rattle.thread_work.specs.declared.plan.Plan.{Plan}
 use Rattle.thread_work.specs.declared.script.WorkerOp.{WorkerOp}
 use Rattle.thread_work.specs.declared.job.Job.{Job}
 use Rattle.thread_work.specs.declared.gather.Ended.{Ended}
-use Rattle.thread_work.specs.Asks.{Ask, balanced}
+use Rattle.thread_work.specs.Asks.{Ask, is_balanced}
 use Rattle.thread_work.specs.Plans.{last_at, release_at, part_by, asked_on, part_on, parts_on}
 use Rattle.thread_work.specs.Gathers.{IsEnded}
-use Rattle.thread_work.specs.Works.{part_of, AllAtWork, IsAtWork, AreMade, IsReady, IsLeft}
+use Rattle.thread_work.specs.Works.{part_of, AllAtWork, IsAtWork, AreMade, IsReadyWorker, IsLeft}
 use Rattle.thread_work.specs.Shares.{IsFresh, IsShared}
 use Rattle.thread_work.specs.Jobs.{AreReady, WereRun, AreDone, lists_of}
 use Rattle.thread_work.specs.Spans.{column, AreWhole, AreJoined, AreFirsts, GotOne, GotNext, HaveMore, HaveRoomFor, HasGot, WasShared, WereShared, IsPreparedFor, ArePreparedFor, AllEnded}
@@ -42,7 +42,7 @@ parts_plain plan s made [] w low = absurd (omega (arith, low))
 parts_plain plan s made (job ∷ jobs) zero low = part_plain plan s (release_at made (last_at job.ops.items)) job.ops.items
 parts_plain plan s made (job ∷ jobs) (suc w) low = parts_plain plan s made jobs w (omega (arith, low))
 
-parts_at : {G : Type 0} (plan : Plan) (s : ℕ) (first : Held) (xs : List (Job G)) (i : ℕ) (x : Job G) → i < length xs → parts_on plan s first.view.origin.made (lists_of xs) i ≡ part_of plan (last_at (slice_index_or xs i x).ops.items) s first (slice_index_or xs i x).ops.items
+parts_at : {G : Type 0} (plan : Plan) (s : ℕ) (first : SharedHandle) (xs : List (Job G)) (i : ℕ) (x : Job G) → i < length xs → parts_on plan s first.view.origin.made (lists_of xs) i ≡ part_of plan (last_at (slice_index_or xs i x).ops.items) s first (slice_index_or xs i x).ops.items
 parts_at plan s first [] i x low = absurd (omega (arith, low))
 parts_at plan s first (y ∷ ys) zero x low = refl
 parts_at plan s first (y ∷ ys) (suc i) x low = parts_at plan s first ys i x (omega (arith, low))
@@ -52,7 +52,7 @@ lists_len [] = refl
 lists_len (job ∷ jobs) = let e = lists_len jobs in omega (arith, e)
 
 -- a fresh handle, and what it is asked
-fresh_work : (plan : Plan) (s : ℕ) (first h : Held) (k : ℕ) (last : Option ℕ) (ops : List WorkerOp) → IsFresh first k h → balanced (part_of plan last s first ops) 0 ≡ true → IsAtWork k (part_of plan last s h ops) (part_of plan last s h ops) h h
+fresh_work : (plan : Plan) (s : ℕ) (first h : SharedHandle) (k : ℕ) (last : Option ℕ) (ops : List WorkerOp) → IsFresh first k h → is_balanced (part_of plan last s first ops) 0 ≡ true → IsAtWork k (part_of plan last s h ops) (part_of plan last s h ops) h h
 fresh_work plan s first h k last ops f b = record {
   span = refl;
   number = f.number;
@@ -61,10 +61,10 @@ fresh_work plan s first h k last ops f b = record {
   whole = refl;
   follows = follows_none k h.view.origin.made (entries h.view.seen) f.none;
   own = f.none ∙ sym f.mine;
-  balanced = (λ i. balanced (part_on plan s (release_at (f.origin i).made last) ops) (ap opens f.mine i)) ∙ b;
+  balanced = (λ i. is_balanced (part_on plan s (release_at (f.origin i).made last) ops) (ap opens_entry f.mine i)) ∙ b;
 }
 
-module _ {G : Type 0} (opening : G → List ℕ) (plan : Plan) (spans : List Held) (jobs given : List (Job G)) (rs : List Released) (f : AreFirsts plan spans) (p : ArePreparedFor opening plan spans jobs) (glen : length given ≡ length jobs) (rlen : length rs ≡ length spans) (sh : WereShared (length spans) spans jobs given rs) where
+module _ {G : Type 0} (opening : G → List ℕ) (plan : Plan) (spans : List SharedHandle) (jobs given : List (Job G)) (rs : List Released) (f : AreFirsts plan spans) (p : ArePreparedFor opening plan spans jobs) (glen : length given ≡ length jobs) (rlen : length rs ≡ length spans) (sh : WereShared (length spans) spans jobs given rs) where
   pub ready_for : AreReady opening plan given
   ready_for w d low =
       let here : w < length jobs = omega (arith, glen, low) in
@@ -81,12 +81,12 @@ module _ {G : Type 0} (opening : G → List ℕ) (plan : Plan) (spans : List Hel
       ) in
       let begins : AllAtWork plan (w + 1) (last_at job.ops.items) job.ops.items job.ops.items hs hs = λ s y less.
       fresh_work plan s (slice_index_or spans s y) (slice_index_or hs s y) (w + 1) (last_at job.ops.items) job.ops.items (sh.fresh s w y d (omega (arith, n, less)) here) (x.balanced s y (omega (arith, n, less))) in
-      let ready : IsReady plan (w + 1) job.ops.items job.last hs = record { timed = x.timed; last_is = x.last; made = made; begins = begins } in
+      let ready : IsReadyWorker plan (w + 1) job.ops.items job.last hs = record { timed = x.timed; last_is = x.last; made = made; begins = begins } in
       let ok = new.handles.ok.0 in
       let cap : vec_capacity new.left ≡ vec_capacity job.left = (λ j. vec_capacity (i.left j)) in
       let room = x.room.left_room in (
         ap opening i.gate ∙ x.gate,
-        subst (λ (t : List WorkerOp × Option ℕ). IsReady plan (w + 1) t.0 t.1 hs) (λ j. ((sym i.ops j).items, sym i.last j)) ready,
+        subst (λ (t : List WorkerOp × Option ℕ). IsReadyWorker plan (w + 1) t.0 t.1 hs) (λ j. ((sym i.ops j).items, sym i.last j)) ready,
         omega (arith, ok, n, room, cap),
         (λ j. (i.left j).items) ∙ x.room.left,
       )
@@ -104,7 +104,7 @@ module _ {G : Type 0} (opening : G → List ℕ) (plan : Plan) (spans : List Hel
         omega (arith, ok, m, n, ok')
 
     -- the release of a worker's handle of the span s
-    left_at : (s w : ℕ) (x : Held) (d : Job G) (e : Released) → s < length spans → w < length jobs → IsLeft (w + 1) (parts_on plan s (slice_index_or spans s x).view.origin.made (lists_of jobs) w) (slice_index_or spans s x).span (slice_index_or spans s x).view.origin (slice_index_or (slice_index_or run w d).left.items s e)
+    left_at : (s w : ℕ) (x : SharedHandle) (d : Job G) (e : Released) → s < length spans → w < length jobs → IsLeft (w + 1) (parts_on plan s (slice_index_or spans s x).view.origin.made (lists_of jobs) w) (slice_index_or spans s x).span (slice_index_or spans s x).view.origin (slice_index_or (slice_index_or run w d).left.items s e)
     left_at s w x d e less low =
         let hs = (slice_index_or given w d).handles.items in
         let h = slice_index_or hs s x in
@@ -129,14 +129,14 @@ module _ {G : Type 0} (opening : G → List ℕ) (plan : Plan) (spans : List Hel
           left_from t making parts e s (n + 1) xs (λ i d low. let same : n + suc i ≡ n + 1 + i = omega arith in subst (λ (k : ℕ). IsLeft (k + 1) (parts k) t making (slice_index_or (slice_index_or xs i d).left.items s e)) same (h (suc i) d (omega (arith, low)))),
         )
 
-    column_left : (s : ℕ) (x : Held) (e : Released) → s < length spans → LeftFrom (slice_index_or spans s x).span (slice_index_or spans s x).view.origin (parts_on plan s (slice_index_or spans s x).view.origin.made (lists_of jobs)) 0 (column e s run)
+    column_left : (s : ℕ) (x : SharedHandle) (e : Released) → s < length spans → LeftFrom (slice_index_or spans s x).span (slice_index_or spans s x).view.origin (parts_on plan s (slice_index_or spans s x).view.origin.made (lists_of jobs)) 0 (column e s run)
     column_left s x e less = left_from (slice_index_or spans s x).span (slice_index_or spans s x).view.origin (parts_on plan s (slice_index_or spans s x).view.origin.made (lists_of jobs)) e s 0 run (λ w d low. let same : w ≡ 0 + w = omega arith in
         subst (λ (k : ℕ). IsLeft (k + 1) (parts_on plan s (slice_index_or spans s x).view.origin.made (lists_of jobs) k) (slice_index_or spans s x).span (slice_index_or spans s x).view.origin (slice_index_or (slice_index_or run w d).left.items s e)) same (left_at s w x d e less (omega (arith, len_run, low))))
 
-    span_at : (s : ℕ) → s < length spans → Held
+    span_at : (s : ℕ) → s < length spans → SharedHandle
     span_at s less = item spans s less
       where
-        item : (xs : List Held) (i : ℕ) → i < length xs → Held
+        item : (xs : List SharedHandle) (i : ℕ) → i < length xs → SharedHandle
         item [] i low = absurd (omega (arith, low))
         item (y ∷ ys) zero low = y
         item (y ∷ ys) (suc i) low = item ys i (omega (arith, low))
@@ -174,7 +174,7 @@ module _ {G : Type 0} (opening : G → List ℕ) (plan : Plan) (spans : List Hel
 
 -- ---- one span more has its handles
 
-pub shared_more : {G : Type 0} (n : ℕ) (spans : List Held) (jobs xs news : List (Job G)) (rs new : List Released) (f : Held) (hs : List Held) (r : Released) → length xs ≡ length jobs → length hs ≡ length jobs → f ≡ slice_index_or spans n f → n < length spans → length rs ≡ n → new ≡ rs ++ r ∷ [] → IsShared f hs r → GotNext hs xs news → WereShared n spans jobs xs rs → WereShared (n + 1) spans jobs news new
+pub shared_more : {G : Type 0} (n : ℕ) (spans : List SharedHandle) (jobs xs news : List (Job G)) (rs new : List Released) (f : SharedHandle) (hs : List SharedHandle) (r : Released) → length xs ≡ length jobs → length hs ≡ length jobs → f ≡ slice_index_or spans n f → n < length spans → length rs ≡ n → new ≡ rs ++ r ∷ [] → IsShared f hs r → GotNext hs xs news → WereShared n spans jobs xs rs → WereShared (n + 1) spans jobs news new
 shared_more {G} n spans jobs xs news rs new f hs r xlen hlen first low rlen is shared got before = record {
   got = λ w d here.
       let a = before.got w d here in
@@ -189,13 +189,13 @@ shared_more {G} n spans jobs xs news rs new f hs r xlen hlen first low rlen is s
       let c = a.count in
       dite (ℕ_discrete s n)
       (λ (same : s ≡ n).
-      let to_h : slice_index_or (slice_index_or news w d).handles.items n x ≡ slice_index_or hs w f = ap (λ (l : List Held). slice_index_or l n x) b.handles ∙ get_last (slice_index_or xs w d).handles.items (slice_index_or hs w f) n x a.count in
+      let to_h : slice_index_or (slice_index_or news w d).handles.items n x ≡ slice_index_or hs w f = ap (λ (l : List SharedHandle). slice_index_or l n x) b.handles ∙ get_last (slice_index_or xs w d).handles.items (slice_index_or hs w f) n x a.count in
       let to_f : f ≡ slice_index_or spans n x = first ∙ same_get spans n f x low in
       subst (λ (k : ℕ). IsFresh (slice_index_or spans k x) (w + 1) (slice_index_or (slice_index_or news w d).handles.items k x)) (sym same)
-      (subst (λ (t : Held × Held). IsFresh t.0 (w + 1) t.1) (λ i. (to_f i, sym to_h i)) (shared.each w f (omega (arith, hlen, here)))))
+      (subst (λ (t : SharedHandle × SharedHandle). IsFresh t.0 (w + 1) t.1) (λ i. (to_f i, sym to_h i)) (shared.each w f (omega (arith, hlen, here)))))
       (λ (apart : s ≢ n).
       let less' : s < n = grind (arith, less, apart) in
-      let same : slice_index_or (slice_index_or news w d).handles.items s x ≡ slice_index_or (slice_index_or xs w d).handles.items s x = ap (λ (l : List Held). slice_index_or l s x) b.handles ∙ get_before (slice_index_or xs w d).handles.items (slice_index_or hs w f) s x (omega (arith, less', c)) in
+      let same : slice_index_or (slice_index_or news w d).handles.items s x ≡ slice_index_or (slice_index_or xs w d).handles.items s x = ap (λ (l : List SharedHandle). slice_index_or l s x) b.handles ∙ get_before (slice_index_or xs w d).handles.items (slice_index_or hs w f) s x (omega (arith, less', c)) in
       subst (IsFresh (slice_index_or spans s x) (w + 1)) (sym same) (before.fresh s w x d less' here));
   shared = λ s x e less.
       dite (ℕ_discrete s n)
@@ -204,7 +204,7 @@ shared_more {G} n spans jobs xs news rs new f hs r xlen hlen first low rlen is s
       let to_r : slice_index_or new n e ≡ r = ap (λ (l : List Released). slice_index_or l n e) is ∙ get_last rs r n e rlen in
       let one : WasShared f (length jobs) r = record { handles = hs; len = hlen; shared = shared } in
       subst (λ (k : ℕ). WasShared (slice_index_or spans k x) (length jobs) (slice_index_or new k e)) (sym same)
-      (subst (λ (t : Held × Released). WasShared t.0 (length jobs) t.1) (λ i. (to_f i, sym to_r i)) one))
+      (subst (λ (t : SharedHandle × Released). WasShared t.0 (length jobs) t.1) (λ i. (to_f i, sym to_r i)) one))
       (λ (apart : s ≢ n).
       let less' : s < n = grind (arith, less, apart) in
       let same : slice_index_or new s e ≡ slice_index_or rs s e = ap (λ (l : List Released). slice_index_or l s e) is ∙ get_before rs r s e (omega (arith, less', rlen)) in
@@ -225,27 +225,27 @@ pub rest_after : {G : Type 0} (olds xs : List (Job G)) (w : ℕ) (new : Job G) �
     → (j : ℕ) (d : Job G) → w + 1 ≤ j → j < length olds → slice_index_or (set xs w new) j d ≡ slice_index_or olds j d
 rest_after olds xs w new rest j d high low = get_or-set_other xs w j new d (λ e. omega (arith, e, high)) ∙ rest j d (omega (arith, high)) low
 
-pub got_more : {G : Type 0} (hs gs : List Held) (olds xs : List (Job G)) (w : ℕ) (h : Held) (y new : Job G) → length xs ≡ length olds → w < length olds → w < length hs → gs ≡ drop w hs → h ≡ slice_index_or gs 0 h → GotOne h (slice_index_or xs w y) new
-    → ((j : ℕ) (d : Job G) (x : Held) → j < w → GotOne (slice_index_or hs j x) (slice_index_or olds j d) (slice_index_or xs j d))
+pub got_more : {G : Type 0} (hs gs : List SharedHandle) (olds xs : List (Job G)) (w : ℕ) (h : SharedHandle) (y new : Job G) → length xs ≡ length olds → w < length olds → w < length hs → gs ≡ drop w hs → h ≡ slice_index_or gs 0 h → GotOne h (slice_index_or xs w y) new
+    → ((j : ℕ) (d : Job G) (x : SharedHandle) → j < w → GotOne (slice_index_or hs j x) (slice_index_or olds j d) (slice_index_or xs j d))
     → ((j : ℕ) (d : Job G) → w ≤ j → j < length olds → slice_index_or xs j d ≡ slice_index_or olds j d)
-    → (j : ℕ) (d : Job G) (x : Held) → j < w + 1 → GotOne (slice_index_or hs j x) (slice_index_or olds j d) (slice_index_or (set xs w new) j d)
+    → (j : ℕ) (d : Job G) (x : SharedHandle) → j < w + 1 → GotOne (slice_index_or hs j x) (slice_index_or olds j d) (slice_index_or (set xs w new) j d)
 got_more {G} hs gs olds xs w h y new len low low' left is now given rest j d x less =
     dite (ℕ_discrete j w)
     (λ (here : j ≡ w).
     let in_xs : w < length xs = omega (arith, len, low) in
-    let to_h : slice_index_or hs j x ≡ h = ap (λ (k : ℕ). slice_index_or hs k x) here ∙ same_get hs w x h low' ∙ sym (get_drop hs w h) ∙ ap (λ (l : List Held). slice_index_or l 0 h) (sym left) ∙ sym is in
+    let to_h : slice_index_or hs j x ≡ h = ap (λ (k : ℕ). slice_index_or hs k x) here ∙ same_get hs w x h low' ∙ sym (get_drop hs w h) ∙ ap (λ (l : List SharedHandle). slice_index_or l 0 h) (sym left) ∙ sym is in
     let to_old : slice_index_or olds j d ≡ slice_index_or xs w y = ap (λ (k : ℕ). slice_index_or olds k d) here ∙ same_get olds w d y low ∙ sym (rest w y (omega arith) low) in
     let to_new : slice_index_or (set xs w new) j d ≡ new = ap (λ (k : ℕ). slice_index_or (set xs w new) k d) here ∙ get_or-set_same xs w new d in_xs in
-    subst (λ (t : Held × Job G × Job G). GotOne t.0 t.1 t.2) (λ i. (sym to_h i, sym to_old i, sym to_new i)) now)
+    subst (λ (t : SharedHandle × Job G × Job G). GotOne t.0 t.1 t.2) (λ i. (sym to_h i, sym to_old i, sym to_new i)) now)
     (λ (apart : j ≢ w).
     let before : j < w = grind (arith, less, apart) in
     subst (GotOne (slice_index_or hs j x) (slice_index_or olds j d)) (sym (get_or-set_other xs w j new d apart)) (given j d x before))
 
 -- the workers after they got their handles, as the code has them
-pub shared_at : {G : Type 0} (k : ℕ) (spans : List Held) (jobs lent given begun rest : List (Job G)) (rs : List Released) (n : ℕ) → lent ≡ jobs → length given ≡ length lent → length jobs ≡ n → begun ≡ take n (given ++ rest) → WereShared k spans lent given rs → (length begun ≡ length jobs) × WereShared k spans jobs begun rs
+pub shared_at : {G : Type 0} (k : ℕ) (spans : List SharedHandle) (jobs lent given begun rest : List (Job G)) (rs : List Released) (n : ℕ) → lent ≡ jobs → length given ≡ length lent → length jobs ≡ n → begun ≡ take n (given ++ rest) → WereShared k spans lent given rs → (length begun ≡ length jobs) × WereShared k spans jobs begun rs
 shared_at {G} k spans jobs lent given begun rest rs n lent_is len count is sh =
     let same : begun ≡ given = is ∙ take_front n given rest (len ∙ ap length lent_is ∙ count) in
     (ap length same ∙ len ∙ ap length lent_is, subst (λ (t : List (Job G) × List (Job G)). WereShared k spans t.0 t.1 rs) (λ i. (lent_is i, sym same i)) sh)
 
-pub room_for : {G : Type 0} (opening : G → List ℕ) (plan : Plan) (spans : List Held) (jobs lent : List (Job G)) → lent ≡ jobs → ArePreparedFor opening plan spans jobs → HaveRoomFor (length spans) lent
+pub room_for : {G : Type 0} (opening : G → List ℕ) (plan : Plan) (spans : List SharedHandle) (jobs lent : List (Job G)) → lent ≡ jobs → ArePreparedFor opening plan spans jobs → HaveRoomFor (length spans) lent
 room_for {G} opening plan spans jobs lent is p = subst (HaveRoomFor (length spans)) (sym is) (λ w d low. (p w d low).room)

@@ -10,7 +10,7 @@ use Rattle.trace_threads.specs.Shared.{content_of}
 use Rattle.trace_threads.specs.Turns.{entries}
 use Rattle.trace_threads.specs.Handles.{ClosedAs}
 use Rattle.thread_work.specs.declared.gather.Ended.{Ended}
-use Rattle.thread_work.specs.Asks.{Ask, Follows, opening, DoesAll}
+use Rattle.thread_work.specs.Asks.{Ask, FollowsAsks, clone_entries, DoesAll}
 
 abbrev pub or_else : {X : Type 0} → Option X → Option X → Option X
 or_else None y = y
@@ -27,15 +27,15 @@ pub record IsMet (one other r : Released) : Type 0 where
 
 -- The releases of handle 0 and of the first n workers' handles, joined. `longest` is the longest list of entries that a
 -- release saw.
-pub record Gathered (of_span : TableId) (making : Making) (count n : ℕ) (parts : ℕ → List Ask) (r : Released) : Type 0 where
+pub record GathersReleases (of_span : TableId) (making : Making) (count n : ℕ) (parts : ℕ → List Ask) (r : Released) : Type 0 where
   pub span : r.pass.span ≡ of_span
   pub origin : r.pass.view.origin ≡ making
   pub legal : IsLegal making.made (entries r.pass.view.seen)
   pub longest : List Entry
   pub within : IsPrefix longest (entries r.pass.view.seen)
-  pub begins : IsPrefix (opening making.made count) longest
+  pub begins : IsPrefix (clone_entries making.made count) longest
   pub closed : ClosedAs making longest r.closed
-  pub each : (w : ℕ) → w < n → Follows (w + 1) making.made (parts w) (entries r.pass.view.seen) × (has_end (w + 1) longest ≡ true)
+  pub each : (w : ℕ) → w < n → FollowsAsks (w + 1) making.made (parts w) (entries r.pass.view.seen) × (has_end (w + 1) longest ≡ true)
 
 -- What is answered of a shared span: a history that does what was asked, its content, and a pass of that very span
 -- which has seen just that history.

@@ -3,12 +3,12 @@ use Rattle.std.specs.Prelude.{◌≡◌, ℕ, ◌+◌, ◌<◌, ◌≤◌, List,
 use Rattle.thread_work.specs.declared.script.WorkerOp.{WorkerOp}
 use Rattle.thread_work.specs.declared.plan.Plan.{Plan}
 use Rattle.thread_work.specs.declared.job.Job.{Job}
-use Rattle.thread_work.specs.Works.{IsReady, AllLeft}
+use Rattle.thread_work.specs.Works.{IsReadyWorker, AllLeft}
 
 -- worker w may begin
 abbrev pub IsJobReady : {G : Type 0} → (G → List ℕ) → Plan → ℕ → Job G → Type 0
 IsJobReady opening plan w job =
-    (opening job.gate ≡ plan.filter) × IsReady plan (w + 1) job.ops.items job.last job.handles.items
+    (opening job.gate ≡ plan.filter) × IsReadyWorker plan (w + 1) job.ops.items job.last job.handles.items
     × (vec_len job.handles ≤ vec_capacity job.left) × (job.left.items ≡ [])
 
 abbrev pub AreReady : {G : Type 0} → (G → List ℕ) → Plan → List (Job G) → Type 0

@@ -42,11 +42,11 @@ abbrev pub site_of : Plan → ℕ → Option Callsite
 site_of plan s = line_site plan (slice_get plan.shared s)
 
 -- a field's value at the first place of its name, if the callsite declares the name
-abbrev pub placed : Callsite → List ℕ × Value → Option (ℕ × Value)
-placed c field = option_map (λ place. (place, field.1)) (place_of field.0 c)
+abbrev pub declared_value : Callsite → List ℕ × Value → Option (ℕ × Value)
+declared_value c field = option_map (λ place. (place, field.1)) (place_of field.0 c)
 
 abbrev pub values_of : Callsite → List (List ℕ × Value) → ValueSet
-values_of c fields = record { pairs = filter_map (placed c) fields }
+values_of c fields = record { pairs = filter_map (declared_value c) fields }
 
 -- fields write those of them that the span's callsite declares
 abbrev pub record_asked : Plan → List (List ℕ × Value) → Option Callsite → Option Op

@@ -2,13 +2,13 @@
 use Rattle.std.specs.Prelude.{◌≡◌, ℕ, ◌<◌, List, [], ◌∷◌, length, true}
 use Rattle.thread_work.specs.declared.plan.Plan.{Plan}
 use Rattle.thread_work.specs.declared.script.WorkerOp.{WorkerOp}
-use Rattle.thread_work.specs.Asks.{balanced}
+use Rattle.thread_work.specs.Asks.{is_balanced}
 use Rattle.thread_work.specs.Plans.{AreTimed, part_on}
 
 -- No call is made too late. On no span does a worker close an entry that it hasn't opened there, and it leaves none open.
 pub record IsTested (plan : Plan) (ops : List WorkerOp) : Type 0 where
   pub timed : AreTimed ops
-  pub closed : (s : ℕ) → s < length plan.shared → balanced (part_on plan s 0 ops) 0 ≡ true
+  pub closed : (s : ℕ) → s < length plan.shared → is_balanced (part_on plan s 0 ops) 0 ≡ true
 
 abbrev pub AllTested : Plan → List (List WorkerOp) → Type 0
 AllTested plan [] = Unit {0}

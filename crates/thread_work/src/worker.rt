@@ -2,10 +2,10 @@
 ghost use Rattle.std.specs.Prelude.{◌≡◌, ℕ, ◌+◌, ◌<◌, ◌≤◌, [], length, IfOk, OnOk, true, Some, vec_len, vec_capacity, slice_index_or};
 ghost use Rattle.otel_state.specs.declared.op.Op.TheVariants.{Exit};
 ghost use Rattle.otel_state.specs.declared.times.TheConstants.{GREATEST};
-ghost use Rattle.trace_threads.specs.Handles.{Held, open_of};
+ghost use Rattle.trace_threads.specs.Handles.{SharedHandle, open_of};
 ghost use Rattle.thread_work.specs.Plans.{AreNoLevels, AreTimed, last_at, release_at};
 ghost use Rattle.thread_work.specs.declared.script.SharedLine.{SharedLine};
-ghost use Rattle.thread_work.specs.Works.{DidCall, DidAt, DidAll, MayDo, AllAtWork, AllLeft, AreLow, WasReleased, AllReleased, IsReady};
+ghost use Rattle.thread_work.specs.Works.{DidCall, DidAt, DidAll, MayDo, AllAtWork, AllLeft, AreLow, WasReleased, AllReleased, IsReadyWorker};
 
 use crate::job::Job;
 use crate::ops::op_of;
@@ -46,7 +46,7 @@ fn call_at<R: Wait>(
     op: Option<Op>,
 ) -> Result<(), Memory>
     requires moment { at ≤ GREATEST }
-    requires entered { (d : Held) → place < length handles.old → op ≡ Some Exit → 0 < open_of (slice_index_or handles.old place d) }
+    requires entered { (d : SharedHandle) → place < length handles.old → op ≡ Some Exit → 0 < open_of (slice_index_or handles.old place d) }
     ensures len { length handles.new ≡ length handles.old }
     ensures did { OnOk result (DidAt place at op handles.old handles.new) }
 {
@@ -183,7 +183,7 @@ pub(crate) fn run_job<R: Wait, G: EventGate, T: Turnstile>(
     job: &mut Job<G>,
 )
     requires opening { G.opening job.old.gate ≡ plan.now.filter }
-    requires ready { IsReady plan.now (worker + 1) job.old.ops.items job.old.last job.old.handles.items }
+    requires ready { IsReadyWorker plan.now (worker + 1) job.old.ops.items job.old.last job.old.handles.items }
     requires room { vec_len job.old.handles ≤ vec_capacity job.old.left }
     requires empty { job.old.left.items ≡ [] }
     ensures gone { job.new.handles.items ≡ [] }

@@ -9,7 +9,7 @@ use Rattle.trace_base.specs.declared.callsite.Callsite.{Callsite}
 use Rattle.trace_base.specs.declared.level.LevelFilter.{LevelFilter}
 use Rattle.trace_base.specs.declared.subscriber.Interest.{Interest}
 use Rattle.trace_base.specs.declared.subscriber.Interest.TheVariants as interests
-use Rattle.trace_base.specs.Gate.{Worlds, gate, cached_at, Admits, AdmitsFresh, IsFresh, AreSame, HasRows, IsCached, interests_in, registered}
+use Rattle.trace_base.specs.Gate.{Worlds, gate, cached_at, Admits, AdmitsFresh, IsFresh, AreSame, HasRows, IsCached, interests_in, interests_of_sites}
 
 -- what stands in a list after a write
 get_set_same : {X : Type 0} (xs : List X) (i : ℕ) (y : X) → i < length xs → slice_get (set xs i y) i ≡ Some y
@@ -94,7 +94,7 @@ get_map {X} {Y} f xs k x d there = get_or_from_slice_get (map f xs) k (f x) d (s
 
 -- what is registered stands in a row for each callsite, with each subscriber
 pub registered_at : {S : Type 0} (interest : S → Callsite → Interest) (subscribers : List S) (sites : List Callsite) (dispatch site : ℕ) (s : S) (c : Callsite) → slice_get subscribers dispatch ≡ Some s → slice_get sites site ≡ Some c
-    → cached_at (registered interest subscribers sites) dispatch site ≡ interest s c
+    → cached_at (interests_of_sites interest subscribers sites) dispatch site ≡ interest s c
 registered_at interest subscribers sites dispatch site s c hs hc =
     ap (λ (row : List Interest). get_or row dispatch interests.Never) (get_map (interests_in interest subscribers) sites site c [] hc) ∙ get_map (λ z. interest z c) subscribers dispatch s interests.Never hs
 
@@ -104,33 +104,33 @@ fresh_admits interest hint enables world lane site None answer admits fresh = ad
 fresh_admits interest hint enables world lane site (Some d) answer admits fresh =
     λ s c hs hc. admits s c hs hc ∙ ap (λ i. gate i (hint s) (enables s lane c) c.level) (ap (λ (rows : List (List Interest)). cached_at rows d site) fresh ∙ registered_at interest world.subscribers world.sites d site s c hs hc)
 
-row_length : {S : Type 0} (interest : S → Callsite → Interest) (subscribers : List S) (sites : List Callsite) (k : ℕ) → k < length sites → length (get_or (registered interest subscribers sites) k []) ≡ length subscribers
+row_length : {S : Type 0} (interest : S → Callsite → Interest) (subscribers : List S) (sites : List Callsite) (k : ℕ) → k < length sites → length (get_or (interests_of_sites interest subscribers sites) k []) ≡ length subscribers
 row_length interest subscribers [] k within = absurd (omega (arith, within))
 row_length interest subscribers (c ∷ cs) zero within = length-map subscribers (λ s. interest s c)
 row_length interest subscribers (c ∷ cs) (suc k) within = row_length interest subscribers cs k (omega (arith, within))
 
 -- the rows of a world
-pub registered_rows : {S : Type 0} (interest : S → Callsite → Interest) (subscribers : List S) (sites : List Callsite) → HasRows (length sites) (length subscribers) (registered interest subscribers sites)
+pub registered_rows : {S : Type 0} (interest : S → Callsite → Interest) (subscribers : List S) (sites : List Callsite) → HasRows (length sites) (length subscribers) (interests_of_sites interest subscribers sites)
 registered_rows interest subscribers sites = record {
   rows = length-map sites (interests_in interest subscribers);
   row = λ k within. row_length interest subscribers sites k within;
 }
 
 -- the interests of subscribers that took room
-registered_alike : {S : Type 0} (interest : S → Callsite → Interest) (old now : List S) → ((c : Callsite) → map (λ s. interest s c) now ≡ map (λ s. interest s c) old) → (sites : List Callsite) → registered interest now sites ≡ registered interest old sites
+registered_alike : {S : Type 0} (interest : S → Callsite → Interest) (old now : List S) → ((c : Callsite) → map (λ s. interest s c) now ≡ map (λ s. interest s c) old) → (sites : List Callsite) → interests_of_sites interest now sites ≡ interests_of_sites interest old sites
 registered_alike interest old now alike [] = refl
 registered_alike interest old now alike (c ∷ cs) =
-    ap (λ (row : List Interest). row ∷ registered interest now cs) (alike c) ∙ ap (λ (rows : List (List Interest)). interests_in interest old c ∷ rows) (registered_alike interest old now alike cs)
+    ap (λ (row : List Interest). row ∷ interests_of_sites interest now cs) (alike c) ∙ ap (λ (rows : List (List Interest)). interests_in interest old c ∷ rows) (registered_alike interest old now alike cs)
 
 module _ {S : Type 0} (same : S → S → Type 0) (interest : S → Callsite → Interest) (hint : S → Option LevelFilter) (like : (s t : S) → same s t → (interest t ≡ interest s) × (hint t ≡ hint s)) where
   pub interests_same : (old now : List S) (c : Callsite) → AreSame same old now → interests_in interest now c ≡ interests_in interest old c
   interests_same old now c all = same_values same (λ s. interest s c) (λ s t h. ap (λ (f : Callsite → Interest). f c) (like s t h).0) old now all
 
-  pub registered_same : (old now : List S) (sites : List Callsite) → AreSame same old now → registered interest now sites ≡ registered interest old sites
+  pub registered_same : (old now : List S) (sites : List Callsite) → AreSame same old now → interests_of_sites interest now sites ≡ interests_of_sites interest old sites
   registered_same old now sites all = registered_alike interest old now (λ c. interests_same old now c all) sites
 
   -- all have answered for all callsites
-  pub all_asked : (sites : List Callsite) (old now : List S) (rows : List (List Interest)) (global : Option ℕ) → rows ≡ registered interest old sites → AreSame same old now → ((d : ℕ) → global ≡ Some d → d < length old) → IsCached (length sites) (length now) rows global
+  pub all_asked : (sites : List Callsite) (old now : List S) (rows : List (List Interest)) (global : Option ℕ) → rows ≡ interests_of_sites interest old sites → AreSame same old now → ((d : ℕ) → global ≡ Some d → d < length old) → IsCached (length sites) (length now) rows global
   all_asked sites old now rows global is all there = subst (λ (l : List (List Interest)). IsCached (length sites) (length now) l global) (registered_same old now sites all ∙ sym is) (record {
     has = registered_rows interest now sites;
     there = λ d e. let t = there d e in let n = all.count in omega (arith, t, n);

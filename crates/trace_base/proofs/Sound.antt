@@ -5,8 +5,8 @@ use Rattle.std.proofs.lemmas.Bool.{eqb-true, eqb-false, eq-eqb, ne_eqb, cases_eq
 use Rattle.std.proofs.lemmas.List.{length-set, length_push, get_or-set_same, get_or-set_other, get_or_past, get_or_push, get_or_append_left}
 use Rattle.trace_base.specs.declared.span.Parent.{Parent}
 use Rattle.trace_base.specs.declared.span.Parent.TheVariants as place
-use Rattle.trace_base.specs.Spans.{Span, Entries, Spans, no_span, span_at, entries_on, with_entries, is_in, times_in, is_child_of, is_open_child, open_children, bound_holds, without_last, held, less_held, released, current_of, place_on, next_of}
-use Rattle.trace_base.specs.Calls.{SubscriberCall, NewSpan, Records, Follows, Event, Enter, Exit, CloneSpan, TryClose, after, with_span, entered, exited}
+use Rattle.trace_base.specs.Spans.{Span, Entries, Spans, no_span, span_at, entries_on, with_entries, is_in, times_in, is_child_of, is_open_child, open_children, bound_holds, without_last, with_hold, less_hold, without_hold, current_of, place_on, next_of}
+use Rattle.trace_base.specs.Calls.{SubscriberCall, NewSpan, Records, Follows, Event, Enter, Exit, CloneSpan, TryClose, spans_after_call, with_new_span, with_span_entry, with_span_exit}
 use Rattle.trace_base.specs.Conditions.{Allowed, IsLive, IsLivePlace, HasOwnHold, MayExit}
 use Rattle.trace_base.specs.Sound.{IsSound, OneEach, has_lane}
 use Rattle.trace_base.proofs.Entering.{count_push, counted_if_any, any_if_counted, made_if_held}
@@ -43,7 +43,7 @@ keeps_older made id now within under older q p is =
       | inr other ↦ older q p (ap (λ (s : Span). s.parent) (sym (get_or-set_other made id q now no_span other)) ∙ is)
     ]
 
-pub sound_held : (spans : Spans) (id : ℕ) → IsSound spans → IsLive spans.made id → IsSound (record spans { made = held spans.made id })
+pub sound_held : (spans : Spans) (id : ℕ) → IsSound spans → IsLive spans.made id → IsSound (record spans { made = with_hold spans.made id })
 sound_held spans id sound live =
     let within = made_if_held spans.made id live in
     let now : Span = record (span_at spans.made id) { holds = (span_at spans.made id).holds + 1 } in
@@ -63,11 +63,11 @@ sound_held spans id sound live =
     }
 
 -- one hold less, where another than those of entries and children was left
-pub sound_released : (spans : Spans) (id : ℕ) → IsSound spans → HasOwnHold spans id → IsSound (record spans { made = released spans.made id })
+pub sound_released : (spans : Spans) (id : ℕ) → IsSound spans → HasOwnHold spans id → IsSound (record spans { made = without_hold spans.made id })
 sound_released spans id sound own =
     let within = made_if_held spans.made id (omega (arith, own)) in
     let was = span_at spans.made id in
-    let now : Span = less_held was in
+    let now : Span = less_hold was in
     let fewer_holds = less_holds was in
     record {
       bound = λ q. (
@@ -90,14 +90,14 @@ sound_released spans id sound own =
       one_row = sound.one_row;
     }
 
-pub sound_entered : (spans : Spans) (id lane : ℕ) → IsSound spans → IsLive spans.made id → IsSound (entered spans id lane)
+pub sound_entered : (spans : Spans) (id lane : ℕ) → IsSound spans → IsLive spans.made id → IsSound (with_span_entry spans id lane)
 sound_entered spans id lane sound live =
     let ids = entries_on lane spans.lanes in
     let made_here = sound_held spans id sound live in
     let rows = one_with lane (ids ++ id ∷ []) spans.lanes sound.one_row in
     elim (cases_Bool (is_in id ids)) [
       | inl again ↦ (
-          let same : (entered spans id lane).made ≡ spans.made = cond-true {A = List Span} (is_in id ids) spans.made (held spans.made id) again in
+          let same : (with_span_entry spans id lane).made ≡ spans.made = cond-true {A = List Span} (is_in id ids) spans.made (with_hold spans.made id) again in
           record {
             bound = λ q. (
                 let first = first_with spans.lanes lane q (ids ++ id ∷ []) in
@@ -114,7 +114,7 @@ sound_entered spans id lane sound live =
             one_row = rows;
           })
       | inr new ↦ (
-          let same : (entered spans id lane).made ≡ held spans.made id = cond-false {A = List Span} (is_in id ids) spans.made (held spans.made id) new in
+          let same : (with_span_entry spans id lane).made ≡ with_hold spans.made id = cond-false {A = List Span} (is_in id ids) spans.made (with_hold spans.made id) new in
           let within = made_if_held spans.made id live in
           let now : Span = record (span_at spans.made id) { holds = (span_at spans.made id).holds + 1 } in
           record {
@@ -147,7 +147,7 @@ exit_live spans id lane sound may =
     let b = sound.bound id in
     omega (arith, first, b)
 
-pub sound_exited : (spans : Spans) (id lane : ℕ) → IsSound spans → MayExit spans id lane → IsSound (exited spans id lane)
+pub sound_exited : (spans : Spans) (id lane : ℕ) → IsSound spans → MayExit spans id lane → IsSound (with_span_exit spans id lane)
 sound_exited spans id lane sound may =
     let ids = entries_on lane spans.lanes in
     let rest = without_last (λ x. x == id) ids in
@@ -166,8 +166,8 @@ sound_exited spans id lane sound may =
     elim (cases_Bool (times_in id ids == 1)) [
       | inl last ↦ (
           let only = eqb-true (times_in id ids) 1 last in
-          let same : (exited spans id lane).made ≡ released spans.made id = cond-true {A = List Span} (times_in id ids == 1) (released spans.made id) spans.made last in
-          let now : Span = less_held (span_at spans.made id) in
+          let same : (with_span_exit spans id lane).made ≡ without_hold spans.made id = cond-true {A = List Span} (times_in id ids == 1) (without_hold spans.made id) spans.made last in
+          let now : Span = less_hold (span_at spans.made id) in
           let more = may.1 only in
           let fewer = less_holds (span_at spans.made id) in
           let parent = ap (λ (s : Span). s.parent) (less_more (span_at spans.made id) (λ e. omega (arith, e, more))) in
@@ -198,7 +198,7 @@ sound_exited spans id lane sound may =
             one_row = rows;
           })
       | inr again ↦ (
-          let same : (exited spans id lane).made ≡ spans.made = cond-false {A = List Span} (times_in id ids == 1) (released spans.made id) spans.made again in
+          let same : (with_span_exit spans id lane).made ≡ spans.made = cond-false {A = List Span} (times_in id ids == 1) (without_hold spans.made id) spans.made again in
           let several = eqb-false (times_in id ids) 1 again in
           record {
             bound = λ q. (
@@ -249,14 +249,14 @@ sound_push spans new room older under rows = record {
   one_row = rows;
 }
 
-pub sound_new : (spans : Spans) (above : Option ℕ) (site : ℕ) → IsSound spans → IfSome above (λ p. IsLive spans.made p) → IsSound (with_span spans above site)
+pub sound_new : (spans : Spans) (above : Option ℕ) (site : ℕ) → IsSound spans → IfSome above (λ p. IsLive spans.made p) → IsSound (with_new_span spans above site)
 sound_new spans None site sound live = sound_push spans (record { holds = 1; parent = None; site = site }) (λ q. let b = sound.bound q in omega (arith, b)) sound.older (λ p e. absurd (cc e)) sound.one_row
 sound_new spans (Some p) site sound live =
     let within = made_if_held spans.made p live in
     let now : Span = record (span_at spans.made p) { holds = (span_at spans.made p).holds + 1 } in
     let new : Span = record { holds = 1; parent = Some p; site = site } in
     let parent_held = sound_held spans p sound live in
-    sound_push (record spans { made = held spans.made p }) new
+    sound_push (record spans { made = with_hold spans.made p }) new
     (λ q. (
     let children = keeps_children spans.made p now within refl live (omega arith) q in
     let before = sound.bound q in
@@ -296,17 +296,17 @@ place_made made None live = tt
 place_made made (Some p) live = made_if_held made p live
 
 -- the next span to be released has a hold of its own
-pub next_own : (spans : Spans) (id : ℕ) → IsSound spans → HasOwnHold spans id → IfSome (next_of spans.made id) (λ p. (p < id) × HasOwnHold (record spans { made = released spans.made id }) p)
+pub next_own : (spans : Spans) (id : ℕ) → IsSound spans → HasOwnHold spans id → IfSome (next_of spans.made id) (λ p. (p < id) × HasOwnHold (record spans { made = without_hold spans.made id }) p)
 next_own spans id sound own =
     let was = span_at spans.made id in
-    let P : ℕ → Type 0 = λ p. (p < id) × HasOwnHold (record spans { made = released spans.made id }) p in
+    let P : ℕ → Type 0 = λ p. (p < id) × HasOwnHold (record spans { made = without_hold spans.made id }) p in
     elim (cases_Bool (was.holds == 1)) [
       | inr more ↦ subst (λ (o : Option ℕ). IfSome o P) (sym (cond-false {A = Option ℕ} (was.holds == 1) was.parent None more)) tt
       | inl last ↦ subst (λ (o : Option ℕ). IfSome o P) (sym (cond-true {A = Option ℕ} (was.holds == 1) was.parent None last)) (if_some was.parent P (λ p is.
           let only = eqb-true was.holds 1 last in
           let below = sound.older id p is in
           let within = made_if_held spans.made id (omega (arith, only)) in
-          let now : Span = less_held was in
+          let now : Span = less_hold was in
           let write = children_set spans.made id now p within in
           let was_child : is_open_child p was ≡ true = cond-false {A = Bool} (0 == was.holds) false (is_child_of p was.parent) (ne_eqb 0 was.holds (λ e. omega (arith, e, only))) ∙ ap (is_child_of p) is ∙ eq-eqb p p refl in
           let isnt : is_open_child p now ≡ false = ap (is_open_child p) (less_last was only) in
@@ -317,7 +317,7 @@ next_own spans id sound own =
           (below, omega (arith, write, a, b, h, before))))
     ]
 
-pub sound_call : (x : Spans) (call : SubscriberCall) → IsSound x → Allowed x call → IsSound (after x call)
+pub sound_call : (x : Spans) (call : SubscriberCall) → IsSound x → Allowed x call → IsSound (spans_after_call x call)
 sound_call x (NewSpan lane at place site callsite values) sound allowed = sound_new x (place_on (entries_on lane.id x.lanes) place) site sound (place_live x lane.id place sound allowed)
 sound_call x (Records id at callsite values) sound allowed = sound
 sound_call x (Follows id from at) sound allowed = sound
@@ -328,7 +328,7 @@ sound_call x (CloneSpan id) sound allowed = sound_held x id sound allowed
 sound_call x (TryClose id at) sound allowed = sound_released x id sound allowed
 
 -- a span just made has a hold of its own
-pub new_own : (x : Spans) (above : Option ℕ) (site : ℕ) → IsSound x → IfSome above (λ p. IsLive x.made p) → HasOwnHold (with_span x above site) (length x.made)
+pub new_own : (x : Spans) (above : Option ℕ) (site : ℕ) → IsSound x → IfSome above (λ p. IsLive x.made p) → HasOwnHold (with_new_span x above site) (length x.made)
 new_own x None site sound live =
     let new : Span = record { holds = 1; parent = None; site = site } in
     let n = length x.made in
@@ -341,7 +341,7 @@ new_own x (Some p) site sound live =
     let within = made_if_held x.made p live in
     let now : Span = record (span_at x.made p) { holds = (span_at x.made p).holds + 1 } in
     let new : Span = record { holds = 1; parent = Some p; site = site } in
-    let before = held x.made p in
+    let before = with_hold x.made p in
     let n = length x.made in
     let same : length before ≡ n = length-set x.made p now in
     let children = count_push (is_open_child n) before new in
@@ -353,7 +353,7 @@ new_own x (Some p) site sound live =
     omega (arith, children, kept, past, bound, h, apart)
 
 -- a span with one hold more has one of its own
-pub clone_own : (x : Spans) (id : ℕ) → IsSound x → IsLive x.made id → HasOwnHold (record x { made = held x.made id }) id
+pub clone_own : (x : Spans) (id : ℕ) → IsSound x → IsLive x.made id → HasOwnHold (record x { made = with_hold x.made id }) id
 clone_own x id sound live =
     let within = made_if_held x.made id live in
     let now : Span = record (span_at x.made id) { holds = (span_at x.made id).holds + 1 } in

@@ -5,7 +5,7 @@ use Rattle.std.proofs.lemmas.List.{append_cancel_left}
 use Rattle.std.proofs.lemmas.Bool.{cases_lt}
 use Rattle.std.proofs.lemmas.Fmt.{hex_one_digit, hex_two_digits}
 use Rattle.std.specs.Fmt.{digits, digit_glyph}
-use Rattle.trace_base.specs.words.Quote.{escaped, quoted}
+use Rattle.trace_base.specs.words.Quote.{escaped, in_quotes}
 
 -- the value of a digit in lower-case hex
 abbrev unglyph : ℕ → ℕ
@@ -75,5 +75,5 @@ apart (b ∷ bs) (d ∷ ds) e =
     let rest : left ≡ right = append_cancel_left (escaped d) left right (subst (λ z. escaped z ++ left ≡ escaped d ++ right) same both) in
     ap₂ (λ (z : ℕ) (zs : List ℕ). z ∷ zs) same (apart bs ds rest)
 
-pub quoted_apart : (x y : List ℕ) → quoted x ≡ quoted y → x ≡ y
+pub quoted_apart : (x y : List ℕ) → in_quotes x ≡ in_quotes y → x ≡ y
 quoted_apart x y e = apart x y (append_cancel_left (34 ∷ []) (flat_map escaped x ++ 34 ∷ []) (flat_map escaped y ++ 34 ∷ []) e)

@@ -4,7 +4,7 @@ use Rattle.trace_base.specs.declared.callsite.Callsite.{Callsite}
 use Rattle.trace_base.specs.declared.field.ValueSet.{ValueSet}
 use Rattle.trace_base.specs.declared.lane.Lane.{Lane}
 use Rattle.trace_base.specs.declared.span.Parent.{Parent}
-use Rattle.trace_base.specs.Spans.{Spans, entries_on, with_entries, is_in, times_in, without_last, place_on, held, released, held_by_child}
+use Rattle.trace_base.specs.Spans.{Spans, entries_on, with_entries, is_in, times_in, without_last, place_on, with_hold, without_hold, held_by_child}
 
 -- The calls of a subscriber. An entry and an exit tell the lane before and after.
 pub data SubscriberCall : Type 0 where
@@ -18,30 +18,30 @@ pub data SubscriberCall : Type 0 where
   TryClose : (id at : ℕ) → SubscriberCall
 
 -- a span made, under its parent
-abbrev pub with_span : Spans → Option ℕ → ℕ → Spans
-with_span spans above site = record spans { made = held_by_child spans.made above ++ record { holds = 1; parent = above; site = site } ∷ [] }
+abbrev pub with_new_span : Spans → Option ℕ → ℕ → Spans
+with_new_span spans above site = record spans { made = held_by_child spans.made above ++ record { holds = 1; parent = above; site = site } ∷ [] }
 
 -- an entry more on a lane, which is a hold where it is the first of its span there
-abbrev pub entered : Spans → ℕ → ℕ → Spans
-entered spans id lane = record {
-  made = if is_in id (entries_on lane spans.lanes) then spans.made else held spans.made id;
+abbrev pub with_span_entry : Spans → ℕ → ℕ → Spans
+with_span_entry spans id lane = record {
+  made = if is_in id (entries_on lane spans.lanes) then spans.made else with_hold spans.made id;
   lanes = with_entries lane (entries_on lane spans.lanes ++ id ∷ []) spans.lanes;
 }
 
 -- the last entry of a span less on a lane, and its hold where no entry of it is left there
-abbrev pub exited : Spans → ℕ → ℕ → Spans
-exited spans id lane = record {
-  made = if times_in id (entries_on lane spans.lanes) == 1 then released spans.made id else spans.made;
+abbrev pub with_span_exit : Spans → ℕ → ℕ → Spans
+with_span_exit spans id lane = record {
+  made = if times_in id (entries_on lane spans.lanes) == 1 then without_hold spans.made id else spans.made;
   lanes = with_entries lane (without_last (λ x. x == id) (entries_on lane spans.lanes)) spans.lanes;
 }
 
 -- what a call makes of the spans
-abbrev pub after : Spans → SubscriberCall → Spans
-after spans (NewSpan lane at place site callsite values) = with_span spans (place_on (entries_on lane.id spans.lanes) place) site
-after spans (Records id at callsite values) = spans
-after spans (Follows id from at) = spans
-after spans (Event lane at place site callsite values) = spans
-after spans (Enter id at before later) = entered spans id before.id
-after spans (Exit id at before later) = exited spans id before.id
-after spans (CloneSpan id) = record spans { made = held spans.made id }
-after spans (TryClose id at) = record spans { made = released spans.made id }
+abbrev pub spans_after_call : Spans → SubscriberCall → Spans
+spans_after_call spans (NewSpan lane at place site callsite values) = with_new_span spans (place_on (entries_on lane.id spans.lanes) place) site
+spans_after_call spans (Records id at callsite values) = spans
+spans_after_call spans (Follows id from at) = spans
+spans_after_call spans (Event lane at place site callsite values) = spans
+spans_after_call spans (Enter id at before later) = with_span_entry spans id before.id
+spans_after_call spans (Exit id at before later) = with_span_exit spans id before.id
+spans_after_call spans (CloneSpan id) = record spans { made = with_hold spans.made id }
+spans_after_call spans (TryClose id at) = record spans { made = without_hold spans.made id }

@@ -23,8 +23,8 @@ cached_at cached dispatch site = slice_index_or (slice_index_or cached site []) 
 abbrev pub interests_in : {S : Type 0} → (S → Callsite → Interest) → List S → Callsite → List Interest
 interests_in interest subscribers site = map (λ s. interest s site) subscribers
 
-abbrev pub registered : {S : Type 0} → (S → Callsite → Interest) → List S → List Callsite → List (List Interest)
-registered interest subscribers sites = map (interests_in interest subscribers) sites
+abbrev pub interests_of_sites : {S : Type 0} → (S → Callsite → Interest) → List S → List Callsite → List (List Interest)
+interests_of_sites interest subscribers sites = map (interests_in interest subscribers) sites
 
 -- a level within a hint, which is none where all levels are
 abbrev pub is_hinted : Option LevelFilter → Level → Bool
@@ -56,7 +56,7 @@ AdmitsFresh {S} interest hint enables world lane site (Some dispatch) answer =
 
 -- the cache was built by the filters that are in place
 abbrev pub IsFresh : {S : Type 0} → (S → Callsite → Interest) → Worlds S → Type 0
-IsFresh interest world = world.cached ≡ registered interest world.subscribers world.sites
+IsFresh interest world = world.cached ≡ interests_of_sites interest world.subscribers world.sites
 
 -- as many subscribers, each the same but for spare room
 pub record AreSame {S : Type 0} (same : S → S → Type 0) (old new : List S) : Type 0 where

@@ -92,20 +92,20 @@ place_on ids parent.Current = current_of ids
 place_on ids (parent.Of id) = Some id
 
 -- a span with one hold less; of one that closes nothing is kept
-abbrev pub less_held : Span → Span
-less_held span = if span.holds == 1 then no_span else record span { holds = span.holds - 1 }
+abbrev pub less_hold : Span → Span
+less_hold span = if span.holds == 1 then no_span else record span { holds = span.holds - 1 }
 
 -- the spans with one hold more, or less, of one of them
-abbrev pub held : List Span → ℕ → List Span
-held made id = slice_set made id (record (span_at made id) { holds = (span_at made id).holds + 1 })
+abbrev pub with_hold : List Span → ℕ → List Span
+with_hold made id = slice_set made id (record (span_at made id) { holds = (span_at made id).holds + 1 })
 
-abbrev pub released : List Span → ℕ → List Span
-released made id = slice_set made id (less_held (span_at made id))
+abbrev pub without_hold : List Span → ℕ → List Span
+without_hold made id = slice_set made id (less_hold (span_at made id))
 
 -- the same of the parent of a new span, if it has one
 abbrev pub held_by_child : List Span → Option ℕ → List Span
 held_by_child made None = made
-held_by_child made (Some p) = held made p
+held_by_child made (Some p) = with_hold made p
 
 -- the current span of a lane, with its callsite's site
 abbrev pub current_on : ℕ → Spans → Option (ℕ × ℕ)

@@ -5,8 +5,8 @@ ghost use Rattle.trace_base.specs.declared.level.Level.{Level};
 ghost use Rattle.trace_base.specs.declared.level.LevelFilter.{LevelFilter};
 ghost use Rattle.trace_base.specs.declared.level.LevelFilter.TheVariants as filter;
 ghost use Rattle.trace_base.specs.words.Level.{level_text, filter_text};
-ghost use Rattle.trace_base.specs.words.LevelWords.{level_of, filter_of};
-ghost use Rattle.trace_base.specs.words.Quote.{quoted};
+ghost use Rattle.trace_base.specs.words.LevelWords.{level_of, level_filter_of};
+ghost use Rattle.trace_base.specs.words.Quote.{in_quotes};
 
 use crate::level::STATIC_MAX_LEVEL;
 use crate::subscriber::Subscriber;
@@ -14,13 +14,13 @@ use crate::subscriber::Subscriber;
 /// What a level or a filter prints reads as itself, and the greatest filter is the static one.
 pub fn levels()
     ensures level { (level : Level) → level_of (level_text level) ≡ Some level }
-    ensures filter { (f : LevelFilter) → filter_of (filter_text f) ≡ Some f }
+    ensures filter { (f : LevelFilter) → level_filter_of (filter_text f) ≡ Some f }
     ensures static_max { STATIC_MAX_LEVEL ≡ filter.TRACE }
 {}
 
 /// Texts that differ have quoted forms that differ.
 pub fn quotes()
-    ensures differ { (x y : List ℕ) → quoted x ≡ quoted y → x ≡ y }
+    ensures differ { (x y : List ℕ) → in_quotes x ≡ in_quotes y → x ≡ y }
 {}
 
 /// Where the cached interests are those of the filters in place, a callsite is admitted by the subscriber's own

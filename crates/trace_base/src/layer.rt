@@ -1,13 +1,13 @@
 //! Layers: what is told beside a subscriber.
 ghost use Rattle.std.specs.Prelude.{◌≡◌, ◌<◌, ℕ, Bool, Option, true, false, IfOk, OnOk, Err};
-ghost use Rattle.otel_base.specs.Stack.{IsReady};
+ghost use Rattle.otel_base.specs.Stack.{IsReadyToAttach};
 ghost use Rattle.otel_base.specs.declared.enter_error.EnterError.TheVariants.{Full};
 ghost use Rattle.trace_base.specs.declared.callsite.Callsite.{Callsite};
 ghost use Rattle.trace_base.specs.declared.lane.Lane.{Lane};
 ghost use Rattle.trace_base.specs.declared.level.LevelFilter.{LevelFilter};
 ghost use Rattle.trace_base.specs.declared.subscriber.Interest.{Interest};
 ghost use Rattle.trace_base.specs.lanes.Contexts.{AreAttached, KeepsLane, KeepsLive, IsFull};
-ghost use Rattle.trace_base.specs.layers.Hooks.{Hook, OnNewSpan, OnRecord, OnFollows, OnEvent, OnEnter, OnExit, OnClose, Preparation, ForNewSpan, ForRecord, ForFollows, ForEvent, ForEnter, Seen, Sees, HookLanes};
+ghost use Rattle.trace_base.specs.layers.Hooks.{Hook, OnNewSpan, OnRecord, OnFollows, OnEvent, OnEnter, OnExit, OnClose, Preparation, ForNewSpan, ForRecord, ForFollows, ForEvent, ForEnter, KnownSpans, Sees, HookLanes};
 
 use crate::callsite::Callsite;
 use crate::field::ValueSet;
@@ -26,7 +26,7 @@ pub trait Layer {
     type Ready: Drop;
 
     /// The spans that it knows and the entries of them that it has open.
-    ghost seen: { Self → Seen };
+    ghost seen: { Self → KnownSpans };
 
     /// How often it keeps the attach of a number on a lane: once or not at all.
     ghost kept: { Self → ℕ → ℕ → ℕ };
@@ -156,7 +156,7 @@ pub trait Layer {
     /// it knows, and the lane has as many as may be.
     fn prepare_enter(&mut self, id: Id, lane: &mut Lane) -> Result<Self::Ready, EnterError>
         ensures ready { IfOk result (ready self.new (ForEnter id lane.old.id)) }
-        ensures room { OnOk result (attaches self.old ≡ true → (seen self.old).knows id ≡ true → IsReady lane.new.contexts) }
+        ensures room { OnOk result (attaches self.old ≡ true → (seen self.old).knows id ≡ true → IsReadyToAttach lane.new.contexts) }
         ensures leaves { same self.old self.new }
         ensures lane_leaves { KeepsLive (attaches self.old) lane.old lane.new }
         ensures full { result ≡ Err Full → (attaches self.old ≡ true) × ((seen self.old).knows id ≡ true) × IsFull lane.old };
@@ -165,7 +165,7 @@ pub trait Layer {
     fn on_enter(&mut self, prepared: Self::Ready, id: Id, lane: &mut Lane, at: u64)
         requires whole { is_whole self.old }
         requires ready { ready self.old (ForEnter id lane.old.id) prepared }
-        requires room { attaches self.old ≡ true → (seen self.old).knows id ≡ true → IsReady lane.old.contexts }
+        requires room { attaches self.old ≡ true → (seen self.old).knows id ≡ true → IsReadyToAttach lane.old.contexts }
         ensures { does self.old (OnEnter id at lane.old lane.new) self.new };
 
     /// A span was exited on a lane; `Layer::on_exit`.

@@ -9,7 +9,7 @@ ghost use Rattle.std.specs.Option.{option_and_then};
 ghost use Rattle.std.proofs.Common.{rules};
 ghost use Rattle.otel_base.specs.Words.{word_text};
 ghost use Rattle.trace_base.specs.words.Level.{verbosity, greatest_verbosity, is_within, level_text, filter_text, filter_of_level, level_of_filter};
-ghost use Rattle.trace_base.specs.words.LevelWords.{all_filters, filter_of_word, filter_of_number, decimal_value, named_filter, filter_of, level_of, IsReadAs};
+ghost use Rattle.trace_base.specs.words.LevelWords.{all_filters, filter_of_word, filter_of_number, decimal_value, named_filter, level_filter_of, level_of, IsReadAs};
 
 use otel_base::word::Word;
 use std::cmp::Ordering;
@@ -216,7 +216,7 @@ impl fmt::Display for LevelFilter {
 impl FromStr for LevelFilter {
     type Err = ParseLevelFilterError;
 
-    ghost from_str_gives = { λ text r. IsReadAs (filter_of text) r };
+    ghost from_str_gives = { λ text r. IsReadAs (level_filter_of text) r };
 
     fn from_str(text: &str) -> Result<LevelFilter, ParseLevelFilterError> {
         if text.is_empty() {

@@ -1,13 +1,13 @@
 //! The quoted form of a text.
 ghost use Rattle.std.specs.Prelude.{◌≡◌, ◌++◌, IfOk, OnOk, string_bytes, encode_utf8, flat_map};
-ghost use Rattle.trace_base.specs.words.Quote.{code_escape, escaped, quoted};
+ghost use Rattle.trace_base.specs.words.Quote.{code_escape, escaped, in_quotes};
 
 use otel_base::memory::Memory;
 use std::alloc::Global;
 
 /// The text between double quotes: Rust's debug form, with what is past ASCII left as it stands.
 pub fn quote(alloc: Global, text: &str) -> Result<String, Memory>
-    ensures { IfOk result (λ q. string_bytes q ≡ quoted text.now) }
+    ensures { IfOk result (λ q. string_bytes q ≡ in_quotes text.now) }
 {
     let mut out = String::new(alloc);
     out.push_str("\"")?;

@@ -7,7 +7,7 @@ ghost use Rattle.trace_base.specs.declared.level.LevelFilter.{LevelFilter};
 ghost use Rattle.trace_base.specs.declared.subscriber.Interest.{Interest};
 ghost use Rattle.trace_base.specs.declared.subscriber.Interest.TheVariants as interest;
 ghost use Rattle.trace_base.specs.Spans.{Spans, span_at, current_on, next_of};
-ghost use Rattle.trace_base.specs.Calls.{SubscriberCall, NewSpan, Records, Follows, Event, Enter, Exit, CloneSpan, TryClose, after};
+ghost use Rattle.trace_base.specs.Calls.{SubscriberCall, NewSpan, Records, Follows, Event, Enter, Exit, CloneSpan, TryClose, spans_after_call};
 ghost use Rattle.trace_base.specs.Conditions.{Allowed, IsLive, IsLivePlace, HasFewHolds, HasFewHoldsAbove, AreFew, MayExit, HasOwnHold};
 ghost use Rattle.trace_base.specs.Sound.{IsSound};
 ghost use Rattle.trace_base.specs.lanes.Contexts.{AreAttached, KeepsLane, KeepsLive, IsFull, Lanes};
@@ -245,7 +245,7 @@ pub trait Subscriber {
 
     ghost allowed: { (s : Self) (call : SubscriberCall) (t : Self) → does s call t → Allowed (spans s) call };
 
-    ghost shows: { (s : Self) (call : SubscriberCall) (t : Self) → does s call t → spans t ≡ after (spans s) call };
+    ghost shows: { (s : Self) (call : SubscriberCall) (t : Self) → does s call t → spans t ≡ spans_after_call (spans s) call };
 
     /// As many contexts are attached or detached as it keeps more or less.
     ghost lanes: { (s : Self) (call : SubscriberCall) (t : Self) → does s call t → Lanes (attaches s) (kept s) call (kept t) };

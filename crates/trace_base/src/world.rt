@@ -1,6 +1,6 @@
 //! Worlds: callsites, subscribers, and the gate between them.
 ghost use Rattle.std.specs.Prelude.{◌≡◌, ◌<◌, ◌≤◌, ℕ, Bool, Option, List, [], ◌∷◌, ◌++◌, map, take, length, Some, None, OnOk, OnErr, IfSome, IfOk, IfErr, slice_get};
-ghost use Rattle.trace_base.specs.Gate.{Worlds, gate, is_hinted, dispatch_on, Admits, AdmitsFresh, IsFresh, AreSame, HasRows, IsOwn, interests_in, registered};
+ghost use Rattle.trace_base.specs.Gate.{Worlds, gate, is_hinted, dispatch_on, Admits, AdmitsFresh, IsFresh, AreSame, HasRows, IsOwn, interests_in, interests_of_sites};
 ghost use Rattle.std.specs.Borrow.{sem};
 ghost use Rattle.trace_base.specs.Lending.{LendsSubscriber};
 
@@ -283,7 +283,7 @@ fn ask_all<S: Subscriber>(
     subscribers: &mut Vec<S>,
     sites: &[Callsite],
 ) -> Result<Vec<Row>, Memory>
-    ensures rows { IfOk result (λ rows. rows.items ≡ registered S.interest subscribers.old.items sites.now) }
+    ensures rows { IfOk result (λ rows. rows.items ≡ interests_of_sites S.interest subscribers.old.items sites.now) }
     ensures same { AreSame S.same subscribers.old.items subscribers.new.items }
 {
     let mut rows = Vec::new(alloc);

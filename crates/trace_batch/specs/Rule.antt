@@ -20,21 +20,21 @@ abbrev pub known_at : ℕ → List (List Sent) → ℕ → List Sent
 known_at lanes known l = get_or known (l - lanes) []
 
 -- What a pass knows fits what the queue holds. reader: the writer's pass. pass: the pass of each lane's sender, of the lanes that have one
-abbrev pub Fits : List Sent → ℕ → (ℕ → ℕ) → ℕ → List (List Sent) → List Sent → ℕ → View → Type 0
-Fits items reader pass lanes known got port Nobody = Unit {0}
-Fits items reader pass lanes known got port (Sender l p) = (l < lanes) × (pass l ≡ port) × (p ≡ of_lane l (got ++ items))
-Fits items reader pass lanes known got port (Writer n k g) = (port ≡ reader) × (n ≡ lanes) × (k ≡ known) × (g ≡ got)
+abbrev pub ViewFits : List Sent → ℕ → (ℕ → ℕ) → ℕ → List (List Sent) → List Sent → ℕ → View → Type 0
+ViewFits items reader pass lanes known got port Nobody = Unit {0}
+ViewFits items reader pass lanes known got port (Sender l p) = (l < lanes) × (pass l ≡ port) × (p ≡ of_lane l (got ++ items))
+ViewFits items reader pass lanes known got port (Writer n k g) = (port ≡ reader) × (n ≡ lanes) × (k ≡ known) × (g ≡ got)
 
 -- The rule: what the sender of a lane put in is what was taken out of that lane and then what the queue holds of it, and of
 -- a lane without a sender that is what is known of it.
-pub record Ruled (items : List Sent) (views : List View) : Type 0 where
+pub record KeepsRule (items : List Sent) (views : List View) : Type 0 where
   pub reader : ℕ
   pub pass : ℕ → ℕ
   pub lanes : ℕ
   pub known : List (List Sent)
   pub got : List Sent
   pub ended : (l : ℕ) → lanes ≤ l → of_lane l (got ++ items) ≡ known_at lanes known l
-  pub each : (port : ℕ) (v : View) → get_elem? views port ≡ some v → Fits items reader pass lanes known got port v
+  pub each : (port : ℕ) (v : View) → get_elem? views port ≡ some v → ViewFits items reader pass lanes known got port v
 
 -- the writer's view once the next lane has a sender
 abbrev pub one_more : View → View
@@ -69,10 +69,10 @@ took_out (Sender l p) x = Sender l p
 took_out Nobody x = Nobody
 
 -- what the writer learns of the lanes that have no sender any more
-abbrev pub Told : View → List Sent → Type 0
-Told (Writer n k g) items = (l : ℕ) → n ≤ l → of_lane l (g ++ items) ≡ known_at n k l
-Told (Sender l p) items = Unit {0}
-Told Nobody items = Unit {0}
+abbrev pub KnowsEndedLanes : View → List Sent → Type 0
+KnowsEndedLanes (Writer n k g) items = (l : ℕ) → n ≤ l → of_lane l (g ++ items) ≡ known_at n k l
+KnowsEndedLanes (Sender l p) items = Unit {0}
+KnowsEndedLanes Nobody items = Unit {0}
 
 -- it is the view of this lane's sender
 abbrev pub IsSenderOf : ℕ → View → Type 0

@@ -26,10 +26,10 @@ pub enum View {
 pub struct LanesInOrder;
 
 impl Protocol<Sent, View> for LanesInOrder {
-    ghost use Rattle.trace_batch.specs.Rule.{Ruled, writer};
+    ghost use Rattle.trace_batch.specs.Rule.{KeepsRule, writer};
     ghost use Rattle.std.specs.Prelude.{[]};
 
-    ghost holds = { Ruled };
+    ghost holds = { KeepsRule };
 
     ghost first = { writer 0 [] [] };
 }
@@ -84,9 +84,9 @@ impl Outcome<Sent, View> for Take {
 }
 
 impl Lesson<Sent, View> for Take {
-    ghost use Rattle.trace_batch.specs.Rule.{Told};
+    ghost use Rattle.trace_batch.specs.Rule.{KnowsEndedLanes};
 
-    ghost fact = { Told };
+    ghost fact = { KnowsEndedLanes };
 }
 
 /// The queue between the senders and the writer.

@@ -3,7 +3,7 @@ ghost use Rattle.std.specs.Prelude.{◌≡◌, ◌<◌, ◌≤◌, ◌++◌, ℕ
 ghost use Rattle.crossbeam_queue.specs.Passes.{IsPassOf};
 ghost use Rattle.trace_batch.specs.declared.relay.TheConstants.{MOST_LANES};
 ghost use Rattle.trace_batch.specs.Merges.{IsMerge};
-ghost use Rattle.trace_batch.specs.Rule.{Told};
+ghost use Rattle.trace_batch.specs.Rule.{KnowsEndedLanes};
 ghost use Rattle.trace_batch.specs.Serving.{Serving, Opens};
 
 use crate::item::{Finished, Item, Sent};

@@ -3,7 +3,7 @@ ghost use Rattle.std.specs.Prelude.{◌≡◌, [], All};
 ghost use Rattle.crossbeam_queue.specs.Passes.{view, IsPassOf};
 ghost use Rattle.trace_batch.specs.Rule.{sender};
 ghost use Rattle.trace_batch.specs.Sending.{Sends};
-ghost use Rattle.trace_batch.specs.Starting.{ComesTo};
+ghost use Rattle.trace_batch.specs.Starting.{EndsAsPromised};
 ghost use Rattle.trace_batch.specs.declared.sender.SenderEnd.{SenderEnd};
 
 use crate::item::{Finished, Item};
@@ -64,7 +64,7 @@ pub(crate) fn start<'s, E, R: Threads + Wait + Sync, F: Finished + Sync, T: Turn
 ) -> Started<SenderPromise<'s, F>>
     requires queue { IsPassOf queue.now pass × (view pass ≡ sender lane []) }
     requires own { All (λ i. i.lane ≡ lane) list.now }
-    ensures { (end : SenderEnd) → ComesTo ⟦<SenderPromise<'s, F> as Promise<SenderEnd>>⟧.kept_by result end
+    ensures { (end : SenderEnd) → EndsAsPromised ⟦<SenderPromise<'s, F> as Promise<SenderEnd>>⟧.kept_by result end
         → Sends F.text queue.now lane list.now end }
 {
     let promise = SenderPromise { queue, list, lane };
@@ -90,7 +90,7 @@ pub(crate) fn start<'s, E, R: Threads + Wait + Sync, F: Finished + Sync, T: Turn
 
 /// What a sender leaves, once it has ended.
 pub(crate) fn end_of<R: Threads, P: Promise<SenderEnd>>(rt: &R, started: Started<P>) -> SenderEnd
-    ensures { ComesTo P.kept_by started result }
+    ensures { EndsAsPromised P.kept_by started result }
 {
     match started {
         Started::Runs(handle) => handle.join(rt),

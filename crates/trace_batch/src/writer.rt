@@ -2,7 +2,7 @@
 ghost use Rattle.std.specs.Prelude.{◌≡◌, ◌<◌, ◌≤◌, ◌+◌, ◌∷◌, ◌++◌, ℕ, [], false, All, length, get_or, map, drop};
 ghost use Rattle.crossbeam_queue.specs.Passes.{view, IsPassOf};
 ghost use Rattle.trace_batch.specs.Merges.{sent_of};
-ghost use Rattle.trace_batch.specs.Rule.{Told, lanes_of};
+ghost use Rattle.trace_batch.specs.Rule.{KnowsEndedLanes, lanes_of};
 ghost use Rattle.trace_batch.specs.Sending.{Sends};
 ghost use Rattle.trace_batch.specs.Serving.{Serving, Opens};
 
@@ -53,7 +53,7 @@ fn take_one<R: Wait, F: Finished>(
     ensures queue { IsPassOf queue.now writer.new.pass }
     ensures lanes { lanes_of (view writer.new.pass) ≡ lanes_of (view writer.old.pass) }
     ensures serving { Serving F.text lists.now (lanes_of (view writer.new.pass)) writer.new }
-    ensures empty { result ≡ false → Told (view writer.new.pass) [] }
+    ensures empty { result ≡ false → KnowsEndedLanes (view writer.new.pass) [] }
 {
     match queue.pop_as::<Take, R>(rt, &mut writer.pass) {
         Some(sent) => {
@@ -77,7 +77,7 @@ pub(crate) fn take_all<R: Wait, F: Finished>(
     ensures queue { IsPassOf queue.now writer.new.pass }
     ensures lanes { lanes_of (view writer.new.pass) ≡ lanes_of (view writer.old.pass) }
     ensures serving { Serving F.text lists.now (lanes_of (view writer.new.pass)) writer.new }
-    ensures empty { Told (view writer.new.pass) [] }
+    ensures empty { KnowsEndedLanes (view writer.new.pass) [] }
 {
     for _ in rt.forever() {
         let have_ended = progress.ended.load(Ordering::SeqCst) == lists.len() as u64;

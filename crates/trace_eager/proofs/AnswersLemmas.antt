@@ -8,12 +8,12 @@ use Rattle.span_script.specs.Effects.{effect_of}
 use Rattle.span_script.specs.calls.Spans.{open_spans}
 use Rattle.span_script.specs.Outcomes.{followed_by, history_from, outcome_of}
 use Rattle.span_script.specs.Setups.{Setup}
-use Rattle.span_script.specs.Tables.{Effect, History, Tables, after, no_tables, records_of, tables}
+use Rattle.span_script.specs.Tables.{Effect, History, Tables, after_effect, no_tables, records_of, tables}
 use Rattle.span_eager.specs.Early.{answers, answers_from}
 use Rattle.trace_pipeline.specs.declared.signal.Signal.TheVariants as signal
 use Rattle.trace_pipeline.specs.declared.told.Told.{Told}
 use Rattle.trace_pipeline.specs.Lines.{is_blank}
-use Rattle.trace_pipeline.specs.Report.{Report, behind, told_step, effect_of_line, effect_of_request, following, report_on, answer_text, answer_count}
+use Rattle.trace_pipeline.specs.Report.{Report, with_text_before, told_step, effect_of_line, effect_of_request, report_on_effect, report_on, answer_text, answer_count}
 use Rattle.trace_pipeline.specs.reading.Spelled.{request_spelled}
 use Rattle.trace_eager.specs.Written.{answers_text, in_front, numbers_of, requests_of}
 
@@ -23,7 +23,7 @@ module _ (setup : Setup) where
   report h n count lines = report_on signal.Traces setup h n count lines
 
   abbrev text_on : Tables → ℕ → List ℕ → History → List ℕ
-  text_on t count ns rest = answers_text count ns (answers_from t rest) (open_spans (fold after t rest))
+  text_on t count ns rest = answers_text count ns (answers_from t rest) (open_spans (fold after_effect t rest))
 
   abbrev IsText : Report → Tables → ℕ → List ℕ → List Request → Type 0
   IsText r t count ns requests = r.accepted ≡ true → r.written ≡ text_on t count ns (history_from setup t requests)
@@ -33,19 +33,19 @@ module _ (setup : Setup) where
     t = tables setup h
 
     abbrev go : Effect → Report
-    go e = behind (answer_text signal.Traces (n + 1) count e.reply (records_of t e) e.measures) (report (h ++ e ∷ []) (n + 1) (count + answer_count signal.Traces (records_of t e) e.measures) lines)
+    go e = with_text_before (answer_text signal.Traces (n + 1) count e.reply (records_of t e) e.measures) (report (h ++ e ∷ []) (n + 1) (count + answer_count signal.Traces (records_of t e) e.measures) lines)
 
-    by_effect : (r : Resolved) → (following (told_step r) go (n + 1)).accepted ≡ true
-        → (following (told_step r) go (n + 1)).written ≡ text_on t count ((n + 1) ∷ numbers_of (n + 1) lines) (followed_by r (λ e. history_from setup (after t e) (requests_of lines)))
+    by_effect : (r : Resolved) → (report_on_effect (told_step r) go (n + 1)).accepted ≡ true
+        → (report_on_effect (told_step r) go (n + 1)).written ≡ text_on t count ((n + 1) ∷ numbers_of (n + 1) lines) (followed_by r (λ e. history_from setup (after_effect t e) (requests_of lines)))
     by_effect (Err refusal) accepted = absurd (cc accepted)
     by_effect (Ok e) accepted =
         let more = count + length (records_of t e) in
         ap (λ (rest : List ℕ). answer_text signal.Traces (n + 1) count e.reply (records_of t e) e.measures ++ rest)
         (behind_it (h ++ e ∷ []) (n + 1) more accepted
-        ∙ ap (λ (u : Tables). text_on u more (numbers_of (n + 1) lines) (history_from setup u (requests_of lines))) (fold_push after (no_tables setup) h e))
+        ∙ ap (λ (u : Tables). text_on u more (numbers_of (n + 1) lines) (history_from setup u (requests_of lines))) (fold_push after_effect (no_tables setup) h e))
 
     pub by_blank : (b : Bool) (spelled : Result Request Told)
-        → IsText (if b then report h (n + 1) count lines else following (effect_of_request setup t spelled) go (n + 1)) t count
+        → IsText (if b then report h (n + 1) count lines else report_on_effect (effect_of_request setup t spelled) go (n + 1)) t count
         (if b then numbers_of (n + 1) lines else (n + 1) ∷ numbers_of (n + 1) lines) (if b then requests_of lines else in_front spelled (requests_of lines))
     by_blank true spelled accepted = behind_it h (n + 1) count accepted
     by_blank false (Err why) accepted = absurd (cc accepted)

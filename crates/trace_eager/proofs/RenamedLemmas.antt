@@ -11,7 +11,7 @@ use Rattle.span_eager.proofs.SameOutcomes.{each_early_is_late, early_is_late}
 use Rattle.trace_pipeline.specs.declared.signal.Signal.TheVariants as signal
 use Rattle.trace_pipeline.specs.declared.told.Told.{Told}
 use Rattle.trace_pipeline.specs.Lines.{is_blank}
-use Rattle.trace_pipeline.specs.Report.{Report, accepts, opened, opening, report_from, report_on}
+use Rattle.trace_pipeline.specs.Report.{Report, accepts, report_on_opening, report_on_settings, report_from, report_on}
 use Rattle.trace_pipeline.specs.reading.Spelled.{settings_spelled}
 use Rattle.trace_eager.specs.Renamed.{IsRenamed, RenamesIds, Script, script_by, script_from}
 use Rattle.trace_eager.specs.Written.{answers_text, numbers_of, requests_of}
@@ -30,13 +30,13 @@ abbrev IsRenamedBy : Option Script → Report → Type 0
 IsRenamedBy script r = r.accepted ≡ true → MatchOption script (Unit {0}) (λ script. RenamesIds script r.written)
 
 by_read : (read : OpeningRead) (settings : Settings) (n : ℕ) (lines : List (List ℕ))
-    → IsRenamedBy (Some (record { settings = settings; number = n; lines = lines })) (opened read (report_on signal.Traces (setup_by settings) [] n 0 lines) n)
+    → IsRenamedBy (Some (record { settings = settings; number = n; lines = lines })) (report_on_opening read (report_on signal.Traces (setup_by settings) [] n 0 lines) n)
 by_read (Err unread) settings n lines accepted = absurd (cc accepted)
 by_read (Ok read) settings n lines accepted = renames settings n lines accepted
 
 by_line : (b : Bool) (spelled : Result Settings Told) (n : ℕ) (lines : List (List ℕ)) → IsRenamedBy (script_from (n + 1) lines) (report_from signal.Traces (n + 1) lines)
     → IsRenamedBy (if b then script_from (n + 1) lines else script_by spelled (n + 1) lines)
-    (if b then report_from signal.Traces (n + 1) lines else opening spelled (λ settings. report_on signal.Traces (setup_by settings) [] (n + 1) 0 lines) (n + 1))
+    (if b then report_from signal.Traces (n + 1) lines else report_on_settings spelled (λ settings. report_on signal.Traces (setup_by settings) [] (n + 1) 0 lines) (n + 1))
 by_line true spelled n lines rest = rest
 by_line false (Err why) n lines rest = λ accepted. absurd (cc accepted)
 by_line false (Ok settings) n lines rest = by_read (opening_read settings.filter settings.counting) settings (n + 1) lines

@@ -10,13 +10,13 @@ use Rattle.span_script.specs.Effects.{effect_of}
 use Rattle.span_script.specs.calls.Spans.{open_spans}
 use Rattle.span_script.specs.Outcomes.{followed_by, history_from, records_from, refusal_at}
 use Rattle.span_script.specs.Setups.{Setup}
-use Rattle.span_script.specs.Tables.{Effect, History, Tables, after, no_tables, records_of, tables}
+use Rattle.span_script.specs.Tables.{Effect, History, Tables, after_effect, no_tables, records_of, tables}
 use Rattle.span_eager.specs.Early.{answers_from}
 use Rattle.trace_eager.specs.Written.{in_front, numbers_of, requests_of}
 use Rattle.trace_pipeline.specs.declared.signal.Signal.TheVariants as signal
 use Rattle.trace_pipeline.specs.declared.told.Told.{Told}
 use Rattle.trace_pipeline.specs.Lines.{is_blank}
-use Rattle.trace_pipeline.specs.Report.{Report, behind, told_step, effect_of_line, effect_of_request, following, report_on, answer_text, answer_count}
+use Rattle.trace_pipeline.specs.Report.{Report, with_text_before, told_step, effect_of_line, effect_of_request, report_on_effect, report_on, answer_text, answer_count}
 use Rattle.trace_pipeline.specs.reading.Spelled.{request_spelled}
 use Rattle.trace_laws.specs.Written.{answer_lines, last_line, unread_from, unread_or}
 
@@ -27,12 +27,12 @@ module _ (setup : Setup) where
 
   -- the first refused request behind a history that requests give from some tables on
   abbrev refused_of : Tables → List Request → History → Option (ℕ × Refusal)
-  refused_of t requests h = option_and_then (λ request. refusal_at (length h) (effect_of setup (fold after t h) request)) (slice_get requests (length h))
+  refused_of t requests h = option_and_then (λ request. refusal_at (length h) (effect_of setup (fold after_effect t h) request)) (slice_get requests (length h))
 
   abbrev text_by : Tables → ℕ → List ℕ → Option (ℕ × Told) → List Request → History → List ℕ
   text_by t count numbers unread requests h =
       answer_lines count numbers (answers_from t h)
-      ++ last_line numbers (refused_of t requests h) unread (open_spans (fold after t h)) (count + length (records_from t h))
+      ++ last_line numbers (refused_of t requests h) unread (open_spans (fold after_effect t h)) (count + length (records_from t h))
 
   abbrev text_of : Tables → ℕ → ℕ → List (List ℕ) → List ℕ
   text_of t n count lines = text_by t count (numbers_of n lines) (unread_from n lines) (requests_of lines) (history_from setup t (requests_of lines))
@@ -55,13 +55,13 @@ module _ (setup : Setup) where
     t = tables setup h
 
     abbrev go : Effect → Report
-    go e = behind (answer_text signal.Traces (n + 1) count e.reply (records_of t e) e.measures) (report (h ++ e ∷ []) (n + 1) (count + answer_count signal.Traces (records_of t e) e.measures) lines)
+    go e = with_text_before (answer_text signal.Traces (n + 1) count e.reply (records_of t e) e.measures) (report (h ++ e ∷ []) (n + 1) (count + answer_count signal.Traces (records_of t e) e.measures) lines)
 
     abbrev later : Effect → History
-    later e = history_from setup (after t e) (requests_of lines)
+    later e = history_from setup (after_effect t e) (requests_of lines)
 
     -- one effect more in front
-    in_turn : (request : Request) (e : Effect) (rest : List ℕ) → rest ≡ text_of (after t e) (n + 1) (count + length (records_of t e)) lines
+    in_turn : (request : Request) (e : Effect) (rest : List ℕ) → rest ≡ text_of (after_effect t e) (n + 1) (count + length (records_of t e)) lines
         → answer_text signal.Traces (n + 1) count e.reply (records_of t e) e.measures ++ rest
         ≡ text_by t count ((n + 1) ∷ numbers_of (n + 1) lines) (unread_from (n + 1) lines) (request ∷ requests_of lines) (e ∷ later e)
     in_turn request e rest is =
@@ -69,26 +69,26 @@ module _ (setup : Setup) where
         let more = count + length (records_of t e) in
         let numbers = numbers_of (n + 1) lines in
         let unread = unread_from (n + 1) lines in
-        let left = open_spans (fold after (after t e) (later e)) in
-        let many = length-append (records_of t e) (records_from (after t e) (later e)) in
-        let sum : more + length (records_from (after t e) (later e)) ≡ count + length (records_of t e ++ records_from (after t e) (later e)) = omega (arith, many) in
+        let left = open_spans (fold after_effect (after_effect t e) (later e)) in
+        let many = length-append (records_of t e) (records_from (after_effect t e) (later e)) in
+        let sum : more + length (records_from (after_effect t e) (later e)) ≡ count + length (records_of t e ++ records_from (after_effect t e) (later e)) = omega (arith, many) in
         ap (λ (text : List ℕ). first ++ text) is
-        ∙ ap (λ (text : List ℕ). first ++ (answer_lines more numbers (answers_from (after t e) (later e)) ++ text))
-        (shifted (slice_get (requests_of lines) (length (later e))) (λ q. effect_of setup (fold after (after t e) (later e)) q) (length (later e)) (n + 1) numbers unread left (more + length (records_from (after t e) (later e)))
+        ∙ ap (λ (text : List ℕ). first ++ (answer_lines more numbers (answers_from (after_effect t e) (later e)) ++ text))
+        (shifted (slice_get (requests_of lines) (length (later e))) (λ q. effect_of setup (fold after_effect (after_effect t e) (later e)) q) (length (later e)) (n + 1) numbers unread left (more + length (records_from (after_effect t e) (later e)))
         ∙ ap (λ (many : ℕ). last_line ((n + 1) ∷ numbers) (refused_of t (request ∷ requests_of lines) (e ∷ later e)) unread left many) sum)
-        ∙ sym (append_assoc first (answer_lines more numbers (answers_from (after t e) (later e))) (last_line ((n + 1) ∷ numbers) (refused_of t (request ∷ requests_of lines) (e ∷ later e)) unread left (count + length (records_of t e ++ records_from (after t e) (later e)))))
+        ∙ sym (append_assoc first (answer_lines more numbers (answers_from (after_effect t e) (later e))) (last_line ((n + 1) ∷ numbers) (refused_of t (request ∷ requests_of lines) (e ∷ later e)) unread left (count + length (records_of t e ++ records_from (after_effect t e) (later e)))))
 
     by_effect : (request : Request) (r : Resolved) → effect_of setup t request ≡ r
-        → (following (told_step r) go (n + 1)).written
+        → (report_on_effect (told_step r) go (n + 1)).written
         ≡ text_by t count ((n + 1) ∷ numbers_of (n + 1) lines) (unread_from (n + 1) lines) (request ∷ requests_of lines) (followed_by r later)
     by_effect request (Err why) is =
         ap (λ (x : Resolved). last_line ((n + 1) ∷ numbers_of (n + 1) lines) (refusal_at 0 x) (unread_from (n + 1) lines) (open_spans t) (count + 0)) (sym is)
     by_effect request (Ok e) is =
         let more = count + length (records_of t e) in
-        in_turn request e _ (behind_it (h ++ e ∷ []) (n + 1) more ∙ ap (λ (u : Tables). text_of u (n + 1) more lines) (fold_push after (no_tables setup) h e))
+        in_turn request e _ (behind_it (h ++ e ∷ []) (n + 1) more ∙ ap (λ (u : Tables). text_of u (n + 1) more lines) (fold_push after_effect (no_tables setup) h e))
 
     pub by_blank : (b : Bool) (spelled : Result Request Told)
-        → (if b then report h (n + 1) count lines else following (effect_of_request setup t spelled) go (n + 1)).written
+        → (if b then report h (n + 1) count lines else report_on_effect (effect_of_request setup t spelled) go (n + 1)).written
         ≡ text_by t count (if b then numbers_of (n + 1) lines else (n + 1) ∷ numbers_of (n + 1) lines)
         (if b then unread_from (n + 1) lines else unread_or spelled (n + 1) (unread_from (n + 1) lines))
         (if b then requests_of lines else in_front spelled (requests_of lines))

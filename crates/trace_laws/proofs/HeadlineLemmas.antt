@@ -6,13 +6,13 @@ use Rattle.otel_base.specs.declared.record.Record.{Record}
 use Rattle.span_script.specs.declared.request.Request.{Request}
 use Rattle.span_script.specs.Admission.{opening_read}
 use Rattle.span_script.specs.calls.Spans.{is_open}
-use Rattle.span_script.specs.Outcomes.{history_of, records}
+use Rattle.span_script.specs.Outcomes.{history_of, records_of_history}
 use Rattle.span_script.specs.Setups.{Setup, setup_by}
 use Rattle.span_script.specs.Tables.{Effect, History, no_tables, tables}
 use Rattle.span_eager.specs.Early.{answers}
 use Rattle.span_laws.specs.Laws.{IsHistory, none, occurrences}
-use Rattle.span_laws.specs.Makings.{IsUnder}
-use Rattle.span_laws.specs.Records.{Each}
+use Rattle.span_laws.specs.Makings.{HasContextOf}
+use Rattle.span_laws.specs.Records.{EachRecord}
 use Rattle.span_laws.proofs.spans.ChildrenLemmas.{children_first}
 use Rattle.span_laws.proofs.records.HistoriesLemmas.{closed_once, closed_when_ended, only_made_closed}
 use Rattle.span_laws.proofs.records.MadeRecordsLemmas.{IsStepOf, each_known}
@@ -31,10 +31,10 @@ use Rattle.trace_laws.proofs.FrontsLemmas.{answers_each, closed_is, front_legal,
 use Rattle.trace_laws.proofs.OutputLemmas.{is_output}
 
 -- which spans a legal history has closed
-ended : (setup : Setup) (h : History) (s : ℕ) → IsHistory setup h → is_in s (tables setup h).closed ≡ (nat_lt s (length (tables setup h).made) && not (is_open (tables setup h).handles s))
-ended setup h s legal = elim (cases_lt s (length (tables setup h).made)) [
-  | inl made ↦ closed_when_ended setup h s legal made ∙ ap (λ (b : Bool). b && not (is_open (tables setup h).handles s)) (sym (lt-ltb s (length (tables setup h).made) made))
-  | inr past ↦ only_made_closed setup h s legal past ∙ ap (λ (b : Bool). b && not (is_open (tables setup h).handles s)) (sym (le-ltb s (length (tables setup h).made) past))
+ended : (setup : Setup) (h : History) (s : ℕ) → IsHistory setup h → is_in s (tables setup h).closed ≡ (nat_lt s (length (tables setup h).spans) && not (is_open (tables setup h).handles s))
+ended setup h s legal = elim (cases_lt s (length (tables setup h).spans)) [
+  | inl made ↦ closed_when_ended setup h s legal made ∙ ap (λ (b : Bool). b && not (is_open (tables setup h).handles s)) (sym (lt-ltb s (length (tables setup h).spans) made))
+  | inr past ↦ only_made_closed setup h s legal past ∙ ap (λ (b : Bool). b && not (is_open (tables setup h).handles s)) (sym (le-ltb s (length (tables setup h).spans) past))
 ]
 
 module _ (setup : Setup) (requests : List Request) where
@@ -54,8 +54,8 @@ module _ (setup : Setup) (requests : List Request) where
       (step.0, step.1, front_legal setup requests [] (no_tables setup) refl none fore (e ∷ rest) is, step.2)
 
   -- what holds of each record holds of it behind its reply
-  each_answer : (P : ℕ → Record → Type 0) → Each P (tables setup h).closed (records setup h) → AnswersEach P h (answers setup requests)
-  each_answer P each = answers_each setup P requests [] (no_tables setup) refl none (subst (λ (ids : List ℕ). Each P ids (records setup h)) (closed_is (no_tables setup) h) each)
+  each_answer : (P : ℕ → Record → Type 0) → EachRecord P (tables setup h).closed (records_of_history setup h) → AnswersEach P h (answers setup requests)
+  each_answer P each = answers_each setup P requests [] (no_tables setup) refl none (subst (λ (ids : List ℕ). EachRecord P ids (records_of_history setup h)) (closed_is (no_tables setup) h) each)
 
   pub tells_spans : TellsSpans setup requests h (answers setup requests)
   tells_spans = record {
@@ -65,10 +65,10 @@ module _ (setup : Setup) (requests : List Request) where
         let step = step_at fore rest e is in
         record { request = step.0; place = step.1; effect = step.3; made = if_admitted setup fore step.0 e step.2 step.3 };
     answered = each_answer (HoldsCalls setup requests h) (each_known setup h legal IsAt step_at);
-    under = each_answer (IsUnder setup h) (is_under setup h legal);
+    under = each_answer (HasContextOf setup h) (is_under setup h legal);
     once = λ s. subst (λ (ids : List ℕ). occurrences s ids ≤ 1) (closed_is (no_tables setup) h) (closed_once setup h s legal);
     when_ended = λ fore rest s is.
-        subst (λ (ids : List ℕ). is_in s ids ≡ (nat_lt s (length (tables setup fore).made) && not (is_open (tables setup fore).handles s))) (closed_is (no_tables setup) fore)
+        subst (λ (ids : List ℕ). is_in s ids ≡ (nat_lt s (length (tables setup fore).spans) && not (is_open (tables setup fore).handles s))) (closed_is (no_tables setup) fore)
         (ended setup fore s (front_legal setup requests [] (no_tables setup) refl none fore rest is));
     child_first = λ s p up fore rest above is. children_first setup h s p up fore rest legal above (closed_is (no_tables setup) h ∙ is);
   }

@@ -12,15 +12,15 @@ use Rattle.trace_pipeline.specs.declared.signal.Signal.TheVariants as signal
 use Rattle.trace_pipeline.specs.declared.told.Told.TheVariants.{BadLine}
 use Rattle.trace_pipeline.specs.forms.Forms.{all_of}
 use Rattle.trace_pipeline.specs.Lines.{is_blank, lines_of}
-use Rattle.trace_pipeline.specs.Report.{opened, opening, output, report_from, report_on}
+use Rattle.trace_pipeline.specs.Report.{report_on_opening, report_on_settings, output, report_from, report_on}
 use Rattle.trace_pipeline.specs.forms.SettingsForm.{settings_form}
-use Rattle.trace_pipeline.specs.reading.Spelled.{settings_spelled, spelled}
+use Rattle.trace_pipeline.specs.reading.Spelled.{settings_spelled, value_on_line}
 use Rattle.trace_pipeline.specs.text.Texts.{refusal_text}
 use Rattle.trace_laws.specs.Written.{IsOutput, first_line, answer_lines, last_line, opened_text, unread_from}
 use Rattle.trace_laws.proofs.AnswersLemmas.{text_is}
 
 by_read : (read : OpeningRead) (settings : Settings) (n : ℕ) (lines : List (List ℕ))
-    → (opened read (report_on signal.Traces (setup_by settings) [] n 0 lines) n).written ≡ opened_text read (record { settings = settings; number = n; lines = lines })
+    → (report_on_opening read (report_on signal.Traces (setup_by settings) [] n 0 lines) n).written ≡ opened_text read (record { settings = settings; number = n; lines = lines })
 by_read (Ok read) settings n lines =
     let setup = setup_by settings in
     let outcome = outcome_of setup (requests_of lines) in
@@ -32,7 +32,7 @@ by_read (Err unread) settings n lines = refl
 by_line : (b : Bool) (o : Option Settings) (n : ℕ) (lines : List (List ℕ)) → IsOutput (first_line (n + 1) lines) (script_from (n + 1) lines) (report_from signal.Traces (n + 1) lines).written
     → IsOutput (slice_index_or (if b then numbers_of (n + 1) lines else (n + 1) ∷ numbers_of (n + 1) lines) 0 (n + suc (length lines) + 1))
     (if b then script_from (n + 1) lines else script_by (ok_or o BadLine) (n + 1) lines)
-    (if b then report_from signal.Traces (n + 1) lines else opening (ok_or o BadLine) (λ settings. report_on signal.Traces (setup_by settings) [] (n + 1) 0 lines) (n + 1)).written
+    (if b then report_from signal.Traces (n + 1) lines else report_on_settings (ok_or o BadLine) (λ settings. report_on signal.Traces (setup_by settings) [] (n + 1) 0 lines) (n + 1)).written
 by_line true o n lines rest =
     let past : n + 1 + length lines + 1 ≡ n + suc (length lines) + 1 = omega arith in
     subst (λ (k : ℕ). IsOutput (slice_index_or (numbers_of (n + 1) lines) 0 k) (script_from (n + 1) lines) (report_from signal.Traces (n + 1) lines).written) past rest
@@ -42,7 +42,7 @@ by_line false (Some settings) n lines rest = by_read (opening_read settings.filt
 output_from : (lines : List (List ℕ)) (n : ℕ) → IsOutput (first_line n lines) (script_from n lines) (report_from signal.Traces n lines).written
 unfolding settings_spelled
 output_from [] n = ap (λ (k : ℕ). refusal_text k BadLine) (omega arith)
-output_from (text ∷ lines) n = by_line (is_blank text) (spelled (all_of settings_form) text) n lines (output_from lines (n + 1))
+output_from (text ∷ lines) n = by_line (is_blank text) (value_on_line (all_of settings_form) text) n lines (output_from lines (n + 1))
 
 pub is_output : (bytes : List ℕ) → IsOutput (first_line 0 (lines_of bytes)) (script_from 0 (lines_of bytes)) (output signal.Traces bytes)
 is_output bytes = output_from (lines_of bytes) 0

@@ -13,9 +13,9 @@ use Rattle.span_script.specs.Admission.{OpeningRead, opening_read}
 use Rattle.span_script.specs.calls.Here.{Resolved}
 use Rattle.span_script.specs.Effects.{effect_of}
 use Rattle.span_script.specs.calls.Spans.{open_spans}
-use Rattle.span_script.specs.Outcomes.{history_from, history_of, outcome_of, records, refusal_at, refused_behind}
+use Rattle.span_script.specs.Outcomes.{history_from, history_of, outcome_of, records_of_history, refusal_at, refused_behind}
 use Rattle.span_script.specs.Setups.{Setup}
-use Rattle.span_script.specs.Tables.{Effect, History, Tables, after, no_tables, tables}
+use Rattle.span_script.specs.Tables.{Effect, History, Tables, after_effect, no_tables, tables}
 use Rattle.span_script.proofs.runs.RunLemmas.{goes_on_with}
 use Rattle.span_eager.specs.Early.{answers, answers_from}
 use Rattle.trace_eager.specs.Renamed.{Script, script_from}
@@ -24,8 +24,8 @@ use Rattle.trace_pipeline.specs.declared.signal.Signal.TheVariants as signal
 use Rattle.trace_pipeline.specs.declared.told.Told.{Told}
 use Rattle.trace_pipeline.specs.Generated.{made_lines, made_requests, made_script, made_settings, made_setup, request_line}
 use Rattle.trace_pipeline.specs.Lines.{lines_of}
-use Rattle.trace_pipeline.specs.Replay.{busy_of, events_of, going_on, replayed, summary_of}
-use Rattle.trace_pipeline.specs.Report.{IsValid, Report, accepts, opened, output, report_on}
+use Rattle.trace_pipeline.specs.Replay.{busy_of, events_of, history_unless_refused, history_after, summary_of}
+use Rattle.trace_pipeline.specs.Report.{IsValid, Report, accepts, report_on_opening, output, report_on}
 use Rattle.trace_pipeline.specs.text.Texts.{end_text}
 use Rattle.trace_pipeline.proofs.made.LinesLemmas.{Each, HasLine, made_each, script_lines, settings_read}
 use Rattle.trace_laws.specs.Sums.{Counts, records_in}
@@ -55,21 +55,21 @@ made_from n few = ap (script_from 0) (script_lines n few) ∙ rw settings_read r
 
 -- ---- the history of requests that are all served
 
-going : (r : Resolved) (next : Effect → Option History) (h : History) → going_on r next ≡ Some h → (e : Effect) × (r ≡ Ok e) × (next e ≡ Some h)
+going : (r : Resolved) (next : Effect → Option History) (h : History) → history_unless_refused r next ≡ Some h → (e : Effect) × (r ≡ Ok e) × (next e ≡ Some h)
 going (Ok e) next h is = (e, refl, is)
 going (Err why) next h is = absurd (cc is)
 
 module _ (setup : Setup) where
-  replayed_is : (requests : List Request) (h all : History) → replayed setup h requests ≡ Some all → all ≡ h ++ history_from setup (tables setup h) requests
+  replayed_is : (requests : List Request) (h all : History) → history_after setup h requests ≡ Some all → all ≡ h ++ history_from setup (tables setup h) requests
   replayed_is [] h all is = (let same : h ≡ all = cc is in sym same ∙ sym (append-nil h))
   replayed_is (r ∷ requests) h all is =
-      let on = going (effect_of setup (tables setup h) r) (λ e. replayed setup (h ++ e ∷ []) requests) all is in
+      let on = going (effect_of setup (tables setup h) r) (λ e. history_after setup (h ++ e ∷ []) requests) all is in
       replayed_is requests (h ++ on.0 ∷ []) all on.2 ∙ sym (goes_on_with setup h r requests on.0 on.1)
 
-  replayed_many : (requests : List Request) (h all : History) → replayed setup h requests ≡ Some all → length all ≡ length h + length requests
+  replayed_many : (requests : List Request) (h all : History) → history_after setup h requests ≡ Some all → length all ≡ length h + length requests
   replayed_many [] h all is = (let same : h ≡ all = cc is in let many = ap (λ (x : History). length x) same in omega (arith, many))
   replayed_many (r ∷ requests) h all is =
-      let on = going (effect_of setup (tables setup h) r) (λ e. replayed setup (h ++ e ∷ []) requests) all is in
+      let on = going (effect_of setup (tables setup h) r) (λ e. history_after setup (h ++ e ∷ []) requests) all is in
       let rest = replayed_many requests (h ++ on.0 ∷ []) all on.2 in
       let one = length-append h (on.0 ∷ []) in
       omega (arith, rest, one)
@@ -82,15 +82,15 @@ answers_many setup requests = by_history (history_of setup requests) (no_tables 
   where
     by_history : (h : History) (t : Tables) → length (answers_from t h) ≡ length h
     by_history [] t = refl
-    by_history (e ∷ h) t = let rest = by_history h (after t e) in omega (arith, rest)
+    by_history (e ∷ h) t = let rest = by_history h (after_effect t e) in omega (arith, rest)
 
 -- ---- the summary
 
-is_opened : (read : OpeningRead) (report : Report) (line : ℕ) → (opened read report line).accepted ≡ true → read ≡ Ok tt
+is_opened : (read : OpeningRead) (report : Report) (line : ℕ) → (report_on_opening read report line).accepted ≡ true → read ≡ Ok tt
 is_opened (Ok read) report line accepted = refl
 is_opened (Err unread) report line accepted = absurd (cc accepted)
 
-module _ (n : ℕ) (few : n ≤ 50000) (valid : IsValid (made_script n)) (h : History) (is : replayed made_setup [] (made_requests n) ≡ Some h) where
+module _ (n : ℕ) (few : n ≤ 50000) (valid : IsValid (made_script n)) (h : History) (is : history_after made_setup [] (made_requests n) ≡ Some h) where
   abbrev requests : List Request
   requests = made_requests n
 
@@ -115,7 +115,7 @@ module _ (n : ℕ) (few : n ≤ 50000) (valid : IsValid (made_script n)) (h : Hi
   many : length done ≡ length requests
   many = let count = replayed_many made_setup requests [] h is in let alike = ap (λ (x : History). length x) same in omega (arith, count, alike)
 
-  opening_is : accepts (made_lines n) ≡ (opened (opening_read made_settings.filter made_settings.counting) (report_on signal.Traces made_setup [] 1 0 lines) 1).accepted
+  opening_is : accepts (made_lines n) ≡ (report_on_opening (opening_read made_settings.filter made_settings.counting) (report_on signal.Traces made_setup [] 1 0 lines) 1).accepted
   opening_is = rw (accepts, settings_read) refl
 
   read : opening_read made_settings.filter made_settings.counting ≡ Ok tt
@@ -128,18 +128,18 @@ module _ (n : ℕ) (few : n ≤ 50000) (valid : IsValid (made_script n)) (h : Hi
   numbered : numbers_of 1 lines ≡ numbers
   numbered = let answered = answers_many made_setup requests in numbers_are 1 requests each ∙ ap (range_with_len 2) (omega (arith, many, answered))
 
-  written : output signal.Traces (made_script n) ≡ answer_lines 0 numbers all ++ end_text (open_spans (tables made_setup done)) (length (records made_setup done))
+  written : output signal.Traces (made_script n) ≡ answer_lines 0 numbers all ++ end_text (open_spans (tables made_setup done)) (length (records_of_history made_setup done))
   written =
       subst (λ (o : Option Script). IsOutput (first_line 0 (lines_of (made_script n))) o (output signal.Traces (made_script n))) (made_from n few) (is_output (made_script n))
       ∙ ap (λ (r : OpeningRead). opened_text r script) read
       ∙ ap (λ (rs : List Request). outcome_text (numbers_of 1 lines) (unread_from 1 lines) (answers made_setup rs) (outcome_of made_setup rs)) (requests_back requests each)
-      ∙ ap₂ (λ (refused : Option (ℕ × Refusal)) (unread : Option (ℕ × Told)). answer_lines 0 (numbers_of 1 lines) all ++ last_line (numbers_of 1 lines) refused unread (open_spans (tables made_setup done)) (length (records made_setup done)))
+      ∙ ap₂ (λ (refused : Option (ℕ × Refusal)) (unread : Option (ℕ × Told)). answer_lines 0 (numbers_of 1 lines) all ++ last_line (numbers_of 1 lines) refused unread (open_spans (tables made_setup done)) (length (records_of_history made_setup done)))
       (none_refused made_setup requests done (omega (arith, many))) (all_spelled 1 requests each)
-      ∙ ap (λ (ns : List ℕ). answer_lines 0 ns all ++ end_text (open_spans (tables made_setup done)) (length (records made_setup done))) numbered
+      ∙ ap (λ (ns : List ℕ). answer_lines 0 ns all ++ end_text (open_spans (tables made_setup done)) (length (records_of_history made_setup done))) numbered
 
   counted : Counts (output signal.Traces (made_script n)) all (summary_of made_setup done)
   counted =
-      let found : records_in all ≡ records made_setup done = records_are (no_tables made_setup) done in
+      let found : records_in all ≡ records_of_history made_setup done = records_are (no_tables made_setup) done in
       let answered = answers_many made_setup requests in
       let recorded = ap (λ (rs : List Record). length rs) found in
       record {
@@ -149,8 +149,8 @@ module _ (n : ℕ) (few : n ≤ 50000) (valid : IsValid (made_script n)) (h : Hi
         events = ap (λ (rs : List Record). sum_by events_of rs) (sym found);
         busy = ap (λ (rs : List Record). sum_by busy_of rs) (sym found);
         lines =
-            let apart = all_lines 0 numbers all (end_text (open_spans (tables made_setup done)) (length (records made_setup done))) (length-range_with_len 2 (length all)) in
-            let last = end_line (open_spans (tables made_setup done)) (length (records made_setup done)) in
+            let apart = all_lines 0 numbers all (end_text (open_spans (tables made_setup done)) (length (records_of_history made_setup done))) (length-range_with_len 2 (length all)) in
+            let last = end_line (open_spans (tables made_setup done)) (length (records_of_history made_setup done)) in
             let whole = ap (λ (text : List ℕ). length (lines_of text)) written in
             omega (arith, answered, recorded, apart, last, whole);
       }

@@ -10,8 +10,8 @@ use Rattle.span_script.specs.Setups.{Setup, setup_by}
 use Rattle.span_script.specs.Tables.{Effect, History, made_of, tables}
 use Rattle.span_eager.specs.Early.{answers}
 use Rattle.span_laws.specs.Laws.{IsHistory, occurrences}
-use Rattle.span_laws.specs.Makings.{IsRecordOf, IsUnder, is_making}
-use Rattle.span_laws.specs.Records.{Each}
+use Rattle.span_laws.specs.Makings.{IsRecordOf, HasContextOf, is_making}
+use Rattle.span_laws.specs.Records.{EachRecord}
 use Rattle.trace_base.specs.Spans.{is_in}
 use Rattle.trace_eager.specs.Renamed.{Script}
 use Rattle.trace_eager.specs.Written.{requests_of}
@@ -28,7 +28,7 @@ HoldsCalls setup requests h s r = (of : IsRecordOf setup h s r) × (slice_get re
 -- each answer is the reply to its request and the records of the spans that the request closed
 abbrev pub AnswersEach : (ℕ → Record → Type 0) → History → List (Reply × List Record) → Type 0
 AnswersEach IsOf [] [] = Unit {0}
-AnswersEach IsOf (e ∷ h) (answer ∷ all) = (answer.0 ≡ e.reply) × Each IsOf e.closes answer.1 × AnswersEach IsOf h all
+AnswersEach IsOf (e ∷ h) (answer ∷ all) = (answer.0 ≡ e.reply) × EachRecord IsOf e.closes answer.1 × AnswersEach IsOf h all
 AnswersEach IsOf [] (answer ∷ all) = ⊥
 AnswersEach IsOf (e ∷ h) [] = ⊥
 
@@ -38,7 +38,7 @@ pub record MakesIfAdmitted (setup : Setup) (requests : List Request) (h : Histor
   pub request : Request
   pub place : slice_get requests (length h) ≡ Some request
   pub effect : effect_of setup (tables setup h) request ≡ Ok e
-  pub made : is_some e.made ≡ is_making setup (tables setup h) request
+  pub made : is_some e.new_span ≡ is_making setup (tables setup h) request
 
 -- what answers tell of the spans of a history that requests give
 pub record TellsSpans (setup : Setup) (requests : List Request) (h : History) (all : List (Reply × List Record)) : Type 0 where
@@ -47,12 +47,12 @@ pub record TellsSpans (setup : Setup) (requests : List Request) (h : History) (a
   pub refused : (request : Request) → slice_get requests (length h) ≡ Some request → IsErr (effect_of setup (tables setup h) request)
   pub admitted : (fore rest : History) (e : Effect) → h ≡ fore ++ e ∷ rest → MakesIfAdmitted setup requests fore e
   pub answered : AnswersEach (HoldsCalls setup requests h) h all
-  pub under : AnswersEach (IsUnder setup h) h all
+  pub under : AnswersEach (HasContextOf setup h) h all
   pub once : (s : ℕ) → occurrences s (closed_by h) ≤ 1
   -- so far those are closed that were made and that no unspent handle holds, theirs or a descendant's
   pub when_ended : (fore rest : History) (s : ℕ) → h ≡ fore ++ rest
-      → is_in s (closed_by fore) ≡ (nat_lt s (length (tables setup fore).made) && not (is_open (tables setup fore).handles s))
-  pub child_first : (s p : ℕ) (up fore rest : List ℕ) → (made_of (tables setup h).made s).scope ≡ s ∷ p ∷ up
+      → is_in s (closed_by fore) ≡ (nat_lt s (length (tables setup fore).spans) && not (is_open (tables setup fore).handles s))
+  pub child_first : (s p : ℕ) (up fore rest : List ℕ) → (made_of (tables setup h).spans s).scope ≡ s ∷ p ∷ up
       → closed_by h ≡ fore ++ p ∷ rest → is_in s fore ≡ true
 
 -- the answers are those of the outcome, parted by requests

@@ -9,7 +9,7 @@ ghost use Rattle.trace_laws.specs.Sums.{Counts};
 ghost use Rattle.trace_laws.specs.Written.{IsOutput, first_line};
 ghost use Rattle.trace_pipeline.specs.Lines.{lines_of};
 ghost use Rattle.trace_pipeline.specs.Generated.{made_requests, made_script, made_setup};
-ghost use Rattle.trace_pipeline.specs.Replay.{replayed, summary_of};
+ghost use Rattle.trace_pipeline.specs.Replay.{history_after, summary_of};
 ghost use Rattle.trace_pipeline.specs.Report.{output, IsValid};
 ghost use Rattle.trace_pipeline.specs.declared.generated.TheConstants.{MOST_ROUNDS};
 ghost use Rattle.trace_pipeline.specs.declared.signal.Signal.TheVariants as signal;
@@ -32,6 +32,6 @@ pub fn headline()
 /// the requests and the records, with their events and busy times; the open spans are those that the end line tells.
 pub fn sums()
     ensures { (rounds : ℕ) (h : History) → rounds ≤ MOST_ROUNDS → IsValid (made_script rounds)
-        → replayed made_setup [] (made_requests rounds) ≡ Some h
+        → history_after made_setup [] (made_requests rounds) ≡ Some h
         → Counts (output signal.Traces (made_script rounds)) (answers made_setup (made_requests rounds)) (summary_of made_setup h) }
 {}

@@ -17,7 +17,7 @@ use Rattle.span_script.specs.declared.request.Request.{Request}
 use Rattle.span_script.specs.declared.settings.Settings.{Settings}
 use Rattle.span_script.specs.Setups.{Setup, setup_by}
 use Rattle.trace_pipeline.specs.reading.Object.{by_name, whole_number}
-use Rattle.trace_pipeline.specs.values.RequestData.{names, put_at, word_of, names_of}
+use Rattle.trace_pipeline.specs.values.RequestData.{number_member, parent_member, word_of, number_members_of}
 
 -- ---- the settings
 
@@ -99,8 +99,8 @@ made_requests n = rounds 0 n
 
 -- what a line says of a call: no fields where there are none
 abbrev pub said : Call → List (List ℕ × Data)
-said (call.New site put []) = names (codes "site") site ++ put_at put
-said other = names_of other
+said (call.New site put []) = number_member (codes "site") site ++ parent_member put
+said other = number_members_of other
 
 -- the line of a request: an object's compact text
 abbrev pub request_members : Request → Members

@@ -11,21 +11,21 @@ use Rattle.span_script.specs.Tables.{History, Effect, tables}
 use Rattle.span_script.specs.calls.Here.{Resolved}
 use Rattle.span_script.specs.Effects.{effect_of}
 use Rattle.span_script.specs.calls.Spans.{open_spans}
-use Rattle.span_script.specs.Outcomes.{records}
+use Rattle.span_script.specs.Outcomes.{records_of_history}
 use Rattle.serde_json.specs.Data.{Data, object}
 use Rattle.trace_pipeline.specs.reading.Object.{by_name, whole_number, line_of}
 use Rattle.trace_pipeline.specs.declared.write.summary.Summary.{Summary}
 
 -- goes on with an effect, if there is one
-abbrev pub going_on : Resolved → (Effect → Option History) → Option History
-going_on (Ok effect) go = go effect
-going_on (Err why) go = None
+abbrev pub history_unless_refused : Resolved → (Effect → Option History) → Option History
+history_unless_refused (Ok effect) go = go effect
+history_unless_refused (Err why) go = None
 
 -- the history that requests make of one, if each of them has an effect
-abbrev pub replayed : Setup → History → List Request → Option History
-replayed setup h [] = Some h
-replayed setup h (request ∷ requests) =
-    going_on (effect_of setup (tables setup h) request) (λ effect. replayed setup (h ++ effect ∷ []) requests)
+abbrev pub history_after : Setup → History → List Request → Option History
+history_after setup h [] = Some h
+history_after setup h (request ∷ requests) =
+    history_unless_refused (effect_of setup (tables setup h) request) (λ effect. history_after setup (h ++ effect ∷ []) requests)
 
 -- ---- the summary
 
@@ -52,11 +52,11 @@ events_of r = length r.events
 -- A history is written as a reply for each request, a line for each record, and the end line.
 abbrev pub summary_of : Setup → History → Summary
 summary_of setup h = record {
-  busy = sum_by busy_of (records setup h);
-  events = sum_by events_of (records setup h);
-  lines = length h + length (records setup h) + 1;
+  busy = sum_by busy_of (records_of_history setup h);
+  events = sum_by events_of (records_of_history setup h);
+  lines = length h + length (records_of_history setup h) + 1;
   open_spans = open_spans (tables setup h);
-  records = length (records setup h);
+  records = length (records_of_history setup h);
   requests = length h;
 }
 

@@ -26,12 +26,12 @@ pub record Report : Type 0 where
   pub accepted : Bool
 
 -- a text in front of what is written
-abbrev pub behind : List ℕ → Report → Report
-behind text report = record { written = text ++ report.written; accepted = report.accepted }
+abbrev pub with_text_before : List ℕ → Report → Report
+with_text_before text report = record { written = text ++ report.written; accepted = report.accepted }
 
 -- the run ends at a refused line, with its refusal line
-abbrev pub refused : ℕ → Told → Report
-refused line why = record { written = refusal_text line why; accepted = false }
+abbrev pub refused_report : ℕ → Told → Report
+refused_report line why = record { written = refusal_text line why; accepted = false }
 
 -- the record lines, which are numbered in the order of writing
 abbrev pub record_lines : ℕ → List Record → List ℕ
@@ -71,9 +71,9 @@ effect_of_request setup t (Err why) = Err why
 unfoldable pub effect_of_line : Setup → Tables → List ℕ → Result Effect Told
 effect_of_line setup t text = effect_of_request setup t (request_spelled text)
 
-abbrev pub following : Result Effect Told → (Effect → Report) → ℕ → Report
-following (Ok effect) go line = go effect
-following (Err why) go line = refused line why
+abbrev pub report_on_effect : Result Effect Told → (Effect → Report) → ℕ → Report
+report_on_effect (Ok effect) go line = go effect
+report_on_effect (Err why) go line = refused_report line why
 
 -- The report on the request lines, so many lines and so many records or measures having come before. Each line's request
 -- is one effect more of the history.
@@ -81,25 +81,25 @@ abbrev pub report_on : Signal → Setup → History → ℕ → ℕ → List (Li
 report_on signal setup h n count [] = record { written = last_text signal (open_spans (tables setup h)) count; accepted = true }
 report_on signal setup h n count (text ∷ lines) =
     if is_blank text then report_on signal setup h (n + 1) count lines else
-    following (effect_of_line setup (tables setup h) text)
-    (λ effect. behind (answer_text signal (n + 1) count effect.reply (records_of (tables setup h) effect) effect.measures)
+    report_on_effect (effect_of_line setup (tables setup h) text)
+    (λ effect. with_text_before (answer_text signal (n + 1) count effect.reply (records_of (tables setup h) effect) effect.measures)
     (report_on signal setup (h ++ effect ∷ []) (n + 1) (count + answer_count signal (records_of (tables setup h) effect) effect.measures) lines)) (n + 1)
 
 -- a run isn't opened where a text of the settings has a piece that is no directive
-abbrev pub opened : OpeningRead → Report → ℕ → Report
-opened (Ok read) report line = report
-opened (Err unread) report line = refused line (told.Directive unread.0 unread.1)
+abbrev pub report_on_opening : OpeningRead → Report → ℕ → Report
+report_on_opening (Ok read) report line = report
+report_on_opening (Err unread) report line = refused_report line (told.Directive unread.0 unread.1)
 
-abbrev pub opening : Result Settings Told → (Settings → Report) → ℕ → Report
-opening (Ok settings) go line = opened (opening_read settings.filter settings.counting) (go settings) line
-opening (Err why) go line = refused line why
+abbrev pub report_on_settings : Result Settings Told → (Settings → Report) → ℕ → Report
+report_on_settings (Ok settings) go line = report_on_opening (opening_read settings.filter settings.counting) (go settings) line
+report_on_settings (Err why) go line = refused_report line why
 
 -- The first line that isn't blank is the settings line. If there is none, the input is refused at its end.
 abbrev pub report_from : Signal → ℕ → List (List ℕ) → Report
-report_from signal n [] = refused (n + 1) told.BadLine
+report_from signal n [] = refused_report (n + 1) told.BadLine
 report_from signal n (text ∷ lines) =
     if is_blank text then report_from signal (n + 1) lines else
-    opening (settings_spelled text) (λ settings. report_on signal (setup_by settings) [] (n + 1) 0 lines) (n + 1)
+    report_on_settings (settings_spelled text) (λ settings. report_on signal (setup_by settings) [] (n + 1) 0 lines) (n + 1)
 
 abbrev pub report : Signal → List ℕ → Report
 report signal bytes = report_from signal 0 (lines_of bytes)
@@ -119,5 +119,5 @@ pub record IsValid (bytes : List ℕ) : Type 0 where
   pub accepted : accepts (lines_of bytes) ≡ true
 
 -- some line is refused, or the input ends without a settings line
-abbrev pub IsRefused : List ℕ → Type 0
-IsRefused bytes = accepts (lines_of bytes) ≡ false
+abbrev pub IsRefusedInput : List ℕ → Type 0
+IsRefusedInput bytes = accepts (lines_of bytes) ≡ false

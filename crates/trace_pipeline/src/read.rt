@@ -5,7 +5,7 @@ ghost use Rattle.span_script.specs.Setups.{HasOwnIds};
 ghost use Rattle.trace_pipeline.specs.forms.Forms.{all_of};
 ghost use Rattle.trace_pipeline.specs.reading.Gives.{Gives};
 ghost use Rattle.trace_pipeline.specs.forms.RequestForm.{request_form};
-ghost use Rattle.trace_pipeline.specs.forms.SettingsForm.{settings_form, ids, all_differ};
+ghost use Rattle.trace_pipeline.specs.forms.SettingsForm.{settings_form, lane_ids, all_differ};
 ghost use Rattle.trace_pipeline.specs.reading.Spelled.{line_value, line_members, settings_spelled, request_spelled};
 ghost use Rattle.trace_pipeline.specs.declared.told.Told.{Told};
 ghost use Rattle.trace_pipeline.specs.declared.read.LineError.TheVariants.{Memory};
@@ -77,7 +77,7 @@ impl From<memory::Memory> for LineError {
 
 fn settings_of(alloc: Global, line: &[u8]) -> Result<Settings, LineError>
     ensures form { Gives (λ s. s) result (option_and_then (all_of settings_form) (line_members line.now)) }
-    ensures differ { IfOk result (λ s. all_differ (ids s.lanes) ≡ true) }
+    ensures differ { IfOk result (λ s. all_differ (lane_ids s.lanes) ≡ true) }
 {
     let mut object = Object::open(alloc, line)?;
     let settings = settings::settings_members(alloc, &mut object)?;
@@ -95,7 +95,7 @@ fn request_of(alloc: Global, line: &[u8]) -> Result<Request, LineError>
 }
 
 /// Reads a settings line. `BadLine` where it is no JSON or no object or one of no form, `Memory` freely.
-#[tactic(auto, using(crate::proofs::ids::PlacesLemmas::own_ids), unfolding(crate::specs::reading::Spelled::settings_spelled))]
+#[tactic(auto, using(crate::proofs::lane_ids::PlacesLemmas::own_ids), unfolding(crate::specs::reading::Spelled::settings_spelled))]
 pub fn read_settings(alloc: Global, line: &[u8]) -> Result<Settings, LineError>
     ensures ok { IfOk result (λ settings. settings_spelled line.now ≡ Ok settings) }
     ensures lanes { IfOk result (λ settings. HasOwnIds (map (λ l. l.0) settings.lanes)) }

@@ -5,7 +5,7 @@ use Rattle.otel_base.specs.declared.record.Record.{Record}
 use Rattle.span_script.specs.declared.settings.Settings.{Settings}
 use Rattle.span_script.specs.Admission.{OpeningRead, opening_read}
 use Rattle.span_script.specs.calls.Spans.{open_spans}
-use Rattle.span_script.specs.Outcomes.{records}
+use Rattle.span_script.specs.Outcomes.{records_of_history}
 use Rattle.span_script.specs.Setups.{Setup, setup_by}
 use Rattle.span_script.specs.Tables.{History, Effect, no_tables, tables, records_of}
 use Rattle.span_script.proofs.runs.RunLemmas.{records_push}
@@ -14,8 +14,8 @@ use Rattle.trace_pipeline.specs.declared.told.Told.{Told}
 use Rattle.trace_pipeline.specs.Lines.{is_blank}
 use Rattle.trace_pipeline.specs.reading.Spelled.{settings_spelled}
 use Rattle.trace_pipeline.specs.text.Texts.{end_text}
-use Rattle.trace_pipeline.specs.Report.{Report, following, effect_of_line, answer_text, report_on, report_from, opening, opened}
-use Rattle.trace_records.specs.Scripts.{Run, going_on, setup_read, setup_of, setup_of_line, lanes_on, script_on, script_from, script_of}
+use Rattle.trace_pipeline.specs.Report.{Report, report_on_effect, effect_of_line, answer_text, report_on, report_from, report_on_settings, report_on_opening}
+use Rattle.trace_records.specs.Scripts.{Run, run_unless_refused, setup_read, setup_of, setup_of_line, lanes_on, script_on, script_from, script_of}
 use Rattle.trace_records.specs.Inputs.{EndsWith, last_of}
 
 ends_if : (b : Bool) (v w : Run) (x y : Report) → EndsWith (last_of v) x.written → EndsWith (last_of w) y.written → EndsWith (last_of (if b then v else w)) (if b then x else y).written
@@ -29,11 +29,11 @@ ends_behind : (front last text : List ℕ) → EndsWith last text → EndsWith l
 ends_behind front last text ends = (front ++ ends.0, ap (λ (t : List ℕ). front ++ t) ends.1 ∙ sym (append_assoc front ends.0 last))
 
 ends_following : (r : Result Effect Told) (go : Effect → Report) (goes : Effect → Run) (line : ℕ) → ((e : Effect) → EndsWith (last_of (goes e)) (go e).written)
-    → EndsWith (last_of (going_on r line goes)) (following r go line).written
+    → EndsWith (last_of (run_unless_refused r line goes)) (report_on_effect r go line).written
 ends_following (Ok e) go goes line same = same e
 ends_following (Err why) go goes line same = ends_all _
 
-ends_on : (setup : Setup) (h : History) (lanes : List ℕ) (n count : ℕ) (lines : List (List ℕ)) → count ≡ length (records setup h)
+ends_on : (setup : Setup) (h : History) (lanes : List ℕ) (n count : ℕ) (lines : List (List ℕ)) → count ≡ length (records_of_history setup h)
     → EndsWith (last_of (script_on setup h lanes n lines)) (report_on signal.Traces setup h n count lines).written
 ends_on setup h lanes n count [] is = ([], ap (λ (c : ℕ). end_text (open_spans (tables setup h)) c) is)
 ends_on setup h lanes n count (text ∷ lines) is =
@@ -41,18 +41,18 @@ ends_on setup h lanes n count (text ∷ lines) is =
     (ends_following (effect_of_line setup (tables setup h) text) _ _ (n + 1)
     (λ e.
     let finished : List Record = records_of (tables setup h) e in
-    let more : count + length finished ≡ length (records setup (h ++ e ∷ [])) =
-    ap (λ (c : ℕ). c + length finished) is ∙ sym (length-append (records setup h) finished) ∙ sym (ap length (records_push (no_tables setup) h e)) in
+    let more : count + length finished ≡ length (records_of_history setup (h ++ e ∷ [])) =
+    ap (λ (c : ℕ). c + length finished) is ∙ sym (length-append (records_of_history setup h) finished) ∙ sym (ap length (records_push (no_tables setup) h e)) in
     ends_behind (answer_text signal.Traces (n + 1) count e.reply finished e.measures) _ _
     (ends_on setup (h ++ e ∷ []) (lanes ++ lanes_on text finished) (n + 1) (count + length finished) lines more)))
 
 ends_read : (read : OpeningRead) (report : Report) (setup : Setup) (goes : Setup → Run) (line : ℕ) → EndsWith (last_of (goes setup)) report.written
-    → EndsWith (last_of (going_on (setup_read read true setup) line goes)) (opened read report line).written
+    → EndsWith (last_of (run_unless_refused (setup_read read true setup) line goes)) (report_on_opening read report line).written
 ends_read (Ok read) report setup goes line same = same
 ends_read (Err unread) report setup goes line same = ends_all _
 
 ends_opening : (s : Result Settings Told) (go : Settings → Report) (goes : Setup → Run) (line : ℕ) → ((settings : Settings) → EndsWith (last_of (goes (setup_by settings))) (go settings).written)
-    → EndsWith (last_of (going_on (setup_of None s) line goes)) (opening s go line).written
+    → EndsWith (last_of (run_unless_refused (setup_of None s) line goes)) (report_on_settings s go line).written
 ends_opening (Ok settings) go goes line same = ends_read (opening_read settings.filter settings.counting) (go settings) (setup_by settings) goes line (same settings)
 ends_opening (Err why) go goes line same = ends_all _
 

@@ -6,7 +6,7 @@ use Rattle.otel_base.specs.declared.record.Record.{Record}
 use Rattle.span_script.specs.Setups.{Setup}
 use Rattle.span_script.specs.Tables.{History, Effect, Tables, no_tables, tables, records_of}
 use Rattle.span_script.specs.calls.Spans.{open_spans}
-use Rattle.span_script.specs.Outcomes.{records}
+use Rattle.span_script.specs.Outcomes.{records_of_history}
 use Rattle.span_script.specs.Fits.{State, StandsFor}
 use Rattle.span_script.proofs.runs.RunLemmas.{records_push}
 use Rattle.trace_pipeline.specs.declared.told.Told.{Told}
@@ -22,8 +22,8 @@ use Rattle.trace_records.specs.declared.line.Opened.{Opened}
 use Rattle.trace_records.specs.declared.line.Answered.{Answered}
 use Rattle.trace_records.specs.declared.script.Stage.{Stage}
 use Rattle.trace_records.specs.declared.script.Stage.TheVariants as stage
-use Rattle.trace_records.specs.Scripts.{Script, Run, setup_of_line, lane_in, lanes_on, script_on, script_from, script_of}
-use Rattle.trace_records.specs.Lines.{Opens, Answers}
+use Rattle.trace_records.specs.Scripts.{ScriptRan, Run, setup_of_line, lane_in, lanes_on, script_on, script_from, script_of}
+use Rattle.trace_records.specs.Lines.{Opens, AnswersRequest}
 use Rattle.trace_records.specs.Following.{without_taken, IsOpening, IsRunning, IsStopped, StandsAt, AreOf, EndsAs, IsRefusedBy}
 
 -- ---- one line more
@@ -104,7 +104,7 @@ beside k t s = record {
     guard_slots = s.fits.guard_slots;
     attach_slots = s.fits.attach_slots;
     paired = s.fits.paired;
-    named = s.fits.named;
+    named_contexts = s.fits.named_contexts;
     latest = s.fits.latest;
     balanced = s.fits.balanced;
     made = s.fits.made;
@@ -128,7 +128,7 @@ back k t s = record {
     guard_slots = s.fits.guard_slots;
     attach_slots = s.fits.attach_slots;
     paired = s.fits.paired;
-    named = s.fits.named;
+    named_contexts = s.fits.named_contexts;
     latest = s.fits.latest;
     balanced = s.fits.balanced;
     made = s.fits.made;
@@ -149,7 +149,7 @@ stands_beside old new t same stands = back new t (subst (λ (k : State). StandsF
 
 -- a request that is answered
 pub answered_on : {K : Type 0} (of : Record → K) (most : Option ℕ) (lines : List (List ℕ)) (count next : ℕ) (old mid new : State) (before after : FinishedSpans K) (line : List ℕ) (answered : Answered)
-    (r : IsRunning of most lines count old before) → next ≡ count + 1 → is_blank line ≡ false → Answers line r.history old mid answered
+    (r : IsRunning of most lines count old before) → next ≡ count + 1 → is_blank line ≡ false → AnswersRequest line r.history old mid answered
     → without_taken new ≡ without_taken mid → new.recording.finished ≡ []
     → after.spans.items ≡ before.spans.items ++ map of mid.recording.finished → after.lanes.items ≡ before.lanes.items ++ map (λ (x : Record). answered.lane) mid.recording.finished
     → after.lane_count ≡ before.lane_count → IsRunning of most (lines ++ line ∷ []) next new after
@@ -160,14 +160,14 @@ answered_on of most lines count next old mid new before after line answered r co
     let finished : mid.recording.finished ≡ more = a.records ∙ ap (λ (f : List Record). f ++ more) r.taken in
     let setup : new.setup ≡ old.setup = ap (λ (k : State). k.setup) same ∙ a.setup in
     let lanes : after.lanes.items ≡ before.lanes.items ++ lanes_on line more = lanes_are ∙ rw (a.lane, finished) refl in
-    let all : after.spans.items ≡ map of (records old.setup (h ++ a.effect ∷ [])) =
-    spans_are ∙ rw (r.spans_are, finished) refl ∙ sym (map-append of (records old.setup h) more) ∙ sym (ap (map of) (records_push (no_tables old.setup) h a.effect)) in
+    let all : after.spans.items ≡ map of (records_of_history old.setup (h ++ a.effect ∷ [])) =
+    spans_are ∙ rw (r.spans_are, finished) refl ∙ sym (map-append of (records_of_history old.setup h) more) ∙ sym (ap (map of) (records_push (no_tables old.setup) h a.effect)) in
     record {
       history = h ++ a.effect ∷ [];
       some = some_before lines (line ∷ []) r.some;
       stands = subst (λ (s : Setup). StandsFor new (tables s (h ++ a.effect ∷ []))) (sym setup) (stands_beside mid new (tables old.setup (h ++ a.effect ∷ [])) same a.stands);
       taken = taken;
-      spans_are = all ∙ ap (λ (s : Setup). map of (records s (h ++ a.effect ∷ []))) (sym setup);
+      spans_are = all ∙ ap (λ (s : Setup). map of (records_of_history s (h ++ a.effect ∷ []))) (sym setup);
       lanes_are = number ∙ r.lanes_are ∙ ap (λ (s : Setup). length s.ids) (sym setup);
       script_is = λ later. on_line most lines later line _ (r.script_is (line ∷ later) ∙ rw (is, a.is, counted, lanes, setup) refl);
     }

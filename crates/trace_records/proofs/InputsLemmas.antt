@@ -3,12 +3,12 @@ use Rattle.std.proofs.Common.{◌≡◌, ℕ, List, [], ◌∷◌, ◌++◌, ref
 use Rattle.std.specs.Prelude.{Bool, true, Option, Some, None, Ok, is_ok}
 use Rattle.script_lines.specs.Refusals.{Refuses, NoneRefused}
 use Rattle.script_lines.specs.declared.refused_line.RefusedLine.{RefusedLine}
-use Rattle.trace_records.specs.Scripts.{Script, script_of}
+use Rattle.trace_records.specs.Scripts.{ScriptRan, script_of}
 use Rattle.trace_records.specs.Following.{IsStopped, IsRefusedBy}
 use Rattle.trace_records.specs.Inputs.{accepts_within, TellsRun, AreRefused}
 
 -- whatever is told of a script, the refusal line alone is written
-pub refuses : (most : Option ℕ) (Tells : Script → List ℕ → Type 0) (lines : List (List ℕ)) (text : List ℕ) → AreRefused most lines text
+pub refuses : (most : Option ℕ) (Tells : ScriptRan → List ℕ → Type 0) (lines : List (List ℕ)) (text : List ℕ) → AreRefused most lines text
     → Refuses (accepts_within most) (λ ls. TellsRun Tells (script_of most ls)) lines text
 refuses most Tells lines text a = record {
   some = a.1.some;

@@ -12,7 +12,7 @@ use Rattle.trace_pipeline.specs.declared.told.Told.{Told}
 use Rattle.trace_pipeline.specs.Lines.{is_blank}
 use Rattle.trace_pipeline.specs.reading.Spelled.{settings_spelled}
 use Rattle.trace_pipeline.specs.Report.{effect_of_line}
-use Rattle.trace_records.specs.Scripts.{Script, Run, going_on, takes, setup_read, setup_of, setup_of_line, lanes_on, script_on, script_from, script_of}
+use Rattle.trace_records.specs.Scripts.{ScriptRan, Run, run_unless_refused, takes, setup_read, setup_of, setup_of_line, lanes_on, script_on, script_from, script_of}
 use Rattle.trace_records.proofs.ScriptsLaws.{going_either}
 
 count : (settings : Settings) → length (setup_by settings).ids ≡ length settings.lanes
@@ -48,44 +48,44 @@ all_line most text setup is within = all_setup most (settings_spelled text) setu
 
 -- ---- the lines
 
-if_both : (P : Type 0) (b : Bool) (v w : Run) (s : Script) (x y : Run) → (if b then v else w) ≡ Ok s → (v ≡ Ok s → (x ≡ Ok s) × P) → (w ≡ Ok s → (y ≡ Ok s) × P) → ((if b then x else y) ≡ Ok s) × P
+if_both : (P : Type 0) (b : Bool) (v w : Run) (s : ScriptRan) (x y : Run) → (if b then v else w) ≡ Ok s → (v ≡ Ok s → (x ≡ Ok s) × P) → (w ≡ Ok s → (y ≡ Ok s) × P) → ((if b then x else y) ≡ Ok s) × P
 if_both P true v w s x y is first second = first is
 if_both P false v w s x y is first second = second is
 
-if_either : (P : Type 0) (b : Bool) (v w : Run) (s : Script) → (if b then v else w) ≡ Ok s → (v ≡ Ok s → P) → (w ≡ Ok s → P) → P
+if_either : (P : Type 0) (b : Bool) (v w : Run) (s : ScriptRan) → (if b then v else w) ≡ Ok s → (v ≡ Ok s → P) → (w ≡ Ok s → P) → P
 if_either P true v w s e left right = left e
 if_either P false v w s e left right = right e
 
 -- a script keeps what its settings fix
-same_setup : (setup : Setup) (h : History) (lanes : List ℕ) (n : ℕ) (lines : List (List ℕ)) (s : Script) → script_on setup h lanes n lines ≡ Ok s → setup ≡ s.setup
+same_setup : (setup : Setup) (h : History) (lanes : List ℕ) (n : ℕ) (lines : List (List ℕ)) (s : ScriptRan) → script_on setup h lanes n lines ≡ Ok s → setup ≡ s.setup
 same_setup setup h lanes n [] s is = cc
 same_setup setup h lanes n (text ∷ lines) s is =
     if_either (setup ≡ s.setup) (is_blank text) _ _ s is (λ e. same_setup setup h lanes (n + 1) lines s e)
     (λ e. going_either (setup ≡ s.setup) (effect_of_line setup (tables setup h) text) (n + 1) _ s e
     (λ x does goes. same_setup setup (h ++ x ∷ []) (lanes ++ lanes_on text (records_of (tables setup h) x)) (n + 1) lines s goes))
 
-few_from : (most n : ℕ) (lines : List (List ℕ)) (s : Script) → script_from (Some most) n lines ≡ Ok s → (script_from None n lines ≡ Ok s) × (length s.setup.ids ≤ most)
+few_from : (most n : ℕ) (lines : List (List ℕ)) (s : ScriptRan) → script_from (Some most) n lines ≡ Ok s → (script_from None n lines ≡ Ok s) × (length s.setup.ids ≤ most)
 few_from most n [] s is = absurd cc
 few_from most n (text ∷ lines) s is =
     if_both (length s.setup.ids ≤ most) (is_blank text) _ _ s _ _ is (λ e. few_from most (n + 1) lines s e)
     (λ e. going_either _ (setup_of_line (Some most) text) (n + 1) _ s e
     (λ setup read goes.
     let few = few_line most text setup read in (
-      ap (λ (r : Result Setup Told). going_on r (n + 1) (λ (x : Setup). script_on x [] [] (n + 1) lines)) few.0 ∙ goes,
+      ap (λ (r : Result Setup Told). run_unless_refused r (n + 1) (λ (x : Setup). script_on x [] [] (n + 1) lines)) few.0 ∙ goes,
       subst (λ (x : Setup). length x.ids ≤ most) (same_setup setup [] [] (n + 1) lines s goes) few.1,
     )))
 
-all_from : (most n : ℕ) (lines : List (List ℕ)) (s : Script) → script_from None n lines ≡ Ok s → length s.setup.ids ≤ most → script_from (Some most) n lines ≡ Ok s
+all_from : (most n : ℕ) (lines : List (List ℕ)) (s : ScriptRan) → script_from None n lines ≡ Ok s → length s.setup.ids ≤ most → script_from (Some most) n lines ≡ Ok s
 all_from most n [] s is within = absurd cc
 all_from most n (text ∷ lines) s is within =
     (if_both (Unit {0}) (is_blank text) _ _ s _ _ is (λ e. (all_from most (n + 1) lines s e within, tt))
     (λ e. going_either _ (setup_of_line None text) (n + 1) _ s e
     (λ setup read goes.
     let few : length setup.ids ≤ most = subst (λ (x : Setup). length x.ids ≤ most) (sym (same_setup setup [] [] (n + 1) lines s goes)) within in
-    (ap (λ (r : Result Setup Told). going_on r (n + 1) (λ (x : Setup). script_on x [] [] (n + 1) lines)) (all_line most text setup read few) ∙ goes, tt)))).0
+    (ap (λ (r : Result Setup Told). run_unless_refused r (n + 1) (λ (x : Setup). script_on x [] [] (n + 1) lines)) (all_line most text setup read few) ∙ goes, tt)))).0
 
-pub few_lanes : (most : ℕ) (lines : List (List ℕ)) (s : Script) → script_of (Some most) lines ≡ Ok s → (script_of None lines ≡ Ok s) × (length s.setup.ids ≤ most)
+pub few_lanes : (most : ℕ) (lines : List (List ℕ)) (s : ScriptRan) → script_of (Some most) lines ≡ Ok s → (script_of None lines ≡ Ok s) × (length s.setup.ids ≤ most)
 few_lanes most lines s is = few_from most 0 lines s is
 
-pub any_lanes : (most : ℕ) (lines : List (List ℕ)) (s : Script) → (script_of None lines ≡ Ok s) × (length s.setup.ids ≤ most) → script_of (Some most) lines ≡ Ok s
+pub any_lanes : (most : ℕ) (lines : List (List ℕ)) (s : ScriptRan) → (script_of None lines ≡ Ok s) × (length s.setup.ids ≤ most) → script_of (Some most) lines ≡ Ok s
 any_lanes most lines s is = all_from most 0 lines s is.0 is.1

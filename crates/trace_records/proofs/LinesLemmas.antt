@@ -11,7 +11,7 @@ use Rattle.span_script.specs.declared.reply.Refusal.{Refusal}
 use Rattle.span_script.specs.declared.reply.Refusal.TheVariants as refusal
 use Rattle.span_script.specs.Tables.{History, Effect, Tables, tables, records_of}
 use Rattle.span_script.specs.Effects.{effect_of}
-use Rattle.span_script.specs.Fits.{State, StandsFor, Recorded, is_room}
+use Rattle.span_script.specs.Fits.{State, StandsFor, ServedByHistory, is_for_memory}
 use Rattle.span_script.specs.Admission.{opening_read}
 use Rattle.trace_pipeline.specs.declared.told.Told.{Told}
 use Rattle.trace_pipeline.specs.declared.told.Told.TheVariants as told
@@ -21,11 +21,11 @@ use Rattle.script_lines.specs.Refusals.{IsTold}
 use Rattle.trace_records.specs.declared.line.Opened.{Opened}
 use Rattle.trace_records.specs.declared.line.Answered.{Answered}
 use Rattle.trace_records.specs.Scripts.{takes, setup_of, setup_of_line, lane_in}
-use Rattle.trace_records.specs.Lines.{Opens, Answers}
+use Rattle.trace_records.specs.Lines.{Opens, AnswersRequest}
 
 -- the refusal of a step has a line but for want of memory
-pub told_step : (why : Refusal) → is_room why ≡ false → IsTold (told.Step why)
-told_step why other is = let same : why ≡ refusal.Memory = cc in true≢false (sym (ap is_room same) ∙ other)
+pub told_step : (why : Refusal) → is_for_memory why ≡ false → IsTold (told.Step why)
+told_step why other is = let same : why ≡ refusal.Memory = cc in true≢false (sym (ap is_for_memory same) ∙ other)
 
 -- ---- the settings line
 
@@ -77,7 +77,7 @@ unfolding effect_of_line
 stepped setup t text request effect is does = rw (is, does) refl
 
 pub answers : (text : List ℕ) (h : History) (old new : State) (request : Request) (answered : Answered) → request_spelled text ≡ Ok request
-    → answered.lane ≡ request.lane → Recorded (effect_of old.setup (tables old.setup h) request) h old new answered.reply → Answers text h old new answered
+    → answered.lane ≡ request.lane → ServedByHistory (effect_of old.setup (tables old.setup h) request) h old new answered.reply → AnswersRequest text h old new answered
 answers text h old new request answered is lane did = record {
   effect = did.effect;
   is = stepped old.setup (tables old.setup h) text request did.effect is did.is;

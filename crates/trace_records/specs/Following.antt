@@ -4,14 +4,14 @@ use Rattle.otel_base.specs.declared.record.Record.{Record}
 use Rattle.span_script.specs.Tables.{History, tables}
 use Rattle.span_script.specs.calls.Spans.{open_spans}
 use Rattle.span_script.specs.Fits.{State, StandsFor}
-use Rattle.span_script.specs.Outcomes.{records}
+use Rattle.span_script.specs.Outcomes.{records_of_history}
 use Rattle.script_lines.specs.Refusals.{IsTold, are_blank}
 use Rattle.trace_records.specs.declared.finished.FinishedSpans.{FinishedSpans}
 use Rattle.script_lines.specs.declared.refused_line.RefusedLine.{RefusedLine}
 use Rattle.trace_records.specs.declared.script.ScriptRun.{ScriptRun}
 use Rattle.trace_records.specs.declared.script.Stage.{Stage}
 use Rattle.trace_records.specs.declared.script.Stage.TheVariants as stage
-use Rattle.trace_records.specs.Scripts.{Script, script_on, script_from, script_of}
+use Rattle.trace_records.specs.Scripts.{ScriptRan, script_on, script_from, script_of}
 
 -- what is kept beside the records and the measures that are to be taken
 abbrev pub without_taken : State → State
@@ -31,7 +31,7 @@ pub record IsRunning {K : Type 0} (of : Record → K) (most : Option ℕ) (lines
   pub some : are_blank lines ≡ false
   pub stands : StandsFor kept (tables kept.setup history)
   pub taken : kept.recording.finished ≡ []
-  pub spans_are : finished.spans.items ≡ map of (records kept.setup history)
+  pub spans_are : finished.spans.items ≡ map of (records_of_history kept.setup history)
   pub lanes_are : finished.lane_count ≡ length kept.setup.ids
   pub script_is : (more : List (List ℕ))
       → script_of most (lines ++ more) ≡ script_on kept.setup history finished.lanes.items count more
@@ -49,24 +49,24 @@ StandsAt of most (stage.Running pipeline) lines count finished = IsRunning of mo
 StandsAt of most (stage.Refused refused) lines count finished = IsStopped most lines refused
 
 -- what a script keeps that has followed these lines
-abbrev pub Follows : {K : Type 0} → (Record → K) → Option ℕ → List (List ℕ) → ScriptRun K → Type 0
-Follows of most lines run = StandsAt of most run.stage lines run.lines run.finished
+abbrev pub HasFollowed : {K : Type 0} → (Record → K) → Option ℕ → List (List ℕ) → ScriptRun K → Type 0
+HasFollowed of most lines run = StandsAt of most run.stage lines run.lines run.finished
 
 -- the line that is refused whatever lines follow, if there is one; else all are blank or a script
 abbrev pub IsRefusedBy : Option ℕ → List (List ℕ) → Option RefusedLine → Type 0
 IsRefusedBy most lines (Some refused) = IsStopped most lines refused
-IsRefusedBy most lines None = (are_blank lines ≡ true) ⊎ ((script : Script) × (script_of most lines ≡ Ok script))
+IsRefusedBy most lines None = (are_blank lines ≡ true) ⊎ ((script : ScriptRan) × (script_of most lines ≡ Ok script))
 
 -- ---- the end
 
 -- the finished spans of a script, of each of which what is wanted (of) is kept
-pub record AreOf {K : Type 0} (of : Record → K) (script : Script) (finished : FinishedSpans K) : Type 0 where
-  pub spans_are : finished.spans.items ≡ map of (records script.setup script.history)
+pub record AreOf {K : Type 0} (of : Record → K) (script : ScriptRan) (finished : FinishedSpans K) : Type 0 where
+  pub spans_are : finished.spans.items ≡ map of (records_of_history script.setup script.history)
   pub lanes_are : finished.lanes.items ≡ script.lanes
   pub lane_count : finished.lane_count ≡ length script.setup.ids
   pub left_open : finished.open_spans ≡ open_spans (tables script.setup script.history)
 
 -- what came of the lines
 abbrev pub EndsAs : {K : Type 0} → (Record → K) → Option ℕ → List (List ℕ) → Result (FinishedSpans K) RefusedLine → Type 0
-EndsAs of most lines (Ok finished) = (script : Script) × (script_of most lines ≡ Ok script) × AreOf of script finished
+EndsAs of most lines (Ok finished) = (script : ScriptRan) × (script_of most lines ≡ Ok script) × AreOf of script finished
 EndsAs of most lines (Err refused) = (script_of most lines ≡ Err refused) × IsTold refused.told

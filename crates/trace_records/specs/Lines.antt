@@ -24,7 +24,7 @@ OpensLine most text (Ok opened) = Opens most text opened
 OpensLine most text (Err why) = (setup_of_line most text ≡ Err why) × IsTold why
 
 -- The request on a line is answered: the pipeline stands for one effect more.
-pub record Answers (text : List ℕ) (h : History) (old new : State) (answered : Answered) : Type 0 where
+pub record AnswersRequest (text : List ℕ) (h : History) (old new : State) (answered : Answered) : Type 0 where
   pub effect : Effect
   pub is : effect_of_line old.setup (tables old.setup h) text ≡ Ok effect
   pub lane : answered.lane ≡ lane_in (request_spelled text)
@@ -35,5 +35,5 @@ pub record Answers (text : List ℕ) (h : History) (old new : State) (answered :
   pub stands : StandsFor new (tables old.setup (h ++ effect ∷ []))
 
 abbrev pub AnswersLine : List ℕ → History → State → State → Result Answered Told → Type 0
-AnswersLine text h old new (Ok answered) = Answers text h old new answered
+AnswersLine text h old new (Ok answered) = AnswersRequest text h old new answered
 AnswersLine text h old new (Err why) = (effect_of_line old.setup (tables old.setup h) text ≡ Err why) × IsTold why

@@ -15,19 +15,19 @@ use Rattle.script_lines.specs.declared.refused_line.RefusedLine.{RefusedLine}
 
 -- A script that ran: what its settings fix, the history of its requests, and for each record of that the lane of the drop
 -- that closed the span, by its place.
-pub record Script : Type 0 where
+pub record ScriptRan : Type 0 where
   pub setup : Setup
   pub history : History
   pub lanes : List ℕ
 
 -- the script, or the line that is refused
 abbrev pub Run : Type 0
-Run = Result Script RefusedLine
+Run = Result ScriptRan RefusedLine
 
 -- goes on, or is refused at a line
-abbrev pub going_on : {A : Type 0} → Result A Told → ℕ → (A → Run) → Run
-going_on (Ok x) line go = go x
-going_on (Err why) line go = Err (record { line = line; told = why })
+abbrev pub run_unless_refused : {A : Type 0} → Result A Told → ℕ → (A → Run) → Run
+run_unless_refused (Ok x) line go = go x
+run_unless_refused (Err why) line go = Err (record { line = line; told = why })
 
 -- ---- the settings line
 
@@ -66,7 +66,7 @@ abbrev pub script_on : Setup → History → List ℕ → ℕ → List (List ℕ
 script_on setup h lanes n [] = Ok (record { setup = setup; history = h; lanes = lanes })
 script_on setup h lanes n (text ∷ lines) =
     if is_blank text then script_on setup h lanes (n + 1) lines else
-    going_on (effect_of_line setup (tables setup h) text) (n + 1)
+    run_unless_refused (effect_of_line setup (tables setup h) text) (n + 1)
     (λ effect. script_on setup (h ++ effect ∷ []) (lanes ++ lanes_on text (records_of (tables setup h) effect)) (n + 1) lines)
 
 -- The first line that isn't blank is the settings line. If there is none, the lines are refused at their end.
@@ -74,7 +74,7 @@ abbrev pub script_from : Option ℕ → ℕ → List (List ℕ) → Run
 script_from most n [] = Err (record { line = n + 1; told = told.BadLine })
 script_from most n (text ∷ lines) =
     if is_blank text then script_from most (n + 1) lines else
-    going_on (setup_of_line most text) (n + 1) (λ setup. script_on setup [] [] (n + 1) lines)
+    run_unless_refused (setup_of_line most text) (n + 1) (λ setup. script_on setup [] [] (n + 1) lines)
 
 -- what lines come to, where a script may have so many lanes
 abbrev pub script_of : Option ℕ → List (List ℕ) → Run

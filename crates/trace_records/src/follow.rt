@@ -2,7 +2,7 @@
 ghost use Rattle.std.specs.Prelude.{◌≡◌, None, IfSome, IfOk};
 ghost use Rattle.trace_pipeline.specs.Lines.{lines_of};
 ghost use Rattle.script_lines.specs.Refusals.{NoneRefused};
-ghost use Rattle.trace_records.specs.Following.{Follows};
+ghost use Rattle.trace_records.specs.Following.{HasFollowed};
 ghost use Rattle.trace_records.specs.Inputs.{AreRefused, accepts_within};
 
 use crate::kept::Kept;
@@ -19,7 +19,7 @@ pub fn follow_lines<K: Kept>(
     most_lanes: Option<u64>,
     bytes: &[u8],
 ) -> Result<ScriptRun<K>, Memory>
-    ensures { IfOk result (Follows K.of_record most_lanes (lines_of bytes.now)) }
+    ensures { IfOk result (HasFollowed K.of_record most_lanes (lines_of bytes.now)) }
 {
     let mut run = ScriptRun::<K>::new(alloc);
     let mut rest = bytes;

@@ -1,6 +1,6 @@
 //! What one line of a script does: the settings line opens a pipeline, and each line behind it is a request.
 ghost use Rattle.std.specs.Prelude.{◌≡◌, ℕ, Option, IfOk, IfErr, OnOk, OnErr, true, false};
-ghost use Rattle.span_script.specs.Fits.{StandsFor, is_room};
+ghost use Rattle.span_script.specs.Fits.{StandsFor, is_for_memory};
 ghost use Rattle.span_script.specs.Tables.{History, tables};
 ghost use Rattle.script_lines.specs.Refusals.{IsTold};
 ghost use Rattle.trace_records.specs.Scripts.{takes};
@@ -103,8 +103,8 @@ pub fn answer_line(
 // What a refusal line tells of a refusal. Want of memory has no such line.
 fn told_of(refusal: Refusal) -> Result<Told, Memory>
     ensures same { IfOk result (λ told. told ≡ Told.Step refusal) }
-    ensures other { OnOk result (is_room refusal ≡ false) }
-    ensures memory { OnErr result (is_room refusal ≡ true) }
+    ensures other { OnOk result (is_for_memory refusal ≡ false) }
+    ensures memory { OnErr result (is_for_memory refusal ≡ true) }
 {
     match refusal {
         Refusal::Memory => Err(Memory),

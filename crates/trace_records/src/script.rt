@@ -1,6 +1,6 @@
 //! A script that runs line by line.
 ghost use Rattle.std.specs.Prelude.{◌≡◌, ℕ, List, Option, [], ◌∷◌, ◌++◌, OnOk, IfOk};
-ghost use Rattle.trace_records.specs.Following.{Follows, EndsAs, IsRefusedBy};
+ghost use Rattle.trace_records.specs.Following.{HasFollowed, EndsAs, IsRefusedBy};
 
 use crate::finished::{FinishedSpans, drop_measures};
 use crate::kept::Kept;
@@ -66,7 +66,7 @@ fn go_on(stage: &mut Stage, next: Stage)
 impl<K: Kept> ScriptRun<K> {
     /// A script before its first line.
     pub fn new(alloc: Global) -> ScriptRun<K>
-        ensures { (most : Option ℕ) → Follows K.of_record most [] result }
+        ensures { (most : Option ℕ) → HasFollowed K.of_record most [] result }
     {
         ScriptRun {
             lines: 0,
@@ -83,8 +83,8 @@ impl<K: Kept> ScriptRun<K> {
         most_lanes: Option<u64>,
         line: &[u8],
     ) -> Result<(), Memory>
-        ensures { (lines : List (List ℕ)) → Follows K.of_record most_lanes lines self.old
-            → OnOk result (Follows K.of_record most_lanes (lines ++ line.now ∷ []) self.new) }
+        ensures { (lines : List (List ℕ)) → HasFollowed K.of_record most_lanes lines self.old
+            → OnOk result (HasFollowed K.of_record most_lanes (lines ++ line.now ∷ []) self.new) }
     {
         // No input has so many lines that the sum wraps.
         let number = self.lines.checked_add(1).ok_or(Memory)?;
@@ -133,7 +133,7 @@ impl<K: Kept> ScriptRun<K> {
 
     /// The line that is refused whatever lines follow, if one is.
     pub fn refused_line(&self) -> Option<RefusedLine>
-        ensures { (most : Option ℕ) (lines : List (List ℕ)) → Follows K.of_record most lines self.now
+        ensures { (most : Option ℕ) (lines : List (List ℕ)) → HasFollowed K.of_record most lines self.now
             → IsRefusedBy most lines result }
     {
         match &self.stage {
@@ -149,7 +149,7 @@ impl<K: Kept> ScriptRun<K> {
     /// What came of the lines, where no line follows: the finished spans, or the first refusal, which is that of an input
     /// without a settings line where all lines are blank. `Memory` freely.
     pub fn end(self) -> Result<Result<FinishedSpans<K>, RefusedLine>, Memory>
-        ensures { (most : Option ℕ) (lines : List (List ℕ)) → Follows K.of_record most lines self
+        ensures { (most : Option ℕ) (lines : List (List ℕ)) → HasFollowed K.of_record most lines self
             → IfOk result (EndsAs K.of_record most lines) }
     {
         let ScriptRun {

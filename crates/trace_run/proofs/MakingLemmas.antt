@@ -8,16 +8,16 @@ use Rattle.span_script.specs.declared.request.Request.{Request}
 use Rattle.span_script.specs.calls.Here.{Resolved}
 use Rattle.span_script.specs.Effects.{effect_of}
 use Rattle.span_script.specs.calls.Spans.{open_spans}
-use Rattle.span_script.specs.Fits.{State, StandsFor, Recorded}
-use Rattle.span_script.specs.Outcomes.{records}
+use Rattle.span_script.specs.Fits.{State, StandsFor, ServedByHistory}
+use Rattle.span_script.specs.Outcomes.{records_of_history}
 use Rattle.span_script.specs.Setups.{Setup, HasOwnIds}
 use Rattle.span_script.specs.Tables.{History, Tables, no_tables, tables, records_of}
 use Rattle.trace_pipeline.specs.Generated.{made_setup, made_requests, made_script, round, rounds}
-use Rattle.trace_pipeline.specs.Replay.{going_on, replayed, busy_of, events_of, summary_text}
+use Rattle.trace_pipeline.specs.Replay.{history_unless_refused, history_after, busy_of, events_of, summary_text}
 use Rattle.trace_pipeline.specs.Report.{IsValid}
 use Rattle.trace_pipeline.specs.declared.write.summary.Summary.{Summary}
 use Rattle.trace_records.specs.Following.{without_taken}
-use Rattle.trace_run.specs.Making.{SumsUp, IsMadeLine, with_records, of_requests, Counts, Serves}
+use Rattle.trace_run.specs.Making.{SumsUp, IsMadeLine, with_records, of_requests, Counts, ServesRequests}
 use Rattle.trace_run.specs.Commands.Make.{line_if}
 use Rattle.trace_run.specs.declared.make.Totals.{Totals}
 use Rattle.trace_records.proofs.FollowingLemmas.{stands_beside}
@@ -59,9 +59,9 @@ with_request n m rs ss t next is =
 -- ---- histories
 
 pub served : (h : History) (old mid new : State) (before last : Totals) (request : Request) (reply : Reply) → Counts h old before
-    → Recorded (effect_of old.setup (tables old.setup h) request) h old mid reply
+    → ServedByHistory (effect_of old.setup (tables old.setup h) request) h old mid reply
     → last ≡ with_records (record before { requests = before.requests + 1 }) mid.recording.finished → new.recording.finished ≡ [] → without_taken new ≡ without_taken mid
-    → Serves (request ∷ []) h new last
+    → ServesRequests (request ∷ []) h new last
 served h old mid new before last request reply c a last_is taken state =
     let t : Tables = tables made_setup h in
     let setup : new.setup ≡ made_setup = ap (λ (k : State). k.setup) state ∙ a.setup ∙ c.setup in
@@ -75,21 +75,21 @@ served h old mid new before last request reply c a last_is taken state =
         stands = stands_beside mid new (tables made_setup (h ++ a.effect ∷ [])) state (subst (λ (s : Setup). StandsFor mid (tables s (h ++ a.effect ∷ []))) c.setup a.stands);
         taken = taken;
         totals_are = last_is ∙ ap (λ (f : List Record). with_records (record before { requests = before.requests + 1 }) f) finished
-            ∙ with_request (length h) (length (h ++ a.effect ∷ [])) (records made_setup h) (records_of t a.effect) before (length-append h (a.effect ∷ [])) c.totals_are
+            ∙ with_request (length h) (length (h ++ a.effect ∷ [])) (records_of_history made_setup h) (records_of t a.effect) before (length-append h (a.effect ∷ [])) c.totals_are
             ∙ ap (with_records (of_requests (length (h ++ a.effect ∷ [])))) (sym (records_push (no_tables made_setup) h a.effect));
       };
-      replays = λ more. ap (λ (r : Resolved). going_on r (λ e. replayed made_setup (h ++ e ∷ []) more)) is;
+      replays = λ more. ap (λ (r : Resolved). history_unless_refused r (λ e. history_after made_setup (h ++ e ∷ []) more)) is;
     }
 
-pub serves_none : (h : History) (k : State) (t : Totals) → Counts h k t → Serves [] h k t
+pub serves_none : (h : History) (k : State) (t : Totals) → Counts h k t → ServesRequests [] h k t
 serves_none h k t c = record { history = h; counts = c; replays = λ more. refl }
 
-pub serves_on : (xs ys all : List Request) (h : History) (k l : State) (t u : Totals) (s : Serves xs h k t) → Serves ys s.history l u → xs ++ ys ≡ all → Serves all h l u
+pub serves_on : (xs ys all : List Request) (h : History) (k l : State) (t u : Totals) (s : ServesRequests xs h k t) → ServesRequests ys s.history l u → xs ++ ys ≡ all → ServesRequests all h l u
 serves_on xs ys all h k l t u s z is =
-    subst (λ (rs : List Request). Serves rs h l u) is (record {
+    subst (λ (rs : List Request). ServesRequests rs h l u) is (record {
       history = z.history;
       counts = z.counts;
-      replays = λ more. ap (replayed made_setup h) (append_assoc xs ys more) ∙ s.replays (ys ++ more) ∙ z.replays more;
+      replays = λ more. ap (history_after made_setup h) (append_assoc xs ys more) ∙ s.replays (ys ++ more) ∙ z.replays more;
     })
 
 pub rounds_more : (first i : ℕ) → rounds first (i + 1) ≡ rounds first i ++ round (first + i)
@@ -113,16 +113,16 @@ own_ids (suc zero) (suc (suc j)) n m same = absurd (omega (arith, m))
 pub opened : (k : State) → k.setup ≡ made_setup → StandsFor k (tables made_setup []) → k.recording.finished ≡ [] → Counts [] k (of_requests 0)
 opened k setup stands taken = record { setup = setup; stands = stands; taken = taken; totals_are = sym (with_none (of_requests 0)) }
 
-pub summed : (n : ℕ) (k : State) (t : Totals) (summary : Summary) (spans lines : ℕ) (s : Serves (made_requests n) [] k t) → ((h : History) → replayed made_setup [] (made_requests n) ≡ Some h → IsValid (made_script n))
+pub summed : (n : ℕ) (k : State) (t : Totals) (summary : Summary) (spans lines : ℕ) (s : ServesRequests (made_requests n) [] k t) → ((h : History) → history_after made_setup [] (made_requests n) ≡ Some h → IsValid (made_script n))
     → ((u : Tables) → StandsFor k u → spans ≡ open_spans u) → lines ≡ t.requests + t.records + 1
     → summary ≡ record { busy = t.busy; events = t.events; lines = lines; open_spans = spans; records = t.records; requests = t.requests } → SumsUp n summary
 summed n k t summary spans lines s valid counts lines_are is =
-    let runs : replayed made_setup [] (made_requests n) ≡ Some s.history = ap (replayed made_setup []) (sym (append-nil (made_requests n))) ∙ s.replays [] in
+    let runs : history_after made_setup [] (made_requests n) ≡ Some s.history = ap (history_after made_setup []) (sym (append-nil (made_requests n))) ∙ s.replays [] in
     record {
       valid = valid s.history runs;
       history = s.history;
       runs = runs;
-      summary_is = is ∙ rw (lines_are, counts (tables made_setup s.history) s.counts.stands, s.counts.totals_are ∙ plain_totals (length s.history) (records made_setup s.history)) refl;
+      summary_is = is ∙ rw (lines_are, counts (tables made_setup s.history) s.counts.stands, s.counts.totals_are ∙ plain_totals (length s.history) (records_of_history made_setup s.history)) refl;
     }
 
 pub tells : (n : ℕ) (summary : Summary) (text : List ℕ) → SumsUp n summary → text ≡ summary_text summary → IsMadeLine n text

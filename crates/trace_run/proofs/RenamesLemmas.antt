@@ -7,15 +7,15 @@ use Rattle.trace_pipeline.specs.Lines.{lines_of}
 use Rattle.trace_pipeline.specs.declared.signal.Signal.TheVariants as signal
 use Rattle.trace_stream.specs.Carries.{Carries}
 use Rattle.trace_run.specs.Commands.{meaning_by}
-use Rattle.trace_stream.specs.Runs.{answered, runs}
-use Rattle.trace_stream.specs.reading.Reading.{Leaves}
+use Rattle.trace_stream.specs.Runs.{answering_of_run, runs}
+use Rattle.trace_stream.specs.reading.Reading.{LeavesStreams}
 use Rattle.trace_run.specs.Renames.{RenamesIds}
 use Rattle.trace_stream.specs.Streams.{Streams, Puts}
 use Rattle.trace_run.specs.declared.invocation.Invocation.{Invocation}
 use Rattle.trace_stream.specs.declared.status.Status.{Status}
 use Rattle.trace_stream.specs.declared.status.Status.TheVariants as ends
 
-by_left : (before now : Streams) (left : Option (List ℕ)) → IfSome left (λ bytes. Leaves (answered signal.Traces) ends.Ok bytes now.left before.held now.held)
+by_left : (before now : Streams) (left : Option (List ℕ)) → IfSome left (λ bytes. LeavesStreams (answering_of_run signal.Traces) ends.Ok bytes now.left before.held now.held)
     → IfSome left (λ bytes. (text : List ℕ) × IsRenamed (lines_of bytes) text × Puts before.held now.held text)
 by_left before now None leaves = tt
 by_left before now (Some bytes) leaves =

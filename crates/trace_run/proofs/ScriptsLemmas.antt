@@ -8,7 +8,7 @@ use Rattle.batch_lines.specs.Texts.{TellsBatches}
 use Rattle.span_laws.specs.Laws.{IsHistory, occurrences}
 use Rattle.span_laws.specs.Telling.{id_of}
 use Rattle.span_laws.proofs.spans.OccurrencesLemmas.{occurs_cons}
-use Rattle.span_script.specs.Outcomes.{records}
+use Rattle.span_script.specs.Outcomes.{records_of_history}
 use Rattle.span_script.specs.Setups.{Setup}
 use Rattle.span_script.specs.Tables.{History}
 use Rattle.trace_batch.specs.declared.relay.TheConstants.{MOST_LANES}
@@ -20,7 +20,7 @@ use Rattle.script_lines.specs.declared.refused_line.RefusedLine.{RefusedLine}
 use Rattle.trace_records.specs.Following.{EndsAs}
 use Rattle.script_lines.specs.Refusals.{Refuses, NoneRefused}
 use Rattle.trace_records.specs.Inputs.{AreRefused, TellsRun, accepts_within}
-use Rattle.trace_records.specs.Scripts.{Script, script_of}
+use Rattle.trace_records.specs.Scripts.{ScriptRan, script_of}
 use Rattle.trace_records.proofs.InputsLemmas.{refuses}
 use Rattle.trace_records.proofs.LanesLaws.{few_lanes}
 use Rattle.trace_records.proofs.ScriptsLaws.{accepts_same, legal}
@@ -34,7 +34,7 @@ use Rattle.tree_lines.specs.Texts.{TellsTree}
 -- ---- where a line is refused
 
 -- the refusal line alone is written
-pub refused_text : {E : Type 0} (most : Option ℕ) (Tells : Script → List ℕ → Type 0) (lines : List (List ℕ)) (refused : RefusedLine) (r : Result Answer E) → script_of most lines ≡ Err refused
+pub refused_text : {E : Type 0} (most : Option ℕ) (Tells : ScriptRan → List ℕ → Type 0) (lines : List (List ℕ)) (refused : RefusedLine) (r : Result Answer E) → script_of most lines ≡ Err refused
     → IfOk r (λ a. a.text.items ≡ refusal_text refused.line refused.told) → IfOk r (λ a. TellsRun Tells (script_of most lines) a.text.items)
 refused_text most Tells lines refused (Ok a) stops is = rw stops is
 refused_text most Tells lines refused (Err why) stops is = tt
@@ -46,7 +46,7 @@ refused_flag most accepted lines refused (Ok a) same stops is = same ∙ ap is_o
 refused_flag most accepted lines refused (Err why) same stops is = tt
 
 module _ (most : Option ℕ) (accepted : List (List ℕ) → Bool) (same : (lines : List (List ℕ)) → accepted lines ≡ accepts_within most lines) where
-  pub refusal_some : {E : Type 0} (Tells : Script → List ℕ → Type 0) (lines : List (List ℕ)) (r : Result (Option (Vec ℕ Global)) E) → IfOk r (λ o. IfSome o (λ text. AreRefused most lines text.items))
+  pub refusal_some : {E : Type 0} (Tells : ScriptRan → List ℕ → Type 0) (lines : List (List ℕ)) (r : Result (Option (Vec ℕ Global)) E) → IfOk r (λ o. IfSome o (λ text. AreRefused most lines text.items))
       → IfOk r (λ o. IfSome o (λ text. Refuses accepted (λ ls. TellsRun Tells (script_of most ls)) lines text.items))
   refusal_some Tells lines (Ok (Some text)) holds =
       let r = refuses most Tells lines text.items holds in
@@ -90,14 +90,14 @@ distinct_by (r ∷ rs) once (suc i) (suc j) d less small e =
 
 -- no two records of a history have one id
 abbrev pub OwnIds : Type 0
-OwnIds = (setup : Setup) (h : History) (id : ℕ) → IsHistory setup h → occurrences id (map id_of (records setup h)) ≤ 1
+OwnIds = (setup : Setup) (h : History) (id : ℕ) → IsHistory setup h → occurrences id (map id_of (records_of_history setup h)) ≤ 1
 
 abbrev pub TreeEnds : List (List ℕ) → Result (FinishedSpans TreeSpan) RefusedLine → Type 0
 TreeEnds lines result = EndsAs tree_span None lines result
 
 pub distinct_finished : OwnIds → (lines : List (List ℕ)) (finished : FinishedSpans TreeSpan) → TreeEnds lines (Ok finished) → AreDistinct finished.spans.items
 distinct_finished own lines finished ends =
-    subst AreDistinct (sym ends.2.spans_are) (distinct_by (records ends.0.setup ends.0.history) (λ id. own ends.0.setup ends.0.history id (legal None lines ends.0 ends.1).history))
+    subst AreDistinct (sym ends.2.spans_are) (distinct_by (records_of_history ends.0.setup ends.0.history) (λ id. own ends.0.setup ends.0.history id (legal None lines ends.0 ends.1).history))
 
 pub tells_tree : (lines : List (List ℕ)) (finished : FinishedSpans TreeSpan) (text : List ℕ) → TreeEnds lines (Ok finished) → TellsTree finished.spans.items finished.open_spans text → TellsTrees lines text
 tells_tree lines finished text ends tells = rw (ends.1, ← ends.2.spans_are, ← ends.2.left_open) tells
@@ -110,8 +110,8 @@ tree_accepted lines finished ends = accepts_same lines ∙ ap is_ok ends.1
 abbrev pub BatchEnds : List (List ℕ) → Result (FinishedSpans Record) RefusedLine → Type 0
 BatchEnds lines result = EndsAs (λ (r : Record). r) (Some MOST_LANES) lines result
 
-records_are : (lines : List (List ℕ)) (finished : FinishedSpans Record) (ends : BatchEnds lines (Ok finished)) → finished.spans.items ≡ records ends.0.setup ends.0.history
-records_are lines finished ends = ends.2.spans_are ∙ map-id (records ends.0.setup ends.0.history)
+records_are : (lines : List (List ℕ)) (finished : FinishedSpans Record) (ends : BatchEnds lines (Ok finished)) → finished.spans.items ≡ records_of_history ends.0.setup ends.0.history
+records_are lines finished ends = ends.2.spans_are ∙ map-id (records_of_history ends.0.setup ends.0.history)
 
 pub as_many : (lines : List (List ℕ)) (finished : FinishedSpans Record) → BatchEnds lines (Ok finished) → length finished.lanes.items ≡ length finished.spans.items
 as_many lines finished ends =

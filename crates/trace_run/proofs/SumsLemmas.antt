@@ -4,9 +4,9 @@ use Rattle.std.specs.Prelude.{Option}
 use Rattle.std.proofs.lemmas.List.{append-nil}
 use Rattle.trace_stream.specs.declared.status.Status.{Status}
 use Rattle.trace_stream.specs.declared.status.Status.TheVariants as ends
-use Rattle.trace_stream.specs.Streams.{Streams, HasFault, PutsFront}
+use Rattle.trace_stream.specs.Streams.{Streams, CountsFault, PutsFront}
 use Rattle.trace_stream.specs.Carries.{Causes, Carries}
-use Rattle.trace_run.specs.Commands.Make.{made_line, LeavesSum, CompletesSum, makes}
+use Rattle.trace_run.specs.Commands.Make.{made_line, LeavesSum, CompletesSum, meaning_of_make}
 
 sum_front : (status : Status) (rounds : ℕ) (before now : Option (List ℕ)) → LeavesSum status rounds before now → PutsFront before now (made_line rounds)
 sum_front ends.Ok rounds before now left = (made_line rounds, ([], sym (append-nil (made_line rounds))), left.1)
@@ -18,7 +18,7 @@ sum_front ends.Memory rounds before now left = ([], (made_line rounds, refl), le
 sum_front ends.TooLong rounds before now left = absurd left
 
 sum_causes : (status : Status) (rounds : ℕ) (before now : Streams) → LeavesSum status rounds before.held now.held
-    → (status ≡ ends.WriteFault → HasFault before.write_faults now.write_faults) → Causes status before now
+    → (status ≡ ends.WriteFault → CountsFault before.write_faults now.write_faults) → Causes status before now
 sum_causes ends.Ok rounds before now left fault = tt
 sum_causes ends.Usage rounds before now left fault = absurd left
 sum_causes ends.Refused rounds before now left fault = absurd left
@@ -29,8 +29,8 @@ sum_causes ends.TooLong rounds before now left fault = absurd left
 
 -- a summary that was made
 pub carries_made : (rounds : ℕ) (status : Status) (before now : Streams) → LeavesSum status rounds before.held now.held → CompletesSum status before.write_faults now.write_faults
-    → (status ≡ ends.WriteFault → HasFault before.write_faults now.write_faults) → now.ends ≡ before.ends → now.read_faults ≡ before.read_faults
-    → Carries (makes rounds) status before now
+    → (status ≡ ends.WriteFault → CountsFault before.write_faults now.write_faults) → now.ends ≡ before.ends → now.read_faults ≡ before.read_faults
+    → Carries (meaning_of_make rounds) status before now
 carries_made rounds status before now leaves complete fault met reads = record {
   does = record { leaves = leaves; front = sum_front status rounds before.held now.held leaves; complete = complete };
   ended = record {

@@ -8,7 +8,7 @@ use Rattle.thread_run.specs.Inputs.{accepts_threads, TellsEnded, TellsThreads}
 use Rattle.thread_run.specs.declared.input.Outcome.{Outcome}
 use Rattle.thread_work.specs.declared.gather.Ended.{Ended}
 use Rattle.trace_run.specs.Commands.Threads.{AnswersEnded, ComesOf}
-use Rattle.trace_stream.specs.reading.AllLines.{Tells, status_of}
+use Rattle.trace_stream.specs.reading.AllLines.{WritesAnswer, status_at_end}
 use Rattle.trace_stream.specs.Streams.{Streams, Takes, Puts}
 use Rattle.trace_stream.specs.declared.input.End.{End}
 use Rattle.trace_stream.specs.declared.input.End.TheVariants as end
@@ -20,7 +20,7 @@ comes_cut ending read text ended (inr is) none = rw is none
 
 pub ended_of : (refused : Bool) (ending : End) (before now : Streams) (read text : List ℕ) (ended : List Ended) → Takes before.left now.left read
     → (ending ≡ end.Whole → IsAtEnd now.left) → (ending ≡ end.Whole → accepts_threads (lines_of read) ≡ not refused)
-    → ComesOf ending read ended text → Puts before.held now.held text → AnswersEnded (status_of refused ending) ended before now
+    → ComesOf ending read ended text → Puts before.held now.held text → AnswersEnded (status_at_end refused ending) ended before now
 ended_of true end.Whole before now read text ended took none flag comes put = none_refused (lines_of read) ended text comes (flag refl)
 ended_of true end.Fault before now read text ended took none flag comes put = comes
 ended_of true end.TooLong before now read text ended took none flag comes put = comes
@@ -35,7 +35,7 @@ ended_of false end.Whole before now read text ended took none flag comes put = r
 ended_of false end.Fault before now read text ended took none flag comes put = comes
 ended_of false end.TooLong before now read text ended took none flag comes put = comes
 
-pub accepted_of : (ending : End) (read : List ℕ) (o : Outcome) → Tells accepts_threads TellsThreads ending read o.answer → ending ≡ end.Whole → accepts_threads (lines_of read) ≡ not o.answer.refused
+pub accepted_of : (ending : End) (read : List ℕ) (o : Outcome) → WritesAnswer accepts_threads TellsThreads ending read o.answer → ending ≡ end.Whole → accepts_threads (lines_of read) ≡ not o.answer.refused
 accepted_of end.Whole read o tells is = tells.1
 accepted_of end.Fault read o tells is = cc
 accepted_of end.TooLong read o tells is = cc

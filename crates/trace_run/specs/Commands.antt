@@ -1,7 +1,7 @@
 -- What each command does: a row for each.
 use Rattle.std.specs.Prelude.{ℕ}
 use Rattle.trace_stream.specs.Runs.{runs}
-use Rattle.trace_run.specs.Commands.Make.{makes}
+use Rattle.trace_run.specs.Commands.Make.{meaning_of_make}
 use Rattle.trace_run.specs.Commands.Tree.{trees}
 use Rattle.trace_run.specs.Commands.Tasks.{tasks}
 use Rattle.trace_run.specs.Commands.Batch.{batches}
@@ -19,7 +19,7 @@ pub mod Threads
 
 abbrev pub meaning_of : Command → Meaning
 meaning_of (command.Run signal) = runs signal
-meaning_of (command.Make rounds) = makes rounds
+meaning_of (command.Make rounds) = meaning_of_make rounds
 meaning_of command.Tree = trees
 meaning_of command.Tasks = tasks
 

@@ -5,9 +5,9 @@ use Rattle.otel_base.specs.declared.record.Record.{Record}
 use Rattle.span_script.specs.declared.request.Request.{Request}
 use Rattle.span_script.specs.Tables.{History, tables}
 use Rattle.span_script.specs.Fits.{State, StandsFor}
-use Rattle.span_script.specs.Outcomes.{records}
+use Rattle.span_script.specs.Outcomes.{records_of_history}
 use Rattle.trace_pipeline.specs.Generated.{made_setup, made_requests, made_script}
-use Rattle.trace_pipeline.specs.Replay.{replayed, busy_of, events_of, summary_of}
+use Rattle.trace_pipeline.specs.Replay.{history_after, busy_of, events_of, summary_of}
 use Rattle.trace_pipeline.specs.Report.{IsValid}
 use Rattle.trace_pipeline.specs.declared.write.summary.Summary.{Summary}
 use Rattle.trace_run.specs.Commands.Make.{made_line}
@@ -17,7 +17,7 @@ use Rattle.trace_run.specs.declared.make.Totals.{Totals}
 pub record SumsUp (rounds : ℕ) (summary : Summary) : Type 0 where
   pub valid : IsValid (made_script rounds)
   pub history : History
-  pub runs : replayed made_setup [] (made_requests rounds) ≡ Some history
+  pub runs : history_after made_setup [] (made_requests rounds) ≡ Some history
   pub summary_is : summary ≡ summary_of made_setup history
 
 -- the script is valid, and a text is its summary
@@ -37,7 +37,7 @@ abbrev pub of_requests : ℕ → Totals
 of_requests n = record { busy = 0; events = 0; records = 0; requests = n }
 
 abbrev pub totals_of : History → Totals
-totals_of h = with_records (of_requests (length h)) (records made_setup h)
+totals_of h = with_records (of_requests (length h)) (records_of_history made_setup h)
 
 -- A pipeline stands for a history, its records are taken, and the totals are those of the history.
 pub record Counts (h : History) (kept : State) (totals : Totals) : Type 0 where
@@ -47,7 +47,7 @@ pub record Counts (h : History) (kept : State) (totals : Totals) : Type 0 where
   pub totals_are : totals ≡ totals_of h
 
 -- Behind a history some requests were served: they have effects, and the totals are those of all effects.
-pub record Serves (requests : List Request) (h : History) (kept : State) (totals : Totals) : Type 0 where
+pub record ServesRequests (requests : List Request) (h : History) (kept : State) (totals : Totals) : Type 0 where
   pub history : History
   pub counts : Counts history kept totals
-  pub replays : (more : List Request) → replayed made_setup h (requests ++ more) ≡ replayed made_setup history more
+  pub replays : (more : List Request) → history_after made_setup h (requests ++ more) ≡ history_after made_setup history more

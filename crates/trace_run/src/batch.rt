@@ -4,10 +4,10 @@
 ghost use Rattle.std.specs.Prelude.{◌≡◌, ◌<◌, ℕ, not, Some, IfOk};
 ghost use Rattle.trace_batch.specs.declared.relay.TheConstants.{MOST_LANES};
 ghost use Rattle.trace_pipeline.specs.Lines.{lines_of};
-ghost use Rattle.trace_stream.specs.reading.AllLines.{AnswersCut, Tells};
+ghost use Rattle.trace_stream.specs.reading.AllLines.{AnswersCut, WritesAnswer};
 ghost use Rattle.trace_stream.specs.Carries.{Carries, StopsAtFault};
 ghost use Rattle.trace_run.specs.Commands.Batch.{TellsAll, accepts_few, batches};
-ghost use Rattle.trace_stream.specs.Streams.{StopsReading, StopsWriting, seen};
+ghost use Rattle.trace_stream.specs.Streams.{StopsReading, StopsWriting, streams_of};
 
 use batch_lines::batches_text;
 use otel_base::memory::Memory;
@@ -42,7 +42,7 @@ pub fn run_batch<H: Threads + Wait + Sync, T: Turnstile + Sync, R: Source, W: Si
     sink: &mut W,
 ) -> Status
     requires { (batches size).IsPossible }
-    ensures carries { let at = seen R.remaining R.ends R.faults W.holds W.faults in
+    ensures carries { let at = streams_of R.remaining R.ends R.faults W.holds W.faults in
         Carries (batches size) result (at source.old sink.old) (at source.new sink.new) }
     ensures stops { StopsAtFault result (StopsReading R.faults R.remaining source.old source.new)
         (StopsWriting W.faults W.holds sink.old sink.new) }
@@ -69,7 +69,7 @@ fn batch_input<H: Threads + Wait + Sync, T: Turnstile + Sync>(
 ) -> Result<Answer, Memory>
     requires { 0 < size }
     ensures { IfOk result (λ answer.
-        Tells accepts_few (TellsAll size) input.now.end input.now.bytes.items answer) }
+        WritesAnswer accepts_few (TellsAll size) input.now.end input.now.bytes.items answer) }
 {
     match input.end {
         End::Whole => batch_answer(rt, alloc, turns, size, input.bytes.as_slice()),

@@ -5,8 +5,8 @@ ghost use Rattle.trace_pipeline.specs.Generated.{made_requests};
 ghost use Rattle.trace_pipeline.specs.Replay.{busy_in, busy_of};
 ghost use Rattle.trace_records.specs.Following.{without_taken};
 ghost use Rattle.trace_run.specs.Commands.Make.{LeavesSum, CompletesSum};
-ghost use Rattle.trace_run.specs.Making.{SumsUp, IsMadeLine, with_records, Counts, Serves};
-ghost use Rattle.trace_stream.specs.Streams.{HasFault, StopsWriting};
+ghost use Rattle.trace_run.specs.Making.{SumsUp, IsMadeLine, with_records, Counts, ServesRequests};
+ghost use Rattle.trace_stream.specs.Streams.{CountsFault, StopsWriting};
 
 use otel_base::memory::Memory;
 use otel_base::record::Record;
@@ -28,7 +28,7 @@ use trace_stream::status::Status;
 pub fn make<W: Sink>(alloc: Global, rounds: u64, sink: &mut W) -> Status
     requires { rounds ≤ MOST_ROUNDS }
     ensures leaves { LeavesSum result rounds (W.holds sink.old) (W.holds sink.new) }
-    ensures cause { result ≡ Status.WriteFault → HasFault (W.faults sink.old) (W.faults sink.new) }
+    ensures cause { result ≡ Status.WriteFault → CountsFault (W.faults sink.old) (W.faults sink.new) }
     ensures complete { CompletesSum result (W.faults sink.old) (W.faults sink.new) }
     ensures write_stops { result ≡ Status.WriteFault → StopsWriting W.faults W.holds sink.old sink.new }
 {
@@ -105,7 +105,7 @@ fn serve_rounds(
 ) -> Result<(), Memory>
     requires { rounds ≤ MOST_ROUNDS }
     ensures { Counts [] pipeline.old totals.old
-        → OnOk result (Serves (made_requests rounds) [] pipeline.new totals.new) }
+        → OnOk result (ServesRequests (made_requests rounds) [] pipeline.new totals.new) }
 {
     for i in 0..rounds {
         let requests = round(alloc, i)?;
@@ -121,7 +121,7 @@ fn serve_all(
     requests: Vec<Request>,
 ) -> Result<(), Memory>
     ensures { (h : History) → Counts h pipeline.old totals.old
-        → OnOk result (Serves requests.items h pipeline.new totals.new) }
+        → OnOk result (ServesRequests requests.items h pipeline.new totals.new) }
 {
     for request in requests {
         serve(pipeline, totals, request)?;
@@ -132,7 +132,7 @@ fn serve_all(
 // Serves a request. None that is made is refused but for want of memory.
 fn serve(pipeline: &mut Pipeline, totals: &mut Totals, request: Request) -> Result<(), Memory>
     ensures { (h : History) → Counts h pipeline.old totals.old
-        → OnOk result (Serves (request ∷ []) h pipeline.new totals.new) }
+        → OnOk result (ServesRequests (request ∷ []) h pipeline.new totals.new) }
 {
     let Ok(_) = pipeline.step(request) else {
         return Err(Memory);

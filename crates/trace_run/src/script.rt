@@ -3,7 +3,7 @@ ghost use Rattle.std.specs.Prelude.{◌≡◌, false};
 ghost use Rattle.trace_stream.specs.Carries.{Carries, StopsAtFault};
 ghost use Rattle.trace_run.specs.Commands.{meaning_of};
 ghost use Rattle.trace_run.specs.Renames.{RenamesIds};
-ghost use Rattle.trace_stream.specs.Streams.{StopsReading, StopsWriting, seen};
+ghost use Rattle.trace_stream.specs.Streams.{StopsReading, StopsWriting, streams_of};
 ghost use Rattle.trace_run.specs.declared.invocation.Invocation.TheVariants.{Script};
 
 use crate::make::make;
@@ -41,9 +41,9 @@ pub fn run_script<H: RandomSource + AllocGlobal, R: Source, W: Sink>(
     sink: &mut W,
 ) -> Status
     requires { (meaning_of command).IsPossible }
-    ensures carries { let at = seen R.remaining R.ends R.faults W.holds W.faults in
+    ensures carries { let at = streams_of R.remaining R.ends R.faults W.holds W.faults in
         Carries (meaning_of command) result (at source.old sink.old) (at source.new sink.new) }
-    ensures renames { let at = seen R.remaining R.ends R.faults W.holds W.faults in
+    ensures renames { let at = streams_of R.remaining R.ends R.faults W.holds W.faults in
         RenamesIds (Script command) result (at source.old sink.old) (at source.new sink.new) }
     // A command that reads nothing doesn't touch the source, told or not.
     ensures unread { (meaning_of command).reads ≡ false → source.new ≡ source.old }

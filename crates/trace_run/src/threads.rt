@@ -5,10 +5,10 @@
 ghost use Rattle.std.specs.Prelude.{◌≡◌, IfOk};
 ghost use Rattle.thread_run.specs.Inputs.{TellsThreads, accepts_threads};
 ghost use Rattle.trace_pipeline.specs.Lines.{lines_of};
-ghost use Rattle.trace_stream.specs.reading.AllLines.{AnswersCut, Tells};
+ghost use Rattle.trace_stream.specs.reading.AllLines.{AnswersCut, WritesAnswer};
 ghost use Rattle.trace_stream.specs.Carries.{Carries, StopsAtFault};
 ghost use Rattle.trace_run.specs.Commands.Threads.{AnswersEnded, ComesOf, works};
-ghost use Rattle.trace_stream.specs.Streams.{StopsReading, StopsWriting, seen};
+ghost use Rattle.trace_stream.specs.Streams.{StopsReading, StopsWriting, streams_of};
 
 use otel_base::memory::Memory;
 use script_lines::Answer;
@@ -37,9 +37,9 @@ pub fn run_threads<H: Threads + Wait + Sync, R: Source, W: Sink, T: Turnstile + 
     sink: &mut W,
     turns: &T,
 ) -> (Status, Vec<Ended>)
-    ensures carries { let at = seen R.remaining R.ends R.faults W.holds W.faults in
+    ensures carries { let at = streams_of R.remaining R.ends R.faults W.holds W.faults in
         Carries works result.0 (at source.old sink.old) (at source.new sink.new) }
-    ensures ended { let at = seen R.remaining R.ends R.faults W.holds W.faults in
+    ensures ended { let at = streams_of R.remaining R.ends R.faults W.holds W.faults in
         AnswersEnded result.0 result.1.items (at source.old sink.old) (at source.new sink.new) }
     ensures stops { StopsAtFault result.0 (StopsReading R.faults R.remaining source.old source.new)
         (StopsWriting W.faults W.holds sink.old sink.new) }
@@ -64,7 +64,7 @@ fn threads_input<H: Threads + Wait + Sync, T: Turnstile + Sync>(
     turns: &T,
 ) -> Result<Outcome, Memory>
     ensures tells { IfOk result (λ outcome.
-        Tells accepts_threads TellsThreads input.now.end input.now.bytes.items outcome.answer) }
+        WritesAnswer accepts_threads TellsThreads input.now.end input.now.bytes.items outcome.answer) }
     ensures ended { IfOk result (λ outcome.
         ComesOf input.now.end input.now.bytes.items outcome.ended.items outcome.answer.text.items) }
 {

@@ -3,7 +3,7 @@ ghost use Rattle.std.specs.Prelude.{◌≡◌, ◌↔◌, map, false, None, IfSo
 ghost use Rattle.trace_stream.specs.Carries.{Carries, StopsAtFault};
 ghost use Rattle.trace_run.specs.Commands.{meaning_by};
 ghost use Rattle.trace_run.specs.Renames.{RenamesIds};
-ghost use Rattle.trace_stream.specs.Streams.{StopsReading, StopsWriting, seen};
+ghost use Rattle.trace_stream.specs.Streams.{StopsReading, StopsWriting, streams_of};
 ghost use Rattle.trace_run.specs.Words.{invocation_of};
 
 use crate::batch::run_batch;
@@ -31,10 +31,10 @@ pub fn top<H: Threads + Wait + Sync + RandomSource + AllocGlobal, R: Source, W: 
 ) -> Status
     ensures usage { (result ≡ Status.Usage) ↔ (invocation_of (map string_bytes words.now) ≡ None) }
     ensures usage_leaves { result ≡ Status.Usage → (source.new ≡ source.old) × (sink.new ≡ sink.old) }
-    ensures carries { let at = seen R.remaining R.ends R.faults W.holds W.faults in
+    ensures carries { let at = streams_of R.remaining R.ends R.faults W.holds W.faults in
         IfSome (invocation_of (map string_bytes words.now)) (λ asked.
         Carries (meaning_by asked) result (at source.old sink.old) (at source.new sink.new)) }
-    ensures renames { let at = seen R.remaining R.ends R.faults W.holds W.faults in
+    ensures renames { let at = streams_of R.remaining R.ends R.faults W.holds W.faults in
         IfSome (invocation_of (map string_bytes words.now)) (λ asked.
         RenamesIds asked result (at source.old sink.old) (at source.new sink.new)) }
     // A command that reads nothing doesn't touch the source, told or not.

@@ -11,11 +11,11 @@ use Rattle.trace_stream.specs.declared.input.End.{End}
 use Rattle.trace_stream.specs.declared.input.End.TheVariants as end
 use Rattle.trace_stream.specs.declared.status.Status.TheVariants as ends
 use Rattle.script_lines.specs.Refusals.{Refuses, NoneRefused}
-use Rattle.trace_stream.specs.reading.AllLines.{writes_last, all_lines, AnswersCut, Tells, status_of}
+use Rattle.trace_stream.specs.reading.AllLines.{writes_last, all_lines, AnswersCut, WritesAnswer, status_at_end}
 use Rattle.trace_stream.specs.reading.Breaks.{whole_part, whole_lines}
 use Rattle.trace_stream.specs.Carries.{Causes, Carries, StopsAtFault}
-use Rattle.trace_stream.specs.reading.Reading.{HasRefused, PutsSome, Leaves, IsRefusedAt}
-use Rattle.trace_stream.specs.Streams.{Streams, HasFault, MeetsEnd, Takes, Puts, PutsFront}
+use Rattle.trace_stream.specs.reading.Reading.{HasRefused, PutsSome, LeavesStreams, IsRefusedAt}
+use Rattle.trace_stream.specs.Streams.{Streams, CountsFault, MeetsEnd, Takes, Puts, PutsFront}
 use Rattle.trace_stream.proofs.LinesLemmas.{lines_on}
 use Rattle.trace_stream.proofs.ReadingLemmas.{split_at, all_read, reads_lines}
 
@@ -56,7 +56,7 @@ module _ (accepts : List (List ℕ) → Bool) (Whole : List (List ℕ) → List 
   cut_some false bytes read rest text before now is cuts put = inl (front_none before now (subst (λ (t : List ℕ). PutsFront before now t) cuts.1 put))
 
   tells_some : (ending : End) (bytes : List ℕ) (left before now : Option (List ℕ)) (read : List ℕ) (answer : Answer) → Takes (Some bytes) left read
-      → (ending ≡ end.Whole → IsAtEnd left) → Tells accepts Whole ending read answer → PutsFront before now answer.text.items
+      → (ending ≡ end.Whole → IsAtEnd left) → WritesAnswer accepts Whole ending read answer → PutsFront before now answer.text.items
       → PutsSome (writes_last accepts Whole) bytes before now
   tells_some end.Whole bytes left before now read answer took none tells put =
       let same : read ≡ bytes = (all_read bytes left read took (none refl)).1 in
@@ -67,7 +67,7 @@ module _ (accepts : List (List ℕ) → Bool) (Whole : List (List ℕ) → List 
       cut_some answer.refused bytes read took.0 answer.text.items before now took.2 tells put
 
   pub some_of : (ending : End) (old left before now : Option (List ℕ)) (read : List ℕ) (answer : Answer) → Takes old left read
-      → (ending ≡ end.Whole → IsAtEnd left) → Tells accepts Whole ending read answer → PutsFront before now answer.text.items
+      → (ending ≡ end.Whole → IsAtEnd left) → WritesAnswer accepts Whole ending read answer → PutsFront before now answer.text.items
       → IfSome old (λ bytes. PutsSome (writes_last accepts Whole) bytes before now)
   some_of ending None left before now read answer took none tells put = tt
   some_of ending (Some bytes) left before now read answer took none tells put = tells_some ending bytes left before now read answer took none tells put
@@ -76,7 +76,7 @@ module _ (accepts : List (List ℕ) → Bool) (Whole : List (List ℕ) → List 
 
   leaves_whole : (refused : Bool) (bytes : List ℕ) (left before now : Option (List ℕ)) (text read : List ℕ) → Takes (Some bytes) left read → IsAtEnd left
       → length bytes ≤ MAX_INPUT → Whole (lines_of bytes) text → accepts (lines_of bytes) ≡ not refused → Puts before now text
-      → Leaves (writes_last accepts Whole) (status_of refused end.Whole) bytes left before now
+      → LeavesStreams (writes_last accepts Whole) (status_at_end refused end.Whole) bytes left before now
   leaves_whole true bytes left before now text read took none short whole is put = record {
     refused = is;
     read = read;
@@ -88,7 +88,7 @@ module _ (accepts : List (List ℕ) → Bool) (Whole : List (List ℕ) → List 
       (record { short = short; accepted = is }, (all_read bytes left read took none).0, (text, whole, put))
 
   leaves_stopped : (bytes : List ℕ) (left before now : Option (List ℕ)) (text read : List ℕ) → Takes (Some bytes) left read
-      → Refuses accepts Whole (whole_lines (take MAX_INPUT read)) text → Puts before now text → Leaves (writes_last accepts Whole) ends.Refused bytes left before now
+      → Refuses accepts Whole (whole_lines (take MAX_INPUT read)) text → Puts before now text → LeavesStreams (writes_last accepts Whole) ends.Refused bytes left before now
   leaves_stopped bytes left before now text read took stops put = record {
     refused = stops_accepts bytes read took.0 text took.2 stops;
     read = read;
@@ -98,7 +98,7 @@ module _ (accepts : List (List ℕ) → Bool) (Whole : List (List ℕ) → List 
   }
 
   leaves_fault : (refused : Bool) (bytes : List ℕ) (left before now : Option (List ℕ)) (text read : List ℕ) → Takes (Some bytes) left read → length read ≤ MAX_INPUT
-      → AnswersCut accepts Whole refused (whole_lines (take MAX_INPUT read)) text → Puts before now text → Leaves (writes_last accepts Whole) (status_of refused end.Fault) bytes left before now
+      → AnswersCut accepts Whole refused (whole_lines (take MAX_INPUT read)) text → Puts before now text → LeavesStreams (writes_last accepts Whole) (status_at_end refused end.Fault) bytes left before now
   leaves_fault true bytes left before now text read took short cuts put = leaves_stopped bytes left before now text read took cuts put
   leaves_fault false bytes left before now text read took short cuts put = record {
     read = read;
@@ -109,7 +109,7 @@ module _ (accepts : List (List ℕ) → Bool) (Whole : List (List ℕ) → List 
   }
 
   leaves_long : (refused : Bool) (bytes : List ℕ) (left before now : Option (List ℕ)) (text read : List ℕ) → Takes (Some bytes) left read → MAX_INPUT < length read
-      → AnswersCut accepts Whole refused (whole_lines (take MAX_INPUT read)) text → Puts before now text → Leaves (writes_last accepts Whole) (status_of refused end.TooLong) bytes left before now
+      → AnswersCut accepts Whole refused (whole_lines (take MAX_INPUT read)) text → Puts before now text → LeavesStreams (writes_last accepts Whole) (status_at_end refused end.TooLong) bytes left before now
   leaves_long true bytes left before now text read took long cuts put = leaves_stopped bytes left before now text read took cuts put
   leaves_long false bytes left before now text read took long cuts put =
       record { read = read; took = took; long = long; text = text; answered = cuts; put = put }
@@ -117,8 +117,8 @@ module _ (accepts : List (List ℕ) → Bool) (Whole : List (List ℕ) → List 
   -- the text was written whole
   pub leaves_of : (ending : End) (old left before now : Option (List ℕ)) (read : List ℕ) (answer : Answer) → Takes old left read
       → (ending ≡ end.Whole → IsAtEnd left) → (ending ≢ end.TooLong → length read ≤ MAX_INPUT) → (ending ≡ end.TooLong → MAX_INPUT < length read)
-      → Tells accepts Whole ending read answer → Puts before now answer.text.items
-      → IfSome old (λ bytes. Leaves (writes_last accepts Whole) (status_of answer.refused ending) bytes left before now)
+      → WritesAnswer accepts Whole ending read answer → Puts before now answer.text.items
+      → IfSome old (λ bytes. LeavesStreams (writes_last accepts Whole) (status_at_end answer.refused ending) bytes left before now)
   leaves_of ending None left before now read answer took none short long tells put = tt
   leaves_of end.Whole (Some bytes) left before now read answer took none short long tells put =
       let same : read ≡ bytes = (all_read bytes left read took (none refl)).1 in
@@ -134,22 +134,22 @@ module _ (accepts : List (List ℕ) → Bool) (Whole : List (List ℕ) → List 
   -- ---- what holds whether bytes are told or not
 
   refused_cut : (ending : End) (refused : Bool) (before now : Streams) (read text : List ℕ) → (ending ≡ end.Whole → ⊥) → Takes before.left now.left read
-      → AnswersCut accepts Whole refused (whole_lines (take MAX_INPUT read)) text → IsRefusedAt (writes_last accepts Whole) (status_of refused ending) before now
+      → AnswersCut accepts Whole refused (whole_lines (take MAX_INPUT read)) text → IsRefusedAt (writes_last accepts Whole) (status_at_end refused ending) before now
   refused_cut ending true before now read text part took cuts = λ told. (read, took, inl (stops_refused (whole_lines (take MAX_INPUT read)) text cuts))
   refused_cut end.Whole false before now read text part took cuts = absurd (part refl)
   refused_cut end.Fault false before now read text part took cuts = λ told. cc
   refused_cut end.TooLong false before now read text part took cuts = λ told. cc
 
   pub refused_of : (ending : End) (before now : Streams) (read : List ℕ) (answer : Answer) → Takes before.left now.left read
-      → (ending ≡ end.Whole → MeetsEnd before.ends now.ends) → Tells accepts Whole ending read answer → IsRefusedAt (writes_last accepts Whole) (status_of answer.refused ending) before now
+      → (ending ≡ end.Whole → MeetsEnd before.ends now.ends) → WritesAnswer accepts Whole ending read answer → IsRefusedAt (writes_last accepts Whole) (status_at_end answer.refused ending) before now
   refused_of end.Whole before now read answer took meets tells = λ told. (read, took, inr (meets refl))
   refused_of end.Fault before now read answer took meets tells = refused_cut end.Fault answer.refused before now read answer.text.items (λ is. cc) took tells
   refused_of end.TooLong before now read answer took meets tells = refused_cut end.TooLong answer.refused before now read answer.text.items (λ is. cc) took tells
 
   -- a write failed
   pub carries_broken : (ending : End) (before now : Streams) (read : List ℕ) (answer : Answer) → Takes before.left now.left read
-      → (ending ≡ end.Whole → IsAtEnd now.left) → Tells accepts Whole ending read answer → PutsFront before.held now.held answer.text.items
-      → HasFault before.write_faults now.write_faults → now.ends ≤ before.ends + 1 → Carries (all_lines accepts Whole) ends.WriteFault before now
+      → (ending ≡ end.Whole → IsAtEnd now.left) → WritesAnswer accepts Whole ending read answer → PutsFront before.held now.held answer.text.items
+      → CountsFault before.write_faults now.write_faults → now.ends ≤ before.ends + 1 → Carries (all_lines accepts Whole) ends.WriteFault before now
   carries_broken ending before now read answer took none tells put fault once =
       let some : IfSome before.left (λ bytes. PutsSome (writes_last accepts Whole) bytes before.held now.held) =
       some_of ending before.left now.left before.held now.held read answer took none tells put in
@@ -160,34 +160,34 @@ module _ (accepts : List (List ℕ) → Bool) (Whole : List (List ℕ) → List 
 
 -- ---- the cause of the status
 
-causes_of : (refused : Bool) (ending : End) (before now : Streams) → (ending ≡ end.Fault → HasFault before.read_faults now.read_faults)
-    → Causes (status_of refused ending) before now
+causes_of : (refused : Bool) (ending : End) (before now : Streams) → (ending ≡ end.Fault → CountsFault before.read_faults now.read_faults)
+    → Causes (status_at_end refused ending) before now
 causes_of true ending before now fault = tt
 causes_of false end.Whole before now fault = tt
 causes_of false end.Fault before now fault = fault refl
 causes_of false end.TooLong before now fault = tt
 
 -- a text that is written tells of no fault of the sink
-pub stops_of : (refused : Bool) (ending : End) {Reading Writing : Type 0} → (ending ≡ end.Fault → Reading) → StopsAtFault (status_of refused ending) Reading Writing
+pub stops_of : (refused : Bool) (ending : End) {Reading Writing : Type 0} → (ending ≡ end.Fault → Reading) → StopsAtFault (status_at_end refused ending) Reading Writing
 stops_of true ending stops = record { source = λ told. cc; sink = λ told. cc }
 stops_of false end.Whole stops = record { source = λ told. cc; sink = λ told. cc }
 stops_of false end.Fault stops = record { source = λ told. stops refl; sink = λ told. cc }
 stops_of false end.TooLong stops = record { source = λ told. cc; sink = λ told. cc }
 
 -- a status tells of no other end
-long_of : (refused : Bool) (ending : End) → status_of refused ending ≡ ends.TooLong → ending ≡ end.TooLong
+long_of : (refused : Bool) (ending : End) → status_at_end refused ending ≡ ends.TooLong → ending ≡ end.TooLong
 long_of true ending told = cc
 long_of false end.Whole told = cc
 long_of false end.Fault told = cc
 long_of false end.TooLong told = refl
 
-whole_of : (refused : Bool) (ending : End) → status_of refused ending ≡ ends.Ok → ending ≡ end.Whole
+whole_of : (refused : Bool) (ending : End) → status_at_end refused ending ≡ ends.Ok → ending ≡ end.Whole
 whole_of true ending told = cc
 whole_of false end.Whole told = refl
 whole_of false end.Fault told = cc
 whole_of false end.TooLong told = cc
 
-not_usage : (refused : Bool) (ending : End) → status_of refused ending ≢ ends.Usage
+not_usage : (refused : Bool) (ending : End) → status_at_end refused ending ≢ ends.Usage
 not_usage true ending = λ told. cc
 not_usage false end.Whole = λ told. cc
 not_usage false end.Fault = λ told. cc
@@ -202,7 +202,7 @@ pub record IsRead (ending : End) (before now : Streams) (read : List ℕ) : Type
   pub none : ending ≡ end.Whole → IsAtEnd now.left
   pub short : ending ≢ end.TooLong → length read ≤ MAX_INPUT
   pub long : ending ≡ end.TooLong → MAX_INPUT < length read
-  pub fault : ending ≡ end.Fault → HasFault before.read_faults now.read_faults
+  pub fault : ending ≡ end.Fault → CountsFault before.read_faults now.read_faults
   pub sure : ending ≢ end.Fault → now.read_faults ≡ before.read_faults
   pub met : ending ≡ end.Whole → MeetsEnd before.ends now.ends
   pub over : ending ≡ end.TooLong → now.ends ≡ before.ends
@@ -210,13 +210,13 @@ pub record IsRead (ending : End) (before now : Streams) (read : List ℕ) : Type
 
 -- all was written
 pub carries_whole : (accepts : List (List ℕ) → Bool) (Whole : List (List ℕ) → List ℕ → Type 0) (ending : End) (before now : Streams) (read : List ℕ) (answer : Answer)
-    → IsRead ending before now read → Tells accepts Whole ending read answer → Puts before.held now.held answer.text.items
-    → Carries (all_lines accepts Whole) (status_of answer.refused ending) before now
+    → IsRead ending before now read → WritesAnswer accepts Whole ending read answer → Puts before.held now.held answer.text.items
+    → Carries (all_lines accepts Whole) (status_at_end answer.refused ending) before now
 carries_whole accepts Whole ending before now read answer is tells put =
-    let causes : Causes (status_of answer.refused ending) before now = causes_of answer.refused ending before now is.fault in
+    let causes : Causes (status_at_end answer.refused ending) before now = causes_of answer.refused ending before now is.fault in
     let all : PutsFront before.held now.held answer.text.items = (answer.text.items, ([], sym (append-nil answer.text.items)), put) in
     record {
-      does = reads_lines (writes_last accepts Whole) (status_of answer.refused ending) before now
+      does = reads_lines (writes_last accepts Whole) (status_at_end answer.refused ending) before now
           (leaves_of accepts Whole ending before.left now.left before.held now.held read answer is.took is.none is.short is.long tells put)
           (some_of accepts Whole ending before.left now.left before.held now.held read answer is.took is.none tells all)
           causes
@@ -248,13 +248,13 @@ cut_part accepts Whole least size read bytes part refused text parts same is all
     subst (λ (p : List ℕ). AnswersCut accepts Whole refused (lines_of p) text) front cuts
 
 cut_tells : (accepts : List (List ℕ) → Bool) (Whole : List (List ℕ) → List ℕ → Type 0) (ending : End) (read : List ℕ) (answer : Answer) → (ending ≡ end.Fault) ⊎ (ending ≡ end.TooLong)
-    → AnswersCut accepts Whole answer.refused (whole_lines (take MAX_INPUT read)) answer.text.items → Tells accepts Whole ending read answer
+    → AnswersCut accepts Whole answer.refused (whole_lines (take MAX_INPUT read)) answer.text.items → WritesAnswer accepts Whole ending read answer
 cut_tells accepts Whole ending read answer (inl is) cuts = rw is cuts
 cut_tells accepts Whole ending read answer (inr is) cuts = rw is cuts
 
 pub tells_cut : {E : Type 0} (accepts : List (List ℕ) → Bool) (Whole : List (List ℕ) → List ℕ → Type 0) (ending : End) (least size : ℕ) (read bytes part : List ℕ) (result : Result Answer E)
     → part ≡ whole_part (take least bytes) → bytes ≡ read → least ≡ min size MAX_INPUT → size ≡ length read → (ending ≡ end.Fault) ⊎ (ending ≡ end.TooLong)
-    → IfOk result (λ answer. AnswersCut accepts Whole answer.refused (lines_of part) answer.text.items) → IfOk result (λ answer. Tells accepts Whole ending read answer)
+    → IfOk result (λ answer. AnswersCut accepts Whole answer.refused (lines_of part) answer.text.items) → IfOk result (λ answer. WritesAnswer accepts Whole ending read answer)
 tells_cut accepts Whole ending least size read bytes part (Err why) parts same is all broken cuts = tt
 tells_cut accepts Whole ending least size read bytes part (Ok answer) parts same is all broken cuts =
     cut_tells accepts Whole ending read answer broken (cut_part accepts Whole least size read bytes part answer.refused answer.text.items parts same is all cuts)

@@ -17,7 +17,7 @@ use Rattle.trace_pipeline.specs.Lines.{is_blank}
 use Rattle.trace_pipeline.specs.reading.Spelled.{settings_spelled}
 use Rattle.trace_pipeline.specs.text.Texts.{refusal_text}
 use Rattle.trace_pipeline.specs.Report as report
-use Rattle.trace_pipeline.specs.Report.{Report, behind, refused, effect_of_line, answer_text, answer_count, last_text, report_on, report_from}
+use Rattle.trace_pipeline.specs.Report.{Report, with_text_before, refused_report, effect_of_line, answer_text, answer_count, last_text, report_on, report_from}
 use Rattle.trace_records.specs.declared.line.Opened.{Opened}
 use Rattle.trace_records.specs.declared.line.Answered.{Answered}
 use Rattle.trace_records.specs.Scripts.{setup_read, setup_of, setup_of_line}
@@ -35,18 +35,18 @@ use Rattle.trace_stream.specs.reading.Answers.{IsAnswered, Opens, Runs, Stops, A
 -- the report that goes on by what the settings fix, or is that of a refused line
 abbrev report_by : Result Setup Told → (Setup → Report) → ℕ → Report
 report_by (Ok setup) go line = go setup
-report_by (Err why) go line = refused line why
+report_by (Err why) go line = refused_report line why
 
-read_by : (read : OpeningRead) (setup : Setup) (go : Setup → Report) (line : ℕ) → report.opened read (go setup) line ≡ report_by (setup_read read true setup) go line
+read_by : (read : OpeningRead) (setup : Setup) (go : Setup → Report) (line : ℕ) → report.report_on_opening read (go setup) line ≡ report_by (setup_read read true setup) go line
 read_by (Ok read) setup go line = refl
 read_by (Err unread) setup go line = refl
 
-opens_by : (spelled : Result Settings Told) (go : Setup → Report) (line : ℕ) → report.opening spelled (λ settings. go (setup_by settings)) line ≡ report_by (setup_of None spelled) go line
+opens_by : (spelled : Result Settings Told) (go : Setup → Report) (line : ℕ) → report.report_on_settings spelled (λ settings. go (setup_by settings)) line ≡ report_by (setup_of None spelled) go line
 opens_by (Ok settings) go line = read_by (opening_read settings.filter settings.counting) (setup_by settings) go line
 opens_by (Err why) go line = refl
 
 opened_by : (text : List ℕ) (go : Setup → Report) (line : ℕ) (setup : Result Setup Told) → setup_of_line None text ≡ setup
-    → report.opening (settings_spelled text) (λ settings. go (setup_by settings)) line ≡ report_by setup go line
+    → report.report_on_settings (settings_spelled text) (λ settings. go (setup_by settings)) line ≡ report_by setup go line
 unfolding setup_of_line
 opened_by text go line setup is = opens_by (settings_spelled text) go line ∙ ap (λ (s : Result Setup Told). report_by s go line) is
 
@@ -112,7 +112,7 @@ unserved signal lines count next kept text tally line out why r counted is none 
   report_is = λ more. on_line signal lines more line _ (r.report_is (line ∷ more) ∙ rw (is, none, tells, counted) refl);
 }
 
-behind_both : (a b : List ℕ) (r : Report) → behind (a ++ b) r ≡ behind a (behind b r)
+behind_both : (a b : List ℕ) (r : Report) → with_text_before (a ++ b) r ≡ with_text_before a (with_text_before b r)
 behind_both a b r = ap (λ (text : List ℕ). record { written = text; accepted = r.accepted }) (append_assoc a b r.written)
 
 -- a text behind what was put before
@@ -144,7 +144,7 @@ answered signal put lines count next old mid new before after line did r counted
           let rest : Report = report_on signal old.setup (h ++ a.effect ∷ []) next (before.count + answer_count signal records a.effect.measures) more in
           rw (setup, all) (on_line signal lines more line _ (r.report_is (line ∷ more)
           ∙ rw (is, a.is, ← counted) refl
-          ∙ sym (ap (λ (x : List ℕ). behind x rest) behind_put ∙ behind_both (put ++ before.text.items) (answer_text signal next before.count a.effect.reply records a.effect.measures) rest)));
+          ∙ sym (ap (λ (x : List ℕ). with_text_before x rest) behind_put ∙ behind_both (put ++ before.text.items) (answer_text signal next before.count a.effect.reply records a.effect.measures) rest)));
     }
 
 -- ---- the end of the lines

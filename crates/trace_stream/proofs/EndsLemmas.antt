@@ -11,12 +11,12 @@ use Rattle.trace_pipeline.specs.declared.limits.TheConstants.{MAX_INPUT}
 use Rattle.trace_stream.specs.declared.progress.Progress.{Progress}
 use Rattle.trace_stream.specs.declared.status.Status.{Status}
 use Rattle.trace_stream.specs.declared.status.Status.TheVariants as ends
-use Rattle.trace_stream.specs.Streams.{Streams, HasFault, Takes, Puts, PutsFront}
+use Rattle.trace_stream.specs.Streams.{Streams, CountsFault, Takes, Puts, PutsFront}
 use Rattle.trace_stream.specs.reading.Breaks.{whole_lines, AnswersAll}
 use Rattle.trace_stream.specs.reading.Answers.{Stops, Cuts, is_refused}
-use Rattle.trace_stream.specs.Runs.{answered}
+use Rattle.trace_stream.specs.Runs.{answering_of_run}
 use Rattle.trace_stream.specs.Carries.{Causes, Carries}
-use Rattle.trace_stream.specs.reading.Reading.{HasRefused, PutsWhole, PutsSome, Leaves, IsRefusedAt}
+use Rattle.trace_stream.specs.reading.Reading.{HasRefused, PutsWhole, PutsSome, LeavesStreams, IsRefusedAt}
 use Rattle.trace_stream.specs.Progress.{Keeps, IsMidway, HasFront, Reports, last_status}
 use Rattle.trace_stream.proofs.ReadingLemmas.{split_at, all_read, takes_none}
 use Rattle.trace_stream.proofs.AnswersLemmas.{stops_end, cut_at}
@@ -24,10 +24,10 @@ use Rattle.trace_stream.proofs.ProgressLemmas.{same_front, stops_report}
 
 -- what a run leaves, where the source tells its bytes
 abbrev pub Ends : Signal → Status → Option (List ℕ) → Option (List ℕ) → Option (List ℕ) → Option (List ℕ) → Type 0
-Ends signal status old left before now = IfSome old (λ bytes. Leaves (answered signal) status bytes left before now)
+Ends signal status old left before now = IfSome old (λ bytes. LeavesStreams (answering_of_run signal) status bytes left before now)
 
 abbrev pub Fronts : Signal → Option (List ℕ) → Option (List ℕ) → Option (List ℕ) → Type 0
-Fronts signal old before now = IfSome old (λ bytes. PutsSome (answered signal) bytes before now)
+Fronts signal old before now = IfSome old (λ bytes. PutsSome (answering_of_run signal) bytes before now)
 
 -- lines are accepted as a report on them says, whatever it tells
 accepted_as : (signal : Signal) (lines : List (List ℕ)) (text : List ℕ) (accepted : Bool) → report_from signal 0 lines ≡ record { written = text; accepted = accepted }
@@ -36,16 +36,16 @@ accepted_as signal lines text accepted is = sym (alike signal lines) ∙ ap (λ 
 
 -- the text as a whole was written
 puts_report : (signal : Signal) (before now : Option (List ℕ)) (text bytes : List ℕ) (accepted : Bool) → report signal bytes ≡ record { written = text; accepted = accepted }
-    → Puts before now text → PutsWhole (answered signal) bytes before now
+    → Puts before now text → PutsWhole (answering_of_run signal) bytes before now
 puts_report signal before now text bytes accepted is put = (text, sym (ap (λ (r : Report). r.written) is), put)
 
 -- some of the output was written
-puts_some : (signal : Signal) (before now : Option (List ℕ)) (bytes : List ℕ) → PutsFront before now (output signal bytes) → PutsSome (answered signal) bytes before now
+puts_some : (signal : Signal) (before now : Option (List ℕ)) (bytes : List ℕ) → PutsFront before now (output signal bytes) → PutsSome (answering_of_run signal) bytes before now
 puts_some signal before now bytes put = inr (output signal bytes, refl, put)
 
 leaves_whole : (signal : Signal) (accepted : Bool) (bytes : List ℕ) (left before now : Option (List ℕ)) (text read : List ℕ) → Takes (Some bytes) left read → IsAtEnd left
     → length bytes ≤ MAX_INPUT → report signal bytes ≡ record { written = text; accepted = accepted } → Puts before now text
-    → Leaves (answered signal) (last_status accepted) bytes left before now
+    → LeavesStreams (answering_of_run signal) (last_status accepted) bytes left before now
 leaves_whole signal false bytes left before now text read took none short told put = record {
   refused = accepted_as signal (lines_of bytes) text false told;
   read = read;
@@ -170,7 +170,7 @@ ends_refused signal (Some bytes) left before now read p took m empty is =
 
 pub refused_at : (signal : Signal) (before now : Streams) (read : List ℕ) (p : Progress) → Takes before.left now.left read
     → IsMidway signal before.held now.held (take MAX_INPUT read) p → p.answers.written.text.items ≡ [] → is_refused p.answers.stage ≡ true
-    → IsRefusedAt (answered signal) ends.Refused before now
+    → IsRefusedAt (answering_of_run signal) ends.Refused before now
 refused_at signal before now read p took m empty is = λ same.
     let stops : Stops signal (whole_lines (take MAX_INPUT read)) m.put = stopped signal m.put (take MAX_INPUT read) p m.keeps empty is in (
       read,

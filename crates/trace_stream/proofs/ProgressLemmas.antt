@@ -6,7 +6,7 @@ use Rattle.std.proofs.lemmas.List.{append-nil, take_all, take-take, length-appen
 use Rattle.trace_pipeline.specs.Lines.{lines_of}
 use Rattle.trace_pipeline.specs.declared.signal.Signal.{Signal}
 use Rattle.trace_pipeline.specs.Report.{Report, report_from, report, output}
-use Rattle.trace_stream.specs.Streams.{IsFront, Puts, PutsFront}
+use Rattle.trace_stream.specs.Streams.{IsFrontOf, Puts, PutsFront}
 use Rattle.trace_stream.specs.reading.Breaks.{has_feed, whole_part, whole_lines}
 use Rattle.trace_stream.specs.reading.Answers.{AnswersTo, Stops, Cuts, is_refused}
 use Rattle.trace_stream.specs.Progress.{Keeps, IsMidway, HasFront, Reports}
@@ -71,31 +71,31 @@ midway_put signal before mid now front old new m puts stage lines count empty ke
 
 -- ---- fronts of the output
 
-pub same_front : (signal : Signal) (text bytes : List ℕ) (accepted : Bool) → report signal bytes ≡ record { written = text; accepted = accepted } → IsFront text (output signal bytes)
+pub same_front : (signal : Signal) (text bytes : List ℕ) (accepted : Bool) → report signal bytes ≡ record { written = text; accepted = accepted } → IsFrontOf text (output signal bytes)
 same_front signal text bytes accepted is = ([], ap (λ (r : Report). r.written) is ∙ sym (append-nil text))
 
 -- a whole line is refused, whatever bytes follow
 pub stops_report : (signal : Signal) (bytes tail text : List ℕ) → Stops signal (whole_lines bytes) text → report signal (bytes ++ tail) ≡ record { written = text; accepted = false }
 stops_report signal bytes tail text stops = let on = lines_on bytes tail in ap (report_from signal 0) on.1 ∙ stops.report_is on.0
 
-cut_front : (signal : Signal) (refused : Bool) (bytes tail text : List ℕ) → Cuts signal refused (whole_lines bytes) text → IsFront text (output signal (bytes ++ tail))
+cut_front : (signal : Signal) (refused : Bool) (bytes tail text : List ℕ) → Cuts signal refused (whole_lines bytes) text → IsFrontOf text (output signal (bytes ++ tail))
 cut_front signal true bytes tail text stops = same_front signal text (bytes ++ tail) false (stops_report signal bytes tail text stops)
 cut_front signal false bytes tail text cuts =
     let on = lines_on bytes tail in
     let front = cuts.1 on.0 in
     (front.0, ap (λ (ls : List (List ℕ)). (report_from signal 0 ls).written) on.1 ∙ front.1)
 
-pub front_again : (text part bytes : List ℕ) → IsFront part text → IsFront text bytes → IsFront part bytes
+pub front_again : (text part bytes : List ℕ) → IsFrontOf part text → IsFrontOf text bytes → IsFrontOf part bytes
 front_again text part bytes first second =
     (first.0 ++ second.0, second.1 ∙ ap (λ (t : List ℕ). t ++ second.0) first.1 ∙ append_assoc part first.0 second.0)
 
 -- what is answered, written or not, is a front of the output
-answered_front : (signal : Signal) (put front tail : List ℕ) (p : Progress) → Keeps signal put front p → IsFront (put ++ p.answers.written.text.items) (output signal (front ++ tail))
+answered_front : (signal : Signal) (put front tail : List ℕ) (p : Progress) → Keeps signal put front p → IsFrontOf (put ++ p.answers.written.text.items) (output signal (front ++ tail))
 answered_front signal put front tail p k =
     cut_front signal (is_refused p.answers.stage) front tail (put ++ p.answers.written.text.items)
     (cut_at signal p.answers.stage (whole_lines front) p.answers.lines (put ++ p.answers.written.text.items) p.answers.written.count k.answered)
 
-pub put_front : (put part text : List ℕ) → IsFront part text → IsFront (put ++ part) (put ++ text)
+pub put_front : (put part text : List ℕ) → IsFrontOf part text → IsFrontOf (put ++ part) (put ++ text)
 put_front put part text front = (front.0, ap (λ (t : List ℕ). put ++ t) front.1 ∙ sym (append_assoc put part front.0))
 
 -- nothing more was written

@@ -7,7 +7,7 @@ use Rattle.trace_stream.specs.declared.status.Status.{Status}
 use Rattle.trace_stream.specs.declared.status.Status.TheVariants as ends
 use Rattle.trace_stream.specs.Streams.{Streams, MeetsEnd, Takes, Puts}
 use Rattle.trace_stream.specs.Carries.{Causes, Carries}
-use Rattle.trace_stream.specs.reading.Reading.{Answering, PutsSome, Leaves, Completes, IsRefusedAt, ReadsLines, reading}
+use Rattle.trace_stream.specs.reading.Reading.{Answering, PutsSome, LeavesStreams, Completes, IsRefusedAt, ReadsLines, meaning_of_reading}
 use Rattle.trace_stream.proofs.StreamsLemmas.{puts_none, takes_still}
 
 -- ---- what was read
@@ -36,7 +36,7 @@ told_by P Q None told by = tt
 told_by P Q (Some bytes) told by = by bytes told
 
 completes_told : (answers : Answering) (status : Status) (bytes : List ℕ) (before now : Streams) → Causes status before now
-    → Leaves answers status bytes now.left before.held now.held → Completes answers status bytes before now
+    → LeavesStreams answers status bytes now.left before.held now.held → Completes answers status bytes before now
 completes_told answers ends.Ok bytes before now causes left = λ valid quiet still. inl refl
 completes_told answers ends.Usage bytes before now causes left = absurd left
 completes_told answers ends.Refused bytes before now causes left =
@@ -53,20 +53,20 @@ completes_told answers ends.TooLong bytes before now causes left =
 
 -- what a command that reads lines does, from its parts
 pub reads_lines : (answers : Answering) (status : Status) (before now : Streams)
-    → IfSome before.left (λ bytes. Leaves answers status bytes now.left before.held now.held)
+    → IfSome before.left (λ bytes. LeavesStreams answers status bytes now.left before.held now.held)
     → IfSome before.left (λ bytes. PutsSome answers bytes before.held now.held) → Causes status before now
     → IsRefusedAt answers status before now → (status ≡ ends.Ok → MeetsEnd before.ends now.ends) → ReadsLines answers status before now
 reads_lines answers status before now leaves front causes refused met = record {
   leaves = leaves;
   front = front;
-  complete = told_by (λ bytes. Leaves answers status bytes now.left before.held now.held) (λ bytes. Completes answers status bytes before now) before.left leaves
+  complete = told_by (λ bytes. LeavesStreams answers status bytes now.left before.held now.held) (λ bytes. Completes answers status bytes before now) before.left leaves
       (λ bytes left. completes_told answers status bytes before now causes left);
   refused = refused;
   met = met;
 }
 
 -- memory wanted before anything was written
-pub carries_none : (answers : Answering) (before now : Streams) → now.held ≡ before.held → now.ends ≤ before.ends + 1 → Carries (reading answers) ends.Memory before now
+pub carries_none : (answers : Answering) (before now : Streams) → now.held ≡ before.held → now.ends ≤ before.ends + 1 → Carries (meaning_of_reading answers) ends.Memory before now
 carries_none answers before now still once =
     let nothing : (o : Option (List ℕ)) → IfSome o (λ bytes. PutsSome answers bytes before.held now.held) = elim [
       | None ↦ tt

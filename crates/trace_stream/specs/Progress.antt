@@ -36,9 +36,9 @@ Reports signal accepted before now front =
     (text : List ℕ) × (report signal front ≡ record { written = text; accepted = accepted }) × Puts before now text
 
 -- how a run ends where no byte follows these
-abbrev pub Finishes : {E : Type 0} → Signal → Result Bool E → Option (List ℕ) → Option (List ℕ) → List ℕ → Type 0
-Finishes signal (Ok accepted) before now front = Reports signal accepted before now front
-Finishes signal (Err why) before now front = PutsFront before now (output signal front)
+abbrev pub FinishesRun : {E : Type 0} → Signal → Result Bool E → Option (List ℕ) → Option (List ℕ) → List ℕ → Type 0
+FinishesRun signal (Ok accepted) before now front = Reports signal accepted before now front
+FinishesRun signal (Err why) before now front = PutsFront before now (output signal front)
 
 -- the status by whether all lines are accepted
 abbrev pub last_status : Bool → Status

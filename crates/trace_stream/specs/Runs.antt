@@ -4,15 +4,15 @@ use Rattle.trace_pipeline.specs.Report.{report_from, accepts}
 use Rattle.trace_pipeline.specs.declared.signal.Signal.{Signal}
 use Rattle.trace_stream.specs.reading.Breaks.{AnswersAll}
 use Rattle.trace_stream.specs.Meaning.{Meaning}
-use Rattle.trace_stream.specs.reading.Reading.{Answering, reading}
+use Rattle.trace_stream.specs.reading.Reading.{Answering, meaning_of_reading}
 
 -- The report on the lines is written; where they break off, all of it but an end line.
-abbrev pub answered : Signal → Answering
-answered signal = record {
+abbrev pub answering_of_run : Signal → Answering
+answering_of_run signal = record {
   accepts = accepts;
   Whole = λ lines text. text ≡ (report_from signal 0 lines).written;
   Broken = AnswersAll signal;
 }
 
 abbrev pub runs : Signal → Meaning
-runs signal = reading (answered signal)
+runs signal = meaning_of_reading (answering_of_run signal)

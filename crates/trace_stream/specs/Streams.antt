@@ -4,8 +4,8 @@ use Rattle.trace_stream.specs.declared.turns.Turn.{Turn}
 use Rattle.trace_stream.specs.declared.turns.Turn.TheVariants.{Fails, Moves}
 
 -- the count rises, unless it stands at its greatest value
-abbrev pub HasFault : ℕ → ℕ → Type 0
-HasFault before now = before < 2 ^ 64 - 1 → before < now
+abbrev pub CountsFault : ℕ → ℕ → Type 0
+CountsFault before now = before < 2 ^ 64 - 1 → before < now
 
 -- that the end was met is counted, unless the count stands at its greatest value
 abbrev pub MeetsEnd : ℕ → ℕ → Type 0
@@ -26,12 +26,12 @@ Puts None new bytes = Unit {0}
 Puts (Some xs) new bytes = new ≡ Some (xs ++ bytes)
 
 -- a text is a front of the bytes
-abbrev pub IsFront : List ℕ → List ℕ → Type 0
-IsFront text bytes = (rest : List ℕ) × (bytes ≡ text ++ rest)
+abbrev pub IsFrontOf : List ℕ → List ℕ → Type 0
+IsFrontOf text bytes = (rest : List ℕ) × (bytes ≡ text ++ rest)
 
 -- told bytes grow by a front of the bytes
 abbrev pub PutsFront : Option (List ℕ) → Option (List ℕ) → List ℕ → Type 0
-PutsFront old new bytes = (front : List ℕ) × IsFront front bytes × Puts old new front
+PutsFront old new bytes = (front : List ℕ) × IsFrontOf front bytes × Puts old new front
 
 -- Reading stops at the first fault: before it none was counted, and behind it no byte was taken.
 abbrev pub StopsReading : {R : Type 0} → (R → ℕ) → (R → Option (List ℕ)) → R → R → Type 0
@@ -53,8 +53,8 @@ pub record Streams : Type 0 where
   pub write_faults : ℕ
 
 -- what is seen of these two, by the ghost members of their types
-abbrev pub seen : {R W : Type 0} → (R → Option (List ℕ)) → (R → ℕ) → (R → ℕ) → (W → Option (List ℕ)) → (W → ℕ) → R → W → Streams
-seen remaining ends faults holds failed source sink = record {
+abbrev pub streams_of : {R W : Type 0} → (R → Option (List ℕ)) → (R → ℕ) → (R → ℕ) → (W → Option (List ℕ)) → (W → ℕ) → R → W → Streams
+streams_of remaining ends faults holds failed source sink = record {
   left = remaining source;
   ends = ends source;
   read_faults = faults source;
@@ -75,9 +75,9 @@ KeepsTurn Fails result = IsErr result
 KeepsTurn (Moves most) result = IfOk result (λ n. n ≤ most)
 
 -- a turn that moves one byte at the least
-abbrev pub moving : Turn → Turn
-moving Fails = Fails
-moving (Moves most) = Moves (max most 1)
+abbrev pub moves_some : Turn → Turn
+moves_some Fails = Fails
+moves_some (Moves most) = Moves (max most 1)
 
 -- the turns of the calls behind it
 abbrev pub later_turns : List Turn → List Turn

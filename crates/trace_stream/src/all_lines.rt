@@ -2,9 +2,9 @@
 ghost use Rattle.std.specs.Prelude.{◌≡◌, ℕ, List, Bool, not, None, IfSome, IfOk};
 ghost use Rattle.trace_pipeline.specs.Lines.{lines_of};
 ghost use Rattle.script_lines.specs.Refusals.{Refuses, NoneRefused};
-ghost use Rattle.trace_stream.specs.reading.AllLines.{all_lines, AnswersCut, Tells, status_of};
+ghost use Rattle.trace_stream.specs.reading.AllLines.{all_lines, AnswersCut, WritesAnswer, status_at_end};
 ghost use Rattle.trace_stream.specs.Carries.{Carries, StopsAtFault};
-ghost use Rattle.trace_stream.specs.Streams.{StopsReading, StopsWriting, seen};
+ghost use Rattle.trace_stream.specs.Streams.{StopsReading, StopsWriting, streams_of};
 
 use crate::failed::Failed;
 use crate::input::{End, Input, read_all};
@@ -45,7 +45,7 @@ pub fn answer_all<C: AllLines, R: Source, W: Sink>(
     source: &mut R,
     sink: &mut W,
 ) -> Status
-    ensures carries { let at = seen R.remaining R.ends R.faults W.holds W.faults in
+    ensures carries { let at = streams_of R.remaining R.ends R.faults W.holds W.faults in
         Carries (all_lines (C.accepts command.old) (C.writes command.old)) result
         (at source.old sink.old) (at source.new sink.new) }
     ensures stops { StopsAtFault result (StopsReading R.faults R.remaining source.old source.new)
@@ -70,7 +70,7 @@ fn answer_input<C: AllLines>(
     input: &Input,
 ) -> Result<Answer, Memory>
     ensures { IfOk result (λ answer.
-        Tells (C.accepts command.old) (C.writes command.old) input.now.end input.now.bytes.items answer) }
+        WritesAnswer (C.accepts command.old) (C.writes command.old) input.now.end input.now.bytes.items answer) }
 {
     match input.end {
         End::Whole => command.answer(alloc, input.bytes.as_slice()),
@@ -100,7 +100,7 @@ fn answer_cut<C: AllLines>(alloc: Global, command: &mut C, part: &[u8]) -> Resul
 
 /// The status of a command whose text is written.
 pub fn status_of(refused: bool, end: End) -> Status
-    ensures { result ≡ status_of refused end }
+    ensures { result ≡ status_at_end refused end }
 {
     if refused {
         return Status::Refused;

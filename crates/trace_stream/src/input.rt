@@ -1,7 +1,7 @@
 //! Reading an input whole, which a command does that handles no line before the last has come.
 ghost use Rattle.std.specs.Prelude.{◌≡◌, ◌≢◌, ◌+◌, ◌<◌, ◌≤◌, length, IfOk, vec_len};
 ghost use Rattle.std.specs.Io.KnownBytes.{IsAtEnd};
-ghost use Rattle.trace_stream.specs.Streams.{HasFault, MeetsEnd, Takes, StopsReading};
+ghost use Rattle.trace_stream.specs.Streams.{CountsFault, MeetsEnd, Takes, StopsReading};
 
 use crate::failed::Failed;
 use crate::source::Source;
@@ -43,7 +43,7 @@ pub fn read_all<R: Source>(alloc: Global, source: &mut R) -> Result<Input, Memor
 
     // Behind the first fault nothing is read.
     ensures fault { IfOk result (λ input. input.end ≡ End.Fault
-        → HasFault (R.faults source.old) (R.faults source.new)) }
+        → CountsFault (R.faults source.old) (R.faults source.new)) }
     ensures count { R.faults source.old ≤ R.faults source.new }
     ensures sure { IfOk result (λ input. input.end ≢ End.Fault → R.faults source.new ≡ R.faults source.old) }
     ensures stops { IfOk result (λ input. input.end ≡ End.Fault

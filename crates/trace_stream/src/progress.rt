@@ -3,8 +3,8 @@ ghost use Rattle.std.specs.Prelude.{◌≡◌, ◌++◌, ◌∷◌, ℕ, List, O
 ghost use Rattle.trace_pipeline.specs.Report.{report};
 ghost use Rattle.trace_stream.specs.reading.Answers.{is_refused};
 ghost use Rattle.trace_stream.specs.reading.Breaks.{has_feed};
-ghost use Rattle.trace_stream.specs.Streams.{HasFault, StopsWriting};
-ghost use Rattle.trace_stream.specs.Progress.{IsMidway, Keeps, FeedsTo, Finishes};
+ghost use Rattle.trace_stream.specs.Streams.{CountsFault, StopsWriting};
+ghost use Rattle.trace_stream.specs.Progress.{IsMidway, Keeps, FeedsTo, FinishesRun};
 
 use crate::answers::Answers;
 use crate::failed::Failed;
@@ -78,7 +78,7 @@ impl Progress {
             → FeedsTo signal result before (W.holds sink.new) front self.new }
         ensures empty { OnOk result (self.new.answers.written.text.items ≡ []) }
         ensures sure { OnOk result (W.faults sink.new ≡ W.faults sink.old) }
-        ensures cause { OnErr result (HasFault (W.faults sink.old) (W.faults sink.new)) }
+        ensures cause { OnErr result (CountsFault (W.faults sink.old) (W.faults sink.new)) }
         ensures stops { OnErr result (StopsWriting W.faults W.holds sink.old sink.new) }
     {
         match self.answers.written.flush(sink) {
@@ -93,7 +93,7 @@ impl Progress {
             → IsMidway signal before (W.holds sink.old) front self.old
             → FeedsTo signal result before (W.holds sink.new) front self.new }
         ensures sure { OnOk result (W.faults sink.new ≡ W.faults sink.old) }
-        ensures cause { OnErr result (HasFault (W.faults sink.old) (W.faults sink.new)) }
+        ensures cause { OnErr result (CountsFault (W.faults sink.old) (W.faults sink.new)) }
         ensures stops { OnErr result (StopsWriting W.faults W.holds sink.old sink.new) }
     {
         if self.answers.written.text.len() < FULL {
@@ -117,7 +117,7 @@ impl Progress {
         ensures empty { OnOk result (self.new.answers.written.text.items ≡ []) }
         ensures sure { OnOk result (W.faults sink.new ≡ W.faults sink.old) }
         ensures cause { IfErr result (λ why. why ≡ Stop.Write
-            → HasFault (W.faults sink.old) (W.faults sink.new)) }
+            → CountsFault (W.faults sink.old) (W.faults sink.new)) }
         ensures stops { IfErr result (λ why. why ≡ Stop.Write
             → StopsWriting W.faults W.holds sink.old sink.new) }
     {
@@ -164,9 +164,9 @@ impl Progress {
         requires { self.old.answers.written.text.items ≡ [] }
         ensures ends { (before : Option (List ℕ)) (front : List ℕ)
             → IsMidway signal before (W.holds sink.old) front self.old
-            → Finishes signal result before (W.holds sink.new) front }
+            → FinishesRun signal result before (W.holds sink.new) front }
         ensures cause { IfErr result (λ why. why ≡ Stop.Write
-            → HasFault (W.faults sink.old) (W.faults sink.new)) }
+            → CountsFault (W.faults sink.old) (W.faults sink.new)) }
         ensures stops { IfErr result (λ why. why ≡ Stop.Write
             → StopsWriting W.faults W.holds sink.old sink.new) }
     {

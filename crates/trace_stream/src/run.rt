@@ -3,10 +3,10 @@
 ghost use Rattle.std.specs.Prelude.{◌≡◌, ◌≢◌, ◌+◌, ◌<◌, ◌≤◌, [], false, length, IfSome};
 ghost use Rattle.trace_stream.specs.reading.Answers.{is_refused};
 ghost use Rattle.trace_stream.specs.Carries.{Carries, Causes, IsOver, StopsAtFault};
-ghost use Rattle.trace_stream.specs.Runs.{answered, runs};
+ghost use Rattle.trace_stream.specs.Runs.{answering_of_run, runs};
 ghost use Rattle.trace_stream.specs.Progress.{Keeps};
-ghost use Rattle.trace_stream.specs.reading.Reading.{Leaves, PutsSome, IsRefusedAt};
-ghost use Rattle.trace_stream.specs.Streams.{MeetsEnd, StopsReading, StopsWriting, seen};
+ghost use Rattle.trace_stream.specs.reading.Reading.{LeavesStreams, PutsSome, IsRefusedAt};
+ghost use Rattle.trace_stream.specs.Streams.{MeetsEnd, StopsReading, StopsWriting, streams_of};
 
 use crate::failed::Failed;
 use crate::input::{BLOCK, zeros};
@@ -26,7 +26,7 @@ pub fn run<R: Source, W: Sink>(
     source: &mut R,
     sink: &mut W,
 ) -> Status
-    ensures carries { let at = seen R.remaining R.ends R.faults W.holds W.faults in
+    ensures carries { let at = streams_of R.remaining R.ends R.faults W.holds W.faults in
         Carries (runs signal) result (at source.old sink.old) (at source.new sink.new) }
     ensures stops { StopsAtFault result (StopsReading R.faults R.remaining source.old source.new)
         (StopsWriting W.faults W.holds sink.old sink.new) }
@@ -63,19 +63,19 @@ fn run_blocks<R: Source, W: Sink>(
     requires going { is_refused progress.old.answers.stage ≡ false }
 
     // Where the source doesn't tell its bytes, the clauses below these two still tie each status to what happened.
-    ensures leaves { IfSome (R.remaining source.old) (λ bytes. Leaves (answered signal) result bytes
+    ensures leaves { IfSome (R.remaining source.old) (λ bytes. LeavesStreams (answering_of_run signal) result bytes
         (R.remaining source.new) (W.holds sink.old) (W.holds sink.new)) }
     ensures front { IfSome (R.remaining source.old) (λ bytes.
-        PutsSome (answered signal) bytes (W.holds sink.old) (W.holds sink.new)) }
+        PutsSome (answering_of_run signal) bytes (W.holds sink.old) (W.holds sink.new)) }
 
-    ensures causes { let at = seen R.remaining R.ends R.faults W.holds W.faults in
+    ensures causes { let at = streams_of R.remaining R.ends R.faults W.holds W.faults in
         Causes result (at source.old sink.old) (at source.new sink.new) }
     ensures stops { StopsAtFault result (StopsReading R.faults R.remaining source.old source.new)
         (StopsWriting W.faults W.holds sink.old sink.new) }
-    ensures refused { let at = seen R.remaining R.ends R.faults W.holds W.faults in
-        IsRefusedAt (answered signal) result (at source.old sink.old) (at source.new sink.new) }
+    ensures refused { let at = streams_of R.remaining R.ends R.faults W.holds W.faults in
+        IsRefusedAt (answering_of_run signal) result (at source.old sink.old) (at source.new sink.new) }
     ensures met { result ≡ Status.Ok → MeetsEnd (R.ends source.old) (R.ends source.new) }
-    ensures over { let at = seen R.remaining R.ends R.faults W.holds W.faults in
+    ensures over { let at = streams_of R.remaining R.ends R.faults W.holds W.faults in
         IsOver result (at source.old sink.old) (at source.new sink.new) }
     ensures end_once { R.ends source.new ≤ R.ends source.old + 1 }
     ensures usage { result ≢ Status.Usage }

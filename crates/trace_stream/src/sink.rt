@@ -1,7 +1,7 @@
 //! Sinks: where a run's output goes.
 ghost use Rattle.std.specs.Prelude.{◌≡◌, ℕ, ◌<◌, ◌≤◌, List, [], Option, Some, length, take, IfOk, OnOk, OnErr};
 ghost use Rattle.std.proofs.Common.{◌⊎◌};
-ghost use Rattle.trace_stream.specs.Streams.{HasFault, Puts, PutsFront, StopsWriting, KeepsTurn, first_turn, later_turns};
+ghost use Rattle.trace_stream.specs.Streams.{CountsFault, Puts, PutsFront, StopsWriting, KeepsTurn, first_turn, later_turns};
 
 use crate::failed::Failed;
 use crate::turns::{Turn, next_turn};
@@ -24,13 +24,13 @@ pub trait Sink {
 
         // To take nothing of a piece that has some counts a fault, and isn't told as one.
         ensures stuck { IfOk result (λ n. n ≡ 0 → 0 < length piece.now
-            → HasFault (faults self.old) (faults self.new)) }
+            → CountsFault (faults self.old) (faults self.new)) }
         ensures moved { IfOk result (λ n. 0 < n → faults self.new ≡ faults self.old) }
         ensures none { IfOk result (λ n. length piece.now ≡ 0 → faults self.new ≡ faults self.old) }
 
         ensures kept { OnErr result (Puts (holds self.old) (holds self.new) []) }
         ensures count { faults self.old ≤ faults self.new }
-        ensures cause { OnErr result (HasFault (faults self.old) (faults self.new)) };
+        ensures cause { OnErr result (CountsFault (faults self.old) (faults self.new)) };
 }
 
 /// Writes the whole piece. `Failed` where a write failed or took nothing; what was written is then a front of it.
@@ -40,7 +40,7 @@ pub fn write_all<W: Sink>(sink: &mut W, piece: &[u8]) -> Result<(), Failed>
     ensures err { OnErr result (PutsFront (W.holds sink.old) (W.holds sink.new) piece.now) }
     ensures sure { OnOk result (W.faults sink.new ≡ W.faults sink.old) }
     ensures count { W.faults sink.old ≤ W.faults sink.new }
-    ensures cause { OnErr result (HasFault (W.faults sink.old) (W.faults sink.new)) }
+    ensures cause { OnErr result (CountsFault (W.faults sink.old) (W.faults sink.new)) }
     ensures stops { OnErr result (StopsWriting W.faults W.holds sink.old sink.new) }
 {
     let mut at = 0;
@@ -140,14 +140,14 @@ impl<'a> Sink for MemSink<'a> {
             Puts (Some self.old.bytes.bytes.items) (Some self.new.bytes.bytes.items) (take n piece.now)) }
 
         ensures stuck { IfOk result (λ n. n ≡ 0 → 0 < length piece.now
-            → HasFault self.old.faults self.new.faults) }
+            → CountsFault self.old.faults self.new.faults) }
         ensures moved { IfOk result (λ n. 0 < n → self.new.faults ≡ self.old.faults) }
         ensures none { IfOk result (λ n. length piece.now ≡ 0 → self.new.faults ≡ self.old.faults) }
 
         ensures kept { OnErr result
             (Puts (Some self.old.bytes.bytes.items) (Some self.new.bytes.bytes.items) []) }
         ensures count { self.old.faults ≤ self.new.faults }
-        ensures cause { OnErr result (HasFault self.old.faults self.new.faults) }
+        ensures cause { OnErr result (CountsFault self.old.faults self.new.faults) }
 
         ensures turns { self.new.turns.now ≡ later_turns self.old.turns.now }
         ensures turn { KeepsTurn (first_turn self.old.turns.now) result }

@@ -2,7 +2,7 @@
 ghost use Rattle.std.specs.Prelude.{◌≡◌, ℕ, ◌+◌, ◌<◌, ◌≤◌, List, [], Option, Some, length, take, IfOk, OnErr, IsErr};
 ghost use Rattle.std.specs.Io.KnownBytes.{IsAtEnd};
 ghost use Rattle.trace_stream.specs.declared.turns.Turn.TheVariants.{Fails};
-ghost use Rattle.trace_stream.specs.Streams.{HasFault, MeetsEnd, Takes, KeepsTurn, moving, first_turn, later_turns};
+ghost use Rattle.trace_stream.specs.Streams.{CountsFault, MeetsEnd, Takes, KeepsTurn, moves_some, first_turn, later_turns};
 
 use crate::failed::Failed;
 use crate::turns::{Turn, next_turn};
@@ -35,7 +35,7 @@ pub trait Source {
         ensures moved { IfOk result (λ _. faults self.new ≡ faults self.old) }
         ensures kept { OnErr result (Takes (remaining self.old) (remaining self.new) []) }
         ensures count { faults self.old ≤ faults self.new }
-        ensures cause { OnErr result (HasFault (faults self.old) (faults self.new)) };
+        ensures cause { OnErr result (CountsFault (faults self.old) (faults self.new)) };
 }
 
 /// A source in memory, which is told and never fails.
@@ -124,12 +124,12 @@ impl<'a> Source for MemSource<'a> {
         ensures kept { OnErr result
             (Takes (Some self.old.bytes.rest.now) (Some self.new.bytes.rest.now) []) }
         ensures count { self.old.faults ≤ self.new.faults }
-        ensures cause { OnErr result (HasFault self.old.faults self.new.faults) }
+        ensures cause { OnErr result (CountsFault self.old.faults self.new.faults) }
         ensures moved { IfOk result (λ _. self.new.faults ≡ self.old.faults) }
 
         // A turn of no bytes gives one byte, since none would tell the end.
         ensures turns { self.new.turns.now ≡ later_turns self.old.turns.now }
-        ensures turn { KeepsTurn (moving (first_turn self.old.turns.now)) result }
+        ensures turn { KeepsTurn (moves_some (first_turn self.old.turns.now)) result }
         ensures fails { IsErr result → first_turn self.old.turns.now ≡ Fails }
     {
         let (turn, turns) = next_turn(self.turns);

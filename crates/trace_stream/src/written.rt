@@ -4,7 +4,7 @@ ghost use Rattle.trace_pipeline.specs.Report.{record_lines, measure_lines, last_
 ghost use Rattle.trace_pipeline.specs.text.Texts.{reply_text, refusal_text};
 ghost use Rattle.trace_records.specs.Following.{without_taken};
 ghost use Rattle.trace_stream.specs.reading.Answers.{IsAnswered};
-ghost use Rattle.trace_stream.specs.Streams.{HasFault, Puts, PutsFront, StopsWriting};
+ghost use Rattle.trace_stream.specs.Streams.{CountsFault, Puts, PutsFront, StopsWriting};
 
 use crate::failed::Failed;
 use crate::sink::{Sink, write_all};
@@ -149,7 +149,7 @@ impl Written {
         ensures told { self.new.count ≡ self.old.count }
         ensures sure { OnOk result (W.faults sink.new ≡ W.faults sink.old) }
         ensures count { W.faults sink.old ≤ W.faults sink.new }
-        ensures cause { OnErr result (HasFault (W.faults sink.old) (W.faults sink.new)) }
+        ensures cause { OnErr result (CountsFault (W.faults sink.old) (W.faults sink.new)) }
         ensures stops { OnErr result (StopsWriting W.faults W.holds sink.old sink.new) }
     {
         write_all(sink, self.text.as_slice())?;

@@ -8,7 +8,7 @@ use Rattle.trace_base.specs.declared.span.Parent.{Parent}
 use Rattle.trace_base.specs.declared.span.Parent.TheVariants as parent
 use Rattle.trace_base.specs.Spans.{without_last, next_of}
 use Rattle.trace_base.specs.Calls.{SubscriberCall, NewSpan, Records, Follows, Event, Enter, Exit, CloneSpan, TryClose}
-use Rattle.span_registry.specs.Registering.{Registered, DoesRegistry}
+use Rattle.span_registry.specs.Registering.{RegistryValue, DoesRegistry}
 use Rattle.trace_tape.specs.declared.opened.Opened.{Opened}
 use Rattle.span_script.specs.declared.request.Call.{Call}
 use Rattle.span_script.specs.declared.request.Call.TheVariants as call
@@ -17,14 +17,14 @@ use Rattle.span_script.specs.declared.request.Place.TheVariants as place
 use Rattle.span_script.specs.declared.request.Request.{Request}
 
 -- requests, and for how many more there is room
-pub record Rolled : Type 0 where
+pub record RequestsWithRoom : Type 0 where
   pub spare : ℕ
   pub requests : List Request
 
 -- a tape: what its registry stands for, how many handles each span has, the parent that is to be released next since its
 -- child closed, the open entries, how many guards were made, and the requests that were spelled
-pub record Taped : Type 0 where
-  pub below : Registered
+pub record TapeValue : Type 0 where
+  pub below : RegistryValue
   pub handles : List ℕ
   pub due : Option ℕ
   pub entries : List Opened
@@ -34,8 +34,8 @@ pub record Taped : Type 0 where
 -- ---- what is spelled
 
 -- a request on lane 0
-abbrev pub on_lane : ℕ → Call → Request
-on_lane at call = record { at = at; lane = 0; call = call }
+abbrev pub on_first_lane : ℕ → Call → Request
+on_first_lane at call = record { at = at; lane = 0; call = call }
 
 -- where a span or an event is put
 abbrev pub spelled_place : Parent → Place
@@ -47,8 +47,8 @@ spelled_place (parent.Of id) = place.Under id
 abbrev pub name_at : Callsite → ℕ → List ℕ
 name_at callsite place = slice_index_or callsite.fields place []
 
-abbrev pub named : Callsite → ValueSet → List (List ℕ × Value)
-named callsite values = map (λ pair. (name_at callsite pair.0, pair.1)) values.pairs
+abbrev pub named_values : Callsite → ValueSet → List (List ℕ × Value)
+named_values callsite values = map (λ pair. (name_at callsite pair.0, pair.1)) values.pairs
 
 -- a count that stands still at the end of its type
 abbrev pub one_more : ℕ → ℕ
@@ -67,19 +67,19 @@ abbrev pub is_opened : ℕ → ℕ → Opened → Bool
 is_opened lane id opened = opened.lane == lane && opened.id == id
 
 -- an exit of the guard of an entry, if there is one
-abbrev pub exits : ℕ → Option Opened → List Request
-exits at None = []
-exits at (Some opened) = on_lane at (call.Exit opened.guard) ∷ []
+abbrev pub exit_requests : ℕ → Option Opened → List Request
+exit_requests at None = []
+exit_requests at (Some opened) = on_first_lane at (call.Exit opened.guard) ∷ []
 
 -- the last handle of a span goes
-abbrev pub drops : ℕ → ℕ → ℕ → List Request
-drops at id handles = if handles == 1 then on_lane at (call.Drop id) ∷ [] else []
+abbrev pub drop_requests : ℕ → ℕ → ℕ → List Request
+drop_requests at id handles = if handles == 1 then on_first_lane at (call.Drop id) ∷ [] else []
 
 -- a handle of a span goes
-abbrev pub let_go : Taped → ℕ → ℕ → Taped
+abbrev pub let_go : TapeValue → ℕ → ℕ → TapeValue
 let_go s id at = record s {
   handles = slice_set s.handles id (handles_of s.handles id - 1);
-  requests = s.requests ++ drops at id (handles_of s.handles id);
+  requests = s.requests ++ drop_requests at id (handles_of s.handles id);
 }
 
 -- a hold is released: that of a child that closed, or else a handle's
@@ -87,34 +87,34 @@ abbrev pub is_due : Option ℕ → ℕ → Bool
 is_due None id = false
 is_due (Some due) id = due == id
 
-abbrev pub release : Taped → ℕ → ℕ → Taped
+abbrev pub release : TapeValue → ℕ → ℕ → TapeValue
 release s id at = if is_due s.due id then s else let_go s id at
 
 -- what a call makes of a tape, beside its registry
-abbrev pub taped_after : Taped → SubscriberCall → Taped
+abbrev pub taped_after : TapeValue → SubscriberCall → TapeValue
 taped_after s (NewSpan lane at parent site callsite values) = record s {
   handles = s.handles ++ 1 ∷ [];
-  requests = s.requests ++ on_lane at (call.New site (spelled_place parent) (named callsite values)) ∷ [];
+  requests = s.requests ++ on_first_lane at (call.New site (spelled_place parent) (named_values callsite values)) ∷ [];
 }
-taped_after s (Records id at callsite values) = record s { requests = s.requests ++ on_lane at (call.Record id (named callsite values)) ∷ [] }
-taped_after s (Follows id from at) = record s { requests = s.requests ++ on_lane at (call.Follows id from) ∷ [] }
+taped_after s (Records id at callsite values) = record s { requests = s.requests ++ on_first_lane at (call.Record id (named_values callsite values)) ∷ [] }
+taped_after s (Follows id from at) = record s { requests = s.requests ++ on_first_lane at (call.Follows id from) ∷ [] }
 taped_after s (Event lane at parent site callsite values) = record s {
-  requests = s.requests ++ on_lane at (call.Event site (spelled_place parent) (named callsite values)) ∷ [];
+  requests = s.requests ++ on_first_lane at (call.Event site (spelled_place parent) (named_values callsite values)) ∷ [];
 }
 taped_after s (Enter id at before later) = record s {
   entries = s.entries ++ record { lane = before.id; id = id; guard = s.guards } ∷ [];
   guards = one_more s.guards;
-  requests = s.requests ++ on_lane at (call.Enter id) ∷ [];
+  requests = s.requests ++ on_first_lane at (call.Enter id) ∷ [];
 }
 taped_after s (Exit id at before later) = record s {
   entries = without_last (is_opened before.id id) s.entries;
-  requests = s.requests ++ exits at (last_passing (is_opened before.id id) s.entries);
+  requests = s.requests ++ exit_requests at (last_passing (is_opened before.id id) s.entries);
 }
 taped_after s (CloneSpan id) = record s { handles = slice_set s.handles id (held_more (handles_of s.handles id)) }
 taped_after s (TryClose id at) = record (release s id at) { due = next_of s.below.spans.made id }
 
 -- a call is the registry's, and spells its requests
-pub record DoesTape (old : Taped) (call : SubscriberCall) (new : Taped) : Type 0 where
+pub record DoesTape (old : TapeValue) (call : SubscriberCall) (new : TapeValue) : Type 0 where
   pub below : DoesRegistry old.below call new.below
   pub tape : new ≡ record (taped_after old call) { below = new.below }
 
@@ -124,9 +124,9 @@ abbrev pub is_held : ℕ → Bool
 is_held n = nat_lt 0 n
 
 -- an exit for each open entry, and a drop for each span with a handle
-abbrev pub owed : List ℕ → List Opened → ℕ
-owed handles entries = length entries + count_by is_held handles
+abbrev pub requests_owed : List ℕ → List Opened → ℕ
+requests_owed handles entries = length entries + count_by is_held handles
 
 -- no span was made and nothing spelled
-abbrev pub blank : Registered → Taped
+abbrev pub blank : RegistryValue → TapeValue
 blank below = record { below = below; handles = []; due = None; entries = []; guards = 0; requests = [] }

@@ -1,6 +1,6 @@
 //! Values by the names of their fields.
 ghost use Rattle.std.specs.Prelude.{◌≡◌, ℕ, List, IfOk};
-ghost use Rattle.trace_tape.specs.Taping.{name_at, named};
+ghost use Rattle.trace_tape.specs.Taping.{name_at, named_values};
 
 use crate::copies::copied_value;
 use otel_base::list::Items;
@@ -28,7 +28,7 @@ pub(crate) fn named(
     callsite: &Callsite,
     values: &ValueSet,
 ) -> Result<Items<(Text, Value)>, Memory>
-    ensures { IfOk result (λ fields. fields ≡ named callsite.now values.now) }
+    ensures { IfOk result (λ fields. fields ≡ named_values callsite.now values.now) }
 {
     let pairs = values.pairs.as_slice();
     let mut fields = Vec::with_capacity(alloc, pairs.len())?;

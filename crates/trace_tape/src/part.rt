@@ -4,7 +4,7 @@ ghost use Rattle.std.proofs.Common.{refl};
 ghost use Rattle.std.proofs.lemmas.Bool.{true≢false};
 ghost use Rattle.otel_state.specs.declared.op.OpReply.TheVariants as replies;
 ghost use Rattle.span_script.specs.declared.request.Call.TheVariants as call;
-ghost use Rattle.trace_tape.specs.Taping.{on_lane};
+ghost use Rattle.trace_tape.specs.Taping.{on_first_lane};
 ghost use Rattle.trace_tape.specs.Touching.{TouchesTape, tape_stays};
 
 use crate::tape::{Tape, request};
@@ -70,7 +70,7 @@ impl OtelSubscriber for Tape {
 // Spells an attribute.
 fn set_attribute(tape: &mut Tape, id: Id, at: u64, pair: KeyValue) -> Result<OpReply, Memory>
     ensures ok { IfOk result (λ reply. (reply ≡ replies.Done)
-        × (tape.new ≡ record tape.old { requests = tape.old.requests ++ on_lane at (call.SetAttribute id pair.key pair.value) ∷ [] })) }
+        × (tape.new ≡ record tape.old { requests = tape.old.requests ++ on_first_lane at (call.SetAttribute id pair.key pair.value) ∷ [] })) }
     ensures memory_leaves { OnErr result (tape.new ≡ tape.old) }
 {
     let KeyValue { key, value } = pair;

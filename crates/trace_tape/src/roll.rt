@@ -15,9 +15,9 @@ pub(crate) struct Roll {
 
 impl Model for Roll {
     ghost use Rattle.std.specs.Prelude.{◌+◌, ◌≤◌, vec_len, vec_capacity};
-    ghost use Rattle.trace_tape.specs.Taping.{Rolled};
+    ghost use Rattle.trace_tape.specs.Taping.{RequestsWithRoom};
 
-    ghost Value = { Rolled };
+    ghost Value = { RequestsWithRoom };
 
     ghost view = { λ r. record { spare = r.spare; requests = r.requests.items } };
 

@@ -3,7 +3,7 @@ ghost use Rattle.std.specs.Prelude.{◌≡◌, ◌≤◌, ◌+◌, ◌-◌, ◌+
 ghost use Rattle.std.proofs.Common.{refl, ◌∙◌, ap};
 ghost use Rattle.trace_base.specs.declared.lane.Lane.{Lane};
 ghost use Rattle.trace_base.specs.declared.subscriber.Interest.TheVariants as interests;
-ghost use Rattle.trace_tape.specs.Taping.{Taped, DoesTape, blank, one_more, held_more, handles_of, drops, is_held, spelled_place};
+ghost use Rattle.trace_tape.specs.Taping.{TapeValue, DoesTape, blank, one_more, held_more, handles_of, drop_requests, is_held, spelled_place};
 ghost use Rattle.trace_tape.specs.Taped.{tape_same, tape_lanes};
 ghost use Rattle.span_registry.specs.Registering.{no_spans};
 
@@ -38,13 +38,13 @@ pub struct Tape {
 
 impl Model for Tape {
     ghost use Rattle.std.specs.Prelude.{◌≤◌};
-    ghost use Rattle.trace_tape.specs.Taping.{Taped, owed};
+    ghost use Rattle.trace_tape.specs.Taping.{TapeValue, requests_owed};
 
-    ghost Value = { Taped };
+    ghost Value = { TapeValue };
 
     ghost view = { λ t. record { below = t.registry; handles = t.handles.items; due = t.due; entries = t.entries.items; guards = t.guards; requests = t.roll.requests } };
 
-    ghost invariant = { λ t. owed t.handles.items t.entries.items ≤ t.roll.spare };
+    ghost invariant = { λ t. requests_owed t.handles.items t.entries.items ≤ t.roll.spare };
 }
 
 impl Tape {
@@ -115,7 +115,7 @@ impl Subscriber for Tape {
 
     ghost same_trans = { λ s t u h k. k ∙ h };
 
-    ghost same_spans = { λ s t h. ap (λ (r : Taped). r.below.spans) h };
+    ghost same_spans = { λ s t h. ap (λ (r : TapeValue). r.below.spans) h };
 
     ghost same_kept = { λ s t h. refl };
 
@@ -366,7 +366,7 @@ fn hold(handles: &mut Vec<u64>, id: Id)
 fn let_go(handles: &mut Vec<u64>, roll: &mut Roll, id: Id, at: u64)
     requires { count_by is_held handles.old.items ≤ roll.old.spare }
     ensures handles { handles.new.items ≡ slice_set handles.old.items id (handles_of handles.old.items id - 1) }
-    ensures requests { roll.new.requests ≡ roll.old.requests ++ drops at id (handles_of handles.old.items id) }
+    ensures requests { roll.new.requests ≡ roll.old.requests ++ drop_requests at id (handles_of handles.old.items id) }
     ensures room { (others : ℕ) → others + count_by is_held handles.old.items ≤ roll.old.spare
         → others + count_by is_held handles.new.items ≤ roll.new.spare }
 {

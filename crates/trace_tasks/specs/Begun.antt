@@ -14,8 +14,8 @@ use Rattle.trace_tasks.specs.declared.running.Running.{Running}
 use Rattle.trace_tasks.specs.declared.script.Task.{Task}
 use Rattle.trace_tasks.specs.Carrying.{MakesGated, Made, Carries}
 use Rattle.span_script.specs.Fields.{Fields}
-use Rattle.trace_tasks.specs.Flat.{begun, makings, all_polls, flat}
-use Rattle.trace_tasks.specs.Turning.{IsAlone, Ready, serving}
+use Rattle.trace_tasks.specs.Flat.{tasks_at_first, makings, all_polls, flat}
+use Rattle.trace_tasks.specs.Turning.{IsAlone, Ready, dispatch_serving}
 use Rattle.trace_tasks.specs.Waiting.{AllWait, AllStand}
 
 -- a span was made at 0, if it was let through, and nothing else happened
@@ -24,21 +24,21 @@ pub record MakesOne {S : Type 0} (spans : S → Spans) (hint : S → Option Leve
   pub callsite : Callsite
   pub is : slice_get old.sites site ≡ Some callsite
   pub admitted : Bool
-  pub gate : Admits hint enables old lane.id site (Some (serving lane)) admitted
-  pub made : MakesGated spans hint enables does touches (serving lane) admitted old new lane 0 site callsite fields span
+  pub gate : Admits hint enables old lane.id site (Some (dispatch_serving lane)) admitted
+  pub made : MakesGated spans hint enables does touches (dispatch_serving lane) admitted old new lane 0 site callsite fields span
 
 -- a task was begun: its span was made, and nothing else happened
 pub record Begins {S : Type 0} (spans : S → Spans) (hint : S → Option LevelFilter) (enables : S → ℕ → Callsite → Bool) (kept : S → ℕ → ℕ → ℕ) (is_whole : S → Type 0) (does : S → SubscriberCall → S → Type 0) (touches : S → PartCall → S → Type 0)
     (task : Task) (lane : Lane) (old new : Worlds S) (f : Instrumented Running) : Type 0 where
   pub steps : f.inner.steps.now ≡ task.steps
   pub site : f.span.site ≡ Some task.site
-  pub made : (handles : List Handle) (guards : List Held) → Made spans hint enables does touches (serving lane) 0 task.site task.fields
+  pub made : (handles : List Handle) (guards : List Held) → Made spans hint enables does touches (dispatch_serving lane) 0 task.site task.fields
       (record { world = old; lane = lane; handles = handles; guards = guards }) (record { world = new; lane = lane; handles = handles ++ f.span ∷ []; guards = guards })
   pub known : IsKnown spans new f.span.held
-  pub lone : IsAlone (spans_in spans new (serving lane)).made (serving lane) task.site f.span
-  pub fresh : (id : ℕ) → id_of f.span.held ≡ Some id → length (spans_in spans old (serving lane)).made ≤ id
-  pub stay : (q : ℕ) → q < length (spans_in spans old (serving lane)).made → span_at (spans_in spans new (serving lane)).made q ≡ span_at (spans_in spans old (serving lane)).made q
-  pub count : length (spans_in spans new (serving lane)).made ≤ length (spans_in spans old (serving lane)).made + 1
+  pub lone : IsAlone (spans_in spans new (dispatch_serving lane)).made (dispatch_serving lane) task.site f.span
+  pub fresh : (id : ℕ) → id_of f.span.held ≡ Some id → length (spans_in spans old (dispatch_serving lane)).made ≤ id
+  pub stay : (q : ℕ) → q < length (spans_in spans old (dispatch_serving lane)).made → span_at (spans_in spans new (dispatch_serving lane)).made q ≡ span_at (spans_in spans old (dispatch_serving lane)).made q
+  pub count : length (spans_in spans new (dispatch_serving lane)).made ≤ length (spans_in spans old (dispatch_serving lane)).made + 1
   pub ready : Ready spans kept is_whole new lane
   pub sites : new.sites ≡ old.sites
 
@@ -52,17 +52,17 @@ pub record AreBegun {S : Type 0} (spans : S → Spans) (hint : S → Option Leve
     (tasks : List Task) (lane : Lane) (old new : Worlds S) (fs : List (Instrumented Running)) : Type 0 where
   pub handles : List Handle
   pub count : length handles ≡ length tasks
-  pub stand : AllStand handles (begun 0 tasks) fs
-  pub wait : AllWait spans new (serving lane) fs
+  pub stand : AllStand handles (tasks_at_first 0 tasks) fs
+  pub wait : AllWait spans new (dispatch_serving lane) fs
   pub ready : Ready spans kept is_whole new lane
   pub sites : new.sites ≡ old.sites
-  pub few : length (spans_in spans new (serving lane)).made ≤ length (spans_in spans old (serving lane)).made + length tasks
-  pub carried : Carries spans hint enables does touches (serving lane) (makings tasks) (record { world = old; lane = lane; handles = []; guards = [] }) (record { world = new; lane = lane; handles = handles; guards = [] })
+  pub few : length (spans_in spans new (dispatch_serving lane)).made ≤ length (spans_in spans old (dispatch_serving lane)).made + length tasks
+  pub carried : Carries spans hint enables does touches (dispatch_serving lane) (makings tasks) (record { world = old; lane = lane; handles = []; guards = [] }) (record { world = new; lane = lane; handles = handles; guards = [] })
 
 -- what a run of tasks did: exactly the requests of the flat list, in order
 pub record Ran {S : Type 0} (spans : S → Spans) (hint : S → Option LevelFilter) (enables : S → ℕ → Callsite → Bool) (does : S → SubscriberCall → S → Type 0) (touches : S → PartCall → S → Type 0)
     (sites : List Callsite) (tasks : List Task) (old new : Worlds S) (before later : Lane) (polls : ℕ) : Type 0 where
-  pub answer : polls ≡ all_polls (begun 0 tasks)
+  pub answer : polls ≡ all_polls (tasks_at_first 0 tasks)
   pub handles : List Handle
   pub guards : List Held
-  pub carried : Carries spans hint enables does touches (serving before) (flat sites tasks) (record { world = old; lane = before; handles = []; guards = [] }) (record { world = new; lane = later; handles = handles; guards = guards })
+  pub carried : Carries spans hint enables does touches (dispatch_serving before) (flat sites tasks) (record { world = old; lane = before; handles = []; guards = [] }) (record { world = new; lane = later; handles = handles; guards = guards })

@@ -9,7 +9,7 @@ use Rattle.trace_base.specs.Gate.{Worlds, Admits}
 use Rattle.trace_base.specs.Spans.{Spans}
 use Rattle.span_handles.specs.Worlds.{Chain}
 use Rattle.span_handles.specs.Handles.{Handle, Held, ReplacedOn, RecordsOn, Makes, callsite_in}
-use Rattle.span_handles.specs.Entries.{Begins}
+use Rattle.span_handles.specs.Entries.{BeginsInside}
 use Rattle.otel_state.specs.declared.op.Op.TheVariants as ops
 use Rattle.otel_layer.specs.Parts.{PartCall}
 use Rattle.otel_layer.specs.Asking.{AppliesOn}
@@ -63,7 +63,7 @@ module _ {S : Type 0} (spans : S → Spans) (hint : S → Option LevelFilter) (e
   pub record Entered (at number : ℕ) (s t : Stage S) : Type 0 where
     pub handle : Handle
     pub is : slice_get s.handles number ≡ Some handle
-    pub begins : Begins does at handle.held s.world s.lane t.world t.lane
+    pub begins : BeginsInside does at handle.held s.world s.lane t.world t.lane
     pub handles : t.handles ≡ s.handles
     pub guards : t.guards ≡ s.guards ++ handle.held ∷ []
 

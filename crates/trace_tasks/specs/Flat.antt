@@ -6,7 +6,7 @@ use Rattle.span_script.specs.declared.request.Call.{Call}
 use Rattle.span_script.specs.declared.request.Call.TheVariants as call
 use Rattle.span_script.specs.declared.request.Place.TheVariants as place
 use Rattle.span_script.specs.declared.request.Request.{Request}
-use Rattle.trace_tape.specs.Taping.{on_lane}
+use Rattle.trace_tape.specs.Taping.{on_first_lane}
 use Rattle.trace_tasks.specs.declared.script.Step.{Step}
 use Rattle.trace_tasks.specs.declared.script.Step.TheVariants as step
 use Rattle.trace_tasks.specs.declared.script.Task.{Task}
@@ -35,18 +35,18 @@ abbrev pub moment_of : ℕ → ℕ
 moment_of k = 10 * (k + 1)
 
 -- a task that is finished drops its handle
-abbrev pub ends : ℕ → ℕ → Option (List Step) → List Request
-ends k number None = on_lane (moment_of k) (call.Drop number) ∷ []
-ends k number (Some steps) = []
+abbrev pub drop_at_end : ℕ → ℕ → Option (List Step) → List Request
+drop_at_end k number None = on_first_lane (moment_of k) (call.Drop number) ∷ []
+drop_at_end k number (Some steps) = []
 
 -- the poll after k polls, of a task
 abbrev pub poll : List Callsite → ℕ → Left → List Request
-poll sites k t = on_lane (moment_of k) (call.Enter t.number) ∷ map (λ s. on_lane (moment_of k) (step_call sites t s)) (now_of t.steps)
-    ++ on_lane (moment_of k) (call.Exit k) ∷ ends k t.number (left_of t.steps)
+poll sites k t = on_first_lane (moment_of k) (call.Enter t.number) ∷ map (λ s. on_first_lane (moment_of k) (step_call sites t s)) (now_of t.steps)
+    ++ on_first_lane (moment_of k) (call.Exit k) ∷ drop_at_end k t.number (left_of t.steps)
 
 -- a task after a poll, if it isn't finished
-abbrev pub polled : Left → Option Left
-polled t = option_map (λ steps. record t { steps = steps }) (left_of t.steps)
+abbrev pub after_poll : Left → Option Left
+after_poll t = option_map (λ steps. record t { steps = steps }) (left_of t.steps)
 
 -- a round after k polls: each task is polled once, in order
 abbrev pub round : List Callsite → ℕ → List Left → List Request
@@ -56,7 +56,7 @@ round sites k (t ∷ ts) = poll sites k t ++ round sites (k + 1) ts
 -- some rounds after k polls
 abbrev pub rounds : List Callsite → ℕ → ℕ → List Left → List Request
 rounds sites zero k ts = []
-rounds sites (suc n) k ts = round sites k ts ++ rounds sites n (k + length ts) (filter_map polled ts)
+rounds sites (suc n) k ts = round sites k ts ++ rounds sites n (k + length ts) (filter_map after_poll ts)
 
 -- how many yields some steps have
 abbrev pub yields : List Step → ℕ
@@ -74,17 +74,17 @@ abbrev pub all_polls : List Left → ℕ
 all_polls ts = sum_by polls_left ts
 
 -- the tasks at first, numbered in order
-abbrev pub begun : ℕ → List Task → List Left
-begun number [] = []
-begun number (t ∷ ts) = record { number = number; site = t.site; steps = t.steps } ∷ begun (number + 1) ts
+abbrev pub tasks_at_first : ℕ → List Task → List Left
+tasks_at_first number [] = []
+tasks_at_first number (t ∷ ts) = record { number = number; site = t.site; steps = t.steps } ∷ tasks_at_first (number + 1) ts
 
 -- a span for each task
 abbrev pub makings : List Task → List Request
-makings tasks = map (λ t. on_lane 0 (call.New t.site place.Contextual t.fields)) tasks
+makings tasks = map (λ t. on_first_lane 0 (call.New t.site place.Contextual t.fields)) tasks
 
 -- the whole list: the makings, and then rounds until all tasks are finished, which they are after as many rounds as polls
 abbrev pub flat : List Callsite → List Task → List Request
-flat sites tasks = makings tasks ++ rounds sites (all_polls (begun 0 tasks)) 0 (begun 0 tasks)
+flat sites tasks = makings tasks ++ rounds sites (all_polls (tasks_at_first 0 tasks)) 0 (tasks_at_first 0 tasks)
 
 -- the same, with the tasks in a queue: the first is polled, and goes to the end if it isn't finished
 abbrev pub requeue : List Left → Option Left → List Left
@@ -94,4 +94,4 @@ requeue ts (Some t) = ts ++ t ∷ []
 abbrev pub turns : List Callsite → ℕ → ℕ → List Left → List Request
 turns sites zero k ts = []
 turns sites (suc n) k [] = []
-turns sites (suc n) k (t ∷ ts) = poll sites k t ++ turns sites n (k + 1) (requeue ts (polled t))
+turns sites (suc n) k (t ∷ ts) = poll sites k t ++ turns sites n (k + 1) (requeue ts (after_poll t))

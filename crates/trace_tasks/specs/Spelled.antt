@@ -6,7 +6,7 @@ use Rattle.trace_base.specs.declared.subscriber.Interest.TheVariants as interest
 use Rattle.trace_base.specs.Gate.{Worlds, cached_at}
 use Rattle.trace_base.specs.Spans.{Spans}
 use Rattle.span_script.specs.declared.request.Request.{Request}
-use Rattle.trace_tape.specs.Taping.{Taped, DoesTape}
+use Rattle.trace_tape.specs.Taping.{TapeValue, DoesTape}
 use Rattle.trace_tape.specs.Touching.{TouchesTape}
 use Rattle.trace_tasks.specs.declared.script.Step.{Step}
 use Rattle.trace_tasks.specs.declared.script.Step.TheVariants as step
@@ -14,11 +14,11 @@ use Rattle.trace_tasks.specs.declared.script.Task.{Task}
 use Rattle.trace_tasks.specs.Carrying.{Stage, Carries}
 use Rattle.span_script.specs.Fields.{Fields, declares}
 
-abbrev pub tape_spans : Taped → Spans
+abbrev pub tape_spans : TapeValue → Spans
 tape_spans s = s.below.spans
 
 -- requests carried out over a tape
-abbrev pub CarriesTape : ℕ → List Request → Stage Taped → Stage Taped → Type 0
+abbrev pub CarriesTape : ℕ → List Request → Stage TapeValue → Stage TapeValue → Type 0
 CarriesTape d rs s t = Carries tape_spans (λ s. None) (λ s lane c. true) DoesTape TouchesTape d rs s t
 
 -- a callsite declares all of some fields
@@ -39,7 +39,7 @@ AreTested sites [] = Unit {0}
 AreTested sites (t ∷ ts) = IsDeclared (slice_get sites t.site) t.fields × IsTested sites t.steps × AreTested sites ts
 
 -- a tape of a world that is asked for everything, and on which nothing was spelled yet
-pub record IsNewTape (world : Worlds Taped) (d : ℕ) (tape : Taped) : Type 0 where
+pub record IsNewTape (world : Worlds TapeValue) (d : ℕ) (tape : TapeValue) : Type 0 where
   pub there : slice_get world.subscribers d ≡ Some tape
   pub cached : (site : ℕ) → site < length world.sites → cached_at world.cached d site ≡ interests.Always
   pub no_spans : tape.below.spans.made ≡ []

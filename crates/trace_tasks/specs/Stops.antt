@@ -16,31 +16,31 @@ use Rattle.span_futures.specs.declared.instrument.Instrumented.{Instrumented}
 use Rattle.otel_layer.specs.Parts.{PartCall}
 use Rattle.span_script.specs.declared.request.Call.TheVariants as call
 use Rattle.span_script.specs.declared.request.Request.{Request}
-use Rattle.trace_tape.specs.Taping.{on_lane}
+use Rattle.trace_tape.specs.Taping.{on_first_lane}
 use Rattle.trace_tasks.specs.declared.running.Running.{Running}
 use Rattle.trace_tasks.specs.declared.script.Task.{Task}
 use Rattle.trace_tasks.specs.Acts.{Wants}
 use Rattle.trace_tasks.specs.Begun.{AreBegun}
 use Rattle.trace_tasks.specs.Carrying.{Stage, Carries}
-use Rattle.trace_tasks.specs.Flat.{Left, all_polls, begun, makings, flat, moment_of, poll, requeue, polled, turns}
-use Rattle.trace_tasks.specs.Turning.{serving, left_as}
+use Rattle.trace_tasks.specs.Flat.{Left, all_polls, tasks_at_first, makings, flat, moment_of, poll, requeue, after_poll, turns}
+use Rattle.trace_tasks.specs.Turning.{dispatch_serving, left_as}
 
 -- the tasks that are left after so many polls, the next one first
 abbrev pub left_after : ℕ → List Left → List Left
 left_after zero ts = ts
 left_after (suc n) [] = []
-left_after (suc n) (t ∷ ts) = left_after n (requeue ts (polled t))
+left_after (suc n) (t ∷ ts) = left_after n (requeue ts (after_poll t))
 
 -- at a moment an exit of the guard of a poll, if its task was entered, and a drop of the handle of each task that is left
 abbrev pub exit_if : ℕ → ℕ → List Request → List Request
 exit_if at k [] = []
-exit_if at k (r ∷ part) = on_lane at (call.Exit k) ∷ []
+exit_if at k (r ∷ part) = on_first_lane at (call.Exit k) ∷ []
 
-abbrev pub drops : ℕ → List Left → List Request
-drops at left = map (λ t. on_lane at (call.Drop t.number)) left
+abbrev pub drops_of_tasks : ℕ → List Left → List Request
+drops_of_tasks at left = map (λ t. on_first_lane at (call.Drop t.number)) left
 
 abbrev pub leavings : ℕ → ℕ → List Request → List Left → List Request
-leavings at k part left = exit_if at k part ++ drops at left
+leavings at k part left = exit_if at k part ++ drops_of_tasks at left
 
 -- where a run stops: in the poll after so many polls, at whose moment it does, with all tasks begun; or at 0, as spans are made,
 -- where memory is wanted
@@ -102,11 +102,11 @@ module _ {S : Type 0} (spans : S → Spans) (hint : S → Option LevelFilter) (e
     pub polls : ℕ
     pub part : List Request
     pub others : List Request
-    pub within : makings first ++ turns sites polls 0 (begun 0 first) ++ part ++ others ≡ flat sites tasks
+    pub within : makings first ++ turns sites polls 0 (tasks_at_first 0 first) ++ part ++ others ≡ flat sites tasks
     pub at : ℕ
     pub moment : StopsAt tasks first polls part e at
     pub not_entered : e ≡ Full → part ≡ []
-    pub stopped : Stopped (makings first ++ turns sites polls 0 (begun 0 first) ++ part) (leavings at polls part (left_after polls (begun 0 first))) at e s new later
+    pub stopped : Stopped (makings first ++ turns sites polls 0 (tasks_at_first 0 first) ++ part) (leavings at polls part (left_after polls (tasks_at_first 0 first))) at e s new later
 
 -- the first of some tasks were begun, and the next one wanted memory
 pub record StopsBeginning {S : Type 0} (spans : S → Spans) (hint : S → Option LevelFilter) (enables : S → ℕ → Callsite → Bool) (kept : S → ℕ → ℕ → ℕ) (is_whole : S → Type 0) (does : S → SubscriberCall → S → Type 0) (touches : S → PartCall → S → Type 0) (same : S → S → Type 0)
@@ -122,4 +122,4 @@ pub record StopsBeginning {S : Type 0} (spans : S → Spans) (hint : S → Optio
 pub record TurnStops {S : Type 0} (spans : S → Spans) (hint : S → Option LevelFilter) (enables : S → ℕ → Callsite → Bool) (activates : S → ℕ → Bool) (does : S → SubscriberCall → S → Type 0) (touches : S → PartCall → S → Type 0) (same : S → S → Type 0)
     (at : ℕ) (f : Instrumented Running) (old : Worlds S) (before : Lane) (e : EnterError) (new : Worlds S) (later : Lane) : Type 0 where
   pub stops : (number site k : ℕ) (handles : List Handle) (guards : List Held) → at ≡ moment_of k → slice_get handles number ≡ Some f.span → length guards ≡ k → f.span.site ≡ Some site
-      → StopsPoll spans hint enables activates does touches same (serving before) old.sites at k (left_as number site f.inner) e (record { world = old; lane = before; handles = handles; guards = guards }) new later
+      → StopsPoll spans hint enables activates does touches same (dispatch_serving before) old.sites at k (left_as number site f.inner) e (record { world = old; lane = before; handles = handles; guards = guards }) new later

@@ -22,25 +22,25 @@ abbrev pub served_by : Option ℕ → ℕ
 served_by None = 0
 served_by (Some d) = d
 
-abbrev pub serving : Lane → ℕ
-serving lane = served_by lane.default
+abbrev pub dispatch_serving : Lane → ℕ
+dispatch_serving lane = served_by lane.default
 
 -- a world and a lane between polls: the lane has a default of the world, and no entry is open on it there
 pub record Ready {S : Type 0} (spans : S → Spans) (kept : S → ℕ → ℕ → ℕ) (is_whole : S → Type 0) (world : Worlds S) (lane : Lane) : Type 0 where
-  pub default : lane.default ≡ Some (serving lane)
-  pub there : serving lane < length world.subscribers
+  pub default : lane.default ≡ Some (dispatch_serving lane)
+  pub there : dispatch_serving lane < length world.subscribers
   pub whole : HasAll is_whole world
   pub still : AreAllAttached kept world lane
-  pub none_open : entries_on lane.id (spans_in spans world (serving lane)).lanes ≡ []
+  pub none_open : entries_on lane.id (spans_in spans world (dispatch_serving lane)).lanes ≡ []
 
 -- a root that one handle holds
-abbrev pub alone : ℕ → Span
-alone site = record { holds = 1; parent = None; site = site }
+abbrev pub root_of_one_handle : ℕ → Span
+root_of_one_handle site = record { holds = 1; parent = None; site = site }
 
 -- a handle with a callsite: it is the only hold of a root, or it is disabled
 abbrev pub IsAloneAs : List Span → ℕ → ℕ → Held → Type 0
 IsAloneAs made d site None = Unit {0}
-IsAloneAs made d site (Some held) = (held.0 ≡ d) × (span_at made held.1 ≡ alone site)
+IsAloneAs made d site (Some held) = (held.0 ≡ d) × (span_at made held.1 ≡ root_of_one_handle site)
 
 pub record IsAlone (made : List Span) (d site : ℕ) (handle : Handle) : Type 0 where
   pub site_is : handle.site ≡ Some site
@@ -69,7 +69,7 @@ pub record Turned {S : Type 0} (spans : S → Spans) (hint : S → Option LevelF
   pub default : later.default ≡ before.default
   pub sites : new.sites ≡ old.sites
   pub count : length new.subscribers ≡ length old.subscribers
-  pub stay : SpansStay left f.span.held (spans_in spans old (serving before)).made (spans_in spans new (serving before)).made
+  pub stay : SpansStay left f.span.held (spans_in spans old (dispatch_serving before)).made (spans_in spans new (dispatch_serving before)).made
   pub carried : (number site k : ℕ) (handles : List Handle) (guards : List Held) → at ≡ moment_of k → length guards ≡ k → slice_get handles number ≡ Some f.span → f.span.site ≡ Some site
-      → Carries spans hint enables does touches (serving before) (poll old.sites k (left_as number site f.inner))
+      → Carries spans hint enables does touches (dispatch_serving before) (poll old.sites k (left_as number site f.inner))
       (record { world = old; lane = before; handles = handles; guards = guards }) (record { world = new; lane = later; handles = handles; guards = guards ++ f.span.held ∷ [] })

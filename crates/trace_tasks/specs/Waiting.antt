@@ -13,7 +13,7 @@ use Rattle.otel_layer.specs.Parts.{PartCall}
 use Rattle.trace_tasks.specs.declared.running.Running.{Running}
 use Rattle.trace_tasks.specs.Carrying.{Carries}
 use Rattle.trace_tasks.specs.Flat.{Left, yields, all_polls, turns}
-use Rattle.trace_tasks.specs.Turning.{IsAlone, serving}
+use Rattle.trace_tasks.specs.Turning.{IsAlone, dispatch_serving}
 
 -- a task whose handle is known and alone holds its span
 pub record Waits {S : Type 0} (spans : S → Spans) (world : Worlds S) (d : ℕ) (f : Instrumented Running) : Type 0 where
@@ -44,7 +44,7 @@ abbrev pub KeepsBut : {S : Type 0} → (S → Spans) → Worlds S → Worlds S �
 KeepsBut spans old new closed = (held : Held) → (held ≡ closed → ⊥) → IsKnown spans old held → IsKnown spans new held
 
 -- tasks, and where they stand in a script
-pub record Stands (handles : List Handle) (t : Left) (f : Instrumented Running) : Type 0 where
+pub record TaskStands (handles : List Handle) (t : Left) (f : Instrumented Running) : Type 0 where
   pub handle : slice_get handles t.number ≡ Some f.span
   pub site : f.span.site ≡ Some t.site
   pub steps : t.steps ≡ f.inner.steps.now
@@ -53,12 +53,12 @@ abbrev pub AllStand : List Handle → List Left → List (Instrumented Running) 
 AllStand handles [] [] = Unit {0}
 AllStand handles [] (f ∷ fs) = ⊥
 AllStand handles (t ∷ ts) [] = ⊥
-AllStand handles (t ∷ ts) (f ∷ fs) = Stands handles t f × AllStand handles ts fs
+AllStand handles (t ∷ ts) (f ∷ fs) = TaskStands handles t f × AllStand handles ts fs
 
 -- a task goes to the end of a queue, if it isn't finished
-abbrev pub queued : List (Instrumented Running) → Option (Instrumented Running) → List (Instrumented Running)
-queued fs None = fs
-queued fs (Some g) = fs ++ g ∷ []
+abbrev pub queue_with : List (Instrumented Running) → Option (Instrumented Running) → List (Instrumented Running)
+queue_with fs None = fs
+queue_with fs (Some g) = fs ++ g ∷ []
 
 -- as many polls as a queue takes
 abbrev pub polls_in : List (Instrumented Running) → ℕ
@@ -69,5 +69,5 @@ pub record TakesTurns {S : Type 0} (spans : S → Spans) (hint : S → Option Le
     (handles : List Handle) (ts : List Left) (old new : Worlds S) (before later : Lane) (polls : ℕ) : Type 0 where
   pub guards : List Held
   pub polled : polls ≡ all_polls ts
-  pub carried : Carries spans hint enables does touches (serving before) (turns old.sites (all_polls ts) 0 ts)
+  pub carried : Carries spans hint enables does touches (dispatch_serving before) (turns old.sites (all_polls ts) 0 ts)
       (record { world = old; lane = before; handles = handles; guards = [] }) (record { world = new; lane = later; handles = handles; guards = guards })

@@ -7,7 +7,7 @@ ghost use Rattle.span_futures.specs.Lent.{HasAll};
 ghost use Rattle.trace_tasks.specs.Acts.{Wants};
 ghost use Rattle.trace_tasks.specs.Begun.{MakesOne, Begins, AllSited, AreBegun};
 ghost use Rattle.trace_tasks.specs.Stops.{StopsBeginning};
-ghost use Rattle.trace_tasks.specs.Turning.{Ready, serving};
+ghost use Rattle.trace_tasks.specs.Turning.{Ready, dispatch_serving};
 ghost use Rattle.trace_tasks.specs.Waiting.{AllKnown};
 
 use crate::fields::values_of;
@@ -35,7 +35,7 @@ fn make<S: OtelSubscriber>(
 ) -> Result<Span, Memory>
     requires ready { Ready S.Subscriber.spans S.Subscriber.kept S.Subscriber.is_whole world.old lane.now }
     requires site { site < length world.old.sites }
-    requires few { length (spans_in S.Subscriber.spans world.old (serving lane.now)).made < 2 ^ 63 }
+    requires few { length (spans_in S.Subscriber.spans world.old (dispatch_serving lane.now)).made < 2 ^ 63 }
 
     ensures ok { IfOk result (MakesOne S.Subscriber.spans S.Subscriber.hint S.Subscriber.enables
         S.Subscriber.does S.OtelPart.touches site fields.now lane.now world.old world.new) }
@@ -61,7 +61,7 @@ fn begin<'a, S: OtelSubscriber>(
 ) -> Result<Instrumented<Running<'a>>, Memory>
     requires ready { Ready S.Subscriber.spans S.Subscriber.kept S.Subscriber.is_whole world.old lane.now }
     requires site { task.now.site < length world.old.sites }
-    requires few { length (spans_in S.Subscriber.spans world.old (serving lane.now)).made < 2 ^ 63 }
+    requires few { length (spans_in S.Subscriber.spans world.old (dispatch_serving lane.now)).made < 2 ^ 63 }
     ensures ok { IfOk result (Begins S.Subscriber.spans S.Subscriber.hint S.Subscriber.enables S.Subscriber.kept
         S.Subscriber.is_whole S.Subscriber.does S.OtelPart.touches task.now lane.now world.old world.new) }
     ensures wants { OnErr result (Wants S.Subscriber.spans S.Subscriber.hint S.Subscriber.enables S.Subscriber.does
@@ -88,7 +88,7 @@ pub(crate) fn begin_all<'a, S: OtelSubscriber>(
     requires none { queue.old.items ≡ [] }
     requires ready { Ready S.Subscriber.spans S.Subscriber.kept S.Subscriber.is_whole world.old lane.now }
     requires sites { AllSited (length world.old.sites) tasks.now }
-    requires few { length (spans_in S.Subscriber.spans world.old (serving lane.now)).made + length tasks.now < 2 ^ 63 }
+    requires few { length (spans_in S.Subscriber.spans world.old (dispatch_serving lane.now)).made + length tasks.now < 2 ^ 63 }
 
     ensures ok { OnOk result (AreBegun S.Subscriber.spans S.Subscriber.hint S.Subscriber.enables S.Subscriber.kept
         S.Subscriber.is_whole S.Subscriber.does S.OtelPart.touches tasks.now lane.now world.old world.new queue.new.items) }

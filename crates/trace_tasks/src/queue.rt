@@ -4,9 +4,9 @@ ghost use Rattle.std.specs.VecDeque.{deque_len, deque_capacity};
 ghost use Rattle.futures.specs.Task.{Keeps};
 ghost use Rattle.span_futures.specs.Lent.{HasAll};
 ghost use Rattle.trace_tasks.specs.Carrying.{Carries};
-ghost use Rattle.trace_tasks.specs.Stops.{StopsTurns, drops};
-ghost use Rattle.trace_tasks.specs.Turning.{Ready, serving};
-ghost use Rattle.trace_tasks.specs.Waiting.{AllWait, AllKnown, AllStand, TakesTurns, polls_in, queued};
+ghost use Rattle.trace_tasks.specs.Stops.{StopsTurns, drops_of_tasks};
+ghost use Rattle.trace_tasks.specs.Turning.{Ready, dispatch_serving};
+ghost use Rattle.trace_tasks.specs.Waiting.{AllWait, AllKnown, AllStand, TakesTurns, polls_in, queue_with};
 
 use crate::running::Running;
 use crate::turn::turn;
@@ -27,7 +27,7 @@ pub(crate) fn poll_all<'a, S: OtelSubscriber>(
     cx: &mut Context<'_>,
 ) -> Result<u64, EnterError>
     requires ready { Ready S.Subscriber.spans S.Subscriber.kept S.Subscriber.is_whole world.old lane.old }
-    requires wait { AllWait S.Subscriber.spans world.old (serving lane.old) queue.old.items }
+    requires wait { AllWait S.Subscriber.spans world.old (dispatch_serving lane.old) queue.old.items }
     requires few { polls_in queue.old.items < 2 ^ 60 }
 
     ensures ok { IfOk result (λ polls. (handles : _) (ts : _) → AllStand handles ts queue.old.items
@@ -35,7 +35,7 @@ pub(crate) fn poll_all<'a, S: OtelSubscriber>(
         handles ts world.old world.new lane.old lane.new polls) }
     ensures stops { IfErr result (λ e. (handles : _) (ts : _) → AllStand handles ts queue.old.items
         → StopsTurns S.Subscriber.spans S.Subscriber.hint S.Subscriber.enables S.Subscriber.activates S.Subscriber.does
-        S.OtelPart.touches S.Subscriber.same (serving lane.old) world.old.sites ts e
+        S.OtelPart.touches S.Subscriber.same (dispatch_serving lane.old) world.old.sites ts e
         (record { world = world.old; lane = lane.old; handles = handles; guards = [] }) world.new lane.new) }
     ensures empty { queue.new.items ≡ [] }
     ensures whole { HasAll S.Subscriber.is_whole world.new }
@@ -62,7 +62,7 @@ fn put_back<'a>(
     left: Option<Instrumented<Running<'a>>>,
 )
     requires { deque_len queue.old < deque_capacity queue.old }
-    ensures { queue.new.items ≡ queued queue.old.items left.entry }
+    ensures { queue.new.items ≡ queue_with queue.old.items left.entry }
 {
     match left {
         Some(task) => queue.push_back_reserved(task),
@@ -80,7 +80,7 @@ pub(crate) fn close_all<'a, S: OtelSubscriber>(
     requires whole { HasAll S.Subscriber.is_whole world.old }
     ensures closed { (handles : _) (ts : _) → AllStand handles ts queue.old.items → (d : _) (lane : _) (guards : _)
         → Carries S.Subscriber.spans S.Subscriber.hint S.Subscriber.enables S.Subscriber.does S.OtelPart.touches d
-        (drops at ts) (record { world = world.old; lane = lane; handles = handles; guards = guards })
+        (drops_of_tasks at ts) (record { world = world.old; lane = lane; handles = handles; guards = guards })
         (record { world = world.new; lane = lane; handles = handles; guards = guards }) }
     ensures empty { queue.new.items ≡ [] }
     ensures whole { HasAll S.Subscriber.is_whole world.new }

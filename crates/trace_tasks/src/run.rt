@@ -3,9 +3,9 @@ ghost use Rattle.std.specs.Prelude.{◌≡◌, ◌<◌, ◌^◌, ◌+◌, [], le
 ghost use Rattle.futures.specs.Task.{Keeps};
 ghost use Rattle.span_handles.specs.Worlds.{spans_in};
 ghost use Rattle.trace_tasks.specs.Begun.{AllSited, Ran};
-ghost use Rattle.trace_tasks.specs.Flat.{all_polls, begun, yields};
+ghost use Rattle.trace_tasks.specs.Flat.{all_polls, tasks_at_first, yields};
 ghost use Rattle.trace_tasks.specs.Stops.{GaveUp};
-ghost use Rattle.trace_tasks.specs.Turning.{Ready, serving};
+ghost use Rattle.trace_tasks.specs.Turning.{Ready, dispatch_serving};
 
 use crate::begin::begin_all;
 use crate::queue::{close_all, poll_all};
@@ -34,15 +34,15 @@ pub fn run_tasks<S: OtelSubscriber>(
     requires ready { Ready S.Subscriber.spans S.Subscriber.kept S.Subscriber.is_whole world.old lane.old }
     requires sites { world.old.sites ≡ script.now.settings.callsites }
     requires sited { AllSited (length script.now.settings.callsites) script.now.tasks }
-    requires few { length (spans_in S.Subscriber.spans world.old (serving lane.old)).made + length script.now.tasks < 2 ^ 63 }
-    requires few_polls { all_polls (begun 0 script.now.tasks) < 2 ^ 60 }
+    requires few { length (spans_in S.Subscriber.spans world.old (dispatch_serving lane.old)).made + length script.now.tasks < 2 ^ 63 }
+    requires few_polls { all_polls (tasks_at_first 0 script.now.tasks) < 2 ^ 60 }
 
     ensures ok { IfOk result (Ran S.Subscriber.spans S.Subscriber.hint S.Subscriber.enables S.Subscriber.does
         S.OtelPart.touches script.now.settings.callsites script.now.tasks world.old world.new lane.old lane.new) }
     ensures answer { IfOk result (λ polls. polls ≡ sum_by (λ t. yields t.steps) script.now.tasks + length script.now.tasks) }
     ensures gives_up { IfErr result (λ e.
         GaveUp S.Subscriber.spans S.Subscriber.hint S.Subscriber.enables S.Subscriber.activates S.Subscriber.does
-        S.OtelPart.touches S.Subscriber.same (serving lane.old) script.now.settings.callsites script.now.tasks e
+        S.OtelPart.touches S.Subscriber.same (dispatch_serving lane.old) script.now.settings.callsites script.now.tasks e
         (record { world = world.old; lane = lane.old; handles = []; guards = [] }) world.new lane.new) }
     ensures context { Keeps cx.old cx.new }
 {
@@ -65,15 +65,15 @@ fn begin_and_poll<'a, S: OtelSubscriber>(
     requires none { queue.old.items ≡ [] }
     requires ready { Ready S.Subscriber.spans S.Subscriber.kept S.Subscriber.is_whole world.old lane.old }
     requires sited { AllSited (length world.old.sites) tasks.now }
-    requires few { length (spans_in S.Subscriber.spans world.old (serving lane.old)).made + length tasks.now < 2 ^ 63 }
-    requires few_polls { all_polls (begun 0 tasks.now) < 2 ^ 60 }
+    requires few { length (spans_in S.Subscriber.spans world.old (dispatch_serving lane.old)).made + length tasks.now < 2 ^ 63 }
+    requires few_polls { all_polls (tasks_at_first 0 tasks.now) < 2 ^ 60 }
 
     ensures ok { IfOk result (Ran S.Subscriber.spans S.Subscriber.hint S.Subscriber.enables S.Subscriber.does
         S.OtelPart.touches world.old.sites tasks.now world.old world.new lane.old lane.new) }
     ensures answer { IfOk result (λ polls. polls ≡ sum_by (λ t. yields t.steps) tasks.now + length tasks.now) }
     ensures gives_up { IfErr result (λ e.
         GaveUp S.Subscriber.spans S.Subscriber.hint S.Subscriber.enables S.Subscriber.activates S.Subscriber.does
-        S.OtelPart.touches S.Subscriber.same (serving lane.old) world.old.sites tasks.now e
+        S.OtelPart.touches S.Subscriber.same (dispatch_serving lane.old) world.old.sites tasks.now e
         (record { world = world.old; lane = lane.old; handles = []; guards = [] }) world.new lane.new) }
     ensures empty { queue.new.items ≡ [] }
     ensures context { Keeps cx.old cx.new }

@@ -3,9 +3,9 @@ ghost use Rattle.std.specs.Prelude.{◌≡◌, ◌≢◌, ◌<◌, ◌^◌, ◌+
 ghost use Rattle.futures.specs.Task.{Keeps};
 ghost use Rattle.otel_base.specs.declared.enter_error.EnterError.TheVariants as faults;
 ghost use Rattle.trace_tasks.specs.Begun.{AllSited};
-ghost use Rattle.trace_tasks.specs.Flat.{all_polls, begun, flat, yields};
+ghost use Rattle.trace_tasks.specs.Flat.{all_polls, tasks_at_first, flat, yields};
 ghost use Rattle.trace_tasks.specs.Spelled.{AreTested, IsNewTape, tape_spans};
-ghost use Rattle.trace_tasks.specs.Turning.{Ready, serving};
+ghost use Rattle.trace_tasks.specs.Turning.{Ready, dispatch_serving};
 
 use crate::run::run_tasks;
 use crate::script::TaskScript;
@@ -25,17 +25,17 @@ pub fn run_on_tape(
     lane: &mut Lane,
     cx: &mut Context<'_>,
 ) -> Result<u64, EnterError>
-    requires new_tape { (tape : _) × IsNewTape world.old (serving lane.old) tape }
+    requires new_tape { (tape : _) × IsNewTape world.old (dispatch_serving lane.old) tape }
     requires ready { Ready tape_spans (λ s lane number. 0) (λ s. Unit {0}) world.old lane.old }
     requires sites { world.old.sites ≡ script.now.settings.callsites }
     requires sited { AllSited (length script.now.settings.callsites) script.now.tasks }
     requires tested { AreTested script.now.settings.callsites script.now.tasks }
     requires few { length script.now.tasks < 2 ^ 63 }
-    requires few_polls { all_polls (begun 0 script.now.tasks) < 2 ^ 60 }
+    requires few_polls { all_polls (tasks_at_first 0 script.now.tasks) < 2 ^ 60 }
 
     ensures polls { IfOk result (λ polls. polls ≡ sum_by (λ t. yields t.steps) script.now.tasks + length script.now.tasks) }
     ensures never_full { result ≢ Err faults.Full }
-    ensures spelled { IfOk result (λ polls. (tape : _) × (slice_get world.new.subscribers (serving lane.old) ≡ Some tape)
+    ensures spelled { IfOk result (λ polls. (tape : _) × (slice_get world.new.subscribers (dispatch_serving lane.old) ≡ Some tape)
         × (tape.requests ≡ flat script.now.settings.callsites script.now.tasks)) }
     ensures context { Keeps cx.old cx.new }
 {

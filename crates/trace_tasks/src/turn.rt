@@ -5,7 +5,7 @@ ghost use Rattle.span_handles.specs.Handles.{IsKnown};
 ghost use Rattle.span_handles.specs.Worlds.{spans_in};
 ghost use Rattle.span_futures.specs.Lent.{HasAll};
 ghost use Rattle.trace_tasks.specs.Stops.{TurnStops};
-ghost use Rattle.trace_tasks.specs.Turning.{Ready, IsAlone, Turned, serving};
+ghost use Rattle.trace_tasks.specs.Turning.{Ready, IsAlone, Turned, dispatch_serving};
 ghost use Rattle.trace_tasks.specs.Waiting.{KeepsBut};
 
 use crate::running::Running;
@@ -27,7 +27,7 @@ pub(crate) fn turn<'a, S: OtelSubscriber>(
 ) -> Result<Option<Instrumented<Running<'a>>>, EnterError>
     requires ready { Ready S.Subscriber.spans S.Subscriber.kept S.Subscriber.is_whole world.old lane.old }
     requires known { IsKnown S.Subscriber.spans world.old task.span.held }
-    requires lone { (site : _) × IsAlone (spans_in S.Subscriber.spans world.old (serving lane.old)).made (serving lane.old) site task.span }
+    requires lone { (site : _) × IsAlone (spans_in S.Subscriber.spans world.old (dispatch_serving lane.old)).made (dispatch_serving lane.old) site task.span }
 
     ensures ok { IfOk result (λ left.
         Turned S.Subscriber.spans S.Subscriber.hint S.Subscriber.enables S.Subscriber.kept S.Subscriber.is_whole

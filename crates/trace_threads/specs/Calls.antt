@@ -9,9 +9,9 @@ use Rattle.otel_state.specs.declared.op.Op.{Op}
 use Rattle.otel_state.specs.declared.op.OpReply.{OpReply}
 use Rattle.trace_threads.specs.declared.turns.View.{View}
 use Rattle.trace_threads.specs.declared.turns.Stage.TheVariants.{Idle, Waits, Holds}
-use Rattle.trace_threads.specs.History.{IsLegal, entries_by, written, is_closed}
-use Rattle.trace_threads.specs.Shared.{Shared, shared, reply_at}
-use Rattle.trace_threads.specs.Turns.{Turn, Slot, Mine, entries, view, AllBegin, Known, home_of, passed, after_turn, MayTurn}
+use Rattle.trace_threads.specs.History.{IsLegal, entries_by, written_entry, is_closed}
+use Rattle.trace_threads.specs.Shared.{Shared, shared_of, reply_at}
+use Rattle.trace_threads.specs.Turns.{Turn, Slot, Mine, entries, view, AllBegin, Known, home_of, view_after, after_turn, MayTurn}
 
 -- a seat that has no ticket, and was not joined into another
 abbrev pub IsFree : Mine → Type 0
@@ -38,7 +38,7 @@ IsAtRest m k =
 pub record Begun (m w : Mine) (ticket : ℕ) (had : Shared) : Type 0 where
   pub view : w.0 ≡ view m.0.origin w.0.seen [] m.0.number m.0.mine m.0.other m.0.theirs (Holds ticket)
   pub slot : w.1 ≡ (0, None) ∷ []
-  pub state : had ≡ shared m.0.origin (entries w.0.seen)
+  pub state : had ≡ shared_of m.0.origin (entries w.0.seen)
   pub begins : IsPrefix m.0.seen w.0.seen
   pub before : AllBegin m.0.origin m.0.earlier w.0.seen
   pub legal : IsLegal m.0.origin.made (entries w.0.seen)
@@ -48,18 +48,18 @@ pub record Begun (m w : Mine) (ticket : ℕ) (had : Shared) : Type 0 where
 
 -- What a turn with an entry leaves. What is seen afterwards begins with what was seen before and ends with this entry,
 -- which is the one more that the handle made, and the history has no others of it.
-pub record Made (v w : View) (k at : ℕ) (what : What) : Type 0 where
+pub record MakesEntry (v w : View) (k at : ℕ) (what : What) : Type 0 where
   pub between : List Turn
   pub ends : w.seen
-      ≡ (v.seen ++ between) ++ Some (written v.origin.made (entries (v.seen ++ between)) k at what) ∷ []
-  pub mine : w.mine ≡ v.mine ++ written v.origin.made (entries (v.seen ++ between)) k at what ∷ []
+      ≡ (v.seen ++ between) ++ Some (written_entry v.origin.made (entries (v.seen ++ between)) k at what) ∷ []
+  pub mine : w.mine ≡ v.mine ++ written_entry v.origin.made (entries (v.seen ++ between)) k at what ∷ []
   pub own : entries_by k (entries w.seen) ≡ w.mine
   pub legal : IsLegal v.origin.made (entries w.seen)
   pub same : w.origin ≡ v.origin
 
 -- the same of a call: its place in the history, and what the op answers there
 pub record Called (v w : View) (k at : ℕ) (op : Op) (place : ℕ) (reply : OpReply) : Type 0 where
-  pub made : Made v w k at (Call op)
+  pub made : MakesEntry v w k at (Call op)
   pub at_place : place ≡ length (entries (v.seen ++ made.between))
   pub replied : reply ≡ reply_at v.origin (entries (v.seen ++ made.between)) op
 
@@ -72,15 +72,15 @@ pub record LeftAsIs (v w : View) (k : ℕ) : Type 0 where
   pub same : w.origin ≡ v.origin
 
 -- what `finish` asks: the state with what this turn added, and some handle held
-abbrev pub Finishes : View → Shared → Type 0
-Finishes v state =
+abbrev pub FinishesState : View → Shared → Type 0
+FinishesState v state =
     (ticket : ℕ) × (turn : Turn) × (v.stage ≡ Holds ticket) × (state ≡ after_turn v turn)
     × (home_of v.origin (entries (v.seen ++ turn ∷ [])) ≡ Some (after_turn v turn))
     × MayTurn v (entries v.seen) turn
 
 -- and what it leaves
 abbrev pub PassedWith : View → Shared → Mine → Type 0
-PassedWith v state w = (turn : Turn) × (state ≡ after_turn v turn) × (w ≡ (passed v turn, []))
+PassedWith v state w = (turn : Turn) × (state ≡ after_turn v turn) × (w ≡ (view_after v turn, []))
 
 -- what the last turn asks: no handle is held
 abbrev pub Closes : View → ℕ → Slot → Type 0
@@ -90,7 +90,7 @@ Closes v ticket last =
 
 -- and what it leaves
 abbrev pub LastPassed : View → Slot → Mine → Type 0
-LastPassed v last w = (turn : Turn) × (last ≡ Some (after_turn v turn)) × (w ≡ (passed v turn, []))
+LastPassed v last w = (turn : Turn) × (last ≡ Some (after_turn v turn)) × (w ≡ (view_after v turn, []))
 
 -- a new handle has seen as much, and has no entries
 abbrev pub IsCloneOf : View → View → Type 0
@@ -99,4 +99,4 @@ IsCloneOf v w = (w.seen ≡ v.seen) × (w.mine ≡ []) × (w.origin ≡ v.origin
 -- the state comes back exactly if no handle is held after this history, and stands for all of it
 abbrev pub ClosesWith : Making → List Entry → Slot → Type 0
 ClosesWith making log None = is_closed making.made log ≡ false
-ClosesWith making log (Some state) = (state ≡ shared making log) × (is_closed making.made log ≡ true)
+ClosesWith making log (Some state) = (state ≡ shared_of making log) × (is_closed making.made log ≡ true)

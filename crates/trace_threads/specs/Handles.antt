@@ -9,19 +9,19 @@ use Rattle.trace_threads.specs.declared.history.What.{What}
 use Rattle.otel_state.specs.declared.op.Op.{Op}
 use Rattle.otel_state.specs.declared.op.OpReply.{OpReply}
 use Rattle.trace_threads.specs.declared.turns.View.{View}
-use Rattle.trace_threads.specs.History.{IsLegal, is_closed, opens}
+use Rattle.trace_threads.specs.History.{IsLegal, is_closed, opens_entry}
 use Rattle.trace_threads.specs.Shared.{content_of}
 use Rattle.trace_threads.specs.Turns.{Turn, Mine, IsSized, entries}
-use Rattle.trace_threads.specs.Calls.{IsIdle, IsBare, IsAtRest, Made, Called, LeftAsIs}
+use Rattle.trace_threads.specs.Calls.{IsIdle, IsBare, IsAtRest, MakesEntry, Called, LeftAsIs}
 
 -- a handle: of which span it is, its number, and what it knows
-pub record Held : Type 0 where
+pub record SharedHandle : Type 0 where
   pub span : TableId
   pub number : ℕ
   pub view : View
 
 -- what is left of a handle that was released
-pub record Seen : Type 0 where
+pub record ReleasedHandle : Type 0 where
   pub span : TableId
   pub view : View
 
@@ -30,7 +30,7 @@ pub record IsHandle (table seat : TableId) (me : Mine) (number entered : ℕ) : 
   pub sized : IsSized table
   pub of_table : seat ≡ table
   pub rests : IsAtRest me number
-  pub counts : entered ≡ opens me.0.mine
+  pub counts : entered ≡ opens_entry me.0.mine
   pub legal : IsLegal me.0.origin.made (entries me.0.seen)
 
 pub record IsPass (table seat : TableId) (me : Mine) : Type 0 where
@@ -40,24 +40,24 @@ pub record IsPass (table seat : TableId) (me : Mine) : Type 0 where
   pub bare : IsBare me
 
 -- how many entries of a handle are open
-abbrev pub open_of : Held → ℕ
-open_of h = opens h.view.mine
+abbrev pub open_of : SharedHandle → ℕ
+open_of h = opens_entry h.view.mine
 
 -- what a turn of a handle leaves: an entry more, a call's entry more, or none, after Memory or where the handle learns
-abbrev pub Enters : Held → Held → ℕ → What → Type 0
-Enters h g at what = Made h.view g.view h.number at what
+abbrev pub Enters : SharedHandle → SharedHandle → ℕ → What → Type 0
+Enters h g at what = MakesEntry h.view g.view h.number at what
 
-abbrev pub Calls : Held → Held → ℕ → Op → ℕ → OpReply → Type 0
+abbrev pub Calls : SharedHandle → SharedHandle → ℕ → Op → ℕ → OpReply → Type 0
 Calls h g at op place reply = Called h.view g.view h.number at op place reply
 
-abbrev pub Leaves : Held → Held → Type 0
-Leaves h g = LeftAsIs h.view g.view h.number
+abbrev pub LeavesHandle : SharedHandle → SharedHandle → Type 0
+LeavesHandle h g = LeftAsIs h.view g.view h.number
 
 -- the same was seen of the same span, and the same entries were made
 abbrev pub IsSameSight : View → View → Type 0
 IsSameSight v w = (w.seen ≡ v.seen) × (w.origin ≡ v.origin) × (w.mine ≡ v.mine)
 
-abbrev pub IsSameHandle : Held → Held → Type 0
+abbrev pub IsSameHandle : SharedHandle → SharedHandle → Type 0
 IsSameHandle h g = (g.span ≡ h.span) × (g.number ≡ h.number)
 
 -- the history and the record come back exactly if no handle is held after this history, and are those of it all

@@ -5,10 +5,10 @@ ghost use Rattle.otel_state.specs.declared.op.Op.TheVariants.{Exit};
 ghost use Rattle.otel_state.specs.declared.times.TheConstants.{GREATEST};
 ghost use Rattle.trace_threads.specs.declared.history.What.TheVariants.{Clone, Join, Release};
 ghost use Rattle.trace_threads.specs.Moves.{move_of, opens_after};
-ghost use Rattle.trace_threads.specs.History.{entries_by, opens};
+ghost use Rattle.trace_threads.specs.History.{entries_by, opens_entry};
 ghost use Rattle.trace_threads.specs.Turns.{entries, first_view};
-ghost use Rattle.trace_threads.specs.Calls.{Made, IsBare, IsCloneOf, IsIdle};
-ghost use Rattle.trace_threads.specs.Handles.{open_of, Enters, Calls, Leaves, IsSameHandle, IsSameSight, ClosedAs};
+ghost use Rattle.trace_threads.specs.Calls.{MakesEntry, IsBare, IsCloneOf, IsIdle};
+ghost use Rattle.trace_threads.specs.Handles.{open_of, Enters, Calls, LeavesHandle, IsSameHandle, IsSameSight, ClosedAs};
 
 use crate::cell::{call_once, clone_once, cut_off, join_once, release_once, see_all, take_in};
 use crate::history::History;
@@ -36,9 +36,9 @@ pub struct Handle {
 
 impl Model for Handle {
     ghost use Rattle.std.specs.Arc.{arc_value};
-    ghost use Rattle.trace_threads.specs.Handles.{Held, IsHandle};
+    ghost use Rattle.trace_threads.specs.Handles.{SharedHandle, IsHandle};
 
-    ghost Value = { Held };
+    ghost Value = { SharedHandle };
 
     ghost view = { λ h. record { span = h.seat.table_id; number = h.number; view = h.seat.me.0 } };
 
@@ -96,7 +96,7 @@ impl Handle {
     /// How many of its entries are open.
     pub fn entries(&self) -> u64
         ensures own { result ≡ open_of self.now }
-        ensures seen { result ≡ opens (entries_by self.now.number (entries self.now.view.seen)) }
+        ensures seen { result ≡ opens_entry (entries_by self.now.number (entries self.now.view.seen)) }
     {
         self.inside
     }
@@ -109,7 +109,7 @@ impl Handle {
         ensures same { IsSameHandle self.old self.new }
         ensures called { IfOk result (λ r. Calls self.old self.new at op r.place r.reply) }
         ensures entered { OnOk result (open_of self.new ≡ opens_after (open_of self.old) (move_of op)) }
-        ensures memory_leaves { OnErr result (Leaves self.old self.new) }
+        ensures memory_leaves { OnErr result (LeavesHandle self.old self.new) }
         ensures memory { OnErr result (op ≢ Exit) }
     {
         let Handle {
@@ -132,7 +132,7 @@ impl Handle {
         ensures given { IfOk result (λ h. (h.span ≡ self.old.span) × IsCloneOf self.new.view h.view) }
         ensures made { IfOk result (λ h. Enters self.old self.new at (Clone h.number)) }
         ensures entered { open_of self.new ≡ open_of self.old }
-        ensures memory_leaves { OnErr result (Leaves self.old self.new) }
+        ensures memory_leaves { OnErr result (LeavesHandle self.old self.new) }
     {
         let Handle {
             turns,
@@ -186,7 +186,7 @@ impl Handle {
     pub fn learn(&mut self, pass: &mut Pass)
         requires span { pass.old.span ≡ self.old.span }
         ensures same { IsSameHandle self.old self.new }
-        ensures sees { Leaves self.old self.new }
+        ensures sees { LeavesHandle self.old self.new }
         ensures theirs { IsPrefix pass.old.view.seen self.new.view.seen }
         ensures origin { pass.old.view.origin ≡ self.old.view.origin }
         ensures pass { (pass.new.span ≡ pass.old.span) × IsSameSight pass.old.view pass.new.view }
@@ -200,7 +200,7 @@ impl Handle {
     pub fn learn_from(&mut self, other: &mut Handle)
         requires span { other.old.span ≡ self.old.span }
         ensures same { IsSameHandle self.old self.new }
-        ensures sees { Leaves self.old self.new }
+        ensures sees { LeavesHandle self.old self.new }
         ensures theirs { IsPrefix other.old.view.seen self.new.view.seen }
         ensures origin { other.old.view.origin ≡ self.old.view.origin }
         ensures other { IsSameHandle other.old other.new × IsSameSight other.old.view other.new.view }
@@ -231,7 +231,7 @@ impl Handle {
         requires span { note.table_id ≡ self.old.span }
         requires note { IsIdle note.me × IsBare note.me }
         ensures same { IsSameHandle self.old self.new }
-        ensures sees { Leaves self.old self.new }
+        ensures sees { LeavesHandle self.old self.new }
         ensures theirs { IsPrefix note.me.0.seen self.new.view.seen }
         ensures origin { note.me.0.origin ≡ self.old.view.origin }
     {
@@ -251,7 +251,7 @@ impl Handle {
         requires moment { at ≤ GREATEST }
         requires entered { open_of self ≡ 0 }
         ensures span { result.pass.span ≡ self.span }
-        ensures made { Made self.view result.pass.view self.number at Release }
+        ensures made { MakesEntry self.view result.pass.view self.number at Release }
         ensures closed { ClosedAs self.view.origin (entries result.pass.view.seen) result.closed }
     {
         let Handle {

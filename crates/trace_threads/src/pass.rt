@@ -22,9 +22,9 @@ pub struct Pass {
 
 impl Model for Pass {
     ghost use Rattle.std.specs.Arc.{arc_value};
-    ghost use Rattle.trace_threads.specs.Handles.{Seen, IsPass};
+    ghost use Rattle.trace_threads.specs.Handles.{ReleasedHandle, IsPass};
 
-    ghost Value = { Seen };
+    ghost Value = { ReleasedHandle };
 
     ghost view = { λ p. record { span = p.seat.table_id; view = p.seat.me.0 } };
 

@@ -25,9 +25,9 @@ latest n [] = n
 latest n (a ∷ rest) = latest (nanoseconds_of a.value) rest
 
 -- what the last attribute named busy_ns is worth, 0 where there is none
-abbrev pub busy_told : Record → ℕ
-busy_told r = latest 0 (filter is_busy r.attributes)
+abbrev pub busy_attribute_of : Record → ℕ
+busy_attribute_of r = latest 0 (filter is_busy r.attributes)
 
 -- what trees need of a finished span
 abbrev pub tree_span : Record → TreeSpan
-tree_span r = record { trace = r.context.trace; span = r.context.span; parent = r.parent; name = r.name; busy = busy_told r }
+tree_span r = record { trace = r.context.trace; span = r.context.span; parent = r.parent; name = r.name; busy = busy_attribute_of r }

@@ -1,6 +1,6 @@
 //! Busy times, as attributes tell them.
 ghost use Rattle.std.specs.Prelude.{◌≡◌, cond};
-ghost use Rattle.trace_tree.specs.Busy.{busy_told, nanoseconds_of, is_busy};
+ghost use Rattle.trace_tree.specs.Busy.{busy_attribute_of, nanoseconds_of, is_busy};
 
 use otel_base::record::Record;
 use otel_base::value::{KeyValue, OtelValue};
@@ -30,7 +30,7 @@ fn busy_behind(pair: &KeyValue, before: u64) -> u64
 /// number that isn't negative, and else 0. `tracing_opentelemetry` writes that attribute where it tracks inactivity.
 #[tactic(auto, using(crate::proofs::Latest::latest_more))]
 pub fn busy(finished: &Record) -> u64
-    ensures { result ≡ busy_told finished.now }
+    ensures { result ≡ busy_attribute_of finished.now }
 {
     let mut busy = 0;
     let attributes = finished.attributes.as_slice();

@@ -10,7 +10,7 @@ use Rattle.trace_base.specs.Gate.{Worlds, AreSame, dispatch_on}
 use Rattle.span_registry.specs.Registering.{no_spans}
 use Rattle.span_handles.specs.Worlds.{spans_in, kept_in}
 use Rattle.traced.specs.Laws.{IsLawful}
-use Rattle.traced.specs.Standing.{AreAtMost, AreServed, AreAssigned, Stands}
+use Rattle.traced.specs.Standing.{AreAtMost, AreServed, AreAssigned, StandsReady}
 use Rattle.traced.proofs.Moves.{get_there}
 
 -- the last one of a list
@@ -27,7 +27,7 @@ all_served global kept dispatch (lane ∷ lanes) none on = (
 )
 
 pub begins : {S : Type 0} (sub : Ghosts S) (law : IsLawful sub) (first : S) → sub.is_whole first → sub.spans first ≡ no_spans → ((lane number : ℕ) → sub.kept first lane number ≡ 0) → (before : List S) (world : Worlds S) → AreSame sub.same (before ++ first ∷ []) world.subscribers
-    → (sites : ℕ) → sites ≤ length world.sites → (dispatch : ℕ) → dispatch ≡ length before → (lanes : List Lane) → AreAssigned world.global dispatch lanes → Stands sub 0 dispatch sites world lanes
+    → (sites : ℕ) → sites ≤ length world.sites → (dispatch : ℕ) → dispatch ≡ length before → (lanes : List Lane) → AreAssigned world.global dispatch lanes → StandsReady sub 0 dispatch sites world lanes
 begins {S} sub law first whole none nothing before world are sites declared dispatch is lanes on =
     let count = are.count in
     let within : dispatch < length world.subscribers = omega (arith, count, is, length-append before (first ∷ [])) in
@@ -45,7 +45,7 @@ begins {S} sub law first whole none nothing before world are sites declared disp
     }
 
 pub begins_if : {S E : Type 0} (sub : Ghosts S) (law : IsLawful sub) (first : S) → sub.is_whole first → sub.spans first ≡ no_spans → ((lane number : ℕ) → sub.kept first lane number ≡ 0) → (before world : Worlds S) (result : Result ℕ E) → OnOk result (AreSame sub.same (before.subscribers ++ first ∷ []) world.subscribers)
-    → IfOk result (λ dispatch. dispatch ≡ length before.subscribers) → world.sites ≡ before.sites → IfOk result (λ dispatch. (sites : ℕ) (lanes : List Lane) → sites ≤ length before.sites → AreAssigned world.global dispatch lanes → Stands sub 0 dispatch sites world lanes)
+    → IfOk result (λ dispatch. dispatch ≡ length before.subscribers) → world.sites ≡ before.sites → IfOk result (λ dispatch. (sites : ℕ) (lanes : List Lane) → sites ≤ length before.sites → AreAssigned world.global dispatch lanes → StandsReady sub 0 dispatch sites world lanes)
 begins_if sub law first whole none nothing before world (Ok dispatch) are is same = λ sites lanes within on. begins sub law first whole none nothing before.subscribers world are sites (let e = ap (λ (cs : List Callsite). length cs) same in omega (arith, e, within)) dispatch is lanes on
 begins_if sub law first whole none nothing before world (Err refused) are is same = tt
 
@@ -56,7 +56,7 @@ one_more sub first before world (Err refused) are = tt
 
 -- the first stack of a world serves two lanes with ids of their own
 pub first_two : {S : Type 0} {sub : Ghosts S} {world : Worlds S} {dispatch : ℕ} {front back : Lane} (old : Worlds S) (sites : ℕ) → dispatch ≡ 0 → sites ≤ length old.sites → front.default ≡ Some dispatch → back.default ≡ Some dispatch → (back.id ≡ front.id → ⊥)
-    → ((sites : ℕ) (lanes : List Lane) → sites ≤ length old.sites → AreAssigned world.global dispatch lanes → Stands sub 0 dispatch sites world lanes) → Stands sub 0 0 sites world (front ∷ back ∷ [])
+    → ((sites : ℕ) (lanes : List Lane) → sites ≤ length old.sites → AreAssigned world.global dispatch lanes → StandsReady sub 0 dispatch sites world lanes) → StandsReady sub 0 0 sites world (front ∷ back ∷ [])
 first_two {S} {sub} {world} {dispatch} {front} {back} old sites first within one other apart begins =
     let serves : (lane : Lane) → lane.default ≡ Some dispatch → dispatch_on lane.default world.global ≡ Some dispatch = λ lane own. ap (λ (o : Option ℕ). dispatch_on o world.global) own in
-    subst (λ (d : ℕ). Stands sub 0 d sites world (front ∷ back ∷ [])) first (begins sites (front ∷ back ∷ []) within (serves front one, (apart, tt), (serves back other, tt, tt)))
+    subst (λ (d : ℕ). StandsReady sub 0 d sites world (front ∷ back ∷ [])) first (begins sites (front ∷ back ∷ []) within (serves front one, (apart, tt), (serves back other, tt, tt)))

@@ -10,7 +10,7 @@ use Rattle.trace_base.specs.Gate.{Worlds}
 use Rattle.trace_base.specs.Calls.{Enter, Exit}
 use Rattle.span_handles.specs.Worlds.{Chain}
 use Rattle.span_handles.specs.Handles.{Handle, ReplacedOn}
-use Rattle.traced.specs.Gating.{Answers, TellsOne, TellsIfAnswered}
+use Rattle.traced.specs.Gating.{AnswersGate, TellsOne, TellsIfAnswered}
 use Rattle.traced.specs.Making.{MakesIfAnswered}
 use Rattle.traced.specs.Between.{MakesAndCloses, EntersAndExits}
 
@@ -39,7 +39,7 @@ module _ {S : Type 0} (sub : Ghosts S) where
   }
 
   -- an event that is told, if the gate lets its callsite through
-  pub tells_if_answered : (lane : Lane) (at site : ℕ) (values : ValueSet) (old new : Worlds S) (result : Result (Unit {0}) Memory) → result ≡ Ok tt → (Answers sub old lane site true → OnOk result (TellsOne sub old new lane at parent.Current site values)) → (Answers sub old lane site false → IsOk result × (new ≡ old)) → TellsIfAnswered sub old new lane at parent.Current site values
+  pub tells_if_answered : (lane : Lane) (at site : ℕ) (values : ValueSet) (old new : Worlds S) (result : Result (Unit {0}) Memory) → result ≡ Ok tt → (AnswersGate sub old lane site true → OnOk result (TellsOne sub old new lane at parent.Current site values)) → (AnswersGate sub old lane site false → IsOk result × (new ≡ old)) → TellsIfAnswered sub old new lane at parent.Current site values
   tells_if_answered lane at site values old new result is told refused = record {
     told = λ yes. subst (λ (r : Result (Unit {0}) Memory). OnOk r (TellsOne sub old new lane at parent.Current site values)) is (told yes);
     refused = λ no. (refused no).1;

@@ -3,11 +3,11 @@ use Rattle.std.proofs.Common.{◌≡◌, ℕ, ◌+◌, ◌≤◌, List, [], ◌�
 use Rattle.std.specs.Prelude.{◌==◌}
 use Rattle.std.proofs.lemmas.Bool.{cases_eq, cases_lt, cases_order, cases_Bool, cond-true, cond-false}
 use Rattle.std.proofs.lemmas.List.{length-set, length_push, get_or_past, get_or_push, get_or_append_left}
-use Rattle.trace_base.specs.Spans.{Span, Spans, no_span, span_at, entries_on, is_in, times_in, next_of, held, released, less_held, held_by_child}
-use Rattle.trace_base.specs.Calls.{TryClose, after, with_span, entered, exited}
+use Rattle.trace_base.specs.Spans.{Span, Spans, no_span, span_at, entries_on, is_in, times_in, next_of, with_hold, without_hold, less_hold, held_by_child}
+use Rattle.trace_base.specs.Calls.{TryClose, spans_after_call, with_new_span, with_span_entry, with_span_exit}
 use Rattle.trace_base.proofs.Entering.{length_held}
 use Rattle.trace_base.proofs.Holding.{holds_set, holds_other, less_holds}
-use Rattle.span_handles.specs.Worlds.{Released, all_released, releases}
+use Rattle.span_handles.specs.Worlds.{ReleasesChain, all_released, releases}
 use Rattle.traced.specs.Standing.{AreAtMost}
 
 pub more : (n m : ℕ) (x : Spans) → n ≤ m → AreAtMost n x → AreAtMost m x
@@ -26,7 +26,7 @@ written n made id now most few q = elim (cases_eq q id) [
   | inr other ↦ (let e = holds_other made id now q other in let h = few q in omega (arith, e, h))
 ]
 
-with_held : (n : ℕ) (x : Spans) (id : ℕ) → AreAtMost n x → AreAtMost (n + 1) (record x { made = held x.made id })
+with_held : (n : ℕ) (x : Spans) (id : ℕ) → AreAtMost n x → AreAtMost (n + 1) (record x { made = with_hold x.made id })
 with_held n x id few =
     let now : Span = record (span_at x.made id) { holds = (span_at x.made id).holds + 1 } in
     record {
@@ -34,9 +34,9 @@ with_held n x id few =
       holds = written (n + 1) x.made id now (let h = few.holds id in omega (arith, h)) (λ q. (let h = few.holds q in omega (arith, h)));
     }
 
-pub with_released : (n : ℕ) (x : Spans) (id : ℕ) → AreAtMost n x → AreAtMost n (record x { made = released x.made id })
+pub with_released : (n : ℕ) (x : Spans) (id : ℕ) → AreAtMost n x → AreAtMost n (record x { made = without_hold x.made id })
 with_released n x id few =
-    let now : Span = less_held (span_at x.made id) in
+    let now : Span = less_hold (span_at x.made id) in
     record {
       spans = (let e = length-set x.made id now in omega (arith, e, few.spans));
       holds = written n x.made id now (let e = less_holds (span_at x.made id) in let h = few.holds id in omega (arith, e, h)) few.holds;
@@ -46,7 +46,7 @@ with_child : (n : ℕ) (x : Spans) (above : Option ℕ) → AreAtMost n x → Ar
 with_child n x None few = more n (n + 1) x (omega arith) few
 with_child n x (Some p) few = with_held n x p few
 
-pub with_new : (n : ℕ) (x : Spans) (above : Option ℕ) (site : ℕ) → AreAtMost n x → AreAtMost (n + 1) (with_span x above site)
+pub with_new : (n : ℕ) (x : Spans) (above : Option ℕ) (site : ℕ) → AreAtMost n x → AreAtMost (n + 1) (with_new_span x above site)
 with_new n x above site few =
     let new : Span = record { holds = 1; parent = above; site = site } in
     let made = held_by_child x.made above in
@@ -61,25 +61,25 @@ with_new n x above site few =
       ];
     }
 
-pub with_entry : (n : ℕ) (x : Spans) (id lane : ℕ) → AreAtMost n x → AreAtMost (n + 1) (entered x id lane)
+pub with_entry : (n : ℕ) (x : Spans) (id lane : ℕ) → AreAtMost n x → AreAtMost (n + 1) (with_span_entry x id lane)
 with_entry n x id lane few =
     let ids = entries_on lane x.lanes in
-    let at_most : List Span → Type 0 = λ made. AreAtMost (n + 1) (record (entered x id lane) { made = made }) in
+    let at_most : List Span → Type 0 = λ made. AreAtMost (n + 1) (record (with_span_entry x id lane) { made = made }) in
     elim (cases_Bool (is_in id ids)) [
-      | inl again ↦ (let f = more n (n + 1) x (omega arith) few in subst at_most (sym (cond-true {A = List Span} (is_in id ids) x.made (held x.made id) again)) (record { spans = f.spans; holds = f.holds }))
-      | inr new ↦ (let f = with_held n x id few in subst at_most (sym (cond-false {A = List Span} (is_in id ids) x.made (held x.made id) new)) (record { spans = f.spans; holds = f.holds }))
+      | inl again ↦ (let f = more n (n + 1) x (omega arith) few in subst at_most (sym (cond-true {A = List Span} (is_in id ids) x.made (with_hold x.made id) again)) (record { spans = f.spans; holds = f.holds }))
+      | inr new ↦ (let f = with_held n x id few in subst at_most (sym (cond-false {A = List Span} (is_in id ids) x.made (with_hold x.made id) new)) (record { spans = f.spans; holds = f.holds }))
     ]
 
-pub with_exit : (n : ℕ) (x : Spans) (id lane : ℕ) → AreAtMost n x → AreAtMost n (exited x id lane)
+pub with_exit : (n : ℕ) (x : Spans) (id lane : ℕ) → AreAtMost n x → AreAtMost n (with_span_exit x id lane)
 with_exit n x id lane few =
     let last = times_in id (entries_on lane x.lanes) == 1 in
-    let at_most : List Span → Type 0 = λ made. AreAtMost n (record (exited x id lane) { made = made }) in
+    let at_most : List Span → Type 0 = λ made. AreAtMost n (record (with_span_exit x id lane) { made = made }) in
     elim (cases_Bool last) [
-      | inl one ↦ (let f = with_released n x id few in subst at_most (sym (cond-true {A = List Span} last (released x.made id) x.made one)) (record { spans = f.spans; holds = f.holds }))
-      | inr many ↦ subst at_most (sym (cond-false {A = List Span} last (released x.made id) x.made many)) (record { spans = few.spans; holds = few.holds })
+      | inl one ↦ (let f = with_released n x id few in subst at_most (sym (cond-true {A = List Span} last (without_hold x.made id) x.made one)) (record { spans = f.spans; holds = f.holds }))
+      | inr many ↦ subst at_most (sym (cond-false {A = List Span} last (without_hold x.made id) x.made many)) (record { spans = few.spans; holds = few.holds })
     ]
 
 -- a chain of closes leaves entries
-pub with_closes : (n : ℕ) (next : Option ℕ) (x y : Spans) → Released next x y → AreAtMost n x → AreAtMost n y × (y.lanes ≡ x.lanes)
+pub with_closes : (n : ℕ) (next : Option ℕ) (x y : Spans) → ReleasesChain next x y → AreAtMost n x → AreAtMost n y × (y.lanes ≡ x.lanes)
 with_closes n _ _ _ (all_released x) few = (few, refl)
-with_closes n _ _ _ (releases id at x y own rest) few = with_closes n (next_of x.made id) (after x (TryClose id at)) y rest (with_released n x id few)
+with_closes n _ _ _ (releases id at x y own rest) few = with_closes n (next_of x.made id) (spans_after_call x (TryClose id at)) y rest (with_released n x id few)

@@ -10,7 +10,7 @@ use Rattle.trace_base.specs.Gate.{Worlds}
 use Rattle.span_handles.specs.Worlds.{Has, Replaced, Alike, no_spans, spans_in, kept_in}
 use Rattle.span_handles.specs.Handles.{Held, ReplacedOn}
 use Rattle.span_handles.proofs.Showing.{as_many}
-use Rattle.traced.specs.Standing.{AreAtMost, IsApart, AreServed, Stands}
+use Rattle.traced.specs.Standing.{AreAtMost, HasOwnId, AreServed, StandsReady}
 
 get_other : {X : Type 0} (xs : List X) (n m : ℕ) (y : X) → (m ≡ n → ⊥) → slice_get (slice_set xs n y) m ≡ slice_get xs m
 get_other [] n m y apart = refl
@@ -55,7 +55,7 @@ still_served global kept now dispatch (lane ∷ lanes) keeps served = (
 )
 
 -- what one lane's entries attach is nothing of the others
-pub others_served : (global : Option ℕ) (kept now : ℕ → ℕ → ℕ) (dispatch : ℕ) (before left : Lane) (others : List Lane) → left.id ≡ before.id → KeepsAttached kept before left now → IsApart before others → AreServed global kept dispatch others → AreServed global now dispatch others
+pub others_served : (global : Option ℕ) (kept now : ℕ → ℕ → ℕ) (dispatch : ℕ) (before left : Lane) (others : List Lane) → left.id ≡ before.id → KeepsAttached kept before left now → HasOwnId before others → AreServed global kept dispatch others → AreServed global now dispatch others
 others_served global kept now dispatch before left [] same keeps apart served = tt
 others_served global kept now dispatch before left (other ∷ others) same keeps apart served = (
   record {
@@ -71,7 +71,7 @@ others_served global kept now dispatch before left (other ∷ others) same keeps
   others_served global kept now dispatch before left others same keeps apart.1 served.2,
 )
 
-pub still_apart : (before left : Lane) (others : List Lane) → left.id ≡ before.id → IsApart before others → IsApart left others
+pub still_apart : (before left : Lane) (others : List Lane) → left.id ≡ before.id → HasOwnId before others → HasOwnId left others
 still_apart before left [] same apart = tt
 still_apart before left (other ∷ others) same apart = ((λ e. apart.0 (e ∙ same)), still_apart before left others same apart.1)
 
@@ -87,7 +87,7 @@ attached_on_lane kept now before left same keeps still number =
 
 -- the world is another one, and the subscriber serves the same lanes
 pub stands_after : {S : Type 0} (sub : Ghosts S) (n m dispatch sites : ℕ) (old new : Worlds S) (lanes : List Lane) → length new.subscribers ≡ length old.subscribers → new.sites ≡ old.sites → new.global ≡ old.global → (Has sub.is_whole old dispatch → Has sub.is_whole new dispatch)
-    → (AreAtMost n (spans_in sub.spans old dispatch) → AreAtMost m (spans_in sub.spans new dispatch)) → kept_in sub.kept new dispatch ≡ kept_in sub.kept old dispatch → Stands sub n dispatch sites old lanes → Stands sub m dispatch sites new lanes
+    → (AreAtMost n (spans_in sub.spans old dispatch) → AreAtMost m (spans_in sub.spans new dispatch)) → kept_in sub.kept new dispatch ≡ kept_in sub.kept old dispatch → StandsReady sub n dispatch sites old lanes → StandsReady sub m dispatch sites new lanes
 stands_after {S} sub n m dispatch sites old new lanes count same global whole few kept stands = record {
   there = omega (arith, count, stands.there);
   whole = whole stands.whole;

@@ -14,7 +14,7 @@ use Rattle.span_handles.specs.Handles.{Handle, no_handle, IsKnown, MakesIf, MayM
 use Rattle.span_handles.specs.Knowing.{KeepsHandles}
 use Rattle.traced.specs.Laws.{IsLawful}
 use Rattle.traced.specs.Standing.{CanMake, CanTell}
-use Rattle.traced.specs.Gating.{Answers, MakesOne, TellsIf, TellsOne}
+use Rattle.traced.specs.Gating.{AnswersGate, MakesOne, TellsEventIf, TellsOne}
 use Rattle.traced.specs.Making.{MakesIfAnswered}
 use Rattle.traced.proofs.Restored.{unchanged}
 use Rattle.traced.proofs.Moves.{get_there, later, made, made_one, made_global, made_count, made_can_close, none_made}
@@ -32,7 +32,7 @@ own_if sub world lane place None may = tt
 own_if sub world lane place (Some d) may = may.there
 
 module _ {S : Type 0} (sub : Ghosts S) (old new : Worlds S) (lane : Lane) (at : ℕ) (place : Parent) (site : ℕ) (values : ValueSet) where
-  not_both : (answer : Bool) → CanMake sub old lane place site → Answers sub old lane site answer → (other : Bool) → Answers sub old lane site other → answer ≡ other
+  not_both : (answer : Bool) → CanMake sub old lane place site → AnswersGate sub old lane site answer → (other : Bool) → AnswersGate sub old lane site other → answer ≡ other
   not_both answer can first other second =
       let o = dispatch_on lane.default old.global in
       one_answer sub.hint sub.enables old lane.id site o answer other (own_if sub old lane.id place o can.may) can.site_there first second
@@ -43,7 +43,7 @@ module _ {S : Type 0} (sub : Ghosts S) (old new : Worlds S) (lane : Lane) (at : 
   makes_at (Some d) (Err memory) serves answer did = tt
 
   -- it lets the callsite through, and a span is made
-  pub makes : (law : IsLawful sub) (result : Result Handle Memory) → CanMake sub old lane place site → Answers sub old lane site true → IfOk result (MakesIf sub.spans sub.does old new lane at place site values (dispatch_on lane.default old.global))
+  pub makes : (law : IsLawful sub) (result : Result Handle Memory) → CanMake sub old lane place site → AnswersGate sub old lane site true → IfOk result (MakesIf sub.spans sub.does old new lane at place site values (dispatch_on lane.default old.global))
       → IfOk result (λ handle. IsKnown sub.spans new handle.held) → KeepsHandles sub.spans old new → OnErr result (ReplacedIf sub.same old new (dispatch_on lane.default old.global)) → MakesIfAnswered sub old new lane at place site values result
   makes law result can answer did known keeps left =
       let o = dispatch_on lane.default old.global in
@@ -59,7 +59,7 @@ module _ {S : Type 0} (sub : Ghosts S) (old new : Worlds S) (lane : Lane) (at : 
       }
 
   -- it doesn't, and nothing happens
-  pub makes_none : CanMake sub old lane place site → Answers sub old lane site false → MakesIfAnswered sub old old lane at place site values (Ok no_handle)
+  pub makes_none : CanMake sub old lane place site → AnswersGate sub old lane site false → MakesIfAnswered sub old old lane at place site values (Ok no_handle)
   makes_none can answer = record {
     made = λ through. absurd (true≢false (sym (not_both false can answer true through)));
     refused = λ back. (refl, refl);
@@ -78,14 +78,14 @@ module _ {S : Type 0} (sub : Ghosts S) (old new : Worlds S) (lane : Lane) (at : 
 
 -- an event that the lane's subscriber is told
 module _ {S : Type 0} (sub : Ghosts S) (old new : Worlds S) (lane : Lane) (at : ℕ) (place : Parent) (site : ℕ) (values : ValueSet) where
-  told_at : (o : Option ℕ) (result : Result (Unit {0}) Memory) → dispatch_on lane.default old.global ≡ o → Admits sub.hint sub.enables old lane.id site o true → OnOk result (TellsIf sub old new lane at place site values o) → OnOk result (TellsOne sub old new lane at place site values)
+  told_at : (o : Option ℕ) (result : Result (Unit {0}) Memory) → dispatch_on lane.default old.global ≡ o → Admits sub.hint sub.enables old lane.id site o true → OnOk result (TellsEventIf sub old new lane at place site values o) → OnOk result (TellsOne sub old new lane at place site values)
   told_at None result serves answer did = absurd (true≢false answer)
   told_at (Some d) (Ok done) serves answer did = record { dispatch = d; serves = serves; told = did }
   told_at (Some d) (Err memory) serves answer did = tt
 
-  pub tells_one : (result : Result (Unit {0}) Memory) → Answers sub old lane site true → OnOk result (TellsIf sub old new lane at place site values (dispatch_on lane.default old.global)) → OnOk result (TellsOne sub old new lane at place site values)
+  pub tells_one : (result : Result (Unit {0}) Memory) → AnswersGate sub old lane site true → OnOk result (TellsEventIf sub old new lane at place site values (dispatch_on lane.default old.global)) → OnOk result (TellsOne sub old new lane at place site values)
   tells_one result answer did = told_at (dispatch_on lane.default old.global) result refl answer did
 
 -- the gate doesn't both let it through and hold it back
-pub apart : {S : Type 0} (sub : Ghosts S) (world : Worlds S) (lane : Lane) (site : ℕ) → CanTell sub world lane site → Answers sub world lane site true → Answers sub world lane site false → ⊥
+pub apart : {S : Type 0} (sub : Ghosts S) (world : Worlds S) (lane : Lane) (site : ℕ) → CanTell sub world lane site → AnswersGate sub world lane site true → AnswersGate sub world lane site false → ⊥
 apart sub world lane site can through back = true≢false (one_answer sub.hint sub.enables world lane.id site (dispatch_on lane.default world.global) true false can.there can.site_there through back)

@@ -6,7 +6,7 @@ use Rattle.trace_base.specs.declared.subscriber.Subscriber.{Ghosts}
 use Rattle.trace_base.specs.lanes.Contexts.{AreAttached}
 use Rattle.trace_base.specs.Gate.{Worlds}
 use Rattle.trace_base.specs.Spans.{entries_on, times_in}
-use Rattle.span_handles.specs.Worlds.{Has, seen, no_spans}
+use Rattle.span_handles.specs.Worlds.{Has, member_of, no_spans}
 use Rattle.span_handles.specs.Handles.{Held}
 use Rattle.span_handles.specs.Entries.{Keeps}
 use Rattle.traced.specs.Staying.{Stays}
@@ -18,7 +18,7 @@ within_if_there (y ∷ xs) zero x there = omega arith
 within_if_there (y ∷ xs) (suc n) x there = (let w = within_if_there xs n x there in omega (arith, w))
 
 -- what holds of what is read holds of it still
-pub has_same : {S A : Type 0} (read : S → A) (none : A) (Q : A → Type 0) (old new : Worlds S) (d : ℕ) → length new.subscribers ≡ length old.subscribers → seen read none new d ≡ seen read none old d → Has (λ s. Q (read s)) old d → Has (λ s. Q (read s)) new d
+pub has_same : {S A : Type 0} (read : S → A) (none : A) (Q : A → Type 0) (old new : Worlds S) (d : ℕ) → length new.subscribers ≡ length old.subscribers → member_of read none new d ≡ member_of read none old d → Has (λ s. Q (read s)) old d → Has (λ s. Q (read s)) new d
 has_same {S} read none Q old new d count same has = λ s here. (
     let w = within_if_there new.subscribers d s here in
     let g = get_there old.subscribers d (omega (arith, w, count)) in

@@ -13,21 +13,21 @@ use Rattle.trace_base.specs.declared.span.Parent.{Parent}
 use Rattle.trace_base.specs.declared.subscriber.Subscriber.{Ghosts}
 use Rattle.trace_base.specs.Gate.{Worlds, dispatch_on}
 use Rattle.trace_base.specs.Spans.{Span, Spans, no_span, span_at, entries_on, place_on}
-use Rattle.trace_base.specs.Calls.{SubscriberCall, NewSpan, Event, Enter, Exit, after}
+use Rattle.trace_base.specs.Calls.{SubscriberCall, NewSpan, Event, Enter, Exit, spans_after_call}
 use Rattle.trace_base.specs.Conditions.{IsLive, IsLivePlace}
 use Rattle.trace_base.specs.lanes.Contexts.{KeepsAttached}
 use Rattle.trace_base.specs.Sound.{IsSound}
 use Rattle.trace_base.proofs.Sound.{place_live}
 use Rattle.span_handles.specs.Worlds.{Replaced, Shown, Alike, Chain, ChainShown, spans_in, kept_in, no_spans}
 use Rattle.span_handles.specs.Handles.{Held, Handle, IsKnown, IsOf, HasOn, Makes, MakesIf, MayMakeIf, ReplacedIf, ReplacedOn}
-use Rattle.span_handles.specs.Entries.{Opened, LeavesLane}
+use Rattle.span_handles.specs.Entries.{EntryGuard, LeavesLane}
 use Rattle.span_handles.specs.Knowing.{KeepsKnown, KeepsHandles, KeepsOthers}
 use Rattle.span_handles.proofs.Knowing.{handles_same}
 use Rattle.span_handles.proofs.Showing.{as_many, shown, alike, chain_shown}
 use Rattle.traced.specs.Laws.{IsLawful}
-use Rattle.traced.specs.Standing.{AreAtMost, AreServed, Stands, IsHeld, CanClose}
-use Rattle.traced.specs.AsBefore.{IsAsBefore, IsOfNewest, IsNew, HasMade, IsLiveOn, IsEntered, HasEntered}
-use Rattle.traced.specs.Gating.{TellsIf}
+use Rattle.traced.specs.Standing.{AreAtMost, AreServed, StandsReady, IsHeld, CanClose}
+use Rattle.traced.specs.AsBefore.{IsAsBefore, IsOfNewest, HadNoHandle, HasMade, IsLiveOn, IsEntered, HasEntered}
+use Rattle.traced.specs.Gating.{TellsEventIf}
 use Rattle.traced.specs.Moving.{Enters, Refuses}
 use Rattle.traced.specs.Staying.{Stays}
 use Rattle.traced.proofs.Counts.{more, with_new, with_entry, with_exit, with_closes}
@@ -44,7 +44,7 @@ get_there (x ∷ xs) (suc n) within = get_there xs n (omega (arith, within))
 pub read_there : {S : Type 0} (sub : Ghosts S) (world : Worlds S) (dispatch : ℕ) (s : S) → slice_get world.subscribers dispatch ≡ Some s → spans_in sub.spans world dispatch ≡ sub.spans s
 read_there {S} sub world dispatch s there = ap (λ (o : Option S). option_map_or sub.spans o no_spans) there
 
-pub later : {S : Type 0} (sub : Ghosts S) (n m dispatch sites : ℕ) (world : Worlds S) (lanes : List Lane) → n ≤ m → Stands sub n dispatch sites world lanes → Stands sub m dispatch sites world lanes
+pub later : {S : Type 0} (sub : Ghosts S) (n m dispatch sites : ℕ) (world : Worlds S) (lanes : List Lane) → n ≤ m → StandsReady sub n dispatch sites world lanes → StandsReady sub m dispatch sites world lanes
 later sub n m dispatch sites world lanes within stands = record {
   there = stands.there;
   whole = stands.whole;
@@ -74,7 +74,7 @@ stays_step {S} sub R a b c e old new dispatch r = record {
   known = handles_same sub.spans R a old new dispatch r;
 }
 
-pub stays_stands : {S : Type 0} (sub : Ghosts S) (n dispatch sites : ℕ) (old new : Worlds S) (lanes : List Lane) → Stays sub old new → Stands sub n dispatch sites old lanes → Stands sub n dispatch sites new lanes
+pub stays_stands : {S : Type 0} (sub : Ghosts S) (n dispatch sites : ℕ) (old new : Worlds S) (lanes : List Lane) → Stays sub old new → StandsReady sub n dispatch sites old lanes → StandsReady sub n dispatch sites new lanes
 stays_stands sub n dispatch sites old new lanes stays stands =
     let a = stays.alike dispatch in
     stands_after sub n n dispatch sites old new lanes a.count stays.sites stays.global a.whole (λ few. subst (AreAtMost n) (sym a.spans_same) few) a.kept_same stands
@@ -112,13 +112,13 @@ module _ {S : Type 0} (sub : Ghosts S) (law : IsLawful sub) where
       let call : SubscriberCall = Event lane at place site callsite values in
       stays_step sub (λ s t. sub.does s call t) (λ s t e. law.shows s call t e) (λ s t e. law.keeps_attaches s call t e) (λ s t e. law.lanes s call t e) (λ s t e. law.keeps_whole s call t e) old new dispatch r
 
-  pub told_if : (old new : Worlds S) (lane : Lane) (at : ℕ) (place : Parent) (site : ℕ) (values : ValueSet) (o : Option ℕ) (result : Result (Unit {0}) Memory) → OnOk result (TellsIf sub old new lane at place site values o) → OnErr result (ReplacedIf sub.same old new o) → Stays sub old new
+  pub told_if : (old new : Worlds S) (lane : Lane) (at : ℕ) (place : Parent) (site : ℕ) (values : ValueSet) (o : Option ℕ) (result : Result (Unit {0}) Memory) → OnOk result (TellsEventIf sub old new lane at place site values o) → OnErr result (ReplacedIf sub.same old new o) → Stays sub old new
   told_if old new lane at place site values None (Ok done) did left = stays_same sub old new did
   told_if old new lane at place site values (Some d) (Ok done) did left = told old new d lane at place site did.callsite values did.did
   told_if old new lane at place site values o (Err memory) did left = room_stays_if old new o left
 
   -- the same lanes are served by a subscriber that a call leaves as it is
-  stands_beside : (n m dispatch sites : ℕ) (R : S → S → Type 0) (old new : Worlds S) (e : ℕ) (lanes : List Lane) → n ≤ m → Replaced R old new e → (dispatch ≡ e → ⊥) → Stands sub n dispatch sites old lanes → Stands sub m dispatch sites new lanes
+  stands_beside : (n m dispatch sites : ℕ) (R : S → S → Type 0) (old new : Worlds S) (e : ℕ) (lanes : List Lane) → n ≤ m → Replaced R old new e → (dispatch ≡ e → ⊥) → StandsReady sub n dispatch sites old lanes → StandsReady sub m dispatch sites new lanes
   stands_beside n m dispatch sites R old new e lanes within r other stands =
       let a = alike_there sub old new dispatch (beside R old new e r dispatch other) (as_many R old new e r) in
       stands_after sub n m dispatch sites old new lanes a.count (same_sites R old new e r) (same_global R old new e r) a.whole
@@ -126,9 +126,9 @@ module _ {S : Type 0} (sub : Ghosts S) (law : IsLawful sub) where
 
   -- a span
   pub made : (n dispatch sites : ℕ) (old new : Worlds S) (lanes : List Lane) (lane : Lane) (at : ℕ) (place : Parent) (site : ℕ) (values : ValueSet) (o : Option ℕ) (result : Result Handle Memory)
-      → IfOk result (MakesIf sub.spans sub.does old new lane at place site values o) → OnErr result (ReplacedIf sub.same old new o) → Stands sub n dispatch sites old lanes → Stands sub (n + 1) dispatch sites new lanes
+      → IfOk result (MakesIf sub.spans sub.does old new lane at place site values o) → OnErr result (ReplacedIf sub.same old new o) → StandsReady sub n dispatch sites old lanes → StandsReady sub (n + 1) dispatch sites new lanes
   made n dispatch sites old new lanes lane at place site values None (Ok handle) did left stands =
-      later sub n (n + 1) dispatch sites new lanes (omega arith) (subst (λ (w : Worlds S). Stands sub n dispatch sites w lanes) (sym did.1) stands)
+      later sub n (n + 1) dispatch sites new lanes (omega arith) (subst (λ (w : Worlds S). StandsReady sub n dispatch sites w lanes) (sym did.1) stands)
   made n dispatch sites old new lanes lane at place site values (Some e) (Ok handle) did left stands =
       let call : SubscriberCall = NewSpan lane at place site did.callsite values in
       let r : Replaced (λ s t. sub.does s call t) old new e = record { before = did.made.before; later = did.made.later; there = did.made.there; did = did.made.did.1; others = did.made.others } in
@@ -159,7 +159,7 @@ module _ {S : Type 0} (sub : Ghosts S) (law : IsLawful sub) where
       record {
         known = keeps.known;
         held = record { known = known; own = subst (λ (h : Held). IsOf h dispatch) (sym of_it) refl };
-        is_new = subst (λ (h : Held). IsNew sub old h) (sym of_it) (λ old_known. (
+        is_new = subst (λ (h : Held). HadNoHandle sub old h) (sym of_it) (λ old_known. (
             let holds = old_known.1 r.before r.there in
             let past = ap (λ (s : Span). s.holds) (get_or_past (sub.spans r.before).made makes.id no_span (let e = makes.made.did.0 in omega (arith, e))) in
             omega (arith, holds, past)));
@@ -207,8 +207,8 @@ module _ {S : Type 0} (sub : Ghosts S) (law : IsLawful sub) where
   none_made old new o (Err memory) left = λ dispatch. stays_as_before sub dispatch old new (room_stays_if old new o left)
 
   -- a close
-  pub closed : (n dispatch sites : ℕ) (old new : Worlds S) (lanes : List Lane) (at : ℕ) (held : Held) → ReplacedOn (λ id s t. Chain sub.spans sub.does at (Some id) s t) old new held → Stands sub n dispatch sites old lanes → Stands sub n dispatch sites new lanes
-  closed n dispatch sites old new lanes at None did stands = subst (λ (w : Worlds S). Stands sub n dispatch sites w lanes) (sym did) stands
+  pub closed : (n dispatch sites : ℕ) (old new : Worlds S) (lanes : List Lane) (at : ℕ) (held : Held) → ReplacedOn (λ id s t. Chain sub.spans sub.does at (Some id) s t) old new held → StandsReady sub n dispatch sites old lanes → StandsReady sub n dispatch sites new lanes
+  closed n dispatch sites old new lanes at None did stands = subst (λ (w : Worlds S). StandsReady sub n dispatch sites w lanes) (sym did) stands
   closed n dispatch sites old new lanes at (Some h) did stands = elim (cases_eq dispatch h.0) [
     | inl here ↦ (
         let sh : ChainShown sub.spans sub.attaches sub.kept sub.is_whole old new dispatch h.1 = subst (λ (d : ℕ). ChainShown sub.spans sub.attaches sub.kept sub.is_whole old new d h.1) (sym here) (chain old new h at did) in
@@ -229,7 +229,7 @@ module _ {S : Type 0} (sub : Ghosts S) (law : IsLawful sub) where
       let r : Replaced (λ s t. Chain sub.spans sub.does at (Some h.1) s t) old new dispatch = subst (λ (d : ℕ). Replaced (λ s t. Chain sub.spans sub.does at (Some h.1) s t) old new d) own did in
       (chain_shown sub.spans sub.attaches sub.kept sub.is_whole sub.does law.allowed law.shows law.lanes law.keeps_attaches law.keeps_whole at old new dispatch h.1 r).released
 
-  known_beside : (before old new : Worlds S) (at : ℕ) (held : Held) → IsNew sub before held → KeepsKnown sub.spans before old → KeepsOthers sub.spans old new held → ReplacedOn (λ id s t. Chain sub.spans sub.does at (Some id) s t) old new held → KeepsKnown sub.spans before new
+  known_beside : (before old new : Worlds S) (at : ℕ) (held : Held) → HadNoHandle sub before held → KeepsKnown sub.spans before old → KeepsOthers sub.spans old new held → ReplacedOn (λ id s t. Chain sub.spans sub.does at (Some id) s t) old new held → KeepsKnown sub.spans before new
   known_beside before old new at None apart keeps others did q known = subst (λ (w : Worlds S). IsKnown sub.spans w q) (sym did) (keeps q known)
   known_beside before old new at (Some h) apart keeps others did q known = others.known q (λ here. apart (subst (λ (o : Held). IsKnown sub.spans before o) here known)) (keeps q known)
 
@@ -241,8 +241,8 @@ module _ {S : Type 0} (sub : Ghosts S) (law : IsLawful sub) where
 
   -- the lane of an entry or an exit has other contexts
   on_lane : (n m dispatch sites : ℕ) (call : SubscriberCall) (old new : Worlds S) (before left : Lane) (others : List Lane) → Shown sub.spans sub.attaches sub.kept sub.is_whole old new dispatch call → new.sites ≡ old.sites → new.global ≡ old.global
-      → left.id ≡ before.id → left.default ≡ before.default → KeepsAttached (kept_in sub.kept old dispatch) before left (kept_in sub.kept new dispatch) → (AreAtMost n (spans_in sub.spans old dispatch) → AreAtMost m (after (spans_in sub.spans old dispatch) call))
-      → Stands sub n dispatch sites old (before ∷ others) → Stands sub m dispatch sites new (left ∷ others)
+      → left.id ≡ before.id → left.default ≡ before.default → KeepsAttached (kept_in sub.kept old dispatch) before left (kept_in sub.kept new dispatch) → (AreAtMost n (spans_in sub.spans old dispatch) → AreAtMost m (spans_after_call (spans_in sub.spans old dispatch) call))
+      → StandsReady sub n dispatch sites old (before ∷ others) → StandsReady sub m dispatch sites new (left ∷ others)
   on_lane n m dispatch sites call old new before left others sh same global id default keeps few stands =
       let kept = kept_in sub.kept old dispatch in
       let now = kept_in sub.kept new dispatch in
@@ -263,9 +263,9 @@ module _ {S : Type 0} (sub : Ghosts S) (law : IsLawful sub) where
 
   -- an entry
   pub entered_on : (n dispatch sites : ℕ) (old new : Worlds S) (before left : Lane) (others : List Lane) (at : ℕ) (held : Held) → IsOf held dispatch → ReplacedOn (λ id s t. sub.does s (Enter id at before left) t) old new held → (held ≡ None → left ≡ before)
-      → Stands sub n dispatch sites old (before ∷ others) → Stands sub (n + 1) dispatch sites new (left ∷ others)
+      → StandsReady sub n dispatch sites old (before ∷ others) → StandsReady sub (n + 1) dispatch sites new (left ∷ others)
   entered_on n dispatch sites old new before left others at None own did none stands =
-      subst (λ (l : Lane). Stands sub (n + 1) dispatch sites new (l ∷ others)) (sym (none refl)) (later sub n (n + 1) dispatch sites new (before ∷ others) (omega arith) (subst (λ (w : Worlds S). Stands sub n dispatch sites w (before ∷ others)) (sym did) stands))
+      subst (λ (l : Lane). StandsReady sub (n + 1) dispatch sites new (l ∷ others)) (sym (none refl)) (later sub n (n + 1) dispatch sites new (before ∷ others) (omega arith) (subst (λ (w : Worlds S). StandsReady sub n dispatch sites w (before ∷ others)) (sym did) stands))
   entered_on n dispatch sites old new before left others at (Some h) own did none stands =
       let call : SubscriberCall = Enter h.1 at before left in
       let r : Replaced (λ s t. sub.does s call t) old new dispatch = subst (λ (d : ℕ). Replaced (λ s t. sub.does s call t) old new d) own did in
@@ -278,7 +278,7 @@ module _ {S : Type 0} (sub : Ghosts S) (law : IsLawful sub) where
 
   -- one that is refused
   pub refused_on : (n dispatch sites : ℕ) (old new : Worlds S) (before left : Lane) (others : List Lane) (held : Held) → ReplacedOn (λ id s t. sub.same s t) old new held → LeavesLane before left
-      → Stands sub n dispatch sites old (before ∷ others) → Stands sub n dispatch sites new (left ∷ others)
+      → StandsReady sub n dispatch sites old (before ∷ others) → StandsReady sub n dispatch sites new (left ∷ others)
   refused_on n dispatch sites old new before left others held did leaves stands =
       let s = stays_stands sub n dispatch sites old new (before ∷ others) (room_stays_on old new held did) stands in
       record {
@@ -307,28 +307,28 @@ module _ {S : Type 0} (sub : Ghosts S) (law : IsLawful sub) where
       let r : Replaced (λ s t. sub.does s call t) old new dispatch = subst (λ (d : ℕ). Replaced (λ s t. sub.does s call t) old new d) own did in
       unchanged _ _ (by_call old new dispatch call r).spans_after
 
-  pub has_entered : (dispatch : ℕ) (old new : Worlds S) (before left : Lane) (at : ℕ) (handle : Handle) (guard : Opened) → guard ≡ record { span = handle; lane = before.id } → IsHeld sub dispatch old handle → IsKnown sub.spans new handle.held → KeepsKnown sub.spans old new
+  pub has_entered : (dispatch : ℕ) (old new : Worlds S) (before left : Lane) (at : ℕ) (handle : Handle) (guard : EntryGuard) → guard ≡ record { span = handle; lane = before.id } → IsHeld sub dispatch old handle → IsKnown sub.spans new handle.held → KeepsKnown sub.spans old new
       → ReplacedOn (λ id s t. sub.does s (Enter id at before left) t) old new handle.held → HasEntered sub dispatch old new guard
-  has_entered dispatch old new before left at handle guard is held known keeps did = subst (λ (o : Opened). HasEntered sub dispatch old new o) (sym is) (record {
+  has_entered dispatch old new before left at handle guard is held known keeps did = subst (λ (o : EntryGuard). HasEntered sub dispatch old new o) (sym is) (record {
     known = keeps;
     held = record { known = known; own = held.own };
     live = live_on sub dispatch old handle.held held.own held.known;
     entered_once = entered_spans dispatch old new before left at handle.held held.own did;
   })
 
-  pub enters : (old new : Worlds S) (before left : Lane) (at : ℕ) (handle : Handle) (result : Result Opened EnterError) → IfOk result (λ guard. guard ≡ record { span = handle; lane = before.id }) → IsKnown sub.spans new handle.held → KeepsHandles sub.spans old new
+  pub enters : (old new : Worlds S) (before left : Lane) (at : ℕ) (handle : Handle) (result : Result EntryGuard EnterError) → IfOk result (λ guard. guard ≡ record { span = handle; lane = before.id }) → IsKnown sub.spans new handle.held → KeepsHandles sub.spans old new
       → OnOk result (ReplacedOn (λ id s t. sub.does s (Enter id at before left) t) old new handle.held) → (handle.held ≡ None → left ≡ before) → IfOk result (Enters sub old new before left handle)
   enters old new before left at handle (Err error) is known keeps did none = tt
   enters old new before left at handle (Ok guard) is known keeps did none = record {
     lane_id = lane_same old new before left at handle.held did none;
     count = count_on _ old new handle.held did;
-    of = ap (λ (o : Opened). o.span) is;
-    on = ap (λ (o : Opened). o.lane) is;
+    of = ap (λ (o : EntryGuard). o.span) is;
+    on = ap (λ (o : EntryGuard). o.lane) is;
     stands = λ most dispatch sites others held stands. entered_on most dispatch sites old new before left others at handle.held held.own did none stands;
     entered = λ dispatch held. has_entered dispatch old new before left at handle guard is held known keeps.known did;
   }
 
-  pub refuses : (old new : Worlds S) (before left : Lane) (held : Held) (result : Result Opened EnterError) → OnErr result (ReplacedOn (λ id s t. sub.same s t) old new held) → OnErr result (LeavesLane before left) → OnErr result (Refuses sub old new before left)
+  pub refuses : (old new : Worlds S) (before left : Lane) (held : Held) (result : Result EntryGuard EnterError) → OnErr result (ReplacedOn (λ id s t. sub.same s t) old new held) → OnErr result (LeavesLane before left) → OnErr result (Refuses sub old new before left)
   refuses old new before left held (Ok guard) same leaves = tt
   refuses old new before left held (Err error) same leaves = record {
     lane_id = leaves.id;
@@ -339,9 +339,9 @@ module _ {S : Type 0} (sub : Ghosts S) (law : IsLawful sub) where
 
   -- an exit
   pub exited_on : (n dispatch sites : ℕ) (old new : Worlds S) (before left : Lane) (others : List Lane) (at : ℕ) (held : Held) → IsOf held dispatch → ReplacedOn (λ id s t. sub.does s (Exit id at before left) t) old new held → (held ≡ None → left ≡ before)
-      → Stands sub n dispatch sites old (before ∷ others) → Stands sub n dispatch sites new (left ∷ others)
+      → StandsReady sub n dispatch sites old (before ∷ others) → StandsReady sub n dispatch sites new (left ∷ others)
   exited_on n dispatch sites old new before left others at None own did none stands =
-      subst (λ (l : Lane). Stands sub n dispatch sites new (l ∷ others)) (sym (none refl)) (subst (λ (w : Worlds S). Stands sub n dispatch sites w (before ∷ others)) (sym did) stands)
+      subst (λ (l : Lane). StandsReady sub n dispatch sites new (l ∷ others)) (sym (none refl)) (subst (λ (w : Worlds S). StandsReady sub n dispatch sites w (before ∷ others)) (sym did) stands)
   exited_on n dispatch sites old new before left others at (Some h) own did none stands =
       let call : SubscriberCall = Exit h.1 at before left in
       let r : Replaced (λ s t. sub.does s call t) old new dispatch = subst (λ (d : ℕ). Replaced (λ s t. sub.does s call t) old new d) own did in
@@ -359,7 +359,7 @@ module _ {S : Type 0} (sub : Ghosts S) (law : IsLawful sub) where
       let r : Replaced (λ s t. sub.does s call t) old new dispatch = subst (λ (d : ℕ). Replaced (λ s t. sub.does s call t) old new d) own did in
       (by_call old new dispatch call r).spans_after
 
-  pub exited_again : (dispatch : ℕ) (start old new : Worlds S) (before left : Lane) (at : ℕ) (guard : Opened) → before.id ≡ guard.lane → ReplacedOn (λ id s t. sub.does s (Exit id at before left) t) old new guard.span.held → KeepsKnown sub.spans old new → HasEntered sub dispatch start old guard → IsAsBefore sub dispatch start new
+  pub exited_again : (dispatch : ℕ) (start old new : Worlds S) (before left : Lane) (at : ℕ) (guard : EntryGuard) → before.id ≡ guard.lane → ReplacedOn (λ id s t. sub.does s (Exit id at before left) t) old new guard.span.held → KeepsKnown sub.spans old new → HasEntered sub dispatch start old guard → IsAsBefore sub dispatch start new
   exited_again dispatch start old new before left at guard on did keeps entered = record {
     known = λ q known. keeps q (entered.known q known);
     as_before = exits guard.span.held (spans_in sub.spans start dispatch) (spans_in sub.spans old dispatch) (spans_in sub.spans new dispatch) guard.lane entered.live entered.entered_once

@@ -4,11 +4,11 @@ use Rattle.std.specs.Prelude.{◌==◌, if◌then◌else◌}
 use Rattle.std.specs.List.{list_any}
 use Rattle.std.proofs.lemmas.Bool.{cases_eq, cases_order, cases_Bool, cond-true, cond-false, eq-eqb, ne_eqb}
 use Rattle.std.proofs.lemmas.List.{length_push, get_or_past, get_or_push, get_or_append_left, get_or-set_same, get_or-set_other}
-use Rattle.trace_base.specs.Spans.{Span, Spans, no_span, span_at, entries_on, is_in, times_in, without_last, next_of, held, released, less_held, held_by_child}
-use Rattle.trace_base.specs.Calls.{with_span, entered, exited}
+use Rattle.trace_base.specs.Spans.{Span, Spans, no_span, span_at, entries_on, is_in, times_in, without_last, next_of, with_hold, without_hold, less_hold, held_by_child}
+use Rattle.trace_base.specs.Calls.{with_new_span, with_span_entry, with_span_exit}
 use Rattle.trace_base.proofs.Entering.{count_push, counted_if_any, any_if_counted, none_counted, length_held, made_if_held, with_same, with_other}
 use Rattle.trace_base.proofs.Holding.{less_last, less_more}
-use Rattle.span_handles.specs.Worlds.{Released, all_released, releases}
+use Rattle.span_handles.specs.Worlds.{ReleasesChain, all_released, releases}
 use Rattle.span_handles.specs.Handles.{Held}
 use Rattle.traced.specs.AsBefore.{AreAsBefore, IsNewest, IsOfNewest, IsLiveOn, IsEntered, IsOpen}
 
@@ -20,27 +20,27 @@ pub on : (x y z : Spans) → AreAsBefore x y → AreAsBefore y z → AreAsBefore
 on x y z first later = record { spans = λ id. later.spans id ∙ first.spans id; entries = λ lane. later.entries lane ∙ first.entries lane }
 
 -- a span that has a hold, and another one, where one hold less is written
-at_released : (made : List Span) (id q : ℕ) → 0 < (span_at made id).holds → q ≡ id → span_at (released made id) q ≡ less_held (span_at made id)
-at_released made id q live here = ap (span_at (released made id)) here ∙ get_or-set_same made id (less_held (span_at made id)) no_span (made_if_held made id live)
+at_released : (made : List Span) (id q : ℕ) → 0 < (span_at made id).holds → q ≡ id → span_at (without_hold made id) q ≡ less_hold (span_at made id)
+at_released made id q live here = ap (span_at (without_hold made id)) here ∙ get_or-set_same made id (less_hold (span_at made id)) no_span (made_if_held made id live)
 
-beside_released : (made : List Span) (id q : ℕ) → (q ≡ id → ⊥) → span_at (released made id) q ≡ span_at made q
-beside_released made id q other = get_or-set_other made id q (less_held (span_at made id)) no_span other
+beside_released : (made : List Span) (id q : ℕ) → (q ≡ id → ⊥) → span_at (without_hold made id) q ≡ span_at made q
+beside_released made id q other = get_or-set_other made id q (less_hold (span_at made id)) no_span other
 
 -- one hold more and one less
-at_held : (made : List Span) (id q : ℕ) → 0 < (span_at made id).holds → q ≡ id → span_at (held made id) q ≡ record (span_at made id) { holds = (span_at made id).holds + 1 }
-at_held made id q live here = ap (span_at (held made id)) here ∙ get_or-set_same made id (record (span_at made id) { holds = (span_at made id).holds + 1 }) no_span (made_if_held made id live)
+at_held : (made : List Span) (id q : ℕ) → 0 < (span_at made id).holds → q ≡ id → span_at (with_hold made id) q ≡ record (span_at made id) { holds = (span_at made id).holds + 1 }
+at_held made id q live here = ap (span_at (with_hold made id)) here ∙ get_or-set_same made id (record (span_at made id) { holds = (span_at made id).holds + 1 }) no_span (made_if_held made id live)
 
-beside_held : (made : List Span) (id q : ℕ) → (q ≡ id → ⊥) → span_at (held made id) q ≡ span_at made q
+beside_held : (made : List Span) (id q : ℕ) → (q ≡ id → ⊥) → span_at (with_hold made id) q ≡ span_at made q
 beside_held made id q other = get_or-set_other made id q (record (span_at made id) { holds = (span_at made id).holds + 1 }) no_span other
 
-less_of_more : (s now : Span) → 0 < s.holds → now ≡ record s { holds = s.holds + 1 } → less_held now ≡ s
+less_of_more : (s now : Span) → 0 < s.holds → now ≡ record s { holds = s.holds + 1 } → less_hold now ≡ s
 less_of_more s now live is =
     let more : Span = record s { holds = s.holds + 1 } in
     let back : s.holds + 1 - 1 ≡ s.holds = omega arith in
-    ap less_held is ∙ less_more more (λ e. omega (arith, e, live)) ∙ ap (λ (n : ℕ). record s { holds = n }) back
+    ap less_hold is ∙ less_more more (λ e. omega (arith, e, live)) ∙ ap (λ (n : ℕ). record s { holds = n }) back
 
 -- a hold is given back, and the other spans are as they were
-given_back : (made now : List Span) (id : ℕ) → 0 < (span_at made id).holds → ((q : ℕ) → span_at now q ≡ span_at (held made id) q) → (q : ℕ) → span_at (released now id) q ≡ span_at made q
+given_back : (made now : List Span) (id : ℕ) → 0 < (span_at made id).holds → ((q : ℕ) → span_at now q ≡ span_at (with_hold made id) q) → (q : ℕ) → span_at (without_hold now id) q ≡ span_at made q
 given_back made now id live same q =
     let here : span_at now id ≡ record (span_at made id) { holds = (span_at made id).holds + 1 } = same id ∙ at_held made id id live refl in
     elim (cases_eq q id) [
@@ -49,15 +49,15 @@ given_back made now id live same q =
     ]
 
 -- a chain of closes ends where nothing is next
-ends : (next : Option ℕ) (x y : Spans) → Released next x y → next ≡ None → y ≡ x
+ends : (next : Option ℕ) (x y : Spans) → ReleasesChain next x y → next ≡ None → y ≡ x
 ends _ _ _ (all_released x) nothing = refl
 ends _ _ _ (releases id at x y own rest) nothing = absurd (cc nothing)
 
-goes_on : (next : Option ℕ) (x y : Spans) → Released next x y → (id : ℕ) → next ≡ Some id → Released (next_of x.made id) (record x { made = released x.made id }) y
+goes_on : (next : Option ℕ) (x y : Spans) → ReleasesChain next x y → (id : ℕ) → next ≡ Some id → ReleasesChain (next_of x.made id) (record x { made = without_hold x.made id }) y
 goes_on _ _ _ (all_released x) id is = absurd (cc is)
 goes_on _ _ _ (releases k at x y own rest) id is =
     let same : k ≡ id = cc is in
-    subst (λ (j : ℕ). Released (next_of x.made j) (record x { made = released x.made j }) y) same rest
+    subst (λ (j : ℕ). ReleasesChain (next_of x.made j) (record x { made = without_hold x.made j }) y) same rest
 
 -- the spans beside the newest
 beside_newest : (made : List Span) (new : Span) (q : ℕ) → (q ≡ length made → ⊥) → span_at (made ++ new ∷ []) q ≡ span_at made q
@@ -68,7 +68,7 @@ beside_newest made new q other = elim (cases_order q (length made)) [
 ]
 
 -- the newest span is closed, and then its parent gives back the hold of its child
-module _ (x y z : Spans) (id : ℕ) (newest : IsNewest x y id) (chain : Released (Some id) y z) where
+module _ (x y z : Spans) (id : ℕ) (newest : IsNewest x y id) (chain : ReleasesChain (Some id) y z) where
   at_newest : span_at y.made id ≡ record { holds = 1; parent = newest.above; site = newest.site }
   at_newest = newest.made.spans id ∙ get_or_push (held_by_child x.made newest.above) (record { holds = 1; parent = newest.above; site = newest.site }) no_span id (length_held x.made newest.above ∙ sym newest.is)
 
@@ -78,11 +78,11 @@ module _ (x y z : Spans) (id : ℕ) (newest : IsNewest x y id) (chain : Released
   above : next_of y.made id ≡ newest.above
   above = cond-true {A = Option ℕ} ((span_at y.made id).holds == 1) (span_at y.made id).parent None (eq-eqb (span_at y.made id).holds 1 last) ∙ ap (λ (s : Span). s.parent) at_newest
 
-  rest : Released newest.above (record y { made = released y.made id }) z
-  rest = subst (λ (o : Option ℕ). Released o (record y { made = released y.made id }) z) above (goes_on (Some id) y z chain id refl)
+  rest : ReleasesChain newest.above (record y { made = without_hold y.made id }) z
+  rest = subst (λ (o : Option ℕ). ReleasesChain o (record y { made = without_hold y.made id }) z) above (goes_on (Some id) y z chain id refl)
 
   -- the parent has its hold still
-  without : (q : ℕ) → span_at (released y.made id) q ≡ span_at (held_by_child x.made newest.above) q
+  without : (q : ℕ) → span_at (without_hold y.made id) q ≡ span_at (held_by_child x.made newest.above) q
   without q = elim (cases_eq q id) [
     | inl here ↦ (
         let gone = at_released y.made id q (let e = last in omega (arith, e)) here ∙ less_last (span_at y.made id) last in
@@ -95,19 +95,19 @@ module _ (x y z : Spans) (id : ℕ) (newest : IsNewest x y id) (chain : Released
         beside_released y.made id q other ∙ newest.made.spans q ∙ beside_newest (held_by_child x.made newest.above) (record { holds = 1; parent = newest.above; site = newest.site }) q (λ e. other (omega (arith, e, long, is))))
   ]
 
-under : (x y z : Spans) (id : ℕ) (newest : IsNewest x y id) → Released (Some id) y z → (above : Option ℕ) → newest.above ≡ above → (q : ℕ) → span_at z.made q ≡ span_at x.made q
+under : (x y z : Spans) (id : ℕ) (newest : IsNewest x y id) → ReleasesChain (Some id) y z → (above : Option ℕ) → newest.above ≡ above → (q : ℕ) → span_at z.made q ≡ span_at x.made q
 under x y z id newest chain None is q =
-    let ended = ends newest.above (record y { made = released y.made id }) z (rest x y z id newest chain) is in
+    let ended = ends newest.above (record y { made = without_hold y.made id }) z (rest x y z id newest chain) is in
     ap (λ (w : Spans). span_at w.made q) ended ∙ without x y z id newest chain q ∙ ap (λ (o : Option ℕ). span_at (held_by_child x.made o) q) is
 under x y z id newest chain (Some p) is q =
     let live = newest.live p is in
-    let now : (k : ℕ) → span_at (released y.made id) k ≡ span_at (held x.made p) k = λ k. without x y z id newest chain k ∙ ap (λ (o : Option ℕ). span_at (held_by_child x.made o) k) is in
-    let many : ((span_at (released y.made id) p).holds ≡ 1 → ⊥) = λ one. (let e = ap (λ (s : Span). s.holds) (now p ∙ at_held x.made p p live refl) in omega (arith, e, one, live)) in
-    let w : Spans = record y { made = released y.made id } in
+    let now : (k : ℕ) → span_at (without_hold y.made id) k ≡ span_at (with_hold x.made p) k = λ k. without x y z id newest chain k ∙ ap (λ (o : Option ℕ). span_at (held_by_child x.made o) k) is in
+    let many : ((span_at (without_hold y.made id) p).holds ≡ 1 → ⊥) = λ one. (let e = ap (λ (s : Span). s.holds) (now p ∙ at_held x.made p p live refl) in omega (arith, e, one, live)) in
+    let w : Spans = record y { made = without_hold y.made id } in
     let on = goes_on newest.above w z (rest x y z id newest chain) p is in
-    let ended = ends (next_of w.made p) (record w { made = released w.made p }) z on
+    let ended = ends (next_of w.made p) (record w { made = without_hold w.made p }) z on
     (cond-false {A = Option ℕ} ((span_at w.made p).holds == 1) (span_at w.made p).parent None (ne_eqb (span_at w.made p).holds 1 many)) in
-    ap (λ (v : Spans). span_at v.made q) ended ∙ given_back x.made (released y.made id) p live now q
+    ap (λ (v : Spans). span_at v.made q) ended ∙ given_back x.made (without_hold y.made id) p live now q
 
 -- it is the newest after calls that leave spans as they were
 pub stays_newest : (h : Held) (x w y : Spans) → IsOfNewest x w h → AreAsBefore w y → IsOfNewest x y h
@@ -117,18 +117,18 @@ stays_newest (Some h) x w y newest same = record {
   site = newest.site;
   is = newest.is;
   live = newest.live;
-  made = on (with_span x newest.above newest.site) w y newest.made same;
+  made = on (with_new_span x newest.above newest.site) w y newest.made same;
 }
 
 -- what the close of a handle makes
 abbrev pub IsReleasedOn : Held → Spans → Spans → Type 0
 IsReleasedOn None y z = z ≡ y
-IsReleasedOn (Some h) y z = Released (Some h.1) y z
+IsReleasedOn (Some h) y z = ReleasesChain (Some h.1) y z
 
 -- a chain of closes leaves entries as they are
-same_lanes : (next : Option ℕ) (x y : Spans) → Released next x y → y.lanes ≡ x.lanes
+same_lanes : (next : Option ℕ) (x y : Spans) → ReleasesChain next x y → y.lanes ≡ x.lanes
 same_lanes _ _ _ (all_released x) = refl
-same_lanes _ _ _ (releases id at x y own rest) = same_lanes (next_of x.made id) (record x { made = released x.made id }) y rest
+same_lanes _ _ _ (releases id at x y own rest) = same_lanes (next_of x.made id) (record x { made = without_hold x.made id }) y rest
 
 pub closes : (h : Held) (x y z : Spans) → IsOfNewest x y h → IsReleasedOn h y z → AreAsBefore x z
 closes None x y z newest did = on x y z newest (unchanged y z did)
@@ -140,9 +140,9 @@ closes (Some h) x y z newest did = record {
 -- what an exit makes
 abbrev pub IsExitedOn : Held → ℕ → Spans → Spans → Type 0
 IsExitedOn None lane y z = z ≡ y
-IsExitedOn (Some h) lane y z = z ≡ exited y h.1 lane
+IsExitedOn (Some h) lane y z = z ≡ with_span_exit y h.1 lane
 
-both : (x y : Spans) (id lane : ℕ) → 0 < (span_at x.made id).holds → ((q : ℕ) → span_at y.made q ≡ span_at (entered x id lane).made q) → entries_on lane y.lanes ≡ entries_on lane x.lanes ++ id ∷ [] → (q : ℕ) → span_at (exited y id lane).made q ≡ span_at x.made q
+both : (x y : Spans) (id lane : ℕ) → 0 < (span_at x.made id).holds → ((q : ℕ) → span_at y.made q ≡ span_at (with_span_entry x id lane).made q) → entries_on lane y.lanes ≡ entries_on lane x.lanes ++ id ∷ [] → (q : ℕ) → span_at (with_span_exit y id lane).made q ≡ span_at x.made q
 both x y id lane live same lanes q =
     let ids = entries_on lane x.lanes in
     let first = is_in id ids in
@@ -152,12 +152,12 @@ both x y id lane live same lanes q =
     elim (cases_Bool first) [
       | inl again ↦ (
           let some = counted_if_any (λ k. k == id) ids again in
-          ap (λ (m : List Span). span_at m q) (cond-false {A = List Span} (times == 1) (released y.made id) y.made (ne_eqb times 1 (λ e. omega (arith, e, count, one, some))))
-          ∙ same q ∙ ap (λ (m : List Span). span_at m q) (cond-true {A = List Span} first x.made (held x.made id) again))
+          ap (λ (m : List Span). span_at m q) (cond-false {A = List Span} (times == 1) (without_hold y.made id) y.made (ne_eqb times 1 (λ e. omega (arith, e, count, one, some))))
+          ∙ same q ∙ ap (λ (m : List Span). span_at m q) (cond-true {A = List Span} first x.made (with_hold x.made id) again))
       | inr new ↦ (
           let none = none_counted (λ k. k == id) ids new in
-          ap (λ (m : List Span). span_at m q) (cond-true {A = List Span} (times == 1) (released y.made id) y.made (eq-eqb times 1 (omega (arith, count, one, none))))
-          ∙ given_back x.made y.made id live (λ k. same k ∙ ap (λ (m : List Span). span_at m k) (cond-false {A = List Span} first x.made (held x.made id) new)) q)
+          ap (λ (m : List Span). span_at m q) (cond-true {A = List Span} (times == 1) (without_hold y.made id) y.made (eq-eqb times 1 (omega (arith, count, one, none))))
+          ∙ given_back x.made y.made id live (λ k. same k ∙ ap (λ (m : List Span). span_at m k) (cond-false {A = List Span} first x.made (with_hold x.made id) new)) q)
     ]
 
 -- the last entry of a span is the one that was made last
@@ -168,14 +168,14 @@ without_pushed {X} p (y ∷ ys) x is =
     let later = any_if_counted p (ys ++ x ∷ []) (let count = count_push p ys x in omega (arith, count, one)) in
     cond-true {A = List X} (list_any p (ys ++ x ∷ [])) (y ∷ without_last p (ys ++ x ∷ [])) (if p y then ys ++ x ∷ [] else y ∷ (ys ++ x ∷ [])) later ∙ ap (λ (zs : List X). y ∷ zs) (without_pushed p ys x is)
 
-entries_both : (x y : Spans) (id lane : ℕ) → ((l : ℕ) → entries_on l y.lanes ≡ entries_on l (entered x id lane).lanes) → (l : ℕ) → entries_on l (exited y id lane).lanes ≡ entries_on l x.lanes
+entries_both : (x y : Spans) (id lane : ℕ) → ((l : ℕ) → entries_on l y.lanes ≡ entries_on l (with_span_entry x id lane).lanes) → (l : ℕ) → entries_on l (with_span_exit y id lane).lanes ≡ entries_on l x.lanes
 entries_both x y id lane lanes l =
     let ids = entries_on lane x.lanes ++ id ∷ [] in
     let less = without_last (λ k. k == id) (entries_on lane y.lanes) in
     elim (cases_eq lane l) [
       | inl here ↦ (
           let pushed : entries_on lane y.lanes ≡ ids = lanes lane ∙ with_same lane ids x.lanes in
-          subst (λ (k : ℕ). entries_on k (exited y id lane).lanes ≡ entries_on k x.lanes) here
+          subst (λ (k : ℕ). entries_on k (with_span_exit y id lane).lanes ≡ entries_on k x.lanes) here
           (with_same lane less y.lanes ∙ ap (without_last (λ k. k == id)) pushed ∙ without_pushed (λ k. k == id) (entries_on lane x.lanes) id (eq-eqb id id refl)))
       | inr other ↦ with_other lane l less y.lanes other ∙ lanes l ∙ with_other lane l ids x.lanes other
     ]
@@ -184,16 +184,16 @@ entries_both x y id lane lanes l =
 pub exits : (h : Held) (x y z : Spans) (lane : ℕ) → IsLiveOn h x → IsEntered h lane x y → IsExitedOn h lane y z → AreAsBefore x z
 exits None x y z lane live enter exit = on x y z enter (unchanged y z exit)
 exits (Some h) x y z lane live enter exit =
-    let back : AreAsBefore x (exited y h.1 lane) = record {
+    let back : AreAsBefore x (with_span_exit y h.1 lane) = record {
       spans = both x y h.1 lane live enter.spans (enter.entries lane ∙ with_same lane (entries_on lane x.lanes ++ h.1 ∷ []) x.lanes);
       entries = entries_both x y h.1 lane enter.entries;
     } in
-    on x (exited y h.1 lane) z back (unchanged (exited y h.1 lane) z exit)
+    on x (with_span_exit y h.1 lane) z back (unchanged (with_span_exit y h.1 lane) z exit)
 
 -- it is entered still after calls that leave spans as they were
 pub stays_entered : (h : Held) (lane : ℕ) (x w y : Spans) → IsEntered h lane x w → AreAsBefore w y → IsEntered h lane x y
 stays_entered None lane x w y enter same = on x w y enter same
-stays_entered (Some h) lane x w y enter same = on (entered x h.1 lane) w y enter same
+stays_entered (Some h) lane x w y enter same = on (with_span_entry x h.1 lane) w y enter same
 
 pub opened : (h : Held) (lane : ℕ) (x y : Spans) → IsEntered h lane x y → IsOpen h lane y
 opened None lane x y enter = tt

@@ -14,8 +14,8 @@ use Rattle.trace_base.proofs.Entering.{any_if_counted}
 use Rattle.trace_base.proofs.Holding.{first_if_in}
 use Rattle.span_handles.specs.Worlds.{Has, Alike, no_spans, spans_in}
 use Rattle.span_handles.specs.Handles.{Held, Handle, IsKnown, HasOn, IsOf, MayMakeIf, HasIf, place_under}
-use Rattle.span_handles.specs.Entries.{Opened, IsThere, IsStillOn}
-use Rattle.traced.specs.Standing.{AreAtMost, Stands, Serves, IsHeld, CanMake, CanTell, CanAsk, CanClose, CanEnter, CanExit}
+use Rattle.span_handles.specs.Entries.{EntryGuard, IsThere, IsStillOn}
+use Rattle.traced.specs.Standing.{AreAtMost, StandsReady, ServesLane, IsHeld, CanMake, CanTell, CanAsk, CanClose, CanEnter, CanExit}
 use Rattle.traced.specs.AsBefore.{IsLiveOn, IsOpen, IsInside}
 use Rattle.traced.specs.Moving.{Enters}
 use Rattle.traced.specs.Staying.{Stays}
@@ -45,7 +45,7 @@ few_above n x None early few = tt
 few_above n x (Some p) early few = (let h = few.holds p in omega (arith, h, early))
 
 -- the subscriber of a lane may be asked for a span
-make_at : {S : Type 0} (sub : Ghosts S) (n dispatch sites : ℕ) (world : Worlds S) (lane : Lane) (others : List Lane) (place : Parent) (site : ℕ) → n < 2 ^ 63 → site < sites → IsLivePlace (spans_in sub.spans world dispatch).made place → Stands sub n dispatch sites world (lane ∷ others) → CanMake sub world lane place site
+make_at : {S : Type 0} (sub : Ghosts S) (n dispatch sites : ℕ) (world : Worlds S) (lane : Lane) (others : List Lane) (place : Parent) (site : ℕ) → n < 2 ^ 63 → site < sites → IsLivePlace (spans_in sub.spans world dispatch).made place → StandsReady sub n dispatch sites world (lane ∷ others) → CanMake sub world lane place site
 make_at {S} sub n dispatch sites world lane others place site early within live stands =
     let served = stands.served.0.serves in
     let x = spans_in sub.spans world dispatch in
@@ -67,7 +67,7 @@ live_under None x live = tt
 live_under (Some h) x live = live
 
 -- and of an event
-pub can_tell : {S : Type 0} (sub : Ghosts S) (n dispatch sites : ℕ) (world : Worlds S) (lane : Lane) (others : List Lane) (site : ℕ) → Stands sub n dispatch sites world (lane ∷ others) → site < sites → CanTell sub world lane site
+pub can_tell : {S : Type 0} (sub : Ghosts S) (n dispatch sites : ℕ) (world : Worlds S) (lane : Lane) (others : List Lane) (site : ℕ) → StandsReady sub n dispatch sites world (lane ∷ others) → site < sites → CanTell sub world lane site
 can_tell sub n dispatch sites world lane others site stands within =
     let served = stands.served.0.serves in
     record {
@@ -78,13 +78,13 @@ can_tell sub n dispatch sites world lane others site stands within =
     }
 
 -- calls on handles
-pub can_close : {S : Type 0} (sub : Ghosts S) (n dispatch sites : ℕ) (world : Worlds S) (lanes : List Lane) (handle : Handle) → Stands sub n dispatch sites world lanes → IsHeld sub dispatch world handle → CanClose sub world handle
+pub can_close : {S : Type 0} (sub : Ghosts S) (n dispatch sites : ℕ) (world : Worlds S) (lanes : List Lane) (handle : Handle) → StandsReady sub n dispatch sites world lanes → IsHeld sub dispatch world handle → CanClose sub world handle
 can_close sub n dispatch sites world lanes handle stands held = record {
   known = held.known;
   whole = on_held (λ s id. sub.is_whole s) world dispatch handle.held held.own (λ id. stands.whole);
 }
 
-pub can_enter : {S : Type 0} (sub : Ghosts S) (n dispatch sites : ℕ) (world : Worlds S) (lanes : List Lane) (handle : Handle) → Stands sub n dispatch sites world lanes → n < 2 ^ 63 → IsHeld sub dispatch world handle → CanEnter sub world handle
+pub can_enter : {S : Type 0} (sub : Ghosts S) (n dispatch sites : ℕ) (world : Worlds S) (lanes : List Lane) (handle : Handle) → StandsReady sub n dispatch sites world lanes → n < 2 ^ 63 → IsHeld sub dispatch world handle → CanEnter sub world handle
 can_enter sub n dispatch sites world lanes handle stands early held = record {
   known = held.known;
   whole = on_held (λ s id. sub.is_whole s) world dispatch handle.held held.own (λ id. stands.whole);
@@ -105,7 +105,7 @@ may_exit {S} sub dispatch world lane (Some h) known own entered = λ s there. (
     let holds = known.1 s there in
     (some, λ one. omega (arith, first, holds)))
 
-pub can_exit : {S : Type 0} (sub : Ghosts S) (n dispatch sites : ℕ) (world : Worlds S) (lane : Lane) (others : List Lane) (guard : Opened) → Stands sub n dispatch sites world (lane ∷ others) → IsInside sub dispatch world guard → lane.id ≡ guard.lane → CanExit sub world lane guard
+pub can_exit : {S : Type 0} (sub : Ghosts S) (n dispatch sites : ℕ) (world : Worlds S) (lane : Lane) (others : List Lane) (guard : EntryGuard) → StandsReady sub n dispatch sites world (lane ∷ others) → IsInside sub dispatch world guard → lane.id ≡ guard.lane → CanExit sub world lane guard
 can_exit {S} sub n dispatch sites world lane others guard stands inside here =
     let held = inside.held in
     record {
@@ -135,51 +135,51 @@ kept_stays sub old new lane None stays has = tt
 kept_stays sub old new lane (Some h) stays has = (let a = stays.alike h.0 in has_same sub.kept (λ lane number. 0) (λ f. AreAttached f lane) old new h.0 a.count a.kept_same has)
 
 -- a filter was exchanged, or something else that is read of no span and no lane
-pub alike_stands : {S : Type 0} (sub : Ghosts S) (n e dispatch sites : ℕ) (old new : Worlds S) (lanes : List Lane) → Alike sub.spans sub.attaches sub.kept sub.is_whole old new e → e ≡ dispatch → new.sites ≡ old.sites → new.global ≡ old.global → Stands sub n dispatch sites old lanes → Stands sub n dispatch sites new lanes
+pub alike_stands : {S : Type 0} (sub : Ghosts S) (n e dispatch sites : ℕ) (old new : Worlds S) (lanes : List Lane) → Alike sub.spans sub.attaches sub.kept sub.is_whole old new e → e ≡ dispatch → new.sites ≡ old.sites → new.global ≡ old.global → StandsReady sub n dispatch sites old lanes → StandsReady sub n dispatch sites new lanes
 alike_stands sub n e dispatch sites old new lanes alike is same global stands =
     let a = subst (Alike sub.spans sub.attaches sub.kept sub.is_whole old new) is alike in
     stands_after sub n n dispatch sites old new lanes a.count same global a.whole (λ few. subst (AreAtMost n) (sym a.spans_same) few) a.kept_same stands
 
 -- What each call asks, on the first lane and on the second.
 module _ {S : Type 0} (sub : Ghosts S) (n dispatch sites : ℕ) (world : Worlds S) where
-  pub can_make : (lane : Lane) (others : List Lane) (site : ℕ) → Stands sub n dispatch sites world (lane ∷ others) → n < 2 ^ 63 → site < sites → CanMake sub world lane parent.Current site
+  pub can_make : (lane : Lane) (others : List Lane) (site : ℕ) → StandsReady sub n dispatch sites world (lane ∷ others) → n < 2 ^ 63 → site < sites → CanMake sub world lane parent.Current site
   can_make lane others site stands early within = make_at sub n dispatch sites world lane others parent.Current site early within tt stands
 
-  pub can_make_second : (first lane : Lane) (others : List Lane) (site : ℕ) → Stands sub n dispatch sites world (first ∷ lane ∷ others) → n < 2 ^ 63 → site < sites → CanMake sub world lane parent.Current site
+  pub can_make_second : (first lane : Lane) (others : List Lane) (site : ℕ) → StandsReady sub n dispatch sites world (first ∷ lane ∷ others) → n < 2 ^ 63 → site < sites → CanMake sub world lane parent.Current site
   can_make_second first lane others site stands early within = can_make lane (first ∷ others) site (turned stands) early within
 
-  pub can_make_root : (lane : Lane) (others : List Lane) (site : ℕ) → Stands sub n dispatch sites world (lane ∷ others) → n < 2 ^ 63 → site < sites → CanMake sub world lane parent.Root site
+  pub can_make_root : (lane : Lane) (others : List Lane) (site : ℕ) → StandsReady sub n dispatch sites world (lane ∷ others) → n < 2 ^ 63 → site < sites → CanMake sub world lane parent.Root site
   can_make_root lane others site stands early within = make_at sub n dispatch sites world lane others parent.Root site early within tt stands
 
-  pub can_make_under : (lane : Lane) (others : List Lane) (site : ℕ) (handle : Handle) → Stands sub n dispatch sites world (lane ∷ others) → n < 2 ^ 63 → site < sites → IsHeld sub dispatch world handle → CanMake sub world lane (place_under handle.held) site
+  pub can_make_under : (lane : Lane) (others : List Lane) (site : ℕ) (handle : Handle) → StandsReady sub n dispatch sites world (lane ∷ others) → n < 2 ^ 63 → site < sites → IsHeld sub dispatch world handle → CanMake sub world lane (place_under handle.held) site
   can_make_under lane others site handle stands early within held =
       make_at sub n dispatch sites world lane others (place_under handle.held) site early within (live_under handle.held (spans_in sub.spans world dispatch) (live_on sub dispatch world handle.held held.own held.known)) stands
 
-  pub can_make_under_second : (first lane : Lane) (others : List Lane) (site : ℕ) (handle : Handle) → Stands sub n dispatch sites world (first ∷ lane ∷ others) → n < 2 ^ 63 → site < sites → IsHeld sub dispatch world handle → CanMake sub world lane (place_under handle.held) site
+  pub can_make_under_second : (first lane : Lane) (others : List Lane) (site : ℕ) (handle : Handle) → StandsReady sub n dispatch sites world (first ∷ lane ∷ others) → n < 2 ^ 63 → site < sites → IsHeld sub dispatch world handle → CanMake sub world lane (place_under handle.held) site
   can_make_under_second first lane others site handle stands early within held = can_make_under lane (first ∷ others) site handle (turned stands) early within held
 
-  pub can_tell_second : (first lane : Lane) (others : List Lane) (site : ℕ) → Stands sub n dispatch sites world (first ∷ lane ∷ others) → site < sites → CanTell sub world lane site
+  pub can_tell_second : (first lane : Lane) (others : List Lane) (site : ℕ) → StandsReady sub n dispatch sites world (first ∷ lane ∷ others) → site < sites → CanTell sub world lane site
   can_tell_second first lane others site stands within = can_tell sub n dispatch sites world lane (first ∷ others) site (turned stands) within
 
-  pub can_exit_second : (first lane : Lane) (others : List Lane) (guard : Opened) → Stands sub n dispatch sites world (first ∷ lane ∷ others) → IsInside sub dispatch world guard → lane.id ≡ guard.lane → CanExit sub world lane guard
+  pub can_exit_second : (first lane : Lane) (others : List Lane) (guard : EntryGuard) → StandsReady sub n dispatch sites world (first ∷ lane ∷ others) → IsInside sub dispatch world guard → lane.id ≡ guard.lane → CanExit sub world lane guard
   can_exit_second first lane others guard stands inside here = can_exit sub n dispatch sites world lane (first ∷ others) guard (turned stands) inside here
 
 -- what is told, and exited, on the lane that was just entered
-module _ {S : Type 0} (sub : Ghosts S) (n dispatch sites : ℕ) (old new : Worlds S) (before left : Lane) (handle : Handle) (guard : Opened) where
-  pub tell_entered : (others : List Lane) (site : ℕ) → Enters sub old new before left handle guard → Stands sub n dispatch sites old (before ∷ others) → IsHeld sub dispatch old handle → site < sites → CanTell sub new left site
+module _ {S : Type 0} (sub : Ghosts S) (n dispatch sites : ℕ) (old new : Worlds S) (before left : Lane) (handle : Handle) (guard : EntryGuard) where
+  pub tell_entered : (others : List Lane) (site : ℕ) → Enters sub old new before left handle guard → StandsReady sub n dispatch sites old (before ∷ others) → IsHeld sub dispatch old handle → site < sites → CanTell sub new left site
   tell_entered others site enters stands held within = can_tell sub (n + 1) dispatch sites new left others site (enters.stands n dispatch sites others held stands) within
 
-  pub tell_entered_second : (first : Lane) (others : List Lane) (site : ℕ) → Enters sub old new before left handle guard → Stands sub n dispatch sites old (first ∷ before ∷ others) → IsHeld sub dispatch old handle → site < sites → CanTell sub new left site
+  pub tell_entered_second : (first : Lane) (others : List Lane) (site : ℕ) → Enters sub old new before left handle guard → StandsReady sub n dispatch sites old (first ∷ before ∷ others) → IsHeld sub dispatch old handle → site < sites → CanTell sub new left site
   tell_entered_second first others site enters stands held within = tell_entered (first ∷ others) site enters (turned stands) held within
 
-  pub exit_entered : (others : List Lane) → Enters sub old new before left handle guard → Stands sub n dispatch sites old (before ∷ others) → IsHeld sub dispatch old handle → CanExit sub new left guard
+  pub exit_entered : (others : List Lane) → Enters sub old new before left handle guard → StandsReady sub n dispatch sites old (before ∷ others) → IsHeld sub dispatch old handle → CanExit sub new left guard
   exit_entered others enters stands held = can_exit sub (n + 1) dispatch sites new left others guard (enters.stands n dispatch sites others held stands) (inside_if_entered sub old new before left handle guard dispatch enters held) (enters.lane_id ∙ sym enters.on)
 
-  pub exit_entered_second : (first : Lane) (others : List Lane) → Enters sub old new before left handle guard → Stands sub n dispatch sites old (first ∷ before ∷ others) → IsHeld sub dispatch old handle → CanExit sub new left guard
+  pub exit_entered_second : (first : Lane) (others : List Lane) → Enters sub old new before left handle guard → StandsReady sub n dispatch sites old (first ∷ before ∷ others) → IsHeld sub dispatch old handle → CanExit sub new left guard
   exit_entered_second first others enters stands held = exit_entered (first ∷ others) enters (turned stands) held
 
 -- and again where nothing that is read changed
-pub exit_stays : {S : Type 0} (sub : Ghosts S) (old new : Worlds S) (lane : Lane) (guard : Opened) → Stays sub old new → CanExit sub old lane guard → CanExit sub new lane guard
+pub exit_stays : {S : Type 0} (sub : Ghosts S) (old new : Worlds S) (lane : Lane) (guard : EntryGuard) → Stays sub old new → CanExit sub old lane guard → CanExit sub new lane guard
 exit_stays sub old new lane guard stays can = record {
   on = can.on;
   there = there_stays sub old new guard.span.held stays can.there;
@@ -199,7 +199,7 @@ pub can_ask_held : {S : Type 0} (sub : Ghosts S) (dispatch : ℕ) (world : World
 can_ask_held sub dispatch world handle held = record { there = there_on sub world handle.held held.known }
 
 -- a handle is of the subscriber of a lane
-pub of_lane : {S : Type 0} (sub : Ghosts S) (dispatch : ℕ) (world : Worlds S) (lane : Lane) (handle : Handle) → IsHeld sub dispatch world handle → Serves dispatch world lane → IfSome (dispatch_on lane.default world.global) (IsOf handle.held)
+pub of_lane : {S : Type 0} (sub : Ghosts S) (dispatch : ℕ) (world : Worlds S) (lane : Lane) (handle : Handle) → IsHeld sub dispatch world handle → ServesLane dispatch world lane → IfSome (dispatch_on lane.default world.global) (IsOf handle.held)
 of_lane sub dispatch world lane handle held serves = subst (λ (o : Option ℕ). IfSome o (IsOf handle.held)) (sym serves.serves) held.own
 
 pub ruleset standing = (stepping, stays_as_before, alike_stands, can_make, can_make_second, can_make_root, can_make_under, can_make_under_second, can_tell, can_tell_second, can_close, can_enter, can_exit, can_exit_second, tell_entered, tell_entered_second, exit_entered, exit_entered_second, exit_stays, close_stays, can_ask, can_ask_held, of_lane)

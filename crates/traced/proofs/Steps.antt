@@ -7,8 +7,8 @@ use Rattle.trace_base.specs.declared.span.Parent.{Parent}
 use Rattle.trace_base.specs.declared.subscriber.Subscriber.{Ghosts}
 use Rattle.trace_base.specs.Gate.{Worlds}
 use Rattle.span_handles.specs.Handles.{Handle}
-use Rattle.span_handles.specs.Entries.{Opened}
-use Rattle.traced.specs.Standing.{Stands, Serves, IsHeld}
+use Rattle.span_handles.specs.Entries.{EntryGuard}
+use Rattle.traced.specs.Standing.{StandsReady, ServesLane, IsHeld}
 use Rattle.traced.specs.AsBefore.{IsAsBefore, HasMade, HasEntered, IsInside}
 use Rattle.traced.specs.Making.{MakesIfAnswered}
 use Rattle.traced.specs.Moving.{Closes, Enters, Refuses, Exits}
@@ -17,10 +17,10 @@ use Rattle.traced.proofs.Restored.{on, opened, stays_newest, stays_entered, stay
 use Rattle.traced.proofs.Moves.{later, stays_as_before}
 
 -- a bound that is less strict, and calls on the next lane, for answers
-pub late : {S : Type 0} {sub : Ghosts S} {n m dispatch sites : ℕ} {world : Worlds S} {lanes : List Lane} → Stands sub n dispatch sites world lanes → n ≤ m → Stands sub m dispatch sites world lanes
+pub late : {S : Type 0} {sub : Ghosts S} {n m dispatch sites : ℕ} {world : Worlds S} {lanes : List Lane} → StandsReady sub n dispatch sites world lanes → n ≤ m → StandsReady sub m dispatch sites world lanes
 late {S} {sub} {n} {m} {dispatch} {sites} {world} {lanes} stands within = later sub n m dispatch sites world lanes within stands
 
-pub turned : {S : Type 0} {sub : Ghosts S} {n dispatch sites : ℕ} {world : Worlds S} {lane other : Lane} {others : List Lane} → Stands sub n dispatch sites world (lane ∷ other ∷ others) → Stands sub n dispatch sites world (other ∷ lane ∷ others)
+pub turned : {S : Type 0} {sub : Ghosts S} {n dispatch sites : ℕ} {world : Worlds S} {lane other : Lane} {others : List Lane} → StandsReady sub n dispatch sites world (lane ∷ other ∷ others) → StandsReady sub n dispatch sites world (other ∷ lane ∷ others)
 turned stands = record {
   there = stands.there;
   whole = stands.whole;
@@ -30,21 +30,21 @@ turned stands = record {
 }
 
 module _ {S : Type 0} (sub : Ghosts S) where
-  pub stands_later : (n m dispatch sites : ℕ) (world : Worlds S) (lanes : List Lane) → Stands sub n dispatch sites world lanes → n ≤ m → Stands sub m dispatch sites world lanes
+  pub stands_later : (n m dispatch sites : ℕ) (world : Worlds S) (lanes : List Lane) → StandsReady sub n dispatch sites world lanes → n ≤ m → StandsReady sub m dispatch sites world lanes
   stands_later n m dispatch sites world lanes stands within = later sub n m dispatch sites world lanes within stands
 
-  pub serves_first : (n dispatch sites : ℕ) (world : Worlds S) (lane : Lane) (others : List Lane) → Stands sub n dispatch sites world (lane ∷ others) → Serves dispatch world lane
+  pub serves_first : (n dispatch sites : ℕ) (world : Worlds S) (lane : Lane) (others : List Lane) → StandsReady sub n dispatch sites world (lane ∷ others) → ServesLane dispatch world lane
   serves_first n dispatch sites world lane others stands = record { serves = stands.served.0.serves }
 
-  pub serves_second : (n dispatch sites : ℕ) (world : Worlds S) (first lane : Lane) (others : List Lane) → Stands sub n dispatch sites world (first ∷ lane ∷ others) → Serves dispatch world lane
+  pub serves_second : (n dispatch sites : ℕ) (world : Worlds S) (first lane : Lane) (others : List Lane) → StandsReady sub n dispatch sites world (first ∷ lane ∷ others) → ServesLane dispatch world lane
   serves_second n dispatch sites world first lane others stands = record { serves = stands.served.2.0.serves }
 
   -- a span
   module _ (old new : Worlds S) (lane : Lane) (at : ℕ) (place : Parent) (site : ℕ) (values : ValueSet) where
-    pub has_made : (dispatch : ℕ) (handle : Handle) → MakesIfAnswered sub old new lane at place site values (Ok handle) → Serves dispatch old lane → HasMade sub dispatch old new handle
+    pub has_made : (dispatch : ℕ) (handle : Handle) → MakesIfAnswered sub old new lane at place site values (Ok handle) → ServesLane dispatch old lane → HasMade sub dispatch old new handle
     has_made dispatch handle makes serves = makes.newest dispatch serves.serves
 
-    pub held_if_made : (dispatch : ℕ) (handle : Handle) → MakesIfAnswered sub old new lane at place site values (Ok handle) → Serves dispatch old lane → IsHeld sub dispatch new handle
+    pub held_if_made : (dispatch : ℕ) (handle : Handle) → MakesIfAnswered sub old new lane at place site values (Ok handle) → ServesLane dispatch old lane → IsHeld sub dispatch new handle
     held_if_made dispatch handle makes serves = (makes.newest dispatch serves.serves).held
 
     pub none_if_refused : (dispatch : ℕ) (memory : Memory) → MakesIfAnswered sub old new lane at place site values (Err memory) → IsAsBefore sub dispatch old new
@@ -55,7 +55,7 @@ module _ {S : Type 0} (sub : Ghosts S) where
   closed_again start old new handle dispatch closes made = closes.as_before dispatch start made
 
   -- an entry
-  module _ (old new : Worlds S) (before left : Lane) (handle : Handle) (guard : Opened) where
+  module _ (old new : Worlds S) (before left : Lane) (handle : Handle) (guard : EntryGuard) where
     pub has_entered : (dispatch : ℕ) → Enters sub old new before left handle guard → IsHeld sub dispatch old handle → HasEntered sub dispatch old new guard
     has_entered dispatch enters held = enters.entered dispatch held
 
@@ -70,7 +70,7 @@ module _ {S : Type 0} (sub : Ghosts S) where
     none_entered dispatch refuses = refuses.as_before dispatch
 
   -- an exit
-  module _ (old new : Worlds S) (before left : Lane) (guard : Opened) where
+  module _ (old new : Worlds S) (before left : Lane) (guard : EntryGuard) where
     pub exited_again : (start : Worlds S) (dispatch : ℕ) → Exits sub old new before left guard → HasEntered sub dispatch start old guard → IsAsBefore sub dispatch start new
     exited_again start dispatch exits entered = exits.as_before dispatch start entered
 
@@ -90,7 +90,7 @@ module _ {S : Type 0} (sub : Ghosts S) where
       newest = stays_newest handle.held _ _ _ made.newest same.as_before;
     }
 
-    pub entered_after : (start old new : Worlds S) (guard : Opened) → IsAsBefore sub dispatch old new → HasEntered sub dispatch start old guard → HasEntered sub dispatch start new guard
+    pub entered_after : (start old new : Worlds S) (guard : EntryGuard) → IsAsBefore sub dispatch old new → HasEntered sub dispatch start old guard → HasEntered sub dispatch start new guard
     entered_after start old new guard same entered = record {
       known = λ held known. same.known held (entered.known held known);
       held = held_after old new guard.span same entered.held;
@@ -98,7 +98,7 @@ module _ {S : Type 0} (sub : Ghosts S) where
       entered_once = stays_entered guard.span.held guard.lane _ _ _ entered.entered_once same.as_before;
     }
 
-    pub inside_after : (old new : Worlds S) (guard : Opened) → IsAsBefore sub dispatch old new → IsInside sub dispatch old guard → IsInside sub dispatch new guard
+    pub inside_after : (old new : Worlds S) (guard : EntryGuard) → IsAsBefore sub dispatch old new → IsInside sub dispatch old guard → IsInside sub dispatch new guard
     inside_after old new guard same inside = record {
       held = held_after old new guard.span same inside.held;
       open_still = stays_open guard.span.held guard.lane _ _ inside.open_still same.as_before;
@@ -114,7 +114,7 @@ module _ {S : Type 0} (sub : Ghosts S) where
     pub made_stays : (start old new : Worlds S) (handle : Handle) → Stays sub old new → HasMade sub dispatch start old handle → HasMade sub dispatch start new handle
     made_stays start old new handle stays made = made_after start old new handle (stays_as_before sub dispatch old new stays) made
 
-    pub entered_stays : (start old new : Worlds S) (guard : Opened) → Stays sub old new → HasEntered sub dispatch start old guard → HasEntered sub dispatch start new guard
+    pub entered_stays : (start old new : Worlds S) (guard : EntryGuard) → Stays sub old new → HasEntered sub dispatch start old guard → HasEntered sub dispatch start new guard
     entered_stays start old new guard stays entered = entered_after start old new guard (stays_as_before sub dispatch old new stays) entered
 
 pub ruleset stepping = (stands_later, serves_first, serves_second, has_made, held_if_made, none_if_refused, closed_again, has_entered, inside_if_entered, none_entered, exited_again, again, held_after, made_after, entered_after, inside_after, again_stays, held_stays, made_stays, entered_stays)

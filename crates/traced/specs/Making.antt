@@ -7,16 +7,16 @@ use Rattle.trace_base.specs.declared.span.Parent.{Parent}
 use Rattle.trace_base.specs.declared.subscriber.Subscriber.{Ghosts}
 use Rattle.trace_base.specs.Gate.{Worlds, dispatch_on}
 use Rattle.span_handles.specs.Handles.{Handle, no_handle}
-use Rattle.traced.specs.Standing.{Stands, CanClose}
+use Rattle.traced.specs.Standing.{StandsReady, CanClose}
 use Rattle.traced.specs.AsBefore.{IsAsBefore, HasMade}
-use Rattle.traced.specs.Gating.{Answers, MakesOne}
+use Rattle.traced.specs.Gating.{AnswersGate, MakesOne}
 
 -- A span is made at a place where the gate lets its callsite through, else nothing happens. The world stands with a span
 -- more, the handle can be closed, and without memory all is as before.
 pub record MakesIfAnswered {S : Type 0} (sub : Ghosts S) (old new : Worlds S) (lane : Lane) (at : ℕ) (place : Parent) (site : ℕ) (values : ValueSet) (result : Result Handle Memory) : Type 0 where
-  pub made : Answers sub old lane site true → IfOk result (MakesOne sub old new lane at place site values)
-  pub refused : Answers sub old lane site false → (result ≡ Ok no_handle) × (new ≡ old)
-  pub stands : (most dispatch sites : ℕ) (lanes : List Lane) → Stands sub most dispatch sites old lanes → Stands sub (most + 1) dispatch sites new lanes
+  pub made : AnswersGate sub old lane site true → IfOk result (MakesOne sub old new lane at place site values)
+  pub refused : AnswersGate sub old lane site false → (result ≡ Ok no_handle) × (new ≡ old)
+  pub stands : (most dispatch sites : ℕ) (lanes : List Lane) → StandsReady sub most dispatch sites old lanes → StandsReady sub (most + 1) dispatch sites new lanes
   pub global : new.global ≡ old.global
   pub count : length new.subscribers ≡ length old.subscribers
   pub closes : IfOk result (CanClose sub new)

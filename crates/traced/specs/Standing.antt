@@ -10,7 +10,7 @@ use Rattle.trace_base.specs.Spans.{Spans, span_at}
 use Rattle.span_registry.specs.Registering.{no_spans}
 use Rattle.span_handles.specs.Worlds.{Has, spans_in, kept_in}
 use Rattle.span_handles.specs.Handles.{Handle, IsKnown, HasOn, HasIf, IsOf, MayMakeIf}
-use Rattle.span_handles.specs.Entries.{Opened, IsThere, IsStillOn}
+use Rattle.span_handles.specs.Entries.{EntryGuard, IsThere, IsStillOn}
 
 -- at most so many spans, and so many holds of each
 pub record AreAtMost (most : ℕ) (x : Spans) : Type 0 where
@@ -23,18 +23,18 @@ pub record IsServed (global : Option ℕ) (kept : ℕ → ℕ → ℕ) (dispatch
   pub attached : AreAttached kept lane
 
 -- the lane's id is none of theirs
-abbrev pub IsApart : Lane → List Lane → Type 0
-IsApart lane [] = Unit {0}
-IsApart lane (other ∷ others) = (other.id ≡ lane.id → ⊥) × IsApart lane others
+abbrev pub HasOwnId : Lane → List Lane → Type 0
+HasOwnId lane [] = Unit {0}
+HasOwnId lane (other ∷ others) = (other.id ≡ lane.id → ⊥) × HasOwnId lane others
 
 -- the subscriber serves some lanes, all with ids of their own
 abbrev pub AreServed : Option ℕ → (ℕ → ℕ → ℕ) → ℕ → List Lane → Type 0
 AreServed global kept dispatch [] = Unit {0}
-AreServed global kept dispatch (lane ∷ lanes) = IsServed global kept dispatch lane × IsApart lane lanes × AreServed global kept dispatch lanes
+AreServed global kept dispatch (lane ∷ lanes) = IsServed global kept dispatch lane × HasOwnId lane lanes × AreServed global kept dispatch lanes
 
 -- A subscriber is there and whole and serves these lanes; it has at most so many spans, and holds of each, and there are at
 -- least so many callsites.
-pub record Stands {S : Type 0} (sub : Ghosts S) (most dispatch sites : ℕ) (world : Worlds S) (lanes : List Lane) : Type 0 where
+pub record StandsReady {S : Type 0} (sub : Ghosts S) (most dispatch sites : ℕ) (world : Worlds S) (lanes : List Lane) : Type 0 where
   pub there : dispatch < length world.subscribers
   pub whole : Has sub.is_whole world dispatch
   pub few : AreAtMost most (spans_in sub.spans world dispatch)
@@ -42,7 +42,7 @@ pub record Stands {S : Type 0} (sub : Ghosts S) (most dispatch sites : ℕ) (wor
   pub served : AreServed world.global (kept_in sub.kept world dispatch) dispatch lanes
 
 -- the subscriber serves a lane
-pub record Serves {S : Type 0} (dispatch : ℕ) (world : Worlds S) (lane : Lane) : Type 0 where
+pub record ServesLane {S : Type 0} (dispatch : ℕ) (world : Worlds S) (lane : Lane) : Type 0 where
   pub serves : dispatch_on lane.default world.global ≡ Some dispatch
 
 -- a handle of the subscriber, which knows it
@@ -78,7 +78,7 @@ pub record CanAsk {S : Type 0} (world : Worlds S) (handle : Handle) : Type 0 whe
   pub there : IsThere world handle.held
 
 -- the lane is the one of a guard, and the guard's entry may be exited on it
-pub record CanExit {S : Type 0} (sub : Ghosts S) (world : Worlds S) (lane : Lane) (guard : Opened) : Type 0 where
+pub record CanExit {S : Type 0} (sub : Ghosts S) (world : Worlds S) (lane : Lane) (guard : EntryGuard) : Type 0 where
   pub on : lane.id ≡ guard.lane
   pub there : IsThere world guard.span.held
   pub whole : HasOn (λ s id. sub.is_whole s) world guard.span.held
@@ -88,7 +88,7 @@ pub record CanExit {S : Type 0} (sub : Ghosts S) (world : Worlds S) (lane : Lane
 -- some lanes have this subscriber, and ids of their own
 abbrev pub AreAssigned : Option ℕ → ℕ → List Lane → Type 0
 AreAssigned global dispatch [] = Unit {0}
-AreAssigned global dispatch (lane ∷ lanes) = (dispatch_on lane.default global ≡ Some dispatch) × IsApart lane lanes × AreAssigned global dispatch lanes
+AreAssigned global dispatch (lane ∷ lanes) = (dispatch_on lane.default global ≡ Some dispatch) × HasOwnId lane lanes × AreAssigned global dispatch lanes
 
 -- a stack that knows no span, and keeps nothing attached
 pub record IsUnused {S : Type 0} (sub : Ghosts S) (stack : S) : Type 0 where

@@ -2,7 +2,7 @@
 ghost use Rattle.std.specs.Prelude.{◌≡◌, ◌≤◌, ◌+◌, ℕ, List, Some, length, IfOk, IfErr, OnOk, OnErr};
 ghost use Rattle.trace_base.specs.declared.lane.Lane.{Lane};
 ghost use Rattle.trace_base.specs.Gate.{AreSame};
-ghost use Rattle.traced.specs.Standing.{Stands, AreAssigned, IsUnused};
+ghost use Rattle.traced.specs.Standing.{StandsReady, AreAssigned, IsUnused};
 
 use crate::laws::lawful;
 use otel_base::memory::Memory;
@@ -18,7 +18,7 @@ pub fn start<S: Subscriber>(world: &mut World<S>, stack: S) -> Result<Dispatch, 
     requires { IsUnused S.Subscriber stack }
     ensures dispatch { IfOk result (λ dispatch. dispatch ≡ length world.old.subscribers) }
     ensures stands { IfOk result (λ dispatch. (sites : ℕ) (lanes : List Lane) → sites ≤ length world.old.sites
-        → AreAssigned world.new.global dispatch lanes → Stands S.Subscriber 0 dispatch sites world.new lanes) }
+        → AreAssigned world.new.global dispatch lanes → StandsReady S.Subscriber 0 dispatch sites world.new lanes) }
     ensures count { OnOk result (length world.new.subscribers ≡ length world.old.subscribers + 1) }
     ensures back { IfErr result (λ refused. S.same stack refused.0) }
     ensures memory_same { OnErr result (AreSame S.same world.old.subscribers world.new.subscribers) }

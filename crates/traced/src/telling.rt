@@ -4,7 +4,7 @@ ghost use Rattle.trace_base.specs.declared.span.Parent.TheVariants as parent;
 ghost use Rattle.trace_base.specs.Gate.{dispatch_on};
 ghost use Rattle.span_handles.specs.Worlds.{Has, Replaced};
 ghost use Rattle.span_handles.specs.Handles.{ReplacedIf};
-ghost use Rattle.traced.specs.Gating.{Answers, Tells, TellsIf, TellsOne};
+ghost use Rattle.traced.specs.Gating.{AnswersGate, TellsEvent, TellsEventIf, TellsOne};
 ghost use Rattle.traced.specs.Staying.{Stays};
 ghost use Rattle.traced.specs.Standing.{CanTell};
 
@@ -27,9 +27,9 @@ pub fn event<S: Subscriber>(
     values: &ValueSet,
 ) -> Result<(), Memory>
     requires { CanTell S.Subscriber world.old lane.now site }
-    ensures told { Answers S.Subscriber world.old lane.now site true
+    ensures told { AnswersGate S.Subscriber world.old lane.now site true
         → OnOk result (TellsOne S.Subscriber world.old world.new lane.now at parent.Current site values.now) }
-    ensures refused { Answers S.Subscriber world.old lane.now site false → IsOk result × (world.new ≡ world.old) }
+    ensures refused { AnswersGate S.Subscriber world.old lane.now site false → IsOk result × (world.new ≡ world.old) }
     ensures stays { Stays S.Subscriber world.old world.new }
 {
     lawful::<S>();
@@ -50,7 +50,7 @@ fn deliver<S: Subscriber>(
 ) -> Result<(), Memory>
     requires { CanTell S.Subscriber world.old lane.now site }
     ensures did { OnOk result
-        (TellsIf S.Subscriber world.old world.new lane.now at parent.Current site values.now
+        (TellsEventIf S.Subscriber world.old world.new lane.now at parent.Current site values.now
         (dispatch_on lane.now.default world.old.global)) }
     ensures memory_leaves { OnErr result
         (ReplacedIf S.same world.old world.new (dispatch_on lane.now.default world.old.global)) }
@@ -74,7 +74,7 @@ fn tell<S: Subscriber>(
     requires site { site < length world.old.sites }
     requires whole { Has S.is_whole world.old dispatch }
     ensures did { OnOk result
-        (Tells S.Subscriber world.old world.new lane.now at parent.Current site values.now dispatch) }
+        (TellsEvent S.Subscriber world.old world.new lane.now at parent.Current site values.now dispatch) }
     ensures memory_leaves { OnErr result (Replaced S.same world.old world.new dispatch) }
 {
     let (subscriber, callsite) = world.subscriber_and_site(dispatch, site);

@@ -7,9 +7,9 @@ use Rattle.trace_base.specs.declared.subscriber.Subscriber.{Ghosts}
 use Rattle.trace_base.specs.Gate.{Worlds}
 use Rattle.trace_base.specs.Calls.{Exit}
 use Rattle.span_handles.specs.Handles.{IsKnown, ReplacedOn}
-use Rattle.span_handles.specs.Entries.{Opened, MeetsFullLane}
+use Rattle.span_handles.specs.Entries.{EntryGuard, MeetsFullLane}
 use Rattle.span_futures.specs.declared.instrument.Instrumented.{Instrumented}
-use Rattle.span_futures.specs.Polls.{Polled, IsRefused, IsInside}
+use Rattle.span_futures.specs.Polls.{Polled, CannotEnter, IsInside}
 use Rattle.span_futures.proofs.Inside.{begun, ended, keeps_nothing}
 use Rattle.traced.specs.Laws.{IsLawful}
 use Rattle.traced.proofs.Elsewhere.{count_on}
@@ -22,7 +22,7 @@ no_error (Ok x) is ok = absurd (cc is)
 no_error (Err e) is ok = absurd (cc ok)
 
 module _ {T S A : Type 0} (sub : Ghosts S) (law : IsLawful sub) (future : Instrumented T) (old : Worlds S) (before : Lane) (at : ℕ) (result : Polled A) (next : Instrumented T) (new : Worlds S) (left : Lane) where
-  of_refused : IsRefused sub.same sub.activates future old before result next new left → Polls sub old new before left future.span
+  of_refused : CannotEnter sub.same sub.activates future old before result next new left → Polls sub old new before left future.span
   of_refused r =
       let refused = refuses sub law old new before left future.span.held (Err r.error) r.nothing r.lane_same in
       record {
@@ -35,7 +35,7 @@ module _ {T S A : Type 0} (sub : Ghosts S) (law : IsLawful sub) (future : Instru
   of_inside : IsKnown sub.spans old future.span.held → IsInside sub.does sub.activates LeavesAll future old before at result next new left → Polls sub old new before left future.span
   of_inside known r =
       let handle = future.span in
-      let guard : Opened = record { span = handle; lane = before.id } in
+      let guard : EntryGuard = record { span = handle; lane = before.id } in
       let inside = begun sub.spans sub.attaches sub.kept sub.is_whole sub.does law.sound law.allowed law.shows law.lanes law.keeps_whole at handle.held old r.world before r.lane r.entered in
       let did : ReplacedOn (λ id s t. sub.does s (Exit id at r.lane left) t) r.world new handle.held =
       subst (λ (w : Worlds S). ReplacedOn (λ id s t. sub.does s (Exit id at r.lane left) t) w new handle.held) r.polled.0

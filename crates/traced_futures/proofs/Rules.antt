@@ -8,7 +8,7 @@ use Rattle.trace_base.specs.declared.subscriber.Subscriber.{Ghosts}
 use Rattle.trace_base.specs.Gate.{Worlds}
 use Rattle.span_handles.specs.Handles.{Handle}
 use Rattle.span_futures.specs.declared.instrument.Instrumented.{Instrumented}
-use Rattle.traced.specs.Standing.{Stands}
+use Rattle.traced.specs.Standing.{StandsReady}
 use Rattle.traced.specs.AsBefore.{HasMade}
 use Rattle.traced.proofs.Rules.{own_there}
 use Rattle.traced.proofs.Steps.{made_after}
@@ -34,7 +34,7 @@ one_span {T} same = ap (λ (f : Instrumented T). f.span) same
 
 module _ {S : Type 0} (sub : Ghosts S) where
   -- the only subscriber of a world serves a lane, so both may be lent
-  pub can_lend : (n sites : ℕ) (world : Worlds S) (lane : Lane) (others : List Lane) → Stands sub n 0 sites world (lane ∷ others) → length world.subscribers ≡ 1 → CanLend sub world lane
+  pub can_lend : (n sites : ℕ) (world : Worlds S) (lane : Lane) (others : List Lane) → StandsReady sub n 0 sites world (lane ∷ others) → length world.subscribers ≡ 1 → CanLend sub world lane
   can_lend n sites world lane others stands one = record {
     whole = only_first sub.is_whole world.subscribers one stands.whole;
     own = own_there world 0 lane.default world.global stands.there stands.served.0.serves;

@@ -7,8 +7,8 @@ use Rattle.trace_base.specs.Gate.{Worlds, IsOwn}
 use Rattle.span_handles.specs.Handles.{Handle}
 use Rattle.span_futures.specs.declared.instrument.Instrumented.{Instrumented}
 use Rattle.span_futures.specs.Lent.{HasAll, AreAllAttached}
-use Rattle.span_futures.specs.Polls.{Polled, IsRefused, IsInside}
-use Rattle.traced.specs.Standing.{Stands, IsHeld}
+use Rattle.span_futures.specs.Polls.{Polled, CannotEnter, IsInside}
+use Rattle.traced.specs.Standing.{StandsReady, IsHeld}
 use Rattle.traced.specs.AsBefore.{IsAsBefore}
 
 -- A world and a lane can be lent to a future, which may call any subscriber: each is whole, and what it keeps attached to
@@ -25,7 +25,7 @@ LeavesAll future old before at result next new later = (new ≡ old) × (later �
 -- such a future was polled inside its span, or that couldn't be entered and the future wasn't polled
 abbrev pub PollsPlain : {T S A : Type 0} → Ghosts S → Instrumented T → Worlds S → Lane → ℕ → Polled A → Instrumented T → Worlds S → Lane → Type 0
 PollsPlain sub future old before at result next new later =
-    IsRefused sub.same sub.activates future old before result next new later
+    CannotEnter sub.same sub.activates future old before result next new later
     ⊎ IsInside sub.does sub.activates LeavesAll future old before at result next new later
 
 -- whether a poll came to a value
@@ -42,5 +42,5 @@ PollsOnce A sub future old before at ready next new later = (polled : Polled A) 
 pub record Polls {S : Type 0} (sub : Ghosts S) (old new : Worlds S) (before left : Lane) (handle : Handle) : Type 0 where
   pub lane_id : left.id ≡ before.id
   pub count : length new.subscribers ≡ length old.subscribers
-  pub stands : (most dispatch sites : ℕ) (others : List Lane) → IsHeld sub dispatch old handle → Stands sub most dispatch sites old (before ∷ others) → Stands sub (most + 1) dispatch sites new (left ∷ others)
+  pub stands : (most dispatch sites : ℕ) (others : List Lane) → IsHeld sub dispatch old handle → StandsReady sub most dispatch sites old (before ∷ others) → StandsReady sub (most + 1) dispatch sites new (left ∷ others)
   pub as_before : (dispatch : ℕ) → IsHeld sub dispatch old handle → IsAsBefore sub dispatch old new

@@ -3,20 +3,20 @@ use Rattle.std.proofs.Common.{◌≡◌, ℕ, Bool, true, List, [], ◌∷◌, �
 use Rattle.std.specs.Prelude.{IfSome}
 use Rattle.std.proofs.lemmas.Bool.Decides.{nat_tests}
 use Rattle.trace_base.specs.declared.level.LevelFilter.TheVariants.{TRACE}
-use Rattle.env_directives.specs.reading.Cuts.{cut, is_among, lacks}
+use Rattle.env_directives.specs.reading.Cuts.{pieces_at, is_among, lacks}
 use Rattle.env_directives.specs.reading.Faults.{HasNoPattern}
 use Rattle.env_directives.specs.reading.Forms.{begins, unless_empty, target_at}
-use Rattle.env_directives.specs.reading.Reading.{Answers, read_fields, read_fielded, read_bracket, reading, LeadsToNoPattern, SpanLeadsToNoPattern}
+use Rattle.env_directives.specs.reading.Reading.{AnswersRead, read_fields, read_fielded, read_bracket, reading, LeadsToNoPattern, SpanLeadsToNoPattern}
 use Rattle.env_directives.specs.declared.directive.ParseError.{ParseError}
 use Rattle.env_directives.specs.declared.directive.ParseError.TheVariants.{Shape, Level, Field, Pattern, Equals, Fields, Memory}
 use Rattle.env_directives.specs.declared.env.directive.Directive.{Directive}
 use Rattle.env_directives.proofs.cuts.CutsLemmas.{cut_joined, cut_front, cut_stop, cut_off}
 
 -- what a cut gives: the text is joined of its pieces, and these are a front without stops and a stop
-module _ (stops text front rest : List ℕ) (stop : ℕ) (is_front : front ≡ (cut stops text).front) (is_stop : Some stop ≡ (cut stops text).stop)
-    (is_rest : rest ≡ (cut stops text).rest) where
+module _ (stops text front rest : List ℕ) (stop : ℕ) (is_front : front ≡ (pieces_at stops text).front) (is_stop : Some stop ≡ (pieces_at stops text).stop)
+    (is_rest : rest ≡ (pieces_at stops text).rest) where
   pub pieces_joined : text ≡ front ++ stop ∷ rest
-  pieces_joined = rw (is_front, is_rest) (subst (λ (o : Option ℕ). text ≡ (cut stops text).front ++ cut_off o (cut stops text).rest) (sym is_stop) (cut_joined stops text))
+  pieces_joined = rw (is_front, is_rest) (subst (λ (o : Option ℕ). text ≡ (pieces_at stops text).front ++ cut_off o (pieces_at stops text).rest) (sym is_stop) (cut_joined stops text))
 
   pub piece_among : is_among stops stop ≡ true
   piece_among = subst (λ (o : Option ℕ). IfSome o (λ s. is_among stops s ≡ true)) (sym is_stop) (cut_stop stops text)
@@ -25,8 +25,8 @@ module _ (stops text front rest : List ℕ) (stop : ℕ) (is_front : front ≡ (
   piece_lacks = subst (λ (f : List ℕ). lacks stops f ≡ true) (sym is_front) (cut_front stops text)
 
 -- behind a span's name stands an opening brace
-module _ (patterns : Bool) (d : Directive) (text front rest : List ℕ) (stop : ℕ) (is_front : front ≡ (cut (codes "]{") text).front)
-    (is_stop : Some stop ≡ (cut (codes "]{") text).stop) (is_rest : rest ≡ (cut (codes "]{") text).rest) (other : stop ≡ 93 → ⊥) where
+module _ (patterns : Bool) (d : Directive) (text front rest : List ℕ) (stop : ℕ) (is_front : front ≡ (pieces_at (codes "]{") text).front)
+    (is_stop : Some stop ≡ (pieces_at (codes "]{") text).stop) (is_rest : rest ≡ (pieces_at (codes "]{") text).rest) (other : stop ≡ 93 → ⊥) where
   brace : stop ≡ 123
   brace = let among : is_among (codes "]{") stop ≡ true = piece_among (codes "]{") text front rest stop is_front is_stop is_rest in grind (arith, nat_tests)
 
@@ -45,8 +45,8 @@ module _ (patterns : Bool) (d : Directive) (text front rest : List ℕ) (stop : 
 
   -- what is answered to fields
   pub span_answers : (r : Result Directive ParseError) →
-      Answers (λ d. d) patterns (LeadsToNoPattern rest) r (read_fielded (record d { in_span = unless_empty front }) (read_fields patterns [] rest)) →
-      Answers (λ d. d) patterns (SpanLeadsToNoPattern text) r (read_bracket patterns d text)
+      AnswersRead (λ d. d) patterns (LeadsToNoPattern rest) r (read_fielded (record d { in_span = unless_empty front }) (read_fields patterns [] rest)) →
+      AnswersRead (λ d. d) patterns (SpanLeadsToNoPattern text) r (read_bracket patterns d text)
   span_answers (Ok read) h = span_cut ∙ h
   span_answers (Err Memory) h = tt
   span_answers (Err Pattern) h = (h.0, span_leads h.1)
@@ -57,8 +57,8 @@ module _ (patterns : Bool) (d : Directive) (text front rest : List ℕ) (stop : 
   span_answers (Err (Fields many)) h = span_cut ∙ h
 
 -- behind a head stands an opening bracket
-module _ (patterns : Bool) (text front rest : List ℕ) (stop : ℕ) (start : begins text ≡ true) (is_front : front ≡ (cut (codes "=[,") text).front)
-    (is_stop : Some stop ≡ (cut (codes "=[,") text).stop) (is_rest : rest ≡ (cut (codes "=[,") text).rest)
+module _ (patterns : Bool) (text front rest : List ℕ) (stop : ℕ) (start : begins text ≡ true) (is_front : front ≡ (pieces_at (codes "=[,") text).front)
+    (is_stop : Some stop ≡ (pieces_at (codes "=[,") text).stop) (is_rest : rest ≡ (pieces_at (codes "=[,") text).rest)
     (no_comma : stop ≡ 44 → ⊥) (no_level : stop ≡ 61 → ⊥) where
   bracket : stop ≡ 91
   bracket = let among : is_among (codes "=[,") stop ≡ true = piece_among (codes "=[,") text front rest stop is_front is_stop is_rest in grind (arith, nat_tests)
@@ -85,8 +85,8 @@ module _ (patterns : Bool) (text front rest : List ℕ) (stop : ℕ) (start : be
     value = inner.leads.value;
   }
 
-  pub bracket_answers : (r : Result Directive ParseError) → Answers (λ d. d) patterns (SpanLeadsToNoPattern rest) r (read_bracket patterns (target_at front TRACE) rest) →
-      Answers (λ d. d) patterns (HasNoPattern text) r (reading patterns text)
+  pub bracket_answers : (r : Result Directive ParseError) → AnswersRead (λ d. d) patterns (SpanLeadsToNoPattern rest) r (read_bracket patterns (target_at front TRACE) rest) →
+      AnswersRead (λ d. d) patterns (HasNoPattern text) r (reading patterns text)
   bracket_answers (Ok d) h = head_cut ∙ h
   bracket_answers (Err Memory) h = tt
   bracket_answers (Err Pattern) h = (h.0, head_leads h.1)

@@ -6,31 +6,31 @@ use Rattle.std.specs.List.{list_all}
 use Rattle.std.proofs.lemmas.Bool.{ltb-true, eqb-true}
 use Rattle.std.proofs.lemmas.Str.{IsCharBoundary-before_ascii, IsCharBoundary-after_ascii}
 use Rattle.std.specs.Str.{IsCharBoundary, IsUtf8}
-use Rattle.env_directives.specs.reading.Cuts.{Pieces, cut, is_among, lacks}
+use Rattle.env_directives.specs.reading.Cuts.{Pieces, pieces_at, is_among, lacks}
 
 -- the same pieces, with a text more in front
 abbrev pub behind_front : List ℕ → Pieces → Pieces
 behind_front front pieces = record { front = front ++ pieces.front; stop = pieces.stop; rest = pieces.rest }
 
 -- where a text has none of the stops, a cut leaves it whole; at the first of them it cuts
-pub cut_whole : (stops text : List ℕ) → lacks stops text ≡ true → cut stops text ≡ record { front = text; stop = None; rest = [] }
+pub cut_whole : (stops text : List ℕ) → lacks stops text ≡ true → pieces_at stops text ≡ record { front = text; stop = None; rest = [] }
 cut_whole stops [] h = refl
 cut_whole stops (b ∷ bs) h = go (is_among stops b) refl h (cut_whole stops bs)
   where
     go : (c : Bool) → is_among stops b ≡ c → (not c && lacks stops bs) ≡ true →
-        (lacks stops bs ≡ true → cut stops bs ≡ record { front = bs; stop = None; rest = [] }) →
-        cut stops (b ∷ bs) ≡ record { front = b ∷ bs; stop = None; rest = [] }
+        (lacks stops bs ≡ true → pieces_at stops bs ≡ record { front = bs; stop = None; rest = [] }) →
+        pieces_at stops (b ∷ bs) ≡ record { front = b ∷ bs; stop = None; rest = [] }
     go true e h rest = absurd (true≢false (sym h))
     go false e h rest = rw (e, rest h) refl
 
 pub cut_at : (stops front : List ℕ) (stop : ℕ) (rest : List ℕ) → lacks stops front ≡ true → is_among stops stop ≡ true →
-    cut stops (front ++ stop ∷ rest) ≡ record { front = front; stop = Some stop; rest = rest }
+    pieces_at stops (front ++ stop ∷ rest) ≡ record { front = front; stop = Some stop; rest = rest }
 cut_at stops [] stop rest h among = rw among refl
 cut_at stops (b ∷ bs) stop rest h among = go (is_among stops b) refl h (cut_at stops bs stop rest)
   where
     go : (c : Bool) → is_among stops b ≡ c → (not c && lacks stops bs) ≡ true →
-        (lacks stops bs ≡ true → is_among stops stop ≡ true → cut stops (bs ++ stop ∷ rest) ≡ record { front = bs; stop = Some stop; rest = rest }) →
-        cut stops (b ∷ bs ++ stop ∷ rest) ≡ record { front = b ∷ bs; stop = Some stop; rest = rest }
+        (lacks stops bs ≡ true → is_among stops stop ≡ true → pieces_at stops (bs ++ stop ∷ rest) ≡ record { front = bs; stop = Some stop; rest = rest }) →
+        pieces_at stops (b ∷ bs ++ stop ∷ rest) ≡ record { front = b ∷ bs; stop = Some stop; rest = rest }
     go true e h later = absurd (true≢false (sym h))
     go false e h later = rw (e, later h among) refl
 
@@ -47,12 +47,12 @@ among_ascii (s ∷ ss) b h among = go (s == b) refl (nat_lt s 128) refl h among 
 
 -- a loop that looks for the place of the cut: one byte more, and the place
 pub cut_step : (stops text : List ℕ) (i : ℕ) → i < length text → is_among stops (get_or text i 0) ≡ false →
-    cut stops text ≡ behind_front (take i text) (cut stops (drop i text)) → cut stops text ≡ behind_front (take (i + 1) text) (cut stops (drop (i + 1) text))
+    pieces_at stops text ≡ behind_front (take i text) (pieces_at stops (drop i text)) → pieces_at stops text ≡ behind_front (take (i + 1) text) (pieces_at stops (drop (i + 1) text))
 cut_step stops text i lt other so = so ∙ rw (drop-cons text i 0 lt, other, add-one i, take-suc text i 0 lt) (simp (append_assoc) refl)
 
 pub cut_found : (stops text : List ℕ) (i : ℕ) → i < length text → is_among stops (get_or text i 0) ≡ true →
-    cut stops text ≡ behind_front (take i text) (cut stops (drop i text)) →
-    cut stops text ≡ record { front = take i text; stop = Some (get_or text i 0); rest = drop (i + 1) text }
+    pieces_at stops text ≡ behind_front (take i text) (pieces_at stops (drop i text)) →
+    pieces_at stops text ≡ record { front = take i text; stop = Some (get_or text i 0); rest = drop (i + 1) text }
 cut_found stops text i lt stop so = so ∙ rw (drop-cons text i 0 lt, stop, add-one i, append-nil (take i text)) refl
 
 -- a text may be cut in front of a stop and behind it
@@ -74,29 +74,29 @@ cut_off None rest = []
 cut_off (Some stop) rest = stop ∷ rest
 
 -- the pieces of a cut make up the text
-pub cut_joined : (stops text : List ℕ) → text ≡ (cut stops text).front ++ cut_off (cut stops text).stop (cut stops text).rest
+pub cut_joined : (stops text : List ℕ) → text ≡ (pieces_at stops text).front ++ cut_off (pieces_at stops text).stop (pieces_at stops text).rest
 cut_joined stops [] = refl
 cut_joined stops (b ∷ bs) = go (is_among stops b) refl (cut_joined stops bs)
   where
-    go : (c : Bool) → is_among stops b ≡ c → bs ≡ (cut stops bs).front ++ cut_off (cut stops bs).stop (cut stops bs).rest →
-        b ∷ bs ≡ (cut stops (b ∷ bs)).front ++ cut_off (cut stops (b ∷ bs)).stop (cut stops (b ∷ bs)).rest
+    go : (c : Bool) → is_among stops b ≡ c → bs ≡ (pieces_at stops bs).front ++ cut_off (pieces_at stops bs).stop (pieces_at stops bs).rest →
+        b ∷ bs ≡ (pieces_at stops (b ∷ bs)).front ++ cut_off (pieces_at stops (b ∷ bs)).stop (pieces_at stops (b ∷ bs)).rest
     go true e later = rw e refl
     go false e later = rw e (ap (λ (t : List ℕ). b ∷ t) later)
 
 -- its front has none of the stops, and what it is cut at is one of them
-pub cut_front : (stops text : List ℕ) → lacks stops (cut stops text).front ≡ true
+pub cut_front : (stops text : List ℕ) → lacks stops (pieces_at stops text).front ≡ true
 cut_front stops [] = refl
 cut_front stops (b ∷ bs) = go (is_among stops b) refl (cut_front stops bs)
   where
-    go : (c : Bool) → is_among stops b ≡ c → lacks stops (cut stops bs).front ≡ true → lacks stops (cut stops (b ∷ bs)).front ≡ true
+    go : (c : Bool) → is_among stops b ≡ c → lacks stops (pieces_at stops bs).front ≡ true → lacks stops (pieces_at stops (b ∷ bs)).front ≡ true
     go true e later = rw e refl
     go false e later = rw (e, e) later
 
-pub cut_stop : (stops text : List ℕ) → IfSome (cut stops text).stop (λ stop. is_among stops stop ≡ true)
+pub cut_stop : (stops text : List ℕ) → IfSome (pieces_at stops text).stop (λ stop. is_among stops stop ≡ true)
 cut_stop stops [] = tt
 cut_stop stops (b ∷ bs) = go (is_among stops b) refl (cut_stop stops bs)
   where
-    go : (c : Bool) → is_among stops b ≡ c → IfSome (cut stops bs).stop (λ stop. is_among stops stop ≡ true) →
-        IfSome (cut stops (b ∷ bs)).stop (λ stop. is_among stops stop ≡ true)
+    go : (c : Bool) → is_among stops b ≡ c → IfSome (pieces_at stops bs).stop (λ stop. is_among stops stop ≡ true) →
+        IfSome (pieces_at stops (b ∷ bs)).stop (λ stop. is_among stops stop ≡ true)
     go true e later = rw e e
     go false e later = rw e later

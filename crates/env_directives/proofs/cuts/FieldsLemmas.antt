@@ -5,9 +5,9 @@ use Rattle.std.specs.List.{AllByRecursion}
 use Rattle.std.proofs.lemmas.Bool.Decides.{nat_tests}
 use Rattle.std.proofs.lemmas.List.{length-append}
 use Rattle.std.proofs.lemmas.Grind.{flat_map-append}
-use Rattle.env_directives.specs.reading.Cuts.{cut, is_among, lacks}
+use Rattle.env_directives.specs.reading.Cuts.{pieces_at, is_among, lacks}
 use Rattle.env_directives.specs.reading.Forms.{each_with_comma, unless_empty, IsField}
-use Rattle.env_directives.specs.reading.Reading.{FieldsRead, field_ends, more_fields, read_fields, LeadsToNoPattern, Answers}
+use Rattle.env_directives.specs.reading.Reading.{FieldsRead, field_ends, more_fields, read_fields, LeadsToNoPattern, AnswersRead}
 use Rattle.env_directives.specs.reading.Values.{field_of, IsNoPatternField, MayFail}
 use Rattle.env_directives.specs.declared.env.field.Match.{Match}
 use Rattle.env_directives.specs.declared.directive.ParseError.TheVariants.{Shape, Level, Field, Pattern, Equals, Fields, Memory}
@@ -20,16 +20,16 @@ at_cut patterns field None rest = Err Shape
 at_cut patterns field (Some stop) rest = field_ends patterns (unless_empty field) stop rest (read_fields patterns [] rest)
 
 pub fields_cut : (patterns : Bool) (begun text : List ℕ) →
-    read_fields patterns begun text ≡ at_cut patterns (begun ++ (cut (codes ",}") text).front) (cut (codes ",}") text).stop (cut (codes ",}") text).rest
+    read_fields patterns begun text ≡ at_cut patterns (begun ++ (pieces_at (codes ",}") text).front) (pieces_at (codes ",}") text).stop (pieces_at (codes ",}") text).rest
 unfolding read_fields
 fields_cut patterns begun [] = refl
 fields_cut patterns begun (b ∷ bs) = go (is_among (codes ",}") b) refl (fields_cut patterns (begun ++ b ∷ []) bs)
   where
     go : (c : Bool) → is_among (codes ",}") b ≡ c →
-        read_fields patterns (begun ++ b ∷ []) bs ≡ at_cut patterns ((begun ++ b ∷ []) ++ (cut (codes ",}") bs).front) (cut (codes ",}") bs).stop (cut (codes ",}") bs).rest →
-        read_fields patterns begun (b ∷ bs) ≡ at_cut patterns (begun ++ (cut (codes ",}") (b ∷ bs)).front) (cut (codes ",}") (b ∷ bs)).stop (cut (codes ",}") (b ∷ bs)).rest
+        read_fields patterns (begun ++ b ∷ []) bs ≡ at_cut patterns ((begun ++ b ∷ []) ++ (pieces_at (codes ",}") bs).front) (pieces_at (codes ",}") bs).stop (pieces_at (codes ",}") bs).rest →
+        read_fields patterns begun (b ∷ bs) ≡ at_cut patterns (begun ++ (pieces_at (codes ",}") (b ∷ bs)).front) (pieces_at (codes ",}") (b ∷ bs)).stop (pieces_at (codes ",}") (b ∷ bs)).rest
     go true e later = rw (e, append-nil begun) refl
-    go false e later = rw e (later ∙ ap (λ (f : List ℕ). at_cut patterns f (cut (codes ",}") bs).stop (cut (codes ",}") bs).rest) (append_assoc begun (b ∷ []) (cut (codes ",}") bs).front))
+    go false e later = rw e (later ∙ ap (λ (f : List ℕ). at_cut patterns f (pieces_at (codes ",}") bs).stop (pieces_at (codes ",}") bs).rest) (append_assoc begun (b ∷ []) (pieces_at (codes ",}") bs).front))
 
 -- some fields in front of those that are read
 abbrev pub after_fields : List Match → FieldsRead → FieldsRead
@@ -45,10 +45,10 @@ after_none (Ok read) = refl
 after_none (Err e) = refl
 
 -- a piece of a text that isn't empty is a field, and the text goes on with what it was cut at
-pub field_piece : (text : List ℕ) (stop : ℕ) → (cut (codes ",}") text).stop ≡ Some stop → (0 < length (cut (codes ",}") text).front) →
-    IsField (cut (codes ",}") text).front × (text ≡ (cut (codes ",}") text).front ++ stop ∷ (cut (codes ",}") text).rest) × (is_among (codes ",}") stop ≡ true)
+pub field_piece : (text : List ℕ) (stop : ℕ) → (pieces_at (codes ",}") text).stop ≡ Some stop → (0 < length (pieces_at (codes ",}") text).front) →
+    IsField (pieces_at (codes ",}") text).front × (text ≡ (pieces_at (codes ",}") text).front ++ stop ∷ (pieces_at (codes ",}") text).rest) × (is_among (codes ",}") stop ≡ true)
 field_piece text stop at some = (
-  is_field (cut (codes ",}") text).front some (cut_front (codes ",}") text),
+  is_field (pieces_at (codes ",}") text).front some (cut_front (codes ",}") text),
   (rw at at (cut_joined (codes ",}") text)),
   rw at at (cut_stop (codes ",}") text),
 )
@@ -60,12 +60,12 @@ field_piece text stop at some = (
 -- One turn of a loop over the fields of a text: `fields` are read, and `text` is left of it, which is cut in pieces.
 module _ (patterns : Bool) (whole text front rest : List ℕ) (fields : List Match)
     (same : read_fields patterns [] whole ≡ after_fields fields (read_fields patterns [] text))
-    (is_front : front ≡ (cut (codes ",}") text).front) (is_rest : rest ≡ (cut (codes ",}") text).rest) where
-  now_cut : (stop : Option ℕ) → stop ≡ (cut (codes ",}") text).stop → read_fields patterns [] text ≡ at_cut patterns front stop rest
+    (is_front : front ≡ (pieces_at (codes ",}") text).front) (is_rest : rest ≡ (pieces_at (codes ",}") text).rest) where
+  now_cut : (stop : Option ℕ) → stop ≡ (pieces_at (codes ",}") text).stop → read_fields patterns [] text ≡ at_cut patterns front stop rest
   now_cut stop is_stop = rw (is_front, is_stop, is_rest) (fields_cut patterns [] text)
 
   -- the text ends
-  pub shape_left : None ≡ (cut (codes ",}") text).stop → read_fields patterns [] whole ≡ Err Shape
+  pub shape_left : None ≡ (pieces_at (codes ",}") text).stop → read_fields patterns [] whole ≡ Err Shape
   shape_left is_stop = same ∙ ap (after_fields fields) (now_cut None is_stop)
 
   at_empty : (f : List ℕ) (stop : ℕ) → true ≡ (length f == 0) → at_cut patterns f (Some stop) rest ≡ Err Field
@@ -73,12 +73,12 @@ module _ (patterns : Bool) (whole text front rest : List ℕ) (fields : List Mat
   at_empty (b ∷ bs) stop empty = absurd (true≢false (empty ∙ grind (arith, nat_tests)))
 
   -- a field is empty
-  pub empty_left : (stop : ℕ) → Some stop ≡ (cut (codes ",}") text).stop → true ≡ (length front == 0) → read_fields patterns [] whole ≡ Err Field
+  pub empty_left : (stop : ℕ) → Some stop ≡ (pieces_at (codes ",}") text).stop → true ≡ (length front == 0) → read_fields patterns [] whole ≡ Err Field
   empty_left stop is_stop empty = same ∙ ap (after_fields fields) (now_cut (Some stop) is_stop ∙ at_empty front stop empty)
 
-  module _ (stop : ℕ) (is_stop : Some stop ≡ (cut (codes ",}") text).stop) (some : false ≡ (length front == 0)) where
+  module _ (stop : ℕ) (is_stop : Some stop ≡ (pieces_at (codes ",}") text).stop) (some : false ≡ (length front == 0)) where
     joined : text ≡ front ++ stop ∷ rest
-    joined = rw (is_front, is_rest) (subst (λ (o : Option ℕ). text ≡ (cut (codes ",}") text).front ++ cut_off o (cut (codes ",}") text).rest) (sym is_stop) (cut_joined (codes ",}") text))
+    joined = rw (is_front, is_rest) (subst (λ (o : Option ℕ). text ≡ (pieces_at (codes ",}") text).front ++ cut_off o (pieces_at (codes ",}") text).rest) (sym is_stop) (cut_joined (codes ",}") text))
 
     stops : is_among (codes ",}") stop ≡ true
     stops = subst (λ (o : Option ℕ). IfSome o (λ s. is_among (codes ",}") s ≡ true)) (sym is_stop) (cut_stop (codes ",}") text)
@@ -141,7 +141,7 @@ module _ (patterns : Bool) (whole text front rest : List ℕ) (fields : List Mat
 
 -- a field that can't be read
 pub answers_fault : {X Y : Type 0} (view : X → Y) (patterns : Bool) (P Q : Type 0) (read : Result Y ParseError) (e : ParseError) →
-    MayFail patterns P e → (P → Q) → Answers view patterns Q (Err e) read
+    MayFail patterns P e → (P → Q) → AnswersRead view patterns Q (Err e) read
 answers_fault view patterns P Q read Memory h go = tt
 answers_fault view patterns P Q read Pattern h go = (h.0, go h.1)
 answers_fault view patterns P Q read Shape h go = absurd h

@@ -5,7 +5,7 @@ use Rattle.std.specs.List.{AllByRecursion}
 use Rattle.std.proofs.lemmas.Bool.{eqb-true}
 use Rattle.std.proofs.lemmas.Bool.Decides.{nat_tests}
 use Rattle.trace_base.specs.declared.level.LevelFilter.{LevelFilter}
-use Rattle.env_directives.specs.reading.Cuts.{cut, is_among, lacks}
+use Rattle.env_directives.specs.reading.Cuts.{pieces_at, is_among, lacks}
 use Rattle.env_directives.specs.reading.Faults.{IsEnd}
 use Rattle.env_directives.specs.reading.Forms.{unless_empty, IsField, IsLevelText, each_with_comma, level_behind}
 use Rattle.env_directives.specs.reading.Reading.{FieldsRead, at_level, read_last, read_behind, read_leveled, read_level, read_end, read_close, more_fields, field_ends, read_fields}
@@ -60,7 +60,7 @@ comma_among s among = grind (arith, nat_tests)
 
 pub level_explained : (d : Directive) (text : List ℕ) → Explained (LevelRead d text) (LevelUnread text) ⊥ (read_level d text)
 unfolding read_level read_last
-level_explained d text = by_pieces (cut (codes ",") text).front (cut (codes ",") text).stop (cut (codes ",") text).rest (cut_front (codes ",") text) (cut_stop (codes ",") text) (cut_joined (codes ",") text)
+level_explained d text = by_pieces (pieces_at (codes ",") text).front (pieces_at (codes ",") text).stop (pieces_at (codes ",") text).rest (cut_front (codes ",") text) (cut_stop (codes ",") text) (cut_joined (codes ",") text)
   where
     by_stop : (level : List ℕ) (found : LevelFilter) (stop : Option ℕ) (rest : List ℕ) → IsLevelText level → IfSome stop (λ s. is_among (codes ",") s ≡ true) → text ≡ level ++ cut_off stop rest →
         level_behind level ≡ Some found → Explained (LevelRead d text) (LevelUnread text) ⊥ (read_behind (at_level d found) stop rest)

@@ -7,7 +7,7 @@ use Rattle.trace_base.specs.declared.level.LevelFilter.{LevelFilter}
 use Rattle.trace_base.specs.declared.level.LevelFilter.TheVariants.{TRACE}
 use Rattle.env_directives.specs.reading.Cuts.{is_among}
 use Rattle.env_directives.specs.reading.Faults.{HasNoLevel, HasEmptyField, IsEnd}
-use Rattle.env_directives.specs.reading.Forms.{begins, unless_empty, target_at, opened, Front, bare, spanned, fielded, Form, alone, head_comma, leveled, leveled_comma, front_text, form_text, IsHead, IsSpan, IsField, IsOpened, IsFront, IsForm, IsLevelText, each_with_comma, directive_at, directive_alone, head_alone, level_behind, meaning, HasForm}
+use Rattle.env_directives.specs.reading.Forms.{begins, unless_empty, target_at, text_up_to_fields, Front, bare, spanned, fielded, DirectiveForm, alone, head_comma, leveled, leveled_comma, front_text, form_text, IsHead, IsSpan, IsField, IsOpened, IsDirectiveFront, IsForm, IsLevelText, each_with_comma, directive_at, directive_alone, head_alone, level_behind, directive_of_form, HasForm}
 use Rattle.env_directives.specs.reading.Reading.{at_level, read_last, read_level, read_end, read_close, more_fields, field_ends, read_fields, read_fielded, read_bracket, reading}
 use Rattle.env_directives.specs.reading.Values.{field_of}
 use Rattle.env_directives.specs.declared.directive.ParseError.TheVariants.{Level, Field}
@@ -76,27 +76,27 @@ spanned_then : (patterns : Bool) (head span rest : List ℕ) → begins (head ++
 spanned_then patterns head span rest start head_part span_part =
     head_then patterns head (span ++ 93 ∷ rest) start head_part ∙ span_then patterns (target_at head TRACE) span rest span_part
 
-opened_then : (patterns : Bool) (head span : List ℕ) (earlier : List (List ℕ)) (rest : List ℕ) → begins (opened head span earlier rest) ≡ true → IsHead head → IsSpan span →
-    reading patterns (opened head span earlier rest)
+opened_then : (patterns : Bool) (head span : List ℕ) (earlier : List (List ℕ)) (rest : List ℕ) → begins (text_up_to_fields head span earlier rest) ≡ true → IsHead head → IsSpan span →
+    reading patterns (text_up_to_fields head span earlier rest)
     ≡ read_fielded (record (target_at head TRACE) { in_span = unless_empty span }) (read_fields patterns [] (each_with_comma earlier ++ rest))
 opened_then patterns head span earlier rest start head_part span_part =
     head_then patterns head (span ++ 123 ∷ (each_with_comma earlier ++ rest)) start head_part
     ∙ brace_then patterns (target_at head TRACE) span (each_with_comma earlier ++ rest) span_part
 
-fielded_then : (patterns : Bool) (head span : List ℕ) (earlier : List (List ℕ)) (last rest : List ℕ) → begins (opened head span earlier (last ++ 125 ∷ 93 ∷ rest)) ≡ true →
+fielded_then : (patterns : Bool) (head span : List ℕ) (earlier : List (List ℕ)) (last rest : List ℕ) → begins (text_up_to_fields head span earlier (last ++ 125 ∷ 93 ∷ rest)) ≡ true →
     IsOpened head span earlier → IsField last →
-    reading patterns (opened head span earlier (last ++ 125 ∷ 93 ∷ rest)) ≡ read_end (directive_at patterns (fielded head span earlier last) TRACE) rest
+    reading patterns (text_up_to_fields head span earlier (last ++ 125 ∷ 93 ∷ rest)) ≡ read_end (directive_at patterns (fielded head span earlier last) TRACE) rest
 unfolding read_close
 fielded_then patterns head span earlier last rest start parts part =
     opened_then patterns head span earlier (last ++ 125 ∷ 93 ∷ rest) start parts.0 parts.1
     ∙ ap (read_fielded (record (target_at head TRACE) { in_span = unless_empty span })) (fields_read patterns earlier last (93 ∷ rest) parts.2 part)
 
 -- what is read of a front and of what follows it
-opened_more : (head span : List ℕ) (earlier : List (List ℕ)) (rest more : List ℕ) → opened head span earlier rest ++ more ≡ opened head span earlier (rest ++ more)
+opened_more : (head span : List ℕ) (earlier : List (List ℕ)) (rest more : List ℕ) → text_up_to_fields head span earlier rest ++ more ≡ text_up_to_fields head span earlier (rest ++ more)
 opened_more head span earlier rest more = simp append_assoc refl
 
 -- how a front is read that `=` follows
-front_then : (patterns : Bool) (front : Front) (rest : List ℕ) → begins (front_text front ++ 61 ∷ rest) ≡ true → IsFront front →
+front_then : (patterns : Bool) (front : Front) (rest : List ℕ) → begins (front_text front ++ 61 ∷ rest) ≡ true → IsDirectiveFront front →
     reading patterns (front_text front ++ 61 ∷ rest) ≡ read_level (directive_at patterns front TRACE) rest
 unfolding reading read_end
 front_then patterns (bare head) rest start part = rw (start, cut_at (codes "=[,") head 61 rest part refl) refl
@@ -104,11 +104,11 @@ front_then patterns (spanned head span) rest start part =
     let same : front_text (spanned head span) ++ 61 ∷ rest ≡ head ++ 91 ∷ (span ++ 93 ∷ (61 ∷ rest)) = simp append_assoc refl in
     ap (reading patterns) same ∙ spanned_then patterns head span (61 ∷ rest) (subst (λ (t : List ℕ). begins t ≡ true) same start) part.0 part.1
 front_then patterns (fielded head span earlier last) rest start part =
-    let same : front_text (fielded head span earlier last) ++ 61 ∷ rest ≡ opened head span earlier (last ++ 125 ∷ 93 ∷ (61 ∷ rest)) = simp append_assoc refl in
+    let same : front_text (fielded head span earlier last) ++ 61 ∷ rest ≡ text_up_to_fields head span earlier (last ++ 125 ∷ 93 ∷ (61 ∷ rest)) = simp append_assoc refl in
     ap (reading patterns) same ∙ fielded_then patterns head span earlier last (61 ∷ rest) (subst (λ (t : List ℕ). begins t ≡ true) same start) part.0 part.1
 
 -- how a front alone is read
-front_alone : (patterns : Bool) (front : Front) → begins (front_text front) ≡ true → IsFront front → reading patterns (front_text front) ≡ Ok (directive_alone patterns front)
+front_alone : (patterns : Bool) (front : Front) → begins (front_text front) ≡ true → IsDirectiveFront front → reading patterns (front_text front) ≡ Ok (directive_alone patterns front)
 unfolding reading read_end
 front_alone patterns (bare head) start part = rw (start, cut_whole (codes "=[,") head part) refl
 front_alone patterns (spanned head span) start part = spanned_then patterns head span [] start part.0 part.1
@@ -124,7 +124,7 @@ at_front patterns (spanned head span) level = refl
 at_front patterns (fielded head span earlier last) level = refl
 
 -- each form is read as what it means
-form_reads : (patterns : Bool) (form : Form) (d : Directive) → begins (form_text form) ≡ true → IsForm form → meaning patterns form ≡ Some d →
+form_reads : (patterns : Bool) (form : DirectiveForm) (d : Directive) → begins (form_text form) ≡ true → IsForm form → directive_of_form patterns form ≡ Some d →
     reading patterns (form_text form) ≡ Ok d
 form_reads patterns (alone front) d start parts means = front_alone patterns front start parts ∙ cc
 form_reads patterns (head_comma head) d start parts means = head_ended patterns head start parts ∙ cc

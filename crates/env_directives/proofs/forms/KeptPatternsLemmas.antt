@@ -4,10 +4,10 @@ use Rattle.std.specs.Prelude.{◌==◌, IfOk, IfSome}
 use Rattle.std.specs.Prelude.{ℤ}
 use Rattle.std.specs.Option.{option_map, option_or}
 use Rattle.trace_base.specs.declared.level.LevelFilter.{LevelFilter}
-use Rattle.trace_base.specs.words.LevelWords.{filter_of}
-use Rattle.env_directives.specs.reading.Cuts.{cut}
+use Rattle.trace_base.specs.words.LevelWords.{level_filter_of}
+use Rattle.env_directives.specs.reading.Cuts.{pieces_at}
 use Rattle.env_directives.specs.reading.Forms.{head_alone, level_behind, level_or_target, IsDirective, HasForm}
-use Rattle.env_directives.specs.reading.Reading.{Answers, Read, at_level, read_last, read_leveled, read_level, read_end, read_close}
+use Rattle.env_directives.specs.reading.Reading.{AnswersRead, Read, at_level, read_last, read_leveled, read_level, read_end, read_close}
 use Rattle.env_directives.specs.reading.Values.{HavePatterns, IsPatternIfAny, plain_value, truth_of, u64_of, i64_of}
 use Rattle.env_directives.specs.declared.directive.ParseError.TheVariants.{Shape}
 use Rattle.env_directives.specs.declared.env.directive.Directive.{Directive}
@@ -26,7 +26,7 @@ keeps_last d (b ∷ bs) = tt
 
 keeps_level : (d : Directive) (text : List ℕ) → Keeps d (read_level d text)
 unfolding read_level
-keeps_level d text = by_level (level_behind (cut (codes ",") text).front) (cut (codes ",") text).stop (cut (codes ",") text).rest
+keeps_level d text = by_level (level_behind (pieces_at (codes ",") text).front) (pieces_at (codes ",") text).stop (pieces_at (codes ",") text).rest
   where
     by_level : (found : Option LevelFilter) (stop : Option ℕ) (rest : List ℕ) → Keeps d (read_leveled d found stop rest)
     by_level None stop rest = tt
@@ -52,25 +52,25 @@ keeps_close d (b ∷ rest) = by_byte (b == 93)
     by_byte false = tt
 
 -- so what is answered has patterns if the directive had
-answered : (d : Directive) (patterns : Bool) (P : Type 0) (r read : Read) → HavePatterns d.fields → Keeps d read → Answers (λ x. x) patterns P r read → IfOk r (λ x. HavePatterns x.fields)
+answered : (d : Directive) (patterns : Bool) (P : Type 0) (r read : Read) → HavePatterns d.fields → Keeps d read → AnswersRead (λ x. x) patterns P r read → IfOk r (λ x. HavePatterns x.fields)
 answered d patterns P (Ok x) read have keeps is = let same : x.fields ≡ d.fields = subst (Keeps d) is keeps in subst HavePatterns (sym same) have
 answered d patterns P (Err e) read have keeps is = tt
 
-pub last_patterned : (d : Directive) (rest : List ℕ) (r : Read) → HavePatterns d.fields → Answers (λ x. x) false ⊥ r (read_last d rest) → IfOk r (λ x. HavePatterns x.fields)
+pub last_patterned : (d : Directive) (rest : List ℕ) (r : Read) → HavePatterns d.fields → AnswersRead (λ x. x) false ⊥ r (read_last d rest) → IfOk r (λ x. HavePatterns x.fields)
 last_patterned d rest r have is = answered d false ⊥ r (read_last d rest) have (keeps_last d rest) is
 
-pub level_patterned : (d : Directive) (text : List ℕ) (r : Read) → HavePatterns d.fields → Answers (λ x. x) false ⊥ r (read_level d text) → IfOk r (λ x. HavePatterns x.fields)
+pub level_patterned : (d : Directive) (text : List ℕ) (r : Read) → HavePatterns d.fields → AnswersRead (λ x. x) false ⊥ r (read_level d text) → IfOk r (λ x. HavePatterns x.fields)
 level_patterned d text r have is = answered d false ⊥ r (read_level d text) have (keeps_level d text) is
 
-pub end_patterned : (d : Directive) (rest : List ℕ) (r : Read) → HavePatterns d.fields → Answers (λ x. x) false ⊥ r (read_end d rest) → IfOk r (λ x. HavePatterns x.fields)
+pub end_patterned : (d : Directive) (rest : List ℕ) (r : Read) → HavePatterns d.fields → AnswersRead (λ x. x) false ⊥ r (read_end d rest) → IfOk r (λ x. HavePatterns x.fields)
 end_patterned d rest r have is = answered d false ⊥ r (read_end d rest) have (keeps_end d rest) is
 
-pub close_patterned : (d : Directive) (rest : List ℕ) (r : Read) → HavePatterns d.fields → Answers (λ x. x) false ⊥ r (read_close d rest) → IfOk r (λ x. HavePatterns x.fields)
+pub close_patterned : (d : Directive) (rest : List ℕ) (r : Read) → HavePatterns d.fields → AnswersRead (λ x. x) false ⊥ r (read_close d rest) → IfOk r (λ x. HavePatterns x.fields)
 close_patterned d rest r have is = answered d false ⊥ r (read_close d rest) have (keeps_close d rest) is
 
 -- a head alone has no fields
 pub head_patterned : (head : List ℕ) → HavePatterns (head_alone head).fields
-head_patterned head = by_level (filter_of head)
+head_patterned head = by_level (level_filter_of head)
   where
     by_level : (found : Option LevelFilter) → HavePatterns (level_or_target head found).fields
     by_level None = tt

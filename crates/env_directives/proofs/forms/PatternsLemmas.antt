@@ -8,7 +8,7 @@ use Rattle.regex.specs.declared.string.regex.Regex.{Regex}
 use Rattle.regex.proofs.OnLiterals.{IsReadAs, is_match_as_written, same_refl}
 use Rattle.regex_syntax.specs.Grammar.{read}
 use Rattle.regex_syntax.specs.Same.{SameTree}
-use Rattle.env_directives.specs.Patterns.{whole, IsCompiled, is_matched}
+use Rattle.env_directives.specs.Patterns.{whole_pattern, IsCompiled, is_matched}
 
 -- what stands in an option of which something holds, and that it does
 pick : {X : Type 0} (o : Option X) (P : X → Type 0) → IsSomeAnd o P → (Q : Re → X → Type 0) (value : X → Re) (same : (x : X) → Q (value x) x) →
@@ -32,11 +32,11 @@ pub found_as_matched : (pattern text : List ℕ) (r : Regex) → ((k : ℕ) → 
 unfolding is_matched
 found_as_matched pattern text r bytes compiled =
     let tree = as_tree r compiled.read in
-    let written : IsReadAs default_config (whole pattern) tree.0 =
-    subst (λ (config : Config). IsReadAs config (whole pattern) tree.0) compiled.config
+    let written : IsReadAs default_config (whole_pattern pattern) tree.0 =
+    subst (λ (config : Config). IsReadAs config (whole_pattern pattern) tree.0) compiled.config
     (subst (λ (source : List ℕ). IsReadAs (regex_config r) source tree.0) compiled.source tree.1) in
-    let is_tree : IsSomeAnd (read default_config (chars (whole pattern))) (λ found. found.0.value ≡ tree.0) =
-    subst (λ (config : Config). IsSomeAnd (read config (chars (whole pattern))) (λ found. found.0.value ≡ tree.0)) compiled.config
+    let is_tree : IsSomeAnd (read default_config (chars (whole_pattern pattern))) (λ found. found.0.value ≡ tree.0) =
+    subst (λ (config : Config). IsSomeAnd (read config (chars (whole_pattern pattern))) (λ found. found.0.value ≡ tree.0)) compiled.config
     (subst (λ (source : List ℕ). IsSomeAnd (read (regex_config r) (chars source)) (λ found. found.0.value ≡ tree.0)) compiled.source tree.2) in
-    is_match_as_written r (whole pattern) tree.0 compiled.source compiled.config compiled.read written text bytes 0
-    ∙ told (read default_config (chars (whole pattern))) (λ x. x.0.value) tree.0 (λ re. is_some (find_str re text 0)) is_tree
+    is_match_as_written r (whole_pattern pattern) tree.0 compiled.source compiled.config compiled.read written text bytes 0
+    ∙ told (read default_config (chars (whole_pattern pattern))) (λ x. x.0.value) tree.0 (λ re. is_some (find_str re text 0)) is_tree

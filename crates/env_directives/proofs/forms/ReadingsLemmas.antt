@@ -4,10 +4,10 @@ use Rattle.std.specs.Prelude.{◌==◌, ◌≢◌, ◌↔◌, IfSome, IfOk, IfEr
 use Rattle.std.proofs.lemmas.Bool.{eqb-true}
 use Rattle.std.proofs.lemmas.Bool.Decides.{nat_tests}
 use Rattle.trace_base.specs.declared.level.LevelFilter.TheVariants.{TRACE}
-use Rattle.env_directives.specs.reading.Cuts.{cut, is_among}
+use Rattle.env_directives.specs.reading.Cuts.{pieces_at, is_among}
 use Rattle.env_directives.specs.reading.Faults.{HasNoLevel, HasEmptyField, HasNoPattern, HasFault}
-use Rattle.env_directives.specs.reading.Forms.{begins, unless_empty, target_at, Front, bare, spanned, fielded, alone, head_comma, leveled, leveled_comma, front_text, IsHead, IsSpan, IsFront, directive_at, directive_alone, head_alone, each_with_comma, level_behind, HasForm, IsDirective}
-use Rattle.env_directives.specs.reading.Reading.{read_last, read_level, read_end, read_close, read_fields, read_fielded, read_span, read_bracket, read_head, reading, Answers}
+use Rattle.env_directives.specs.reading.Forms.{begins, unless_empty, target_at, Front, bare, spanned, fielded, alone, head_comma, leveled, leveled_comma, front_text, IsHead, IsSpan, IsDirectiveFront, directive_at, directive_alone, head_alone, each_with_comma, level_behind, HasForm, IsDirective}
+use Rattle.env_directives.specs.reading.Reading.{read_last, read_level, read_end, read_close, read_fields, read_fielded, read_span, read_bracket, read_head, reading, AnswersRead}
 use Rattle.env_directives.specs.reading.Values.{HavePatterns}
 use Rattle.env_directives.specs.declared.directive.ParseError.{ParseError}
 use Rattle.env_directives.specs.declared.directive.ParseError.TheVariants.{Shape, Level, Field, Pattern, Equals, Fields, Memory}
@@ -19,7 +19,7 @@ use Rattle.env_directives.proofs.forms.GrammarLemmas.{at_front, directive_reads,
 use Rattle.env_directives.proofs.forms.KeptPatternsLemmas.{is_directive}
 
 -- a text that begins with a front and a level's text, or the front alone, is a directive's
-leveled_is : (patterns : Bool) (front : Front) (text behind : List ℕ) (result : Directive) → begins text ≡ true → IsFront front →
+leveled_is : (patterns : Bool) (front : Front) (text behind : List ℕ) (result : Directive) → begins text ≡ true → IsDirectiveFront front →
     text ≡ front_text front ++ 61 ∷ behind → LevelRead (directive_at patterns front TRACE) behind result → HasForm patterns text result
 leveled_is patterns front text behind result start part whole read = by_end read.whole
   where
@@ -42,7 +42,7 @@ leveled_is patterns front text behind result start part whole read = by_end read
       means = means;
     }
 
-unread_is : (front : Front) (text behind : List ℕ) → begins text ≡ true → IsFront front → text ≡ front_text front ++ 61 ∷ behind → LevelUnread behind → HasNoLevel text
+unread_is : (front : Front) (text behind : List ℕ) → begins text ≡ true → IsDirectiveFront front → text ≡ front_text front ++ 61 ∷ behind → LevelUnread behind → HasNoLevel text
 unread_is front text behind start part whole unread = record {
   start = start;
   front = front;
@@ -55,7 +55,7 @@ unread_is front text behind start part whole unread = record {
   unread = unread.unread;
 }
 
-ended_is : (patterns : Bool) (front : Front) (text behind : List ℕ) (result : Directive) → begins text ≡ true → IsFront front →
+ended_is : (patterns : Bool) (front : Front) (text behind : List ℕ) (result : Directive) → begins text ≡ true → IsDirectiveFront front →
     directive_alone patterns front ≡ directive_at patterns front TRACE →
     text ≡ front_text front ++ behind → EndRead (directive_at patterns front TRACE) behind result → HasForm patterns text result
 ended_is patterns front text behind result start part is_alone whole (inl (nothing, means)) = record {
@@ -68,7 +68,7 @@ ended_is patterns front text behind result start part is_alone whole (inl (nothi
 ended_is patterns front text behind result start part is_alone whole (inr (level, more, read)) =
     leveled_is patterns front text level result start part (whole ∙ ap (λ (t : List ℕ). front_text front ++ t) more) read
 
-end_unread_is : (front : Front) (text behind : List ℕ) → begins text ≡ true → IsFront front → text ≡ front_text front ++ behind → EndUnread behind → HasNoLevel text
+end_unread_is : (front : Front) (text behind : List ℕ) → begins text ≡ true → IsDirectiveFront front → text ≡ front_text front ++ behind → EndUnread behind → HasNoLevel text
 end_unread_is front text behind start part whole (level, more, unread) =
     unread_is front text level start part (whole ∙ ap (λ (t : List ℕ). front_text front ++ t) more) unread
 
@@ -77,7 +77,7 @@ pub bracket_explained : (patterns : Bool) (text head behind : List ℕ) → begi
     Explained (HasForm patterns text) (HasNoLevel text) (HasEmptyField text) (read_bracket patterns (target_at head TRACE) behind)
 unfolding read_bracket
 bracket_explained patterns text head behind start head_part joined =
-    by_pieces (cut (codes "]{") behind).front (cut (codes "]{") behind).stop (cut (codes "]{") behind).rest
+    by_pieces (pieces_at (codes "]{") behind).front (pieces_at (codes "]{") behind).stop (pieces_at (codes "]{") behind).rest
     (cut_front (codes "]{") behind) (cut_stop (codes "]{") behind) (cut_joined (codes "]{") behind)
   where
     by_close : (span rest : List ℕ) → IsSpan span → text ≡ head ++ 91 ∷ (span ++ 123 ∷ rest) → (read : List Match × List ℕ) → FieldsMade patterns rest read →
@@ -85,7 +85,7 @@ bracket_explained patterns text head behind start head_part joined =
     by_close span rest part joined read made =
         let d = record (target_at head TRACE) { in_span = unless_empty span; fields = read.0 } in
         let front = fielded head span made.earlier made.last in
-        let is_front : IsFront front = ((head_part, part, made.parts), made.part) in
+        let is_front : IsDirectiveFront front = ((head_part, part, made.parts), made.part) in
         let same : directive_at patterns front TRACE ≡ d = ap (λ (fs : List Match). record (target_at head TRACE) { in_span = unless_empty span; fields = fs }) (sym made.made) in
         let so : (behind : List ℕ) → read.1 ≡ 93 ∷ behind → text ≡ front_text front ++ behind =
         λ behind more. joined ∙ ap (λ (t : List ℕ). head ++ 91 ∷ (span ++ 123 ∷ t)) (made.whole ∙ ap (λ (t : List ℕ). each_with_comma made.earlier ++ (made.last ++ 125 ∷ t)) more) ∙ simp append_assoc refl in
@@ -164,21 +164,21 @@ reading_explained patterns text = by_start (begins text) refl
 
     by_start : (c : Bool) → begins text ≡ c →
         Explained (HasForm patterns text) (HasNoLevel text) (HasEmptyField text)
-        (if c then read_head patterns (cut (codes "=[,") text).front (cut (codes "=[,") text).stop (cut (codes "=[,") text).rest else Err Shape)
+        (if c then read_head patterns (pieces_at (codes "=[,") text).front (pieces_at (codes "=[,") text).stop (pieces_at (codes "=[,") text).rest else Err Shape)
     by_start true start =
-        by_pieces (cut (codes "=[,") text).front (cut (codes "=[,") text).stop (cut (codes "=[,") text).rest start
+        by_pieces (pieces_at (codes "=[,") text).front (pieces_at (codes "=[,") text).stop (pieces_at (codes "=[,") text).rest start
         (cut_front (codes "=[,") text) (cut_stop (codes "=[,") text) (cut_joined (codes "=[,") text)
     by_start false start = tt
 
 -- what is answered is a directive of the text
-pub answer_is : (patterns : Bool) (text : List ℕ) (r : Result Directive ParseError) → Answers (λ d. d) patterns (HasNoPattern text) r (reading patterns text) →
+pub answer_is : (patterns : Bool) (text : List ℕ) (r : Result Directive ParseError) → AnswersRead (λ d. d) patterns (HasNoPattern text) r (reading patterns text) →
     IfOk r (λ d. HavePatterns d.fields) → IfOk r (IsDirective patterns text)
 answer_is patterns text (Ok d) h have =
     is_directive patterns text d have (subst (Explained (HasForm patterns text) (HasNoLevel text) (HasEmptyField text)) h (reading_explained patterns text))
 answer_is patterns text (Err e) h have = tt
 
 -- or a fault of it
-pub fault_is : (patterns : Bool) (text : List ℕ) (r : Result Directive ParseError) → Answers (λ d. d) patterns (HasNoPattern text) r (reading patterns text) →
+pub fault_is : (patterns : Bool) (text : List ℕ) (r : Result Directive ParseError) → AnswersRead (λ d. d) patterns (HasNoPattern text) r (reading patterns text) →
     IfErr r (HasFault patterns text)
 fault_is patterns text (Ok d) h = tt
 fault_is patterns text (Err Memory) h = tt

@@ -5,28 +5,28 @@ use Rattle.std.proofs.Common.{refl, sym, ap, ◌∙◌, subst}
 use Rattle.env_directives.specs.declared.directive.ParseError.{ParseError}
 use Rattle.env_directives.specs.declared.directive.ParseError.TheVariants as fault
 use Rattle.env_directives.specs.declared.directive.StaticDirective.{StaticDirective}
-use Rattle.env_directives.specs.reading.StaticText.{and_then, static_of, Fails, Reads}
+use Rattle.env_directives.specs.reading.StaticText.{and_then, static_of, Fails, ReadsOrFails}
 use Rattle.env_directives.specs.orders.Table.{Table}
-use Rattle.env_directives.specs.Targets.{added, all_added, statics_of}
+use Rattle.env_directives.specs.Targets.{with_static, all_added, statics_of}
 
 -- what the pieces that are left make of a table
 abbrev pub read_on : List (List ℕ) → Table StaticDirective → Result (Table StaticDirective) ParseError
 read_on texts t = and_then (statics_of texts) (λ ds. Ok (all_added ds t))
 
 read_more : (text : List ℕ) (texts : List (List ℕ)) (d : StaticDirective) (t : Table StaticDirective) → static_of text ≡ Ok d
-    → read_on (text ∷ texts) t ≡ read_on texts (added d t)
+    → read_on (text ∷ texts) t ≡ read_on texts (with_static d t)
 read_more text texts d t is = rw is (by (statics_of texts))
   where
     by : (r : Result (List StaticDirective) ParseError)
-        → and_then (and_then r (λ ds. Ok (d ∷ ds))) (λ ds. Ok (all_added ds t)) ≡ and_then r (λ ds. Ok (all_added ds (added d t)))
+        → and_then (and_then r (λ ds. Ok (d ∷ ds))) (λ ds. Ok (all_added ds t)) ≡ and_then r (λ ds. Ok (all_added ds (with_static d t)))
     by (Ok ds) = refl
     by (Err e) = refl
 
-pub read_added : (text : List ℕ) (texts : List (List ℕ)) (t s : Table StaticDirective) → IsOkAnd (static_of text) (λ d. s ≡ added d t)
+pub read_added : (text : List ℕ) (texts : List (List ℕ)) (t s : Table StaticDirective) → IsOkAnd (static_of text) (λ d. s ≡ with_static d t)
     → read_on (text ∷ texts) t ≡ read_on texts s
 read_added text texts t s h = by (static_of text) refl h
   where
-    by : (r : Result StaticDirective ParseError) → static_of text ≡ r → IsOkAnd r (λ d. s ≡ added d t) → read_on (text ∷ texts) t ≡ read_on texts s
+    by : (r : Result StaticDirective ParseError) → static_of text ≡ r → IsOkAnd r (λ d. s ≡ with_static d t) → read_on (text ∷ texts) t ≡ read_on texts s
     by (Ok d) read is = read_more text texts d t read ∙ ap (read_on texts) (sym is)
     by (Err e) read is = absurd is
 
@@ -44,6 +44,6 @@ read_fault fault.Equals text texts t h = ended _ text texts t h
 read_fault (fault.Fields many) text texts t h = ended _ text texts t h
 
 -- an answer that hands a fault on
-pub handed_on : {X : Type 0} (e : ParseError) (answer read : Result X ParseError) → IsErrAnd answer (λ given. given ≡ e) → Fails e read → Reads answer read
+pub handed_on : {X : Type 0} (e : ParseError) (answer read : Result X ParseError) → IsErrAnd answer (λ given. given ≡ e) → Fails e read → ReadsOrFails answer read
 handed_on e (Ok x) read h fails = absurd h
 handed_on e (Err given) read h fails = subst (λ f. Fails f read) (sym h) fails

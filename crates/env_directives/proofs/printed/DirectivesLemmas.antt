@@ -7,9 +7,9 @@ use Rattle.std.proofs.lemmas.Bool.Decides.{nat_tests}
 use Rattle.trace_base.specs.declared.level.LevelFilter.{LevelFilter}
 use Rattle.trace_base.specs.declared.level.LevelFilter.TheVariants as filter
 use Rattle.trace_base.specs.words.Level.{filter_text}
-use Rattle.trace_base.specs.words.LevelWords.{filter_of, filter_of_word, named_filter}
+use Rattle.trace_base.specs.words.LevelWords.{level_filter_of, filter_of_word, named_filter}
 use Rattle.ucd_derived.proofs.Computing.{ucd_derived}
-use Rattle.env_directives.specs.reading.Forms.{begins, unless_empty, target_at, Front, bare, spanned, fielded, Form, alone, head_comma, leveled, leveled_comma, front_text, form_text, IsHead, IsSpan, IsField, IsOpened, IsFront, IsForm, each_with_comma, directive_at, head_alone, level_or_target, level_behind, IsLevelText, meaning, HasForm}
+use Rattle.env_directives.specs.reading.Forms.{begins, unless_empty, target_at, Front, bare, spanned, fielded, DirectiveForm, alone, head_comma, leveled, leveled_comma, front_text, form_text, IsHead, IsSpan, IsField, IsOpened, IsDirectiveFront, IsForm, each_with_comma, directive_at, head_alone, level_or_target, level_behind, IsLevelText, directive_of_form, HasForm}
 use Rattle.env_directives.specs.printed.Printed.{directive_text, text_if_any, fields_text, HasNoMinusZero}
 use Rattle.env_directives.specs.reading.Values.{field_of}
 use Rattle.env_directives.specs.declared.env.directive.Directive.{Directive}
@@ -80,7 +80,7 @@ goes_on_more text head rest on seam = record {
     both (b ∷ bs) s = s
 
 -- the text of a front and a level
-leveled_again : (front : Front) (level : LevelFilter) (printed : List ℕ) → begins printed ≡ true → IsFront front → printed ≡ front_text front ++ (codes "=" ++ filter_text level) →
+leveled_again : (front : Front) (level : LevelFilter) (printed : List ℕ) → begins printed ≡ true → IsDirectiveFront front → printed ≡ front_text front ++ (codes "=" ++ filter_text level) →
     HasForm false printed (directive_at false front level)
 leveled_again front level printed start part whole = record {
   start = start;
@@ -180,20 +180,20 @@ module _ (text : List ℕ) (utf8 : IsUtf8 text) (start : begins text ≡ true) w
       map_both [] = refl
       map_both (e ∷ es) = ap (λ (ts : List (List ℕ)). again e ∷ ts) (map_both es)
 
-  front_again : (front : Front) (level : LevelFilter) → IsFront front → HasNoMinusZero (directive_at false front level).fields → GoesOn text (front_head front) →
+  front_again : (front : Front) (level : LevelFilter) → IsDirectiveFront front → HasNoMinusZero (directive_at false front level).fields → GoesOn text (front_head front) →
       HasForm false (directive_text (directive_at false front level)) (directive_at false front level)
   front_again (bare head) level part no_zero on = bare_again head level part on
   front_again (spanned head span) level part no_zero on = spanned_again head span level part.0 part.1 on
   front_again (fielded head span earlier last) level part no_zero on = fielded_again head span earlier last level part.0 part.1 no_zero on
 
   head_again : (head : List ℕ) → IsHead head → GoesOn text head → HasForm false (directive_text (head_alone head)) (head_alone head)
-  head_again head part on = by_level (filter_of head)
+  head_again head part on = by_level (level_filter_of head)
     where
       by_level : (found : Option LevelFilter) → HasForm false (directive_text (level_or_target head found)) (level_or_target head found)
       by_level (Some level) = alone_again level
       by_level None = bare_again head filter.TRACE part on
 
-  form_again : (form : Form) (d : Directive) → IsForm form → text ≡ form_text form → meaning false form ≡ Some d → HasNoMinusZero d.fields → HasForm false (directive_text d) d
+  form_again : (form : DirectiveForm) (d : Directive) → IsForm form → text ≡ form_text form → directive_of_form false form ≡ Some d → HasNoMinusZero d.fields → HasForm false (directive_text d) d
   form_again (alone (bare head)) d parts whole means no_zero =
       let is : head_alone head ≡ d = cc in
       subst (λ (e : Directive). HasForm false (directive_text e) e) is (head_again head parts (moved (bare head) whole))

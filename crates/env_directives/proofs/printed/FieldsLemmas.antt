@@ -2,7 +2,7 @@
 use Rattle.std.proofs.Common.{◌≡◌, ◌≢◌, ℕ, Bool, true, false, true≢false, List, [], ◌∷◌, ◌++◌, Some, None, Option, option_map, refl, sym, ap, ◌∙◌, pos, codes, subst, append-nil, append_assoc, map, flat_map, not}
 use Rattle.std.specs.Prelude.{◌&&◌}
 use Rattle.std.specs.List.{AllByRecursion}
-use Rattle.env_directives.specs.reading.Cuts.{cut, is_among, lacks}
+use Rattle.env_directives.specs.reading.Cuts.{pieces_at, is_among, lacks}
 use Rattle.env_directives.specs.reading.Forms.{IsField, each_with_comma}
 use Rattle.env_directives.specs.printed.Printed.{value_text, match_text, fields_text, HasNoMinusZero}
 use Rattle.env_directives.specs.reading.Values.{value_of, field_of}
@@ -46,21 +46,21 @@ again field = match_text (field_of false field)
 pub field_again : (field : List ℕ) → IsField field → (field_of false field).value ≢ Some (I64 (pos 0)) → IsField (again field) × (field_of false (again field) ≡ field_of false field)
 unfolding field_of
 field_again field is no_zero =
-    by_stop (cut (codes "=") field).front (cut (codes "=") field).stop (cut (codes "=") field).rest (cut_front (codes "=") field) (cut_joined (codes "=") field) no_zero
+    by_stop (pieces_at (codes "=") field).front (pieces_at (codes "=") field).stop (pieces_at (codes "=") field).rest (cut_front (codes "=") field) (cut_joined (codes "=") field) no_zero
   where
     by_stop : (name : List ℕ) (stop : Option ℕ) (rest : List ℕ) → lacks (codes "=") name ≡ true → field ≡ name ++ cut_off stop rest →
-        option_map (λ _. value_of false (cut (codes "=") rest).front) stop ≢ Some (I64 (pos 0)) →
-        let m : Match = record { name = name; value = option_map (λ _. value_of false (cut (codes "=") rest).front) stop } in
+        option_map (λ _. value_of false (pieces_at (codes "=") rest).front) stop ≢ Some (I64 (pos 0)) →
+        let m : Match = record { name = name; value = option_map (λ _. value_of false (pieces_at (codes "=") rest).front) stop } in
         IsField (match_text m) × (field_of false (match_text m) ≡ m)
     by_stop name None rest lacking joined no_zero =
         (subst IsField joined is, rw (append-nil name, cut_whole (codes "=") name lacking) refl)
     by_stop name (Some s) rest lacking joined no_zero =
-        let text = (cut (codes "=") rest).front in
+        let text = (pieces_at (codes "=") rest).front in
         let whole : lacks (codes ",}") (name ++ s ∷ rest) ≡ true = subst (λ (t : List ℕ). lacks (codes ",}") t ≡ true) joined (field_lacks field is) in
         let parts = lacks_parts (codes ",}") name (s ∷ rest) whole in
         let behind = lacks_parts (codes ",}") (s ∷ []) rest parts.1 in
-        let so : lacks (codes ",}") (text ++ cut_off (cut (codes "=") rest).stop (cut (codes "=") rest).rest) ≡ true = subst (λ (t : List ℕ). lacks (codes ",}") t ≡ true) (cut_joined (codes "=") rest) behind.1 in
-        let no_end : lacks (codes ",}") text ≡ true = (lacks_parts (codes ",}") text (cut_off (cut (codes "=") rest).stop (cut (codes "=") rest).rest) so).0 in
+        let so : lacks (codes ",}") (text ++ cut_off (pieces_at (codes "=") rest).stop (pieces_at (codes "=") rest).rest) ≡ true = subst (λ (t : List ℕ). lacks (codes ",}") t ≡ true) (cut_joined (codes "=") rest) behind.1 in
+        let no_end : lacks (codes ",}") text ≡ true = (lacks_parts (codes ",}") text (cut_off (pieces_at (codes "=") rest).stop (pieces_at (codes "=") rest).rest) so).0 in
         let value = value_again text (cut_front (codes "=") rest) no_end (λ e. no_zero (ap Some e)) in (
           named_field name (value_text (value_of false text)) parts.0 value.no_end,
           rw (cut_at (codes "=") name 61 (value_text (value_of false text)) lacking refl, cut_whole (codes "=") (value_text (value_of false text)) value.no_equals, value.reads) refl,

@@ -10,7 +10,7 @@ use Rattle.std.proofs.Common.{refl, sym, ◌∙◌, ap, arith, get_or}
 use Rattle.std.proofs.lemmas.List.{take-append-le, take_all}
 use Rattle.std.proofs.lemmas.List.Sorted.{searchable_from_sorted}
 use Rattle.std.proofs.lemmas.Map.Keys.{sorted_tail, Less-from_sorted}
-use Rattle.env_directives.specs.orders.Table.{placed}
+use Rattle.env_directives.specs.orders.Table.{with_item_in_order}
 
 module _ {T : Type 0} {cmp : T → T → Ordering} (order : IsTotalOrder cmp) where
   pub greater : (d e : T) → cmp e d ≡ Less → cmp d e ≡ Greater
@@ -19,18 +19,18 @@ module _ {T : Type 0} {cmp : T → T → Ordering} (order : IsTotalOrder cmp) wh
   pub less : (d e : T) → cmp e d ≡ Greater → cmp d e ≡ Less
   less d e h = order.antisymm d e ∙ ap ordering_reverse h
 
-  pub at_less : (d e : T) (es : List T) → cmp d e ≡ Less → placed cmp d (e ∷ es) ≡ d ∷ e ∷ es
-  at_less d e es h = ap (λ r. match_ordering r (d ∷ e ∷ es) (d ∷ es) (e ∷ placed cmp d es)) h
+  pub at_less : (d e : T) (es : List T) → cmp d e ≡ Less → with_item_in_order cmp d (e ∷ es) ≡ d ∷ e ∷ es
+  at_less d e es h = ap (λ r. match_ordering r (d ∷ e ∷ es) (d ∷ es) (e ∷ with_item_in_order cmp d es)) h
 
-  pub at_equal : (d e : T) (es : List T) → cmp d e ≡ Equal → placed cmp d (e ∷ es) ≡ d ∷ es
-  at_equal d e es h = ap (λ r. match_ordering r (d ∷ e ∷ es) (d ∷ es) (e ∷ placed cmp d es)) h
+  pub at_equal : (d e : T) (es : List T) → cmp d e ≡ Equal → with_item_in_order cmp d (e ∷ es) ≡ d ∷ es
+  at_equal d e es h = ap (λ r. match_ordering r (d ∷ e ∷ es) (d ∷ es) (e ∷ with_item_in_order cmp d es)) h
 
-  pub at_greater : (d e : T) (es : List T) → cmp d e ≡ Greater → placed cmp d (e ∷ es) ≡ e ∷ placed cmp d es
-  at_greater d e es h = ap (λ r. match_ordering r (d ∷ e ∷ es) (d ∷ es) (e ∷ placed cmp d es)) h
+  pub at_greater : (d e : T) (es : List T) → cmp d e ≡ Greater → with_item_in_order cmp d (e ∷ es) ≡ e ∷ with_item_in_order cmp d es
+  at_greater d e es h = ap (λ r. match_ordering r (d ∷ e ∷ es) (d ∷ es) (e ∷ with_item_in_order cmp d es)) h
 
   -- where the search found an equal one
   pub replaced : (d : T) (es : List T) (i : ℕ) → IsStrictlySortedBy cmp es → i < length es
-      → ((x : T) → cmp (get_or es i x) d ≡ Equal) → slice_set es i d ≡ placed cmp d es
+      → ((x : T) → cmp (get_or es i x) d ≡ Equal) → slice_set es i d ≡ with_item_in_order cmp d es
   replaced d [] i s l h = absurd (omega arith)
   replaced d (e ∷ es) zero s l h = sym (at_equal d e es (tied_back order e d (h d)))
   replaced d (e ∷ es) (suc i) s l h =
@@ -39,7 +39,7 @@ module _ {T : Type 0} {cmp : T → T → Ordering} (order : IsTotalOrder cmp) wh
 
   -- where it found the place between the smaller ones and the greater ones
   pub inserted : (d : T) (es : List T) (i : ℕ) → i ≤ length es
-      → AllWithin (λ y. cmp y d ≡ Less) es 0 i → AllWithin (λ y. cmp y d ≡ Greater) es i (length es) → insert es i d ≡ placed cmp d es
+      → AllWithin (λ y. cmp y d ≡ Less) es 0 i → AllWithin (λ y. cmp y d ≡ Greater) es i (length es) → insert es i d ≡ with_item_in_order cmp d es
   inserted d [] zero l below above = refl
   inserted d [] (suc i) l below above = absurd (omega arith)
   inserted d (e ∷ es) zero l below above = sym (at_less d e es (less d e (above 0 d (omega arith) (omega arith))))
@@ -48,11 +48,11 @@ module _ {T : Type 0} {cmp : T → T → Ordering} (order : IsTotalOrder cmp) wh
       ∙ sym (at_greater d e es (greater d e (below 0 d (omega arith) (omega arith))))
 
   -- one directive more keeps what holds of it and of all others
-  all_placed : (P : T → Type 0) (d : T) (es : List T) → P d → AllByRecursion P es → AllByRecursion P (placed cmp d es)
+  all_placed : (P : T → Type 0) (d : T) (es : List T) → P d → AllByRecursion P es → AllByRecursion P (with_item_in_order cmp d es)
   all_placed P d [] p h = (p, tt)
   all_placed P d (e ∷ es) p h = by (cmp d e) refl (all_placed P d es p h.1)
     where
-      by : (r : Ordering) → cmp d e ≡ r → AllByRecursion P (placed cmp d es) → AllByRecursion P (placed cmp d (e ∷ es))
+      by : (r : Ordering) → cmp d e ≡ r → AllByRecursion P (with_item_in_order cmp d es) → AllByRecursion P (with_item_in_order cmp d (e ∷ es))
       by Less is rest = rw (at_less d e es is) (p, h)
       by Equal is rest = rw (at_equal d e es is) (p, h.1)
       by Greater is rest = rw (at_greater d e es is) (h.0, rest)
@@ -62,12 +62,12 @@ module _ {T : Type 0} {cmp : T → T → Ordering} (order : IsTotalOrder cmp) wh
   implied P Q (e ∷ es) f h = (f e h.0, implied P Q es f h.1)
 
   -- the table stays in its order
-  pub sorted_placed : (d : T) (es : List T) → IsStrictlySortedBy cmp es → IsStrictlySortedBy cmp (placed cmp d es)
+  pub sorted_placed : (d : T) (es : List T) → IsStrictlySortedBy cmp es → IsStrictlySortedBy cmp (with_item_in_order cmp d es)
   unfolding IsStrictlySortedBy
   sorted_placed d [] s = (tt, tt)
   sorted_placed d (e ∷ es) s = by (cmp d e) refl (sorted_placed d es s.1)
     where
-      by : (r : Ordering) → cmp d e ≡ r → IsStrictlySortedBy cmp (placed cmp d es) → IsStrictlySortedBy cmp (placed cmp d (e ∷ es))
+      by : (r : Ordering) → cmp d e ≡ r → IsStrictlySortedBy cmp (with_item_in_order cmp d es) → IsStrictlySortedBy cmp (with_item_in_order cmp d (e ∷ es))
       by Less is rest = rw (at_less d e es is) ((is, implied (λ y. cmp e y ≡ Less) (λ y. cmp d y ≡ Less) es (λ y h. order.trans d e y is h) s.0), s)
       by Equal is rest = rw (at_equal d e es is) (implied (λ y. cmp e y ≡ Less) (λ y. cmp d y ≡ Less) es (λ y h. order.congr d e y is ∙ h) s.0, s.1)
       by Greater is rest = rw (at_greater d e es is) (all_placed (λ y. cmp e y ≡ Less) d es (order.antisymm e d ∙ ap ordering_reverse is) s.0, rest)

@@ -21,8 +21,8 @@ use Rattle.env_directives.specs.Cares.{covers, cares_about_target}
 use Rattle.env_directives.specs.orders.Choice.{is_longer, longer, longest_from, longest_prefix, lets_through, admits_target}
 use Rattle.env_directives.specs.orders.StaticOrder.{target_length, most_specific_first}
 use Rattle.env_directives.specs.orders.FieldOrder.{text_cmp}
-use Rattle.env_directives.specs.orders.Table.{Table, placed, empty_table}
-use Rattle.env_directives.specs.Targets.{added, all_added}
+use Rattle.env_directives.specs.orders.Table.{Table, with_item_in_order, empty_table}
+use Rattle.env_directives.specs.Targets.{with_static, all_added}
 use Rattle.env_directives.proofs.tables.PlacesLemmas.{sorted_placed, at_less, at_equal, at_greater, implied}
 
 -- the parts of an order that is put together answer for the whole
@@ -129,7 +129,7 @@ module _ (target : List ℕ) where
 
   -- what is found once one directive more has its place
   found_placed : (d : StaticDirective) (es : List StaticDirective) → IsStrictlySortedBy most_specific_first es
-      → find speaks (placed most_specific_first d es) ≡ cond (speaks d) (longer (find speaks es) d) (find speaks es)
+      → find speaks (with_item_in_order most_specific_first d es) ≡ cond (speaks d) (longer (find speaks es) d) (find speaks es)
   found_placed d [] s = refl
   found_placed d (e ∷ es) s = by (most_specific_first d e) refl (found_placed d es (sorted_tail most_specific_first e es s))
     where
@@ -147,8 +147,8 @@ module _ (target : List ℕ) where
       later false false is first own = rw (first, own) refl
 
       by : (r : Ordering) → most_specific_first d e ≡ r
-          → find speaks (placed most_specific_first d es) ≡ cond (speaks d) (longer (find speaks es) d) (find speaks es)
-          → find speaks (placed most_specific_first d (e ∷ es)) ≡ cond (speaks d) (longer (find speaks (e ∷ es)) d) (find speaks (e ∷ es))
+          → find speaks (with_item_in_order most_specific_first d es) ≡ cond (speaks d) (longer (find speaks es) d) (find speaks es)
+          → find speaks (with_item_in_order most_specific_first d (e ∷ es)) ≡ cond (speaks d) (longer (find speaks (e ∷ es)) d) (find speaks (e ∷ es))
       by Less is rest =
           ap (find speaks) (at_less total-law d e es is)
           ∙ ap (λ o. cond (speaks d) o (find speaks (e ∷ es)))
@@ -163,11 +163,11 @@ module _ (target : List ℕ) where
   found_in_all : (ds : List StaticDirective) (t : Table StaticDirective) → IsStrictlySortedBy most_specific_first t.directives
       → find speaks (all_added ds t).directives ≡ longest_from (find speaks t.directives) (filter speaks ds)
   found_in_all [] t s = refl
-  found_in_all (d ∷ ds) t s = by (speaks d) refl (found_in_all ds (added d t) (sorted_placed total-law d t.directives s))
+  found_in_all (d ∷ ds) t s = by (speaks d) refl (found_in_all ds (with_static d t) (sorted_placed total-law d t.directives s))
     where
       by : (b : Bool) → speaks d ≡ b
-          → find speaks (all_added ds (added d t)).directives ≡ longest_from (find speaks (added d t).directives) (filter speaks ds)
-          → find speaks (all_added ds (added d t)).directives ≡ longest_from (find speaks t.directives) (filter speaks (d ∷ ds))
+          → find speaks (all_added ds (with_static d t)).directives ≡ longest_from (find speaks (with_static d t).directives) (filter speaks ds)
+          → find speaks (all_added ds (with_static d t)).directives ≡ longest_from (find speaks t.directives) (filter speaks (d ∷ ds))
       by true is rest =
           rest ∙ ap (λ o. longest_from o (filter speaks ds)) (found_placed d t.directives s ∙ ap (λ b. cond b (longer (find speaks t.directives) d) (find speaks t.directives)) is)
           ∙ sym (ap (λ b. longest_from (find speaks t.directives) (cond b (d ∷ filter speaks ds) (filter speaks ds))) is)

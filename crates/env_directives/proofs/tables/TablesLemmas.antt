@@ -13,7 +13,7 @@ use Rattle.std.proofs.lemmas.List.{reverse-append, map-append}
 use Rattle.std.proofs.lemmas.Map.Keys.{sorted_head, sorted_tail}
 use Rattle.trace_base.specs.declared.level.LevelFilter.{LevelFilter}
 use Rattle.trace_base.specs.words.Level.{greatest_verbosity}
-use Rattle.env_directives.specs.orders.Table.{Table, placed, with_added, with_all_added, empty_table, more_verbose, greatest_of, IsTableOf}
+use Rattle.env_directives.specs.orders.Table.{Table, with_item_in_order, with_added, with_all_added, empty_table, more_verbose, greatest_of, IsTableOf}
 use Rattle.env_directives.proofs.tables.PlacesLemmas.{sorted_placed, at_less, at_equal, at_greater, greater, implied}
 
 more_verbose_max : (f g : LevelFilter) → greatest_verbosity (more_verbose f g) ≡ max (greatest_verbosity f) (greatest_verbosity g)
@@ -50,12 +50,12 @@ module _ {T : Type 0} {cmp : T → T → Ordering} (order : IsTotalOrder cmp) wh
       true≢false (sym (ap is_eq both) ∙ ap is_eq is)
 
   -- what is found once one directive more has its place
-  find_placed : (x d : T) (es : List T) → find (like x) (placed cmp d es) ≡ cond (like x d) (Some d) (find (like x) es)
+  find_placed : (x d : T) (es : List T) → find (like x) (with_item_in_order cmp d es) ≡ cond (like x d) (Some d) (find (like x) es)
   find_placed x d [] = refl
   find_placed x d (e ∷ es) = by (cmp d e) refl (find_placed x d es)
     where
-      by : (r : Ordering) → cmp d e ≡ r → find (like x) (placed cmp d es) ≡ cond (like x d) (Some d) (find (like x) es)
-          → find (like x) (placed cmp d (e ∷ es)) ≡ cond (like x d) (Some d) (find (like x) (e ∷ es))
+      by : (r : Ordering) → cmp d e ≡ r → find (like x) (with_item_in_order cmp d es) ≡ cond (like x d) (Some d) (find (like x) es)
+          → find (like x) (with_item_in_order cmp d (e ∷ es)) ≡ cond (like x d) (Some d) (find (like x) (e ∷ es))
       by Less is rest = ap (find (like x)) (at_less order d e es is)
       by Equal is rest = ap (find (like x)) (at_equal order d e es is)
           ∙ second_test (like x d) (like x e) (Some d) (Some e) (find (like x) es) (ap is_eq (sym (order.congr d e x is)))

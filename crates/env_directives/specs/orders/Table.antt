@@ -23,14 +23,14 @@ abbrev pub more_verbose : LevelFilter → LevelFilter → LevelFilter
 more_verbose f g = if nat_le (greatest_verbosity g) (greatest_verbosity f) then f else g
 
 -- the directives with one at its place in the order, where it replaces its equal
-abbrev pub placed : {T : Type 0} → (T → T → Ordering) → T → List T → List T
-placed cmp d [] = d ∷ []
-placed cmp d (e ∷ es) = match_ordering (cmp d e) (d ∷ e ∷ es) (d ∷ es) (e ∷ placed cmp d es)
+abbrev pub with_item_in_order : {T : Type 0} → (T → T → Ordering) → T → List T → List T
+with_item_in_order cmp d [] = d ∷ []
+with_item_in_order cmp d (e ∷ es) = match_ordering (cmp d e) (d ∷ e ∷ es) (d ∷ es) (e ∷ with_item_in_order cmp d es)
 
 -- the table after one directive more
 abbrev pub with_added : {T : Type 0} → (T → T → Ordering) → (T → LevelFilter) → T → Table T → Table T
 with_added cmp level d t =
-    record { directives = placed cmp d t.directives; greatest = more_verbose t.greatest (level d) }
+    record { directives = with_item_in_order cmp d t.directives; greatest = more_verbose t.greatest (level d) }
 
 -- the table after several directives more, the first of them added first
 abbrev pub with_all_added : {T : Type 0} → (T → T → Ordering) → (T → LevelFilter) → List T → Table T → Table T

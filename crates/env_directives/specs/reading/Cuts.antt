@@ -22,6 +22,6 @@ abbrev pub more_front : ℕ → Pieces → Pieces
 more_front b pieces = record { front = b ∷ pieces.front; stop = pieces.stop; rest = pieces.rest }
 
 -- a text cut at its first byte that is one of some, in one piece where it has none of them
-abbrev pub cut : List ℕ → List ℕ → Pieces
-cut stops [] = record { front = []; stop = None; rest = [] }
-cut stops (b ∷ bs) = if is_among stops b then record { front = []; stop = Some b; rest = bs } else more_front b (cut stops bs)
+abbrev pub pieces_at : List ℕ → List ℕ → Pieces
+pieces_at stops [] = record { front = []; stop = None; rest = [] }
+pieces_at stops (b ∷ bs) = if is_among stops b then record { front = []; stop = Some b; rest = bs } else more_front b (pieces_at stops bs)

@@ -2,7 +2,7 @@
 -- with a refused value may also have another fault further right, and either may be told.
 use Rattle.std.specs.Prelude.{◌≡◌, ℕ, List, [], ◌∷◌, ◌++◌, Bool, true, None, codes}
 use Rattle.env_directives.specs.reading.Cuts.{is_among}
-use Rattle.env_directives.specs.reading.Forms.{begins, Front, front_text, IsFront, IsLevelText, level_behind, opened, IsOpened, IsField, HasForm}
+use Rattle.env_directives.specs.reading.Forms.{begins, Front, front_text, IsDirectiveFront, IsLevelText, level_behind, text_up_to_fields, IsOpened, IsField, HasForm}
 use Rattle.env_directives.specs.reading.Values.{IsNoPatternField}
 use Rattle.env_directives.specs.declared.directive.ParseError.{ParseError}
 use Rattle.env_directives.specs.declared.directive.ParseError.TheVariants.{Shape, Level, Field, Pattern, Equals, Fields, Memory}
@@ -19,7 +19,7 @@ pub record HasNoLevel (text : List ℕ) : Type 0 where
   pub front : Front
   pub level : List ℕ
   pub more : List ℕ
-  pub parts : IsFront front
+  pub parts : IsDirectiveFront front
   pub level_text : IsLevelText level
   pub ends : IsEnd more
   pub whole : text ≡ front_text front ++ (codes "=" ++ (level ++ more))
@@ -35,7 +35,7 @@ pub record HasEmptyField (text : List ℕ) : Type 0 where
   pub more : List ℕ
   pub parts : IsOpened head span earlier
   pub stops : is_among (codes ",}") stop ≡ true
-  pub whole : text ≡ opened head span earlier (stop ∷ more)
+  pub whole : text ≡ text_up_to_fields head span earlier (stop ∷ more)
 
 -- the value of some field is a text that is refused as a pattern
 pub record HasNoPattern (text : List ℕ) : Type 0 where
@@ -49,7 +49,7 @@ pub record HasNoPattern (text : List ℕ) : Type 0 where
   pub parts : IsOpened head span earlier
   pub part : IsField field
   pub stops : is_among (codes ",}") stop ≡ true
-  pub whole : text ≡ opened head span earlier (field ++ stop ∷ more)
+  pub whole : text ≡ text_up_to_fields head span earlier (field ++ stop ∷ more)
   pub value : IsNoPatternField field
 
 -- what each fault says of a text; `Shape` is told where the text has no form and no other fault

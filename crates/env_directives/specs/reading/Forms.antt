@@ -4,7 +4,7 @@ use Rattle.std.specs.List.{AllByRecursion}
 use Rattle.std.specs.Option.{option_map}
 use Rattle.trace_base.specs.declared.level.LevelFilter.{LevelFilter}
 use Rattle.trace_base.specs.declared.level.LevelFilter.TheVariants.{TRACE}
-use Rattle.trace_base.specs.words.LevelWords.{filter_of}
+use Rattle.trace_base.specs.words.LevelWords.{level_filter_of}
 use Rattle.unicode.specs.Binary.{is_alphabetic}
 use Rattle.ucd_category.specs.GeneralCategory.{general_category}
 use Rattle.ucd_category.specs.GeneralCategoryGroup.{in_group}
@@ -36,14 +36,14 @@ abbrev pub each_with_comma : List (List ℕ) → List ℕ
 each_with_comma fields = flat_map (λ field. field ++ codes ",") fields
 
 -- `head[span{field,`, and so on for each of the fields, and then more
-abbrev pub opened : List ℕ → List ℕ → List (List ℕ) → List ℕ → List ℕ
-opened head span fields more = head ++ (codes "[" ++ (span ++ (codes "{" ++ (each_with_comma fields ++ more))))
+abbrev pub text_up_to_fields : List ℕ → List ℕ → List (List ℕ) → List ℕ → List ℕ
+text_up_to_fields head span fields more = head ++ (codes "[" ++ (span ++ (codes "{" ++ (each_with_comma fields ++ more))))
 
 -- what a front looks like
 abbrev pub front_text : Front → List ℕ
 front_text (bare head) = head
 front_text (spanned head span) = head ++ (codes "[" ++ (span ++ codes "]"))
-front_text (fielded head span earlier last) = opened head span earlier (last ++ codes "}]")
+front_text (fielded head span earlier last) = text_up_to_fields head span earlier (last ++ codes "}]")
 
 -- a head has no `=`, no opening bracket and no comma; a span name no closing bracket and no opening brace
 abbrev pub IsHead : List ℕ → Type 0
@@ -60,20 +60,20 @@ IsField (b ∷ bs) = lacks (codes ",}") (b ∷ bs) ≡ true
 abbrev pub IsOpened : List ℕ → List ℕ → List (List ℕ) → Type 0
 IsOpened head span fields = IsHead head × IsSpan span × AllByRecursion IsField fields
 
-abbrev pub IsFront : Front → Type 0
-IsFront (bare head) = IsHead head
-IsFront (spanned head span) = IsHead head × IsSpan span
-IsFront (fielded head span earlier last) = IsOpened head span earlier × IsField last
+abbrev pub IsDirectiveFront : Front → Type 0
+IsDirectiveFront (bare head) = IsHead head
+IsDirectiveFront (spanned head span) = IsHead head × IsSpan span
+IsDirectiveFront (fielded head span earlier last) = IsOpened head span earlier × IsField last
 
 -- A form: a front alone, or with a level's text behind `=`; a bare head and a level's text may have a comma behind them.
-pub data Form : Type 0 where
-  alone : (front : Front) → Form
-  head_comma : (head : List ℕ) → Form
-  leveled : (front : Front) (level : List ℕ) → Form
-  leveled_comma : (front : Front) (level : List ℕ) → Form
+pub data DirectiveForm : Type 0 where
+  alone : (front : Front) → DirectiveForm
+  head_comma : (head : List ℕ) → DirectiveForm
+  leveled : (front : Front) (level : List ℕ) → DirectiveForm
+  leveled_comma : (front : Front) (level : List ℕ) → DirectiveForm
 
 -- what a form looks like
-abbrev pub form_text : Form → List ℕ
+abbrev pub form_text : DirectiveForm → List ℕ
 form_text (alone front) = front_text front
 form_text (head_comma head) = head ++ codes ","
 form_text (leveled front level) = front_text front ++ (codes "=" ++ level)
@@ -83,11 +83,11 @@ form_text (leveled_comma front level) = front_text front ++ (codes "=" ++ (level
 abbrev pub IsLevelText : List ℕ → Type 0
 IsLevelText level = lacks (codes ",") level ≡ true
 
-abbrev pub IsForm : Form → Type 0
-IsForm (alone front) = IsFront front
+abbrev pub IsForm : DirectiveForm → Type 0
+IsForm (alone front) = IsDirectiveFront front
 IsForm (head_comma head) = IsHead head
-IsForm (leveled front level) = IsFront front × IsLevelText level
-IsForm (leveled_comma front level) = IsFront front × IsLevelText level
+IsForm (leveled front level) = IsDirectiveFront front × IsLevelText level
+IsForm (leveled_comma front level) = IsDirectiveFront front × IsLevelText level
 
 -- a text, none where it is empty
 abbrev pub unless_empty : List ℕ → Option (List ℕ)
@@ -111,7 +111,7 @@ level_or_target head (Some level) = target_at [] level
 level_or_target head None = target_at head TRACE
 
 abbrev pub head_alone : List ℕ → Directive
-head_alone head = level_or_target head (filter_of head)
+head_alone head = level_or_target head (level_filter_of head)
 
 -- what a front alone asks for
 abbrev pub directive_alone : Bool → Front → Directive
@@ -122,22 +122,22 @@ directive_alone patterns (fielded head span earlier last) = directive_at pattern
 -- the level that a text behind `=` stands for: TRACE where it is empty
 abbrev pub level_behind : List ℕ → Option LevelFilter
 level_behind [] = Some TRACE
-level_behind (b ∷ bs) = filter_of (b ∷ bs)
+level_behind (b ∷ bs) = level_filter_of (b ∷ bs)
 
 -- what a form means, with values of texts as patterns or as they stand; nothing where its level doesn't read
-abbrev pub meaning : Bool → Form → Option Directive
-meaning patterns (alone front) = Some (directive_alone patterns front)
-meaning patterns (head_comma head) = Some (head_alone head)
-meaning patterns (leveled front level) = option_map (directive_at patterns front) (level_behind level)
-meaning patterns (leveled_comma front level) = option_map (directive_at patterns front) (level_behind level)
+abbrev pub directive_of_form : Bool → DirectiveForm → Option Directive
+directive_of_form patterns (alone front) = Some (directive_alone patterns front)
+directive_of_form patterns (head_comma head) = Some (head_alone head)
+directive_of_form patterns (leveled front level) = option_map (directive_at patterns front) (level_behind level)
+directive_of_form patterns (leveled_comma front level) = option_map (directive_at patterns front) (level_behind level)
 
 -- A text has a form for a directive if it begins as one may, and looks like a form that means the directive.
 pub record HasForm (patterns : Bool) (text : List ℕ) (directive : Directive) : Type 0 where
   pub start : begins text ≡ true
-  pub form : Form
+  pub form : DirectiveForm
   pub parts : IsForm form
   pub whole : text ≡ form_text form
-  pub means : meaning patterns form ≡ Some directive
+  pub means : directive_of_form patterns form ≡ Some directive
 
 -- The grammar: a text is that of a directive if it has a form for it; where patterns are wanted, each of these has to be one too.
 abbrev pub IsDirective : Bool → List ℕ → Directive → Type 0

@@ -3,7 +3,7 @@ use Rattle.std.specs.List.{AllByRecursion}
 use Rattle.std.specs.Prelude.{◌≡◌, ℕ, List, [], ◌∷◌, ◌++◌, ◌==◌, Bool, true, if◌then◌else◌, Option, None, Some, Result, Ok, Err, codes}
 use Rattle.trace_base.specs.declared.level.LevelFilter.{LevelFilter}
 use Rattle.trace_base.specs.declared.level.LevelFilter.TheVariants.{TRACE}
-use Rattle.env_directives.specs.reading.Cuts.{cut, is_among}
+use Rattle.env_directives.specs.reading.Cuts.{pieces_at, is_among}
 use Rattle.env_directives.specs.reading.Forms.{begins, unless_empty, target_at, head_alone, level_behind, each_with_comma, IsSpan, IsField}
 use Rattle.env_directives.specs.reading.Values.{field_of, IsNoPatternField}
 use Rattle.env_directives.specs.declared.directive.ParseError.{ParseError}
@@ -34,7 +34,7 @@ read_leveled d (Some level) stop rest = read_behind (at_level d level) stop rest
 
 -- behind `=`
 unfoldable pub read_level : Directive → List ℕ → Read
-read_level d text = let pieces = cut (codes ",") text in read_leveled d (level_behind pieces.front) pieces.stop pieces.rest
+read_level d text = let pieces = pieces_at (codes ",") text in read_leveled d (level_behind pieces.front) pieces.stop pieces.rest
 
 -- behind a bracket
 unfoldable pub read_end : Directive → List ℕ → Read
@@ -82,7 +82,7 @@ read_span patterns d span (Some stop) rest =
 
 -- behind an opening bracket
 unfoldable pub read_bracket : Bool → Directive → List ℕ → Read
-read_bracket patterns d text = let pieces = cut (codes "]{") text in read_span patterns d pieces.front pieces.stop pieces.rest
+read_bracket patterns d text = let pieces = pieces_at (codes "]{") text in read_span patterns d pieces.front pieces.stop pieces.rest
 
 -- behind a head
 abbrev pub read_head : Bool → List ℕ → Option ℕ → List ℕ → Read
@@ -95,7 +95,7 @@ read_head patterns head (Some stop) rest =
 -- a text without white space at its ends
 unfoldable pub reading : Bool → List ℕ → Read
 reading patterns text =
-    let pieces = cut (codes "=[,") text in
+    let pieces = pieces_at (codes "=[,") text in
     if begins text then read_head patterns pieces.front pieces.stop pieces.rest else Err Shape
 
 -- the fields of a text lead to one whose value is refused as a pattern
@@ -119,8 +119,8 @@ pub record SpanLeadsToNoPattern (text : List ℕ) : Type 0 where
   pub leads : LeadsToNoPattern more
 
 -- what is answered is what was read, but for want of memory, and for no pattern where patterns are wanted and P holds
-abbrev pub Answers : {X Y : Type 0} → (X → Y) → Bool → Type 0 → Result X ParseError → Result Y ParseError → Type 0
-Answers view patterns P (Ok x) read = read ≡ Ok (view x)
-Answers view patterns P (Err Memory) read = Unit {0}
-Answers view patterns P (Err Pattern) read = (patterns ≡ true) × P
-Answers view patterns P (Err e) read = read ≡ Err e
+abbrev pub AnswersRead : {X Y : Type 0} → (X → Y) → Bool → Type 0 → Result X ParseError → Result Y ParseError → Type 0
+AnswersRead view patterns P (Ok x) read = read ≡ Ok (view x)
+AnswersRead view patterns P (Err Memory) read = Unit {0}
+AnswersRead view patterns P (Err Pattern) read = (patterns ≡ true) × P
+AnswersRead view patterns P (Err e) read = read ≡ Err e

@@ -4,7 +4,7 @@ use Rattle.std.specs.List.{ends_with}
 use Rattle.std.specs.Option.{option_map_or}
 use Rattle.trace_base.specs.declared.level.LevelFilter.{LevelFilter}
 use Rattle.trace_base.specs.declared.level.LevelFilter.TheVariants.{TRACE}
-use Rattle.trace_base.specs.words.LevelWords.{filter_of}
+use Rattle.trace_base.specs.words.LevelWords.{level_filter_of}
 use Rattle.env_directives.specs.declared.directive.ParseError.{ParseError}
 use Rattle.env_directives.specs.declared.directive.ParseError.TheVariants.{Level, Equals, Fields, Memory}
 use Rattle.env_directives.specs.declared.directive.StaticDirective.{StaticDirective}
@@ -15,9 +15,9 @@ abbrev pub Fails : {X : Type 0} → ParseError → Result X ParseError → Type 
 Fails Memory read = Unit {0}
 Fails e read = read ≡ Err e
 
-abbrev pub Reads : {X : Type 0} → Result X ParseError → Result X ParseError → Type 0
-Reads (Ok x) read = read ≡ Ok x
-Reads (Err e) read = Fails e read
+abbrev pub ReadsOrFails : {X : Type 0} → Result X ParseError → Result X ParseError → Type 0
+ReadsOrFails (Ok x) read = read ≡ Ok x
+ReadsOrFails (Err e) read = Fails e read
 
 -- a fault, or what follows from a value
 abbrev pub and_then : {X Y : Type 0} → Result X ParseError → (X → Result Y ParseError) → Result Y ParseError
@@ -28,7 +28,7 @@ and_then (Err e) f = Err e
 abbrev pub bare_of : List ℕ → StaticDirective
 bare_of text = option_map_or
     (λ level. record { target = None; field_names = []; level = level })
-    (filter_of text)
+    (level_filter_of text)
     (record { target = Some text; field_names = []; level = TRACE })
 
 -- the names of the fields behind the first `[{`
@@ -49,12 +49,12 @@ front_of front = option_map_or
     (Ok (front, []))
 
 -- behind the `=`
-abbrev pub level_of : List ℕ → Result LevelFilter ParseError
-level_of text = option_map_or (λ level. Ok level) (filter_of text) (Err Level)
+abbrev pub level_behind_equals : List ℕ → Result LevelFilter ParseError
+level_behind_equals text = option_map_or (λ level. Ok level) (level_filter_of text) (Err Level)
 
 abbrev pub with_equals : List ℕ → List ℕ → Result StaticDirective ParseError
 with_equals front level =
-    and_then (front_of front) (λ parts. and_then (level_of level) (λ level.
+    and_then (front_of front) (λ parts. and_then (level_behind_equals level) (λ level.
     Ok (record { target = Some parts.0; field_names = parts.1; level = level })))
 
 -- the directive that a text spells, or the fault of a text that spells none

@@ -4,7 +4,7 @@ use Rattle.std.specs.List.{AllByRecursion}
 use Rattle.std.specs.Option.{option_and_then, option_map, option_or}
 use Rattle.std.specs.Str.Parse.{without_leading_sign, signed_digits_value}
 use Rattle.trace_base.specs.words.LevelWords.{digits_number, decimal_value}
-use Rattle.env_directives.specs.reading.Cuts.{cut}
+use Rattle.env_directives.specs.reading.Cuts.{pieces_at}
 use Rattle.env_directives.specs.Patterns.{IsPattern, IsNoPattern}
 use Rattle.env_directives.specs.declared.directive.ParseError.{ParseError}
 use Rattle.env_directives.specs.declared.directive.ParseError.TheVariants.{Shape, Level, Field, Pattern, Equals, Fields, Memory}
@@ -45,8 +45,8 @@ value_of patterns text = unwrap_or (plain_value text) (text_value patterns text)
 
 -- a field: its name, and the value between its first and its second `=`; what is behind a second one is dropped
 unfoldable pub field_of : Bool → List ℕ → Match
-field_of patterns text = let pieces = cut (codes "=") text in
-    record { name = pieces.front; value = option_map (λ _. value_of patterns (cut (codes "=") pieces.rest).front) pieces.stop }
+field_of patterns text = let pieces = pieces_at (codes "=") text in
+    record { name = pieces.front; value = option_map (λ _. value_of patterns (pieces_at (codes "=") pieces.rest).front) pieces.stop }
 
 -- a value is a pattern only if its text is one
 abbrev pub IsPatternIfAny : ValueMatch → Type 0
@@ -66,8 +66,8 @@ IsNoPatternValue text = (plain_value text ≡ None) × IsNoPattern text
 
 -- a field has a value, which is refused as a pattern
 abbrev pub IsNoPatternField : List ℕ → Type 0
-IsNoPatternField text = let pieces = cut (codes "=") text in
-    IsSome pieces.stop × IsNoPatternValue (cut (codes "=") pieces.rest).front
+IsNoPatternField text = let pieces = pieces_at (codes "=") text in
+    IsSome pieces.stop × IsNoPatternValue (pieces_at (codes "=") pieces.rest).front
 
 -- how reading a value may fail: for want of memory, or, where patterns are wanted and P holds, because it is no pattern
 abbrev pub MayFail : Bool → Type 0 → ParseError → Type 0

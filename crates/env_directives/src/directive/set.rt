@@ -5,7 +5,7 @@ ghost use Rattle.std.specs.List.{filter};
 ghost use Rattle.std.specs.List.Sorted.{IsStrictlySortedBy};
 ghost use Rattle.env_directives.specs.orders.Choice.{admits, admits_target};
 ghost use Rattle.env_directives.specs.Iterators.{directives_left, caring_left};
-ghost use Rattle.env_directives.specs.orders.Table.{empty_table, with_added, with_all_added, AddsSome, placed, more_verbose};
+ghost use Rattle.env_directives.specs.orders.Table.{empty_table, with_added, with_all_added, AddsSome, with_item_in_order, more_verbose};
 
 use crate::directive::{Match, StaticDirective};
 use otel_base::memory::Memory;
@@ -211,7 +211,7 @@ fn place<T: Ord + MadeWith<Global> + Drop>(
     directive: T,
 ) -> Result<(), Memory>
     requires { IsStrictlySortedBy T.cmp directives.old.items }
-    ensures ok { OnOk result (directives.new.items ≡ placed T.cmp directive directives.old.items) }
+    ensures ok { OnOk result (directives.new.items ≡ with_item_in_order T.cmp directive directives.old.items) }
     ensures memory_leaves { OnErr result (directives.new ≡ directives.old) }
 {
     match directives.as_slice().binary_search(&directive) {

@@ -2,7 +2,7 @@
 ghost use Rattle.std.specs.Prelude.{◌≡◌, ◌<◌, true};
 ghost use Rattle.std.specs.List.{list_all};
 ghost use Rattle.std.specs.Prelude.{nat_lt};
-ghost use Rattle.env_directives.specs.reading.Cuts.{cut, Pieces};
+ghost use Rattle.env_directives.specs.reading.Cuts.{pieces_at, Pieces};
 
 /// A text in pieces: what stands before the byte that it is cut at, that byte if there is one, and what stands behind it.
 #[derive(Clone, Copy)]
@@ -16,9 +16,9 @@ pub struct Pieces<'t> {
 #[tactic(auto, using(crate::proofs::cuts::CutsLemmas::cut_step, crate::proofs::cuts::CutsLemmas::cut_found))]
 pub fn cut<'t>(text: &'t str, stops: &[u8]) -> Pieces<'t>
     requires { list_all (λ s. nat_lt s 128) stops.now ≡ true }
-    ensures front { result.front.now ≡ (cut stops.now text.now).front }
-    ensures stop { result.stop ≡ (cut stops.now text.now).stop }
-    ensures rest { result.rest.now ≡ (cut stops.now text.now).rest }
+    ensures front { result.front.now ≡ (pieces_at stops.now text.now).front }
+    ensures stop { result.stop ≡ (pieces_at stops.now text.now).stop }
+    ensures rest { result.rest.now ≡ (pieces_at stops.now text.now).rest }
 {
     for (at, byte) in text.as_bytes().iter().enumerate() {
         if stops.contains(byte) {

@@ -8,8 +8,8 @@ ghost use Rattle.std.specs.Ordering.{nat_cmp, as_partial_cmp};
 ghost use Rattle.std.specs.Cmp.{partial_order_from_own_ties};
 ghost use Rattle.std.specs.Cmp.Lexicographic.{slice_cmp};
 ghost use Rattle.env_directives.specs.reading.Values.{MayFail};
-ghost use Rattle.env_directives.specs.Meeting.{is_matched_if_any, plain_text};
-ghost use Rattle.env_directives.specs.Patterns.{whole, is_matched, IsCompiled, IsPattern, IsRefused, IsNoPattern};
+ghost use Rattle.env_directives.specs.Meeting.{is_matched_if_any, matched_text};
+ghost use Rattle.env_directives.specs.Patterns.{whole_pattern, is_matched, IsCompiled, IsPattern, IsRefusedByRegex, IsNoPattern};
 
 use crate::directive::ParseError;
 use crate::env::field::{MatchDebug, text_of};
@@ -77,7 +77,7 @@ impl MatchPattern {
 
     // Whether a value's text, or the debug text of another value, matches as a whole.
     pub(crate) fn met(&self, alloc: Global, value: &Value) -> Result<bool, Memory>
-        ensures { IfOk result (λ found. found ≡ is_matched_if_any self.now (plain_text value.now)) }
+        ensures { IfOk result (λ found. found ≡ is_matched_if_any self.now (matched_text value.now)) }
     {
         match value {
             Value::Str(text) | Value::Debug(text) => self.matches(alloc, text.as_str()),
@@ -147,7 +147,7 @@ impl PartialOrd for MatchPattern {
 
 fn compile_whole(alloc: Global, text: &str) -> Result<Regex, ParseError>
     ensures ok { IfOk result (IsCompiled text.now) }
-    ensures err { IfErr result (MayFail true (IsRefused (whole text.now))) }
+    ensures err { IfErr result (MayFail true (IsRefusedByRegex (whole_pattern text.now))) }
 {
     let whole = format!(in alloc; "\\A(?:{text})\\z")?;
     compile(alloc, whole.as_str())
@@ -157,7 +157,7 @@ fn compile(alloc: Global, source: &str) -> Result<Regex, ParseError>
     ensures source { IfOk result (λ r. regex_source r ≡ source.now) }
     ensures config { IfOk result (λ r. regex_config r ≡ default_config) }
     ensures read { IfOk result IsReadFromSource }
-    ensures err { IfErr result (MayFail true (IsRefused source.now)) }
+    ensures err { IfErr result (MayFail true (IsRefusedByRegex source.now)) }
 {
     match Regex::new(alloc, source) {
         Ok(regex) => Ok(regex),

@@ -3,7 +3,7 @@ ghost use Rattle.std.specs.Prelude.{◌≡◌, Some, false};
 ghost use Rattle.std.proofs.Common.{refl, ap, ◌∙◌};
 ghost use Rattle.trace_base.specs.declared.lane.Lane.{Lane};
 ghost use Rattle.env_directives.specs.orders.Choice.{admits};
-ghost use Rattle.trace_base.specs.layers.Unseeing.{unseeing, LeavesLanes, unseeing_sees, unseeing_lanes};
+ghost use Rattle.trace_base.specs.layers.Unseeing.{no_known_spans, LeavesLanes, unseeing_sees, unseeing_lanes};
 ghost use Rattle.env_directives.specs.Deciding.{interest_in, enables_in};
 
 use crate::targets::Targets;
@@ -66,7 +66,7 @@ impl Filter for Targets {
 impl Layer for Targets {
     type Ready = Ready;
 
-    ghost seen = { λ t. unseeing };
+    ghost seen = { λ t. no_known_spans };
 
     ghost kept = { λ t lane number. 0 };
 

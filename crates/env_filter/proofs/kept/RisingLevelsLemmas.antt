@@ -15,10 +15,10 @@ use Rattle.env_directives.specs.orders.Table.{more_verbose}
 use Rattle.env_filter.specs.declared.watch.Ask.{Ask}
 use Rattle.env_filter.specs.declared.watch.Care.{Care}
 use Rattle.env_filter.specs.spans.Watching.{is_given, cares_of}
-use Rattle.env_filter.specs.Filtering.{IsBelow}
+use Rattle.env_filter.specs.Filtering.{IsAtMostLevel}
 use Rattle.env_filter.specs.laws.HookLemmas.{more_below}
 use Rattle.env_filter.specs.Gating.{first_below, second_below}
-use Rattle.env_filter.specs.spans.Histories.{gives, makes_of, made_by, given, is_ended, ends, most_from, is_met, level_by, level_if, level_told, NeverFalls}
+use Rattle.env_filter.specs.spans.Histories.{values_given_by, makes_of, made_by, all_values_given, is_ended, is_close_of, most_from, is_met, level_by, level_if, level_by_calls, NeverFalls}
 use Rattle.env_filter.proofs.kept.ToldLevelsLemmas.{filter_step, given_append}
 
 stays_given : (xs ys : List (ℕ × Value)) (ask : Ask) → is_given xs ask ≡ true → is_given (xs ++ ys) ask ≡ true
@@ -28,28 +28,28 @@ all_stay : (xs ys : List (ℕ × Value)) (asks : List Ask) → list_all (is_give
 all_stay xs ys [] is = refl
 all_stay xs ys (ask ∷ asks) is = let parts = and_parts (is_given xs ask) (list_all (is_given xs) asks) is in and_from (is_given (xs ++ ys) ask) (list_all (is_given (xs ++ ys)) asks) (stays_given xs ys ask parts.0) (all_stay xs ys asks parts.1)
 
-most_rises : (p q : Care → Bool) → ((care : Care) → p care ≡ true → q care ≡ true) → (cares : List Care) (one other : LevelFilter) → IsBelow other one → IsBelow (most_from other (filter q cares)) (most_from one (filter p cares))
+most_rises : (p q : Care → Bool) → ((care : Care) → p care ≡ true → q care ≡ true) → (cares : List Care) (one other : LevelFilter) → IsAtMostLevel other one → IsAtMostLevel (most_from other (filter q cares)) (most_from one (filter p cares))
 most_rises p q more [] one other is = is
 most_rises p q more (care ∷ cares) one other is =
     let next : (b : Bool) (l : LevelFilter) → LevelFilter = λ b l. if b then more_verbose l care.level else l in
-    let step : IsBelow (next (q care) other) (next (p care) one) = elim (cases_Bool (p care)) [
-      | inl met ↦ subst (λ (b : Bool). IsBelow (next (q care) other) (next b one)) (sym met) (subst (λ (b : Bool). IsBelow (next b other) (more_verbose one care.level)) (sym (more care met))
+    let step : IsAtMostLevel (next (q care) other) (next (p care) one) = elim (cases_Bool (p care)) [
+      | inl met ↦ subst (λ (b : Bool). IsAtMostLevel (next (q care) other) (next b one)) (sym met) (subst (λ (b : Bool). IsAtMostLevel (next b other) (more_verbose one care.level)) (sym (more care met))
           (more_below (more_verbose other care.level) one care.level (let e = first_below other care.level in omega (arith, e, is)) (second_below other care.level)))
-      | inr unmet ↦ subst (λ (b : Bool). IsBelow (next (q care) other) (next b one)) (sym unmet) (elim (cases_Bool (q care)) [
-        | inl later ↦ subst (λ (b : Bool). IsBelow (next b other) one) (sym later) (let e = first_below other care.level in omega (arith, e, is))
-        | inr never ↦ subst (λ (b : Bool). IsBelow (next b other) one) (sym never) is
+      | inr unmet ↦ subst (λ (b : Bool). IsAtMostLevel (next (q care) other) (next b one)) (sym unmet) (elim (cases_Bool (q care)) [
+        | inl later ↦ subst (λ (b : Bool). IsAtMostLevel (next b other) one) (sym later) (let e = first_below other care.level in omega (arith, e, is))
+        | inr never ↦ subst (λ (b : Bool). IsAtMostLevel (next b other) one) (sym never) is
       ])
     ] in
-    subst (λ (l : LevelFilter). IsBelow (most_from other (filter q (care ∷ cares))) l) (sym (filter_step p one care cares))
-    (subst (λ (l : LevelFilter). IsBelow l (most_from (next (p care) one) (filter p cares))) (sym (filter_step q other care cares)) (most_rises p q more cares (next (p care) one) (next (q care) other) step))
+    subst (λ (l : LevelFilter). IsAtMostLevel (most_from other (filter q (care ∷ cares))) l) (sym (filter_step p one care cares))
+    (subst (λ (l : LevelFilter). IsAtMostLevel l (most_from (next (p care) one) (filter p cares))) (sym (filter_step q other care cares)) (most_rises p q more cares (next (p care) one) (next (q care) other) step))
 
-by_rises : (xs ys : List (ℕ × Value)) (cares : List Care) (l m : LevelFilter) → level_by xs cares ≡ Some l → level_by (xs ++ ys) cares ≡ Some m → IsBelow m l
+by_rises : (xs ys : List (ℕ × Value)) (cares : List Care) (l m : LevelFilter) → level_by xs cares ≡ Some l → level_by (xs ++ ys) cares ≡ Some m → IsAtMostLevel m l
 by_rises xs ys [] l m is later = absurd (cc is)
 by_rises xs ys (care ∷ cares) l m is later =
     let rises = most_rises (is_met xs) (is_met (xs ++ ys)) (λ c met. all_stay xs ys c.asks met) (care ∷ cares) OFF OFF (omega arith) in
     let a : most_from OFF (filter (is_met xs) (care ∷ cares)) ≡ l = cc is in
     let b : most_from OFF (filter (is_met (xs ++ ys)) (care ∷ cares)) ≡ m = cc later in
-    subst (λ (k : LevelFilter). IsBelow k l) b (subst (λ (k : LevelFilter). IsBelow (most_from OFF (filter (is_met (xs ++ ys)) (care ∷ cares))) k) a rises)
+    subst (λ (k : LevelFilter). IsAtMostLevel k l) b (subst (λ (k : LevelFilter). IsAtMostLevel (most_from OFF (filter (is_met (xs ++ ys)) (care ∷ cares))) k) a rises)
 
 -- the making stays
 made_stays : (q : ℕ) (past calls : List Hook) (c : Callsite) → made_by q past ≡ Some c → made_by q (past ++ calls) ≡ Some c
@@ -66,7 +66,7 @@ module _ (ds : List Directive) where
   if_open ended made values = if ended then None else level_if ds made values
 
   if_rises : (ended ending : Bool) (made later : Option Callsite) (xs ys : List (ℕ × Value)) (l m : LevelFilter) → ((c : Callsite) → made ≡ Some c → later ≡ Some c) → if_open ended made xs ≡ Some l
-      → if_open (ended || ending) later (xs ++ ys) ≡ Some m → IsBelow m l
+      → if_open (ended || ending) later (xs ++ ys) ≡ Some m → IsAtMostLevel m l
   if_rises true ending made later xs ys l m stays is now = absurd (cc is)
   if_rises false true made later xs ys l m stays is now = absurd (cc now)
   if_rises false false None later xs ys l m stays is now = absurd (cc is)
@@ -83,16 +83,16 @@ module _ (ds : List Directive) where
   if_stays false false None later xs ys stays is going = absurd (cc is)
   if_stays false false (Some c) later xs ys stays is going = ap (λ (o : Option Callsite). is_some (level_if ds o (xs ++ ys))) (stays c refl) ∙ some_level xs (xs ++ ys) (cares_of c ds) is
 
-  told_more : (q : ℕ) (past calls : List Hook) → level_told ds q (past ++ calls) ≡ if_open (is_ended q past || is_ended q calls) (made_by q (past ++ calls)) (given q past ++ given q calls)
+  told_more : (q : ℕ) (past calls : List Hook) → level_by_calls ds q (past ++ calls) ≡ if_open (is_ended q past || is_ended q calls) (made_by q (past ++ calls)) (all_values_given q past ++ all_values_given q calls)
   told_more q past calls =
-      ap (λ (b : Bool). if_open b (made_by q (past ++ calls)) (given q (past ++ calls))) (list_any-append (ends q) past calls)
-      ∙ ap (λ (vs : List (ℕ × Value)). if_open (is_ended q past || is_ended q calls) (made_by q (past ++ calls)) vs) (flat_map-append (gives q) past calls)
+      ap (λ (b : Bool). if_open b (made_by q (past ++ calls)) (all_values_given q (past ++ calls))) (list_any-append (is_close_of q) past calls)
+      ∙ ap (λ (vs : List (ℕ × Value)). if_open (is_ended q past || is_ended q calls) (made_by q (past ++ calls)) vs) (flat_map-append (values_given_by q) past calls)
 
-  pub level_rises : (q : ℕ) (past calls : List Hook) → NeverFalls (level_told ds q past) (level_told ds q (past ++ calls))
+  pub level_rises : (q : ℕ) (past calls : List Hook) → NeverFalls (level_by_calls ds q past) (level_by_calls ds q (past ++ calls))
   level_rises q past calls l m is later =
-      if_rises (is_ended q past) (is_ended q calls) (made_by q past) (made_by q (past ++ calls)) (given q past) (given q calls) l m (made_stays q past calls) is (sym (told_more q past calls) ∙ later)
+      if_rises (is_ended q past) (is_ended q calls) (made_by q past) (made_by q (past ++ calls)) (all_values_given q past) (all_values_given q calls) l m (made_stays q past calls) is (sym (told_more q past calls) ∙ later)
 
-  pub level_stays : (q : ℕ) (past calls : List Hook) → is_some (level_told ds q past) ≡ true → is_ended q calls ≡ false → is_some (level_told ds q (past ++ calls)) ≡ true
+  pub level_stays : (q : ℕ) (past calls : List Hook) → is_some (level_by_calls ds q past) ≡ true → is_ended q calls ≡ false → is_some (level_by_calls ds q (past ++ calls)) ≡ true
   level_stays q past calls is going =
       ap (λ (o : Option LevelFilter). is_some o) (told_more q past calls)
-      ∙ if_stays (is_ended q past) (is_ended q calls) (made_by q past) (made_by q (past ++ calls)) (given q past) (given q calls) (made_stays q past calls) is going
+      ∙ if_stays (is_ended q past) (is_ended q calls) (made_by q past) (made_by q (past ++ calls)) (all_values_given q past) (all_values_given q calls) (made_stays q past calls) is going

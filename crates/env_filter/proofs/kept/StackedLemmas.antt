@@ -7,8 +7,8 @@ use Rattle.std.proofs.lemmas.List.{length-set, length_push, append-nil}
 use Rattle.std.proofs.lemmas.List.Sums.{fold-append}
 use Rattle.trace_base.specs.declared.callsite.Callsite.{Callsite}
 use Rattle.trace_base.specs.declared.field.Value.{Value}
-use Rattle.trace_base.specs.Spans.{Spans, Span, span_at, entries_on, is_in, times_in, current_of, place_on, held, released, less_held, held_by_child}
-use Rattle.trace_base.specs.Calls.{SubscriberCall, NewSpan, Records, Follows, Event, Enter, Exit, CloneSpan, TryClose, after as spans_after}
+use Rattle.trace_base.specs.Spans.{Spans, Span, span_at, entries_on, is_in, times_in, current_of, place_on, with_hold, without_hold, less_hold, held_by_child}
+use Rattle.trace_base.specs.Calls.{SubscriberCall, NewSpan, Records, Follows, Event, Enter, Exit, CloneSpan, TryClose, spans_after_call}
 use Rattle.trace_base.specs.Conditions.{Allowed}
 use Rattle.trace_base.specs.lanes.Contexts.{Lanes}
 use Rattle.trace_base.specs.layers.Hooks.{Hook, OnNewSpan, OnRecord, OnFollows, OnEvent, OnEnter, OnExit, OnClose}
@@ -18,9 +18,9 @@ use Rattle.span_registry.specs.Layering.{both_allowed, both_shows}
 use Rattle.span_registry.specs.Hearing.{HearsCall, StaysTold, both_told}
 use Rattle.span_registry.specs.History.{Runs}
 use Rattle.env_directives.specs.declared.env.directive.Directive.{Directive}
-use Rattle.env_filter.specs.Filtering.{Filtered, Filtering, plain, Each, fresh, after, span_level, DoesFilter}
+use Rattle.env_filter.specs.Filtering.{FilterState, FilterWithRoom, plain, Each, fresh, after_hook, span_level, DoesFilter}
 use Rattle.env_filter.specs.Reloading.{Both}
-use Rattle.env_filter.specs.spans.Histories.{makes_of, gives, ends, made_by, given, is_ended, IsNew, IsNext, AreInOrder, level_told, levels_told}
+use Rattle.env_filter.specs.spans.Histories.{makes_of, values_given_by, is_close_of, made_by, all_values_given, is_ended, HasNoCalls, IsNext, AreInOrder, level_by_calls, levels_by_calls}
 use Rattle.env_filter.specs.Stacked.{Appends, AreHooksOf, HearsCalls}
 use Rattle.env_filter.proofs.kept.ToldLevelsLemmas.{level_is_told, levels_are_told}
 
@@ -55,7 +55,7 @@ all_push n (g ∷ hs) h all one = (all.0, all_push n hs h all.1 one)
 not_eq : {X : Type 0} (id q : ℕ) (x y : X) → id < q → (if id == q then x else y) ≡ y
 not_eq {X} id q x y less = cond-false {A = X} (id == q) x y (ne_eqb id q (λ e. absurd (omega (arith, e, less))))
 
-not_of : (q : ℕ) (h : Hook) → IsBefore q h → (makes_of q h ≡ None) × (gives q h ≡ []) × (ends q h ≡ false)
+not_of : (q : ℕ) (h : Hook) → IsBefore q h → (makes_of q h ≡ None) × (values_given_by q h ≡ []) × (is_close_of q h ≡ false)
 not_of q (OnNewSpan id lane at parent current c values) is = (not_eq id q (Some c) None is, not_eq id q values.pairs [] is, refl)
 not_of q (OnRecord id at c values) is = (refl, not_eq id q values.pairs [] is, refl)
 not_of q (OnFollows id from at) is = (refl, refl, refl)
@@ -64,14 +64,14 @@ not_of q (OnEnter id at before later) is = (refl, refl, refl)
 not_of q (OnExit id at before later) is = (refl, refl, refl)
 not_of q (OnClose id at) is = (refl, refl, ne_eqb id q (λ e. absurd (omega (arith, e, is))))
 
-pub new_if : (q : ℕ) (past : List Hook) → Each (IsBefore q) past → IsNew q past
+pub new_if : (q : ℕ) (past : List Hook) → Each (IsBefore q) past → HasNoCalls q past
 new_if q [] all = record { unmade = refl; nothing = refl; not_ended = refl }
 new_if q (h ∷ past) all =
     let no = not_of q h all.0 in
     let rest = new_if q past all.1 in
     record {
       unmade = ap (λ (o : Option Callsite). if is_some o then o else made_by q past) no.0 ∙ rest.unmade;
-      nothing = ap (λ (vs : List (ℕ × Value)). vs ++ given q past) no.1 ∙ rest.nothing;
+      nothing = ap (λ (vs : List (ℕ × Value)). vs ++ all_values_given q past) no.1 ∙ rest.nothing;
       not_ended = ap (λ (b : Bool). b || is_ended q past) no.2 ∙ rest.not_ended;
     }
 
@@ -83,14 +83,14 @@ record ToldOne {A : Type 0} (step : A → Hook → A) (spans : Spans) (call : Su
   pub first : List Hook
   pub told : HearsCall Appends spans [] call first
   pub order : AreInOrder past first
-  pub below : Each (IsBefore (length (spans_after spans call).made)) (past ++ first)
+  pub below : Each (IsBefore (length (spans_after_call spans call).made)) (past ++ first)
   pub value : b ≡ fold step a first
 
 if_length : (b : Bool) (xs ys : List Span) (n : ℕ) → length xs ≡ n → length ys ≡ n → length (if b then xs else ys) ≡ n
 if_length true xs ys n e f = e
 if_length false xs ys n e f = f
 
-grows : (spans : Spans) (call : SubscriberCall) → length spans.made ≤ length (spans_after spans call).made
+grows : (spans : Spans) (call : SubscriberCall) → length spans.made ≤ length (spans_after_call spans call).made
 grows spans (NewSpan lane at place site callsite values) =
     let above = place_on (entries_on lane.id spans.lanes) place in
     let new : Span = record { holds = 1; parent = above; site = site } in
@@ -99,20 +99,20 @@ grows spans (Records id at callsite values) = omega arith
 grows spans (Follows id from at) = omega arith
 grows spans (Event lane at place site callsite values) = omega arith
 grows spans (Enter id at before later) =
-    let e = if_length (is_in id (entries_on before.id spans.lanes)) spans.made (held spans.made id) (length spans.made) refl (length-set spans.made id _) in omega (arith, e)
+    let e = if_length (is_in id (entries_on before.id spans.lanes)) spans.made (with_hold spans.made id) (length spans.made) refl (length-set spans.made id _) in omega (arith, e)
 grows spans (Exit id at before later) =
-    let e = if_length (times_in id (entries_on before.id spans.lanes) == 1) (released spans.made id) spans.made (length spans.made) (length-set spans.made id _) refl in omega (arith, e)
+    let e = if_length (times_in id (entries_on before.id spans.lanes) == 1) (without_hold spans.made id) spans.made (length spans.made) (length-set spans.made id _) refl in omega (arith, e)
 grows spans (CloneSpan id) = let e = length-set spans.made id (record (span_at spans.made id) { holds = (span_at spans.made id).holds + 1 }) in omega (arith, e)
-grows spans (TryClose id at) = let e = length-set spans.made id (less_held (span_at spans.made id)) in omega (arith, e)
+grows spans (TryClose id at) = let e = length-set spans.made id (less_hold (span_at spans.made id)) in omega (arith, e)
 
 module _ {A : Type 0} (step : A → Hook → A) where
-  with_hook : (spans : Spans) (call : SubscriberCall) (h : Hook) (a b : A) (past : List Hook) → HearsCall Appends spans [] call (h ∷ []) → IsNext past h → IsBefore (length (spans_after spans call).made) h
+  with_hook : (spans : Spans) (call : SubscriberCall) (h : Hook) (a b : A) (past : List Hook) → HearsCall Appends spans [] call (h ∷ []) → IsNext past h → IsBefore (length (spans_after_call spans call).made) h
       → b ≡ step a h → Each (IsBefore (length spans.made)) past → ToldOne step spans call a b past
   with_hook spans call h a b past told next before value below = record {
     first = h ∷ [];
     told = told;
     order = (next, tt);
-    below = all_push (length (spans_after spans call).made) past h (all_more (length spans.made) (length (spans_after spans call).made) (grows spans call) past below) before;
+    below = all_push (length (spans_after_call spans call).made) past h (all_more (length spans.made) (length (spans_after_call spans call).made) (grows spans call) past below) before;
     value = value;
   }
 
@@ -121,7 +121,7 @@ module _ {A : Type 0} (step : A → Hook → A) where
     first = [];
     told = told;
     order = tt;
-    below = subst (Each (IsBefore (length (spans_after spans call).made))) (sym (append-nil past)) (all_more (length spans.made) (length (spans_after spans call).made) (grows spans call) past below);
+    below = subst (Each (IsBefore (length (spans_after_call spans call).made))) (sym (append-nil past)) (all_more (length spans.made) (length (spans_after_call spans call).made) (grows spans call) past below);
     value = value;
   }
 
@@ -162,7 +162,7 @@ pub record ToldAll {A : Type 0} (step : A → Hook → A) (spans : Spans) (calls
   pub value : b ≡ fold step a hooks
 
 module _ {S A : Type 0} (spans : S → Spans) (does : S → SubscriberCall → S → Type 0) (same : S → S → Type 0) (step : A → Hook → A) (value : S → A) (alike : (s t : S) → same s t → value t ≡ value s)
-    (allowed : (s : S) (call : SubscriberCall) (t : S) → does s call t → Allowed (spans s) call) (shows : (s : S) (call : SubscriberCall) (t : S) → does s call t → spans t ≡ spans_after (spans s) call)
+    (allowed : (s : S) (call : SubscriberCall) (t : S) → does s call t → Allowed (spans s) call) (shows : (s : S) (call : SubscriberCall) (t : S) → does s call t → spans t ≡ spans_after_call (spans s) call)
     (hears : (s : S) (call : SubscriberCall) (t : S) → does s call t → HearsCall (Steps step) (spans s) (value s) call (value t)) where
   told_from : (calls : List SubscriberCall) (s t : S) (past : List Hook) → Each (IsBefore (length (spans s).made)) past → Runs does same s calls t → ToldAll step (spans s) calls (value s) (value t) past
   told_from [] s t past below runs = record { hooks = []; of_calls = refl; order = tt; value = alike s t runs }
@@ -192,7 +192,7 @@ over_hears {S} {L} {A} spans inner outer same attaches step value heard alike s 
     subst (λ (b : A). HearsCall (Steps step) (spans s) (value l) call b) (sym (ap (λ (o : Option A). unwrap_or o (value m)) told.1)) told.2
 
 -- the tables stay, so what is told of a filter that had no span is told of what it began with
-fresh_after : (f : Filtered) (h : Hook) → fresh (after f h) ≡ fresh f
+fresh_after : (f : FilterState) (h : Hook) → fresh (after_hook f h) ≡ fresh f
 fresh_after f (OnNewSpan id lane at parent current callsite values) = refl
 fresh_after f (OnRecord id at callsite values) = refl
 fresh_after f (OnFollows id from at) = refl
@@ -201,28 +201,28 @@ fresh_after f (OnEnter id at before later) = refl
 fresh_after f (OnExit id at before later) = refl
 fresh_after f (OnClose id at) = refl
 
-fresh_fold : (hooks : List Hook) (f : Filtered) → fresh (fold after f hooks) ≡ fresh f
+fresh_fold : (hooks : List Hook) (f : FilterState) → fresh (fold after_hook f hooks) ≡ fresh f
 fresh_fold [] f = refl
-fresh_fold (h ∷ hooks) f = fresh_fold hooks (after f h) ∙ fresh_after f h
+fresh_fold (h ∷ hooks) f = fresh_fold hooks (after_hook f h) ∙ fresh_after f h
 
-pub heard : (spans : Spans) (calls : List SubscriberCall) (f g : Filtered) (hooks : List Hook) → f ≡ fresh f → AreHooksOf spans calls hooks → AreInOrder [] hooks → g ≡ fold after f hooks → HearsCalls spans calls f g
+pub heard : (spans : Spans) (calls : List SubscriberCall) (f g : FilterState) (hooks : List Hook) → f ≡ fresh f → AreHooksOf spans calls hooks → AreInOrder [] hooks → g ≡ fold after_hook f hooks → HearsCalls spans calls f g
 heard spans calls f g hooks alone of_calls order now =
     let began : fresh g ≡ f = ap fresh now ∙ fresh_fold hooks f ∙ sym alone in
-    let again : g ≡ fold after (fresh g) hooks = now ∙ ap (λ (x : Filtered). fold after x hooks) (sym began) in
-    let tables = ap (λ (x : Filtered). x.dynamics.directives) began in
+    let again : g ≡ fold after_hook (fresh g) hooks = now ∙ ap (λ (x : FilterState). fold after_hook x hooks) (sym began) in
+    let tables = ap (λ (x : FilterState). x.dynamics.directives) began in
     record {
       hooks = hooks;
       of_calls = of_calls;
       order = order;
       now = now;
-      level = λ id. level_is_told g hooks id order again ∙ ap (λ (ds : List Directive). level_told ds id hooks) tables;
-      levels = λ lane. levels_are_told g hooks lane order again ∙ ap (λ (ds : List Directive). levels_told ds lane hooks) tables;
+      level = λ id. level_is_told g hooks id order again ∙ ap (λ (ds : List Directive). level_by_calls ds id hooks) tables;
+      levels = λ lane. levels_are_told g hooks lane order again ∙ ap (λ (ds : List Directive). levels_by_calls ds lane hooks) tables;
     }
 
 -- any layer over any subscriber
 pub over_all_calls : {P S L A : Type 0} (top : P → L) (below : P → S) (spans : S → Spans) (inner : S → SubscriberCall → S → Type 0) (inner_same : S → S → Type 0) (outer : L → Hook → L → Type 0) (same : L → L → Type 0) (attaches : L → Bool)
     (inner_attaches : S → Bool) (inner_kept : S → ℕ → ℕ → ℕ) (step : A → Hook → A) (value : L → A) → ((l : L) (h : Hook) (m : L) → outer l h m → value m ≡ step (value l) h) → ((l m : L) → same l m → value m ≡ value l)
-    → ((s : S) (c : SubscriberCall) (t : S) → inner s c t → Allowed (spans s) c) → ((s : S) (c : SubscriberCall) (t : S) → inner s c t → spans t ≡ spans_after (spans s) c)
+    → ((s : S) (c : SubscriberCall) (t : S) → inner s c t → Allowed (spans s) c) → ((s : S) (c : SubscriberCall) (t : S) → inner s c t → spans t ≡ spans_after_call (spans s) c)
     → ((s : S) (c : SubscriberCall) (t : S) → inner s c t → Lanes (inner_attaches s) (inner_kept s) c (inner_kept t))
     → (p : P) (calls : List SubscriberCall) (q : P)
     → Runs (λ (p : P) (c : SubscriberCall) (q : P). DoesBoth spans inner outer same attaches (below p) (top p) c (below q) (top q)) (λ (p q : P). inner_same (below p) (below q) × same (top p) (top q)) p calls q
@@ -236,21 +236,21 @@ over_all_calls {P} {S} {L} {A} top below spans inner inner_same outer same attac
     p calls q runs
 
 -- what is in place
-abbrev pub step_in_place : Option Filtered → Hook → Option Filtered
-step_in_place o h = option_map (λ (f : Filtered). after f h) o
+abbrev pub step_in_place : Option FilterState → Hook → Option FilterState
+step_in_place o h = option_map (λ (f : FilterState). after_hook f h) o
 
-pub does_in_place : (N : Type 0) (h : Hook) (o p : Option Filtering) → Both (λ l m. DoesFilter l h m) N o p → option_map plain p ≡ step_in_place (option_map plain o) h
+pub does_in_place : (N : Type 0) (h : Hook) (o p : Option FilterWithRoom) → Both (λ l m. DoesFilter l h m) N o p → option_map plain p ≡ step_in_place (option_map plain o) h
 does_in_place N h None None d = refl
 does_in_place N h None (Some m) d = absurd d
 does_in_place N h (Some l) None d = absurd d
-does_in_place N h (Some l) (Some m) d = ap (λ (f : Filtered). Some f) d.now
+does_in_place N h (Some l) (Some m) d = ap (λ (f : FilterState). Some f) d.now
 
-pub same_in_place : (N : Type 0) (o p : Option Filtering) → Both (λ (l m : Filtering). plain m ≡ plain l) N o p → option_map plain p ≡ option_map plain o
+pub same_in_place : (N : Type 0) (o p : Option FilterWithRoom) → Both (λ (l m : FilterWithRoom). plain m ≡ plain l) N o p → option_map plain p ≡ option_map plain o
 same_in_place N None None d = refl
 same_in_place N None (Some m) d = absurd d
 same_in_place N (Some l) None d = absurd d
-same_in_place N (Some l) (Some m) d = ap (λ (f : Filtered). Some f) d
+same_in_place N (Some l) (Some m) d = ap (λ (f : FilterState). Some f) d
 
-pub fold_in_place : (hooks : List Hook) (f : Filtered) → fold step_in_place (Some f) hooks ≡ Some (fold after f hooks)
+pub fold_in_place : (hooks : List Hook) (f : FilterState) → fold step_in_place (Some f) hooks ≡ Some (fold after_hook f hooks)
 fold_in_place [] f = refl
-fold_in_place (h ∷ hooks) f = fold_in_place hooks (after f h)
+fold_in_place (h ∷ hooks) f = fold_in_place hooks (after_hook f h)

@@ -17,11 +17,11 @@ use Rattle.env_filter.specs.declared.watch.Ask.{Ask}
 use Rattle.env_filter.specs.declared.watch.Care.{Care}
 use Rattle.env_filter.specs.spans.Keyed.{put}
 use Rattle.env_filter.specs.spans.Puts.{put_at, put_off}
-use Rattle.env_filter.specs.spans.Levels.{Opened}
-use Rattle.env_filter.specs.spans.Kept.{opened, closed}
-use Rattle.env_filter.specs.spans.Watching.{Watched, is_given, all_asks, found_in, watched_by, watched, cares_of, more_met, recorded, level_from, level_of}
-use Rattle.env_filter.specs.Filtering.{Filtered, fresh, after, span_level}
-use Rattle.env_filter.specs.spans.Histories.{makes_of, gives, ends, made_by, given, is_ended, most_from, is_met, level_by, level_if, level_told, moved, levels_from, levels_told, IsNew, IsNext, AreInOrder}
+use Rattle.env_filter.specs.spans.Levels.{OpenLevel}
+use Rattle.env_filter.specs.spans.Kept.{with_open_level, without_open_level}
+use Rattle.env_filter.specs.spans.Watching.{MatchState, is_given, all_asks, found_in, match_state_by, new_match_state, cares_of, more_met, with_values, level_from, level_of_match}
+use Rattle.env_filter.specs.Filtering.{FilterState, fresh, after_hook, span_level}
+use Rattle.env_filter.specs.spans.Histories.{makes_of, values_given_by, is_close_of, made_by, all_values_given, is_ended, most_from, is_met, level_by, level_if, level_by_calls, levels_after_call, levels_from, levels_by_calls, HasNoCalls, IsNext, AreInOrder}
 
 -- values that are given later are noted beside those given before
 pub given_append : (xs ys : List (ℕ × Value)) (ask : Ask) → is_given (xs ++ ys) ask ≡ (is_given xs ask || is_given ys ask)
@@ -32,9 +32,9 @@ noted_more xs ys [] = refl
 noted_more xs ys (ask ∷ asks) =
     ap (λ (b : Bool). b ∷ more_met (map (is_given xs) asks) (map (is_given ys) asks)) (sym (given_append xs ys ask)) ∙ ap (λ (bs : List Bool). is_given (xs ++ ys) ask ∷ bs) (noted_more xs ys asks)
 
-recorded_by : (cares : List Care) (xs ys : List (ℕ × Value)) → option_map (recorded ys) (watched_by cares xs) ≡ watched_by cares (xs ++ ys)
+recorded_by : (cares : List Care) (xs ys : List (ℕ × Value)) → option_map (with_values ys) (match_state_by cares xs) ≡ match_state_by cares (xs ++ ys)
 recorded_by [] xs ys = refl
-recorded_by (care ∷ cares) xs ys = ap (λ (bs : List Bool). let w : Watched = record { cares = care ∷ cares; met = bs } in Some w) (noted_more xs ys (all_asks (care ∷ cares)))
+recorded_by (care ∷ cares) xs ys = ap (λ (bs : List Bool). let w : MatchState = record { cares = care ∷ cares; met = bs } in Some w) (noted_more xs ys (all_asks (care ∷ cares)))
 
 -- flags and values say the same of which directives are met
 taken : {X : Type 0} (xs ys : List X) → take (length xs) (xs ++ ys) ≡ xs
@@ -79,7 +79,7 @@ level_most values (care ∷ cares) now =
     ∙ level_most values cares next
     ∙ sym (filter_step (is_met values) now care cares)
 
-level_watched : (cares : List Care) (values : List (ℕ × Value)) → option_map level_of (watched_by cares values) ≡ level_by values cares
+level_watched : (cares : List Care) (values : List (ℕ × Value)) → option_map level_of_match (match_state_by cares values) ≡ level_by values cares
 level_watched [] values = refl
 level_watched (care ∷ cares) values = ap (λ (l : LevelFilter). Some l) (level_most values (care ∷ cares) OFF)
 
@@ -102,37 +102,37 @@ made_append q (first ∷ past) call = elim (cases_Bool (is_some (makes_of q firs
       later (made_by q (past ++ call ∷ [])) ∙ made_append q past call ∙ sym (ap (λ (o : Option Callsite). if is_some o then o else makes_of q call) (later (made_by q past))))
 ]
 
-pub given_more : (q : ℕ) (past : List Hook) (call : Hook) → given q (past ++ call ∷ []) ≡ given q past ++ gives q call
-given_more q [] call = append-nil (gives q call)
-given_more q (first ∷ past) call = ap (λ (vs : List (ℕ × Value)). gives q first ++ vs) (given_more q past call) ∙ sym (append_assoc (gives q first) (given q past) (gives q call))
+pub given_more : (q : ℕ) (past : List Hook) (call : Hook) → all_values_given q (past ++ call ∷ []) ≡ all_values_given q past ++ values_given_by q call
+given_more q [] call = append-nil (values_given_by q call)
+given_more q (first ∷ past) call = ap (λ (vs : List (ℕ × Value)). values_given_by q first ++ vs) (given_more q past call) ∙ sym (append_assoc (values_given_by q first) (all_values_given q past) (values_given_by q call))
 
-pub ended_more : (q : ℕ) (past : List Hook) (call : Hook) → is_ended q (past ++ call ∷ []) ≡ (is_ended q past || (ends q call || false))
-ended_more q past call = list_any-append (ends q) past (call ∷ [])
+pub ended_more : (q : ℕ) (past : List Hook) (call : Hook) → is_ended q (past ++ call ∷ []) ≡ (is_ended q past || (is_close_of q call || false))
+ended_more q past call = list_any-append (is_close_of q) past (call ∷ [])
 
 -- what is kept of a span by the calls so far
-abbrev kept_if : List Directive → Bool → Option Callsite → List (ℕ × Value) → Option Watched
+abbrev kept_if : List Directive → Bool → Option Callsite → List (ℕ × Value) → Option MatchState
 kept_if ds true made values = None
 kept_if ds false None values = None
-kept_if ds false (Some c) values = watched_by (cares_of c ds) values
+kept_if ds false (Some c) values = match_state_by (cares_of c ds) values
 
-abbrev kept : List Directive → ℕ → List Hook → Option Watched
-kept ds q calls = kept_if ds (is_ended q calls) (made_by q calls) (given q calls)
+abbrev kept : List Directive → ℕ → List Hook → Option MatchState
+kept ds q calls = kept_if ds (is_ended q calls) (made_by q calls) (all_values_given q calls)
 
-level_kept : (ds : List Directive) (ended : Bool) (made : Option Callsite) (values : List (ℕ × Value)) → option_map level_of (kept_if ds ended made values) ≡ (if ended then None else level_if ds made values)
+level_kept : (ds : List Directive) (ended : Bool) (made : Option Callsite) (values : List (ℕ × Value)) → option_map level_of_match (kept_if ds ended made values) ≡ (if ended then None else level_if ds made values)
 level_kept ds true made values = refl
 level_kept ds false None values = refl
 level_kept ds false (Some c) values = level_watched (cares_of c ds) values
 
 -- what the filter keeps fits the calls so far
-record Stands (ds : List Directive) (f : Filtered) (past : List Hook) : Type 0 where
+record Stands (ds : List Directive) (f : FilterState) (past : List Hook) : Type 0 where
   pub dynamics : f.dynamics.directives ≡ ds
   pub spans : (q : ℕ) → f.spans q ≡ kept ds q past
 
-kept_same : (ds : List Directive) (q : ℕ) (past : List Hook) (call : Hook) → makes_of q call ≡ None → gives q call ≡ [] → ends q call ≡ false → kept ds q (past ++ call ∷ []) ≡ kept ds q past
+kept_same : (ds : List Directive) (q : ℕ) (past : List Hook) (call : Hook) → makes_of q call ≡ None → values_given_by q call ≡ [] → is_close_of q call ≡ false → kept ds q (past ++ call ∷ []) ≡ kept ds q past
 kept_same ds q past call m g e =
-    ap (λ (b : Bool). kept_if ds b (made_by q (past ++ call ∷ [])) (given q (past ++ call ∷ []))) (ended_more q past call ∙ ap (λ (b : Bool). is_ended q past || (b || false)) e ∙ or_none (is_ended q past))
-    ∙ ap (λ (o : Option Callsite). kept_if ds (is_ended q past) o (given q (past ++ call ∷ []))) (made_append q past call ∙ ap (λ (o : Option Callsite). if is_some (made_by q past) then made_by q past else o) m ∙ if_made (made_by q past))
-    ∙ ap (λ (vs : List (ℕ × Value)). kept_if ds (is_ended q past) (made_by q past) vs) (given_more q past call ∙ ap (λ (vs : List (ℕ × Value)). given q past ++ vs) g ∙ append-nil (given q past))
+    ap (λ (b : Bool). kept_if ds b (made_by q (past ++ call ∷ [])) (all_values_given q (past ++ call ∷ []))) (ended_more q past call ∙ ap (λ (b : Bool). is_ended q past || (b || false)) e ∙ or_none (is_ended q past))
+    ∙ ap (λ (o : Option Callsite). kept_if ds (is_ended q past) o (all_values_given q (past ++ call ∷ []))) (made_append q past call ∙ ap (λ (o : Option Callsite). if is_some (made_by q past) then made_by q past else o) m ∙ if_made (made_by q past))
+    ∙ ap (λ (vs : List (ℕ × Value)). kept_if ds (is_ended q past) (made_by q past) vs) (given_more q past call ∙ ap (λ (vs : List (ℕ × Value)). all_values_given q past ++ vs) g ∙ append-nil (all_values_given q past))
   where
     or_none : (b : Bool) → (b || (false || false)) ≡ b
     or_none true = refl
@@ -143,20 +143,20 @@ kept_same ds q past call m g e =
     if_made (Some c) = refl
 
 -- a making
-kept_made : (ds : List Directive) (id : ℕ) (past : List Hook) (call : Hook) (c : Callsite) (values : List (ℕ × Value)) → IsNew id past → makes_of id call ≡ Some c → gives id call ≡ values → ends id call ≡ false
-    → kept ds id (past ++ call ∷ []) ≡ watched ds c values
+kept_made : (ds : List Directive) (id : ℕ) (past : List Hook) (call : Hook) (c : Callsite) (values : List (ℕ × Value)) → HasNoCalls id past → makes_of id call ≡ Some c → values_given_by id call ≡ values → is_close_of id call ≡ false
+    → kept ds id (past ++ call ∷ []) ≡ new_match_state ds c values
 kept_made ds id past call c values new m g e =
-    ap (λ (b : Bool). kept_if ds b (made_by id (past ++ call ∷ [])) (given id (past ++ call ∷ []))) (ended_more id past call ∙ ap (λ (b : Bool). is_ended id past || (b || false)) e ∙ ap (λ (b : Bool). b || (false || false)) new.not_ended)
-    ∙ ap (λ (o : Option Callsite). kept_if ds false o (given id (past ++ call ∷ []))) (made_append id past call ∙ ap (λ (o : Option Callsite). if is_some o then o else makes_of id call) new.unmade ∙ m)
-    ∙ ap (λ (vs : List (ℕ × Value)). kept_if ds false (Some c) vs) (given_more id past call ∙ ap (λ (vs : List (ℕ × Value)). vs ++ gives id call) new.nothing ∙ g)
+    ap (λ (b : Bool). kept_if ds b (made_by id (past ++ call ∷ [])) (all_values_given id (past ++ call ∷ []))) (ended_more id past call ∙ ap (λ (b : Bool). is_ended id past || (b || false)) e ∙ ap (λ (b : Bool). b || (false || false)) new.not_ended)
+    ∙ ap (λ (o : Option Callsite). kept_if ds false o (all_values_given id (past ++ call ∷ []))) (made_append id past call ∙ ap (λ (o : Option Callsite). if is_some o then o else makes_of id call) new.unmade ∙ m)
+    ∙ ap (λ (vs : List (ℕ × Value)). kept_if ds false (Some c) vs) (given_more id past call ∙ ap (λ (vs : List (ℕ × Value)). vs ++ values_given_by id call) new.nothing ∙ g)
 
 -- a record
-kept_recorded : (ds : List Directive) (id : ℕ) (past : List Hook) (call : Hook) (values : List (ℕ × Value)) → makes_of id call ≡ None → gives id call ≡ values → ends id call ≡ false
-    → kept ds id (past ++ call ∷ []) ≡ option_map (recorded values) (kept ds id past)
+kept_recorded : (ds : List Directive) (id : ℕ) (past : List Hook) (call : Hook) (values : List (ℕ × Value)) → makes_of id call ≡ None → values_given_by id call ≡ values → is_close_of id call ≡ false
+    → kept ds id (past ++ call ∷ []) ≡ option_map (with_values values) (kept ds id past)
 kept_recorded ds id past call values m g e =
-    ap (λ (b : Bool). kept_if ds b (made_by id (past ++ call ∷ [])) (given id (past ++ call ∷ []))) (ended_more id past call ∙ ap (λ (b : Bool). is_ended id past || (b || false)) e ∙ or_none (is_ended id past))
-    ∙ ap (λ (o : Option Callsite). kept_if ds (is_ended id past) o (given id (past ++ call ∷ []))) (made_append id past call ∙ ap (λ (o : Option Callsite). if is_some (made_by id past) then made_by id past else o) m ∙ if_made (made_by id past))
-    ∙ ap (λ (vs : List (ℕ × Value)). kept_if ds (is_ended id past) (made_by id past) vs) (given_more id past call ∙ ap (λ (vs : List (ℕ × Value)). given id past ++ vs) g)
+    ap (λ (b : Bool). kept_if ds b (made_by id (past ++ call ∷ [])) (all_values_given id (past ++ call ∷ []))) (ended_more id past call ∙ ap (λ (b : Bool). is_ended id past || (b || false)) e ∙ or_none (is_ended id past))
+    ∙ ap (λ (o : Option Callsite). kept_if ds (is_ended id past) o (all_values_given id (past ++ call ∷ []))) (made_append id past call ∙ ap (λ (o : Option Callsite). if is_some (made_by id past) then made_by id past else o) m ∙ if_made (made_by id past))
+    ∙ ap (λ (vs : List (ℕ × Value)). kept_if ds (is_ended id past) (made_by id past) vs) (given_more id past call ∙ ap (λ (vs : List (ℕ × Value)). all_values_given id past ++ vs) g)
     ∙ go (is_ended id past) (made_by id past)
   where
     or_none : (b : Bool) → (b || (false || false)) ≡ b
@@ -167,22 +167,22 @@ kept_recorded ds id past call values m g e =
     if_made None = refl
     if_made (Some c) = refl
 
-    go : (ended : Bool) (made : Option Callsite) → kept_if ds ended made (given id past ++ values) ≡ option_map (recorded values) (kept_if ds ended made (given id past))
+    go : (ended : Bool) (made : Option Callsite) → kept_if ds ended made (all_values_given id past ++ values) ≡ option_map (with_values values) (kept_if ds ended made (all_values_given id past))
     go true made = refl
     go false None = refl
-    go false (Some c) = sym (recorded_by (cares_of c ds) (given id past) values)
+    go false (Some c) = sym (recorded_by (cares_of c ds) (all_values_given id past) values)
 
 -- a close
-kept_ended : (ds : List Directive) (id : ℕ) (past : List Hook) (call : Hook) → ends id call ≡ true → kept ds id (past ++ call ∷ []) ≡ None
+kept_ended : (ds : List Directive) (id : ℕ) (past : List Hook) (call : Hook) → is_close_of id call ≡ true → kept ds id (past ++ call ∷ []) ≡ None
 kept_ended ds id past call e =
-    ap (λ (b : Bool). kept_if ds b (made_by id (past ++ call ∷ [])) (given id (past ++ call ∷ []))) (ended_more id past call ∙ ap (λ (b : Bool). is_ended id past || (b || false)) e ∙ or_true (is_ended id past))
+    ap (λ (b : Bool). kept_if ds b (made_by id (past ++ call ∷ [])) (all_values_given id (past ++ call ∷ []))) (ended_more id past call ∙ ap (λ (b : Bool). is_ended id past || (b || false)) e ∙ or_true (is_ended id past))
   where
     or_true : (b : Bool) → (b || (true || false)) ≡ true
     or_true true = refl
     or_true false = refl
 
-put_kept : (ds : List Directive) (f : Filtered) (past : List Hook) (call : Hook) (id : ℕ) (v : Option Watched) → Stands ds f past → v ≡ kept ds id (past ++ call ∷ [])
-    → ((q : ℕ) → (q ≡ id → ⊥) → (makes_of q call ≡ None) × (gives q call ≡ []) × (ends q call ≡ false)) → (q : ℕ) → put f.spans id v q ≡ kept ds q (past ++ call ∷ [])
+put_kept : (ds : List Directive) (f : FilterState) (past : List Hook) (call : Hook) (id : ℕ) (v : Option MatchState) → Stands ds f past → v ≡ kept ds id (past ++ call ∷ [])
+    → ((q : ℕ) → (q ≡ id → ⊥) → (makes_of q call ≡ None) × (values_given_by q call ≡ []) × (is_close_of q call ≡ false)) → (q : ℕ) → put f.spans id v q ≡ kept ds q (past ++ call ∷ [])
 put_kept ds f past call id v s here off q = elim (cases_eq q id) [
   | inl mine ↦ put_at f.spans id v q mine ∙ here ∙ ap (λ (n : ℕ). kept ds n (past ++ call ∷ [])) (sym mine)
   | inr other ↦ (let no = off q other in put_off f.spans id v q other ∙ s.spans q ∙ sym (kept_same ds q past call no.0 no.1 no.2))
@@ -194,17 +194,17 @@ if_not {X} id q x y off = cond-false {A = X} (id == q) x y (ne_eqb id q (λ e. o
 if_same : {X : Type 0} (id : ℕ) (x y : X) → (if id == id then x else y) ≡ x
 if_same {X} id x y = cond-true {A = X} (id == id) x y (eq-eqb id id refl)
 
-stands_after : (ds : List Directive) (f : Filtered) (past : List Hook) (call : Hook) → Stands ds f past → IsNext past call → Stands ds (after f call) (past ++ call ∷ [])
+stands_after : (ds : List Directive) (f : FilterState) (past : List Hook) (call : Hook) → Stands ds f past → IsNext past call → Stands ds (after_hook f call) (past ++ call ∷ [])
 stands_after ds f past (OnNewSpan id lane at parent current c values) s new = record {
   dynamics = s.dynamics;
-  spans = put_kept ds f past (OnNewSpan id lane at parent current c values) id (watched f.dynamics.directives c values.pairs) s
-      (ap (λ (d : List Directive). watched d c values.pairs) s.dynamics ∙ sym (kept_made ds id past (OnNewSpan id lane at parent current c values) c values.pairs new (if_same id (Some c) None) (if_same id values.pairs []) refl))
+  spans = put_kept ds f past (OnNewSpan id lane at parent current c values) id (new_match_state f.dynamics.directives c values.pairs) s
+      (ap (λ (d : List Directive). new_match_state d c values.pairs) s.dynamics ∙ sym (kept_made ds id past (OnNewSpan id lane at parent current c values) c values.pairs new (if_same id (Some c) None) (if_same id values.pairs []) refl))
       (λ q off. (if_not id q (Some c) None off, if_not id q values.pairs [] off, refl));
 }
 stands_after ds f past (OnRecord id at c values) s new = record {
   dynamics = s.dynamics;
-  spans = put_kept ds f past (OnRecord id at c values) id (option_map (recorded values.pairs) (f.spans id)) s
-      (ap (option_map (recorded values.pairs)) (s.spans id) ∙ sym (kept_recorded ds id past (OnRecord id at c values) values.pairs refl (if_same id values.pairs []) refl))
+  spans = put_kept ds f past (OnRecord id at c values) id (option_map (with_values values.pairs) (f.spans id)) s
+      (ap (option_map (with_values values.pairs)) (s.spans id) ∙ sym (kept_recorded ds id past (OnRecord id at c values) values.pairs refl (if_same id values.pairs []) refl))
       (λ q off. (refl, if_not id q values.pairs [] off, refl));
 }
 stands_after ds f past (OnFollows id from at) s new = record { dynamics = s.dynamics; spans = λ q. s.spans q ∙ sym (kept_same ds q past (OnFollows id from at) refl refl refl) }
@@ -216,52 +216,52 @@ stands_after ds f past (OnClose id at) s new = record {
   spans = put_kept ds f past (OnClose id at) id None s (sym (kept_ended ds id past (OnClose id at) (eq-eqb id id refl))) (λ q off. (refl, refl, ne_eqb id q (λ e. off (sym e))));
 }
 
-told_level : (ds : List Directive) (f : Filtered) (past : List Hook) (q : ℕ) → Stands ds f past → span_level f q ≡ level_told ds q past
-told_level ds f past q s = ap (option_map level_of) (s.spans q) ∙ level_kept ds (is_ended q past) (made_by q past) (given q past)
+told_level : (ds : List Directive) (f : FilterState) (past : List Hook) (q : ℕ) → Stands ds f past → span_level f q ≡ level_by_calls ds q past
+told_level ds f past q s = ap (option_map level_of_match) (s.spans q) ∙ level_kept ds (is_ended q past) (made_by q past) (all_values_given q past)
 
-knows_level : (f : Filtered) (q : ℕ) → is_some (f.spans q) ≡ is_some (span_level f q)
+knows_level : (f : FilterState) (q : ℕ) → is_some (f.spans q) ≡ is_some (span_level f q)
 knows_level f q = go (f.spans q)
   where
-    go : (o : Option Watched) → is_some o ≡ is_some (option_map level_of o)
+    go : (o : Option MatchState) → is_some o ≡ is_some (option_map level_of_match o)
     go None = refl
     go (Some w) = refl
 
-moved_after : (ds : List Directive) (f : Filtered) (past : List Hook) (call : Hook) (lane : ℕ) → Stands ds f past → (after f call).lanes lane ≡ moved ds lane past call (f.lanes lane)
+moved_after : (ds : List Directive) (f : FilterState) (past : List Hook) (call : Hook) (lane : ℕ) → Stands ds f past → (after_hook f call).lanes lane ≡ levels_after_call ds lane past call (f.lanes lane)
 moved_after ds f past (OnNewSpan id l at parent current c values) lane s = refl
 moved_after ds f past (OnRecord id at c values) lane s = refl
 moved_after ds f past (OnFollows id from at) lane s = refl
 moved_after ds f past (OnEvent reached l at c values) lane s = refl
 moved_after ds f past (OnEnter id at before later) lane s = elim (cases_eq lane before.id) [
-  | inl here ↦ put_at f.lanes before.id (opened (span_level f id) id (f.lanes before.id)) lane here
-      ∙ ap (λ (o : Option LevelFilter). opened o id (f.lanes before.id)) (told_level ds f past id s) ∙ ap (λ (n : ℕ). opened (level_told ds id past) id (f.lanes n)) (sym here)
-      ∙ sym (cond-true {A = List Opened} (lane == before.id) _ _ (eq-eqb lane before.id here))
-  | inr off ↦ put_off f.lanes before.id (opened (span_level f id) id (f.lanes before.id)) lane off ∙ sym (cond-false {A = List Opened} (lane == before.id) _ _ (ne_eqb lane before.id off))
+  | inl here ↦ put_at f.lanes before.id (with_open_level (span_level f id) id (f.lanes before.id)) lane here
+      ∙ ap (λ (o : Option LevelFilter). with_open_level o id (f.lanes before.id)) (told_level ds f past id s) ∙ ap (λ (n : ℕ). with_open_level (level_by_calls ds id past) id (f.lanes n)) (sym here)
+      ∙ sym (cond-true {A = List OpenLevel} (lane == before.id) _ _ (eq-eqb lane before.id here))
+  | inr off ↦ put_off f.lanes before.id (with_open_level (span_level f id) id (f.lanes before.id)) lane off ∙ sym (cond-false {A = List OpenLevel} (lane == before.id) _ _ (ne_eqb lane before.id off))
 ]
 moved_after ds f past (OnExit id at before later) lane s = elim (cases_eq lane before.id) [
-  | inl here ↦ put_at f.lanes before.id (closed (is_some (f.spans id)) id (f.lanes before.id)) lane here
-      ∙ ap (λ (b : Bool). closed b id (f.lanes before.id)) (knows_level f id ∙ ap is_some (told_level ds f past id s)) ∙ ap (λ (n : ℕ). closed (is_some (level_told ds id past)) id (f.lanes n)) (sym here)
-      ∙ sym (cond-true {A = List Opened} (lane == before.id) _ _ (eq-eqb lane before.id here))
-  | inr off ↦ put_off f.lanes before.id (closed (is_some (f.spans id)) id (f.lanes before.id)) lane off ∙ sym (cond-false {A = List Opened} (lane == before.id) _ _ (ne_eqb lane before.id off))
+  | inl here ↦ put_at f.lanes before.id (without_open_level (is_some (f.spans id)) id (f.lanes before.id)) lane here
+      ∙ ap (λ (b : Bool). without_open_level b id (f.lanes before.id)) (knows_level f id ∙ ap is_some (told_level ds f past id s)) ∙ ap (λ (n : ℕ). without_open_level (is_some (level_by_calls ds id past)) id (f.lanes n)) (sym here)
+      ∙ sym (cond-true {A = List OpenLevel} (lane == before.id) _ _ (eq-eqb lane before.id here))
+  | inr off ↦ put_off f.lanes before.id (without_open_level (is_some (f.spans id)) id (f.lanes before.id)) lane off ∙ sym (cond-false {A = List OpenLevel} (lane == before.id) _ _ (ne_eqb lane before.id off))
 ]
 moved_after ds f past (OnClose id at) lane s = refl
 
-stands_all : (ds : List Directive) (calls past : List Hook) (f : Filtered) → Stands ds f past → AreInOrder past calls → Stands ds (fold after f calls) (past ++ calls)
+stands_all : (ds : List Directive) (calls past : List Hook) (f : FilterState) → Stands ds f past → AreInOrder past calls → Stands ds (fold after_hook f calls) (past ++ calls)
 stands_all ds [] past f s order = subst (λ (cs : List Hook). Stands ds f cs) (sym (append-nil past)) s
 stands_all ds (call ∷ calls) past f s order =
-    subst (λ (cs : List Hook). Stands ds (fold after (after f call) calls) cs) (append_assoc past (call ∷ []) calls) (stands_all ds calls (past ++ call ∷ []) (after f call) (stands_after ds f past call s order.0) order.1)
+    subst (λ (cs : List Hook). Stands ds (fold after_hook (after_hook f call) calls) cs) (append_assoc past (call ∷ []) calls) (stands_all ds calls (past ++ call ∷ []) (after_hook f call) (stands_after ds f past call s order.0) order.1)
 
-levels_all : (ds : List Directive) (calls past : List Hook) (f : Filtered) (lane : ℕ) → Stands ds f past → AreInOrder past calls → (fold after f calls).lanes lane ≡ levels_from ds lane past calls (f.lanes lane)
+levels_all : (ds : List Directive) (calls past : List Hook) (f : FilterState) (lane : ℕ) → Stands ds f past → AreInOrder past calls → (fold after_hook f calls).lanes lane ≡ levels_from ds lane past calls (f.lanes lane)
 levels_all ds [] past f lane s order = refl
 levels_all ds (call ∷ calls) past f lane s order =
-    levels_all ds calls (past ++ call ∷ []) (after f call) lane (stands_after ds f past call s order.0) order.1 ∙ ap (λ (es : List Opened). levels_from ds lane (past ++ call ∷ []) calls es) (moved_after ds f past call lane s)
+    levels_all ds calls (past ++ call ∷ []) (after_hook f call) lane (stands_after ds f past call s order.0) order.1 ∙ ap (λ (es : List OpenLevel). levels_from ds lane (past ++ call ∷ []) calls es) (moved_after ds f past call lane s)
 
-stands_fresh : (f : Filtered) → Stands f.dynamics.directives (fresh f) []
+stands_fresh : (f : FilterState) → Stands f.dynamics.directives (fresh f) []
 stands_fresh f = record { dynamics = refl; spans = λ q. refl }
 
-pub level_is_told : (f : Filtered) (calls : List Hook) (q : ℕ) → AreInOrder [] calls → f ≡ fold after (fresh f) calls → span_level f q ≡ level_told f.dynamics.directives q calls
+pub level_is_told : (f : FilterState) (calls : List Hook) (q : ℕ) → AreInOrder [] calls → f ≡ fold after_hook (fresh f) calls → span_level f q ≡ level_by_calls f.dynamics.directives q calls
 level_is_told f calls q order is =
-    ap (λ (g : Filtered). span_level g q) is ∙ told_level f.dynamics.directives (fold after (fresh f) calls) calls q (stands_all f.dynamics.directives calls [] (fresh f) (stands_fresh f) order)
+    ap (λ (g : FilterState). span_level g q) is ∙ told_level f.dynamics.directives (fold after_hook (fresh f) calls) calls q (stands_all f.dynamics.directives calls [] (fresh f) (stands_fresh f) order)
 
-pub levels_are_told : (f : Filtered) (calls : List Hook) (lane : ℕ) → AreInOrder [] calls → f ≡ fold after (fresh f) calls → f.lanes lane ≡ levels_told f.dynamics.directives lane calls
+pub levels_are_told : (f : FilterState) (calls : List Hook) (lane : ℕ) → AreInOrder [] calls → f ≡ fold after_hook (fresh f) calls → f.lanes lane ≡ levels_by_calls f.dynamics.directives lane calls
 levels_are_told f calls lane order is =
-    ap (λ (g : Filtered). g.lanes lane) is ∙ levels_all f.dynamics.directives calls [] (fresh f) lane (stands_fresh f) order
+    ap (λ (g : FilterState). g.lanes lane) is ∙ levels_all f.dynamics.directives calls [] (fresh f) lane (stands_fresh f) order

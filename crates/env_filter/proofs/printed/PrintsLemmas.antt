@@ -12,12 +12,12 @@ use Rattle.env_directives.specs.reading.Cuts.{is_among, lacks}
 use Rattle.env_directives.specs.reading.Forms.{begins, IsDirective}
 use Rattle.env_directives.specs.printed.Printed.{directive_text, match_text, text_if_any}
 use Rattle.env_directives.specs.reading.Separators.{comma_pieces}
-use Rattle.env_directives.specs.printed.StaticPrinted.{joined, static_text}
+use Rattle.env_directives.specs.printed.StaticPrinted.{comma_joined, static_text}
 use Rattle.env_directives.specs.declared.directive.StaticDirective.{StaticDirective}
 use Rattle.env_directives.specs.declared.env.directive.Directive.{Directive}
 use Rattle.env_filter.specs.Filtering.{Each}
-use Rattle.env_filter.specs.texts.Pieces.{Reads, ReadsAll, ReadsText}
-use Rattle.env_filter.specs.texts.Printing.{behind_commas, dynamics_text, filter_text, bare_field, as_directive, printed, IsReadBack}
+use Rattle.env_filter.specs.texts.Pieces.{ReadsPiece, ReadsAll, ReadsText}
+use Rattle.env_filter.specs.texts.Printing.{behind_commas, dynamics_text, filter_text, bare_field, as_directive, printed_directives, IsReadBack}
 
 -- ---- texts that commas are between
 
@@ -45,7 +45,7 @@ no_text : begins (trim []) ≡ true → ⊥
 unfolding trim_start trim_end chars
 no_text is = true≢false (sym is)
 
-reads_one : (n : ℕ) (text : List ℕ) (d : Directive) → IsDirective false (trim text) d → Reads false n text (d ∷ []) []
+reads_one : (n : ℕ) (text : List ℕ) (d : Directive) → IsDirective false (trim text) d → ReadsPiece false n text (d ∷ []) []
 reads_one n [] d read = absurd (no_text read.start)
 reads_one n (b ∷ bs) d read = read
 
@@ -72,7 +72,7 @@ names_behind : (ns : List (List ℕ)) → flat_map (λ other. 44 ∷ other) ns �
 names_behind [] = refl
 names_behind (n ∷ ns) = ap (λ (t : List ℕ). 44 ∷ (t ++ flat_map (λ other. 44 ∷ other) ns)) (sym (append-nil n)) ∙ ap (λ (t : List ℕ). 44 ∷ ((n ++ []) ++ t)) (names_behind ns)
 
-names_joined : (n : List ℕ) (ns : List (List ℕ)) → joined (n ∷ ns) ≡ join_by match_text (codes ",") (map bare_field (n ∷ ns))
+names_joined : (n : List ℕ) (ns : List (List ℕ)) → comma_joined (n ∷ ns) ≡ join_by match_text (codes ",") (map bare_field (n ∷ ns))
 names_joined n ns = ap (λ (t : List ℕ). t ++ flat_map (λ other. 44 ∷ other) ns) (sym (append-nil n)) ∙ ap (λ (t : List ℕ). (n ++ []) ++ t) (names_behind ns)
 
 -- a target, a bracket unless there are no fields, a sign, and the level
@@ -95,21 +95,21 @@ static_is s = by_names s.target s.field_names s.level
     by_names None [] level = refl
     by_names (Some t) [] level = ap (λ (x : List ℕ). (x ++ codes "=") ++ level_text level) (append-nil t) ∙ append_assoc t (codes "=") (level_text level)
     by_names target (n ∷ ns) level =
-        parted target (length (n ∷ ns) == 0) (length (map bare_field (n ∷ ns)) == 0) (joined (n ∷ ns)) (join_by match_text (codes ",") (map bare_field (n ∷ ns))) (level_text level)
+        parted target (length (n ∷ ns) == 0) (length (map bare_field (n ∷ ns)) == 0) (comma_joined (n ∷ ns)) (join_by match_text (codes ",") (map bare_field (n ∷ ns))) (level_text level)
         (grind (arith, nat_tests)) (grind (arith, nat_tests)) (names_joined n ns)
 
-behind_are : (ss : List StaticDirective) (ds : List Directive) → behind_commas static_text ss ++ behind_commas directive_text ds ≡ behind_commas directive_text (printed ss ds)
+behind_are : (ss : List StaticDirective) (ds : List Directive) → behind_commas static_text ss ++ behind_commas directive_text ds ≡ behind_commas directive_text (printed_directives ss ds)
 behind_are [] ds = refl
 behind_are (s ∷ ss) ds =
     append_assoc (codes "," ++ static_text s) (behind_commas static_text ss) (behind_commas directive_text ds)
     ∙ ap (λ (t : List ℕ). (codes "," ++ t) ++ (behind_commas static_text ss ++ behind_commas directive_text ds)) (static_is s)
     ∙ ap (λ (t : List ℕ). (codes "," ++ directive_text (as_directive s)) ++ t) (behind_are ss ds)
 
-text_is : (ss : List StaticDirective) (ds : List Directive) → filter_text ss ds ≡ dynamics_text (printed ss ds)
+text_is : (ss : List StaticDirective) (ds : List Directive) → filter_text ss ds ≡ dynamics_text (printed_directives ss ds)
 text_is [] ds = refl
 text_is (s ∷ ss) ds =
     ap (λ (t : List ℕ). t ++ (behind_commas static_text ss ++ behind_commas directive_text ds)) (static_is s)
     ∙ ap (λ (t : List ℕ). directive_text (as_directive s) ++ t) (behind_are ss ds)
 
-pub reads_printed : (ss : List StaticDirective) (ds : List Directive) → Each IsReadBack (printed ss ds) → ReadsText false (filter_text ss ds) (printed ss ds) []
-reads_printed ss ds all = subst (λ (t : List ℕ). ReadsText false t (printed ss ds) []) (sym (text_is ss ds)) (reads_joined (printed ss ds) all)
+pub reads_printed : (ss : List StaticDirective) (ds : List Directive) → Each IsReadBack (printed_directives ss ds) → ReadsText false (filter_text ss ds) (printed_directives ss ds) []
+reads_printed ss ds all = subst (λ (t : List ℕ). ReadsText false t (printed_directives ss ds) []) (sym (text_is ss ds)) (reads_joined (printed_directives ss ds) all)

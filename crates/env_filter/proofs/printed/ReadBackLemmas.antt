@@ -12,9 +12,9 @@ use Rattle.std.proofs.lemmas.Str.{IsUtf8-append, IsUtf8-from_ascii}
 use Rattle.trace_base.specs.declared.level.LevelFilter.{LevelFilter}
 use Rattle.trace_base.specs.declared.level.LevelFilter.TheVariants as filter
 use Rattle.trace_base.specs.words.Level.{filter_text}
-use Rattle.trace_base.specs.words.LevelWords.{filter_of, decimal_value, digits_number}
-use Rattle.env_directives.specs.reading.Cuts.{cut, is_among, lacks}
-use Rattle.env_directives.specs.reading.Forms.{unless_empty, target_at, Front, bare, spanned, fielded, Form, alone, head_comma, leveled, leveled_comma, front_text, form_text, IsField, IsFront, IsForm, each_with_comma, directive_at, head_alone, level_or_target, level_behind, meaning, IsDirective}
+use Rattle.trace_base.specs.words.LevelWords.{level_filter_of, decimal_value, digits_number}
+use Rattle.env_directives.specs.reading.Cuts.{pieces_at, is_among, lacks}
+use Rattle.env_directives.specs.reading.Forms.{unless_empty, target_at, Front, bare, spanned, fielded, DirectiveForm, alone, head_comma, leveled, leveled_comma, front_text, form_text, IsField, IsDirectiveFront, IsForm, each_with_comma, directive_at, head_alone, level_or_target, level_behind, directive_of_form, IsDirective}
 use Rattle.env_directives.specs.reading.Separators.{comma_pieces}
 use Rattle.env_directives.specs.printed.Printed.{value_text, match_text, text_if_any, fields_text, has_bracket, bracket_text, equals_text, directive_text, HasNoMinusZero}
 use Rattle.env_directives.specs.reading.Values.{u64_of, i64_of, fits_i64, truth_of, plain_value, value_of, field_of}
@@ -26,7 +26,7 @@ use Rattle.env_directives.proofs.printed.FieldsLemmas.{again, field_again}
 use Rattle.env_directives.proofs.printed.DirectivesLemmas.{printed_again}
 use Rattle.env_directives.proofs.printed.TrimLemmas.{printed_trimmed}
 use Rattle.env_filter.specs.Filtering.{Each}
-use Rattle.env_filter.specs.texts.Pieces.{Reads, ReadsAll, ReadsText}
+use Rattle.env_filter.specs.texts.Pieces.{ReadsPiece, ReadsAll, ReadsText}
 use Rattle.env_filter.specs.texts.Printing.{IsReadBack, HaveNoMinusZero}
 use Rattle.env_filter.specs.declared.pieces.Ignored.{Ignored}
 use Rattle.env_filter.proofs.printed.RefusalsLemmas.{both_each}
@@ -95,8 +95,8 @@ value_utf8 text utf8 = by_truth (truth_of text) refl
 
 -- ---- a field prints what a field may be
 
-front_utf8 : (stops text : List ℕ) → list_all (λ s. nat_lt s 128) stops ≡ true → IsUtf8 text → IsUtf8 (cut stops text).front
-front_utf8 stops text ascii utf8 = by_stop (cut stops text).front (cut stops text).stop (cut stops text).rest (cut_stop stops text) (cut_joined stops text)
+front_utf8 : (stops text : List ℕ) → list_all (λ s. nat_lt s 128) stops ≡ true → IsUtf8 text → IsUtf8 (pieces_at stops text).front
+front_utf8 stops text ascii utf8 = by_stop (pieces_at stops text).front (pieces_at stops text).stop (pieces_at stops text).rest (cut_stop stops text) (cut_joined stops text)
   where
     by_stop : (front : List ℕ) (stop : Option ℕ) (rest : List ℕ) → IfSome stop (λ s. is_among stops s ≡ true) → text ≡ front ++ cut_off stop rest → IsUtf8 front
     by_stop front None rest among joined = subst IsUtf8 (joined ∙ append-nil front) utf8
@@ -104,14 +104,14 @@ front_utf8 stops text ascii utf8 = by_stop (cut stops text).front (cut stops tex
 
 field_utf8 : (field : List ℕ) → IsUtf8 field → IsUtf8 (again field)
 unfolding field_of encode
-field_utf8 field utf8 = by_stop (cut (codes "=") field).front (cut (codes "=") field).stop (cut (codes "=") field).rest (cut_stop (codes "=") field) (cut_joined (codes "=") field)
+field_utf8 field utf8 = by_stop (pieces_at (codes "=") field).front (pieces_at (codes "=") field).stop (pieces_at (codes "=") field).rest (cut_stop (codes "=") field) (cut_joined (codes "=") field)
   where
     by_stop : (name : List ℕ) (stop : Option ℕ) (rest : List ℕ) → IfSome stop (λ s. is_among (codes "=") s ≡ true) → field ≡ name ++ cut_off stop rest →
-        IsUtf8 (match_text (record { name = name; value = option_map (λ _. value_of false (cut (codes "=") rest).front) stop }))
+        IsUtf8 (match_text (record { name = name; value = option_map (λ _. value_of false (pieces_at (codes "=") rest).front) stop }))
     by_stop name None rest among joined = subst IsUtf8 joined utf8
     by_stop name (Some s) rest among joined =
         let parts = cut_utf8 name s rest (among_ascii (codes "=") s refl among) (subst IsUtf8 joined utf8) in
-        let value = (cut (codes "=") rest).front in
+        let value = (pieces_at (codes "=") rest).front in
         IsUtf8-append name (codes "=" ++ value_text (value_of false value)) parts.0
         (IsUtf8-append (codes "=") (value_text (value_of false value)) (codes "=", (refl, refl)) (value_utf8 value (front_utf8 (codes "=") rest refl parts.1)))
 
@@ -206,7 +206,7 @@ one_field (e ∷ es) last more piece =
     let parts = lacks_parts (codes ",") e (44 ∷ (each_with_comma es ++ (last ++ 125 ∷ more))) (subst (λ (t : List ℕ). lacks (codes ",") t ≡ true) whole piece.no_comma) in
     absurd (true≢false (sym parts.1))
 
-front_parts : (front : Front) (level : LevelFilter) → IsFront front → IsPiece (front_text front) → HasNoMinusZero (directive_at false front level).fields → ArePieces (directive_at false front level)
+front_parts : (front : Front) (level : LevelFilter) → IsDirectiveFront front → IsPiece (front_text front) → HasNoMinusZero (directive_at false front level).fields → ArePieces (directive_at false front level)
 front_parts (bare head) level parts piece no_zero = target_parts head level piece
 front_parts (spanned head span) level parts piece no_zero =
     let at = cut_piece head 91 (span ++ codes "]") (lit< tt) piece in
@@ -223,19 +223,19 @@ front_parts (fielded head span earlier last) level parts piece no_zero =
     }
 
 head_parts : (head : List ℕ) → IsPiece head → ArePieces (head_alone head)
-head_parts head piece = by_level (filter_of head)
+head_parts head piece = by_level (level_filter_of head)
   where
     by_level : (found : Option LevelFilter) → ArePieces (level_or_target head found)
     by_level (Some level) = target_parts [] level empty_piece
     by_level None = target_parts head filter.TRACE piece
 
-leveled_parts : (front : Front) (d : Directive) (found : Option LevelFilter) → IsFront front → IsPiece (front_text front) → option_map (directive_at false front) found ≡ Some d → HasNoMinusZero d.fields → ArePieces d
+leveled_parts : (front : Front) (d : Directive) (found : Option LevelFilter) → IsDirectiveFront front → IsPiece (front_text front) → option_map (directive_at false front) found ≡ Some d → HasNoMinusZero d.fields → ArePieces d
 leveled_parts front d None parts piece means no_zero = absurd (cc)
 leveled_parts front d (Some level) parts piece means no_zero =
     let is : directive_at false front level ≡ d = cc in
     subst ArePieces is (front_parts front level parts piece (subst (λ (e : Directive). HasNoMinusZero e.fields) (sym is) no_zero))
 
-form_parts : (form : Form) (d : Directive) → IsForm form → IsPiece (form_text form) → meaning false form ≡ Some d → HasNoMinusZero d.fields → ArePieces d
+form_parts : (form : DirectiveForm) (d : Directive) → IsForm form → IsPiece (form_text form) → directive_of_form false form ≡ Some d → HasNoMinusZero d.fields → ArePieces d
 form_parts (alone (bare head)) d parts piece means no_zero =
     let is : head_alone head ≡ d = cc in
     subst ArePieces is (head_parts head piece)
@@ -262,7 +262,7 @@ each_parts : {X : Type 0} (P : X → Type 0) (xs ys : List X) → Each P (xs ++ 
 each_parts P [] ys all = (tt, all)
 each_parts P (x ∷ xs) ys all = let later = each_parts P xs ys all.1 in ((all.0, later.0), later.1)
 
-one_back : (n : ℕ) (piece : List ℕ) (ds : List Directive) (is : List Ignored) → IsPiece piece → Reads false n piece ds is → HaveNoMinusZero ds → Each IsReadBack ds
+one_back : (n : ℕ) (piece : List ℕ) (ds : List Directive) (is : List Ignored) → IsPiece piece → ReadsPiece false n piece ds is → HaveNoMinusZero ds → Each IsReadBack ds
 one_back n piece [] is part reads no_zero = tt
 one_back n [] (d ∷ ds) is part reads no_zero = absurd reads
 one_back n (b ∷ bs) (d ∷ []) [] part reads no_zero = (read_back (b ∷ bs) d part reads no_zero.0, tt)

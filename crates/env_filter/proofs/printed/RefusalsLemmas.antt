@@ -9,25 +9,25 @@ use Rattle.env_directives.specs.declared.directive.ParseError.{ParseError}
 use Rattle.env_directives.specs.declared.directive.ParseError.TheVariants as fault
 use Rattle.env_directives.specs.declared.env.directive.Directive.{Directive}
 use Rattle.env_filter.specs.declared.pieces.Ignored.{Ignored}
-use Rattle.env_filter.specs.texts.Building.{IsRefused, IsRefusedAt}
+use Rattle.env_filter.specs.texts.Building.{HasFilterFault, HasFilterFaultAt}
 use Rattle.env_filter.specs.Filtering.{Each}
-use Rattle.env_filter.specs.texts.Pieces.{is_memory, IsIgnored, Reads, ReadsAll, ReadsText, IsFirstFault}
+use Rattle.env_filter.specs.texts.Pieces.{is_memory, IsIgnored, ReadsPiece, ReadsAll, ReadsText, IsFirstFault}
 
 -- what one piece is read as
-pub reads_empty : (patterns : Bool) (n : ℕ) (piece : List ℕ) → (length piece == 0) ≡ true → Reads patterns n piece [] []
+pub reads_empty : (patterns : Bool) (n : ℕ) (piece : List ℕ) → (length piece == 0) ≡ true → ReadsPiece patterns n piece [] []
 reads_empty patterns n [] empty = tt
 reads_empty patterns n (b ∷ bs) empty = absurd (let e = eqb-true (length (b ∷ bs)) 0 empty in omega (arith, e))
 
-pub reads_directive : (patterns : Bool) (n : ℕ) (piece : List ℕ) (d : Directive) → (length piece == 0) ≡ false → IsDirective patterns (trim piece) d → Reads patterns n piece (d ∷ []) []
+pub reads_directive : (patterns : Bool) (n : ℕ) (piece : List ℕ) (d : Directive) → (length piece == 0) ≡ false → IsDirective patterns (trim piece) d → ReadsPiece patterns n piece (d ∷ []) []
 reads_directive patterns n [] d some is = absurd (true≢false some)
 reads_directive patterns n (b ∷ bs) d some is = is
 
-pub reads_ignored : (patterns : Bool) (n : ℕ) (piece : List ℕ) (i : Ignored) → (length piece == 0) ≡ false → IsIgnored patterns n piece i → Reads patterns n piece [] (i ∷ [])
+pub reads_ignored : (patterns : Bool) (n : ℕ) (piece : List ℕ) (i : Ignored) → (length piece == 0) ≡ false → IsIgnored patterns n piece i → ReadsPiece patterns n piece [] (i ∷ [])
 reads_ignored patterns n [] i some is = absurd (true≢false some)
 reads_ignored patterns n (b ∷ bs) i some is = is
 
 -- no piece is left out for want of memory
-none_here : (patterns : Bool) (n : ℕ) (piece : List ℕ) (ds : List Directive) (is : List Ignored) → Reads patterns n piece ds is → Each (λ (i : Ignored). is_memory i.fault ≡ false) is
+none_here : (patterns : Bool) (n : ℕ) (piece : List ℕ) (ds : List Directive) (is : List Ignored) → ReadsPiece patterns n piece ds is → Each (λ (i : Ignored). is_memory i.fault ≡ false) is
 none_here patterns n [] [] [] r = tt
 none_here patterns n [] [] (i ∷ is) r = absurd r
 none_here patterns n [] (d ∷ ds) is r = absurd r
@@ -48,7 +48,7 @@ none_for_memory patterns n (piece ∷ pieces) ds is r =
     subst (Each (λ (i : Ignored). is_memory i.fault ≡ false)) (sym r.all_ignored)
     (both_each (λ (i : Ignored). is_memory i.fault ≡ false) r.ignored r.later_ignored (none_here patterns n piece r.directives r.ignored r.reads) (none_for_memory patterns (n + 1) pieces r.later r.later_ignored r.behind))
 
-pub refused_at : (patterns : Bool) (text : List ℕ) (number : ℕ) (cause : ParseError) → is_memory cause ≡ false → IsFirstFault patterns text number cause → IsRefusedAt patterns text number cause
+pub refused_at : (patterns : Bool) (text : List ℕ) (number : ℕ) (cause : ParseError) → is_memory cause ≡ false → IsFirstFault patterns text number cause → HasFilterFaultAt patterns text number cause
 refused_at patterns text number fault.Shape other first = first
 refused_at patterns text number fault.Level other first = first
 refused_at patterns text number fault.Field other first = first
@@ -57,7 +57,7 @@ refused_at patterns text number fault.Equals other first = first
 refused_at patterns text number (fault.Fields many) other first = first
 refused_at patterns text number fault.Memory other first = absurd (true≢false other)
 
-pub refused_any : (patterns : Bool) (text : List ℕ) (number : ℕ) (cause : ParseError) → IsRefusedAt patterns text number cause → IsRefused patterns text cause
+pub refused_any : (patterns : Bool) (text : List ℕ) (number : ℕ) (cause : ParseError) → HasFilterFaultAt patterns text number cause → HasFilterFault patterns text cause
 refused_any patterns text number fault.Shape r = (number, r)
 refused_any patterns text number fault.Level r = (number, r)
 refused_any patterns text number fault.Field r = (number, r)
@@ -71,7 +71,7 @@ first_of [] i at = absurd (let none : ◌≡◌ {A = Option Ignored} (Some i) No
 first_of (j ∷ is) i at = ap (λ (k : Ignored). k ∷ is) (let same : ◌≡◌ {A = Option Ignored} (Some i) (Some j) = at in let k : j ≡ i = cc same in k)
 
 -- the first of the pieces that are left out has the first fault
-pub refused_first : (patterns : Bool) (text : List ℕ) (ds : List Directive) (is seen : List Ignored) (i : Ignored) → ReadsText patterns text ds is → seen ≡ is → ◌≡◌ {A = Option Ignored} (Some i) (slice_get seen 0) → IsRefusedAt patterns text i.piece i.fault
+pub refused_first : (patterns : Bool) (text : List ℕ) (ds : List Directive) (is seen : List Ignored) (i : Ignored) → ReadsText patterns text ds is → seen ≡ is → ◌≡◌ {A = Option Ignored} (Some i) (slice_get seen 0) → HasFilterFaultAt patterns text i.piece i.fault
 refused_first patterns text ds is seen i r same at =
     let whole = first_of is i (at ∙ ap (λ (xs : List Ignored). slice_get xs 0) same) in
     let reads : ReadsText patterns text ds (i ∷ drop 1 is) = subst (λ (xs : List Ignored). ReadsText patterns text ds xs) whole r in

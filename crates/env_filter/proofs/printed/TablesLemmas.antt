@@ -30,7 +30,7 @@ use Rattle.env_directives.specs.declared.env.field.ValueMatch.{ValueMatch}
 use Rattle.env_directives.proofs.tables.TablesLemmas.{kept, same_found}
 use Rattle.env_directives.proofs.tables.TiesLemmas.{directive_tie}
 use Rattle.env_filter.specs.Filtering.{Each, asks_value}
-use Rattle.env_filter.specs.texts.Printing.{bare_field, as_directive, printed, printed_of, HasOwnGreatest}
+use Rattle.env_filter.specs.texts.Printing.{bare_field, as_directive, printed_directives, printed_of, HasOwnGreatest}
 use Rattle.env_filter.specs.Tables.{is_static, is_dynamic, static_of, statics_of, dynamics_of, with_tables, filter_of}
 use Rattle.env_filter.proofs.printed.RefusalsLemmas.{both_each}
 
@@ -341,12 +341,12 @@ module _ (ds : List Directive) where
   each_dynamic = itself directive_total dynamics table_of_dynamics.in_order
 
   -- what is printed makes the tables again
-  to_statics : map static_of (filter is_static (printed statics dynamics)) ≡ statics ++ map static_of (filter is_static dynamics)
+  to_statics : map static_of (filter is_static (printed_directives statics dynamics)) ≡ statics ++ map static_of (filter is_static dynamics)
   to_statics =
       ap (map static_of) (filter-append is_static (map as_directive statics) dynamics) ∙ map-append static_of (filter is_static (map as_directive statics)) (filter is_static dynamics)
       ∙ ap (λ (ss : List StaticDirective). ss ++ map static_of (filter is_static dynamics)) (statics_again statics)
 
-  to_dynamics : filter is_dynamic (printed statics dynamics) ≡ filter is_dynamic (map as_directive statics) ++ dynamics
+  to_dynamics : filter is_dynamic (printed_directives statics dynamics) ≡ filter is_dynamic (map as_directive statics) ++ dynamics
   to_dynamics = filter-append is_dynamic (map as_directive statics) dynamics ∙ ap (λ (xs : List Directive). filter is_dynamic (map as_directive statics) ++ xs) (all_dynamic dynamics each_dynamic)
 
   pub same_statics : (statics_of (printed_of ds)).directives ≡ statics

@@ -19,28 +19,28 @@ use Rattle.env_directives.specs.orders.Table.{more_verbose}
 use Rattle.env_filter.specs.declared.watch.Care.{Care}
 use Rattle.env_filter.specs.spans.Keyed.{put}
 use Rattle.env_filter.specs.spans.Puts.{put_at, put_off}
-use Rattle.env_filter.specs.spans.Levels.{Opened, is_of}
-use Rattle.env_filter.specs.spans.Kept.{opened, closed}
-use Rattle.env_filter.specs.spans.Watching.{Watched, watched, watched_by, cares_of, care_of, recorded, level_from, level_of}
-use Rattle.env_filter.specs.Filtering.{Filtered, Filtering, plain, after, seen_in, knows_in, entries_in, span_level, interest_in, hint_in, enables_in, Given, DoesFilter, AreWhole, Each, IsBelow}
+use Rattle.env_filter.specs.spans.Levels.{OpenLevel, is_of_span}
+use Rattle.env_filter.specs.spans.Kept.{with_open_level, without_open_level}
+use Rattle.env_filter.specs.spans.Watching.{MatchState, new_match_state, match_state_by, cares_of, care_of, with_values, level_from, level_of_match}
+use Rattle.env_filter.specs.Filtering.{FilterState, FilterWithRoom, plain, after_hook, seen_in, knows_in, entries_in, span_level, interest_in, hint_in, enables_in, Given, DoesFilter, AreWhole, Each, IsAtMostLevel}
 
-pub same_seen : (s t : Filtering) → (plain t) ≡ (plain s) → seen_in (plain t) ≡ seen_in (plain s)
+pub same_seen : (s t : FilterWithRoom) → (plain t) ≡ (plain s) → seen_in (plain t) ≡ seen_in (plain s)
 same_seen s t h = ap seen_in h
 
-pub same_gate : (s t : Filtering) → (plain t) ≡ (plain s) → (interest_in (plain t) ≡ interest_in (plain s)) × (◌≡◌ {A = Option LevelFilter} (Some (hint_in (plain t))) (Some (hint_in (plain s))))
-same_gate s t h = (ap interest_in h, ap (λ (f : Filtered). Some (hint_in f)) h)
+pub same_gate : (s t : FilterWithRoom) → (plain t) ≡ (plain s) → (interest_in (plain t) ≡ interest_in (plain s)) × (◌≡◌ {A = Option LevelFilter} (Some (hint_in (plain t))) (Some (hint_in (plain s))))
+same_gate s t h = (ap interest_in h, ap (λ (f : FilterState). Some (hint_in f)) h)
 
-pub same_enables : (s t : Filtering) → (plain t) ≡ (plain s) → enables_in (plain t) ≡ enables_in (plain s)
+pub same_enables : (s t : FilterWithRoom) → (plain t) ≡ (plain s) → enables_in (plain t) ≡ enables_in (plain s)
 same_enables s t h = ap enables_in h
 
-pub same_whole : (s t : Filtering) → (plain t) ≡ (plain s) → AreWhole (plain s) → AreWhole (plain t)
+pub same_whole : (s t : FilterWithRoom) → (plain t) ≡ (plain s) → AreWhole (plain s) → AreWhole (plain t)
 same_whole s t h w = subst AreWhole (sym h) w
 
-pub same_does : (s t : Filtering) (hook : Hook) (u : Filtering) → (plain t) ≡ (plain s) → DoesFilter t hook u → DoesFilter s hook u
-same_does s t hook u h d = record { given = subst (λ (f : Filtered). Given f hook) h d.given; now = d.now ∙ ap (λ (f : Filtered). after f hook) h }
+pub same_does : (s t : FilterWithRoom) (hook : Hook) (u : FilterWithRoom) → (plain t) ≡ (plain s) → DoesFilter t hook u → DoesFilter s hook u
+same_does s t hook u h d = record { given = subst (λ (f : FilterState). Given f hook) h d.given; now = d.now ∙ ap (λ (f : FilterState). after_hook f hook) h }
 
 -- the tables stay
-keeps_statics : (f : Filtered) (hook : Hook) → (interest_in (after f hook) ≡ interest_in f) × (◌≡◌ {A = Option LevelFilter} (Some (hint_in (after f hook))) (Some (hint_in f)))
+keeps_statics : (f : FilterState) (hook : Hook) → (interest_in (after_hook f hook) ≡ interest_in f) × (◌≡◌ {A = Option LevelFilter} (Some (hint_in (after_hook f hook))) (Some (hint_in f)))
 keeps_statics f (OnNewSpan id lane at parent current callsite values) = (refl, refl)
 keeps_statics f (OnRecord id at callsite values) = (refl, refl)
 keeps_statics f (OnFollows id from at) = (refl, refl)
@@ -49,8 +49,8 @@ keeps_statics f (OnEnter id at before later) = (refl, refl)
 keeps_statics f (OnExit id at before later) = (refl, refl)
 keeps_statics f (OnClose id at) = (refl, refl)
 
-pub keeps_gate : (s : Filtering) (hook : Hook) (t : Filtering) → DoesFilter s hook t → (interest_in (plain t) ≡ interest_in (plain s)) × (◌≡◌ {A = Option LevelFilter} (Some (hint_in (plain t))) (Some (hint_in (plain s))))
-keeps_gate s hook t d = (ap interest_in d.now ∙ (keeps_statics (plain s) hook).0, ap (λ (f : Filtered). Some (hint_in f)) d.now ∙ (keeps_statics (plain s) hook).1)
+pub keeps_gate : (s : FilterWithRoom) (hook : Hook) (t : FilterWithRoom) → DoesFilter s hook t → (interest_in (plain t) ≡ interest_in (plain s)) × (◌≡◌ {A = Option LevelFilter} (Some (hint_in (plain t))) (Some (hint_in (plain s))))
+keeps_gate s hook t d = (ap interest_in d.now ∙ (keeps_statics (plain s) hook).0, ap (λ (f : FilterState). Some (hint_in f)) d.now ∙ (keeps_statics (plain s) hook).1)
 
 -- nothing is attached
 no_keep : (before later : Lane) → later ≡ before → KeepsLane false before later × KeepsAttached (λ lane number. 0) before later (λ lane number. 0)
@@ -59,7 +59,7 @@ no_keep a b e = (
   λ lane number. ap (λ (l : Lane). 0 + attached_on lane number l) (sym e),
 )
 
-pub filter_lanes : (s : Filtering) (hook : Hook) (t : Filtering) → DoesFilter s hook t → HookLanes false (λ lane number. 0) hook (λ lane number. 0)
+pub filter_lanes : (s : FilterWithRoom) (hook : Hook) (t : FilterWithRoom) → DoesFilter s hook t → HookLanes false (λ lane number. 0) hook (λ lane number. 0)
 filter_lanes s (OnNewSpan id lane at parent current callsite values) t d = refl
 filter_lanes s (OnRecord id at callsite values) t d = refl
 filter_lanes s (OnFollows id from at) t d = refl
@@ -69,47 +69,47 @@ filter_lanes s (OnExit id at before later) t d = no_keep before later d.given.0
 filter_lanes s (OnClose id at) t d = refl
 
 -- what is seen
-knows_put_off : (f : Filtered) (id other : ℕ) (w : Option Watched) → (other ≡ id → ⊥) → is_some (put f.spans id w other) ≡ knows_in f other
+knows_put_off : (f : FilterState) (id other : ℕ) (w : Option MatchState) → (other ≡ id → ⊥) → is_some (put f.spans id w other) ≡ knows_in f other
 knows_put_off f id other w off = ap is_some (put_off f.spans id w other off)
 
-knows_put_at : (f : Filtered) (id other : ℕ) (w : Option Watched) → other ≡ id → is_some (put f.spans id w other) ≡ is_some w
+knows_put_at : (f : FilterState) (id other : ℕ) (w : Option MatchState) → other ≡ id → is_some (put f.spans id w other) ≡ is_some w
 knows_put_at f id other w is = ap is_some (put_at f.spans id w other is)
 
-recorded_is_some : (o : Option Watched) (given : _) → is_some (option_map (recorded given) o) ≡ is_some o
+recorded_is_some : (o : Option MatchState) (given : _) → is_some (option_map (with_values given) o) ≡ is_some o
 recorded_is_some None given = refl
 recorded_is_some (Some w) given = refl
 
-knows_recorded : (f : Filtered) (id other : ℕ) (given : _) → is_some (put f.spans id (option_map (recorded given) (f.spans id)) other) ≡ knows_in f other
+knows_recorded : (f : FilterState) (id other : ℕ) (given : _) → is_some (put f.spans id (option_map (with_values given) (f.spans id)) other) ≡ knows_in f other
 knows_recorded f id other given = elim (cases_eq other id) [
   | inl here ↦ knows_put_at f id other _ here ∙ recorded_is_some (f.spans id) given ∙ ap (knows_in f) (sym here)
   | inr off ↦ knows_put_off f id other _ off
 ]
 
 -- an entry
-opened_other : (o : Option LevelFilter) (id other : ℕ) (levels : List Opened) → (is_some o ≡ true → other ≡ id → ⊥) → count_by (is_of other) (opened o id levels) ≡ count_by (is_of other) levels
+opened_other : (o : Option LevelFilter) (id other : ℕ) (levels : List OpenLevel) → (is_some o ≡ true → other ≡ id → ⊥) → count_by (is_of_span other) (with_open_level o id levels) ≡ count_by (is_of_span other) levels
 opened_other None id other levels apart = refl
 opened_other (Some l) id other levels apart =
-    let e : Opened = record { span = id; level = l } in
+    let e : OpenLevel = record { span = id; level = l } in
     let none = cond-false {A = ℕ} (id == other) 1 0 (ne_eqb id other (λ same. apart refl (sym same))) in
-    omega (arith, count_push (is_of other) levels e, none)
+    omega (arith, count_push (is_of_span other) levels e, none)
 
-opened_same : (o : Option LevelFilter) (id other : ℕ) (levels : List Opened) → is_some o ≡ true → count_by (is_of other) (opened o id levels) ≡ count_by (is_of other) levels + one_if (id == other)
+opened_same : (o : Option LevelFilter) (id other : ℕ) (levels : List OpenLevel) → is_some o ≡ true → count_by (is_of_span other) (with_open_level o id levels) ≡ count_by (is_of_span other) levels + one_if (id == other)
 opened_same None id other levels some = absurd (true≢false (sym some))
-opened_same (Some l) id other levels some = let e : Opened = record { span = id; level = l } in count_push (is_of other) levels e
+opened_same (Some l) id other levels some = let e : OpenLevel = record { span = id; level = l } in count_push (is_of_span other) levels e
 
-level_is_some : (f : Filtered) (id : ℕ) → is_some (span_level f id) ≡ knows_in f id
+level_is_some : (f : FilterState) (id : ℕ) → is_some (span_level f id) ≡ knows_in f id
 level_is_some f id = go (f.spans id)
   where
-    go : (o : Option Watched) → is_some (option_map level_of o) ≡ is_some o
+    go : (o : Option MatchState) → is_some (option_map level_of_match o) ≡ is_some o
     go None = refl
     go (Some w) = refl
 
-entered_known : (f : Filtered) (id lane mine other : ℕ) → knows_in f other ≡ true
-    → count_by (is_of other) (put f.lanes mine (opened (span_level f id) id (f.lanes mine)) lane) + 0 ≡ entries_in f lane other + one_if (mine == lane && id == other)
+entered_known : (f : FilterState) (id lane mine other : ℕ) → knows_in f other ≡ true
+    → count_by (is_of_span other) (put f.lanes mine (with_open_level (span_level f id) id (f.lanes mine)) lane) + 0 ≡ entries_in f lane other + one_if (mine == lane && id == other)
 entered_known f id lane mine other knew =
     elim (cases_eq lane mine) [
       | inl here ↦ (
-          let there = ap (λ (es : List Opened). count_by (is_of other) es) (put_at f.lanes mine (opened (span_level f id) id (f.lanes mine)) lane here) in
+          let there = ap (λ (es : List OpenLevel). count_by (is_of_span other) es) (put_at f.lanes mine (with_open_level (span_level f id) id (f.lanes mine)) lane here) in
           let old = ap (λ (l : ℕ). entries_in f l other) here in
           let test = ap (λ b. one_if (b && id == other)) (eq-eqb mine lane (sym here)) in
           elim (cases_Bool (knows_in f id)) [
@@ -121,69 +121,69 @@ entered_known f id lane mine other knew =
                 omega (arith, there, old, test, more, none))
           ])
       | inr off ↦ (
-          let there = ap (λ (es : List Opened). count_by (is_of other) es) (put_off f.lanes mine (opened (span_level f id) id (f.lanes mine)) lane off) in
+          let there = ap (λ (es : List OpenLevel). count_by (is_of_span other) es) (put_off f.lanes mine (with_open_level (span_level f id) id (f.lanes mine)) lane off) in
           let test = ap (λ b. one_if (b && id == other)) (ne_eqb mine lane (λ same. off (sym same))) in
           omega (arith, there, test))
     ]
 
-entered_unknown : (f : Filtered) (id lane mine other : ℕ) → knows_in f other ≡ false
-    → count_by (is_of other) (put f.lanes mine (opened (span_level f id) id (f.lanes mine)) lane) ≡ entries_in f lane other
+entered_unknown : (f : FilterState) (id lane mine other : ℕ) → knows_in f other ≡ false
+    → count_by (is_of_span other) (put f.lanes mine (with_open_level (span_level f id) id (f.lanes mine)) lane) ≡ entries_in f lane other
 entered_unknown f id lane mine other unknown =
     elim (cases_eq lane mine) [
-      | inl here ↦ ap (λ (es : List Opened). count_by (is_of other) es) (put_at f.lanes mine (opened (span_level f id) id (f.lanes mine)) lane here)
+      | inl here ↦ ap (λ (es : List OpenLevel). count_by (is_of_span other) es) (put_at f.lanes mine (with_open_level (span_level f id) id (f.lanes mine)) lane here)
           ∙ opened_other (span_level f id) id other (f.lanes mine) (λ some same. true≢false (sym some ∙ level_is_some f id ∙ ap (knows_in f) (sym same) ∙ unknown)) ∙ ap (λ (l : ℕ). entries_in f l other) (sym here)
-      | inr off ↦ ap (λ (es : List Opened). count_by (is_of other) es) (put_off f.lanes mine (opened (span_level f id) id (f.lanes mine)) lane off)
+      | inr off ↦ ap (λ (es : List OpenLevel). count_by (is_of_span other) es) (put_off f.lanes mine (with_open_level (span_level f id) id (f.lanes mine)) lane off)
     ]
 
 -- an exit
-taken_off : (id other : ℕ) (levels : List Opened) → 0 < count_by (is_of id) levels → count_by (is_of other) (without_last (is_of id) levels) + one_if (id == other) ≡ count_by (is_of other) levels
-taken_off id other levels some = count_without_last (is_of id) (is_of other) (id == other) levels (λ e is. ap (λ (n : ℕ). n == other) (eqb-true e.span id is)) (any_if_counted (is_of id) levels some)
+taken_off : (id other : ℕ) (levels : List OpenLevel) → 0 < count_by (is_of_span id) levels → count_by (is_of_span other) (without_last (is_of_span id) levels) + one_if (id == other) ≡ count_by (is_of_span other) levels
+taken_off id other levels some = count_without_last (is_of_span id) (is_of_span other) (id == other) levels (λ e is. ap (λ (n : ℕ). n == other) (eqb-true e.span id is)) (any_if_counted (is_of_span id) levels some)
 
-exited_known : (f : Filtered) (id lane mine other : ℕ) → (knows_in f id ≡ true → 0 < entries_in f mine id) → knows_in f other ≡ true
-    → count_by (is_of other) (put f.lanes mine (closed (knows_in f id) id (f.lanes mine)) lane) + one_if (mine == lane && id == other) ≡ entries_in f lane other + 0
+exited_known : (f : FilterState) (id lane mine other : ℕ) → (knows_in f id ≡ true → 0 < entries_in f mine id) → knows_in f other ≡ true
+    → count_by (is_of_span other) (put f.lanes mine (without_open_level (knows_in f id) id (f.lanes mine)) lane) + one_if (mine == lane && id == other) ≡ entries_in f lane other + 0
 exited_known f id lane mine other opens knew =
     elim (cases_eq lane mine) [
       | inl here ↦ (
-          let there = ap (λ (es : List Opened). count_by (is_of other) es) (put_at f.lanes mine (closed (knows_in f id) id (f.lanes mine)) lane here) in
+          let there = ap (λ (es : List OpenLevel). count_by (is_of_span other) es) (put_at f.lanes mine (without_open_level (knows_in f id) id (f.lanes mine)) lane here) in
           let old = ap (λ (l : ℕ). entries_in f l other) here in
           let test = ap (λ b. one_if (b && id == other)) (eq-eqb mine lane (sym here)) in
           elim (cases_Bool (knows_in f id)) [
             | inl known ↦ (
                 let less = taken_off id other (f.lanes mine) (opens known) in
-                let is = ap (λ b. count_by (is_of other) (closed b id (f.lanes mine))) known in
+                let is = ap (λ b. count_by (is_of_span other) (without_open_level b id (f.lanes mine))) known in
                 omega (arith, there, old, test, less, is))
             | inr unknown ↦ (
-                let is = ap (λ b. count_by (is_of other) (closed b id (f.lanes mine))) unknown in
+                let is = ap (λ b. count_by (is_of_span other) (without_open_level b id (f.lanes mine))) unknown in
                 let none = cond-false {A = ℕ} (id == other) 1 0 (ne_eqb id other (λ same. true≢false (sym knew ∙ ap (knows_in f) (sym same) ∙ unknown))) in
                 omega (arith, there, old, test, is, none))
           ])
       | inr off ↦ (
-          let there = ap (λ (es : List Opened). count_by (is_of other) es) (put_off f.lanes mine (closed (knows_in f id) id (f.lanes mine)) lane off) in
+          let there = ap (λ (es : List OpenLevel). count_by (is_of_span other) es) (put_off f.lanes mine (without_open_level (knows_in f id) id (f.lanes mine)) lane off) in
           let test = ap (λ b. one_if (b && id == other)) (ne_eqb mine lane (λ same. off (sym same))) in
           omega (arith, there, test))
     ]
 
-exited_unknown : (f : Filtered) (id lane mine other : ℕ) → (knows_in f id ≡ true → 0 < entries_in f mine id) → knows_in f other ≡ false
-    → count_by (is_of other) (put f.lanes mine (closed (knows_in f id) id (f.lanes mine)) lane) ≡ entries_in f lane other
+exited_unknown : (f : FilterState) (id lane mine other : ℕ) → (knows_in f id ≡ true → 0 < entries_in f mine id) → knows_in f other ≡ false
+    → count_by (is_of_span other) (put f.lanes mine (without_open_level (knows_in f id) id (f.lanes mine)) lane) ≡ entries_in f lane other
 exited_unknown f id lane mine other opens unknown =
     elim (cases_eq lane mine) [
       | inl here ↦ (
-          let there = ap (λ (es : List Opened). count_by (is_of other) es) (put_at f.lanes mine (closed (knows_in f id) id (f.lanes mine)) lane here) in
+          let there = ap (λ (es : List OpenLevel). count_by (is_of_span other) es) (put_at f.lanes mine (without_open_level (knows_in f id) id (f.lanes mine)) lane here) in
           let old = ap (λ (l : ℕ). entries_in f l other) here in
           elim (cases_Bool (knows_in f id)) [
             | inl known ↦ (
                 let less = taken_off id other (f.lanes mine) (opens known) in
-                let is = ap (λ b. count_by (is_of other) (closed b id (f.lanes mine))) known in
+                let is = ap (λ b. count_by (is_of_span other) (without_open_level b id (f.lanes mine))) known in
                 let none = cond-false {A = ℕ} (id == other) 1 0 (ne_eqb id other (λ same. true≢false (sym known ∙ ap (knows_in f) same ∙ unknown))) in
                 omega (arith, there, old, less, is, none))
             | inr missing ↦ (
-                let is = ap (λ b. count_by (is_of other) (closed b id (f.lanes mine))) missing in
+                let is = ap (λ b. count_by (is_of_span other) (without_open_level b id (f.lanes mine))) missing in
                 omega (arith, there, old, is))
           ])
-      | inr off ↦ ap (λ (es : List Opened). count_by (is_of other) es) (put_off f.lanes mine (closed (knows_in f id) id (f.lanes mine)) lane off)
+      | inr off ↦ ap (λ (es : List OpenLevel). count_by (is_of_span other) es) (put_off f.lanes mine (without_open_level (knows_in f id) id (f.lanes mine)) lane off)
     ]
 
-quiet : (f : Filtered) (hook : Hook) → ((lane id : ℕ) → goes hook lane id ≡ comes hook lane id) → Sees (seen_in f) hook (seen_in f)
+quiet : (f : FilterState) (hook : Hook) → ((lane id : ℕ) → goes hook lane id ≡ comes hook lane id) → Sees (seen_in f) hook (seen_in f)
 quiet f hook none = record {
   gains = λ id knows unknown. absurd (true≢false (sym knows ∙ unknown));
   loses = λ id knew forgot. absurd (true≢false (sym knew ∙ forgot));
@@ -191,7 +191,7 @@ quiet f hook none = record {
   unknown = λ lane id knew. refl;
 }
 
-sees_after : (f : Filtered) (hook : Hook) → Given f hook → Sees (seen_in f) hook (seen_in (after f hook))
+sees_after : (f : FilterState) (hook : Hook) → Given f hook → Sees (seen_in f) hook (seen_in (after_hook f hook))
 sees_after f (OnNewSpan id lane at parent current callsite values) g = record {
   gains = λ other knows unknown. elim (cases_eq other id) [ inl here ↦ eq-eqb id other (sym here) | inr off ↦ absurd (true≢false (sym knows ∙ knows_put_off f id other _ off ∙ unknown)) ];
   loses = λ other knew forgot. elim (cases_eq other id) [ inl here ↦ absurd (true≢false (sym knew ∙ ap (knows_in f) here ∙ g)) | inr off ↦ absurd (true≢false (sym knew ∙ sym (knows_put_off f id other _ off) ∙ forgot)) ];
@@ -225,8 +225,8 @@ sees_after f (OnClose id at) g = record {
   unknown = λ lane other knew. refl;
 }
 
-pub filter_sees : (s : Filtering) (hook : Hook) (t : Filtering) → DoesFilter s hook t → Sees (seen_in (plain s)) hook (seen_in (plain t))
-filter_sees s hook t d = subst (λ (f : Filtered). Sees (seen_in (plain s)) hook (seen_in f)) (sym d.now) (sees_after (plain s) hook d.given)
+pub filter_sees : (s : FilterWithRoom) (hook : Hook) (t : FilterWithRoom) → DoesFilter s hook t → Sees (seen_in (plain s)) hook (seen_in (plain t))
+filter_sees s hook t d = subst (λ (f : FilterState). Sees (seen_in (plain s)) hook (seen_in f)) (sym d.now) (sees_after (plain s) hook d.given)
 
 -- what the gate stands on stays
 each_append : {X : Type 0} (P : X → Type 0) (xs : List X) (x : X) → Each P xs → P x → Each P (xs ++ x ∷ [])
@@ -243,38 +243,38 @@ each_without {X} P p (x ∷ xs) all = elim (cases_Bool (list_any p xs)) [
   ])
 ]
 
-cares_below : (most : LevelFilter) (c : Callsite) (ds : List Directive) → Each (λ (d : Directive). IsBelow most d.level) ds → Each (λ (care : Care). IsBelow most care.level) (cares_of c ds)
+cares_below : (most : LevelFilter) (c : Callsite) (ds : List Directive) → Each (λ (d : Directive). IsAtMostLevel most d.level) ds → Each (λ (care : Care). IsAtMostLevel most care.level) (cares_of c ds)
 cares_below most c [] all = tt
 cares_below most c (d ∷ ds) all = elim (cases_Bool (cares_for_span d c)) [
-  | inl cared ↦ subst (λ (xs : List Directive). Each (λ (care : Care). IsBelow most care.level) (map (care_of c) xs)) (sym (cond-true {A = List Directive} (cares_for_span d c) _ _ cared)) (all.0, cares_below most c ds all.1)
-  | inr passed ↦ subst (λ (xs : List Directive). Each (λ (care : Care). IsBelow most care.level) (map (care_of c) xs)) (sym (cond-false {A = List Directive} (cares_for_span d c) _ _ passed)) (cares_below most c ds all.1)
+  | inl cared ↦ subst (λ (xs : List Directive). Each (λ (care : Care). IsAtMostLevel most care.level) (map (care_of c) xs)) (sym (cond-true {A = List Directive} (cares_for_span d c) _ _ cared)) (all.0, cares_below most c ds all.1)
+  | inr passed ↦ subst (λ (xs : List Directive). Each (λ (care : Care). IsAtMostLevel most care.level) (map (care_of c) xs)) (sym (cond-false {A = List Directive} (cares_for_span d c) _ _ passed)) (cares_below most c ds all.1)
 ]
 
-watched_below : (most : LevelFilter) (cares : List Care) (given : _) → Each (λ (care : Care). IsBelow most care.level) cares → IfSome (watched_by cares given) (λ w. Each (λ (care : Care). IsBelow most care.level) w.cares)
+watched_below : (most : LevelFilter) (cares : List Care) (given : _) → Each (λ (care : Care). IsAtMostLevel most care.level) cares → IfSome (match_state_by cares given) (λ w. Each (λ (care : Care). IsAtMostLevel most care.level) w.cares)
 watched_below most [] given all = tt
 watched_below most (care ∷ cares) given all = all
 
-pub more_below : (most now other : LevelFilter) → IsBelow most now → IsBelow most other → IsBelow most (more_verbose now other)
+pub more_below : (most now other : LevelFilter) → IsAtMostLevel most now → IsAtMostLevel most other → IsAtMostLevel most (more_verbose now other)
 more_below most now other a b = elim (cases_Bool (nat_le (greatest_verbosity other) (greatest_verbosity now))) [
-  | inl less ↦ subst (IsBelow most) (sym (cond-true {A = LevelFilter} (nat_le (greatest_verbosity other) (greatest_verbosity now)) now other less)) a
-  | inr more ↦ subst (IsBelow most) (sym (cond-false {A = LevelFilter} (nat_le (greatest_verbosity other) (greatest_verbosity now)) now other more)) b
+  | inl less ↦ subst (IsAtMostLevel most) (sym (cond-true {A = LevelFilter} (nat_le (greatest_verbosity other) (greatest_verbosity now)) now other less)) a
+  | inr more ↦ subst (IsAtMostLevel most) (sym (cond-false {A = LevelFilter} (nat_le (greatest_verbosity other) (greatest_verbosity now)) now other more)) b
 ]
 
-if_below : (most now other : LevelFilter) (b : Bool) → IsBelow most now → IsBelow most other → IsBelow most (if b then more_verbose now other else now)
+if_below : (most now other : LevelFilter) (b : Bool) → IsAtMostLevel most now → IsAtMostLevel most other → IsAtMostLevel most (if b then more_verbose now other else now)
 if_below most now other true p q = more_below most now other p q
 if_below most now other false p q = p
 
-level_below : (most : LevelFilter) (cares : List Care) (now : LevelFilter) (met : List Bool) → IsBelow most now → Each (λ (care : Care). IsBelow most care.level) cares → IsBelow most (level_from now cares met)
+level_below : (most : LevelFilter) (cares : List Care) (now : LevelFilter) (met : List Bool) → IsAtMostLevel most now → Each (λ (care : Care). IsAtMostLevel most care.level) cares → IsAtMostLevel most (level_from now cares met)
 level_below most [] now met is all = is
 level_below most (care ∷ cares) now met is all = level_below most cares _ (drop (length care.asks) met) (if_below most now care.level (list_all (λ m. m) (take (length care.asks) met)) is all.0) all.1
 
-opened_below : (most : LevelFilter) (o : Option Watched) (id : ℕ) (levels : List Opened) → IfSome o (λ w. Each (λ (care : Care). IsBelow most care.level) w.cares) → Each (λ (e : Opened). IsBelow most e.level) levels
-    → Each (λ (e : Opened). IsBelow most e.level) (opened (option_map level_of o) id levels)
+opened_below : (most : LevelFilter) (o : Option MatchState) (id : ℕ) (levels : List OpenLevel) → IfSome o (λ w. Each (λ (care : Care). IsAtMostLevel most care.level) w.cares) → Each (λ (e : OpenLevel). IsAtMostLevel most e.level) levels
+    → Each (λ (e : OpenLevel). IsAtMostLevel most e.level) (with_open_level (option_map level_of_match o) id levels)
 opened_below most None id levels w all = all
-opened_below most (Some w) id levels cares all = each_append (λ (e : Opened). IsBelow most e.level) levels _ all (level_below most w.cares OFF w.met (omega arith) cares)
+opened_below most (Some w) id levels cares all = each_append (λ (e : OpenLevel). IsAtMostLevel most e.level) levels _ all (level_below most w.cares OFF w.met (omega arith) cares)
 
-closed_below : (most : LevelFilter) (known : Bool) (id : ℕ) (levels : List Opened) → Each (λ (e : Opened). IsBelow most e.level) levels → Each (λ (e : Opened). IsBelow most e.level) (closed known id levels)
-closed_below most true id levels all = each_without (λ (e : Opened). IsBelow most e.level) (is_of id) levels all
+closed_below : (most : LevelFilter) (known : Bool) (id : ℕ) (levels : List OpenLevel) → Each (λ (e : OpenLevel). IsAtMostLevel most e.level) levels → Each (λ (e : OpenLevel). IsAtMostLevel most e.level) (without_open_level known id levels)
+closed_below most true id levels all = each_without (λ (e : OpenLevel). IsAtMostLevel most e.level) (is_of_span id) levels all
 closed_below most false id levels all = all
 
 put_each : {V : Type 0} (P : V → Type 0) (f : ℕ → V) (k : ℕ) (v : V) → P v → ((other : ℕ) → P (f other)) → (other : ℕ) → P (put f k v other)
@@ -283,17 +283,17 @@ put_each P f k v one all other = elim (cases_eq other k) [
   | inr off ↦ subst P (sym (put_off f k v other off)) (all other)
 ]
 
-recorded_below : (most : LevelFilter) (o : Option Watched) (given : _) → IfSome o (λ w. Each (λ (care : Care). IsBelow most care.level) w.cares) → IfSome (option_map (recorded given) o) (λ w. Each (λ (care : Care). IsBelow most care.level) w.cares)
+recorded_below : (most : LevelFilter) (o : Option MatchState) (given : _) → IfSome o (λ w. Each (λ (care : Care). IsAtMostLevel most care.level) w.cares) → IfSome (option_map (with_values given) o) (λ w. Each (λ (care : Care). IsAtMostLevel most care.level) w.cares)
 recorded_below most None given all = all
 recorded_below most (Some w) given all = all
 
-whole_after : (f : Filtered) (hook : Hook) → AreWhole f → AreWhole (after f hook)
+whole_after : (f : FilterState) (hook : Hook) → AreWhole f → AreWhole (after_hook f hook)
 whole_after f (OnNewSpan id lane at parent current callsite values) w = record {
   statics = w.statics;
   dynamics = w.dynamics;
   lanes = w.lanes;
   none = w.none;
-  spans = put_each (λ (o : Option Watched). IfSome o (λ w. Each (λ (care : Care). IsBelow f.dynamics.greatest care.level) w.cares)) f.spans id (watched f.dynamics.directives callsite values.pairs)
+  spans = put_each (λ (o : Option MatchState). IfSome o (λ w. Each (λ (care : Care). IsAtMostLevel f.dynamics.greatest care.level) w.cares)) f.spans id (new_match_state f.dynamics.directives callsite values.pairs)
       (watched_below f.dynamics.greatest (cares_of callsite f.dynamics.directives) values.pairs (cares_below f.dynamics.greatest callsite f.dynamics.directives w.dynamics)) w.spans;
 }
 whole_after f (OnRecord id at callsite values) w = record {
@@ -301,7 +301,7 @@ whole_after f (OnRecord id at callsite values) w = record {
   dynamics = w.dynamics;
   lanes = w.lanes;
   none = w.none;
-  spans = put_each (λ (o : Option Watched). IfSome o (λ w. Each (λ (care : Care). IsBelow f.dynamics.greatest care.level) w.cares)) f.spans id (option_map (recorded values.pairs) (f.spans id))
+  spans = put_each (λ (o : Option MatchState). IfSome o (λ w. Each (λ (care : Care). IsAtMostLevel f.dynamics.greatest care.level) w.cares)) f.spans id (option_map (with_values values.pairs) (f.spans id))
       (recorded_below f.dynamics.greatest (f.spans id) values.pairs (w.spans id)) w.spans;
 }
 whole_after f (OnFollows id from at) w = w
@@ -311,7 +311,7 @@ whole_after f (OnEnter id at before later) w = record {
   dynamics = w.dynamics;
   spans = w.spans;
   none = w.none;
-  lanes = put_each (λ (es : List Opened). Each (λ (e : Opened). IsBelow f.dynamics.greatest e.level) es) f.lanes before.id (opened (span_level f id) id (f.lanes before.id))
+  lanes = put_each (λ (es : List OpenLevel). Each (λ (e : OpenLevel). IsAtMostLevel f.dynamics.greatest e.level) es) f.lanes before.id (with_open_level (span_level f id) id (f.lanes before.id))
       (opened_below f.dynamics.greatest (f.spans id) id (f.lanes before.id) (w.spans id) (w.lanes before.id)) w.lanes;
 }
 whole_after f (OnExit id at before later) w = record {
@@ -319,7 +319,7 @@ whole_after f (OnExit id at before later) w = record {
   dynamics = w.dynamics;
   spans = w.spans;
   none = w.none;
-  lanes = put_each (λ (es : List Opened). Each (λ (e : Opened). IsBelow f.dynamics.greatest e.level) es) f.lanes before.id (closed (knows_in f id) id (f.lanes before.id))
+  lanes = put_each (λ (es : List OpenLevel). Each (λ (e : OpenLevel). IsAtMostLevel f.dynamics.greatest e.level) es) f.lanes before.id (without_open_level (knows_in f id) id (f.lanes before.id))
       (closed_below f.dynamics.greatest (knows_in f id) id (f.lanes before.id) (w.lanes before.id)) w.lanes;
 }
 whole_after f (OnClose id at) w = record {
@@ -327,8 +327,8 @@ whole_after f (OnClose id at) w = record {
   dynamics = w.dynamics;
   lanes = w.lanes;
   none = w.none;
-  spans = put_each (λ (o : Option Watched). IfSome o (λ w. Each (λ (care : Care). IsBelow f.dynamics.greatest care.level) w.cares)) f.spans id None tt w.spans;
+  spans = put_each (λ (o : Option MatchState). IfSome o (λ w. Each (λ (care : Care). IsAtMostLevel f.dynamics.greatest care.level) w.cares)) f.spans id None tt w.spans;
 }
 
-pub keeps_whole : (s : Filtering) (hook : Hook) (t : Filtering) → DoesFilter s hook t → AreWhole (plain s) → AreWhole (plain t)
+pub keeps_whole : (s : FilterWithRoom) (hook : Hook) (t : FilterWithRoom) → DoesFilter s hook t → AreWhole (plain s) → AreWhole (plain t)
 keeps_whole s hook t d w = subst AreWhole (sym d.now) (whole_after (plain s) hook w)

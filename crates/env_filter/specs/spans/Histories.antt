@@ -10,9 +10,9 @@ use Rattle.trace_base.specs.layers.Hooks.{Hook, OnNewSpan, OnRecord, OnFollows, 
 use Rattle.env_directives.specs.declared.env.directive.Directive.{Directive}
 use Rattle.env_directives.specs.orders.Table.{more_verbose}
 use Rattle.env_filter.specs.declared.watch.Care.{Care}
-use Rattle.env_filter.specs.spans.Levels.{Opened, levels_of}
-use Rattle.env_filter.specs.Filtering.{Filtered, fresh, after}
-use Rattle.env_filter.specs.spans.Kept.{opened, closed}
+use Rattle.env_filter.specs.spans.Levels.{OpenLevel, levels_of}
+use Rattle.env_filter.specs.Filtering.{FilterState, fresh, after_hook}
+use Rattle.env_filter.specs.spans.Kept.{with_open_level, without_open_level}
 use Rattle.env_filter.specs.spans.Watching.{is_given, cares_of}
 
 -- the callsite of a span, if the call makes it
@@ -26,24 +26,24 @@ makes_of q (OnExit id at before later) = None
 makes_of q (OnClose id at) = None
 
 -- the values that a call gives a span, at its making or by a record
-abbrev pub gives : ℕ → Hook → List (ℕ × Value)
-gives q (OnNewSpan id lane at parent current callsite values) = if id == q then values.pairs else []
-gives q (OnRecord id at callsite values) = if id == q then values.pairs else []
-gives q (OnFollows id from at) = []
-gives q (OnEvent reached lane at callsite values) = []
-gives q (OnEnter id at before later) = []
-gives q (OnExit id at before later) = []
-gives q (OnClose id at) = []
+abbrev pub values_given_by : ℕ → Hook → List (ℕ × Value)
+values_given_by q (OnNewSpan id lane at parent current callsite values) = if id == q then values.pairs else []
+values_given_by q (OnRecord id at callsite values) = if id == q then values.pairs else []
+values_given_by q (OnFollows id from at) = []
+values_given_by q (OnEvent reached lane at callsite values) = []
+values_given_by q (OnEnter id at before later) = []
+values_given_by q (OnExit id at before later) = []
+values_given_by q (OnClose id at) = []
 
 -- whether a call closes a span
-abbrev pub ends : ℕ → Hook → Bool
-ends q (OnClose id at) = id == q
-ends q (OnNewSpan id lane at parent current callsite values) = false
-ends q (OnRecord id at callsite values) = false
-ends q (OnFollows id from at) = false
-ends q (OnEvent reached lane at callsite values) = false
-ends q (OnEnter id at before later) = false
-ends q (OnExit id at before later) = false
+abbrev pub is_close_of : ℕ → Hook → Bool
+is_close_of q (OnClose id at) = id == q
+is_close_of q (OnNewSpan id lane at parent current callsite values) = false
+is_close_of q (OnRecord id at callsite values) = false
+is_close_of q (OnFollows id from at) = false
+is_close_of q (OnEvent reached lane at callsite values) = false
+is_close_of q (OnEnter id at before later) = false
+is_close_of q (OnExit id at before later) = false
 
 -- the callsite by which a span was made under the filter, if it was
 abbrev pub made_by : ℕ → List Hook → Option Callsite
@@ -51,11 +51,11 @@ made_by q [] = None
 made_by q (call ∷ calls) = if is_some (makes_of q call) then makes_of q call else made_by q calls
 
 -- all values given to a span so far
-abbrev pub given : ℕ → List Hook → List (ℕ × Value)
-given q calls = flat_map (gives q) calls
+abbrev pub all_values_given : ℕ → List Hook → List (ℕ × Value)
+all_values_given q calls = flat_map (values_given_by q) calls
 
 abbrev pub is_ended : ℕ → List Hook → Bool
-is_ended q calls = list_any (ends q) calls
+is_ended q calls = list_any (is_close_of q) calls
 
 -- the greatest level of some directives, no less than one
 abbrev pub most_from : LevelFilter → List Care → LevelFilter
@@ -77,36 +77,36 @@ level_if ds None values = None
 level_if ds (Some c) values = level_by values (cares_of c ds)
 
 -- a span's level after some calls
-abbrev pub level_told : List Directive → ℕ → List Hook → Option LevelFilter
-level_told ds q calls = if is_ended q calls then None else level_if ds (made_by q calls) (given q calls)
+abbrev pub level_by_calls : List Directive → ℕ → List Hook → Option LevelFilter
+level_by_calls ds q calls = if is_ended q calls then None else level_if ds (made_by q calls) (all_values_given q calls)
 
 -- what a call makes of a lane's levels: an entry of a span that has a level appends its level of that moment, an exit
 -- takes off the newest that an entry of that span appended
-abbrev pub moved : List Directive → ℕ → List Hook → Hook → List Opened → List Opened
-moved ds lane past (OnEnter id at before later) now = if lane == before.id then opened (level_told ds id past) id now else now
-moved ds lane past (OnExit id at before later) now = if lane == before.id then closed (is_some (level_told ds id past)) id now else now
-moved ds lane past (OnNewSpan id l at parent current callsite values) now = now
-moved ds lane past (OnRecord id at callsite values) now = now
-moved ds lane past (OnFollows id from at) now = now
-moved ds lane past (OnEvent reached l at callsite values) now = now
-moved ds lane past (OnClose id at) now = now
+abbrev pub levels_after_call : List Directive → ℕ → List Hook → Hook → List OpenLevel → List OpenLevel
+levels_after_call ds lane past (OnEnter id at before later) now = if lane == before.id then with_open_level (level_by_calls ds id past) id now else now
+levels_after_call ds lane past (OnExit id at before later) now = if lane == before.id then without_open_level (is_some (level_by_calls ds id past)) id now else now
+levels_after_call ds lane past (OnNewSpan id l at parent current callsite values) now = now
+levels_after_call ds lane past (OnRecord id at callsite values) now = now
+levels_after_call ds lane past (OnFollows id from at) now = now
+levels_after_call ds lane past (OnEvent reached l at callsite values) now = now
+levels_after_call ds lane past (OnClose id at) now = now
 
-abbrev pub levels_from : List Directive → ℕ → List Hook → List Hook → List Opened → List Opened
+abbrev pub levels_from : List Directive → ℕ → List Hook → List Hook → List OpenLevel → List OpenLevel
 levels_from ds lane past [] now = now
-levels_from ds lane past (call ∷ calls) now = levels_from ds lane (past ++ call ∷ []) calls (moved ds lane past call now)
+levels_from ds lane past (call ∷ calls) now = levels_from ds lane (past ++ call ∷ []) calls (levels_after_call ds lane past call now)
 
 -- a lane's levels after some calls
-abbrev pub levels_told : List Directive → ℕ → List Hook → List Opened
-levels_told ds lane calls = levels_from ds lane [] calls []
+abbrev pub levels_by_calls : List Directive → ℕ → List Hook → List OpenLevel
+levels_by_calls ds lane calls = levels_from ds lane [] calls []
 
 -- no call so far was of the span
-pub record IsNew (q : ℕ) (past : List Hook) : Type 0 where
+pub record HasNoCalls (q : ℕ) (past : List Hook) : Type 0 where
   pub unmade : made_by q past ≡ None
-  pub nothing : given q past ≡ []
+  pub nothing : all_values_given q past ≡ []
   pub not_ended : is_ended q past ≡ false
 
 abbrev pub IsNext : List Hook → Hook → Type 0
-IsNext past (OnNewSpan id lane at parent current callsite values) = IsNew id past
+IsNext past (OnNewSpan id lane at parent current callsite values) = HasNoCalls id past
 IsNext past (OnRecord id at callsite values) = Unit {0}
 IsNext past (OnFollows id from at) = Unit {0}
 IsNext past (OnEvent reached lane at callsite values) = Unit {0}
@@ -120,17 +120,17 @@ AreInOrder past [] = Unit {0}
 AreInOrder past (call ∷ calls) = IsNext past call × AreInOrder (past ++ call ∷ []) calls
 
 -- the calls since a filter had no span
-pub record HasHeard (f : Filtered) (calls : List Hook) : Type 0 where
+pub record HasHeard (f : FilterState) (calls : List Hook) : Type 0 where
   pub order : AreInOrder [] calls
-  pub now : f ≡ fold after (fresh f) calls
+  pub now : f ≡ fold after_hook (fresh f) calls
 
 -- a span's level, and a lane's levels, are what those calls tell
-abbrev pub IsLevelTold : Filtered → ℕ → Option LevelFilter → Type 0
-IsLevelTold f id level = (calls : List Hook) → HasHeard f calls → level ≡ level_told f.dynamics.directives id calls
+abbrev pub IsLevelByCalls : FilterState → ℕ → Option LevelFilter → Type 0
+IsLevelByCalls f id level = (calls : List Hook) → HasHeard f calls → level ≡ level_by_calls f.dynamics.directives id calls
 
-abbrev pub AreLevelsTold : Filtered → ℕ → List LevelFilter → Type 0
-AreLevelsTold f lane levels =
-    (calls : List Hook) → HasHeard f calls → levels ≡ levels_of (levels_told f.dynamics.directives lane calls)
+abbrev pub AreLevelsByCalls : FilterState → ℕ → List LevelFilter → Type 0
+AreLevelsByCalls f lane levels =
+    (calls : List Hook) → HasHeard f calls → levels ≡ levels_of (levels_by_calls f.dynamics.directives lane calls)
 
 -- where a level is there before and later, it isn't lower later
 abbrev pub NeverFalls : Option LevelFilter → Option LevelFilter → Type 0

@@ -10,5 +10,5 @@ at_key entries k = lookup (nat_eq k) entries
 abbrev pub put : {V : Type 0} → (ℕ → V) → ℕ → V → ℕ → V
 put f k value = λ other. if nat_eq k other then value else f other
 
-abbrev pub changed : {V : Type 0} → (ℕ → V) → ℕ → (V → V) → ℕ → V
-changed f k step = put f k (step (f k))
+abbrev pub map_at : {V : Type 0} → (ℕ → V) → ℕ → (V → V) → ℕ → V
+map_at f k step = put f k (step (f k))

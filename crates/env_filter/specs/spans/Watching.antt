@@ -16,7 +16,7 @@ use Rattle.env_filter.specs.declared.watch.Ask.{Ask}
 use Rattle.env_filter.specs.declared.watch.Care.{Care}
 
 -- the directives that cared for a span, and of each value that they ask for, in order, whether it was met
-pub record Watched : Type 0 where
+pub record MatchState : Type 0 where
   pub cares : List Care
   pub met : List Bool
 
@@ -62,12 +62,12 @@ abbrev pub found_in : List (ℕ × Value) → List Care → List Bool
 found_in given cares = map (is_given given) (all_asks cares)
 
 -- a span's matches at its making, if a directive cares
-abbrev pub watched_by : List Care → List (ℕ × Value) → Option Watched
-watched_by [] given = None
-watched_by (care ∷ cares) given = Some (record { cares = care ∷ cares; met = found_in given (care ∷ cares) })
+abbrev pub match_state_by : List Care → List (ℕ × Value) → Option MatchState
+match_state_by [] given = None
+match_state_by (care ∷ cares) given = Some (record { cares = care ∷ cares; met = found_in given (care ∷ cares) })
 
-abbrev pub watched : List Directive → Callsite → List (ℕ × Value) → Option Watched
-watched ds c given = watched_by (cares_of c ds) given
+abbrev pub new_match_state : List Directive → Callsite → List (ℕ × Value) → Option MatchState
+new_match_state ds c given = match_state_by (cares_of c ds) given
 
 -- what was met stays met
 abbrev pub more_met : List Bool → List Bool → List Bool
@@ -75,11 +75,11 @@ more_met [] found = []
 more_met (m ∷ met) [] = m ∷ met
 more_met (m ∷ met) (f ∷ found) = (m || f) ∷ more_met met found
 
-abbrev pub noted : List Bool → ℕ → Bool → List Bool
-noted met at found = if found && nat_lt at (length met) then slice_set met at true else met
+abbrev pub with_note : List Bool → ℕ → Bool → List Bool
+with_note met at found = if found && nat_lt at (length met) then slice_set met at true else met
 
-abbrev pub recorded : List (ℕ × Value) → Watched → Watched
-recorded given w = record w { met = more_met w.met (found_in given w.cares) }
+abbrev pub with_values : List (ℕ × Value) → MatchState → MatchState
+with_values given w = record w { met = more_met w.met (found_in given w.cares) }
 
 -- the greatest level of those directives all of whose values were met, no less than one
 abbrev pub level_from : LevelFilter → List Care → List Bool → LevelFilter
@@ -87,5 +87,5 @@ level_from now [] met = now
 level_from now (care ∷ cares) met =
     level_from (if list_all (λ m. m) (take (length care.asks) met) then more_verbose now care.level else now) cares (drop (length care.asks) met)
 
-abbrev pub level_of : Watched → LevelFilter
-level_of w = level_from OFF w.cares w.met
+abbrev pub level_of_match : MatchState → LevelFilter
+level_of_match w = level_from OFF w.cares w.met

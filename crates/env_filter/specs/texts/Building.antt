@@ -6,58 +6,58 @@ use Rattle.env_directives.specs.declared.directive.ParseError.{ParseError}
 use Rattle.env_directives.specs.declared.directive.ParseError.TheVariants.{Shape, Level, Field, Pattern, Equals, Fields, Memory}
 use Rattle.env_directives.specs.declared.env.directive.Directive.{Directive}
 use Rattle.env_filter.specs.declared.pieces.Ignored.{Ignored}
-use Rattle.env_filter.specs.Filtering.{Filtered}
+use Rattle.env_filter.specs.Filtering.{FilterState}
 use Rattle.env_filter.specs.texts.Pieces.{ReadsText, IsFirstFault}
 use Rattle.env_filter.specs.Tables.{filter_of}
 
 -- whether patterns are taken, the directive of a filter that would have none, and the name of the variable to read
-pub record Building : Type 0 where
+pub record BuilderValue : Type 0 where
   pub patterns : Bool
   pub default : Option Directive
   pub variable : List ℕ
 
-abbrev pub default_builder : Building
+abbrev pub default_builder : BuilderValue
 default_builder = record { patterns = true; default = None; variable = codes "RUST_LOG" }
 
 -- errors alone, for filters that would have no directive
-abbrev pub errors_builder : Building
+abbrev pub errors_builder : BuilderValue
 errors_builder = record default_builder { default = Some (target_at [] ERROR) }
 
 -- a builder that reads another variable
-abbrev pub with_variable : Building → List ℕ → Building
+abbrev pub with_variable : BuilderValue → List ℕ → BuilderValue
 with_variable b name = record b { variable = name }
 
 -- the filter that it makes of some directives
-abbrev pub filter_by : Building → List Directive → Filtered
+abbrev pub filter_by : BuilderValue → List Directive → FilterState
 filter_by b ds = filter_of b.patterns b.default ds
 
 -- a filter is that of the directives of a text, of which some pieces are left out
-pub record IsFilterOf (b : Building) (text : List ℕ) (ignored : List Ignored) (f : Filtered) : Type 0 where
+pub record IsFilterOf (b : BuilderValue) (text : List ℕ) (ignored : List Ignored) (f : FilterState) : Type 0 where
   pub directives : List Directive
   pub reads : ReadsText b.patterns text directives ignored
   pub is : f ≡ filter_by b directives
 
 -- whichever those are
-pub record IsSomeFilterOf (b : Building) (text : List ℕ) (f : Filtered) : Type 0 where
+pub record IsSomeFilterOf (b : BuilderValue) (text : List ℕ) (f : FilterState) : Type 0 where
   pub ignored : List Ignored
   pub is : IsFilterOf b text ignored f
 
 -- why a text gives no filter: the first fault of its pieces, or want of memory
-abbrev pub IsRefused : Bool → List ℕ → ParseError → Type 0
-IsRefused patterns text Memory = Unit {0}
-IsRefused patterns text Shape = (number : ℕ) × IsFirstFault patterns text number Shape
-IsRefused patterns text Level = (number : ℕ) × IsFirstFault patterns text number Level
-IsRefused patterns text Field = (number : ℕ) × IsFirstFault patterns text number Field
-IsRefused patterns text Pattern = (number : ℕ) × IsFirstFault patterns text number Pattern
-IsRefused patterns text Equals = (number : ℕ) × IsFirstFault patterns text number Equals
-IsRefused patterns text (Fields many) = (number : ℕ) × IsFirstFault patterns text number (Fields many)
+abbrev pub HasFilterFault : Bool → List ℕ → ParseError → Type 0
+HasFilterFault patterns text Memory = Unit {0}
+HasFilterFault patterns text Shape = (number : ℕ) × IsFirstFault patterns text number Shape
+HasFilterFault patterns text Level = (number : ℕ) × IsFirstFault patterns text number Level
+HasFilterFault patterns text Field = (number : ℕ) × IsFirstFault patterns text number Field
+HasFilterFault patterns text Pattern = (number : ℕ) × IsFirstFault patterns text number Pattern
+HasFilterFault patterns text Equals = (number : ℕ) × IsFirstFault patterns text number Equals
+HasFilterFault patterns text (Fields many) = (number : ℕ) × IsFirstFault patterns text number (Fields many)
 
 -- the same with the piece's number, 0 for want of memory
-abbrev pub IsRefusedAt : Bool → List ℕ → ℕ → ParseError → Type 0
-IsRefusedAt patterns text number Memory = number ≡ 0
-IsRefusedAt patterns text number Shape = IsFirstFault patterns text number Shape
-IsRefusedAt patterns text number Level = IsFirstFault patterns text number Level
-IsRefusedAt patterns text number Field = IsFirstFault patterns text number Field
-IsRefusedAt patterns text number Pattern = IsFirstFault patterns text number Pattern
-IsRefusedAt patterns text number Equals = IsFirstFault patterns text number Equals
-IsRefusedAt patterns text number (Fields many) = IsFirstFault patterns text number (Fields many)
+abbrev pub HasFilterFaultAt : Bool → List ℕ → ℕ → ParseError → Type 0
+HasFilterFaultAt patterns text number Memory = number ≡ 0
+HasFilterFaultAt patterns text number Shape = IsFirstFault patterns text number Shape
+HasFilterFaultAt patterns text number Level = IsFirstFault patterns text number Level
+HasFilterFaultAt patterns text number Field = IsFirstFault patterns text number Field
+HasFilterFaultAt patterns text number Pattern = IsFirstFault patterns text number Pattern
+HasFilterFaultAt patterns text number Equals = IsFirstFault patterns text number Equals
+HasFilterFaultAt patterns text number (Fields many) = IsFirstFault patterns text number (Fields many)

@@ -6,27 +6,27 @@ use Rattle.env_directives.specs.declared.directive.ParseError.TheVariants as cau
 use Rattle.env_filter.specs.declared.builder.env.FromEnvError.{FromEnvError}
 use Rattle.env_filter.specs.declared.builder.env.FromEnvError.TheVariants.{Parse, Env, Memory}
 use Rattle.env_filter.specs.declared.pieces.Ignored.{Ignored}
-use Rattle.env_filter.specs.texts.Building.{Building, IsFilterOf, IsRefused}
-use Rattle.env_filter.specs.Filtering.{Filtered}
-use Rattle.env_filter.specs.texts.Reading.{Told, IsToldAt}
+use Rattle.env_filter.specs.texts.Building.{BuilderValue, IsFilterOf, HasFilterFault}
+use Rattle.env_filter.specs.Filtering.{FilterState}
+use Rattle.env_filter.specs.texts.Reading.{KnownVariables, IsToldAt}
 
 -- a filter is that of what the builder's variable gave, the empty text where that was nothing
-pub record IsReadAs (told : Told) (b : Building) (ignored : List Ignored) (f : Filtered) : Type 0 where
+pub record IsReadAs (told : KnownVariables) (b : BuilderValue) (ignored : List Ignored) (f : FilterState) : Type 0 where
   pub read : Option (List ℕ)
   pub there : IsToldAt told b.variable read
   pub is : IsFilterOf b (unwrap_or read []) ignored f
 
 -- whichever pieces are left out
-pub record IsSomeReadAs (told : Told) (b : Building) (f : Filtered) : Type 0 where
+pub record IsSomeReadAs (told : KnownVariables) (b : BuilderValue) (f : FilterState) : Type 0 where
   pub ignored : List Ignored
   pub is : IsReadAs told b ignored f
 
 -- a filter is that of what a variable gave, which was something
-abbrev pub IsOfVariable : Building → Option (List ℕ) → Filtered → Type 0
+abbrev pub IsOfVariable : BuilderValue → Option (List ℕ) → FilterState → Type 0
 IsOfVariable b None f = ⊥
 IsOfVariable b (Some text) f = IsFilterOf b text [] f
 
-pub record IsRequiredAs (told : Told) (b : Building) (f : Filtered) : Type 0 where
+pub record IsRequiredAs (told : KnownVariables) (b : BuilderValue) (f : FilterState) : Type 0 where
   pub read : Option (List ℕ)
   pub there : IsToldAt told b.variable read
   pub is : IsOfVariable b read f
@@ -34,21 +34,21 @@ pub record IsRequiredAs (told : Told) (b : Building) (f : Filtered) : Type 0 whe
 -- what was read gives no filter
 abbrev pub IsRefusedIn : Bool → Option (List ℕ) → FromEnvError → Type 0
 IsRefusedIn patterns None (Parse fault) = ⊥
-IsRefusedIn patterns (Some text) (Parse fault) = (fault ≢ cause.Memory) × IsRefused patterns text fault
+IsRefusedIn patterns (Some text) (Parse fault) = (fault ≢ cause.Memory) × HasFilterFault patterns text fault
 IsRefusedIn patterns None Env = Unit {0}
 IsRefusedIn patterns (Some text) Env = ⊥
 IsRefusedIn patterns None Memory = ⊥
 IsRefusedIn patterns (Some text) Memory = Unit {0}
 
 -- what the builder's variable gave is refused; an absent one counts as empty
-abbrev pub IsRefusedFrom : Told → Building → FromEnvError → Type 0
-IsRefusedFrom told b (Parse fault) = (read : Option (List ℕ)) × IsToldAt told b.variable read × (fault ≢ cause.Memory) × IsRefused b.patterns (unwrap_or read []) fault
+abbrev pub IsRefusedFrom : KnownVariables → BuilderValue → FromEnvError → Type 0
+IsRefusedFrom told b (Parse fault) = (read : Option (List ℕ)) × IsToldAt told b.variable read × (fault ≢ cause.Memory) × HasFilterFault b.patterns (unwrap_or read []) fault
 IsRefusedFrom told b Env = ⊥
 IsRefusedFrom told b Memory = Unit {0}
 
 -- the same where it has to be there
-abbrev pub IsRequiredFault : Told → Building → FromEnvError → Type 0
-IsRequiredFault told b (Parse fault) = (text : List ℕ) × IsToldAt told b.variable (Some text) × (fault ≢ cause.Memory) × IsRefused b.patterns text fault
+abbrev pub IsRequiredFault : KnownVariables → BuilderValue → FromEnvError → Type 0
+IsRequiredFault told b (Parse fault) = (text : List ℕ) × IsToldAt told b.variable (Some text) × (fault ≢ cause.Memory) × HasFilterFault b.patterns text fault
 IsRequiredFault told b Env = IsToldAt told b.variable None
 IsRequiredFault told b Memory = Unit {0}
 

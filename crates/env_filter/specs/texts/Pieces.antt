@@ -11,8 +11,8 @@ use Rattle.env_directives.specs.declared.env.directive.Directive.{Directive}
 use Rattle.env_filter.specs.declared.pieces.Ignored.{Ignored}
 
 -- the texts behind references
-abbrev pub shown : List (Bor (List ℕ)) → List (List ℕ)
-shown pieces = map (λ p. p.now) pieces
+abbrev pub texts_of : List (Bor (List ℕ)) → List (List ℕ)
+texts_of pieces = map (λ p. p.now) pieces
 
 -- whether a fault tells want of memory
 abbrev pub is_memory : ParseError → Bool
@@ -32,16 +32,16 @@ pub record IsIgnored (patterns : Bool) (number : ℕ) (piece : List ℕ) (ignore
   pub no_memory : is_memory ignored.fault ≡ false
 
 -- What a piece is read as: an empty one as nothing, and any other as a directive or as a fault.
-abbrev pub Reads : Bool → ℕ → List ℕ → List Directive → List Ignored → Type 0
-Reads patterns number [] [] [] = Unit {0}
-Reads patterns number [] [] (i ∷ is) = ⊥
-Reads patterns number [] (d ∷ ds) is = ⊥
-Reads patterns number (b ∷ bs) [] [] = ⊥
-Reads patterns number (b ∷ bs) (d ∷ []) [] = IsDirective patterns (trim (b ∷ bs)) d
-Reads patterns number (b ∷ bs) [] (i ∷ []) = IsIgnored patterns number (b ∷ bs) i
-Reads patterns number (b ∷ bs) [] (i ∷ j ∷ is) = ⊥
-Reads patterns number (b ∷ bs) (d ∷ []) (i ∷ is) = ⊥
-Reads patterns number (b ∷ bs) (d ∷ e ∷ ds) is = ⊥
+abbrev pub ReadsPiece : Bool → ℕ → List ℕ → List Directive → List Ignored → Type 0
+ReadsPiece patterns number [] [] [] = Unit {0}
+ReadsPiece patterns number [] [] (i ∷ is) = ⊥
+ReadsPiece patterns number [] (d ∷ ds) is = ⊥
+ReadsPiece patterns number (b ∷ bs) [] [] = ⊥
+ReadsPiece patterns number (b ∷ bs) (d ∷ []) [] = IsDirective patterns (trim (b ∷ bs)) d
+ReadsPiece patterns number (b ∷ bs) [] (i ∷ []) = IsIgnored patterns number (b ∷ bs) i
+ReadsPiece patterns number (b ∷ bs) [] (i ∷ j ∷ is) = ⊥
+ReadsPiece patterns number (b ∷ bs) (d ∷ []) (i ∷ is) = ⊥
+ReadsPiece patterns number (b ∷ bs) (d ∷ e ∷ ds) is = ⊥
 
 -- a piece is read, and then the pieces behind it
 pub record ReadsFirst (patterns : Bool) (number : ℕ) (piece : List ℕ) (rest : List Directive → List Ignored → Type 0) (ds : List Directive) (is : List Ignored) : Type 0 where
@@ -49,7 +49,7 @@ pub record ReadsFirst (patterns : Bool) (number : ℕ) (piece : List ℕ) (rest 
   pub ignored : List Ignored
   pub later : List Directive
   pub later_ignored : List Ignored
-  pub reads : Reads patterns number piece directives ignored
+  pub reads : ReadsPiece patterns number piece directives ignored
   pub behind : rest later later_ignored
   pub all : ds ≡ directives ++ later
   pub all_ignored : is ≡ ignored ++ later_ignored
@@ -76,6 +76,6 @@ pub record IsFirstFault (patterns : Bool) (text : List ℕ) (number : ℕ) (faul
 pub record AddsPiece (patterns : Bool) (number : ℕ) (piece : List ℕ) (old : List Directive) (old_ignored : List Ignored) (new : List Directive) (new_ignored : List Ignored) : Type 0 where
   pub directives : List Directive
   pub ignored : List Ignored
-  pub reads : Reads patterns number piece directives ignored
+  pub reads : ReadsPiece patterns number piece directives ignored
   pub added : new ≡ old ++ directives
   pub added_ignored : new_ignored ≡ old_ignored ++ ignored

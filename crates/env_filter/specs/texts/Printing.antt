@@ -11,8 +11,8 @@ use Rattle.env_directives.specs.printed.StaticPrinted.{static_text}
 use Rattle.env_directives.specs.orders.Table.{Table, greatest_of}
 use Rattle.trace_base.specs.declared.level.LevelFilter.{LevelFilter}
 use Rattle.trace_base.specs.words.Level.{greatest_verbosity}
-use Rattle.env_filter.specs.texts.Building.{Building, default_builder}
-use Rattle.env_filter.specs.Filtering.{Each, Filtered}
+use Rattle.env_filter.specs.texts.Building.{BuilderValue, default_builder}
+use Rattle.env_filter.specs.Filtering.{Each, FilterState}
 use Rattle.env_filter.specs.Tables.{statics_of, dynamics_of}
 
 -- each item behind a comma
@@ -37,8 +37,8 @@ abbrev pub as_directive : StaticDirective → Directive
 as_directive s = record { in_span = None; fields = map bare_field s.field_names; target = s.target; level = s.level }
 
 -- the directives that a filter prints, in order
-abbrev pub printed : List StaticDirective → List Directive → List Directive
-printed ss ds = map as_directive ss ++ ds
+abbrev pub printed_directives : List StaticDirective → List Directive → List Directive
+printed_directives ss ds = map as_directive ss ++ ds
 
 -- a directive prints no comma, and what it prints is read as that directive
 abbrev pub IsReadBack : Directive → Type 0
@@ -46,7 +46,7 @@ IsReadBack d = (lacks (codes ",") (directive_text d) ≡ true) × IsDirective fa
 
 -- the directives that the filter of some directives prints
 abbrev pub printed_of : List Directive → List Directive
-printed_of ds = printed (statics_of ds).directives (dynamics_of ds).directives
+printed_of ds = printed_directives (statics_of ds).directives (dynamics_of ds).directives
 
 -- the greatest level of a table is that of one of its directives, and not of one that gave way to an equal one
 abbrev pub HasOwnGreatest : {T : Type 0} → (T → LevelFilter) → Table T → Type 0
@@ -60,9 +60,9 @@ abbrev pub HaveNoMinusZero : List Directive → Type 0
 HaveNoMinusZero ds = Each (λ d. HasNoMinusZero d.fields) ds
 
 -- what a filter prints
-abbrev pub text_of : Filtered → List ℕ
+abbrev pub text_of : FilterState → List ℕ
 text_of f = filter_text f.statics.directives f.dynamics.directives
 
 -- a builder that takes no patterns and has no default
-abbrev pub fixed_builder : Building
+abbrev pub fixed_builder : BuilderValue
 fixed_builder = record default_builder { patterns = false }

@@ -4,11 +4,11 @@ use Rattle.std.specs.List.{find}
 use Rattle.std.specs.Option.{unwrap_or}
 
 -- variables by name; it may not be told what stands under them
-abbrev pub Told : Type 0
-Told = Option (List ℕ → Option (List ℕ))
+abbrev pub KnownVariables : Type 0
+KnownVariables = Option (List ℕ → Option (List ℕ))
 
 -- what was read under a name is what stands there, where that is told
-abbrev pub IsToldAt : Told → List ℕ → Option (List ℕ) → Type 0
+abbrev pub IsToldAt : KnownVariables → List ℕ → Option (List ℕ) → Type 0
 IsToldAt None name read = Unit {0}
 IsToldAt (Some variables) name read = read ≡ variables name
 

@@ -1,7 +1,7 @@
 //! Filters from variables.
 ghost use Rattle.std.specs.Prelude.{◌≡◌, [], Some, None, IfOk, IfErr, option_map, string_bytes, codes};
 ghost use Rattle.env_filter.specs.texts.Building.{default_builder, errors_builder, with_variable};
-ghost use Rattle.env_filter.specs.Filtering.{plain, IsNew};
+ghost use Rattle.env_filter.specs.Filtering.{plain, IsNewFilter};
 ghost use Rattle.env_filter.specs.texts.FromVariables.{IsReadAs, IsSomeReadAs, IsOfVariable, IsRequiredAs, IsRefusedFrom, IsRefusedIn, IsRequiredFault, IsParsed, env_text};
 ghost use Rattle.env_filter.specs.declared.builder.env.FromEnvError.TheVariants as fault;
 
@@ -21,7 +21,7 @@ impl Builder {
     /// that isn't set counts as empty.
     pub fn from_env<V: Vars>(&self, vars: &V) -> Result<EnvFilter, FromEnvError>
         ensures ok { IfOk result (λ f. IsReadAs (V.told vars.now) self.now [] (plain f)) }
-        ensures new { IfOk result (λ f. IsNew (plain f)) }
+        ensures new { IfOk result (λ f. IsNewFilter (plain f)) }
         ensures refused { IfErr result (IsRefusedFrom (V.told vars.now) self.now) }
     {
         match vars.read(self.variable())? {
@@ -34,7 +34,7 @@ impl Builder {
     /// `Builder::from_env_lossy`. A variable that isn't set counts as empty.
     pub fn from_env_lossy<V: Vars>(&self, vars: &V) -> Result<(EnvFilter, Vec<Ignored>), Memory>
         ensures ok { IfOk result (λ r. IsReadAs (V.told vars.now) self.now r.1.items (plain r.0)) }
-        ensures new { IfOk result (λ r. IsNew (plain r.0)) }
+        ensures new { IfOk result (λ r. IsNewFilter (plain r.0)) }
     {
         match vars.read(self.variable())? {
             Some(text) => self.parse_lossy(text.as_str()),
@@ -46,7 +46,7 @@ impl Builder {
     /// `Builder::try_from_env`.
     pub fn try_from_env<V: Vars>(&self, vars: &V) -> Result<EnvFilter, FromEnvError>
         ensures ok { IfOk result (λ f. IsRequiredAs (V.told vars.now) self.now (plain f)) }
-        ensures new { IfOk result (λ f. IsNew (plain f)) }
+        ensures new { IfOk result (λ f. IsNewFilter (plain f)) }
         ensures refused { IfErr result (IsRequiredFault (V.told vars.now) self.now) }
     {
         self.from_var(vars.read(self.variable())?)
@@ -55,7 +55,7 @@ impl Builder {
     /// The filter of what a variable gave, each piece of which has to be a directive. `Env` exactly where it gave nothing.
     pub fn from_var(&self, read: Option<String>) -> Result<EnvFilter, FromEnvError>
         ensures ok { IfOk result (λ f. IsOfVariable self.now (option_map string_bytes read) (plain f)) }
-        ensures new { IfOk result (λ f. IsNew (plain f)) }
+        ensures new { IfOk result (λ f. IsNewFilter (plain f)) }
         ensures refused { IfErr result (IsRefusedIn self.now.patterns (option_map string_bytes read)) }
     {
         match read {
@@ -67,7 +67,7 @@ impl Builder {
     // The filter of those pieces of the builder's variable that are directives.
     fn some_from_env<V: Vars>(self, vars: &V) -> Result<EnvFilter, Memory>
         ensures ok { IfOk result (λ f. IsSomeReadAs (V.told vars.now) self (plain f)) }
-        ensures new { IfOk result (λ f. IsNew (plain f)) }
+        ensures new { IfOk result (λ f. IsNewFilter (plain f)) }
     {
         let read = self.from_env_lossy(vars);
         drop(self);
@@ -81,7 +81,7 @@ impl EnvFilter {
     /// `EnvFilter::from_default_env`.
     pub fn from_default_env<V: Vars>(alloc: Global, vars: &V) -> Result<EnvFilter, Memory>
         ensures ok { IfOk result (λ f. IsSomeReadAs (V.told vars.now) errors_builder (plain f)) }
-        ensures new { IfOk result (λ f. IsNew (plain f)) }
+        ensures new { IfOk result (λ f. IsNewFilter (plain f)) }
     {
         errors_builder(alloc).some_from_env(vars)
     }
@@ -90,7 +90,7 @@ impl EnvFilter {
     pub fn from_env<V: Vars>(alloc: Global, name: &str, vars: &V) -> Result<EnvFilter, Memory>
         ensures ok { IfOk result
             (λ f. IsSomeReadAs (V.told vars.now) (with_variable errors_builder name.now) (plain f)) }
-        ensures new { IfOk result (λ f. IsNew (plain f)) }
+        ensures new { IfOk result (λ f. IsNewFilter (plain f)) }
     {
         let name = named(alloc, name)?;
         errors_builder(alloc).with_env_var(name).some_from_env(vars)
@@ -100,7 +100,7 @@ impl EnvFilter {
     /// `EnvFilter::try_from_default_env`.
     pub fn try_from_default_env<V: Vars>(alloc: Global, vars: &V) -> Result<EnvFilter, FromEnvError>
         ensures ok { IfOk result (λ f. IsRequiredAs (V.told vars.now) default_builder (plain f)) }
-        ensures new { IfOk result (λ f. IsNew (plain f)) }
+        ensures new { IfOk result (λ f. IsNewFilter (plain f)) }
         ensures refused { IfErr result (IsRequiredFault (V.told vars.now) default_builder) }
     {
         EnvFilter::builder(alloc).try_from_env(vars)
@@ -114,7 +114,7 @@ impl EnvFilter {
     ) -> Result<EnvFilter, FromEnvError>
         ensures ok { IfOk result
             (λ f. IsRequiredAs (V.told vars.now) (with_variable default_builder name.now) (plain f)) }
-        ensures new { IfOk result (λ f. IsNew (plain f)) }
+        ensures new { IfOk result (λ f. IsNewFilter (plain f)) }
         ensures refused { IfErr result
             (IsRequiredFault (V.told vars.now) (with_variable default_builder name.now)) }
     {

@@ -1,7 +1,7 @@
 //! Filters that are made of tables, and filters with a directive more.
 ghost use Rattle.std.specs.Prelude.{◌≡◌, true, IfOk, IfErr, OnOk, OnErr};
 ghost use Rattle.env_directives.specs.orders.Table.{empty_table};
-ghost use Rattle.env_filter.specs.Filtering.{plain, fresh, AreWhole, IsNew};
+ghost use Rattle.env_filter.specs.Filtering.{plain, fresh, AreWhole, IsNewFilter};
 ghost use Rattle.env_filter.specs.Tables.{with_directive, placed_in, with_tables, has_none};
 
 use crate::filter::EnvFilter;
@@ -17,7 +17,7 @@ impl EnvFilter {
     /// A filter without directives, which takes patterns and lets nothing through; `EnvFilter::default`.
     pub fn default(alloc: Global) -> EnvFilter
         ensures is { plain result ≡ with_tables true empty_table empty_table }
-        ensures new { IsNew (plain result) }
+        ensures new { IsNewFilter (plain result) }
     {
         EnvFilter::with_tables(
             alloc,
@@ -33,7 +33,7 @@ impl EnvFilter {
     pub fn add_directive(self, directive: Directive) -> Result<EnvFilter, (EnvFilter, Memory)>
         ensures ok { IfOk result (λ f. plain f ≡ with_directive (plain self) directive) }
         ensures whole { AreWhole (plain self) → IfOk result (λ f. AreWhole (plain f)) }
-        ensures new { IsNew (plain self) → IfOk result (λ f. IsNew (plain f)) }
+        ensures new { IsNewFilter (plain self) → IfOk result (λ f. IsNewFilter (plain f)) }
         ensures memory_leaves { IfErr result (λ e. plain e.0 ≡ plain self) }
     {
         let mut filter = self;
@@ -60,7 +60,7 @@ impl EnvFilter {
     /// it stands for the `Clone` of tracing-subscriber's type.
     pub fn clone_filter(&self) -> Result<EnvFilter, Memory>
         ensures is { IfOk result (λ f. plain f ≡ fresh (plain self.now)) }
-        ensures new { AreWhole (plain self.now) → IfOk result (λ f. IsNew (plain f)) }
+        ensures new { AreWhole (plain self.now) → IfOk result (λ f. IsNewFilter (plain f)) }
     {
         let copy = self.copy()?;
         Ok(copy)

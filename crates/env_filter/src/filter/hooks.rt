@@ -1,9 +1,9 @@
 //! The hooks of a filter.
 ghost use Rattle.std.specs.Prelude.{◌≡◌, ◌<◌, true};
 ghost use Rattle.trace_base.specs.layers.Hooks.{OnNewSpan, OnRecord, OnEnter, OnExit, OnClose, ForNewSpan, ForRecord, ForEnter};
-ghost use Rattle.env_filter.specs.spans.Keyed.{changed};
-ghost use Rattle.env_filter.specs.spans.Kept.{is_watched, level_in, levels_in, room_in, opened, closed};
-ghost use Rattle.env_filter.specs.Filtering.{plain, after, IsReadyFilter};
+ghost use Rattle.env_filter.specs.spans.Keyed.{map_at};
+ghost use Rattle.env_filter.specs.spans.Kept.{has_match_state, level_in, levels_in, room_in, with_open_level, without_open_level};
+ghost use Rattle.env_filter.specs.Filtering.{plain, after_hook, IsReadyFilter};
 
 use crate::filter::EnvFilter;
 use crate::levels::Levels;
@@ -39,7 +39,7 @@ impl EnvFilter {
         _values: &ValueSet,
     )
         requires { IsReadyFilter self.old (ForNewSpan _lane.now _callsite.now _values.now) prepared }
-        ensures { plain self.new ≡ after (plain self.old)
+        ensures { plain self.new ≡ after_hook (plain self.old)
             (OnNewSpan id _lane.now _at _parent _current _callsite.now _values.now) }
     {
         let Ready { made, found: _ } = prepared;
@@ -59,7 +59,7 @@ impl EnvFilter {
         _values: &ValueSet,
     )
         requires { IsReadyFilter self.old (ForRecord id _callsite.now _values.now) prepared }
-        ensures { plain self.new ≡ after (plain self.old) (OnRecord id _at _callsite.now _values.now) }
+        ensures { plain self.new ≡ after_hook (plain self.old) (OnRecord id _at _callsite.now _values.now) }
     {
         spans::note(&mut self.spans, id, prepared.found.as_slice());
     }
@@ -68,7 +68,7 @@ impl EnvFilter {
     pub fn on_enter(&mut self, _prepared: Ready, id: Id, lane: &mut Lane, _at: u64)
         requires { IsReadyFilter self.old (ForEnter id lane.old.id) _prepared }
         ensures lane { lane.new ≡ lane.old }
-        ensures now { plain self.new ≡ after (plain self.old) (OnEnter id _at lane.old lane.new) }
+        ensures now { plain self.new ≡ after_hook (plain self.old) (OnEnter id _at lane.old lane.new) }
     {
         open_entry(&self.spans, &mut self.lanes, lane.id, id);
     }
@@ -77,14 +77,14 @@ impl EnvFilter {
     /// `EnvFilter::on_exit`.
     pub fn on_exit(&mut self, id: Id, lane: &mut Lane, _at: u64)
         ensures lane { lane.new ≡ lane.old }
-        ensures now { plain self.new ≡ after (plain self.old) (OnExit id _at lane.old lane.new) }
+        ensures now { plain self.new ≡ after_hook (plain self.old) (OnExit id _at lane.old lane.new) }
     {
         close_entry(&self.spans, &mut self.lanes, lane.id, id);
     }
 
     /// A span closed: nothing is kept of it; `EnvFilter::on_close`.
     pub fn on_close(&mut self, id: Id, _at: u64)
-        ensures { plain self.new ≡ after (plain self.old) (OnClose id _at) }
+        ensures { plain self.new ≡ after_hook (plain self.old) (OnClose id _at) }
     {
         spans::forget(&mut self.spans, id);
     }
@@ -92,9 +92,9 @@ impl EnvFilter {
 
 // Appends the level of a span, if it has one.
 fn open_entry(spans: &HashMap<u64, Matches>, lanes: &mut HashMap<u64, Levels>, lane: u64, id: Id)
-    requires { is_watched spans.now.entries id ≡ true → 0 < room_in lanes.old.entries lane }
+    requires { has_match_state spans.now.entries id ≡ true → 0 < room_in lanes.old.entries lane }
     ensures { levels_in lanes.new.entries
-        ≡ changed (levels_in lanes.old.entries) lane (opened (level_in spans.now.entries id) id) }
+        ≡ map_at (levels_in lanes.old.entries) lane (with_open_level (level_in spans.now.entries id) id) }
 {
     if let Some(level) = spans::level_of(spans, id) {
         lanes::append(lanes, lane, id, level);
@@ -104,7 +104,7 @@ fn open_entry(spans: &HashMap<u64, Matches>, lanes: &mut HashMap<u64, Levels>, l
 // Takes the newest level of the span off, if it has one.
 fn close_entry(spans: &HashMap<u64, Matches>, lanes: &mut HashMap<u64, Levels>, lane: u64, id: Id)
     ensures { levels_in lanes.new.entries
-        ≡ changed (levels_in lanes.old.entries) lane (closed (is_watched spans.now.entries id) id) }
+        ≡ map_at (levels_in lanes.old.entries) lane (without_open_level (has_match_state spans.now.entries id) id) }
 {
     if spans::level_of(spans, id).is_some() {
         lanes::take_off(lanes, lane, id);

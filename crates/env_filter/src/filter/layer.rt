@@ -3,7 +3,7 @@ ghost use Rattle.std.specs.Prelude.{◌≡◌, ◌<◌, false, true, Some, OnOk,
 ghost use Rattle.std.proofs.Common.{refl, ap, ◌∙◌};
 ghost use Rattle.otel_base.specs.declared.enter_error.EnterError.TheVariants.{Full};
 ghost use Rattle.trace_base.specs.declared.lane.Lane.{Lane};
-ghost use Rattle.env_filter.specs.spans.Kept.{is_watched, levels_in, room_in};
+ghost use Rattle.env_filter.specs.spans.Kept.{has_match_state, levels_in, room_in};
 ghost use Rattle.env_filter.specs.Filtering.{plain, AreWhole, seen_in, interest_in, hint_in, enables_in, DoesFilter, IsReadyFilter};
 ghost use Rattle.env_filter.specs.laws.HookLemmas.{same_seen, same_does, filter_sees, filter_lanes, keeps_gate, keeps_whole, same_gate, same_enables, same_whole};
 
@@ -202,7 +202,7 @@ fn prepare_entry(
     ensures not_full { ¬ (result ≡ Err Full) }
     ensures leaves { levels_in lanes.new.entries ≡ levels_in lanes.old.entries }
     ensures room { OnOk result
-        (is_watched spans.now.entries id ≡ true → 0 < room_in lanes.new.entries lane) }
+        (has_match_state spans.now.entries id ≡ true → 0 < room_in lanes.new.entries lane) }
 {
     if spans::level_of(spans, id).is_some() {
         if let Err(Memory) = lanes::prepare(alloc, lanes, lane) {

@@ -3,8 +3,8 @@ ghost use Rattle.std.specs.Prelude.{◌≡◌, ◌++◌, [], Some, codes, IfOk, 
 ghost use Rattle.std.specs.Fmt.{WritesOnOk};
 ghost use Rattle.env_directives.specs.printed.Printed.{directive_text};
 ghost use Rattle.env_directives.specs.printed.StaticPrinted.{static_text};
-ghost use Rattle.env_filter.specs.texts.Building.{default_builder, errors_builder, IsFilterOf, IsSomeFilterOf, IsRefused};
-ghost use Rattle.env_filter.specs.Filtering.{plain, IsNew};
+ghost use Rattle.env_filter.specs.texts.Building.{default_builder, errors_builder, IsFilterOf, IsSomeFilterOf, HasFilterFault};
+ghost use Rattle.env_filter.specs.Filtering.{plain, IsNewFilter};
 ghost use Rattle.env_filter.specs.texts.Printing.{behind_commas, dynamics_text, filter_text};
 
 use crate::builder::Builder;
@@ -31,7 +31,7 @@ impl EnvFilter {
     /// `EnvFilter::new`.
     pub fn new(alloc: Global, dirs: &str) -> Result<EnvFilter, Memory>
         ensures ok { IfOk result (λ f. IsSomeFilterOf errors_builder dirs.now (plain f)) }
-        ensures new { IfOk result (λ f. IsNew (plain f)) }
+        ensures new { IfOk result (λ f. IsNewFilter (plain f)) }
     {
         errors_builder(alloc).parse_some(dirs)
     }
@@ -40,8 +40,8 @@ impl EnvFilter {
     /// the first piece that is none.
     pub fn try_new(alloc: Global, dirs: &str) -> Result<EnvFilter, ParseError>
         ensures ok { IfOk result (λ f. IsFilterOf default_builder dirs.now [] (plain f)) }
-        ensures new { IfOk result (λ f. IsNew (plain f)) }
-        ensures refused { IfErr result (IsRefused default_builder.patterns dirs.now) }
+        ensures new { IfOk result (λ f. IsNewFilter (plain f)) }
+        ensures refused { IfErr result (HasFilterFault default_builder.patterns dirs.now) }
     {
         EnvFilter::builder(alloc).parse(dirs)
     }
@@ -49,8 +49,8 @@ impl EnvFilter {
     /// The same as `try_new`; `EnvFilter::from_str`.
     pub fn from_str(alloc: Global, dirs: &str) -> Result<EnvFilter, ParseError>
         ensures ok { IfOk result (λ f. IsFilterOf default_builder dirs.now [] (plain f)) }
-        ensures new { IfOk result (λ f. IsNew (plain f)) }
-        ensures refused { IfErr result (IsRefused default_builder.patterns dirs.now) }
+        ensures new { IfOk result (λ f. IsNewFilter (plain f)) }
+        ensures refused { IfErr result (HasFilterFault default_builder.patterns dirs.now) }
     {
         EnvFilter::try_new(alloc, dirs)
     }

@@ -1,7 +1,7 @@
 //! The hooks of a layer that can be exchanged: those of the layer inside, or nothing.
 ghost use Rattle.std.specs.Prelude.{false, None};
-ghost use Rattle.trace_base.specs.layers.Unseeing.{unseeing, LeavesLanes};
-ghost use Rattle.env_filter.specs.Reloading.{if_there, HoldsIfThere, Both, none_kept, sometimes, never_enabled, both_refl, both_trans, both_alike, both_keep, both_compose, both_see, both_lanes, both_passive};
+ghost use Rattle.trace_base.specs.layers.Unseeing.{no_known_spans, LeavesLanes};
+ghost use Rattle.env_filter.specs.Reloading.{layer_or, HoldsIfThere, Both, none_kept, sometimes, never_enabled, both_refl, both_trans, both_alike, both_keep, both_compose, both_see, both_lanes, both_passive};
 
 use crate::reload::Layer;
 use otel_base::enter_error::EnterError;
@@ -19,17 +19,17 @@ use trace_base::subscriber::Interest;
 impl<L: layer::Layer> layer::Layer for Layer<L> {
     type Ready = Option<L::Ready>;
 
-    ghost seen = { λ s. if_there unseeing L.seen s.inner };
+    ghost seen = { λ s. layer_or no_known_spans L.seen s.inner };
 
-    ghost kept = { λ s. if_there none_kept L.kept s.inner };
+    ghost kept = { λ s. layer_or none_kept L.kept s.inner };
 
-    ghost attaches = { λ s. if_there false L.attaches s.inner };
+    ghost attaches = { λ s. layer_or false L.attaches s.inner };
 
-    ghost interest = { λ s. if_there sometimes L.interest s.inner };
+    ghost interest = { λ s. layer_or sometimes L.interest s.inner };
 
-    ghost enables = { λ s. if_there never_enabled L.enables s.inner };
+    ghost enables = { λ s. layer_or never_enabled L.enables s.inner };
 
-    ghost hint = { λ s. if_there None L.hint s.inner };
+    ghost hint = { λ s. layer_or None L.hint s.inner };
 
     ghost is_whole = { λ s. HoldsIfThere L.is_whole s.inner };
 
@@ -43,7 +43,7 @@ impl<L: layer::Layer> layer::Layer for Layer<L> {
 
     ghost same_trans = { λ s t u h k. both_trans L.same L.same_trans s.inner t.inner u.inner h k };
 
-    ghost same_seen = { λ s t h. both_alike L.same (Unit {0}) unseeing L.seen L.same_seen s.inner t.inner h };
+    ghost same_seen = { λ s t h. both_alike L.same (Unit {0}) no_known_spans L.seen L.same_seen s.inner t.inner h };
 
     ghost same_kept = { λ s t h. both_alike L.same (Unit {0}) none_kept L.kept L.same_kept s.inner t.inner h };
 
@@ -220,11 +220,11 @@ impl<L: layer::Layer> layer::Layer for Layer<L> {
 
 /// It decides as the filter inside does. Retired it lets nothing through: it has to be asked each time, and says no.
 impl<L: Filter> Filter for Layer<L> {
-    ghost interest = { λ s. if_there sometimes L.interest s.inner };
+    ghost interest = { λ s. layer_or sometimes L.interest s.inner };
 
-    ghost enables = { λ s. if_there never_enabled L.enables s.inner };
+    ghost enables = { λ s. layer_or never_enabled L.enables s.inner };
 
-    ghost hint = { λ s. if_there None L.hint s.inner };
+    ghost hint = { λ s. layer_or None L.hint s.inner };
 
     fn enabled(&self, lane: u64, callsite: &Callsite) -> bool {
         match &self.inner {

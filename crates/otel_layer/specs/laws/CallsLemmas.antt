@@ -8,34 +8,34 @@ use Rattle.otel_base.specs.declared.context.SpanContext.{SpanContext}
 use Rattle.otel_base.specs.declared.memory.Memory.{Memory}
 use Rattle.otel_base.specs.Tracer.{TracerCall, Spares}
 use Rattle.otel_base.specs.Tracer.{Starts as CountsStarts}
-use Rattle.trace_base.specs.layers.Hooks.{Seen}
+use Rattle.trace_base.specs.layers.Hooks.{KnownSpans}
 use Rattle.trace_base.specs.Spans.{Spans}
 use Rattle.span_registry.specs.declared.layered.Layered.{Layered}
 use Rattle.otel_state.specs.declared.op.Op.{Op}
 use Rattle.otel_state.specs.declared.op.Op.TheVariants as ops
 use Rattle.otel_state.specs.declared.op.OpReply.{OpReply}
-use Rattle.otel_state.specs.States.{Told, changed}
-use Rattle.otel_layer.specs.Table.{told_at, with_op, waits, waiting_in}
+use Rattle.otel_state.specs.States.{SpanData, after_op}
+use Rattle.otel_layer.specs.Table.{data_at, with_op, waits, waiting_in}
 use Rattle.otel_layer.specs.Core.{Core, seen_in, kept_in, seen_by, IsWholeCore}
-use Rattle.otel_layer.specs.Steps.{StartsIf, Starts}
-use Rattle.otel_layer.specs.Parts.{PartCall, Applies, Shows, IsOutside, AppliesTo, context_at, Touches, ShowsIn, TellsIf, IsUnanswered, TouchesFirst, StaysLayer, StaysStack}
+use Rattle.otel_layer.specs.Steps.{StartsIf, StartsSpan}
+use Rattle.otel_layer.specs.Parts.{PartCall, Applies, Shows, IsOutside, AppliesTo, context_at, Touches, ShowsIn, AnswersCallIf, IsUnanswered, TouchesFirst, StaysLayer, StaysStack}
 use Rattle.otel_layer.specs.laws.HookLemmas.{Kin, update_keys, update_waiting_same, whole_kin, starts_kin}
 use Rattle.otel_layer.specs.laws.KnownSpansLemmas.{Quiet, starts_quiet}
 
 -- ---- what is told
 
-shows_tell : {T : Type 0} (does : T → TracerCall → T → Type 0) (under : Option Context) (c d : Core T) (id at : ℕ) (answer : Option Context) → StartsIf does under id at c d → answer ≡ context_at (told_at id d.spans)
+shows_tell : {T : Type 0} (does : T → TracerCall → T → Type 0) (under : Option Context) (c d : Core T) (id at : ℕ) (answer : Option Context) → StartsIf does under id at c d → answer ≡ context_at (data_at id d.spans)
     → ShowsIn under c.spans id at answer d.spans
 shows_tell does None c d id at answer starts is = (ap (λ x. x.spans) starts, is)
 shows_tell does (Some under) c d id at answer starts is = (starts.0, ap (λ x. x.spans) starts.2, is)
 
-pub touches_tell : {T : Type 0} (does : T → TracerCall → T → Type 0) (c : Core T) (call : PartCall) (d : Core T) → Touches does c call d → TellsIf (Some c.spans) call (Some d.spans)
+pub touches_tell : {T : Type 0} (does : T → TracerCall → T → Type 0) (c : Core T) (call : PartCall) (d : Core T) → Touches does c call d → AnswersCallIf (Some c.spans) call (Some d.spans)
 touches_tell does c (Applies id at op answer) d h = (d.spans, refl, h.1)
-touches_tell does c (Shows id at answer) d h = (d.spans, refl, shows_tell does (waits (told_at id c.spans)) c d id at answer h.0 h.1)
+touches_tell does c (Shows id at answer) d h = (d.spans, refl, shows_tell does (waits (data_at id c.spans)) c d id at answer h.0 h.1)
 
 -- ---- what stays of a layer
 
-outside_own : (op : Op) → IsOutside op → (told : Told) (at : ℕ) → (changed told at op).own ≡ told.own
+outside_own : (op : Op) → IsOutside op → (told : SpanData) (at : ℕ) → (after_op told at op).own ≡ told.own
 outside_own (ops.AddEvent event) h told at = refl
 outside_own (ops.Link link) h told at = refl
 outside_own (ops.SetAttribute pair) h told at = refl
@@ -48,12 +48,12 @@ outside_own (ops.Start own) h told at = absurd h
 outside_own ops.Enter h told at = absurd h
 outside_own ops.Exit h told at = absurd h
 
-applied_keeps : (o : Option Told) (spans now : List (ℕ × Told)) (id at : ℕ) (op : Op) (answer : Option (Result OpReply Memory)) → AppliesTo o spans id at op answer now → IsOutside op → (keys_of now ≡ keys_of spans) × (waiting_in now ≡ waiting_in spans)
-applied_keeps None spans now id at op answer h out = (ap (λ (xs : List (ℕ × Told)). keys_of xs) h.1, ap waiting_in h.1)
+applied_keeps : (o : Option SpanData) (spans now : List (ℕ × SpanData)) (id at : ℕ) (op : Op) (answer : Option (Result OpReply Memory)) → AppliesTo o spans id at op answer now → IsOutside op → (keys_of now ≡ keys_of spans) × (waiting_in now ≡ waiting_in spans)
+applied_keeps None spans now id at op answer h out = (ap (λ (xs : List (ℕ × SpanData)). keys_of xs) h.1, ap waiting_in h.1)
 applied_keeps (Some told) spans now id at op None h out = absurd h
 applied_keeps (Some told) spans now id at op (Some (Ok r)) h out =
-    (ap (λ (xs : List (ℕ × Told)). keys_of xs) h.1 ∙ update_keys id (λ t. changed t at op) spans, ap waiting_in h.1 ∙ update_waiting_same id (λ t. changed t at op) spans (λ t. outside_own op out t at))
-applied_keeps (Some told) spans now id at op (Some (Err memory)) h out = (ap (λ (xs : List (ℕ × Told)). keys_of xs) h.1, ap waiting_in h.1)
+    (ap (λ (xs : List (ℕ × SpanData)). keys_of xs) h.1 ∙ update_keys id (λ t. after_op t at op) spans, ap waiting_in h.1 ∙ update_waiting_same id (λ t. after_op t at op) spans (λ t. outside_own op out t at))
+applied_keeps (Some told) spans now id at op (Some (Err memory)) h out = (ap (λ (xs : List (ℕ × SpanData)). keys_of xs) h.1, ap waiting_in h.1)
 
 quiet_seen : {T : Type 0} (c d : Core T) → Quiet c d → seen_in d ≡ seen_in c
 quiet_seen c d q = ap (λ ks. seen_by ks d.tokens) q.keys ∙ ap (λ ts. seen_by (keys_of c.spans) ts) q.tokens
@@ -64,7 +64,7 @@ quiet_kept {T} c d q = ap (λ s. kept_in (let x : Core T = record d { settings =
 module _ {T : Type 0} (does : T → TracerCall → T → Type 0) (spare started : T → ℕ) (counts : (s : T) (call : TracerCall) (t : T) → does s call t → Spares (spare s) call (spare t) × CountsStarts (started s) call (started t)) where
   touched : (c : Core T) (call : PartCall) (d : Core T) → Touches does c call d → Kin spare started c d × Quiet c d
   touched c (Applies id at op answer) d h =
-      let same = applied_keeps (told_at id c.spans) c.spans d.spans id at op answer h.1 h.0 in
+      let same = applied_keeps (data_at id c.spans) c.spans d.spans id at op answer h.1 h.0 in
       let tracer = ap (λ x. x.tracer) h.2 in (
         record {
           keys = same.0;
@@ -108,15 +108,15 @@ module _ {L S : Type 0} (l_has : L → Bool) (s_has : S → Bool) (outer : L →
     pub first_has : (l : L) (s : S) (call : PartCall) (m : L) (t : S) → ((s : S) (call : PartCall) (t : S) → inner s call t → s_has t ≡ s_has s) → TouchesFirst (l_has l) outer inner l s call m t → (l_has m || s_has t) ≡ (l_has l || s_has s)
     first_has l s call m t s_keeps d = has_by (l_has l) l s call m t s_keeps d
 
-    module _ (l_told : L → Option (List (ℕ × Told))) (s_told : S → Option (List (ℕ × Told))) (l_tells : (l : L) (call : PartCall) (m : L) → outer l call m → TellsIf (l_told l) call (l_told m))
-        (s_tells : (s : S) (call : PartCall) (t : S) → inner s call t → TellsIf (s_told s) call (s_told t)) where
-      tells_by : (b : Bool) (l : L) (s : S) (call : PartCall) (m : L) (t : S) → l_has l ≡ b → TouchesFirst b outer inner l s call m t → TellsIf (if b then l_told l else s_told s) call (if l_has m then l_told m else s_told t)
+    module _ (l_told : L → Option (List (ℕ × SpanData))) (s_told : S → Option (List (ℕ × SpanData))) (l_tells : (l : L) (call : PartCall) (m : L) → outer l call m → AnswersCallIf (l_told l) call (l_told m))
+        (s_tells : (s : S) (call : PartCall) (t : S) → inner s call t → AnswersCallIf (s_told s) call (s_told t)) where
+      tells_by : (b : Bool) (l : L) (s : S) (call : PartCall) (m : L) (t : S) → l_has l ≡ b → TouchesFirst b outer inner l s call m t → AnswersCallIf (if b then l_told l else s_told s) call (if l_has m then l_told m else s_told t)
       tells_by true l s call m t is d =
-          subst (λ (o : Option (List (ℕ × Told))). TellsIf (l_told l) call o) (sym (cond-true {A = Option (List (ℕ × Told))} (l_has m) (l_told m) (s_told t) (l_keeps l call m d.0 ∙ is))) (l_tells l call m d.0)
+          subst (λ (o : Option (List (ℕ × SpanData))). AnswersCallIf (l_told l) call o) (sym (cond-true {A = Option (List (ℕ × SpanData))} (l_has m) (l_told m) (s_told t) (l_keeps l call m d.0 ∙ is))) (l_tells l call m d.0)
       tells_by false l s call m t is d =
-          subst (λ (o : Option (List (ℕ × Told))). TellsIf (s_told s) call o) (sym (cond-false {A = Option (List (ℕ × Told))} (l_has m) (l_told m) (s_told t) (ap l_has d.0 ∙ is))) (s_tells s call t d.1)
+          subst (λ (o : Option (List (ℕ × SpanData))). AnswersCallIf (s_told s) call o) (sym (cond-false {A = Option (List (ℕ × SpanData))} (l_has m) (l_told m) (s_told t) (ap l_has d.0 ∙ is))) (s_tells s call t d.1)
 
-      pub first_tells : (l : L) (s : S) (call : PartCall) (m : L) (t : S) → TouchesFirst (l_has l) outer inner l s call m t → TellsIf (if l_has l then l_told l else s_told s) call (if l_has m then l_told m else s_told t)
+      pub first_tells : (l : L) (s : S) (call : PartCall) (m : L) (t : S) → TouchesFirst (l_has l) outer inner l s call m t → AnswersCallIf (if l_has l then l_told l else s_told s) call (if l_has m then l_told m else s_told t)
       first_tells l s call m t d = tells_by (l_has l) l s call m t refl d
 
 pub layered_is : {L S : Type 0} (s t : Layered L S) → t.layer ≡ s.layer → t.inner ≡ s.inner → t ≡ s
@@ -124,14 +124,14 @@ layered_is {L} {S} s t l i = ap (λ (x : L). let r : Layered L S = record { laye
 
 -- ---- what stays of a stack
 
-pub still_layer : {L : Type 0} (seen : L → Seen) (kept : L → ℕ → ℕ → ℕ) (attaches : L → Bool) (is_whole : L → Type 0) (l m : L) → m ≡ l → StaysLayer seen kept attaches is_whole l m
+pub still_layer : {L : Type 0} (seen : L → KnownSpans) (kept : L → ℕ → ℕ → ℕ) (attaches : L → Bool) (is_whole : L → Type 0) (l m : L) → m ≡ l → StaysLayer seen kept attaches is_whole l m
 still_layer seen kept attaches is_whole l m e = record { seen_same = ap seen e; kept_same = ap kept e; attaches_same = ap attaches e; whole = λ w. subst is_whole (sym e) w }
 
 still_stack : {S : Type 0} (spans : S → Spans) (kept : S → ℕ → ℕ → ℕ) (attaches : S → Bool) (is_whole : S → Type 0) (s t : S) → t ≡ s → StaysStack spans kept attaches is_whole s t
 still_stack spans kept attaches is_whole s t e = record { spans_same = ap spans e; kept_same = ap kept e; attaches_same = ap attaches e; whole = λ w. subst is_whole (sym e) w }
 
 -- the part that isn't asked stays as it is
-pub first_stay : {L S : Type 0} (b : Bool) (outer : L → PartCall → L → Type 0) (inner : S → PartCall → S → Type 0) (seen : L → Seen) (kept : L → ℕ → ℕ → ℕ) (attaches : L → Bool) (is_whole : L → Type 0)
+pub first_stay : {L S : Type 0} (b : Bool) (outer : L → PartCall → L → Type 0) (inner : S → PartCall → S → Type 0) (seen : L → KnownSpans) (kept : L → ℕ → ℕ → ℕ) (attaches : L → Bool) (is_whole : L → Type 0)
     → (spans : S → Spans) (below : S → ℕ → ℕ → ℕ) (inner_attaches : S → Bool) (inner_whole : S → Type 0) (l : L) (s : S) (call : PartCall) (m : L) (t : S)
     → (outer l call m → StaysLayer seen kept attaches is_whole l m) → (inner s call t → StaysStack spans below inner_attaches inner_whole s t)
     → TouchesFirst b outer inner l s call m t → StaysLayer seen kept attaches is_whole l m × StaysStack spans below inner_attaches inner_whole s t

@@ -4,7 +4,7 @@ use Rattle.std.specs.Prelude.{if◌then◌else◌, ◌==◌, ◌||◌, unwrap_or
 use Rattle.std.specs.List.{list_any}
 use Rattle.std.proofs.lemmas.Bool.{cases_Bool, eqb-true, cond-true, cond-false}
 use Rattle.otel_base.specs.declared.context.Context.{Context}
-use Rattle.otel_base.specs.Stack.{has, without}
+use Rattle.otel_base.specs.Stack.{has_number, without_number}
 use Rattle.trace_base.specs.Spans.{without_last}
 use Rattle.trace_base.specs.layers.Hooks.{one_if}
 use Rattle.trace_base.proofs.Entering.{count_cons}
@@ -49,7 +49,7 @@ module _ {X : Type 0} (p : X → Bool) where
       ]
 
 pub count_without : (m number : ℕ) (live : List (ℕ × Context)) → 0 < count_by (λ item. item.0 == number) live
-    → count_by (λ item. item.0 == m) (without number live) + one_if (number == m) ≡ count_by (λ item. item.0 == m) live
+    → count_by (λ item. item.0 == m) (without_number number live) + one_if (number == m) ≡ count_by (λ item. item.0 == m) live
 count_without m number [] some = absurd (omega (arith, some))
 count_without m number (item ∷ live) some =
     let all = count_cons (λ (i : ℕ × Context). i.0 == m) item live in
@@ -57,23 +57,23 @@ count_without m number (item ∷ live) some =
     elim (cases_Bool (item.0 == number)) [
       | inl here ↦ (
           let is = ap (λ (n : ℕ). one_if (n == m)) (eqb-true item.0 number here) in
-          let gone = ap (λ (xs : List (ℕ × Context)). count_by (λ i. i.0 == m) xs) (cond-true {A = List (ℕ × Context)} (item.0 == number) live (item ∷ without number live) here) in
+          let gone = ap (λ (xs : List (ℕ × Context)). count_by (λ i. i.0 == m) xs) (cond-true {A = List (ℕ × Context)} (item.0 == number) live (item ∷ without_number number live) here) in
           omega (arith, all, is, gone))
       | inr apart ↦ (
           let no = cond-false {A = ℕ} (item.0 == number) 1 0 apart in
           let rest = count_without m number live (omega (arith, some, found, no)) in
-          let more = count_cons (λ (i : ℕ × Context). i.0 == m) item (without number live) in
-          let stays = ap (λ (xs : List (ℕ × Context)). count_by (λ i. i.0 == m) xs) (cond-false {A = List (ℕ × Context)} (item.0 == number) live (item ∷ without number live) apart) in
+          let more = count_cons (λ (i : ℕ × Context). i.0 == m) item (without_number number live) in
+          let stays = ap (λ (xs : List (ℕ × Context)). count_by (λ i. i.0 == m) xs) (cond-false {A = List (ℕ × Context)} (item.0 == number) live (item ∷ without_number number live) apart) in
           omega (arith, all, rest, more, stays))
     ]
 
-pub has_if_counted : (number : ℕ) (live : List (ℕ × Context)) → 0 < count_by (λ item. item.0 == number) live → has number live ≡ true
+pub has_if_counted : (number : ℕ) (live : List (ℕ × Context)) → 0 < count_by (λ item. item.0 == number) live → has_number number live ≡ true
 has_if_counted number [] some = absurd (omega (arith, some))
 has_if_counted number (item ∷ live) some =
     let found = count_cons (λ (i : ℕ × Context). i.0 == number) item live in
     elim (cases_Bool (item.0 == number)) [
-      | inl here ↦ ap (λ b. b || has number live) here
+      | inl here ↦ ap (λ b. b || has_number number live) here
       | inr apart ↦ (
           let no = cond-false {A = ℕ} (item.0 == number) 1 0 apart in
-          ap (λ b. b || has number live) apart ∙ has_if_counted number live (omega (arith, some, found, no)))
+          ap (λ b. b || has_number number live) apart ∙ has_if_counted number live (omega (arith, some, found, no)))
     ]

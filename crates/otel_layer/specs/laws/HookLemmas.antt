@@ -15,72 +15,72 @@ use Rattle.trace_base.specs.declared.span.Parent.{Parent}
 use Rattle.trace_base.specs.layers.Hooks.{Hook, OnNewSpan, OnRecord, OnFollows, OnEvent, OnEnter, OnExit, OnClose}
 use Rattle.otel_state.specs.declared.op.Op.{Op}
 use Rattle.otel_state.specs.declared.op.Op.TheVariants as ops
-use Rattle.otel_state.specs.States.{Told, changed, first_start, record_of}
+use Rattle.otel_state.specs.States.{SpanData, after_op, first_start, record_of}
 use Rattle.otel_state.specs.declared.settings.LayerSettings.{LayerSettings}
 use Rattle.otel_state.specs.fields.SpanFields.{span_update}
 use Rattle.trace_base.specs.declared.field.ValueSet.{ValueSet}
-use Rattle.otel_layer.specs.Table.{is_id, told_at, knows_span, update, with_op, one_waiting, waiting_in, waits_by, waits, ids_at}
+use Rattle.otel_layer.specs.Table.{is_id, data_at, knows_span, update, with_op, one_waiting, waiting_in, waits_by, waits, ids_at}
 use Rattle.otel_layer.specs.Core.{Core, IsWholeCore}
-use Rattle.otel_layer.specs.Steps.{Reserves, SameCore, StartsIf, Starts, StartsAny, above, around, context_from, MakesSpan, made_told, with_link, Events, all_events, EntersSpan, ExitsSpan, ClosesSpan, Step, DoesHook}
+use Rattle.otel_layer.specs.Steps.{Reserves, SameCore, StartsIf, StartsSpan, StartsAny, parent_source, around, context_from, MakesSpan, new_span_data, with_link, Events, all_events, EntersSpan, ExitsSpan, ClosesSpan, Step, DoesHook}
 
 -- one span changed
-pub update_keys : (id : ℕ) (f : Told → Told) (spans : List (ℕ × Told)) → keys_of (update id f spans) ≡ keys_of spans
+pub update_keys : (id : ℕ) (f : SpanData → SpanData) (spans : List (ℕ × SpanData)) → keys_of (update id f spans) ≡ keys_of spans
 update_keys id f [] = refl
 update_keys id f (e ∷ es) =
     elim (cases_Bool (e.0 == id)) [
-      | inl here ↦ ap (λ (xs : List (ℕ × Told)). keys_of xs) (cond-true {A = List (ℕ × Told)} (e.0 == id) ((e.0, f e.1) ∷ es) (e ∷ update id f es) here)
-      | inr apart ↦ ap (λ (xs : List (ℕ × Told)). keys_of xs) (cond-false {A = List (ℕ × Told)} (e.0 == id) ((e.0, f e.1) ∷ es) (e ∷ update id f es) apart) ∙ ap (λ ks. e.0 ∷ ks) (update_keys id f es)
+      | inl here ↦ ap (λ (xs : List (ℕ × SpanData)). keys_of xs) (cond-true {A = List (ℕ × SpanData)} (e.0 == id) ((e.0, f e.1) ∷ es) (e ∷ update id f es) here)
+      | inr apart ↦ ap (λ (xs : List (ℕ × SpanData)). keys_of xs) (cond-false {A = List (ℕ × SpanData)} (e.0 == id) ((e.0, f e.1) ∷ es) (e ∷ update id f es) apart) ∙ ap (λ ks. e.0 ∷ ks) (update_keys id f es)
     ]
 
-pub update_waiting_same : (id : ℕ) (f : Told → Told) (spans : List (ℕ × Told)) → ((told : Told) → (f told).own ≡ told.own) → waiting_in (update id f spans) ≡ waiting_in spans
+pub update_waiting_same : (id : ℕ) (f : SpanData → SpanData) (spans : List (ℕ × SpanData)) → ((told : SpanData) → (f told).own ≡ told.own) → waiting_in (update id f spans) ≡ waiting_in spans
 update_waiting_same id f [] keeps = refl
 update_waiting_same id f (e ∷ es) keeps =
     elim (cases_Bool (e.0 == id)) [
-      | inl here ↦ ap waiting_in (cond-true {A = List (ℕ × Told)} (e.0 == id) ((e.0, f e.1) ∷ es) (e ∷ update id f es) here) ∙ ap (λ o. one_waiting o + waiting_in es) (keeps e.1)
-      | inr apart ↦ ap waiting_in (cond-false {A = List (ℕ × Told)} (e.0 == id) ((e.0, f e.1) ∷ es) (e ∷ update id f es) apart) ∙ ap (λ n. one_waiting e.1.own + n) (update_waiting_same id f es keeps)
+      | inl here ↦ ap waiting_in (cond-true {A = List (ℕ × SpanData)} (e.0 == id) ((e.0, f e.1) ∷ es) (e ∷ update id f es) here) ∙ ap (λ o. one_waiting o + waiting_in es) (keeps e.1)
+      | inr apart ↦ ap waiting_in (cond-false {A = List (ℕ × SpanData)} (e.0 == id) ((e.0, f e.1) ∷ es) (e ∷ update id f es) apart) ∙ ap (λ n. one_waiting e.1.own + n) (update_waiting_same id f es keeps)
     ]
 
-pub update_waiting : (id : ℕ) (f : Told → Told) (spans : List (ℕ × Told)) (told : Told) → told_at id spans ≡ Some told → waiting_in (update id f spans) + one_waiting told.own ≡ waiting_in spans + one_waiting (f told).own
+pub update_waiting : (id : ℕ) (f : SpanData → SpanData) (spans : List (ℕ × SpanData)) (told : SpanData) → data_at id spans ≡ Some told → waiting_in (update id f spans) + one_waiting told.own ≡ waiting_in spans + one_waiting (f told).own
 update_waiting id f [] told is = absurd (cc)
 update_waiting id f (e ∷ es) told is =
     elim (cases_Bool (e.0 == id)) [
       | inl here ↦ (
-          let found = ap (λ o. unwrap_or o told) (sym (cond-true {A = Option Told} (e.0 == id) (Some e.1) (told_at id es) here) ∙ is) in
-          let now = ap waiting_in (cond-true {A = List (ℕ × Told)} (e.0 == id) ((e.0, f e.1) ∷ es) (e ∷ update id f es) here) in
-          let x = ap (λ (t : Told). one_waiting t.own) found in
-          let y = ap (λ (t : Told). one_waiting (f t).own) found in
+          let found = ap (λ o. unwrap_or o told) (sym (cond-true {A = Option SpanData} (e.0 == id) (Some e.1) (data_at id es) here) ∙ is) in
+          let now = ap waiting_in (cond-true {A = List (ℕ × SpanData)} (e.0 == id) ((e.0, f e.1) ∷ es) (e ∷ update id f es) here) in
+          let x = ap (λ (t : SpanData). one_waiting t.own) found in
+          let y = ap (λ (t : SpanData). one_waiting (f t).own) found in
           omega (arith, now, x, y))
       | inr apart ↦ (
-          let rest = update_waiting id f es told (sym (cond-false {A = Option Told} (e.0 == id) (Some e.1) (told_at id es) apart) ∙ is) in
-          let now = ap waiting_in (cond-false {A = List (ℕ × Told)} (e.0 == id) ((e.0, f e.1) ∷ es) (e ∷ update id f es) apart) in
+          let rest = update_waiting id f es told (sym (cond-false {A = Option SpanData} (e.0 == id) (Some e.1) (data_at id es) apart) ∙ is) in
+          let now = ap waiting_in (cond-false {A = List (ℕ × SpanData)} (e.0 == id) ((e.0, f e.1) ∷ es) (e ∷ update id f es) apart) in
           omega (arith, now, rest))
     ]
 
-pub removed_waiting : (id : ℕ) (spans : List (ℕ × Told)) → waiting_in (remove_entry (is_id id) spans) ≤ waiting_in spans
+pub removed_waiting : (id : ℕ) (spans : List (ℕ × SpanData)) → waiting_in (remove_entry (is_id id) spans) ≤ waiting_in spans
 removed_waiting id [] = omega arith
 removed_waiting id (e ∷ es) =
     elim (cases_Bool (e.0 == id)) [
-      | inl here ↦ (let now = ap waiting_in (cond-true {A = List (ℕ × Told)} (e.0 == id) es (e ∷ remove_entry (is_id id) es) here) in omega (arith, now))
+      | inl here ↦ (let now = ap waiting_in (cond-true {A = List (ℕ × SpanData)} (e.0 == id) es (e ∷ remove_entry (is_id id) es) here) in omega (arith, now))
       | inr apart ↦ (
           let rest = removed_waiting id es in
-          let now = ap waiting_in (cond-false {A = List (ℕ × Told)} (e.0 == id) es (e ∷ remove_entry (is_id id) es) apart) in
+          let now = ap waiting_in (cond-false {A = List (ℕ × SpanData)} (e.0 == id) es (e ∷ remove_entry (is_id id) es) apart) in
           omega (arith, now, rest))
     ]
 
-pub removed_length : (id : ℕ) (spans : List (ℕ × Told)) (told : Told) → told_at id spans ≡ Some told → length (remove_entry (is_id id) spans) + 1 ≡ length spans
+pub removed_length : (id : ℕ) (spans : List (ℕ × SpanData)) (told : SpanData) → data_at id spans ≡ Some told → length (remove_entry (is_id id) spans) + 1 ≡ length spans
 removed_length id [] told is = absurd (cc)
 removed_length id (e ∷ es) told is =
     elim (cases_Bool (e.0 == id)) [
-      | inl here ↦ (let now = ap (λ (xs : List (ℕ × Told)). length xs) (cond-true {A = List (ℕ × Told)} (e.0 == id) es (e ∷ remove_entry (is_id id) es) here) in omega (arith, now))
+      | inl here ↦ (let now = ap (λ (xs : List (ℕ × SpanData)). length xs) (cond-true {A = List (ℕ × SpanData)} (e.0 == id) es (e ∷ remove_entry (is_id id) es) here) in omega (arith, now))
       | inr apart ↦ (
-          let rest = removed_length id es told (sym (cond-false {A = Option Told} (e.0 == id) (Some e.1) (told_at id es) apart) ∙ is) in
-          let now = ap (λ (xs : List (ℕ × Told)). length xs) (cond-false {A = List (ℕ × Told)} (e.0 == id) es (e ∷ remove_entry (is_id id) es) apart) in
+          let rest = removed_length id es told (sym (cond-false {A = Option SpanData} (e.0 == id) (Some e.1) (data_at id es) apart) ∙ is) in
+          let now = ap (λ (xs : List (ℕ × SpanData)). length xs) (cond-false {A = List (ℕ × SpanData)} (e.0 == id) es (e ∷ remove_entry (is_id id) es) apart) in
           omega (arith, now, rest))
     ]
 
 -- events that start no span
 abbrev pub KeepsOwn : Events → Type 0
-KeepsOwn events = (settings : LayerSettings) (lane at : ℕ) (callsite : Callsite) (values : ValueSet) (told : Told) → (events settings lane at callsite values told).own ≡ told.own
+KeepsOwn events = (settings : LayerSettings) (lane at : ℕ) (callsite : Callsite) (values : ValueSet) (told : SpanData) → (events settings lane at callsite values told).own ≡ told.own
 
 pub all_keep_own : KeepsOwn all_events
 all_keep_own settings lane at callsite values told = refl
@@ -92,33 +92,33 @@ or_right_true false b h = h
 or_left_true : (a b : Bool) → a ≡ true → (a || b) ≡ true
 or_left_true a b h = ap (λ x. x || b) h
 
-pub removed_knows : (id other : ℕ) (spans : List (ℕ × Told)) → knows_span other (remove_entry (is_id id) spans) ≡ true → knows_span other spans ≡ true
+pub removed_knows : (id other : ℕ) (spans : List (ℕ × SpanData)) → knows_span other (remove_entry (is_id id) spans) ≡ true → knows_span other spans ≡ true
 removed_knows id other [] knows = knows
 removed_knows id other (e ∷ es) knows =
     elim (cases_Bool (e.0 == id)) [
       | inl here ↦ (
-          let rest = sym (ap (knows_span other) (cond-true {A = List (ℕ × Told)} (e.0 == id) es (e ∷ remove_entry (is_id id) es) here)) ∙ knows in
+          let rest = sym (ap (knows_span other) (cond-true {A = List (ℕ × SpanData)} (e.0 == id) es (e ∷ remove_entry (is_id id) es) here)) ∙ knows in
           or_right_true (e.0 == other) (knows_span other es) rest)
       | inr apart ↦ (
-          let rest = sym (ap (knows_span other) (cond-false {A = List (ℕ × Told)} (e.0 == id) es (e ∷ remove_entry (is_id id) es) apart)) ∙ knows in
+          let rest = sym (ap (knows_span other) (cond-false {A = List (ℕ × SpanData)} (e.0 == id) es (e ∷ remove_entry (is_id id) es) apart)) ∙ knows in
           elim (or_cases (e.0 == other) (knows_span other (remove_entry (is_id id) es)) rest) [
             | inl at ↦ or_left_true (e.0 == other) (knows_span other es) at
             | inr more ↦ or_right_true (e.0 == other) (knows_span other es) (removed_knows id other es more)
           ])
     ]
 
-pub removed_other : (id other : ℕ) (spans : List (ℕ × Told)) → knows_span other spans ≡ true → knows_span other (remove_entry (is_id id) spans) ≡ false → id ≡ other
+pub removed_other : (id other : ℕ) (spans : List (ℕ × SpanData)) → knows_span other spans ≡ true → knows_span other (remove_entry (is_id id) spans) ≡ false → id ≡ other
 removed_other id other [] knew not = absurd (true≢false (sym knew))
 removed_other id other (e ∷ es) knew not =
     elim (cases_Bool (e.0 == id)) [
       | inl here ↦ (
-          let rest = sym (ap (knows_span other) (cond-true {A = List (ℕ × Told)} (e.0 == id) es (e ∷ remove_entry (is_id id) es) here)) ∙ not in
+          let rest = sym (ap (knows_span other) (cond-true {A = List (ℕ × SpanData)} (e.0 == id) es (e ∷ remove_entry (is_id id) es) here)) ∙ not in
           elim (or_cases (e.0 == other) (knows_span other es) knew) [
             | inl at ↦ sym (eqb-true e.0 id here) ∙ eqb-true e.0 other at
             | inr more ↦ absurd (true≢false (sym more ∙ rest))
           ])
       | inr apart ↦ (
-          let rest = or_parts (e.0 == other) (knows_span other (remove_entry (is_id id) es)) (sym (ap (knows_span other) (cond-false {A = List (ℕ × Told)} (e.0 == id) es (e ∷ remove_entry (is_id id) es) apart)) ∙ not) in
+          let rest = or_parts (e.0 == other) (knows_span other (remove_entry (is_id id) es)) (sym (ap (knows_span other) (cond-false {A = List (ℕ × SpanData)} (e.0 == id) es (e ∷ remove_entry (is_id id) es) apart)) ∙ not) in
           elim (or_cases (e.0 == other) (knows_span other es) knew) [
             | inl at ↦ absurd (true≢false (sym at ∙ rest.0))
             | inr more ↦ removed_other id other es more rest.1
@@ -157,36 +157,36 @@ kin_trans spare started c d e a b = record {
   budget = (let x = a.budget in let y = b.budget in omega (arith, x, y));
 }
 
-op_kin : {T : Type 0} (spare started : T → ℕ) (c d : Core T) (id at : ℕ) (op : Op) → ((told : Told) → (changed told at op).own ≡ told.own)
+op_kin : {T : Type 0} (spare started : T → ℕ) (c d : Core T) (id at : ℕ) (op : Op) → ((told : SpanData) → (after_op told at op).own ≡ told.own)
     → d.spans ≡ with_op id at op c.spans → d.tracer ≡ c.tracer → d.settings ≡ c.settings → d.reserved ≡ c.reserved → d.made ≡ c.made → Kin spare started c d
 op_kin spare started c d id at op keeps spans tracer settings reserved made = record {
-  keys = ap (λ (xs : List (ℕ × Told)). keys_of xs) spans ∙ update_keys id (λ t. changed t at op) c.spans;
+  keys = ap (λ (xs : List (ℕ × SpanData)). keys_of xs) spans ∙ update_keys id (λ t. after_op t at op) c.spans;
   settings = settings;
   reserved = reserved;
   made = made;
   spares = (let h = ap spare tracer in omega (arith, h));
-  budget = (let h = ap started tracer in let w = ap waiting_in spans ∙ update_waiting_same id (λ t. changed t at op) c.spans keeps in omega (arith, h, w));
+  budget = (let h = ap started tracer in let w = ap waiting_in spans ∙ update_waiting_same id (λ t. after_op t at op) c.spans keeps in omega (arith, h, w));
 }
 
 waits_none : (own : Option SpanContext) (context under : Context) → waits_by own context ≡ Some under → own ≡ None
 waits_none None context under h = refl
 waits_none (Some own) context under h = absurd (cc)
 
-waits_some : (o : Option Told) (under : Context) → waits o ≡ Some under → (told : Told) × (o ≡ Some told) × (told.own ≡ None)
+waits_some : (o : Option SpanData) (under : Context) → waits o ≡ Some under → (told : SpanData) × (o ≡ Some told) × (told.own ≡ None)
 waits_some None under h = absurd (cc)
 waits_some (Some told) under h = (told, refl, waits_none told.own told.parent under h)
 
 module _ {T : Type 0} (does : T → TracerCall → T → Type 0) (spare started : T → ℕ) (counts : (s : T) (call : TracerCall) (t : T) → does s call t → Spares (spare s) call (spare t) × CountsStarts (started s) call (started t)) where
-  starts_if_kin : (under : Option Context) (id at : ℕ) (c d : Core T) → waits (told_at id c.spans) ≡ under → StartsIf does under id at c d → Kin spare started c d
+  starts_if_kin : (under : Option Context) (id at : ℕ) (c d : Core T) → waits (data_at id c.spans) ≡ under → StartsIf does under id at c d → Kin spare started c d
   starts_if_kin None id at c d is h = kin_same spare started c d h
   starts_if_kin (Some under) id at c d is h =
-      let w = waits_some (told_at id c.spans) under is in
+      let w = waits_some (data_at id c.spans) under is in
       let n = counts c.tracer (Start (ids_of under) h.0) d.tracer h.1 in
-      let less = update_waiting id (λ t. changed t at (ops.Start h.0)) c.spans w.0 w.1 in
+      let less = update_waiting id (λ t. after_op t at (ops.Start h.0)) c.spans w.0 w.1 in
       let none = ap one_waiting w.2 in
       let some = ap (λ (o : Option SpanContext). one_waiting (first_start o (Some h.0))) w.2 in
       record {
-        keys = ap (λ x. keys_of x.spans) h.2 ∙ update_keys id (λ t. changed t at (ops.Start h.0)) c.spans;
+        keys = ap (λ x. keys_of x.spans) h.2 ∙ update_keys id (λ t. after_op t at (ops.Start h.0)) c.spans;
         settings = ap (λ x. x.settings) h.2;
         reserved = ap (λ x. x.reserved) h.2;
         made = ap (λ x. x.made) h.2;
@@ -194,8 +194,8 @@ module _ {T : Type 0} (does : T → TracerCall → T → Type 0) (spare started 
         budget = (let now = ap (λ x. waiting_in x.spans) h.2 in let m = n.1 in omega (arith, less, none, some, now, m));
       }
 
-  pub starts_kin : (id at : ℕ) (c d : Core T) → Starts does id at c d → Kin spare started c d
-  starts_kin id at c d h = starts_if_kin (waits (told_at id c.spans)) id at c d refl h
+  pub starts_kin : (id at : ℕ) (c d : Core T) → StartsSpan does id at c d → Kin spare started c d
+  starts_kin id at c d h = starts_if_kin (waits (data_at id c.spans)) id at c d refl h
 
   pub any_kin : (o : Option ℕ) (at : ℕ) (c d : Core T) → StartsAny does o at c d → Kin spare started c d
   any_kin None at c d h = kin_same spare started c d h
@@ -219,11 +219,11 @@ module _ {T : Type 0} (does : T → TracerCall → T → Type 0) (spare started 
   link_kin (Some context) id at c d e =
       op_kin spare started c d id at (ops.Link (record { context = context; attributes = [] })) (λ t. refl) (ap (λ x. x.spans) e) (ap (λ x. x.tracer) e) (ap (λ x. x.settings) e) (ap (λ x. x.reserved) e) (ap (λ x. x.made) e)
 
-  one_op_kin : (c d : Core T) (id at : ℕ) (op : Op) → ((told : Told) → (changed told at op).own ≡ told.own) → d ≡ record c { spans = with_op id at op c.spans } → Kin spare started c d
+  one_op_kin : (c d : Core T) (id at : ℕ) (op : Op) → ((told : SpanData) → (after_op told at op).own ≡ told.own) → d ≡ record c { spans = with_op id at op c.spans } → Kin spare started c d
   one_op_kin c d id at op keeps e =
       op_kin spare started c d id at op keeps (ap (λ x. x.spans) e) (ap (λ x. x.tracer) e) (ap (λ x. x.settings) e) (ap (λ x. x.reserved) e) (ap (λ x. x.made) e)
 
-  event_kin : (c d : Core T) (id : ℕ) (f : Told → Told) → ((told : Told) → (f told).own ≡ told.own) → d ≡ record c { spans = update id f c.spans } → Kin spare started c d
+  event_kin : (c d : Core T) (id : ℕ) (f : SpanData → SpanData) → ((told : SpanData) → (f told).own ≡ told.own) → d ≡ record c { spans = update id f c.spans } → Kin spare started c d
   event_kin c d id f keeps e = record {
     keys = ap (λ x. keys_of x.spans) e ∙ update_keys id f c.spans;
     settings = ap (λ x. x.settings) e;
@@ -243,22 +243,22 @@ module _ {T : Type 0} (does : T → TracerCall → T → Type 0) (spare started 
       op_kin spare started c d id at ops.Exit (λ t. refl) (ap (λ x. x.spans) h.rest) (ap (λ x. x.tracer) h.rest) (ap (λ x. x.settings) h.rest) (ap (λ x. x.reserved) h.rest) (ap (λ x. x.made) h.rest)
 
   -- what is whole stays whole
-  waiting_push : (spans : List (ℕ × Told)) (e : ℕ × Told) → waiting_in (spans ++ e ∷ []) ≡ waiting_in spans + one_waiting e.1.own
+  waiting_push : (spans : List (ℕ × SpanData)) (e : ℕ × SpanData) → waiting_in (spans ++ e ∷ []) ≡ waiting_in spans + one_waiting e.1.own
   waiting_push [] e = omega arith
   waiting_push (x ∷ spans) e = (let rest = waiting_push spans e in omega (arith, rest))
 
   makes_whole : (c d : Core T) (id : ℕ) (lane : Lane) (at : ℕ) (place : Parent) (current : Option ℕ) (callsite : Callsite) (values : ValueSet) → MakesSpan does c id lane at place current callsite values d → IsWholeCore spare started c → IsWholeCore spare started d
   makes_whole c d id lane at place current callsite values h w =
-      let k = any_kin (above c.settings.activation place current) at c h.between h.starts in
+      let k = any_kin (parent_source c.settings.activation place current) at c h.between h.starts in
       let v = whole_kin c h.between k w in
       let b = h.between in
-      let new : ℕ × Told = (id, made_told callsite lane values (context_from b.spans (around lane place) (above c.settings.activation place current)) at c.settings c.counting) in
+      let new : ℕ × SpanData = (id, new_span_data callsite lane values (context_from b.spans (around lane place) (parent_source c.settings.activation place current)) at c.settings c.counting) in
       let spans = ap (λ x. x.spans) h.rest in
       let tracer = ap (λ x. spare x.tracer) h.rest in
       let begins = ap (λ x. started x.tracer) h.rest in
       let r = ap (λ x. x.reserved) h.rest in
       let m = ap (λ x. x.made) h.rest in
-      let len = ap (λ (xs : List (ℕ × Told)). length xs) spans ∙ length-append b.spans (new ∷ []) in
+      let len = ap (λ (xs : List (ℕ × SpanData)). length xs) spans ∙ length-append b.spans (new ∷ []) in
       let lenb = sym (length-keys_of b.spans) ∙ ap (λ (xs : List ℕ). length xs) k.keys ∙ length-keys_of c.spans in
       let one = ap waiting_in spans ∙ waiting_push b.spans new in
       let spares = v.spares in
@@ -278,7 +278,7 @@ module _ {T : Type 0} (does : T → TracerCall → T → Type 0) (spare started 
       let spans = ap (λ x. x.spans) h.rest in
       let r = ap (λ x. x.reserved) h.rest in
       let m = ap (λ x. x.made) h.rest in
-      let len = ap (λ (xs : List (ℕ × Told)). length xs) spans in
+      let len = ap (λ (xs : List (ℕ × SpanData)). length xs) spans in
       let less = removed_length id b.spans h.told h.is in
       let wait = ap waiting_in spans in
       let fewer = removed_waiting id b.spans in
@@ -322,7 +322,7 @@ module _ {T : Type 0} (does : T → TracerCall → T → Type 0) (spare started 
     pub step_whole : (c : Core T) (hook : Hook) (d : Core T) → Step does events c hook d → IsWholeCore spare started c → IsWholeCore spare started d
     step_whole c (OnNewSpan id lane at place current callsite values) d h w = makes_whole c d id lane at place current callsite values h w
     step_whole c (OnRecord id at callsite values) d h w = whole_kin c d (one_op_kin c d id at (ops.Update (span_update callsite values c.settings)) (λ t. refl) h) w
-    step_whole c (OnFollows id from at) d h w = whole_kin c d (kin_trans spare started c h.between d (starts_kin from at c h.between h.starts) (link_kin (ids_at (told_at from h.between.spans)) id at h.between d h.rest)) w
+    step_whole c (OnFollows id from at) d h w = whole_kin c d (kin_trans spare started c h.between d (starts_kin from at c h.between h.starts) (link_kin (ids_at (data_at from h.between.spans)) id at h.between d h.rest)) w
     step_whole c (OnEvent None lane at callsite values) d h w = whole_kin c d (kin_same spare started c d h) w
     step_whole c (OnEvent (Some id) lane at callsite values) d h w = whole_kin c d (event_kin c d id (events c.settings lane.id at callsite values) (keeps c.settings lane.id at callsite values) h) w
     step_whole c (OnEnter id at before later) d h w =

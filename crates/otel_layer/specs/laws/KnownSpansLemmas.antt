@@ -12,18 +12,18 @@ use Rattle.otel_base.specs.Tracer.{TracerCall}
 use Rattle.trace_base.specs.declared.callsite.Callsite.{Callsite}
 use Rattle.trace_base.specs.declared.lane.Lane.{Lane}
 use Rattle.trace_base.specs.declared.span.Parent.{Parent}
-use Rattle.trace_base.specs.layers.Hooks.{Hook, OnNewSpan, OnRecord, OnFollows, OnEvent, OnEnter, OnExit, OnClose, Seen, Sees, comes, goes, one_if}
+use Rattle.trace_base.specs.layers.Hooks.{Hook, OnNewSpan, OnRecord, OnFollows, OnEvent, OnEnter, OnExit, OnClose, KnownSpans, Sees, comes, goes, one_if}
 use Rattle.trace_base.proofs.Entering.{count_push}
 use Rattle.trace_base.specs.Spans.{without_last}
 use Rattle.otel_state.specs.Stack.{last_passing}
 use Rattle.otel_state.specs.declared.op.Op.{Op}
 use Rattle.otel_state.specs.declared.op.Op.TheVariants as ops
 use Rattle.otel_layer.specs.declared.tokens.Token.{Token}
-use Rattle.otel_state.specs.States.{Told, changed}
+use Rattle.otel_state.specs.States.{SpanData, after_op}
 use Rattle.otel_state.specs.fields.SpanFields.{span_update}
-use Rattle.otel_layer.specs.Table.{is_id, told_at, knows_span, update, with_op, waits, ids_at}
+use Rattle.otel_layer.specs.Table.{is_id, data_at, knows_span, update, with_op, waits, ids_at}
 use Rattle.otel_layer.specs.Core.{Core, is_token, entries_by, seen_by, seen_in}
-use Rattle.otel_layer.specs.Steps.{StartsIf, Starts, StartsAny, above, around, context_from, made_told, with_link, FollowsSpan, Events, EntersSpan, ExitsSpan, Step, DoesHook}
+use Rattle.otel_layer.specs.Steps.{StartsIf, StartsSpan, StartsAny, parent_source, around, context_from, new_span_data, with_link, FollowsSpan, Events, EntersSpan, ExitsSpan, Step, DoesHook}
 use Rattle.otel_layer.specs.laws.CountsLemmas.{last_passes, last_counted}
 use Rattle.otel_layer.specs.laws.HookLemmas.{update_keys, removed_knows, removed_other}
 
@@ -34,7 +34,7 @@ starts_if_tokens does (Some under) id at c d h = ap (λ x. x.tokens) h.2
 
 starts_if_keys : {T : Type 0} (does : T → TracerCall → T → Type 0) (under : Option Context) (id at : ℕ) (c d : Core T) → StartsIf does under id at c d → keys_of d.spans ≡ keys_of c.spans
 starts_if_keys does None id at c d h = ap (λ x. keys_of x.spans) h
-starts_if_keys does (Some under) id at c d h = ap (λ x. keys_of x.spans) h.2 ∙ update_keys id (λ t. changed t at (ops.Start h.0)) c.spans
+starts_if_keys does (Some under) id at c d h = ap (λ x. keys_of x.spans) h.2 ∙ update_keys id (λ t. after_op t at (ops.Start h.0)) c.spans
 
 starts_if_settings : {T : Type 0} (does : T → TracerCall → T → Type 0) (under : Option Context) (id at : ℕ) (c d : Core T) → StartsIf does under id at c d → d.settings ≡ c.settings
 starts_if_settings does None id at c d h = ap (λ x. x.settings) h
@@ -46,9 +46,9 @@ pub record Quiet {T : Type 0} (c d : Core T) : Type 0 where
   pub tokens : d.tokens ≡ c.tokens
   pub settings : d.settings ≡ c.settings
 
-pub starts_quiet : {T : Type 0} (does : T → TracerCall → T → Type 0) (id at : ℕ) (c d : Core T) → Starts does id at c d → Quiet c d
+pub starts_quiet : {T : Type 0} (does : T → TracerCall → T → Type 0) (id at : ℕ) (c d : Core T) → StartsSpan does id at c d → Quiet c d
 starts_quiet does id at c d h =
-    let under = waits (told_at id c.spans) in
+    let under = waits (data_at id c.spans) in
     record { keys = starts_if_keys does under id at c d h; tokens = starts_if_tokens does under id at c d h; settings = starts_if_settings does under id at c d h }
 
 pub any_quiet : {T : Type 0} (does : T → TracerCall → T → Type 0) (o : Option ℕ) (at : ℕ) (c d : Core T) → StartsAny does o at c d → Quiet c d
@@ -56,14 +56,14 @@ any_quiet does None at c d h = record { keys = ap (λ x. keys_of x.spans) h; tok
 any_quiet does (Some id) at c d h = starts_quiet does id at c d h
 
 pub op_quiet : {T : Type 0} (c d : Core T) (id at : ℕ) (op : Op) → d ≡ record c { spans = with_op id at op c.spans } → Quiet c d
-op_quiet c d id at op e = record { keys = ap (λ x. keys_of x.spans) e ∙ update_keys id (λ t. changed t at op) c.spans; tokens = ap (λ x. x.tokens) e; settings = ap (λ x. x.settings) e }
+op_quiet c d id at op e = record { keys = ap (λ x. keys_of x.spans) e ∙ update_keys id (λ t. after_op t at op) c.spans; tokens = ap (λ x. x.tokens) e; settings = ap (λ x. x.settings) e }
 
-pub update_quiet : {T : Type 0} (c d : Core T) (id : ℕ) (f : Told → Told) → d ≡ record c { spans = update id f c.spans } → Quiet c d
+pub update_quiet : {T : Type 0} (c d : Core T) (id : ℕ) (f : SpanData → SpanData) → d ≡ record c { spans = update id f c.spans } → Quiet c d
 update_quiet c d id f e = record { keys = ap (λ x. keys_of x.spans) e ∙ update_keys id f c.spans; tokens = ap (λ x. x.tokens) e; settings = ap (λ x. x.settings) e }
 
-link_keys : (o : Option SpanContext) (id at : ℕ) (spans : List (ℕ × Told)) → keys_of (with_link id at o spans) ≡ keys_of spans
+link_keys : (o : Option SpanContext) (id at : ℕ) (spans : List (ℕ × SpanData)) → keys_of (with_link id at o spans) ≡ keys_of spans
 link_keys None id at spans = refl
-link_keys (Some context) id at spans = update_keys id (λ t. changed t at (ops.Link (record { context = context; attributes = [] }))) spans
+link_keys (Some context) id at spans = update_keys id (λ t. after_op t at (ops.Link (record { context = context; attributes = [] }))) spans
 
 quiet_trans : {T : Type 0} (c d e : Core T) → Quiet c d → Quiet d e → Quiet c e
 quiet_trans c d e a b = record { keys = b.keys ∙ a.keys; tokens = b.tokens ∙ a.tokens; settings = b.settings ∙ a.settings }
@@ -72,7 +72,7 @@ pub follows_quiet : {T : Type 0} (does : T → TracerCall → T → Type 0) (c d
 follows_quiet does c d id from at h =
     let b = h.between in
     quiet_trans c b d (starts_quiet does from at c b h.starts)
-    (record { keys = ap (λ x. keys_of x.spans) h.rest ∙ link_keys (ids_at (told_at from b.spans)) id at b.spans; tokens = ap (λ x. x.tokens) h.rest; settings = ap (λ x. x.settings) h.rest })
+    (record { keys = ap (λ x. keys_of x.spans) h.rest ∙ link_keys (ids_at (data_at from b.spans)) id at b.spans; tokens = ap (λ x. x.tokens) h.rest; settings = ap (λ x. x.settings) h.rest })
 
 pub same_quiet : {T : Type 0} (c d : Core T) → d ≡ c → Quiet c d
 same_quiet c d h = record { keys = ap (λ x. keys_of x.spans) h; tokens = ap (λ x. x.tokens) h; settings = ap (λ x. x.settings) h }
@@ -110,10 +110,10 @@ makes_sees ids now tokens left id lane at place current callsite values more sam
   unknown = λ l other not. ap (λ (ts : List Token). entries_by ts l other) same;
 }
 
-closes_sees : (spans now : List (ℕ × Told)) (tokens left : List Token) (id at : ℕ) → now ≡ remove_entry (is_id id) spans → left ≡ tokens → Sees (seen_by (keys_of spans) tokens) (OnClose id at) (seen_by (keys_of now) left)
+closes_sees : (spans now : List (ℕ × SpanData)) (tokens left : List Token) (id at : ℕ) → now ≡ remove_entry (is_id id) spans → left ≡ tokens → Sees (seen_by (keys_of spans) tokens) (OnClose id at) (seen_by (keys_of now) left)
 closes_sees spans now tokens left id at less same = record {
-  gains = λ other knows not. absurd (true≢false (sym (removed_knows id other spans (sym (ap (λ (xs : List (ℕ × Told)). knows_span other xs) less) ∙ knows)) ∙ not));
-  loses = λ other knew not. eq-eqb id other (removed_other id other spans knew (sym (ap (λ (xs : List (ℕ × Told)). knows_span other xs) less) ∙ not));
+  gains = λ other knows not. absurd (true≢false (sym (removed_knows id other spans (sym (ap (λ (xs : List (ℕ × SpanData)). knows_span other xs) less) ∙ knows)) ∙ not));
+  loses = λ other knew not. eq-eqb id other (removed_other id other spans knew (sym (ap (λ (xs : List (ℕ × SpanData)). knows_span other xs) less) ∙ not));
   known = λ l other knew. (let e = ap (λ (ts : List Token). entries_by ts l other) same in omega (arith, e));
   unknown = λ l other not. ap (λ (ts : List Token). entries_by ts l other) same;
 }
@@ -143,7 +143,7 @@ enters_sees : {T : Type 0} (does : T → TracerCall → T → Type 0) (c d : Cor
 enters_sees does c d id at before later known h =
     let b = h.between in
     let q = any_quiet does (if c.settings.activation then Some id else None) at c b h.starts in
-    let keys = ap (λ x. keys_of x.spans) h.rest ∙ update_keys id (λ t. changed t at ops.Enter) b.spans ∙ q.keys in
+    let keys = ap (λ x. keys_of x.spans) h.rest ∙ update_keys id (λ t. after_op t at ops.Enter) b.spans ∙ q.keys in
     let tokens = ap (λ x. x.tokens) h.rest ∙ ap (λ (ts : List Token). ts ++ record { lane = before.id; id = id; attached = h.attached } ∷ []) q.tokens in
     let moves = enters_entries c.tokens d.tokens id before h.attached tokens in
     moved_sees (keys_of c.spans) (keys_of d.spans) c.tokens d.tokens (OnEnter id at before later) keys (λ lane other knew. (let e = moves lane other in omega (arith, e)))
@@ -155,7 +155,7 @@ enters_sees does c d id at before later known h =
 exits_sees : {T : Type 0} (c d : Core T) (id at : ℕ) (before later : Lane) → knows_span id c.spans ≡ true → ExitsSpan c id at before later d
     → Sees (seen_in c) (OnExit id at before later) (seen_in d)
 exits_sees c d id at before later known h =
-    let keys = ap (λ x. keys_of x.spans) h.rest ∙ update_keys id (λ t. changed t at ops.Exit) c.spans in
+    let keys = ap (λ x. keys_of x.spans) h.rest ∙ update_keys id (λ t. after_op t at ops.Exit) c.spans in
     let moves = exits_entries c.tokens h.token id before h.last in
     let now = λ (lane other : ℕ). ap (λ x. entries_by x.tokens lane other) h.rest in
     moved_sees (keys_of c.spans) (keys_of d.spans) c.tokens d.tokens (OnExit id at before later) keys (λ lane other knew. (let e = moves lane other in let n = now lane other in omega (arith, e, n)))
@@ -192,11 +192,11 @@ nothing_sees_exit c d id at before later not h =
 step_sees : {T : Type 0} (does : T → TracerCall → T → Type 0) (events : Events) (c : Core T) (hook : Hook) (d : Core T) → Step does events c hook d → Sees (seen_in c) hook (seen_in d)
 step_sees does events c (OnNewSpan id lane at place current callsite values) d h =
     let b = h.between in
-    let q = any_quiet does (above c.settings.activation place current) at c b h.starts in
+    let q = any_quiet does (parent_source c.settings.activation place current) at c b h.starts in
     let r = any_quiet does (if c.settings.eager then Some id else None) at h.added d h.begins in
-    let new : ℕ × Told = (id, made_told callsite lane values (context_from b.spans (around lane place) (above c.settings.activation place current)) at c.settings c.counting) in
+    let new : ℕ × SpanData = (id, new_span_data callsite lane values (context_from b.spans (around lane place) (parent_source c.settings.activation place current)) at c.settings c.counting) in
     makes_sees (keys_of c.spans) (keys_of d.spans) c.tokens d.tokens id lane at place current callsite values
-    (r.keys ∙ ap (λ x. keys_of x.spans) h.rest ∙ map-append (λ (e : ℕ × Told). e.0) b.spans (new ∷ []) ∙ ap (λ (ks : List ℕ). ks ++ id ∷ []) q.keys) (r.tokens ∙ ap (λ x. x.tokens) h.rest ∙ q.tokens)
+    (r.keys ∙ ap (λ x. keys_of x.spans) h.rest ∙ map-append (λ (e : ℕ × SpanData). e.0) b.spans (new ∷ []) ∙ ap (λ (ks : List ℕ). ks ++ id ∷ []) q.keys) (r.tokens ∙ ap (λ x. x.tokens) h.rest ∙ q.tokens)
 step_sees does events c (OnRecord id at callsite values) d h = quiet_sees c d (OnRecord id at callsite values) (op_quiet c d id at (ops.Update (span_update callsite values c.settings)) h) (λ lane other. (refl, refl))
 step_sees does events c (OnFollows id from at) d h = quiet_sees c d (OnFollows id from at) (follows_quiet does c d id from at h) (λ lane other. (refl, refl))
 step_sees does events c (OnEvent None lane at callsite values) d h = quiet_sees c d (OnEvent None lane at callsite values) (same_quiet c d h) (λ l other. (refl, refl))
@@ -219,7 +219,7 @@ step_sees does events c (OnClose id at) d h =
           let q = starts_quiet does id at c b x.starts in
           let s = closes_sees b.spans d.spans b.tokens d.tokens id at (ap (λ y. y.spans) x.rest) (ap (λ y. y.tokens) x.rest) in
           let seen_is : seen_by (keys_of b.spans) b.tokens ≡ seen_in c = ap (λ (ks : List ℕ). seen_by ks b.tokens) q.keys ∙ ap (λ (ts : List Token). seen_by (keys_of c.spans) ts) q.tokens in
-          subst (λ (k : Seen). Sees k (OnClose id at) (seen_in d)) seen_is s)
+          subst (λ (k : KnownSpans). Sees k (OnClose id at) (seen_in d)) seen_is s)
       | inr unknown ↦ quiet_sees c d (OnClose id at) (same_quiet c d (h.isnt unknown)) (λ lane other. (refl, refl))
     ]
 

@@ -14,9 +14,9 @@ use Rattle.otel_state.specs.declared.op.Op.TheVariants as ops
 use Rattle.otel_layer.specs.declared.tokens.Token.{Token}
 use Rattle.otel_state.specs.declared.settings.LayerSettings.{LayerSettings}
 use Rattle.otel_state.specs.fields.SpanFields.{span_update}
-use Rattle.otel_layer.specs.Table.{told_at, knows_span, own_or}
+use Rattle.otel_layer.specs.Table.{data_at, knows_span, own_or}
 use Rattle.otel_layer.specs.Core.{Core, is_token, is_number, keeps_as, kept_by, kept_in}
-use Rattle.otel_layer.specs.Steps.{above, Events, LeavesLane, EntersLane, Step, DoesHook}
+use Rattle.otel_layer.specs.Steps.{parent_source, Events, DetachesOwn, EntersLane, Step, DoesHook}
 use Rattle.otel_base.specs.Stack.{empty_context}
 use Rattle.otel_layer.specs.laws.CountsLemmas.{last_passes, last_counted, count_without}
 use Rattle.otel_layer.specs.laws.KnownSpansLemmas.{Quiet, starts_quiet, any_quiet, op_quiet, update_quiet, follows_quiet, same_quiet}
@@ -62,7 +62,7 @@ enter_lanes true own tokens left id before later attached a more = (
       ]),
 )
 
-exit_lane : (o : Option ℕ) (tokens : List Token) (token : Token) (id : ℕ) (before later : Lane) → token.attached ≡ o → last_passing (is_token before.id id) tokens ≡ Some token → LeavesLane o before later
+exit_lane : (o : Option ℕ) (tokens : List Token) (token : Token) (id : ℕ) (before later : Lane) → token.attached ≡ o → last_passing (is_token before.id id) tokens ≡ Some token → DetachesOwn o before later
     → KeepsLane true before later × KeepsAttached (kept_by true tokens) before later (kept_by true (without_last (is_token before.id id) tokens))
 exit_lane None tokens token id before later is last e =
     kept_quiet true tokens (without_last (is_token before.id id) tokens) before later
@@ -95,7 +95,7 @@ exit_lane (Some n) tokens token id before later is last d = (
       ]),
 )
 
-exit_lanes : (attaches : Bool) (tokens : List Token) (token : Token) (id : ℕ) (before later : Lane) → last_passing (is_token before.id id) tokens ≡ Some token → LeavesLane (if attaches then token.attached else None) before later
+exit_lanes : (attaches : Bool) (tokens : List Token) (token : Token) (id : ℕ) (before later : Lane) → last_passing (is_token before.id id) tokens ≡ Some token → DetachesOwn (if attaches then token.attached else None) before later
     → KeepsLane attaches before later × KeepsAttached (kept_by attaches tokens) before later (kept_by attaches (without_last (is_token before.id id) tokens))
 exit_lanes true tokens token id before later last leaves = exit_lane token.attached tokens token id before later refl last leaves
 exit_lanes false tokens token id before later last leaves = kept_quiet false tokens (without_last (is_token before.id id) tokens) before later (λ lane number. refl) leaves
@@ -114,7 +114,7 @@ nothing_lanes c d before later e f = (
 
 step_lanes : {T : Type 0} (does : T → TracerCall → T → Type 0) (events : Events) (c : Core T) (hook : Hook) (d : Core T) → Step does events c hook d → HookLanes c.settings.activation (kept_in c) hook (kept_in d)
 step_lanes does events c (OnNewSpan id lane at place current callsite values) d h =
-    let q = any_quiet does (above c.settings.activation place current) at c h.between h.starts in
+    let q = any_quiet does (parent_source c.settings.activation place current) at c h.between h.starts in
     kept_is h.added d (any_quiet does (if c.settings.eager then Some id else None) at h.added d h.begins) ∙ ap (λ x. kept_in x) h.rest ∙ kept_is c h.between q
 step_lanes does events c (OnRecord id at callsite values) d h = kept_is c d (op_quiet c d id at (ops.Update (span_update callsite values c.settings)) h)
 step_lanes does events c (OnFollows id from at) d h = kept_is c d (follows_quiet does c d id from at h)
@@ -126,7 +126,7 @@ step_lanes does events c (OnEnter id at before later) d h =
           let x = h.is_known known in
           let q = any_quiet does (if c.settings.activation then Some id else None) at c x.between x.starts in
           let tokens = ap (λ y. y.tokens) x.rest ∙ ap (λ (ts : List Token). ts ++ record { lane = before.id; id = id; attached = x.attached } ∷ []) q.tokens in
-          let r = enter_lanes c.settings.activation (own_or empty_context (told_at id x.between.spans)) c.tokens d.tokens id before later x.attached x.lane tokens in
+          let r = enter_lanes c.settings.activation (own_or empty_context (data_at id x.between.spans)) c.tokens d.tokens id before later x.attached x.lane tokens in
           let a : d.settings ≡ c.settings = ap (λ y. y.settings) x.rest ∙ q.settings in
           subst (λ (s : LayerSettings). KeepsLane c.settings.activation before later × KeepsAttached (kept_in c) before later (kept_by s.activation d.tokens)) (sym a) r)
       | inr unknown ↦ nothing_lanes c d before later (h.isnt unknown).0 (h.isnt unknown).1
@@ -158,7 +158,7 @@ does_passive does events c id at before later d h unknown = ap (λ (l : Lane). l
 -- settings stay
 step_settings : {T : Type 0} (does : T → TracerCall → T → Type 0) (events : Events) (c : Core T) (hook : Hook) (d : Core T) → Step does events c hook d → d.settings ≡ c.settings
 step_settings does events c (OnNewSpan id lane at place current callsite values) d h =
-    (any_quiet does (if c.settings.eager then Some id else None) at h.added d h.begins).settings ∙ ap (λ x. x.settings) h.rest ∙ (any_quiet does (above c.settings.activation place current) at c h.between h.starts).settings
+    (any_quiet does (if c.settings.eager then Some id else None) at h.added d h.begins).settings ∙ ap (λ x. x.settings) h.rest ∙ (any_quiet does (parent_source c.settings.activation place current) at c h.between h.starts).settings
 step_settings does events c (OnRecord id at callsite values) d h = ap (λ x. x.settings) h
 step_settings does events c (OnFollows id from at) d h = (follows_quiet does c d id from at h).settings
 step_settings does events c (OnEvent None lane at callsite values) d h = ap (λ x. x.settings) h

@@ -14,7 +14,7 @@ use Rattle.otel_state.specs.declared.fields.event.Event.{Event}
 use Rattle.otel_state.specs.declared.op.Op.{Op}
 use Rattle.otel_state.specs.declared.op.Op.TheVariants as ops
 use Rattle.otel_state.specs.declared.settings.LayerSettings.{LayerSettings}
-use Rattle.otel_state.specs.fields.Fields.{by_name, with_text, with_number, wanted, location, level_attribute, target_attribute, plain_text, debug_text, as_exception, as_field}
+use Rattle.otel_state.specs.fields.Fields.{by_name, with_text, with_number, if_wanted, location, level_attribute, target_attribute, plain_text, debug_text, as_exception, as_field}
 
 -- each event tells its level and its target first; the name is empty while there is none
 abbrev pub begun_event : Callsite → Event
@@ -41,14 +41,14 @@ with_error settings e description = record e {
 }
 
 -- the field `message` names the event, and `error` is special while it has no name
-abbrev pub with_told : LayerSettings → Event → List ℕ → (text debug : List ℕ) → Event
-with_told settings e name text debug =
+abbrev pub with_field_text : LayerSettings → Event → List ℕ → (text debug : List ℕ) → Event
+with_field_text settings e name text debug =
     if bytes_eq name (codes "message") then record e { name = text } else
     if bytes_eq name (codes "error") && no_name e.name then with_error settings e debug else
     with_attribute e (with_text name text)
 
 abbrev pub with_texts : LayerSettings → Event → List ℕ → Option (List ℕ) → Option (List ℕ) → Event
-with_texts settings e name (Some text) (Some debug) = with_told settings e name text debug
+with_texts settings e name (Some text) (Some debug) = with_field_text settings e name text debug
 with_texts settings e name _ _ = e
 
 -- a truth value or a number: its own print names the event, or it is an attribute
@@ -62,8 +62,8 @@ bool_text false = codes "false"
 -- an error under any name, which may be an exception of the event and of the span
 abbrev pub with_error_value : LayerSettings → Event → (name message : List ℕ) → List (List ℕ) → Event
 with_error_value settings e name message chain = record e {
-  attributes = e.attributes ++ wanted settings.error_fields_to_exceptions (as_exception message chain) ++ as_field name message chain;
-  on_span = e.on_span ++ wanted settings.error_records_to_exceptions (as_exception message chain);
+  attributes = e.attributes ++ if_wanted settings.error_fields_to_exceptions (as_exception message chain) ++ as_field name message chain;
+  on_span = e.on_span ++ if_wanted settings.error_records_to_exceptions (as_exception message chain);
 }
 
 -- what a value tells under a name
@@ -82,12 +82,12 @@ abbrev pub name_or : List ℕ → List ℕ → List ℕ
 name_or name other = if no_name name then other else name
 
 -- the op of an event: without a name it has that of its callsite, and the location comes last
-abbrev pub finished : Event → Callsite → LayerSettings → ℕ → Op
-finished e c settings at =
+abbrev pub op_of_event : Event → Callsite → LayerSettings → ℕ → Op
+op_of_event e c settings at =
     ops.Event (is_error c.level)
     (record { name = None; kind = None; status = e.status; attributes = e.on_span })
-    (record { name = name_or e.name c.name; time = at; attributes = e.attributes ++ wanted settings.location (location c) })
+    (record { name = name_or e.name c.name; time = at; attributes = e.attributes ++ if_wanted settings.location (location c) })
 
 -- what an event of a callsite with some fields does at a moment
 abbrev pub event_of : Callsite → ValueSet → LayerSettings → ℕ → Op
-event_of c values settings at = finished (fold (by_name (with_field settings) c) (begun_event c) values.pairs) c settings at
+event_of c values settings at = op_of_event (fold (by_name (with_field settings) c) (begun_event c) values.pairs) c settings at

@@ -8,7 +8,7 @@ use Rattle.trace_base.specs.declared.callsite.Callsite.{Callsite}
 use Rattle.trace_base.specs.declared.field.Value.{Value}
 use Rattle.trace_base.specs.declared.field.Value.TheVariants as given
 use Rattle.trace_base.specs.words.Level.{level_text}
-use Rattle.trace_base.specs.words.Quote.{quoted}
+use Rattle.trace_base.specs.words.Quote.{in_quotes}
 
 -- what the value at a place of a callsite's fields makes of something; a place past the fields changes nothing
 abbrev pub by_name : {A : Type 0} → (A → List ℕ → Value → A) → Callsite → A → ℕ × Value → A
@@ -23,8 +23,8 @@ abbrev pub with_number : List ℕ → ℤ → KeyValue
 with_number key n = record { key = key; value = told.I64 n }
 
 -- some attributes, if they are wanted
-abbrev pub wanted : Bool → List KeyValue → List KeyValue
-wanted is_on attributes = if is_on then attributes else []
+abbrev pub if_wanted : Bool → List KeyValue → List KeyValue
+if_wanted is_on attributes = if is_on then attributes else []
 
 -- the attribute of a text, or of a number, if it is known
 abbrev pub known_text : List ℕ → Option (List ℕ) → List KeyValue
@@ -57,7 +57,7 @@ plain_text _ = None
 
 -- the same in debug form, in which a text is quoted
 abbrev pub debug_text : Value → Option (List ℕ)
-debug_text (given.Str text) = Some (quoted text)
+debug_text (given.Str text) = Some (in_quotes text)
 debug_text value = plain_text value
 
 -- ---- errors

@@ -5,7 +5,7 @@ use Rattle.trace_base.specs.declared.callsite.Callsite.{Callsite}
 use Rattle.trace_base.specs.declared.lane.Lane.{Lane}
 use Rattle.otel_state.specs.declared.times.TheConstants.{GREATEST}
 use Rattle.otel_state.specs.declared.settings.LayerSettings.{LayerSettings}
-use Rattle.otel_state.specs.fields.Fields.{with_number, wanted, known_text, location, level_attribute, target_attribute}
+use Rattle.otel_state.specs.fields.Fields.{with_number, if_wanted, known_text, location, level_attribute, target_attribute}
 
 -- a lane's id, which stands still at the greatest number of 63 bits, and its name if it has one
 abbrev pub lane_attributes : Lane → List KeyValue
@@ -13,7 +13,7 @@ lane_attributes lane = with_number (codes "thread.id") (pos (min lane.id GREATES
 
 abbrev pub first_attributes : Callsite → Lane → LayerSettings → List KeyValue
 first_attributes c lane settings =
-    wanted settings.location (location c)
-    ++ wanted settings.threads (lane_attributes lane)
-    ++ wanted settings.level (level_attribute c)
-    ++ wanted settings.target (target_attribute c)
+    if_wanted settings.location (location c)
+    ++ if_wanted settings.threads (lane_attributes lane)
+    ++ if_wanted settings.level (level_attribute c)
+    ++ if_wanted settings.target (target_attribute c)

@@ -1,7 +1,7 @@
 //! What the fields of an event tell.
 ghost use Rattle.std.specs.Prelude.{◌≡◌, ◌++◌, ◌∷◌, [], OnOk, IfOk};
 ghost use Rattle.otel_state.specs.fields.Fields.{by_name};
-ghost use Rattle.otel_state.specs.fields.EventFields.{begun_event, with_attribute, with_error, with_told, with_texts, with_printed, with_field, with_error_value, name_or, finished, event_of};
+ghost use Rattle.otel_state.specs.fields.EventFields.{begun_event, with_attribute, with_error, with_field_text, with_texts, with_printed, with_field, with_error_value, name_or, op_of_event, event_of};
 
 use crate::fields::first::{add_level, add_target};
 use crate::fields::{
@@ -71,7 +71,7 @@ fn finish(
     settings: &LayerSettings,
     at: Moment,
 ) -> Result<Op, Memory>
-    ensures { IfOk result (λ op. op ≡ finished event callsite.now settings.now at) }
+    ensures { IfOk result (λ op. op ≡ op_of_event event callsite.now settings.now at) }
 {
     let Event {
         name,
@@ -220,7 +220,7 @@ fn tell_text(
     debug: Text,
     settings: &LayerSettings,
 ) -> Result<(), Memory>
-    ensures { OnOk result (event.new ≡ with_told settings.now event.old name.now text debug) }
+    ensures { OnOk result (event.new ≡ with_field_text settings.now event.old name.now text debug) }
 {
     if name.as_str() == "message" {
         event.name = text;

@@ -1,6 +1,6 @@
 //! The attributes that a span has from its making.
 ghost use Rattle.std.specs.Prelude.{◌≡◌, ◌++◌, OnOk, IfOk};
-ghost use Rattle.otel_state.specs.fields.Fields.{wanted, level_attribute, target_attribute};
+ghost use Rattle.otel_state.specs.fields.Fields.{if_wanted, level_attribute, target_attribute};
 ghost use Rattle.otel_state.specs.fields.FirstAttributes.{first_attributes, lane_attributes};
 
 use crate::fields::{add_known_text, add_location, add_text};
@@ -39,7 +39,7 @@ fn add_lane(
     is_wanted: bool,
     lane: &Lane,
 ) -> Result<(), Memory>
-    ensures { OnOk result (attributes.new ≡ attributes.old ++ wanted is_wanted (lane_attributes lane.now)) }
+    ensures { OnOk result (attributes.new ≡ attributes.old ++ if_wanted is_wanted (lane_attributes lane.now)) }
 {
     if is_wanted {
         attributes.push(KeyValue {
@@ -58,7 +58,7 @@ pub(crate) fn add_level(
     is_wanted: bool,
     callsite: &Callsite,
 ) -> Result<(), Memory>
-    ensures { OnOk result (attributes.new ≡ attributes.old ++ wanted is_wanted (level_attribute callsite.now)) }
+    ensures { OnOk result (attributes.new ≡ attributes.old ++ if_wanted is_wanted (level_attribute callsite.now)) }
 {
     if is_wanted {
         let level = Text::fixed(alloc, callsite.level.word());
@@ -74,7 +74,7 @@ pub(crate) fn add_target(
     is_wanted: bool,
     callsite: &Callsite,
 ) -> Result<(), Memory>
-    ensures { OnOk result (attributes.new ≡ attributes.old ++ wanted is_wanted (target_attribute callsite.now)) }
+    ensures { OnOk result (attributes.new ≡ attributes.old ++ if_wanted is_wanted (target_attribute callsite.now)) }
 {
     if is_wanted {
         add_text(

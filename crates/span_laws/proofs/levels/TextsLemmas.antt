@@ -12,7 +12,7 @@ use Rattle.env_directives.specs.declared.env.directive.Directive.{Directive}
 use Rattle.env_directives.proofs.forms.FaultsLemmas.{Explained}
 use Rattle.env_directives.proofs.forms.ReadingsLemmas.{fault_is, reading_explained}
 use Rattle.env_filter.specs.declared.pieces.Ignored.{Ignored}
-use Rattle.env_filter.specs.texts.Pieces.{IsFirstFault, Reads, ReadsAll, ReadsText, is_memory}
+use Rattle.env_filter.specs.texts.Pieces.{IsFirstFault, ReadsPiece, ReadsAll, ReadsText, is_memory}
 use Rattle.span_script.specs.Admission.{TextRead, text_read}
 use Rattle.span_script.proofs.filter.TextsLemmas.{all_read, all_refused}
 
@@ -27,11 +27,11 @@ faulty text (fault.Fields many) is = (fault_is false text (Err (fault.Fields man
 faulty text fault.Memory is = absurd (subst (Explained (IsDirective false text) (HasNoLevel text) (HasEmptyField text)) is (reading_explained false text))
 
 -- each piece is read as something
-piece_read : (n : ℕ) (piece : List ℕ) → (ds : List Directive) × (is : List Ignored) × Reads false n piece ds is
+piece_read : (n : ℕ) (piece : List ℕ) → (ds : List Directive) × (is : List Ignored) × ReadsPiece false n piece ds is
 piece_read n [] = ([], [], tt)
 piece_read n (b ∷ bs) = by_read (reading false (trim (b ∷ bs))) refl
   where
-    by_read : (r : Read) → reading false (trim (b ∷ bs)) ≡ r → (ds : List Directive) × (is : List Ignored) × Reads false n (b ∷ bs) ds is
+    by_read : (r : Read) → reading false (trim (b ∷ bs)) ≡ r → (ds : List Directive) × (is : List Ignored) × ReadsPiece false n (b ∷ bs) ds is
     by_read (Ok d) is = (d ∷ [], [], subst (Explained (IsDirective false (trim (b ∷ bs))) (HasNoLevel (trim (b ∷ bs))) (HasEmptyField (trim (b ∷ bs)))) is (reading_explained false (trim (b ∷ bs))))
     by_read (Err cause) is =
         let has = faulty (trim (b ∷ bs)) cause is in

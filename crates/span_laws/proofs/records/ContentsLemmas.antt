@@ -6,9 +6,9 @@ use Rattle.otel_base.specs.declared.context.SpanContext.{SpanContext}
 use Rattle.otel_base.specs.declared.record.Record.{Record}
 use Rattle.otel_base.specs.declared.value.KeyValue.{KeyValue}
 use Rattle.otel_state.specs.Content.{attributes_of, counted_of, closing_count, closing_times}
-use Rattle.otel_state.specs.Deeds.{Stamped}
+use Rattle.otel_state.specs.Deeds.{TimedOp}
 use Rattle.otel_state.specs.Laws.{TellsTimes, was_entered}
-use Rattle.otel_state.specs.States.{Told, with_all}
+use Rattle.otel_state.specs.States.{SpanData, with_all}
 use Rattle.otel_state.specs.Times.{busy_of, last_exit, idle_of}
 use Rattle.otel_state.proofs.AddingUp.{tells_times}
 use Rattle.span_script.specs.Setups.{Setup}
@@ -20,13 +20,13 @@ with_all_is : {A : Type 0} (xs ys : List A) → with_all xs ys ≡ xs ++ ys
 with_all_is xs [] = sym (append-nil xs)
 with_all_is xs (y ∷ ys) = refl
 
-module _ (setup : Setup) (first : Told) (done : SpanContext → List Stamped) (place at : ℕ) (r : Record) (rec : IsEnding setup first done place at r) where
-  abbrev all : List Stamped
+module _ (setup : Setup) (first : SpanData) (done : SpanContext → List TimedOp) (place at : ℕ) (r : Record) (rec : IsEnding setup first done place at r) where
+  abbrev all : List TimedOp
   all = all_ops rec.making rec.began.update (done r.context)
 
   pub span_told : TellsSpan first.made (last_exit (done r.context)) at r
   span_told = record {
-    start = ap (λ (r : Record). r.start) rec.ends.is ∙ sym (ap (λ (t : Told). t.made) rec.began.is);
+    start = ap (λ (r : Record). r.start) rec.ends.is ∙ sym (ap (λ (t : SpanData). t.made) rec.began.is);
     end = ap (λ (r : Record). r.end) rec.ends.is;
   }
 
@@ -36,7 +36,7 @@ module _ (setup : Setup) (first : Told) (done : SpanContext → List Stamped) (p
       subst (λ (x : Record). TellsTimes (was_entered (done r.context)) (last_exit (done r.context)) x) (sym rec.ends.is) times
 
   first_attributes_are : first.attributes ≡ rec.making.first ++ rec.began.update.attributes
-  first_attributes_are = ap (λ (t : Told). t.attributes) rec.began.is ∙ with_all_is rec.making.first rec.began.update.attributes
+  first_attributes_are = ap (λ (t : SpanData). t.attributes) rec.began.is ∙ with_all_is rec.making.first rec.began.update.attributes
 
   regroup : (a b c d e : List KeyValue) → a ++ (b ++ c) ++ d ++ e ≡ (a ++ b) ++ c ++ d ++ e
   regroup a b c d e = simp append_assoc

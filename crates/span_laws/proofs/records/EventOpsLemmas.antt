@@ -7,24 +7,24 @@ use Rattle.otel_state.specs.declared.op.Op.TheVariants as ops
 use Rattle.trace_base.specs.declared.callsite.Callsite.{Callsite}
 use Rattle.span_script.specs.Admission.{text_filter}
 use Rattle.span_script.specs.calls.Here.{ops_on}
-use Rattle.span_script.specs.calls.Events.{counted_ops, if_told}
-use Rattle.span_script.specs.Tables.{Scope, Done}
+use Rattle.span_script.specs.calls.Events.{counted_ops, if_enabled}
+use Rattle.span_script.specs.Tables.{Scope, SpanOp}
 
 pub each_counted : (P : Op → Type 0) → P ops.Counted → (counting : Option (List ℕ)) (callsite : Callsite) (event : Op) → P event → AllByRecursion P (counted_ops counting callsite event)
 each_counted P count None callsite event own = (own, tt)
 each_counted P count (Some text) callsite event own = (count, by_flag (admits (text_filter text).statics.directives callsite))
   where
-    by_flag : (b : Bool) → AllByRecursion P (if_told b (event ∷ []))
+    by_flag : (b : Bool) → AllByRecursion P (if_enabled b (event ∷ []))
     by_flag true = (own, tt)
     by_flag false = tt
 
 -- of ops on a scope's own span
-pub each_on : (P : Op → Type 0) (Q : Done → Type 0) (scope : Scope) (given : List Op) → ((s : ℕ) (up : Scope) (op : Op) → scope ≡ s ∷ up → P op → Q (record { span = s; op = op })) → AllByRecursion P given → AllByRecursion Q (ops_on scope given)
+pub each_on : (P : Op → Type 0) (Q : SpanOp → Type 0) (scope : Scope) (given : List Op) → ((s : ℕ) (up : Scope) (op : Op) → scope ≡ s ∷ up → P op → Q (record { span = s; op = op })) → AllByRecursion P given → AllByRecursion Q (ops_on scope given)
 each_on P Q [] given on all = tt
 each_on P Q (s ∷ up) [] on all = tt
 each_on P Q (s ∷ up) (op ∷ given) on all = (on s up op refl all.0, each_on P Q (s ∷ up) given on all.1)
 
 -- of what is let through
-pub each_told : (Q : Done → Type 0) (enabled : Bool) (ds : List Done) → AllByRecursion Q ds → AllByRecursion Q (if_told enabled ds)
+pub each_told : (Q : SpanOp → Type 0) (enabled : Bool) (ds : List SpanOp) → AllByRecursion Q ds → AllByRecursion Q (if_enabled enabled ds)
 each_told Q false ds all = tt
 each_told Q true ds all = all

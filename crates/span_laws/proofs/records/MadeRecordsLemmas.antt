@@ -10,18 +10,18 @@ use Rattle.otel_base.specs.Ids.{ids_of}
 use Rattle.otel_base.specs.RecorderIds.{recorder_ids}
 use Rattle.otel_state.specs.declared.op.Op.TheVariants as ops
 use Rattle.otel_state.specs.Content.{Making}
-use Rattle.otel_state.specs.Deeds.{Stamped}
-use Rattle.otel_state.specs.States.{Told, begun, changed, changed_by, Stands}
-use Rattle.otel_state.specs.Times.{InOrder}
+use Rattle.otel_state.specs.Deeds.{TimedOp}
+use Rattle.otel_state.specs.States.{SpanData, data_at_making, after_op, after_stamped, Stands}
+use Rattle.otel_state.specs.Times.{MomentsRise}
 use Rattle.otel_state.proofs.Summing.{content_is, parent_is}
 use Rattle.span_script.specs.declared.request.Request.{Request}
 use Rattle.span_script.specs.Effects.{effect_of}
 use Rattle.span_script.specs.Setups.{Setup}
-use Rattle.span_script.specs.Tables.{Effect, History, Made, Tables, after, made_of, no_making, no_tables, tables, with_new}
+use Rattle.span_script.specs.Tables.{Effect, History, MadeSpan, Tables, after_effect, made_of, no_made_span, no_tables, tables, with_item}
 use Rattle.span_laws.specs.Laws.{IsHistory, none, more, occurrences}
 use Rattle.span_laws.specs.Makings.{IsRecordOf}
-use Rattle.span_laws.specs.Records.{Began, Each, IsRecord, all_ops, closed_at, records}
-use Rattle.span_laws.specs.Starts.{place_in, started}
+use Rattle.span_laws.specs.Records.{Began, EachRecord, IsRecord, all_ops, closed_at, records}
+use Rattle.span_laws.specs.Starts.{place_in, starting_order}
 use Rattle.span_laws.proofs.records.HistoriesLemmas.{IsClosed, done_in, whole}
 use Rattle.span_laws.proofs.spans.RequestedSpansLemmas.{made_by}
 use Rattle.span_laws.proofs.spans.OccurrencesLemmas.{get_push_other}
@@ -31,25 +31,25 @@ use Rattle.span_laws.proofs.records.StoriesLemmas.{IsEnding}
 
 -- ---- a record from one making is that from another which came to the same
 
-module _ (setup : Setup) (first : Told) (began_at : ℕ) (one other : Making) (a : Began setup first.made first one) (b : Began setup began_at first other) (done : SpanContext → List Stamped) (place at : ℕ) (r : Record)
+module _ (setup : Setup) (first : SpanData) (began_at : ℕ) (one other : Making) (a : Began setup first.made first one) (b : Began setup began_at first other) (done : SpanContext → List TimedOp) (place at : ℕ) (r : Record)
     (ends : IsRecord one a.update done place at r) where
-  abbrev own_ops : List Stamped
+  abbrev own_ops : List TimedOp
   own_ops = done r.context
 
-  abbrev last : Told
-  last = fold changed_by first own_ops
+  abbrev last : SpanData
+  last = fold after_stamped first own_ops
 
   one_stands : Stands one (all_ops one a.update own_ops) last
-  one_stands = ap (λ (t : Told). fold changed_by t own_ops) (a.is ∙ ap (λ n. changed (begun one) n (ops.Update a.update)) (sym a.made))
+  one_stands = ap (λ (t : SpanData). fold after_stamped t own_ops) (a.is ∙ ap (λ n. after_op (data_at_making one) n (ops.Update a.update)) (sym a.made))
 
   other_stands : Stands other (all_ops other b.update own_ops) last
-  other_stands = ap (λ (t : Told). fold changed_by t own_ops) (b.is ∙ ap (λ n. changed (begun other) n (ops.Update b.update)) (sym b.made))
+  other_stands = ap (λ (t : SpanData). fold after_stamped t own_ops) (b.is ∙ ap (λ n. after_op (data_at_making other) n (ops.Update b.update)) (sym b.made))
 
   same_moment : one.made ≡ other.made
-  same_moment = a.made ∙ ap (λ (t : Told). t.made) b.is
+  same_moment = a.made ∙ ap (λ (t : SpanData). t.made) b.is
 
-  in_order : InOrder other.made (all_ops other b.update own_ops)
-  in_order = (omega arith, subst (λ n. InOrder n own_ops) same_moment ends.in_order.1)
+  in_order : MomentsRise other.made (all_ops other b.update own_ops)
+  in_order = (omega arith, subst (λ n. MomentsRise n own_ops) same_moment ends.in_order.1)
 
   remade : IsRecord other b.update done place at r
   remade = record {
@@ -62,41 +62,41 @@ module _ (setup : Setup) (first : Told) (began_at : ℕ) (one other : Making) (a
 
 -- ---- which effect made a span
 
-made_more : (ms : List Made) (o : Option Made) → length ms ≤ length (with_new ms o)
+made_more : (ms : List MadeSpan) (o : Option MadeSpan) → length ms ≤ length (with_item ms o)
 made_more ms None = omega arith
 made_more ms (Some m) = let longer = length_push ms m in omega (arith, longer)
 
-made_kept : (ms : List Made) (o : Option Made) (s : ℕ) → s < length ms → made_of (with_new ms o) s ≡ made_of ms s
+made_kept : (ms : List MadeSpan) (o : Option MadeSpan) (s : ℕ) → s < length ms → made_of (with_item ms o) s ≡ made_of ms s
 made_kept ms None s old = refl
-made_kept ms (Some m) s old = get_push_other ms m no_making s (λ same. absurd (omega (arith, same, old)))
+made_kept ms (Some m) s old = get_push_other ms m no_made_span s (λ same. absurd (omega (arith, same, old)))
 
-pub made_stays : (h : History) (t : Tables) (s : ℕ) → s < length t.made → made_of (fold after t h).made s ≡ made_of t.made s
+pub made_stays : (h : History) (t : Tables) (s : ℕ) → s < length t.spans → made_of (fold after_effect t h).spans s ≡ made_of t.spans s
 made_stays [] t s old = refl
-made_stays (e ∷ h) t s old = made_stays h (after t e) s (let longer = made_more t.made e.made in omega (arith, longer, old)) ∙ made_kept t.made e.made s old
+made_stays (e ∷ h) t s old = made_stays h (after_effect t e) s (let longer = made_more t.spans e.new_span in omega (arith, longer, old)) ∙ made_kept t.spans e.new_span s old
 
 -- the effect in a history that made the span of a number, and what it made
 record IsMadeIn (h : History) (t : Tables) (s : ℕ) : Type 0 where
   fore : History
   rest : History
   e : Effect
-  m : Made
+  m : MadeSpan
   is : h ≡ fore ++ e ∷ rest
-  made : e.made ≡ Some m
-  number : length (fold after t fore).made ≡ s
-  stays : made_of (fold after t h).made s ≡ m
+  made : e.new_span ≡ Some m
+  number : length (fold after_effect t fore).spans ≡ s
+  stays : made_of (fold after_effect t h).spans s ≡ m
 
-made_in : (h : History) (t : Tables) (s : ℕ) → length t.made ≤ s → s < length (fold after t h).made → IsMadeIn h t s
+made_in : (h : History) (t : Tables) (s : ℕ) → length t.spans ≤ s → s < length (fold after_effect t h).spans → IsMadeIn h t s
 made_in [] t s from below = absurd (omega (arith, from, below))
-made_in (e ∷ h) t s from below = by_made e.made refl (λ later. made_in h (after t e) s later below)
+made_in (e ∷ h) t s from below = by_made e.new_span refl (λ later. made_in h (after_effect t e) s later below)
   where
-    behind : IsMadeIn h (after t e) s → IsMadeIn (e ∷ h) t s
+    behind : IsMadeIn h (after_effect t e) s → IsMadeIn (e ∷ h) t s
     behind found = record { fore = e ∷ found.fore; rest = found.rest; e = found.e; m = found.m; is = ap (λ (x : History). e ∷ x) found.is; made = found.made; number = found.number; stays = found.stays }
 
-    by_made : (o : Option Made) → e.made ≡ o → (length (after t e).made ≤ s → IsMadeIn h (after t e) s) → IsMadeIn (e ∷ h) t s
-    by_made None is later = behind (later (let same = ap (λ (o : Option Made). length (with_new t.made o)) is in omega (arith, same, from)))
+    by_made : (o : Option MadeSpan) → e.new_span ≡ o → (length (after_effect t e).spans ≤ s → IsMadeIn h (after_effect t e) s) → IsMadeIn (e ∷ h) t s
+    by_made None is later = behind (later (let same = ap (λ (o : Option MadeSpan). length (with_item t.spans o)) is in omega (arith, same, from)))
     by_made (Some m) is later =
-        let many : length (after t e).made ≡ length t.made + 1 = ap (λ (o : Option Made). length (with_new t.made o)) is ∙ length_push t.made m in
-        elim (cases_eq s (length t.made)) [
+        let many : length (after_effect t e).spans ≡ length t.spans + 1 = ap (λ (o : Option MadeSpan). length (with_item t.spans o)) is ∙ length_push t.spans m in
+        elim (cases_eq s (length t.spans)) [
           | inl same ↦ record {
             fore = [];
             rest = h;
@@ -105,7 +105,7 @@ made_in (e ∷ h) t s from below = by_made e.made refl (λ later. made_in h (aft
             is = refl;
             made = is;
             number = sym same;
-            stays = made_stays h (after t e) s (omega (arith, many, same)) ∙ ap (λ (o : Option Made). made_of (with_new t.made o) s) is ∙ get_or_push t.made m no_making s (sym same);
+            stays = made_stays h (after_effect t e) s (omega (arith, many, same)) ∙ ap (λ (o : Option MadeSpan). made_of (with_item t.spans o) s) is ∙ get_or_push t.spans m no_made_span s (sym same);
           }
           | inr other ↦ behind (later (omega (arith, many, from, other)))
         ]
@@ -133,32 +133,32 @@ legal_step setup _ (more h request x legal at) fore rest e is = elim (parted e r
 
 -- ---- the records of a history, where something is known of the request of each effect
 
-closed_made : (setup : Setup) (h : History) (s : ℕ) → IsHistory setup h → 0 < occurrences s (tables setup h).closed → s < length (tables setup h).made
+closed_made : (setup : Setup) (h : History) (s : ℕ) → IsHistory setup h → 0 < occurrences s (tables setup h).closed → s < length (tables setup h).spans
 closed_made setup h s legal some = let ended = (whole setup h legal).stands.sound.ended s in grind (arith, nat_tests, ended, some)
 
 module _ (setup : Setup) (h : History) (legal : IsHistory setup h) (Known : History → Request → Type 0) (step : (fore rest : History) (e : Effect) → h ≡ fore ++ e ∷ rest → IsStepOf setup fore e Known) where
   abbrev IsKnown : ℕ → Record → Type 0
   IsKnown s r = (of : IsRecordOf setup h s r) × Known of.fore of.request
 
-  record_of : (s : ℕ) (r : Record) → s < length (tables setup h).made → IsClosed setup (tables setup h).made h s r → IsKnown s r
+  record_of : (s : ℕ) (r : Record) → s < length (tables setup h).spans → IsClosed setup (tables setup h).spans h s r → IsKnown s r
   record_of s r below c =
       let there = made_in h (no_tables setup) s (omega arith) below in
       let found = step there.fore there.rest there.e there.is in
       let by = made_by setup there.fore found.0 there.e there.m found.2 found.3 there.made in
-      let same : IsEnding setup there.m.told (done_in h s) (place_in (started h) s) (closed_at h s) r =
-      subst (λ (m : Made). IsEnding setup m.told (done_in h s) (place_in (started h) s) (closed_at h s) r) there.stays c in (
+      let same : IsEnding setup there.m.made_with (done_in h s) (place_in (starting_order h) s) (closed_at h s) r =
+      subst (λ (m : MadeSpan). IsEnding setup m.made_with (done_in h s) (place_in (starting_order h) s) (closed_at h s) r) there.stays c in (
         record {
           fore = there.fore;
           request = found.0;
           made = record { e = there.e; rest = there.rest; m = there.m; is = there.is; effect = found.3; made = there.made; number = there.number; by = by };
-          told = remade setup there.m.told found.0.at same.making by.making same.began by.began (done_in h s) (place_in (started h) s) (closed_at h s) r same.ends;
+          told = remade setup there.m.made_with found.0.at same.making by.making same.began by.began (done_in h s) (place_in (starting_order h) s) (closed_at h s) r same.ends;
         },
         found.1,
       )
 
-  pub each_known : Each IsKnown (tables setup h).closed (records setup h)
-  each_known = each_map (IsClosed setup (tables setup h).made h) IsKnown (tables setup h).closed (records setup h) (λ s r some c. record_of s r (closed_made setup h s legal some) c) (whole setup h legal).each
+  pub each_known : EachRecord IsKnown (tables setup h).closed (records setup h)
+  each_known = each_map (IsClosed setup (tables setup h).spans h) IsKnown (tables setup h).closed (records setup h) (λ s r some c. record_of s r (closed_made setup h s legal some) c) (whole setup h legal).each
 
-pub contents : (setup : Setup) (h : History) → IsHistory setup h → Each (IsRecordOf setup h) (tables setup h).closed (records setup h)
+pub contents : (setup : Setup) (h : History) → IsHistory setup h → EachRecord (IsRecordOf setup h) (tables setup h).closed (records setup h)
 contents setup h legal =
     each_map (λ s r. (of : IsRecordOf setup h s r) × any_request of.fore of.request) (IsRecordOf setup h) (tables setup h).closed (records setup h) (λ s r some known. known.0) (each_known setup h legal any_request (legal_step setup h legal))

@@ -12,13 +12,13 @@ use Rattle.otel_base.specs.Ids.{ids_of}
 use Rattle.otel_base.specs.RecorderIds.{recorder_ids}
 use Rattle.otel_base.specs.Stack.{empty_context}
 use Rattle.otel_state.specs.declared.op.Op.TheVariants as ops
-use Rattle.otel_state.specs.Deeds.{Stamped, deed}
+use Rattle.otel_state.specs.Deeds.{TimedOp, deed}
 use Rattle.otel_state.specs.Opening.{before_start, is_start, last_or, own_of}
-use Rattle.otel_state.specs.States.{Told}
+use Rattle.otel_state.specs.States.{SpanData}
 use Rattle.otel_state.proofs.Summing.{own_is, parent_is}
 use Rattle.otel_layer.specs.Recording.{with_start}
-use Rattle.otel_layer.specs.Steps.{above}
-use Rattle.otel_layer.specs.Table.{own_or, told_at}
+use Rattle.otel_layer.specs.Steps.{parent_source}
+use Rattle.otel_layer.specs.Table.{own_or, data_at}
 use Rattle.trace_base.specs.Spans.{current_of, is_in}
 use Rattle.span_script.specs.declared.request.Place.{Place}
 use Rattle.span_script.specs.declared.request.Place.TheVariants as place
@@ -27,12 +27,12 @@ use Rattle.span_script.specs.calls.Here.{here_at}
 use Rattle.span_script.specs.Effects.{effect_of}
 use Rattle.span_script.specs.calls.Spans.{is_open, parent_at}
 use Rattle.span_script.specs.Setups.{Setup}
-use Rattle.span_script.specs.Tables.{Effect, History, Made, Scope, Tables, after, made_of, no_tables, tables}
+use Rattle.span_script.specs.Tables.{Effect, History, MadeSpan, Scope, Tables, after_effect, made_of, no_tables, tables}
 use Rattle.span_laws.specs.Closes.{is_drop}
 use Rattle.span_laws.specs.Laws.{IsHistory, occurrences}
-use Rattle.span_laws.specs.Makings.{IsUnder, SeesOwn, context_of_lane, context_span, parent_context}
-use Rattle.span_laws.specs.Records.{Each, all_ops, ops_from, ops_in, ops_of, records, start_in}
-use Rattle.span_laws.specs.Starts.{place_in, started, starts_of, with_started}
+use Rattle.span_laws.specs.Makings.{HasContextOf, SeesOwn, context_of_lane, context_span, parent_context}
+use Rattle.span_laws.specs.Records.{EachRecord, all_ops, ops_from, ops_in, ops_of, records, start_in}
+use Rattle.span_laws.specs.Starts.{place_in, starting_order, starts_of, with_started}
 use Rattle.span_laws.proofs.records.HistoriesLemmas.{IsClosed, begun, done_in, fits, open_made, ops_parts, whole}
 use Rattle.span_laws.proofs.records.MadeRecordsLemmas.{legal_step, made_stays}
 use Rattle.span_laws.proofs.spans.MakingsLemmas.{first_of}
@@ -47,26 +47,26 @@ use Rattle.span_laws.proofs.steps.EntriesLemmas.{guards_of}
 
 -- ---- what ops write of a parent, whatever ids a start gives
 
-abbrev Alike : List Stamped → List Stamped → Type 0
+abbrev Alike : List TimedOp → List TimedOp → Type 0
 Alike [] [] = Unit {0}
 Alike (x ∷ xs) (y ∷ ys) = (is_start x ≡ is_start y) × ((deed x.op).parent ≡ (deed y.op).parent) × Alike xs ys
 Alike [] (y ∷ ys) = ⊥
 Alike (x ∷ xs) [] = ⊥
 
-alike_all : (xs : List Stamped) → Alike xs xs
+alike_all : (xs : List TimedOp) → Alike xs xs
 alike_all [] = tt
 alike_all (x ∷ xs) = (refl, refl, alike_all xs)
 
-alike_append : (xs ys us vs : List Stamped) → Alike xs ys → Alike us vs → Alike (xs ++ us) (ys ++ vs)
+alike_append : (xs ys us vs : List TimedOp) → Alike xs ys → Alike us vs → Alike (xs ++ us) (ys ++ vs)
 alike_append [] [] us vs one two = two
 alike_append [] (y ∷ ys) us vs one two = absurd one
 alike_append (x ∷ xs) [] us vs one two = absurd one
 alike_append (x ∷ xs) (y ∷ ys) us vs one two = (one.0, one.1, alike_append xs ys us vs one.2 two)
 
-abbrev written : List Stamped → List Context
+abbrev written : List TimedOp → List Context
 written ops = filter_map (λ op. (deed op.op).parent) ops
 
-alike_written : (xs ys : List Stamped) → Alike xs ys → written (before_start xs) ≡ written (before_start ys)
+alike_written : (xs ys : List TimedOp) → Alike xs ys → written (before_start xs) ≡ written (before_start ys)
 alike_written [] [] alike = refl
 alike_written [] (y ∷ ys) alike = absurd alike
 alike_written (x ∷ xs) [] alike = absurd alike
@@ -104,20 +104,20 @@ module _ (one other : SpanContext) (s : ℕ) where
   ops_alike order (e ∷ h) = alike_append (ops_in one s order e) (ops_in other s order e) _ _ (effect_alike order e) (ops_alike (fold with_started order (starts_of e)) h)
 
 -- what stands behind a start doesn't count
-cut : (xs ys : List Stamped) → is_some (own_of xs) ≡ true → before_start (xs ++ ys) ≡ before_start xs
+cut : (xs ys : List TimedOp) → is_some (own_of xs) ≡ true → before_start (xs ++ ys) ≡ before_start xs
 cut [] ys has = absurd (cc has)
 cut (x ∷ xs) ys has = by_start (cut xs ys) (deed x.op).own has
   where
     by_start : (is_some (own_of xs) ≡ true → before_start (xs ++ ys) ≡ before_start xs) → (given : Option SpanContext)
         → is_some (slice_get (cons_option given (filter_map (λ o. (deed o.op).own) xs)) 0) ≡ true
         → (if is_some given then [] else x ∷ before_start (xs ++ ys)) ≡ (if is_some given then [] else x ∷ before_start xs)
-    by_start same None has = ap (λ (rest : List Stamped). x ∷ rest) (same has)
+    by_start same None has = ap (λ (rest : List TimedOp). x ∷ rest) (same has)
     by_start same (Some own) has = refl
 
 -- ---- a span that an effect starts, unless it has started, and its record
 
 module _ (setup : Setup) (fore rest : History) (e : Effect) (legal : IsHistory setup fore) (request : Request) (effect : effect_of setup (tables setup fore) request ≡ Ok e) (p : ℕ) (starts : e.starts ≡ p ∷ []) (r : Record)
-    (c : IsClosed setup (tables setup (fore ++ e ∷ rest)).made (fore ++ e ∷ rest) p r) where
+    (c : IsClosed setup (tables setup (fore ++ e ∷ rest)).spans (fore ++ e ∷ rest) p r) where
   abbrev t : Tables
   t = tables setup fore
 
@@ -125,12 +125,12 @@ module _ (setup : Setup) (fore rest : History) (e : Effect) (legal : IsHistory s
   h = fore ++ e ∷ rest
 
   abbrev order : List ℕ
-  order = fold with_started (started fore) e.starts
+  order = fold with_started (starting_order fore) e.starts
 
   is_held : is_open t.handles p ≡ true
   is_held = (subst (AllByRecursion (λ s. is_open t.handles s ≡ true)) starts (step_of setup t (fits setup fore (whole setup fore legal)) request e effect).1.starts).0
 
-  story : IsStory setup (told_at p (fold (λ r s. with_start s e.at r) t.recording e.starts).spans) (first_of t.made p) (place_in order p) (begun_by e.at (started fore) e.starts (done_in fore) p) (guards_of t.guards p) e.at
+  story : IsStory setup (data_at p (fold (λ r s. with_start s e.at r) t.recording e.starts).spans) (first_of t.spans p) (place_in order p) (begun_by e.at (starting_order fore) e.starts (done_in fore) p) (guards_of t.guards p) e.at
   story =
       let now = whole setup fore legal in
       let step = step_of setup t (fits setup fore now) request e effect in
@@ -138,49 +138,49 @@ module _ (setup : Setup) (fore rest : History) (e : Effect) (legal : IsHistory s
 
   placed : 0 < place_in order p
   placed =
-      let there : is_in p order ≡ true = ap (λ (ids : List ℕ). is_in p (fold with_started (started fore) ids)) starts ∙ in_started (started fore) p in
+      let there : is_in p order ≡ true = ap (λ (ids : List ℕ). is_in p (fold with_started (starting_order fore) ids)) starts ∙ in_started (starting_order fore) p in
       let some = present 1 order p there in
       omega (arith, some)
 
-  same_place : place_in (started h) p ≡ place_in order p
+  same_place : place_in (starting_order h) p ≡ place_in order p
   same_place =
       let others = option_to_list e.begins ++ e.closes ++ flat_map starts_of rest in
       ap (λ (o : List ℕ). place_in o p)
       (ap (fold with_started []) (flat_map-append starts_of fore (e ∷ rest)) ∙ fold-append with_started [] (flat_map starts_of fore) (flat_map starts_of (e ∷ rest))
-      ∙ ap (fold with_started (started fore)) (regroup e.starts (option_to_list e.begins) e.closes (flat_map starts_of rest)) ∙ fold-append with_started (started fore) e.starts others)
+      ∙ ap (fold with_started (starting_order fore)) (regroup e.starts (option_to_list e.begins) e.closes (flat_map starts_of rest)) ∙ fold-append with_started (starting_order fore) e.starts others)
       ∙ places_stay order others p placed
     where
       regroup : (a b c d : List ℕ) → ((a ++ b) ++ c) ++ d ≡ a ++ (b ++ c ++ d)
       regroup a b c d = simp append_assoc
 
-  same_first : made_of t.made p ≡ made_of (tables setup h).made p
+  same_first : made_of t.spans p ≡ made_of (tables setup h).spans p
   same_first =
-      sym (made_stays (e ∷ rest) t p (open_made t.handles t.made t.closed (whole setup fore legal).stands.sound p is_held))
-      ∙ ap (λ (u : Tables). made_of u.made p) (sym (fold-append after (no_tables setup) fore (e ∷ rest)))
+      sym (made_stays (e ∷ rest) t p (open_made t.handles t.spans t.closed (whole setup fore legal).stands.sound p is_held))
+      ∙ ap (λ (u : Tables). made_of u.spans p) (sym (fold-append after_effect (no_tables setup) fore (e ∷ rest)))
 
   same_parent : story.making.parent ≡ c.making.parent
-  same_parent = sym (ap (λ (told : Told). told.parent) story.began.is) ∙ ap (λ (m : Made). m.told.parent) same_first ∙ ap (λ (told : Told). told.parent) c.began.is
+  same_parent = sym (ap (λ (told : SpanData). told.parent) story.began.is) ∙ ap (λ (m : MadeSpan). m.made_with.parent) same_first ∙ ap (λ (told : SpanData). told.parent) c.began.is
 
   module _ (own : SpanContext) (is : story.told.own ≡ Some own) where
-    abbrev so_far : List Stamped
-    so_far = begun_by e.at (started fore) e.starts (done_in fore) p own
+    abbrev so_far : List TimedOp
+    so_far = begun_by e.at (starting_order fore) e.starts (done_in fore) p own
 
-    abbrev early : List Stamped
+    abbrev early : List TimedOp
     early = start_in own e.at p order (option_to_list e.begins)
 
-    abbrev done : List Stamped
+    abbrev done : List TimedOp
     done = map (λ d. stamp e.at d.op) (filter (λ d. d.span == p) e.ops)
 
-    abbrev at_close : List Stamped
+    abbrev at_close : List TimedOp
     at_close = start_in own e.at p (fold with_started order (option_to_list e.begins)) e.closes
 
-    abbrev behind : List Stamped
-    behind = ops_from own p (fold with_started (started fore) (starts_of e)) rest
+    abbrev behind : List TimedOp
+    behind = ops_from own p (fold with_started (starting_order fore) (starts_of e)) rest
 
     all_parts : ops_of own h p ≡ so_far ++ (early ++ done ++ at_close ++ behind)
-    all_parts = ops_parts own p [] fore (e ∷ rest) ∙ regroup (ops_of own fore p) (start_in own e.at p (started fore) e.starts) early done at_close behind
+    all_parts = ops_parts own p [] fore (e ∷ rest) ∙ regroup (ops_of own fore p) (start_in own e.at p (starting_order fore) e.starts) early done at_close behind
       where
-        regroup : (a b c d x y : List Stamped) → a ++ ((((b ++ c) ++ d) ++ x) ++ y) ≡ (a ++ b) ++ (c ++ d ++ x ++ y)
+        regroup : (a b c d x y : List TimedOp) → a ++ ((((b ++ c) ++ d) ++ x) ++ y) ≡ (a ++ b) ++ (c ++ d ++ x ++ y)
         regroup a b c d x y = simp append_assoc
 
     later_is : story.later ≡ so_far
@@ -188,18 +188,18 @@ module _ (setup : Setup) (fore rest : History) (e : Effect) (legal : IsHistory s
 
     has_start : is_some (own_of so_far) ≡ true
     has_start =
-        ap (λ (xs : List Stamped). is_some (own_of xs)) (sym later_is)
+        ap (λ (xs : List TimedOp). is_some (own_of xs)) (sym later_is)
         ∙ sym (ap (λ (o : Option SpanContext). is_some o) (own_is story.told story.making (all_ops story.making story.began.update story.later) story.stands))
         ∙ ap (λ (o : Option SpanContext). is_some o) is
 
-    abbrev under : Context → List Stamped → Context
+    abbrev under : Context → List TimedOp → Context
     under parent xs = last_or parent (written (before_start xs))
 
     parent_settled : story.told.parent ≡ under c.making.parent (ops_of r.context h p)
     parent_settled =
         parent_is story.told story.making (all_ops story.making story.began.update story.later) story.stands
         ∙ ap (under story.making.parent) later_is
-        ∙ ap (λ (xs : List Stamped). last_or story.making.parent (written xs)) (sym (cut so_far (early ++ done ++ at_close ++ behind) has_start))
+        ∙ ap (λ (xs : List TimedOp). last_or story.making.parent (written xs)) (sym (cut so_far (early ++ done ++ at_close ++ behind) has_start))
         ∙ ap (under story.making.parent) (sym all_parts)
         ∙ ap (λ (contexts : List Context). last_or story.making.parent contexts) (alike_written (ops_of own h p) (ops_of r.context h p) (ops_alike own r.context p [] h))
         ∙ ap (λ (parent : Context). under parent (ops_of r.context h p)) same_parent
@@ -209,10 +209,10 @@ module _ (setup : Setup) (fore rest : History) (e : Effect) (legal : IsHistory s
   own_recorded (Some own) is has =
       is ∙ ap Some (has.0 ∙ ap₂ (λ (k : ℕ) (parent : Context). recorder_ids k (ids_of parent)) (sym same_place) (parent_settled own is) ∙ sym c.ends.own)
 
-  pub own_seen : (told : Told) × (told_at p (with_start p e.at t.recording).spans ≡ Some told) × (told.own ≡ Some r.context)
+  pub own_seen : (told : SpanData) × (data_at p (with_start p e.at t.recording).spans ≡ Some told) × (told.own ≡ Some r.context)
   own_seen = (
     story.told,
-    ap (λ (ids : List ℕ). told_at p (fold (λ r s. with_start s e.at r) t.recording ids).spans) (sym starts) ∙ story.is,
+    ap (λ (ids : List ℕ). data_at p (fold (λ r s. with_start s e.at r) t.recording ids).spans) (sym starts) ∙ story.is,
     own_recorded story.told.own refl story.has_id,
   )
 
@@ -221,16 +221,16 @@ module _ (setup : Setup) (fore rest : History) (e : Effect) (legal : IsHistory s
 abbrev with_ids : Option SpanContext → Context
 with_ids ids = record { span = ids }
 
-pub sees_own : (setup : Setup) (h : History) → IsHistory setup h → Each (SeesOwn setup h) (tables setup h).closed (records setup h)
-sees_own setup h legal = each_map (IsClosed setup (tables setup h).made h) (SeesOwn setup h) (tables setup h).closed (records setup h) seen (whole setup h legal).each
+pub sees_own : (setup : Setup) (h : History) → IsHistory setup h → EachRecord (SeesOwn setup h) (tables setup h).closed (records setup h)
+sees_own setup h legal = each_map (IsClosed setup (tables setup h).spans h) (SeesOwn setup h) (tables setup h).closed (records setup h) seen (whole setup h legal).each
   where
-    seen : (p : ℕ) (r : Record) → 0 < occurrences p (tables setup h).closed → IsClosed setup (tables setup h).made h p r → SeesOwn setup h p r
+    seen : (p : ℕ) (r : Record) → 0 < occurrences p (tables setup h).closed → IsClosed setup (tables setup h).spans h p r → SeesOwn setup h p r
     seen p r some c fore rest e up is starts =
         let step = legal_step setup h legal fore rest e is in
-        let own = own_seen setup fore rest e step.2 step.0 step.3 p starts r (subst (λ (x : History). IsClosed setup (tables setup x).made x p r) is c) in
+        let own = own_seen setup fore rest e step.2 step.0 step.3 p starts r (subst (λ (x : History). IsClosed setup (tables setup x).spans x p r) is c) in
         ap (own_or empty_context) own.1 ∙ ap with_ids own.2
 
-above_is : (activation : Bool) (under : Place) (up : Scope) (current : Option ℕ) → above activation (parent_at under up) current ≡ context_span activation under up current
+above_is : (activation : Bool) (under : Place) (up : Scope) (current : Option ℕ) → parent_source activation (parent_at under up) current ≡ context_span activation under up current
 above_is activation place.Root up current = refl
 above_is activation (place.Under handle) [] current = refl
 above_is activation (place.Under handle) (s ∷ up) current = refl
@@ -238,21 +238,21 @@ above_is true place.Contextual up current = refl
 above_is false place.Contextual up current = refl
 
 -- the context that a new span is put under, where it is the own one of a span
-context_is_own : (activation : Bool) (current : Option ℕ) (setup : Setup) (t : Tables) (at id : ℕ) (under : Place) (up : Scope) (p : ℕ) (told : Told) → setup.layer.activation ≡ activation → current_of (t.entries id) ≡ current
-    → context_span activation under up current ≡ Some p → told_at p (with_start p at t.recording).spans ≡ Some told → parent_context setup t at id under up ≡ with_ids told.own
+context_is_own : (activation : Bool) (current : Option ℕ) (setup : Setup) (t : Tables) (at id : ℕ) (under : Place) (up : Scope) (p : ℕ) (told : SpanData) → setup.layer.activation ≡ activation → current_of (t.entries id) ≡ current
+    → context_span activation under up current ≡ Some p → data_at p (with_start p at t.recording).spans ≡ Some told → parent_context setup t at id under up ≡ with_ids told.own
 context_is_own activation current setup t at id place.Root up p told active now is seen = absurd (cc is)
 context_is_own activation current setup t at id (place.Under handle) [] p told active now is seen = absurd (cc is)
 context_is_own activation current setup t at id (place.Under handle) (s ∷ up) p told active now is seen =
     let same : s ≡ p = cc is in
-    ap (λ (q : ℕ). own_or empty_context (told_at q (with_start q at t.recording).spans)) same ∙ ap (own_or empty_context) seen
+    ap (λ (q : ℕ). own_or empty_context (data_at q (with_start q at t.recording).spans)) same ∙ ap (own_or empty_context) seen
 context_is_own true current setup t at id place.Contextual up p told active now is seen = absurd (cc is)
 context_is_own false current setup t at id place.Contextual up p told active now is seen =
     ap (λ (b : Bool). context_of_lane t at id (if b then None else current_of (t.entries id))) active ∙ ap (context_of_lane t at id) (now ∙ is) ∙ ap (own_or _) seen
 
-pub is_under : (setup : Setup) (h : History) → IsHistory setup h → Each (IsUnder setup h) (tables setup h).closed (records setup h)
-is_under setup h legal = each_map (IsClosed setup (tables setup h).made h) (IsUnder setup h) (tables setup h).closed (records setup h) put (whole setup h legal).each
+pub is_under : (setup : Setup) (h : History) → IsHistory setup h → EachRecord (HasContextOf setup h) (tables setup h).closed (records setup h)
+is_under setup h legal = each_map (IsClosed setup (tables setup h).spans h) (HasContextOf setup h) (tables setup h).closed (records setup h) put (whole setup h legal).each
   where
-    put : (p : ℕ) (r : Record) → 0 < occurrences p (tables setup h).closed → IsClosed setup (tables setup h).made h p r → IsUnder setup h p r
+    put : (p : ℕ) (r : Record) → 0 < occurrences p (tables setup h).closed → IsClosed setup (tables setup h).spans h p r → HasContextOf setup h p r
     put p r some c s fore request made is =
         let t = tables setup fore in
         let id = (here_at setup t request.at request.lane).lane in
@@ -260,6 +260,6 @@ is_under setup h legal = each_map (IsClosed setup (tables setup h).made h) (IsUn
         let before = (legal_step setup h legal fore made.rest made.e made.is).2 in
         let fit = fits setup fore (whole setup fore before) in
         let starts = starts_before setup t fit request made.e made.m made.effect made.made made.by ∙ ap option_to_list (above_is setup.layer.activation made.by.under made.by.up current ∙ is) in
-        let own = own_seen setup fore made.rest made.e before request made.effect p starts r (subst (λ (x : History). IsClosed setup (tables setup x).made x p r) made.is c) in
-        let seen = ap (λ (at : ℕ). told_at p (with_start p at t.recording).spans) (sym (step_of setup t fit request made.e made.effect).1.moment) ∙ own.1 in
+        let own = own_seen setup fore made.rest made.e before request made.effect p starts r (subst (λ (x : History). IsClosed setup (tables setup x).spans x p r) made.is c) in
+        let seen = ap (λ (at : ℕ). data_at p (with_start p at t.recording).spans) (sym (step_of setup t fit request made.e made.effect).1.moment) ∙ own.1 in
         made.by.context ∙ context_is_own setup.layer.activation current setup t request.at id made.by.under made.by.up p own.0 refl refl is seen ∙ ap with_ids own.2

@@ -14,19 +14,19 @@ use Rattle.otel_state.specs.declared.op.Op.{Op}
 use Rattle.otel_state.specs.declared.op.Op.TheVariants as ops
 use Rattle.otel_state.specs.declared.times.TheConstants.{GREATEST}
 use Rattle.otel_state.specs.Content.{content}
-use Rattle.otel_state.specs.Deeds.{Stamped, deed}
-use Rattle.otel_state.specs.Opening.{parent_of}
-use Rattle.otel_state.specs.States.{Told, record_of}
-use Rattle.otel_state.specs.Times.{InOrder, open_by}
-use Rattle.otel_layer.specs.Table.{told_at, waits, waits_by}
-use Rattle.otel_layer.specs.Recording.{Recording, started_under, with_start, with_starts, with_applied, closed, with_close, told_after}
+use Rattle.otel_state.specs.Deeds.{TimedOp, deed}
+use Rattle.otel_state.specs.Opening.{parent_context_of}
+use Rattle.otel_state.specs.States.{SpanData, record_of}
+use Rattle.otel_state.specs.Times.{MomentsRise, open_by}
+use Rattle.otel_layer.specs.Table.{data_at, waits, waits_by}
+use Rattle.otel_layer.specs.Recording.{Recording, started_under, with_start, with_starts, with_applied, without_closed, with_close, data_after}
 use Rattle.otel_layer.proofs.Finding.{told_at_op, told_at_removed}
 use Rattle.trace_base.specs.Spans.{is_in}
 use Rattle.span_script.specs.Setups.{Setup}
-use Rattle.span_script.specs.Tables.{Made, Done, Effect, with_made}
+use Rattle.span_script.specs.Tables.{MadeSpan, SpanOp, Effect, with_span_made}
 use Rattle.span_script.specs.Tables as table
 use Rattle.span_laws.specs.Laws.{occurrences}
-use Rattle.span_laws.specs.Records.{Each, all_ops, start_in}
+use Rattle.span_laws.specs.Records.{EachRecord, all_ops, start_in}
 use Rattle.span_laws.specs.Starts.{with_started, place_in}
 use Rattle.span_laws.proofs.spans.OccurrencesLemmas.{occurs_cons}
 use Rattle.span_laws.proofs.records.PairsLemmas.{each_map}
@@ -35,48 +35,48 @@ use Rattle.span_laws.proofs.spans.StartsLemmas.{in_started, starts_here, starts_
 use Rattle.span_laws.proofs.records.StoriesLemmas.{IsEnding, IsStory, HasId, stamp, turned, op_story, start_story, record_is, later_story}
 
 -- Each open span has its story, no span above a number is recorded, and so many have started.
-pub record AreStories (setup : Setup) (first : ℕ → Told) (order : List ℕ) (done : ℕ → SpanContext → List Stamped) (opened : ℕ → ℕ) (now : ℕ) (is_known : ℕ → Bool) (n : ℕ) (r : Recording) : Type 0 where
-  pub each : (s : ℕ) → is_known s ≡ true → IsStory setup (told_at s r.spans) (first s) (place_in order s) (done s) (opened s) now
-  pub fresh : (s : ℕ) → n ≤ s → told_at s r.spans ≡ None
+pub record AreStories (setup : Setup) (first : ℕ → SpanData) (order : List ℕ) (done : ℕ → SpanContext → List TimedOp) (opened : ℕ → ℕ) (now : ℕ) (is_known : ℕ → Bool) (n : ℕ) (r : Recording) : Type 0 where
+  pub each : (s : ℕ) → is_known s ≡ true → IsStory setup (data_at s r.spans) (first s) (place_in order s) (done s) (opened s) now
+  pub fresh : (s : ℕ) → n ≤ s → data_at s r.spans ≡ None
   pub count : r.started ≡ length order
   pub settings_are : r.settings ≡ setup.layer
   pub counting_is : r.counting ≡ is_some setup.counting
 
 -- starts are the last of a span's ops
-abbrev pub begun_by : ℕ → List ℕ → List ℕ → (ℕ → SpanContext → List Stamped) → ℕ → SpanContext → List Stamped
+abbrev pub begun_by : ℕ → List ℕ → List ℕ → (ℕ → SpanContext → List TimedOp) → ℕ → SpanContext → List TimedOp
 begun_by at order ids done s own = done s own ++ start_in own at s order ids
 
 -- so is an op on the span, which may turn an entry
-abbrev pub done_by : ℕ → Done → (ℕ → SpanContext → List Stamped) → ℕ → SpanContext → List Stamped
+abbrev pub done_by : ℕ → SpanOp → (ℕ → SpanContext → List TimedOp) → ℕ → SpanContext → List TimedOp
 done_by at d done s own = if d.span == s then done s own ++ stamp at d.op ∷ [] else done s own
 
-abbrev pub turned_by : Done → (ℕ → ℕ) → ℕ → ℕ
+abbrev pub turned_by : SpanOp → (ℕ → ℕ) → ℕ → ℕ
 turned_by d opened s = if d.span == s then turned (deed d.op) (opened s) else opened s
 
-none_after : (b : Bool) (at : ℕ) (op : Op) (o : Option Told) → o ≡ None → told_after b at op o ≡ None
-none_after true at op o is = ap (told_after true at op) is
+none_after : (b : Bool) (at : ℕ) (op : Op) (o : Option SpanData) → o ≡ None → data_after b at op o ≡ None
+none_after true at op o is = ap (data_after true at op) is
 none_after false at op o is = is
 
 same_bound : (n m : ℕ) → n ≡ m → n ≤ m
 same_bound n m is = omega (arith, is)
 
-begun_cons : (at : ℕ) (order : List ℕ) (id : ℕ) (ids : List ℕ) (done : ℕ → SpanContext → List Stamped) (s : ℕ) (own : SpanContext) → begun_by at (with_started order id) ids (begun_by at order (id ∷ []) done) s own ≡ begun_by at order (id ∷ ids) done s own
+begun_cons : (at : ℕ) (order : List ℕ) (id : ℕ) (ids : List ℕ) (done : ℕ → SpanContext → List TimedOp) (s : ℕ) (own : SpanContext) → begun_by at (with_started order id) ids (begun_by at order (id ∷ []) done) s own ≡ begun_by at order (id ∷ ids) done s own
 begun_cons at order id ids done s own =
-    append_assoc (done s own) (start_in own at s order (id ∷ [])) (start_in own at s (with_started order id) ids) ∙ ap (λ (xs : List Stamped). done s own ++ xs) (sym (starts_cons own at s order id ids))
+    append_assoc (done s own) (start_in own at s order (id ∷ [])) (start_in own at s (with_started order id) ids) ∙ ap (λ (xs : List TimedOp). done s own ++ xs) (sym (starts_cons own at s order id ids))
 
 -- the same record, told otherwise
-pub same_record : (setup : Setup) (first : Told) (done same : SpanContext → List Stamped) (place there at : ℕ) (r : Record) → ((own : SpanContext) → done own ≡ same own) → place ≡ there → IsEnding setup first done place at r → IsEnding setup first same there at r
+pub same_record : (setup : Setup) (first : SpanData) (done same : SpanContext → List TimedOp) (place there at : ℕ) (r : Record) → ((own : SpanContext) → done own ≡ same own) → place ≡ there → IsEnding setup first done place at r → IsEnding setup first same there at r
 same_record setup first done same place there at r alike is c =
     let all = ap (all_ops c.making c.began.update) (alike r.context) in
     record {
       making = c.making;
       began = c.began;
       ends = record {
-        in_order = subst (InOrder c.making.made) all c.ends.in_order;
+        in_order = subst (MomentsRise c.making.made) all c.ends.in_order;
         shut = sym (ap (open_by 0) all) ∙ c.ends.shut;
-        is = c.ends.is ∙ ap (λ (xs : List Stamped). content c.making xs at) all;
+        is = c.ends.is ∙ ap (λ (xs : List TimedOp). content c.making xs at) all;
         started = subst (λ (p : ℕ). 0 < p) is c.ends.started;
-        own = c.ends.own ∙ ap (λ (xs : List Stamped). recorder_ids place (ids_of (parent_of c.making.parent xs))) all ∙ ap (λ (p : ℕ). recorder_ids p (ids_of (parent_of c.making.parent (all_ops c.making c.began.update (same r.context))))) is;
+        own = c.ends.own ∙ ap (λ (xs : List TimedOp). recorder_ids place (ids_of (parent_context_of c.making.parent xs))) all ∙ ap (λ (p : ℕ). recorder_ids p (ids_of (parent_context_of c.making.parent (all_ops c.making c.began.update (same r.context))))) is;
       };
     }
 
@@ -84,13 +84,13 @@ start_finished : (under : Option Context) (id at : ℕ) (r : Recording) → (sta
 start_finished None id at r = refl
 start_finished (Some context) id at r = refl
 
-module _ (setup : Setup) (first : ℕ → Told) (now : ℕ) (most : now ≤ GREATEST) where
+module _ (setup : Setup) (first : ℕ → SpanData) (now : ℕ) (most : now ≤ GREATEST) where
   -- ---- fewer spans, and the same told otherwise
 
-  pub same_stories : (order : List ℕ) (done same : ℕ → SpanContext → List Stamped) (opened : ℕ → ℕ) (k few : ℕ → Bool) (n : ℕ) (r : Recording) → ((s : ℕ) (own : SpanContext) → done s own ≡ same s own) → ((s : ℕ) → few s ≡ true → k s ≡ true)
+  pub same_stories : (order : List ℕ) (done same : ℕ → SpanContext → List TimedOp) (opened : ℕ → ℕ) (k few : ℕ → Bool) (n : ℕ) (r : Recording) → ((s : ℕ) (own : SpanContext) → done s own ≡ same s own) → ((s : ℕ) → few s ≡ true → k s ≡ true)
       → AreStories setup first order done opened now k n r → AreStories setup first order same opened now few n r
   same_stories order done same opened k few n r alike known stories = record {
-    each = λ s is. later_story setup (first s) (told_at s r.spans) (place_in order s) (done s) (opened s) now (stories.each s (known s is)) (same s) (opened s) now (alike s) (omega arith) (omega arith);
+    each = λ s is. later_story setup (first s) (data_at s r.spans) (place_in order s) (done s) (opened s) now (stories.each s (known s is)) (same s) (opened s) now (alike s) (omega arith) (omega arith);
     fresh = stories.fresh;
     count = stories.count;
     settings_are = stories.settings_are;
@@ -100,10 +100,10 @@ module _ (setup : Setup) (first : ℕ → Told) (now : ℕ) (most : now ≤ GREA
   -- ---- a start
 
   module _ (opened : ℕ → ℕ) (is_known : ℕ → Bool) (n : ℕ) where
-    abbrev Now : List ℕ → (ℕ → SpanContext → List Stamped) → Recording → Type 0
+    abbrev Now : List ℕ → (ℕ → SpanContext → List TimedOp) → Recording → Type 0
     Now order done r = AreStories setup first order done opened now is_known n r
 
-    start_first : (order : List ℕ) (done : ℕ → SpanContext → List Stamped) (r : Recording) (id : ℕ) → Now order done r → (f : IsStory setup (told_at id r.spans) (first id) (place_in order id) (done id) (opened id) now) → f.told.own ≡ None → is_in id order ≡ false
+    start_first : (order : List ℕ) (done : ℕ → SpanContext → List TimedOp) (r : Recording) (id : ℕ) → Now order done r → (f : IsStory setup (data_at id r.spans) (first id) (place_in order id) (done id) (opened id) now) → f.told.own ≡ None → is_in id order ≡ false
         → Now (order ++ id ∷ []) (begun_by now order (id ∷ []) done) (started_under (Some f.told.parent) id now r)
     start_first order done r id stories f unstarted out =
         let own : SpanContext = recorder_ids (r.started + 1) (ids_of f.told.parent) in
@@ -112,34 +112,34 @@ module _ (setup : Setup) (first : ℕ → Told) (now : ℕ) (most : now ≤ GREA
           each = λ s is. elim (cases_eq s id) [
             | inl same ↦ (
                 let place : place_in (order ++ id ∷ []) s ≡ r.started + 1 = ap (place_in (order ++ id ∷ [])) same ∙ place_new 1 order id out ∙ (let count = stories.count in omega (arith, count)) in
-                let mine = start_story setup (first id) (told_at id r.spans) (place_in order id) (done id) (opened id) now f most (r.started + 1) unstarted (omega arith) in
-                let here = subst (λ (t : ℕ). IsStory setup (told_after true now op (told_at id r.spans)) (first t) (r.started + 1) (λ own. done t own ++ stamp now (ops.Start own) ∷ []) (opened t) now) (sym same) mine in
-                let read = told_at_op id s now op r.spans ∙ ap (λ (b : Bool). told_after b now op (told_at s r.spans)) (eq-eqb s id same) ∙ ap (λ (t : ℕ). told_after true now op (told_at t r.spans)) same in
+                let mine = start_story setup (first id) (data_at id r.spans) (place_in order id) (done id) (opened id) now f most (r.started + 1) unstarted (omega arith) in
+                let here = subst (λ (t : ℕ). IsStory setup (data_after true now op (data_at id r.spans)) (first t) (r.started + 1) (λ own. done t own ++ stamp now (ops.Start own) ∷ []) (opened t) now) (sym same) mine in
+                let read = told_at_op id s now op r.spans ∙ ap (λ (b : Bool). data_after b now op (data_at s r.spans)) (eq-eqb s id same) ∙ ap (λ (t : ℕ). data_after true now op (data_at t r.spans)) same in
                 rw (read, place)
-                (later_story setup (first s) (told_after true now op (told_at id r.spans)) (r.started + 1) (λ own. done s own ++ stamp now (ops.Start own) ∷ []) (opened s) now here (begun_by now order (id ∷ []) done s) (opened s) now
-                (λ own. ap (λ (xs : List Stamped). done s own ++ xs) (sym (starts_here own now s order id same out))) (omega arith) (omega arith)))
+                (later_story setup (first s) (data_after true now op (data_at id r.spans)) (r.started + 1) (λ own. done s own ++ stamp now (ops.Start own) ∷ []) (opened s) now here (begun_by now order (id ∷ []) done s) (opened s) now
+                (λ own. ap (λ (xs : List TimedOp). done s own ++ xs) (sym (starts_here own now s order id same out))) (omega arith) (omega arith)))
             | inr other ↦ (
-                let read = told_at_op id s now op r.spans ∙ ap (λ (b : Bool). told_after b now op (told_at s r.spans)) (ne_eqb s id other) in
+                let read = told_at_op id s now op r.spans ∙ ap (λ (b : Bool). data_after b now op (data_at s r.spans)) (ne_eqb s id other) in
                 rw (read, place_other 1 order id s other)
-                (later_story setup (first s) (told_at s r.spans) (place_in order s) (done s) (opened s) now (stories.each s is) (begun_by now order (id ∷ []) done s) (opened s) now
-                (λ own. sym (append-nil (done s own)) ∙ ap (λ (xs : List Stamped). done s own ++ xs) (sym (starts_other own now s order id other))) (omega arith) (omega arith)))
+                (later_story setup (first s) (data_at s r.spans) (place_in order s) (done s) (opened s) now (stories.each s is) (begun_by now order (id ∷ []) done s) (opened s) now
+                (λ own. sym (append-nil (done s own)) ∙ ap (λ (xs : List TimedOp). done s own ++ xs) (sym (starts_other own now s order id other))) (omega arith) (omega arith)))
           ];
-          fresh = λ s above. told_at_op id s now op r.spans ∙ none_after (s == id) now op (told_at s r.spans) (stories.fresh s above);
+          fresh = λ s above. told_at_op id s now op r.spans ∙ none_after (s == id) now op (data_at s r.spans) (stories.fresh s above);
           count = let count = stories.count in let more = length_push order id in omega (arith, count, more);
           settings_are = stories.settings_are;
           counting_is = stories.counting_is;
         }
 
     -- a span that has started stays as it is
-    not_twice : (order : List ℕ) (id : ℕ) (done : ℕ → SpanContext → List Stamped) → is_in id order ≡ true → (s : ℕ) (own : SpanContext) → done s own ≡ begun_by now order (id ∷ []) done s own
+    not_twice : (order : List ℕ) (id : ℕ) (done : ℕ → SpanContext → List TimedOp) → is_in id order ≡ true → (s : ℕ) (own : SpanContext) → done s own ≡ begun_by now order (id ∷ []) done s own
     not_twice order id done there s own =
         let none : start_in own now s order (id ∷ []) ≡ [] = elim (cases_eq s id) [
           | inl same ↦ starts_not own now s order (id ∷ []) (ap (λ (q : ℕ). is_in q order) same ∙ there)
           | inr other ↦ starts_other own now s order id other
         ] in
-        sym (append-nil (done s own)) ∙ ap (λ (xs : List Stamped). done s own ++ xs) (sym none)
+        sym (append-nil (done s own)) ∙ ap (λ (xs : List TimedOp). done s own ++ xs) (sym none)
 
-    start_by : (order : List ℕ) (done : ℕ → SpanContext → List Stamped) (r : Recording) (id : ℕ) → Now order done r → (f : IsStory setup (told_at id r.spans) (first id) (place_in order id) (done id) (opened id) now)
+    start_by : (order : List ℕ) (done : ℕ → SpanContext → List TimedOp) (r : Recording) (id : ℕ) → Now order done r → (f : IsStory setup (data_at id r.spans) (first id) (place_in order id) (done id) (opened id) now)
         → (own : Option SpanContext) → f.told.own ≡ own → HasId own (place_in order id) f.told.parent → Now (with_started order id) (begun_by now order (id ∷ []) done) (with_start id now r)
     start_by order done r id stories f None unstarted none =
         let out : is_in id order ≡ false = elim (cases_Bool (is_in id order)) [
@@ -157,10 +157,10 @@ module _ (setup : Setup) (first : ℕ → Told) (now : ℕ) (most : now ≤ GREA
         (subst (λ (o : List ℕ). Now o (begun_by now order (id ∷ []) done) r) (sym (cond-true {A = List ℕ} (is_in id order) order (order ++ id ∷ []) there))
         (same_stories order done (begun_by now order (id ∷ []) done) opened is_known is_known n r (not_twice order id done there) (λ s is. is) stories))
 
-    pub start_stories : (order : List ℕ) (done : ℕ → SpanContext → List Stamped) (r : Recording) (id : ℕ) → Now order done r → is_known id ≡ true → Now (with_started order id) (begun_by now order (id ∷ []) done) (with_start id now r)
+    pub start_stories : (order : List ℕ) (done : ℕ → SpanContext → List TimedOp) (r : Recording) (id : ℕ) → Now order done r → is_known id ≡ true → Now (with_started order id) (begun_by now order (id ∷ []) done) (with_start id now r)
     start_stories order done r id stories known = let f = stories.each id known in start_by order done r id stories f f.told.own refl f.has_id
 
-    pub starts_stories : (order : List ℕ) (done : ℕ → SpanContext → List Stamped) (r : Recording) (ids : List ℕ) → Now order done r → AllByRecursion (λ s. is_known s ≡ true) ids
+    pub starts_stories : (order : List ℕ) (done : ℕ → SpanContext → List TimedOp) (r : Recording) (ids : List ℕ) → Now order done r → AllByRecursion (λ s. is_known s ≡ true) ids
         → Now (fold with_started order ids) (begun_by now order ids done) (fold (λ r s. with_start s now r) r ids)
     starts_stories order done r [] stories known = same_stories order done (begun_by now order [] done) opened is_known is_known n r (λ s own. sym (append-nil (done s own))) (λ s is. is) stories
     starts_stories order done r (id ∷ ids) stories known =
@@ -171,47 +171,47 @@ module _ (setup : Setup) (first : ℕ → Told) (now : ℕ) (most : now ≤ GREA
   -- ---- an op
 
   module _ (order : List ℕ) (is_known : ℕ → Bool) (n : ℕ) where
-    pub op_stories : (done : ℕ → SpanContext → List Stamped) (opened : ℕ → ℕ) (r : Recording) (d : Done) → AreStories setup first order done opened now is_known n r → (deed d.op).own ≡ None
+    pub op_stories : (done : ℕ → SpanContext → List TimedOp) (opened : ℕ → ℕ) (r : Recording) (d : SpanOp) → AreStories setup first order done opened now is_known n r → (deed d.op).own ≡ None
         → AreStories setup first order (done_by now d done) (turned_by d opened) now is_known n (with_applied d.span now d.op r)
     op_stories done opened r d stories unstarted = record {
       each = λ s is. elim (cases_eq s d.span) [
         | inl same ↦ (
             let here = eq-eqb d.span s (sym same) in
-            let read = told_at_op d.span s now d.op r.spans ∙ ap (λ (b : Bool). told_after b now d.op (told_at s r.spans)) (eq-eqb s d.span same) in
+            let read = told_at_op d.span s now d.op r.spans ∙ ap (λ (b : Bool). data_after b now d.op (data_at s r.spans)) (eq-eqb s d.span same) in
             let turn = cond-true {A = ℕ} (d.span == s) (turned (deed d.op) (opened s)) (opened s) here in
-            let mine = op_story setup (first s) (told_at s r.spans) (place_in order s) (done s) (opened s) now (stories.each s is) most d.op unstarted in
+            let mine = op_story setup (first s) (data_at s r.spans) (place_in order s) (done s) (opened s) now (stories.each s is) most d.op unstarted in
             rw read
-            (later_story setup (first s) (told_after true now d.op (told_at s r.spans)) (place_in order s) (λ own. done s own ++ stamp now d.op ∷ []) (turned (deed d.op) (opened s)) now mine (done_by now d done s) (turned_by d opened s) now
-            (λ own. sym (cond-true {A = List Stamped} (d.span == s) (done s own ++ stamp now d.op ∷ []) (done s own) here)) (same_bound (turned (deed d.op) (opened s)) (turned_by d opened s) (sym turn)) (omega arith)))
+            (later_story setup (first s) (data_after true now d.op (data_at s r.spans)) (place_in order s) (λ own. done s own ++ stamp now d.op ∷ []) (turned (deed d.op) (opened s)) now mine (done_by now d done s) (turned_by d opened s) now
+            (λ own. sym (cond-true {A = List TimedOp} (d.span == s) (done s own ++ stamp now d.op ∷ []) (done s own) here)) (same_bound (turned (deed d.op) (opened s)) (turned_by d opened s) (sym turn)) (omega arith)))
         | inr other ↦ (
             let apart = ne_eqb d.span s (λ e. other (sym e)) in
-            let read = told_at_op d.span s now d.op r.spans ∙ ap (λ (b : Bool). told_after b now d.op (told_at s r.spans)) (ne_eqb s d.span other) in
+            let read = told_at_op d.span s now d.op r.spans ∙ ap (λ (b : Bool). data_after b now d.op (data_at s r.spans)) (ne_eqb s d.span other) in
             let turn = cond-false {A = ℕ} (d.span == s) (turned (deed d.op) (opened s)) (opened s) apart in
             rw read
-            (later_story setup (first s) (told_at s r.spans) (place_in order s) (done s) (opened s) now (stories.each s is) (done_by now d done s) (turned_by d opened s) now
-            (λ own. sym (cond-false {A = List Stamped} (d.span == s) (done s own ++ stamp now d.op ∷ []) (done s own) apart)) (same_bound (opened s) (turned_by d opened s) (sym turn)) (omega arith)))
+            (later_story setup (first s) (data_at s r.spans) (place_in order s) (done s) (opened s) now (stories.each s is) (done_by now d done s) (turned_by d opened s) now
+            (λ own. sym (cond-false {A = List TimedOp} (d.span == s) (done s own ++ stamp now d.op ∷ []) (done s own) apart)) (same_bound (opened s) (turned_by d opened s) (sym turn)) (omega arith)))
       ];
-      fresh = λ s above. told_at_op d.span s now d.op r.spans ∙ none_after (s == d.span) now d.op (told_at s r.spans) (stories.fresh s above);
+      fresh = λ s above. told_at_op d.span s now d.op r.spans ∙ none_after (s == d.span) now d.op (data_at s r.spans) (stories.fresh s above);
       count = stories.count;
       settings_are = stories.settings_are;
       counting_is = stories.counting_is;
     }
 
-    pub ops_stories : (done : ℕ → SpanContext → List Stamped) (opened : ℕ → ℕ) (r : Recording) (ds : List Done) → AreStories setup first order done opened now is_known n r → AllByRecursion (λ d. (deed d.op).own ≡ None) ds
+    pub ops_stories : (done : ℕ → SpanContext → List TimedOp) (opened : ℕ → ℕ) (r : Recording) (ds : List SpanOp) → AreStories setup first order done opened now is_known n r → AllByRecursion (λ d. (deed d.op).own ≡ None) ds
         → AreStories setup first order (fold (λ f d. done_by now d f) done ds) (fold (λ f d. turned_by d f) opened ds) now is_known n (fold (λ r d. with_applied d.span now d.op r) r ds)
     ops_stories done opened r [] stories unstarted = stories
     ops_stories done opened r (d ∷ ds) stories unstarted = ops_stories (done_by now d done) (turned_by d opened) (with_applied d.span now d.op r) ds (op_stories done opened r d stories unstarted.0) unstarted.1
 
   -- ---- a close
 
-  abbrev pub Closed : List ℕ → (ℕ → SpanContext → List Stamped) → ℕ → Record → Type 0
+  abbrev pub Closed : List ℕ → (ℕ → SpanContext → List TimedOp) → ℕ → Record → Type 0
   Closed order done s r = IsEnding setup (first s) (done s) (place_in order s) now r
 
-  pub record Closes (order : List ℕ) (done : ℕ → SpanContext → List Stamped) (opened : ℕ → ℕ) (is_known : ℕ → Bool) (n : ℕ) (r : Recording) (spans : List ℕ) (later : Recording) : Type 0 where
+  pub record Closes (order : List ℕ) (done : ℕ → SpanContext → List TimedOp) (opened : ℕ → ℕ) (is_known : ℕ → Bool) (n : ℕ) (r : Recording) (spans : List ℕ) (later : Recording) : Type 0 where
     pub after : AreStories setup first (fold with_started order spans) (begun_by now order spans done) opened now (λ s. is_known s && not (is_in s spans)) n later
     pub records : List Record
     pub finished : later.finished ≡ r.finished ++ records
-    pub each : Each (Closed (fold with_started order spans) (begun_by now order spans done)) spans records
+    pub each : EachRecord (Closed (fold with_started order spans) (begun_by now order spans done)) spans records
 
   both : (a b : Bool) → (a && not b) ≡ true → (a ≡ true) × (b ≡ false)
   both true false is = (refl, refl)
@@ -225,47 +225,47 @@ module _ (setup : Setup) (first : ℕ → Told) (now : ℕ) (most : now ≤ GREA
   parted false a b is = absurd (cc is)
 
   module _ (opened : ℕ → ℕ) (n : ℕ) where
-    abbrev One : List ℕ → (ℕ → SpanContext → List Stamped) → (ℕ → Bool) → Recording → ℕ → Type 0
+    abbrev One : List ℕ → (ℕ → SpanContext → List TimedOp) → (ℕ → Bool) → Recording → ℕ → Type 0
     One order done is_known r id =
         (last : Record) × AreStories setup first (with_started order id) (begun_by now order (id ∷ []) done) opened now (λ s. is_known s && not (id == s)) n (with_close id now r) × ((with_close id now r).finished ≡ r.finished ++ last ∷ [])
         × Closed (with_started order id) (begun_by now order (id ∷ []) done) id last
 
-    close_by : (order : List ℕ) (done : ℕ → SpanContext → List Stamped) (is_known : ℕ → Bool) (r : Recording) (id : ℕ) → AreStories setup first (with_started order id) (begun_by now order (id ∷ []) done) opened now is_known n (with_start id now r)
-        → (f : IsStory setup (told_at id (with_start id now r).spans) (first id) (place_in (with_started order id) id) (begun_by now order (id ∷ []) done id) (opened id) now) → opened id ≡ 0 → One order done is_known r id
+    close_by : (order : List ℕ) (done : ℕ → SpanContext → List TimedOp) (is_known : ℕ → Bool) (r : Recording) (id : ℕ) → AreStories setup first (with_started order id) (begun_by now order (id ∷ []) done) opened now is_known n (with_start id now r)
+        → (f : IsStory setup (data_at id (with_start id now r).spans) (first id) (place_in (with_started order id) id) (begun_by now order (id ∷ []) done id) (opened id) now) → opened id ≡ 0 → One order done is_known r id
     close_by order done is_known r id j f none =
         let s : Recording = with_start id now r in
-        let is : with_close id now r ≡ closed (Some f.told) id now s = ap (λ (o : Option Told). closed o id now s) f.is in
+        let is : with_close id now r ≡ without_closed (Some f.told) id now s = ap (λ (o : Option SpanData). without_closed o id now s) f.is in
         let some : 0 < place_in (with_started order id) id = (let there = present 1 (with_started order id) id (in_started order id) in omega (arith, there)) in (
           record_of f.told now,
           subst (λ (t : Recording). AreStories setup first (with_started order id) (begun_by now order (id ∷ []) done) opened now (λ s. is_known s && not (id == s)) n t) (sym is) (record {
             each = λ q is.
                 let parts = both (is_known q) (id == q) is in
                 let other : (q ≡ id → ⊥) = λ e. true≢false (sym (eq-eqb id q (sym e)) ∙ parts.1) in
-                subst (λ (o : Option Told). IsStory setup o (first q) (place_in (with_started order id) q) (begun_by now order (id ∷ []) done q) (opened q) now) (sym (told_at_removed id q s.spans other)) (j.each q parts.0);
+                subst (λ (o : Option SpanData). IsStory setup o (first q) (place_in (with_started order id) q) (begun_by now order (id ∷ []) done q) (opened q) now) (sym (told_at_removed id q s.spans other)) (j.each q parts.0);
             fresh = λ q above. elim (cases_eq q id) [
-              | inl same ↦ absurd (cc (sym (ap (λ (t : ℕ). told_at t s.spans) same ∙ f.is) ∙ j.fresh q above))
+              | inl same ↦ absurd (cc (sym (ap (λ (t : ℕ). data_at t s.spans) same ∙ f.is) ∙ j.fresh q above))
               | inr other ↦ told_at_removed id q s.spans other ∙ j.fresh q above
             ];
             count = j.count;
             settings_are = j.settings_are;
             counting_is = j.counting_is;
           }),
-          ap (λ (t : Recording). t.finished) is ∙ ap (λ (rs : List Record). rs ++ record_of f.told now ∷ []) (start_finished (waits (told_at id r.spans)) id now r),
-          record_is setup (first id) (told_at id s.spans) (place_in (with_started order id) id) (begun_by now order (id ∷ []) done id) (opened id) now f none some,
+          ap (λ (t : Recording). t.finished) is ∙ ap (λ (rs : List Record). rs ++ record_of f.told now ∷ []) (start_finished (waits (data_at id r.spans)) id now r),
+          record_is setup (first id) (data_at id s.spans) (place_in (with_started order id) id) (begun_by now order (id ∷ []) done id) (opened id) now f none some,
         )
 
-    pub close_story : (order : List ℕ) (done : ℕ → SpanContext → List Stamped) (is_known : ℕ → Bool) (r : Recording) (id : ℕ) → AreStories setup first order done opened now is_known n r → is_known id ≡ true → opened id ≡ 0 → One order done is_known r id
+    pub close_story : (order : List ℕ) (done : ℕ → SpanContext → List TimedOp) (is_known : ℕ → Bool) (r : Recording) (id : ℕ) → AreStories setup first order done opened now is_known n r → is_known id ≡ true → opened id ≡ 0 → One order done is_known r id
     close_story order done is_known r id stories known none =
         let j = start_stories opened is_known n order done r id stories known in close_by order done is_known r id j (j.each id known) none
 
     -- what closed stays so
-    first_stays : (order : List ℕ) (done : ℕ → SpanContext → List Stamped) (id : ℕ) (spans : List ℕ) (last : Record) → Closed (with_started order id) (begun_by now order (id ∷ []) done) id last → Closed (fold with_started order (id ∷ spans)) (begun_by now order (id ∷ spans) done) id last
+    first_stays : (order : List ℕ) (done : ℕ → SpanContext → List TimedOp) (id : ℕ) (spans : List ℕ) (last : Record) → Closed (with_started order id) (begun_by now order (id ∷ []) done) id last → Closed (fold with_started order (id ∷ spans)) (begun_by now order (id ∷ spans) done) id last
     first_stays order done id spans last c =
         same_record setup (first id) (begun_by now order (id ∷ []) done id) (begun_by now order (id ∷ spans) done id) (place_in (with_started order id) id) (place_in (fold with_started order (id ∷ spans)) id) now last
-        (λ own. sym (append-nil (begun_by now order (id ∷ []) done id own)) ∙ ap (λ (xs : List Stamped). begun_by now order (id ∷ []) done id own ++ xs) (sym (starts_not own now id (with_started order id) spans (in_started order id))) ∙ begun_cons now order id spans done id own)
+        (λ own. sym (append-nil (begun_by now order (id ∷ []) done id own)) ∙ ap (λ (xs : List TimedOp). begun_by now order (id ∷ []) done id own ++ xs) (sym (starts_not own now id (with_started order id) spans (in_started order id))) ∙ begun_cons now order id spans done id own)
         (sym (places_stay (with_started order id) spans id c.ends.started)) c
 
-    closes_on : (order : List ℕ) (done : ℕ → SpanContext → List Stamped) (is_known : ℕ → Bool) (r : Recording) (id : ℕ) (spans : List ℕ) → One order done is_known r id
+    closes_on : (order : List ℕ) (done : ℕ → SpanContext → List TimedOp) (is_known : ℕ → Bool) (r : Recording) (id : ℕ) (spans : List ℕ) → One order done is_known r id
         → Closes (with_started order id) (begun_by now order (id ∷ []) done) opened (λ s. is_known s && not (id == s)) n (with_close id now r) spans (fold (λ r s. with_close s now r) (with_close id now r) spans)
         → Closes order done opened is_known n r (id ∷ spans) (fold (λ r s. with_close s now r) r (id ∷ spans))
     closes_on order done is_known r id spans one rest = record {
@@ -281,7 +281,7 @@ module _ (setup : Setup) (first : ℕ → Told) (now : ℕ) (most : now ≤ GREA
       );
     }
 
-    pub closes_stories : (order : List ℕ) (done : ℕ → SpanContext → List Stamped) (is_known : ℕ → Bool) (r : Recording) (spans : List ℕ) → AreStories setup first order done opened now is_known n r → ((s : ℕ) → occurrences s spans ≤ cond (is_known s) 1 0)
+    pub closes_stories : (order : List ℕ) (done : ℕ → SpanContext → List TimedOp) (is_known : ℕ → Bool) (r : Recording) (spans : List ℕ) → AreStories setup first order done opened now is_known n r → ((s : ℕ) → occurrences s spans ≤ cond (is_known s) 1 0)
         → ((s : ℕ) → 0 < occurrences s spans → opened s ≡ 0) → Closes order done opened is_known n r spans (fold (λ r s. with_close s now r) r spans)
     closes_stories order done is_known r [] stories once shut = record {
       after = same_stories order done (begun_by now order [] done) opened is_known (λ s. is_known s && not (is_in s [])) n r (λ s own. sym (append-nil (done s own))) (λ s is. (both (is_known s) false is).0) stories;
@@ -308,17 +308,17 @@ module _ (setup : Setup) (first : ℕ → Told) (now : ℕ) (most : now ≤ GREA
 
 starts_finished : (at : ℕ) (r : Recording) (ids : List ℕ) → (fold (λ r s. with_start s at r) r ids).finished ≡ r.finished
 starts_finished at r [] = refl
-starts_finished at r (id ∷ ids) = starts_finished at (with_start id at r) ids ∙ start_finished (waits (told_at id r.spans)) id at r
+starts_finished at r (id ∷ ids) = starts_finished at (with_start id at r) ids ∙ start_finished (waits (data_at id r.spans)) id at r
 
 begins_finished : (o : Option ℕ) (at : ℕ) (r : Recording) → (with_starts o at r).finished ≡ r.finished
 begins_finished None at r = refl
-begins_finished (Some id) at r = start_finished (waits (told_at id r.spans)) id at r
+begins_finished (Some id) at r = start_finished (waits (data_at id r.spans)) id at r
 
-ops_finished : (at : ℕ) (r : Recording) (ds : List Done) → (fold (λ r d. with_applied d.span at d.op r) r ds).finished ≡ r.finished
+ops_finished : (at : ℕ) (r : Recording) (ds : List SpanOp) → (fold (λ r d. with_applied d.span at d.op r) r ds).finished ≡ r.finished
 ops_finished at r [] = refl
 ops_finished at r (d ∷ ds) = ops_finished at (with_applied d.span at d.op r) ds
 
-made_finished : (n : ℕ) (o : Option Made) (r : Recording) → (with_made n o r).finished ≡ r.finished
+made_finished : (n : ℕ) (o : Option MadeSpan) (r : Recording) → (with_span_made n o r).finished ≡ r.finished
 made_finished n None r = refl
 made_finished n (Some m) r = refl
 
@@ -329,4 +329,4 @@ before_closes n e r = table.done_by n e r
 pub before_finished : (n : ℕ) (e : Effect) (r : Recording) → (before_closes n e r).finished ≡ r.finished
 before_finished n e r =
     let started = fold (λ r s. with_start s e.at r) r e.starts in
-    ops_finished e.at (table.begun_by n e r) e.ops ∙ begins_finished e.begins e.at (with_made n e.made started) ∙ made_finished n e.made started ∙ starts_finished e.at r e.starts
+    ops_finished e.at (table.begun_by n e r) e.ops ∙ begins_finished e.begins e.at (with_span_made n e.new_span started) ∙ made_finished n e.new_span started ∙ starts_finished e.at r e.starts

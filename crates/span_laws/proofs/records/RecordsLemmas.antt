@@ -10,11 +10,11 @@ use Rattle.trace_base.specs.Spans.{is_in}
 use Rattle.span_script.specs.declared.request.Request.{Request}
 use Rattle.span_script.specs.Effects.{effect_of}
 use Rattle.span_script.specs.Setups.{Setup}
-use Rattle.span_script.specs.Tables.{Effect, Guarded, History, Tables, made_of, records_of, slot_at, tables}
+use Rattle.span_script.specs.Tables.{Effect, ScopeGuard, History, Tables, made_of, records_of, slot_at, tables}
 use Rattle.span_laws.specs.Closes.{is_drop}
 use Rattle.span_laws.specs.Laws.{IsHistory}
-use Rattle.span_laws.specs.Records.{Each, closed_at, ops_of, records}
-use Rattle.span_laws.specs.Starts.{place_in, started}
+use Rattle.span_laws.specs.Records.{EachRecord, closed_at, ops_of, records}
+use Rattle.span_laws.specs.Starts.{place_in, starting_order}
 use Rattle.span_laws.specs.Telling.{TellsAttributes, TellsSpan}
 use Rattle.span_laws.proofs.records.HistoriesLemmas.{IsClosed, done_in, effect_each, fits, whole}
 use Rattle.span_laws.proofs.spans.MakingsLemmas.{first_of}
@@ -25,7 +25,7 @@ use Rattle.span_laws.proofs.records.ContentsLemmas.{attributes_told, span_told, 
 use Rattle.span_script.proofs.spans.OpenSpansLemmas.{slot_open}
 
 pub as_many_as_closed : (setup : Setup) (h : History) → IsHistory setup h → length (records setup h) ≡ length (tables setup h).closed
-as_many_as_closed setup h legal = each_length (IsClosed setup (tables setup h).made h) (tables setup h).closed (records setup h) (whole setup h legal).each
+as_many_as_closed setup h legal = each_length (IsClosed setup (tables setup h).spans h) (tables setup h).closed (records setup h) (whole setup h legal).each
 
 pub as_many_as_close : (setup : Setup) (h : History) (request : Request) (e : Effect) → IsHistory setup h → effect_of setup (tables setup h) request ≡ Ok e → length (records_of (tables setup h) e) ≡ length e.closes
 as_many_as_close setup h request e legal is =
@@ -38,22 +38,22 @@ module _ (setup : Setup) (h : History) (legal : IsHistory setup h) where
   abbrev t : Tables
   t = tables setup h
 
-  read_off : (P : ℕ → Record → Type 0) → ((s : ℕ) (r : Record) → IsClosed setup t.made h s r → P s r) → Each P t.closed (records setup h)
-  read_off P read = each_map (IsClosed setup t.made h) P t.closed (records setup h) (λ s r some c. read s r c) (whole setup h legal).each
+  read_off : (P : ℕ → Record → Type 0) → ((s : ℕ) (r : Record) → IsClosed setup t.spans h s r → P s r) → EachRecord P t.closed (records setup h)
+  read_off P read = each_map (IsClosed setup t.spans h) P t.closed (records setup h) (λ s r some c. read s r c) (whole setup h legal).each
 
-  pub spans : Each (λ s r. TellsSpan (made_of t.made s).told.made (last_exit (ops_of r.context h s)) (closed_at h s) r) t.closed (records setup h)
-  spans = read_off (λ s r. TellsSpan (made_of t.made s).told.made (last_exit (ops_of r.context h s)) (closed_at h s) r)
-      (λ s r c. span_told setup (first_of t.made s) (done_in h s) (place_in (started h) s) (closed_at h s) r c)
+  pub spans : EachRecord (λ s r. TellsSpan (made_of t.spans s).made_with.made (last_exit (ops_of r.context h s)) (closed_at h s) r) t.closed (records setup h)
+  spans = read_off (λ s r. TellsSpan (made_of t.spans s).made_with.made (last_exit (ops_of r.context h s)) (closed_at h s) r)
+      (λ s r c. span_told setup (first_of t.spans s) (done_in h s) (place_in (starting_order h) s) (closed_at h s) r c)
 
-  pub add_up : IsTrue setup.layer.inactivity → Each (λ s r. TellsTimes (was_entered (ops_of r.context h s)) (last_exit (ops_of r.context h s)) r) t.closed (records setup h)
+  pub add_up : IsTrue setup.layer.inactivity → EachRecord (λ s r. TellsTimes (was_entered (ops_of r.context h s)) (last_exit (ops_of r.context h s)) r) t.closed (records setup h)
   add_up tracked = read_off (λ s r. TellsTimes (was_entered (ops_of r.context h s)) (last_exit (ops_of r.context h s)) r)
-      (λ s r c. times_told setup (first_of t.made s) (done_in h s) (place_in (started h) s) (closed_at h s) r c tracked)
+      (λ s r c. times_told setup (first_of t.spans s) (done_in h s) (place_in (starting_order h) s) (closed_at h s) r c tracked)
 
-  pub attributes : Each (λ s r. TellsAttributes setup (made_of t.made s).told.attributes (attributes_of (ops_of r.context h s)) (counted_of (ops_of r.context h s)) r) t.closed (records setup h)
-  attributes = read_off (λ s r. TellsAttributes setup (made_of t.made s).told.attributes (attributes_of (ops_of r.context h s)) (counted_of (ops_of r.context h s)) r)
-      (λ s r c. attributes_told setup (first_of t.made s) (done_in h s) (place_in (started h) s) (closed_at h s) r c)
+  pub attributes : EachRecord (λ s r. TellsAttributes setup (made_of t.spans s).made_with.attributes (attributes_of (ops_of r.context h s)) (counted_of (ops_of r.context h s)) r) t.closed (records setup h)
+  attributes = read_off (λ s r. TellsAttributes setup (made_of t.spans s).made_with.attributes (attributes_of (ops_of r.context h s)) (counted_of (ops_of r.context h s)) r)
+      (λ s r c. attributes_told setup (first_of t.spans s) (done_in h s) (place_in (starting_order h) s) (closed_at h s) r c)
 
-pub none_open : (setup : Setup) (h : History) (n s : ℕ) (g : Guarded) → IsHistory setup h → slot_at (tables setup h).guards n ≡ Some g → is_in s g.scope ≡ true → is_in s (tables setup h).closed ≡ false
+pub none_open : (setup : Setup) (h : History) (n s : ℕ) (g : ScopeGuard) → IsHistory setup h → slot_at (tables setup h).guards n ≡ Some g → is_in s g.scope ≡ true → is_in s (tables setup h).closed ≡ false
 none_open setup h n s g legal there inside =
     let t = tables setup h in
     let now = (whole setup h legal).stands in

@@ -11,20 +11,20 @@ use Rattle.otel_state.specs.declared.op.Op.{Op}
 use Rattle.otel_state.specs.declared.op.Op.TheVariants as ops
 use Rattle.otel_state.specs.declared.times.TheConstants.{GREATEST}
 use Rattle.otel_state.specs.Content.{Making, content}
-use Rattle.otel_state.specs.Deeds.{Deed, Stamped, deed}
-use Rattle.otel_state.specs.Opening.{parent_of}
-use Rattle.otel_state.specs.States.{Told, changed, first_start, unless_started, Stands, record_of}
-use Rattle.otel_state.specs.Times.{InOrder, open_by}
+use Rattle.otel_state.specs.Deeds.{Deed, TimedOp, deed}
+use Rattle.otel_state.specs.Opening.{parent_context_of}
+use Rattle.otel_state.specs.States.{SpanData, after_op, first_start, unless_started, Stands, record_of}
+use Rattle.otel_state.specs.Times.{MomentsRise, open_by}
 use Rattle.otel_state.proofs.Summing.{appended, entries_is, parent_is, content_is}
-use Rattle.otel_layer.specs.Recording.{told_after}
+use Rattle.otel_layer.specs.Recording.{data_after}
 use Rattle.span_script.specs.Setups.{Setup}
 use Rattle.span_laws.specs.Records.{Began, IsRecord, all_ops}
 
 -- the moment of the last op, else of the making
-abbrev pub last_at : ℕ → List Stamped → ℕ
+abbrev pub last_at : ℕ → List TimedOp → ℕ
 last_at made all = fold (λ _ op. op.at) made all
 
-abbrev pub stamp : ℕ → Op → Stamped
+abbrev pub stamp : ℕ → Op → TimedOp
 stamp at op = record { at = at; op = op }
 
 -- a span's own ids, by its place among the starts and its parent
@@ -41,30 +41,30 @@ IsOwn (Some given) own = given ≡ own
 abbrev pub turned : Deed → ℕ → ℕ
 turned d n = if d.exits then n - 1 else if d.enters then n + 1 else n
 
-pub record IsStory (setup : Setup) (o : Option Told) (first : Told) (place : ℕ) (done : SpanContext → List Stamped) (opened now : ℕ) : Type 0 where
-  pub told : Told
+pub record IsStory (setup : Setup) (o : Option SpanData) (first : SpanData) (place : ℕ) (done : SpanContext → List TimedOp) (opened now : ℕ) : Type 0 where
+  pub told : SpanData
   pub is : o ≡ Some told
   pub making : Making
   pub began : Began setup first.made first making
-  pub later : List Stamped
+  pub later : List TimedOp
   pub stands : Stands making (all_ops making began.update later) told
-  pub in_order : InOrder making.made (all_ops making began.update later)
+  pub in_order : MomentsRise making.made (all_ops making began.update later)
   pub last : last_at making.made (all_ops making began.update later) ≤ now
   pub rest : (own : SpanContext) → IsOwn told.own own → later ≡ done own
   pub has_id : HasId told.own place told.parent
   pub within : told.entries ≤ opened
 
 -- the record of a span that had come to something by its making, whichever that was
-pub record IsEnding (setup : Setup) (first : Told) (done : SpanContext → List Stamped) (place at : ℕ) (r : Record) : Type 0 where
+pub record IsEnding (setup : Setup) (first : SpanData) (done : SpanContext → List TimedOp) (place at : ℕ) (r : Record) : Type 0 where
   pub making : Making
   pub began : Began setup first.made first making
   pub ends : IsRecord making began.update done place at r
 
-in_order_push : (made : ℕ) (all : List Stamped) (op : Stamped) → InOrder made all → last_at made all ≤ op.at → op.at ≤ GREATEST → InOrder made (all ++ op ∷ [])
+in_order_push : (made : ℕ) (all : List TimedOp) (op : TimedOp) → MomentsRise made all → last_at made all ≤ op.at → op.at ≤ GREATEST → MomentsRise made (all ++ op ∷ [])
 in_order_push made [] op order later most = (later, most)
 in_order_push made (o ∷ all) op order later most = (order.0, in_order_push o.at all op order.1 later most)
 
-last_push : (made : ℕ) (all : List Stamped) (op : Stamped) → last_at made (all ++ op ∷ []) ≡ op.at
+last_push : (made : ℕ) (all : List TimedOp) (op : TimedOp) → last_at made (all ++ op ∷ []) ≡ op.at
 last_push made all op = fold_push (λ _ o. o.at) made all op
 
 own_same : (own : Option SpanContext) → first_start own None ≡ own
@@ -75,9 +75,9 @@ settled : (own : SpanContext) (parent : Context) (written : Option Context) → 
 settled own parent None = refl
 settled own parent (Some context) = refl
 
-module _ (setup : Setup) (first : Told) where
-  module _ (o : Option Told) (place : ℕ) (done : SpanContext → List Stamped) (opened now : ℕ) (story : IsStory setup o first place done opened now) where
-    abbrev all : List Stamped
+module _ (setup : Setup) (first : SpanData) where
+  module _ (o : Option SpanData) (place : ℕ) (done : SpanContext → List TimedOp) (opened now : ℕ) (story : IsStory setup o first place done opened now) where
+    abbrev all : List TimedOp
     all = all_ops story.making story.began.update story.later
 
     turned_within : (exits enters : Bool) (n : ℕ) → n ≤ opened → (if exits then n - 1 else if enters then min (n + 1) GREATEST else n) ≤ (if exits then opened - 1 else if enters then opened + 1 else opened)
@@ -86,39 +86,39 @@ module _ (setup : Setup) (first : Told) where
     turned_within false false n within = within
 
     -- one op more
-    id_after : (op : Op) → (changed story.told now op).own ≡ story.told.own → (own : Option SpanContext) → story.told.own ≡ own → HasId own place story.told.parent → HasId (changed story.told now op).own place (changed story.told now op).parent
-    id_after op same None is has = subst (λ (own : Option SpanContext). HasId own place (changed story.told now op).parent) (sym (same ∙ is)) has
+    id_after : (op : Op) → (after_op story.told now op).own ≡ story.told.own → (own : Option SpanContext) → story.told.own ≡ own → HasId own place story.told.parent → HasId (after_op story.told now op).own place (after_op story.told now op).parent
+    id_after op same None is has = subst (λ (own : Option SpanContext). HasId own place (after_op story.told now op).parent) (sym (same ∙ is)) has
     id_after op same (Some own) is has =
-        let parent : (changed story.told now op).parent ≡ story.told.parent = ap (λ (own : Option SpanContext). unless_started own story.told.parent (deed op).parent) (same ∙ is) ∙ settled own story.told.parent (deed op).parent in
-        subst (λ (own : Option SpanContext). HasId own place (changed story.told now op).parent) (sym (same ∙ is)) (subst (λ (context : Context). HasId (Some own) place context) (sym parent) has)
+        let parent : (after_op story.told now op).parent ≡ story.told.parent = ap (λ (own : Option SpanContext). unless_started own story.told.parent (deed op).parent) (same ∙ is) ∙ settled own story.told.parent (deed op).parent in
+        subst (λ (own : Option SpanContext). HasId own place (after_op story.told now op).parent) (sym (same ∙ is)) (subst (λ (context : Context). HasId (Some own) place context) (sym parent) has)
 
-    pub op_story : now ≤ GREATEST → (op : Op) → (deed op).own ≡ None → IsStory setup (told_after true now op o) first place (λ own. done own ++ stamp now op ∷ []) (turned (deed op) opened) now
+    pub op_story : now ≤ GREATEST → (op : Op) → (deed op).own ≡ None → IsStory setup (data_after true now op o) first place (λ own. done own ++ stamp now op ∷ []) (turned (deed op) opened) now
     op_story most op unstarted =
-        let same : (changed story.told now op).own ≡ story.told.own = ap (first_start story.told.own) unstarted ∙ own_same story.told.own in
+        let same : (after_op story.told now op).own ≡ story.told.own = ap (first_start story.told.own) unstarted ∙ own_same story.told.own in
         record {
-          told = changed story.told now op;
-          is = ap (told_after true now op) story.is;
+          told = after_op story.told now op;
+          is = ap (data_after true now op) story.is;
           making = story.making;
           began = story.began;
           later = story.later ++ stamp now op ∷ [];
           stands = appended story.told now op story.making all story.stands;
           in_order = in_order_push story.making.made all (stamp now op) story.in_order story.last most;
           last = let is = last_push story.making.made all (stamp now op) in omega (arith, is);
-          rest = λ own mine. ap (λ (xs : List Stamped). xs ++ stamp now op ∷ []) (story.rest own (subst (λ (o : Option SpanContext). IsOwn o own) same mine));
+          rest = λ own mine. ap (λ (xs : List TimedOp). xs ++ stamp now op ∷ []) (story.rest own (subst (λ (o : Option SpanContext). IsOwn o own) same mine));
           has_id = id_after op same story.told.own refl story.has_id;
           within = turned_within (deed op).exits (deed op).enters story.told.entries story.within;
         }
 
     -- the start
     pub start_story : now ≤ GREATEST → (first_place : ℕ) → story.told.own ≡ None → 0 < first_place
-        → IsStory setup (told_after true now (ops.Start (recorder_ids first_place (ids_of story.told.parent))) o) first first_place (λ own. done own ++ stamp now (ops.Start own) ∷ []) opened now
+        → IsStory setup (data_after true now (ops.Start (recorder_ids first_place (ids_of story.told.parent))) o) first first_place (λ own. done own ++ stamp now (ops.Start own) ∷ []) opened now
     start_story most first_place unstarted some =
         let given : SpanContext = recorder_ids first_place (ids_of story.told.parent) in
         let op : Op = ops.Start given in
-        let started : (changed story.told now op).own ≡ Some given = ap (λ (o : Option SpanContext). first_start o (Some given)) unstarted in
+        let started : (after_op story.told now op).own ≡ Some given = ap (λ (o : Option SpanContext). first_start o (Some given)) unstarted in
         record {
-          told = changed story.told now op;
-          is = ap (told_after true now op) story.is;
+          told = after_op story.told now op;
+          is = ap (data_after true now op) story.is;
           making = story.making;
           began = story.began;
           later = story.later ++ stamp now op ∷ [];
@@ -127,7 +127,7 @@ module _ (setup : Setup) (first : Told) where
           last = let at_now = last_push story.making.made all (stamp now op) in omega (arith, at_now);
           rest = λ own mine.
               let same : given ≡ own = subst (λ (o : Option SpanContext). IsOwn o own) started mine in
-              ap (λ (xs : List Stamped). xs ++ stamp now op ∷ []) (story.rest own (subst (λ (o : Option SpanContext). IsOwn o own) (sym unstarted) tt)) ∙ ap (λ (c : SpanContext). done own ++ stamp now (ops.Start c) ∷ []) same;
+              ap (λ (xs : List TimedOp). xs ++ stamp now op ∷ []) (story.rest own (subst (λ (o : Option SpanContext). IsOwn o own) (sym unstarted) tt)) ∙ ap (λ (c : SpanContext). done own ++ stamp now (ops.Start c) ∷ []) same;
           has_id = subst (λ (o : Option SpanContext). HasId o first_place story.told.parent) (sym started) (refl, some);
           within = story.within;
         }
@@ -143,11 +143,11 @@ module _ (setup : Setup) (first : Told) where
           making = story.making;
           began = story.began;
           ends = record {
-            in_order = subst (InOrder story.making.made) all_is story.in_order;
+            in_order = subst (MomentsRise story.making.made) all_is story.in_order;
             shut = (let entries = entries_is story.told story.making all story.stands in let within = story.within in let same = ap (open_by 0) all_is in omega (arith, entries, within, none, same));
-            is = content_is story.making all story.told now story.stands story.in_order ∙ ap (λ (xs : List Stamped). content story.making xs now) all_is;
+            is = content_is story.making all story.told now story.stands story.in_order ∙ ap (λ (xs : List TimedOp). content story.making xs now) all_is;
             started = some;
-            own = context ∙ has.0 ∙ ap (λ (c : Context). recorder_ids place (ids_of c)) (parent_is story.told story.making all story.stands ∙ ap (parent_of story.making.parent) all_is);
+            own = context ∙ has.0 ∙ ap (λ (c : Context). recorder_ids place (ids_of c)) (parent_is story.told story.making all story.stands ∙ ap (parent_context_of story.making.parent) all_is);
           };
         }
 
@@ -155,7 +155,7 @@ module _ (setup : Setup) (first : Told) where
     record_is none some = record_by none story.told.own refl story.has_id some
 
     -- time goes on, more entries may be open, and the ops are those told otherwise
-    pub later_story : (same : SpanContext → List Stamped) (more at : ℕ) → ((own : SpanContext) → done own ≡ same own) → opened ≤ more → now ≤ at → IsStory setup o first place same more at
+    pub later_story : (same : SpanContext → List TimedOp) (more at : ℕ) → ((own : SpanContext) → done own ≡ same own) → opened ≤ more → now ≤ at → IsStory setup o first place same more at
     later_story same more at alike wider later = record {
       told = story.told;
       is = story.is;

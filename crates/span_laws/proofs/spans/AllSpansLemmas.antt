@@ -9,7 +9,7 @@ use Rattle.span_script.specs.Setups.{Setup}
 use Rattle.span_script.specs.Tables.{Scope, History, tables}
 use Rattle.span_script.specs.calls.Spans.{is_open, open_spans}
 use Rattle.span_laws.specs.Laws.{IsHistory, occurrences}
-use Rattle.span_laws.specs.Starts.{started}
+use Rattle.span_laws.specs.Starts.{starting_order}
 use Rattle.span_laws.proofs.spans.IdsLemmas.{started_once}
 use Rattle.span_laws.proofs.spans.OccurrencesLemmas.{is_in_counted, occurs_cons}
 use Rattle.span_laws.proofs.spans.PlacesLemmas.{present}
@@ -63,23 +63,23 @@ module _ (hs : List (Option Scope)) (n : ℕ) (cs : List ℕ) (ended : (s : ℕ)
       let sum = either n (omega arith) in
       omega (arith, all, sum)
 
-pub closed_and_open : (setup : Setup) (h : History) → IsHistory setup h → length (tables setup h).closed + open_spans (tables setup h) ≡ length (tables setup h).made
-closed_and_open setup h legal = let t = tables setup h in balanced t.handles (length t.made) t.closed (whole setup h legal).stands.sound.ended
+pub closed_and_open : (setup : Setup) (h : History) → IsHistory setup h → length (tables setup h).closed + open_spans (tables setup h) ≡ length (tables setup h).spans
+closed_and_open setup h legal = let t = tables setup h in balanced t.handles (length t.spans) t.closed (whole setup h legal).stands.sound.ended
 
 -- no more spans start than are made
 few : (xs : List ℕ) (m : ℕ) → ((s : ℕ) → occurrences s xs ≤ 1) → among xs m ≤ m
 few xs zero once = omega arith
 few xs (suc m) once = let next = among_more xs m in let rest = few xs m once in let here = once m in omega (arith, next, rest, here)
 
-pub started_few : (setup : Setup) (h : History) → IsHistory setup h → length (started h) ≤ length (tables setup h).made
+pub started_few : (setup : Setup) (h : History) → IsHistory setup h → length (starting_order h) ≤ length (tables setup h).spans
 started_few setup h legal =
-    let n = length (tables setup h).made in
-    let all = among_all (started h) n others in
-    let most = few (started h) n (started_once h) in
+    let n = length (tables setup h).spans in
+    let all = among_all (starting_order h) n others in
+    let most = few (starting_order h) n (started_once h) in
     omega (arith, all, most)
   where
-    others : (s : ℕ) → length (tables setup h).made ≤ s → occurrences s (started h) ≡ 0
-    others s above = elim (cases_Bool (is_in s (started h))) [
-      | inl there ↦ absurd (let place = present 1 (started h) s there in let unplaced = ((whole setup h legal).unborn s above).0 in omega (arith, place, unplaced))
-      | inr out ↦ (let counted = is_in_counted s (started h) in grind (arith, nat_tests, counted, out))
+    others : (s : ℕ) → length (tables setup h).spans ≤ s → occurrences s (starting_order h) ≡ 0
+    others s above = elim (cases_Bool (is_in s (starting_order h))) [
+      | inl there ↦ absurd (let place = present 1 (starting_order h) s there in let unplaced = ((whole setup h legal).unborn s above).0 in omega (arith, place, unplaced))
+      | inr out ↦ (let counted = is_in_counted s (starting_order h) in grind (arith, nat_tests, counted, out))
     ]

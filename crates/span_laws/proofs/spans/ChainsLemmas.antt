@@ -7,7 +7,7 @@ use Rattle.span_script.specs.declared.request.Request.{Request}
 use Rattle.span_script.specs.Effects.{effect_of}
 use Rattle.span_script.specs.calls.Spans.{holds, is_open, closed_of}
 use Rattle.span_script.specs.Setups.{Setup}
-use Rattle.span_script.specs.Tables.{Scope, Made, Guarded, Effect, History, with_new, spend, slot_at, made_of, tables}
+use Rattle.span_script.specs.Tables.{Scope, MadeSpan, ScopeGuard, Effect, History, with_item, spend, slot_at, made_of, tables}
 use Rattle.span_laws.specs.Closes.{BeginsWith, is_drop}
 use Rattle.span_laws.specs.Laws.{IsHistory}
 use Rattle.span_laws.proofs.spans.ClosesLemmas.{AreMine, IsSound, named, step_stands}
@@ -21,7 +21,7 @@ the_rest : (a b : ℕ) (x y : Scope) → ◌≡◌ {A = Scope} (a ∷ x) (b ∷ 
 the_rest a b x y e = cc e
 
 -- with a span the ones above it stand in a line too
-pub in_line : (ms : List Made) (scope : Scope) (x y : ℕ) (up : Scope) → AreMine ms scope → is_in x scope ≡ true → (made_of ms x).scope ≡ x ∷ up → is_in y up ≡ true → is_in y scope ≡ true
+pub in_line : (ms : List MadeSpan) (scope : Scope) (x y : ℕ) (up : Scope) → AreMine ms scope → is_in x scope ≡ true → (made_of ms x).scope ≡ x ∷ up → is_in y up ≡ true → is_in y scope ≡ true
 in_line ms [] x y up mine there is above = absurd (cc there)
 in_line ms (z ∷ zs) x y up mine there is above = by_test (in_line ms zs x y up mine.1) (z == x) refl there
   where
@@ -31,7 +31,7 @@ in_line ms (z ∷ zs) x y up mine there is above = by_test (in_line ms zs x y up
         or_right (z == y) (is_in y zs) (ap (is_in y) at ∙ above)
     by_test rest false same there = or_right (z == y) (is_in y zs) (rest there is above)
 
-module _ (hs : List (Option Scope)) (ms : List Made) (cs : List ℕ) (sound : IsSound hs ms cs) where
+module _ (hs : List (Option Scope)) (ms : List MadeSpan) (cs : List ℕ) (sound : IsSound hs ms cs) where
   -- what is above an open span is open
   pub open_above : (x y : ℕ) (up : Scope) → (made_of ms x).scope ≡ x ∷ up → is_in y up ≡ true → is_open hs x ≡ true → is_open hs y ≡ true
   open_above x y up is above held =
@@ -69,14 +69,14 @@ the_number : (a b : ℕ) → ◌≡◌ {A = Option ℕ} (Some a) (Some b) → a 
 the_number a b e = cc e
 
 -- the chain of a spent handle
-chain_of : (hs : List (Option Scope)) (gs : List (Option Guarded)) (ms : List Made) (cs : List ℕ) (o : Option ℕ) (closes : List ℕ) → Spends hs gs o closes → IsSound hs ms cs → IsSound (spend hs o) ms (cs ++ closes)
+chain_of : (hs : List (Option Scope)) (gs : List (Option ScopeGuard)) (ms : List MadeSpan) (cs : List ℕ) (o : Option ℕ) (closes : List ℕ) → Spends hs gs o closes → IsSound hs ms cs → IsSound (spend hs o) ms (cs ++ closes)
     → (k : ℕ) (scope : Scope) → o ≡ Some k → slot_at hs k ≡ Some scope → BeginsWith closes scope
 chain_of hs gs ms cs _ _ no_spending before later k scope is there = absurd (cc is)
 chain_of hs gs ms cs _ _ (one_spent n line closes at free same) before later k scope is there =
     let mine : line ≡ scope = some_is line scope (sym at ∙ ap (slot_at hs) (the_number n k is) ∙ there) in
     subst (BeginsWith closes) mine (subst (λ (l : List ℕ). BeginsWith l line) (sym same) (chain_front (slice_set hs n None) ms (cs ++ closes) later line (before.lines n line at).mine))
 
-kept_slot : (hs : List (Option Scope)) (o : Option Scope) (k : ℕ) (scope : Scope) → slot_at hs k ≡ Some scope → slot_at (with_new hs (option_map Some o)) k ≡ Some scope
+kept_slot : (hs : List (Option Scope)) (o : Option Scope) (k : ℕ) (scope : Scope) → slot_at hs k ≡ Some scope → slot_at (with_item hs (option_map Some o)) k ≡ Some scope
 kept_slot hs None k scope there = there
 kept_slot hs (Some new) k scope there = slot_push hs (Some new) k scope there
 

@@ -7,7 +7,7 @@ use Rattle.std.proofs.lemmas.Bool.Decides.{nat_tests}
 use Rattle.trace_base.specs.Spans.{is_in}
 use Rattle.span_script.specs.calls.Spans.{is_open}
 use Rattle.span_script.specs.Setups.{Setup}
-use Rattle.span_script.specs.Tables.{Scope, Made, Guarded, History, Tables, with_new, spend, no_making, made_of, no_tables, after, tables}
+use Rattle.span_script.specs.Tables.{Scope, MadeSpan, ScopeGuard, History, Tables, with_item, spend, no_made_span, made_of, no_tables, after_effect, tables}
 use Rattle.span_laws.specs.Closes.{BeginsWith, is_drop}
 use Rattle.span_laws.specs.Laws.{IsHistory, none, more, occurrences}
 use Rattle.span_laws.proofs.spans.ChainsLemmas.{chain_front, in_line, open_above}
@@ -24,14 +24,14 @@ first_in : (p : ℕ) (up : List ℕ) → is_in p (p ∷ up) ≡ true
 first_in p up = ap (λ b. b || is_in p up) (eq-eqb p p refl)
 
 -- in a line a parent stands behind its child
-behind : (ms : List Made) (x : ℕ) (xs : Scope) (s p : ℕ) (up : Scope) → AreMine ms (x ∷ xs) → is_in s (x ∷ xs) ≡ true → (made_of ms s).scope ≡ s ∷ p ∷ up → is_in p xs ≡ true
+behind : (ms : List MadeSpan) (x : ℕ) (xs : Scope) (s p : ℕ) (up : Scope) → AreMine ms (x ∷ xs) → is_in s (x ∷ xs) ≡ true → (made_of ms s).scope ≡ s ∷ p ∷ up → is_in p xs ≡ true
 behind ms x xs s p up mine there is = by_test (x == s) refl there
   where
     by_test : (b : Bool) → (x == s) ≡ b → (b || is_in s xs) ≡ true → is_in p xs ≡ true
     by_test true same there = ap (is_in p) (the_rest x s xs (p ∷ up) (sym mine.0 ∙ ap (λ (q : ℕ). (made_of ms q).scope) (eqb-true x s same) ∙ is)) ∙ first_in p up
     by_test false same there = in_line ms xs s p (p ∷ up) mine.1 there is (first_in p up)
 
-before : (ms : List Made) (scope : Scope) (s p : ℕ) (up f rest : List ℕ) → AreMine ms scope → ((q : ℕ) → occurrences q scope ≤ 1) → is_in s scope ≡ true → (made_of ms s).scope ≡ s ∷ p ∷ up → scope ≡ f ++ p ∷ rest → is_in s f ≡ true
+before : (ms : List MadeSpan) (scope : Scope) (s p : ℕ) (up f rest : List ℕ) → AreMine ms scope → ((q : ℕ) → occurrences q scope ≤ 1) → is_in s scope ≡ true → (made_of ms s).scope ≡ s ∷ p ∷ up → scope ≡ f ++ p ∷ rest → is_in s f ≡ true
 before ms [] s p up f rest mine once there is parts = absurd (cc there)
 before ms (x ∷ xs) s p up [] rest mine once there is parts = absurd (
     let same : x ≡ p = heads x p xs rest parts in
@@ -51,11 +51,11 @@ before ms (x ∷ xs) s p up (y ∷ f) rest mine once there is parts =
     by_test later false here there = or_right (y == s) (is_in s f) (later there is (tails x y xs (f ++ p ∷ rest) parts))
 
 -- each child stands before its parent among what closed
-abbrev pub AreFirst : List Made → List ℕ → Type 0
+abbrev pub AreFirst : List MadeSpan → List ℕ → Type 0
 AreFirst ms cs = (s p : ℕ) (up fore rest : List ℕ) → (made_of ms s).scope ≡ s ∷ p ∷ up → cs ≡ fore ++ p ∷ rest → is_in s fore ≡ true
 
 -- what has a scope was made
-scoped : (ms : List Made) (s x : ℕ) (up : Scope) → (made_of ms s).scope ≡ x ∷ up → s < length ms
+scoped : (ms : List MadeSpan) (s x : ℕ) (up : Scope) → (made_of ms s).scope ≡ x ∷ up → s < length ms
 scoped [] s x up is = absurd (cc is)
 scoped (m ∷ ms) zero x up is = omega arith
 scoped (m ∷ ms) (suc s) x up is = let less = scoped ms s x up is in omega (arith, less)
@@ -67,14 +67,14 @@ in_right : (s : ℕ) (xs ys : List ℕ) → is_in s ys ≡ true → is_in s (xs 
 in_right s xs ys there = let a = is_in_counted s ys in let b = is_in_counted s (xs ++ ys) in let c = occurs_append s xs ys in grind (arith, nat_tests, a, b, c, there)
 
 -- a new span's parent is open
-module _ (hs : List (Option Scope)) (ms : List Made) (cs : List ℕ) (sound : IsSound hs ms cs) where
-  old_first : AreFirst ms cs → (o : Option Scope) (m : Option Made) → Names hs ms o m → (s p : ℕ) (up fore rest : List ℕ) → (made_of (with_new ms m) s).scope ≡ s ∷ p ∷ up → cs ≡ fore ++ p ∷ rest → is_in s fore ≡ true
+module _ (hs : List (Option Scope)) (ms : List MadeSpan) (cs : List ℕ) (sound : IsSound hs ms cs) where
+  old_first : AreFirst ms cs → (o : Option Scope) (m : Option MadeSpan) → Names hs ms o m → (s p : ℕ) (up fore rest : List ℕ) → (made_of (with_item ms m) s).scope ≡ s ∷ p ∷ up → cs ≡ fore ++ p ∷ rest → is_in s fore ≡ true
   old_first first _ _ no_name s p up fore rest is parts = first s p up fore rest is parts
   old_first first _ _ (another scope known) s p up fore rest is parts = first s p up fore rest is parts
   old_first first _ _ (new_span m line known scope_is) s p up fore rest is parts = elim (cases_eq s (length ms)) [
-    | inr other ↦ first s p up fore rest (sym (ap (λ (made : Made). made.scope) (get_push_other ms m no_making s other)) ∙ is) parts
+    | inr other ↦ first s p up fore rest (sym (ap (λ (made : MadeSpan). made.scope) (get_push_other ms m no_made_span s other)) ∙ is) parts
     | inl new ↦ absurd (
-        let mine = ap (λ (made : Made). made.scope) (get_or_push ms m no_making s (sym new)) in
+        let mine = ap (λ (made : MadeSpan). made.scope) (get_or_push ms m no_made_span s (sym new)) in
         let is_line : line ≡ p ∷ up = the_rest (length ms) s line (p ∷ up) (sym scope_is ∙ sym mine ∙ is) in
         let some : 0 < occurrences p line = (let here = occurs_cons p p up in let same = ap (λ (l : Scope). occurrences p l) is_line in grind (arith, nat_tests, here, same)) in
         let held = known_open hs ms cs sound line known p some in
@@ -85,7 +85,7 @@ module _ (hs : List (Option Scope)) (ms : List Made) (cs : List ℕ) (sound : Is
   ]
 
 -- one effect more: with its handle `hs` are the handles, and `after_hs` the ones when that is spent
-module _ (hs : List (Option Scope)) (gs : List (Option Guarded)) (ms : List Made) (cs : List ℕ) (sound : IsSound hs ms cs) (old : AreFirst ms cs) where
+module _ (hs : List (Option Scope)) (gs : List (Option ScopeGuard)) (ms : List MadeSpan) (cs : List ℕ) (sound : IsSound hs ms cs) (old : AreFirst ms cs) where
   new_first : (o : Option ℕ) (closes : List ℕ) → Spends hs gs o closes → IsSound (spend hs o) ms (cs ++ closes)
       → (s p : ℕ) (up fore rest : List ℕ) → (made_of ms s).scope ≡ s ∷ p ∷ up → cs ++ closes ≡ fore ++ p ∷ rest → is_in s fore ≡ true
   new_first _ _ no_spending later s p up fore rest is parts = old s p up fore rest is (sym (append-nil cs) ∙ parts)
@@ -122,7 +122,7 @@ module _ (hs : List (Option Scope)) (gs : List (Option Guarded)) (ms : List Made
           let split : scope ≡ f ++ p ∷ (rest ++ chain.rest) = chain.is ∙ ap (λ (l : List ℕ). l ++ chain.rest) there ∙ append_assoc f (p ∷ rest) chain.rest in
           in_right s cs f (before ms scope s p up f (rest ++ chain.rest) (sound.lines k scope at).mine (λ q. (let one = (sound.lines k scope at).once q in grind (arith, nat_tests, one))) inside is split)
 
-first_on : (setup : Setup) (h : History) → IsHistory setup h → AreFirst (tables setup h).made (tables setup h).closed
+first_on : (setup : Setup) (h : History) → IsHistory setup h → AreFirst (tables setup h).spans (tables setup h).closed
 first_on setup _ none = λ s p up fore rest is parts. absurd (cc is)
 first_on setup _ (more h request e legal is_effect) =
     let t = tables setup h in
@@ -131,10 +131,10 @@ first_on setup _ (more h request e legal is_effect) =
     let stands = now.stands in
     let named_now = named setup t request.at (is_drop request.call) e stands step in
     let later = step_stands setup t request.at (is_drop request.call) e stands step in
-    subst (λ (x : Tables). AreFirst x.made x.closed) (sym (fold_push after (no_tables setup) h e))
-    (new_first _ _ (with_new t.made e.made) t.closed named_now
-    (old_first t.handles t.made t.closed stands.sound (first_on setup h legal) e.new_handle e.made step.names)
+    subst (λ (x : Tables). AreFirst x.spans x.closed) (sym (fold_push after_effect (no_tables setup) h e))
+    (new_first _ _ (with_item t.spans e.new_span) t.closed named_now
+    (old_first t.handles t.spans t.closed stands.sound (first_on setup h legal) e.new_handle e.new_span step.names)
     e.spent_handle e.closes step.spends later.sound)
 
-pub children_first : (setup : Setup) (h : History) (s p : ℕ) (up fore rest : List ℕ) → IsHistory setup h → (made_of (tables setup h).made s).scope ≡ s ∷ p ∷ up → (tables setup h).closed ≡ fore ++ p ∷ rest → is_in s fore ≡ true
+pub children_first : (setup : Setup) (h : History) (s p : ℕ) (up fore rest : List ℕ) → IsHistory setup h → (made_of (tables setup h).spans s).scope ≡ s ∷ p ∷ up → (tables setup h).closed ≡ fore ++ p ∷ rest → is_in s fore ≡ true
 children_first setup h s p up fore rest legal is parts = first_on setup h legal s p up fore rest is parts

@@ -8,7 +8,7 @@ use Rattle.trace_base.specs.Spans.{is_in, current_of}
 use Rattle.trace_base.proofs.Entering.{counted_if_any}
 use Rattle.trace_base.proofs.Holding.{current_in}
 use Rattle.span_script.specs.Setups.{Setup}
-use Rattle.span_script.specs.Tables.{Scope, Made, Guarded, Effect, Tables, with_new, spend, slot_at, no_making, made_of, scope_of, no_tables, after}
+use Rattle.span_script.specs.Tables.{Scope, MadeSpan, ScopeGuard, Effect, Tables, with_item, spend, slot_at, no_made_span, made_of, scope_of, no_tables, after_effect}
 use Rattle.span_script.specs.calls.Spans.{holds, is_open, closed_of, current_scope}
 use Rattle.span_laws.specs.Laws.{occurrences}
 use Rattle.span_laws.proofs.steps.GuardsLemmas.{IsGuarded}
@@ -19,21 +19,21 @@ use Rattle.span_script.proofs.spans.OpenSpansLemmas.{any_counted, slot_open}
 use Rattle.span_script.proofs.steps.SlotsLemmas.{named_push, named_set, some_is}
 
 -- from each span of a scope on it is that span's own scope
-abbrev pub AreMine : List Made → Scope → Type 0
+abbrev pub AreMine : List MadeSpan → Scope → Type 0
 AreMine ms [] = Unit {0}
 AreMine ms (s ∷ up) = ((made_of ms s).scope ≡ s ∷ up) × AreMine ms up
 
 -- A scope of made spans, each at most once, and of each span in it.
-pub record IsLine (ms : List Made) (scope : Scope) : Type 0 where
+pub record IsLine (ms : List MadeSpan) (scope : Scope) : Type 0 where
   pub once : (s : ℕ) → occurrences s scope ≤ cond (nat_lt s (length ms)) 1 0
   pub mine : AreMine ms scope
 
 -- What holds of handles, spans and what closed, of each legal history: a made span is closed once or open.
-pub record IsSound (hs : List (Option Scope)) (ms : List Made) (cs : List ℕ) : Type 0 where
+pub record IsSound (hs : List (Option Scope)) (ms : List MadeSpan) (cs : List ℕ) : Type 0 where
   pub lines : (k : ℕ) (scope : Scope) → slot_at hs k ≡ Some scope → IsLine ms scope
   pub ended : (s : ℕ) → occurrences s cs ≡ cond (nat_lt s (length ms) && not (is_open hs s)) 1 0
 
-module _ (hs : List (Option Scope)) (ms : List Made) (cs : List ℕ) (sound : IsSound hs ms cs) where
+module _ (hs : List (Option Scope)) (ms : List MadeSpan) (cs : List ℕ) (sound : IsSound hs ms cs) where
   known_line : (scope : Scope) → IsKnown hs scope → IsLine ms scope
   known_line _ no_scope = record { once = λ s. omega arith; mine = tt }
   known_line _ (of_handle k scope there) = sound.lines k scope there
@@ -59,22 +59,22 @@ module _ (hs : List (Option Scope)) (ms : List Made) (cs : List ℕ) (sound : Is
   }
 
   -- a line stays one with a span more
-  mine_stays : (m : Made) (scope : Scope) → ((s : ℕ) → 0 < occurrences s scope → s < length ms) → AreMine ms scope → AreMine (ms ++ m ∷ []) scope
+  mine_stays : (m : MadeSpan) (scope : Scope) → ((s : ℕ) → 0 < occurrences s scope → s < length ms) → AreMine ms scope → AreMine (ms ++ m ∷ []) scope
   mine_stays m [] below mine = tt
   mine_stays m (s ∷ up) below mine =
       let some : 0 < occurrences s (s ∷ up) = (let c = occurs_cons s s up in grind (arith, nat_tests, c)) in
       let within = below s some in (
-        ap (λ (made : Made). made.scope) (get_push_other ms m no_making s (λ e. absurd (omega (arith, e, within)))) ∙ mine.0,
+        ap (λ (made : MadeSpan). made.scope) (get_push_other ms m no_made_span s (λ e. absurd (omega (arith, e, within)))) ∙ mine.0,
         mine_stays m up (λ q there. below q (let c = occurs_cons q s up in omega (arith, c, there))) mine.1,
       )
 
-  line_stays : (m : Made) (scope : Scope) → IsLine ms scope → IsLine (ms ++ m ∷ []) scope
+  line_stays : (m : MadeSpan) (scope : Scope) → IsLine ms scope → IsLine (ms ++ m ∷ []) scope
   line_stays m scope line = record {
     once = λ s. (let count = length_push ms m in let one = line.once s in rw count (grind (arith, nat_tests, one)));
     mine = mine_stays m scope (λ s some. (let one = line.once s in grind (arith, nat_tests, one, some))) line.mine;
   }
 
-  new_line : (m : Made) (up : Scope) → IsKnown hs up → m.scope ≡ length ms ∷ up → IsLine (ms ++ m ∷ []) m.scope
+  new_line : (m : MadeSpan) (up : Scope) → IsKnown hs up → m.scope ≡ length ms ∷ up → IsLine (ms ++ m ∷ []) m.scope
   new_line m up known is = record {
     once = λ s.
         (let count = length_push ms m in
@@ -82,13 +82,13 @@ module _ (hs : List (Option Scope)) (ms : List Made) (cs : List ℕ) (sound : Is
         let one = (known_line up known).once s in
         rw count (grind (arith, nat_tests, all, one)));
     mine = subst (AreMine (ms ++ m ∷ [])) (sym is) (
-      ap (λ (made : Made). made.scope) (get_or_push ms m no_making (length ms) refl) ∙ is,
+      ap (λ (made : MadeSpan). made.scope) (get_or_push ms m no_made_span (length ms) refl) ∙ is,
       (line_stays m up (known_line up known)).mine,
     );
   }
 
   -- a span more, and a handle of it
-  more_spans : (m : Made) (up : Scope) → IsKnown hs up → m.scope ≡ length ms ∷ up → IsSound (hs ++ Some m.scope ∷ []) (ms ++ m ∷ []) cs
+  more_spans : (m : MadeSpan) (up : Scope) → IsKnown hs up → m.scope ≡ length ms ∷ up → IsSound (hs ++ Some m.scope ∷ []) (ms ++ m ∷ []) cs
   more_spans m up known is = record {
     lines = named_push (IsLine (ms ++ m ∷ [])) hs (Some m.scope) (λ k l there. line_stays m l (sound.lines k l there)) (λ l e. subst (IsLine (ms ++ m ∷ [])) (some_is m.scope l e) (new_line m up known is));
     ended = λ s.
@@ -127,14 +127,14 @@ module _ (hs : List (Option Scope)) (ms : List Made) (cs : List ℕ) (sound : Is
 -- ---- each step
 
 pub record Stands (ids : List ℕ) (t : Tables) : Type 0 where
-  pub sound : IsSound t.handles t.made t.closed
+  pub sound : IsSound t.handles t.spans t.closed
   pub guarded : IsGuarded ids t.handles t.guards t.entries
 
 -- the scope of a lane's current span is known
 current_known : (ids : List ℕ) (t : Tables) → Stands ids t → (lane : ℕ) → IsKnown t.handles (current_scope t lane)
 current_known ids t now lane = by_current (current_of (t.entries lane)) refl
   where
-    by_current : (o : Option ℕ) → current_of (t.entries lane) ≡ o → IsKnown t.handles (scope_of t.made o)
+    by_current : (o : Option ℕ) → current_of (t.entries lane) ≡ o → IsKnown t.handles (scope_of t.spans o)
     by_current None is = no_scope
     by_current (Some s) is = elim (current_in [] None (t.entries lane) s is) [
       | inl never ↦ absurd (cc never)
@@ -162,23 +162,23 @@ fit_of setup ids t now settings_are counting_is = record {
   counting_is = counting_is;
 }
 
-names_stand : (hs : List (Option Scope)) (ms : List Made) (cs : List ℕ) → IsSound hs ms cs → (o : Option Scope) (m : Option Made) → Names hs ms o m → IsSound (with_new hs (option_map Some o)) (with_new ms m) cs
+names_stand : (hs : List (Option Scope)) (ms : List MadeSpan) (cs : List ℕ) → IsSound hs ms cs → (o : Option Scope) (m : Option MadeSpan) → Names hs ms o m → IsSound (with_item hs (option_map Some o)) (with_item ms m) cs
 names_stand hs ms cs sound _ _ no_name = sound
 names_stand hs ms cs sound _ _ (another scope known) = more_names hs ms cs sound scope known
 names_stand hs ms cs sound _ _ (new_span m up known is) = more_spans hs ms cs sound m up known is
 
-spends_stand : (hs : List (Option Scope)) (gs : List (Option Guarded)) (ms : List Made) (cs : List ℕ) → IsSound hs ms cs → (o : Option ℕ) (closes : List ℕ) → Spends hs gs o closes → IsSound (spend hs o) ms (cs ++ closes)
+spends_stand : (hs : List (Option Scope)) (gs : List (Option ScopeGuard)) (ms : List MadeSpan) (cs : List ℕ) → IsSound hs ms cs → (o : Option ℕ) (closes : List ℕ) → Spends hs gs o closes → IsSound (spend hs o) ms (cs ++ closes)
 spends_stand hs gs ms cs sound _ _ no_spending = rw (append-nil cs) sound
 spends_stand hs gs ms cs sound _ _ (one_spent k scope closes there free same) = fewer_names hs ms cs sound k scope closes there same
 
-guards_stand : (ids : List ℕ) (hs : List (Option Scope)) (gs : List (Option Guarded)) (es : ℕ → List ℕ) → IsGuarded ids hs gs es → (o : Option ℕ) (closes : List ℕ) → Spends hs gs o closes → IsGuarded ids (spend hs o) gs es
+guards_stand : (ids : List ℕ) (hs : List (Option Scope)) (gs : List (Option ScopeGuard)) (es : ℕ → List ℕ) → IsGuarded ids hs gs es → (o : Option ℕ) (closes : List ℕ) → Spends hs gs o closes → IsGuarded ids (spend hs o) gs es
 guards_stand ids hs gs es now _ _ no_spending = now
 guards_stand ids hs gs es now _ _ (one_spent k scope closes there free same) = guarding.guarded_less ids hs gs es now k free
 
-pub named : (setup : Setup) (t : Tables) (at : ℕ) (is_drop : Bool) (e : Effect) → Stands setup.ids t → IsStep setup t at is_drop e → IsSound (with_new t.handles (option_map Some e.new_handle)) (with_new t.made e.made) t.closed
-named setup t at is_drop e now step = names_stand t.handles t.made t.closed now.sound e.new_handle e.made step.names
+pub named : (setup : Setup) (t : Tables) (at : ℕ) (is_drop : Bool) (e : Effect) → Stands setup.ids t → IsStep setup t at is_drop e → IsSound (with_item t.handles (option_map Some e.new_handle)) (with_item t.spans e.new_span) t.closed
+named setup t at is_drop e now step = names_stand t.handles t.spans t.closed now.sound e.new_handle e.new_span step.names
 
-pub step_stands : (setup : Setup) (t : Tables) (at : ℕ) (is_drop : Bool) (e : Effect) → Stands setup.ids t → IsStep setup t at is_drop e → Stands setup.ids (after t e)
+pub step_stands : (setup : Setup) (t : Tables) (at : ℕ) (is_drop : Bool) (e : Effect) → Stands setup.ids t → IsStep setup t at is_drop e → Stands setup.ids (after_effect t e)
 step_stands setup t at is_drop e now step = record {
   sound = spends_stand _ _ _ t.closed (named setup t at is_drop e now step) e.spent_handle e.closes step.spends;
   guarded = guards_stand setup.ids _ _ _

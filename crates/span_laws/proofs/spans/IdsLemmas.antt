@@ -8,15 +8,15 @@ use Rattle.otel_base.specs.declared.context.Context.{Context}
 use Rattle.otel_base.specs.declared.context.SpanContext.{SpanContext}
 use Rattle.otel_base.specs.declared.record.Record.{Record}
 use Rattle.otel_base.specs.Ids.{ids_or_zeros}
-use Rattle.otel_layer.specs.Table.{told_at}
+use Rattle.otel_layer.specs.Table.{data_at}
 use Rattle.trace_base.specs.Spans.{is_in}
 use Rattle.span_script.specs.calls.Spans.{is_open}
 use Rattle.span_script.specs.Setups.{Setup}
 use Rattle.span_script.specs.Tables.{History, tables}
 use Rattle.span_laws.specs.Laws.{IsHistory, occurrences}
-use Rattle.span_laws.specs.Records.{Each, records}
-use Rattle.span_laws.specs.Starts.{with_started, starts_of, started, place_from, place_in}
-use Rattle.span_laws.specs.Telling.{id_of, id_told}
+use Rattle.span_laws.specs.Records.{EachRecord, records}
+use Rattle.span_laws.specs.Starts.{with_started, starts_of, starting_order, place_from, place_in}
+use Rattle.span_laws.specs.Telling.{id_of, id_in_data}
 use Rattle.span_laws.proofs.records.HistoriesLemmas.{IsClosed, whole, closed_once}
 use Rattle.span_laws.proofs.spans.OccurrencesLemmas.{occurs_cons, occurs_append, is_in_counted}
 use Rattle.span_laws.proofs.records.PairsLemmas.{each_equal}
@@ -42,7 +42,7 @@ once_all : (order xs : List ℕ) (s : ℕ) → occurrences s order ≤ 1 → occ
 once_all order [] s once = once
 once_all order (x ∷ xs) s once = once_all (with_started order x) xs s (once_more order x s once)
 
-pub started_once : (h : History) (s : ℕ) → occurrences s (started h) ≤ 1
+pub started_once : (h : History) (s : ℕ) → occurrences s (starting_order h) ≤ 1
 started_once h s = once_all [] (flat_map starts_of h) s (omega arith)
 
 map_alike : {B : Type 0} (f g : ℕ → B) (xs : List ℕ) → ((y : ℕ) → 0 < occurrences y xs → f y ≡ g y) → map f xs ≡ map g xs
@@ -61,8 +61,8 @@ places_from n (x ∷ order) once =
     twice : (y : ℕ) → 0 < occurrences y order → x ≡ y → ⊥
     twice y some e = let c = occurs_cons y x order in let o = once y in absurd (grind (arith, nat_tests, c, o, some, e))
 
-pub from_one : (h : History) → map (place_in (started h)) (started h) ≡ range_with_len 1 (length (started h))
-from_one h = places_from 1 (started h) (started_once h)
+pub from_one : (h : History) → map (place_in (starting_order h)) (starting_order h) ≡ range_with_len 1 (length (starting_order h))
+from_one h = places_from 1 (starting_order h) (started_once h)
 
 -- ---- the ids of a history
 
@@ -70,15 +70,15 @@ told_by : (own : Option SpanContext) (place : ℕ) (parent : Context) → HasId 
 told_by None place parent is = sym is
 told_by (Some own) place parent is = ap (λ (c : SpanContext). c.span) is.0
 
-pub of_open : (setup : Setup) (h : History) (s : ℕ) → IsHistory setup h → is_open (tables setup h).handles s ≡ true → id_told (told_at s (tables setup h).recording.spans) ≡ place_in (started h) s
+pub of_open : (setup : Setup) (h : History) (s : ℕ) → IsHistory setup h → is_open (tables setup h).handles s ≡ true → id_in_data (data_at s (tables setup h).recording.spans) ≡ place_in (starting_order h) s
 of_open setup h s legal held =
     let story = (whole setup h legal).stories.each s held in
-    ap id_told story.is ∙ told_by story.told.own (place_in (started h) s) story.told.parent story.has_id
+    ap id_in_data story.is ∙ told_by story.told.own (place_in (starting_order h) s) story.told.parent story.has_id
 
-pub of_records : (setup : Setup) (h : History) → IsHistory setup h → map id_of (records setup h) ≡ map (place_in (started h)) (tables setup h).closed
-of_records setup h legal = let t = tables setup h in each_equal (IsClosed setup t.made h) id_of (place_in (started h)) (λ s r c. ap (λ (own : SpanContext). own.span) c.ends.own) t.closed (records setup h) (whole setup h legal).each
+pub of_records : (setup : Setup) (h : History) → IsHistory setup h → map id_of (records setup h) ≡ map (place_in (starting_order h)) (tables setup h).closed
+of_records setup h legal = let t = tables setup h in each_equal (IsClosed setup t.spans h) id_of (place_in (starting_order h)) (λ s r c. ap (λ (own : SpanContext). own.span) c.ends.own) t.closed (records setup h) (whole setup h legal).each
 
-each_placed : (P : ℕ → Record → Type 0) (g : ℕ → ℕ) → ((s : ℕ) (r : Record) → P s r → 0 < g s) → (xs : List ℕ) (rs : List Record) → Each P xs rs → (s : ℕ) → 0 < occurrences s xs → 0 < g s
+each_placed : (P : ℕ → Record → Type 0) (g : ℕ → ℕ) → ((s : ℕ) (r : Record) → P s r → 0 < g s) → (xs : List ℕ) (rs : List Record) → EachRecord P xs rs → (s : ℕ) → 0 < occurrences s xs → 0 < g s
 each_placed P g some [] [] each s there = absurd (omega (arith, there))
 each_placed P g some [] (r ∷ rs) each s there = absurd each
 each_placed P g some (x ∷ xs) [] each s there = absurd each
@@ -127,17 +127,17 @@ pub no_two_alike : (setup : Setup) (h : History) (id : ℕ) → IsHistory setup 
 no_two_alike setup h id legal =
     let t = tables setup h in
     subst (λ (ids : List ℕ). occurrences id ids ≤ 1) (sym (of_records setup h legal))
-    (mapped_once (place_in (started h)) t.closed id (λ s. closed_once setup h s legal) (λ s q there same. one_place 1 (started h) s q (omega arith) same
-    (each_placed (IsClosed setup t.made h) (place_in (started h)) (λ s r c. c.ends.started) t.closed (records setup h) (whole setup h legal).each s there)))
+    (mapped_once (place_in (starting_order h)) t.closed id (λ s. closed_once setup h s legal) (λ s q there same. one_place 1 (starting_order h) s q (omega arith) same
+    (each_placed (IsClosed setup t.spans h) (place_in (starting_order h)) (λ s r c. c.ends.started) t.closed (records setup h) (whole setup h legal).each s there)))
 
 pub none_zero : (setup : Setup) (h : History) → IsHistory setup h → occurrences 0 (map id_of (records setup h)) ≡ 0
 none_zero setup h legal =
     let t = tables setup h in
-    subst (λ (ids : List ℕ). occurrences 0 ids ≡ 0) (sym (of_records setup h legal)) (elim (cases_lt 0 (occurrences 0 (map (place_in (started h)) t.closed))) [
+    subst (λ (ids : List ℕ). occurrences 0 ids ≡ 0) (sym (of_records setup h legal)) (elim (cases_lt 0 (occurrences 0 (map (place_in (starting_order h)) t.closed))) [
       | inr none ↦ omega (arith, none)
       | inl some ↦ absurd (
-          let it = given (place_in (started h)) t.closed 0 some in
-          let placed = each_placed (IsClosed setup t.made h) (place_in (started h)) (λ s r c. c.ends.started) t.closed (records setup h) (whole setup h legal).each it.0 it.1 in
+          let it = given (place_in (starting_order h)) t.closed 0 some in
+          let placed = each_placed (IsClosed setup t.spans h) (place_in (starting_order h)) (λ s r c. c.ends.started) t.closed (records setup h) (whole setup h legal).each it.0 it.1 in
           let is = it.2 in
           omega (arith, placed, is))
     ])

@@ -7,11 +7,11 @@ use Rattle.std.proofs.lemmas.List.{length_push}
 use Rattle.std.proofs.lemmas.List.Sums.{fold_push}
 use Rattle.trace_base.specs.Spans.{is_in}
 use Rattle.span_script.specs.Setups.{Setup}
-use Rattle.span_script.specs.Tables.{Made, History, Tables, with_new, no_tables, after, tables}
+use Rattle.span_script.specs.Tables.{MadeSpan, History, Tables, with_item, no_tables, after_effect, tables}
 use Rattle.span_script.proofs.spans.OpenCountLemmas.{range_more}
 use Rattle.span_laws.specs.Closes.{is_drop}
 use Rattle.span_laws.specs.Laws.{IsHistory, none, more}
-use Rattle.span_laws.specs.Starts.{with_started, at_making, started, place_from, place_in}
+use Rattle.span_laws.specs.Starts.{with_started, at_making, starting_order, place_from, place_in}
 use Rattle.span_laws.proofs.records.HistoriesLemmas.{closing_made, fits, started_push, starts_made, whole}
 use Rattle.span_laws.proofs.steps.StepsLemmas.{step_of}
 
@@ -51,7 +51,7 @@ already n (id ∷ ids) below =
     let less : id < n = below.0 in
     ap (λ (o : List ℕ). fold with_started o ids) (cond-true {A = List ℕ} (is_in id (range_with_len 0 n)) (range_with_len 0 n) (range_with_len 0 n ++ id ∷ []) (in_range 0 n id (omega arith) (omega (arith, less)))) ∙ already n ids below.1
 
-begins : (ms : List Made) (o : Option Made) → fold with_started (range_with_len 0 (length ms)) (option_to_list (at_making true (length ms) o)) ≡ range_with_len 0 (length (with_new ms o))
+begins : (ms : List MadeSpan) (o : Option MadeSpan) → fold with_started (range_with_len 0 (length ms)) (option_to_list (at_making true (length ms) o)) ≡ range_with_len 0 (length (with_item ms o))
 begins ms None = refl
 begins ms (Some m) =
     let n = length ms in
@@ -59,25 +59,25 @@ begins ms (Some m) =
     cond-false {A = List ℕ} (is_in n (range_with_len 0 n)) (range_with_len 0 n) (range_with_len 0 n ++ n ∷ []) (out_of_range 0 n n (omega arith))
     ∙ sym (range_more n) ∙ ap (range_with_len 0) next
 
-pub order_of_making : (setup : Setup) (h : History) → IsHistory setup h → setup.layer.eager ≡ true → started h ≡ range_with_len 0 (length (tables setup h).made)
+pub order_of_making : (setup : Setup) (h : History) → IsHistory setup h → setup.layer.eager ≡ true → starting_order h ≡ range_with_len 0 (length (tables setup h).spans)
 order_of_making setup _ none eager = refl
 order_of_making setup _ (more h request e before is) eager =
     let t : Tables = tables setup h in
-    let n = length t.made in
+    let n = length t.spans in
     let now = whole setup h before in
     let step = step_of setup t (fits setup h now) request e is in
-    let m = length (with_new t.made e.made) in
+    let m = length (with_item t.spans e.new_span) in
     started_push h e
     ∙ ap (λ (o : List ℕ). fold with_started (fold with_started (fold with_started o e.starts) (option_to_list e.begins)) e.closes) (order_of_making setup h before eager)
     ∙ ap (λ (o : List ℕ). fold with_started (fold with_started o (option_to_list e.begins)) e.closes) (already n e.starts (starts_made setup h now request.at (is_drop request.call) e step.0 step.1))
-    ∙ ap (λ (o : Option ℕ). fold with_started (fold with_started (range_with_len 0 n) (option_to_list o)) e.closes) (step.1.early ∙ ap (λ (b : Bool). at_making b n e.made) eager)
-    ∙ ap (λ (o : List ℕ). fold with_started o e.closes) (begins t.made e.made)
+    ∙ ap (λ (o : Option ℕ). fold with_started (fold with_started (range_with_len 0 n) (option_to_list o)) e.closes) (step.1.early ∙ ap (λ (b : Bool). at_making b n e.new_span) eager)
+    ∙ ap (λ (o : List ℕ). fold with_started o e.closes) (begins t.spans e.new_span)
     ∙ already m e.closes (closing_made setup h now request.at (is_drop request.call) e step.0 step.1)
-    ∙ ap (λ (u : Tables). range_with_len 0 (length u.made)) (sym (fold_push after (no_tables setup) h e))
+    ∙ ap (λ (u : Tables). range_with_len 0 (length u.spans)) (sym (fold_push after_effect (no_tables setup) h e))
 
-pub by_number : (setup : Setup) (h : History) (s : ℕ) → IsHistory setup h → setup.layer.eager ≡ true → s < length (tables setup h).made → place_in (started h) s ≡ s + 1
+pub by_number : (setup : Setup) (h : History) (s : ℕ) → IsHistory setup h → setup.layer.eager ≡ true → s < length (tables setup h).spans → place_in (starting_order h) s ≡ s + 1
 by_number setup h s legal eager below =
-    let n = length (tables setup h).made in
+    let n = length (tables setup h).spans in
     let place = place_in_range 1 0 n s (omega arith) (omega (arith, below)) in
     let is : place_in (range_with_len 0 n) s ≡ s + 1 = omega (arith, place) in
     ap (λ (o : List ℕ). place_in o s) (order_of_making setup h legal eager) ∙ is

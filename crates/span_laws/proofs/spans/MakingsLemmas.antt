@@ -7,13 +7,13 @@ use Rattle.otel_base.specs.declared.context.SpanContext.{SpanContext}
 use Rattle.otel_state.specs.declared.op.Op.TheVariants as ops
 use Rattle.otel_state.specs.declared.times.TheConstants.{GREATEST}
 use Rattle.otel_state.specs.Content.{Making}
-use Rattle.otel_state.specs.Deeds.{Stamped}
-use Rattle.otel_state.specs.States.{Told, begun, changed}
-use Rattle.otel_layer.specs.Table.{told_at, with_span}
+use Rattle.otel_state.specs.Deeds.{TimedOp}
+use Rattle.otel_state.specs.States.{SpanData, data_at_making, after_op}
+use Rattle.otel_layer.specs.Table.{data_at, with_span_data}
 use Rattle.otel_layer.specs.Recording.{Recording}
 use Rattle.otel_layer.proofs.Finding.{told_at_made}
 use Rattle.span_script.specs.Setups.{Setup}
-use Rattle.span_script.specs.Tables.{Made, with_new, made_of, no_making, with_made}
+use Rattle.span_script.specs.Tables.{MadeSpan, with_item, made_of, no_made_span, with_span_made}
 use Rattle.span_laws.specs.Records.{Began}
 use Rattle.span_laws.specs.Starts.{with_started, place_in}
 use Rattle.span_laws.proofs.spans.OccurrencesLemmas.{get_push_other}
@@ -23,30 +23,30 @@ use Rattle.span_laws.proofs.steps.StepsLemmas.{Begins}
 use Rattle.span_laws.proofs.records.StoriesLemmas.{IsStory, HasId}
 
 -- what spans were made with
-abbrev pub first_of : List Made → ℕ → Told
-first_of ms s = (made_of ms s).told
+abbrev pub first_of : List MadeSpan → ℕ → SpanData
+first_of ms s = (made_of ms s).made_with
 
 -- the story of a span that was just made
-begins : (setup : Setup) (told : Told) (done : SpanContext → List Stamped) (opened at : ℕ) (making : Making) → Began setup at told making → ((own : SpanContext) → done own ≡ []) → at ≤ GREATEST → IsStory setup (Some told) told 0 done opened at
+begins : (setup : Setup) (told : SpanData) (done : SpanContext → List TimedOp) (opened at : ℕ) (making : Making) → Began setup at told making → ((own : SpanContext) → done own ≡ []) → at ≤ GREATEST → IsStory setup (Some told) told 0 done opened at
 begins setup told done opened at making b undone most = record {
   told = told;
   is = refl;
   making = making;
-  began = record { update = b.update; is = at_making ∙ ap (λ n. changed (begun making) n (ops.Update b.update)) (sym moment); made = sym moment; tracked = b.tracked; counting_is = b.counting_is };
+  began = record { update = b.update; is = at_making ∙ ap (λ n. after_op (data_at_making making) n (ops.Update b.update)) (sym moment); made = sym moment; tracked = b.tracked; counting_is = b.counting_is };
   later = [];
   stands = at_making;
   in_order = (omega arith, let same = b.made in omega (arith, same, most));
   last = let same = b.made in omega (arith, same);
   rest = λ own mine. sym (undone own);
-  has_id = subst (λ (t : Told). HasId t.own 0 t.parent) (sym b.is) refl;
-  within = subst (λ (t : Told). t.entries ≤ opened) (sym b.is) (omega arith);
+  has_id = subst (λ (t : SpanData). HasId t.own 0 t.parent) (sym b.is) refl;
+  within = subst (λ (t : SpanData). t.entries ≤ opened) (sym b.is) (omega arith);
 }
   where
     moment : told.made ≡ making.made
-    moment = ap (λ (t : Told). t.made) b.is
+    moment = ap (λ (t : SpanData). t.made) b.is
 
-    at_making : told ≡ changed (begun making) making.made (ops.Update b.update)
-    at_making = b.is ∙ ap (λ n. changed (begun making) n (ops.Update b.update)) (sym b.made)
+    at_making : told ≡ after_op (data_at_making making) making.made (ops.Update b.update)
+    at_making = b.is ∙ ap (λ n. after_op (data_at_making making) n (ops.Update b.update)) (sym b.made)
 
 -- starts of other spans give no place
 pub starts_spare : (order ids : List ℕ) (n : ℕ) → AllByRecursion (λ s. s < n) ids → place_in (fold with_started order ids) n ≡ place_in order n
@@ -55,10 +55,10 @@ starts_spare order (id ∷ ids) n below =
     let less : id < n = below.0 in
     starts_spare (with_started order id) ids n below.1 ∙ place_none order id n (λ e. absurd (omega (arith, e, less)))
 
-module _ (setup : Setup) (order : List ℕ) (done : ℕ → SpanContext → List Stamped) (opened : ℕ → ℕ) (at : ℕ) (most : at ≤ GREATEST) (ms : List Made) (r : Recording) (k : ℕ → Bool) (stories : AreStories setup (first_of ms) order done opened at k (length ms) r)
+module _ (setup : Setup) (order : List ℕ) (done : ℕ → SpanContext → List TimedOp) (opened : ℕ → ℕ) (at : ℕ) (most : at ≤ GREATEST) (ms : List MadeSpan) (r : Recording) (k : ℕ → Bool) (stories : AreStories setup (first_of ms) order done opened at k (length ms) r)
     (unplaced : place_in order (length ms) ≡ 0) (undone : (own : SpanContext) → done (length ms) own ≡ []) where
-  pub made_stories : (o : Option Made) → Begins setup at o → (later : ℕ → Bool) → ((s : ℕ) → later s ≡ true → s < length (with_new ms o)) → ((s : ℕ) → later s ≡ true → s < length ms → k s ≡ true)
-      → AreStories setup (first_of (with_new ms o)) order done opened at later (length (with_new ms o)) (with_made (length ms) o r)
+  pub made_stories : (o : Option MadeSpan) → Begins setup at o → (later : ℕ → Bool) → ((s : ℕ) → later s ≡ true → s < length (with_item ms o)) → ((s : ℕ) → later s ≡ true → s < length ms → k s ≡ true)
+      → AreStories setup (first_of (with_item ms o)) order done opened at later (length (with_item ms o)) (with_span_made (length ms) o r)
   made_stories None begun later below known = record {
     each = λ s is. stories.each s (known s is (below s is));
     fresh = stories.fresh;
@@ -68,30 +68,30 @@ module _ (setup : Setup) (order : List ℕ) (done : ℕ → SpanContext → List
   }
   made_stories (Some m) begun later below known = record {
     each = λ s is. elim (cases_eq s (length ms)) [
-      | inl same ↦ subst (λ (q : ℕ). IsStory setup (told_at q (with_span (length ms) m.told r.spans)) (first_of (ms ++ m ∷ []) q) (place_in order q) (done q) (opened q) at) (sym same) mine
+      | inl same ↦ subst (λ (q : ℕ). IsStory setup (data_at q (with_span_data (length ms) m.made_with r.spans)) (first_of (ms ++ m ∷ []) q) (place_in order q) (done q) (opened q) at) (sym same) mine
       | inr other ↦ (
           let count = length_push ms m in
           let within = below s is in
           let old : s < length ms = omega (arith, count, within, other) in
-          let read = told_at_made (length ms) s m.told r.spans fresh ∙ cond-false {A = Option Told} (s == length ms) (Some m.told) (told_at s r.spans) (ne_eqb s (length ms) other) in
-          let first = ap (λ (made : Made). made.told) (get_push_other ms m no_making s other) in
+          let read = told_at_made (length ms) s m.made_with r.spans fresh ∙ cond-false {A = Option SpanData} (s == length ms) (Some m.made_with) (data_at s r.spans) (ne_eqb s (length ms) other) in
+          let first = ap (λ (made : MadeSpan). made.made_with) (get_push_other ms m no_made_span s other) in
           rw (read, first) (stories.each s (known s is old)))
     ];
     fresh = λ s above.
         let count = length_push ms m in
         let other : (s ≡ length ms → ⊥) = λ e. absurd (omega (arith, count, above, e)) in
-        told_at_made (length ms) s m.told r.spans fresh ∙ cond-false {A = Option Told} (s == length ms) (Some m.told) (told_at s r.spans) (ne_eqb s (length ms) other)
+        told_at_made (length ms) s m.made_with r.spans fresh ∙ cond-false {A = Option SpanData} (s == length ms) (Some m.made_with) (data_at s r.spans) (ne_eqb s (length ms) other)
         ∙ stories.fresh s (omega (arith, count, above));
     count = stories.count;
     settings_are = stories.settings_are;
     counting_is = stories.counting_is;
   }
     where
-      fresh : told_at (length ms) r.spans ≡ None
+      fresh : data_at (length ms) r.spans ≡ None
       fresh = stories.fresh (length ms) (omega arith)
 
-      mine : IsStory setup (told_at (length ms) (with_span (length ms) m.told r.spans)) (first_of (ms ++ m ∷ []) (length ms)) (place_in order (length ms)) (done (length ms)) (opened (length ms)) at
+      mine : IsStory setup (data_at (length ms) (with_span_data (length ms) m.made_with r.spans)) (first_of (ms ++ m ∷ []) (length ms)) (place_in order (length ms)) (done (length ms)) (opened (length ms)) at
       mine =
-          let read = told_at_made (length ms) (length ms) m.told r.spans fresh ∙ cond-true {A = Option Told} (length ms == length ms) (Some m.told) (told_at (length ms) r.spans) (eq-eqb (length ms) (length ms) refl) in
-          let first = ap (λ (made : Made). made.told) (get_or_push ms m no_making (length ms) refl) in
-          rw (read, first, unplaced) (begins setup m.told (done (length ms)) (opened (length ms)) at begun.0 begun.1 undone most)
+          let read = told_at_made (length ms) (length ms) m.made_with r.spans fresh ∙ cond-true {A = Option SpanData} (length ms == length ms) (Some m.made_with) (data_at (length ms) r.spans) (eq-eqb (length ms) (length ms) refl) in
+          let first = ap (λ (made : MadeSpan). made.made_with) (get_or_push ms m no_made_span (length ms) refl) in
+          rw (read, first, unplaced) (begins setup m.made_with (done (length ms)) (opened (length ms)) at begun.0 begun.1 undone most)

@@ -6,7 +6,7 @@ use Rattle.otel_state.specs.declared.settings.LayerSettings.{LayerSettings}
 use Rattle.otel_state.specs.fields.FirstAttributes.{first_attributes}
 use Rattle.otel_state.specs.fields.SpanFields.{span_update}
 use Rattle.otel_layer.specs.Recording.{Recording, with_starts}
-use Rattle.otel_layer.specs.Steps.{above, context_from}
+use Rattle.otel_layer.specs.Steps.{parent_source, context_from}
 use Rattle.trace_base.specs.declared.callsite.Callsite.{Callsite}
 use Rattle.trace_base.specs.declared.field.ValueSet.{ValueSet}
 use Rattle.trace_base.specs.Spans.{current_of}
@@ -22,12 +22,12 @@ use Rattle.span_script.specs.calls.Here.{Resolved, refuse_if, Here, here_at, ◌
 use Rattle.span_script.specs.Effects.{effect_of, effect_of_call, is_bad_moment}
 use Rattle.span_script.specs.calls.Contexts.{attach_effect, detach_effect}
 use Rattle.span_script.specs.calls.Entries.{enter_effect, exit_effect, is_full, is_shared, meets_full, entry_call}
-use Rattle.span_script.specs.calls.Filter.{admitted, reload_by}
+use Rattle.span_script.specs.calls.Filter.{admits_at, reload_by}
 use Rattle.span_script.specs.calls.Links.{follow_effect}
-use Rattle.span_script.specs.calls.Spans.{context_around, disabled_effect, drop_effect, exchange_effect, is_borrowed, lane_in, made_at, span_effect, parent_at, scope_at, scope_or_current}
+use Rattle.span_script.specs.calls.Spans.{context_around, disabled_effect, drop_effect, exchange_effect, is_borrowed, lane_in, new_span_data_at, span_effect, parent_at, scope_at, scope_or_current}
 use Rattle.span_script.specs.Fields.{Fields, all_values}
 use Rattle.span_script.specs.Setups.{Setup, event_site, span_site}
-use Rattle.span_script.specs.Tables.{Effect, History, Made, Scope, Tables, slot_at, tables}
+use Rattle.span_script.specs.Tables.{Effect, History, MadeSpan, Scope, Tables, slot_at, tables}
 use Rattle.span_laws.specs.Laws.{IsHistory}
 use Rattle.span_laws.specs.Makings.{IsMadeBy, asks_admitted, context_of_lane, is_making, parent_context}
 use Rattle.span_laws.proofs.records.HistoriesLemmas.{fits, whole}
@@ -35,7 +35,7 @@ use Rattle.span_laws.proofs.steps.StepsLemmas.{IsFit, allowed, found, starts_kee
 
 -- the context that a new span is put under
 context_is : (activation : Bool) (current : Option ℕ) (t : Tables) (at id : ℕ) (under : Place) (up : Scope) (setup : Setup) → setup.layer.activation ≡ activation → current_of (t.entries id) ≡ current
-    → context_from (with_starts (above activation (parent_at under up) current) at t.recording).spans (context_around (t.contexts id) (parent_at under up)) (above activation (parent_at under up) current)
+    → context_from (with_starts (parent_source activation (parent_at under up) current) at t.recording).spans (context_around (t.contexts id) (parent_at under up)) (parent_source activation (parent_at under up) current)
     ≡ parent_context setup t at id under up
 context_is activation current t at id place.Root up setup active now = refl
 context_is activation current t at id (place.Under handle) [] setup active now = refl
@@ -51,7 +51,7 @@ module _ (setup : Setup) (t : Tables) (fit : IsFit setup t) where
   here at lane = here_at setup t at lane
 
   -- what a call makes, if it does
-  abbrev Makes : ℕ → ℕ → Call → Option Made → Type 0
+  abbrev Makes : ℕ → ℕ → Call → Option MadeSpan → Type 0
   Makes at lane what_for None = asks_admitted setup t (here at lane).lane what_for ≡ false
   Makes at lane what_for (Some m) = (asks_admitted setup t (here at lane).lane what_for ≡ true) × IsMadeBy setup t at lane what_for m
 
@@ -61,7 +61,7 @@ module _ (setup : Setup) (t : Tables) (fit : IsFit setup t) where
     id = (here at lane).lane
 
     abbrev source : Option ℕ
-    source = above setup.layer.activation (parent_at under up) (current_of (t.entries id))
+    source = parent_source setup.layer.activation (parent_at under up) (current_of (t.entries id))
 
     abbrev r : Recording
     r = with_starts source at t.recording
@@ -69,7 +69,7 @@ module _ (setup : Setup) (t : Tables) (fit : IsFit setup t) where
     settings : r.settings ≡ setup.layer
     settings = (starts_keep source at t.recording).0 ∙ fit.settings_are
 
-    made_so : IsMadeBy setup t at lane (call.New site under fields) (record { site = site; scope = length t.made ∷ up; told = made_at (here at lane) callsite values (parent_at under up) })
+    made_so : IsMadeBy setup t at lane (call.New site under fields) (record { site = site; scope = length t.spans ∷ up; made_with = new_span_data_at (here at lane) callsite values (parent_at under up) })
     made_so = record {
       under = under;
       fields = fields;
@@ -89,32 +89,32 @@ module _ (setup : Setup) (t : Tables) (fit : IsFit setup t) where
       written = ap (span_update callsite values) settings;
     }
 
-    by_gate : (b : Bool) → admitted setup t id callsite ≡ b → Makes at lane (call.New site under fields) (cond b (span_effect (here at lane) site callsite values under up) (disabled_effect (here at lane))).made
-    by_gate true gate = (ap (λ (o : Option Callsite). option_map_or (admitted setup t id) o false) there ∙ gate, made_so)
-    by_gate false gate = ap (λ (o : Option Callsite). option_map_or (admitted setup t id) o false) there ∙ gate
+    by_gate : (b : Bool) → admits_at setup t id callsite ≡ b → Makes at lane (call.New site under fields) (cond b (span_effect (here at lane) site callsite values under up) (disabled_effect (here at lane))).new_span
+    by_gate true gate = (ap (λ (o : Option Callsite). option_map_or (admits_at setup t id) o false) there ∙ gate, made_so)
+    by_gate false gate = ap (λ (o : Option Callsite). option_map_or (admits_at setup t id) o false) there ∙ gate
 
   -- an effect that makes none
-  nothing : (at lane : ℕ) (what_for : Call) (a e : Effect) → ◌≡◌ {A = Resolved} (Ok a) (Ok e) → a.made ≡ None → asks_admitted setup t (here at lane).lane what_for ≡ false → Makes at lane what_for e.made
-  nothing at lane what_for a e is none unasked = subst (λ (x : Effect). Makes at lane what_for x.made) (the_effect setup t fit a e is) (subst (Makes at lane what_for) (sym none) unasked)
+  nothing : (at lane : ℕ) (what_for : Call) (a e : Effect) → ◌≡◌ {A = Resolved} (Ok a) (Ok e) → a.new_span ≡ None → asks_admitted setup t (here at lane).lane what_for ≡ false → Makes at lane what_for e.new_span
+  nothing at lane what_for a e is none unasked = subst (λ (x : Effect). Makes at lane what_for x.new_span) (the_effect setup t fit a e is) (subst (Makes at lane what_for) (sym none) unasked)
 
-  opens_none : (at lane handle : ℕ) (owns : Bool) (what_for : Call) (e : Effect) → entry_call (here at lane) handle owns ≡ Ok e → asks_admitted setup t (here at lane).lane what_for ≡ false → Makes at lane what_for e.made
+  opens_none : (at lane handle : ℕ) (owns : Bool) (what_for : Call) (e : Effect) → entry_call (here at lane) handle owns ≡ Ok e → asks_admitted setup t (here at lane).lane what_for ≡ false → Makes at lane what_for e.new_span
   opens_none at lane handle owns what_for e is unasked =
       let there = found setup t fit what.Handle (slot_at t.handles handle) _ e is in
       let room = unrefused setup t fit (meets_full setup.layer.activation there.0 (t.contexts (here at lane).lane)) (refusal.Full lane) (Ok (enter_effect (here at lane) handle owns there.0)) e there.2 in
       nothing at lane what_for _ e room.1 refl unasked
 
-  follows_none : (at lane : ℕ) (scope from : Scope) → (follow_effect (here at lane) scope from).made ≡ None
+  follows_none : (at lane : ℕ) (scope from : Scope) → (follow_effect (here at lane) scope from).new_span ≡ None
   follows_none at lane [] from = refl
   follows_none at lane (s ∷ up) [] = refl
   follows_none at lane (s ∷ up) (f ∷ above) = refl
 
-  by_call : (at lane : ℕ) (what_for : Call) (e : Effect) → effect_of_call setup t at lane what_for ≡ Ok e → Makes at lane what_for e.made
+  by_call : (at lane : ℕ) (what_for : Call) (e : Effect) → effect_of_call setup t at lane what_for ≡ Ok e → Makes at lane what_for e.new_span
   by_call at lane (call.New site under fields) e is =
       let callsite = found setup t fit what.Site (span_site setup.sites site) _ e is in
       let up = found setup t fit what.Handle (scope_at t (here at lane).lane under) _ e callsite.2 in
       let values = found setup t fit what.Field (all_values callsite.0 fields) _ e up.2 in
-      subst (λ (x : Effect). Makes at lane (call.New site under fields) x.made) (the_effect setup t fit _ e values.2)
-      (by_gate at lane site under fields callsite.0 up.0 values.0 callsite.1 up.1 values.1 (admitted setup t (here at lane).lane callsite.0) refl)
+      subst (λ (x : Effect). Makes at lane (call.New site under fields) x.new_span) (the_effect setup t fit _ e values.2)
+      (by_gate at lane site under fields callsite.0 up.0 values.0 callsite.1 up.1 values.1 (admits_at setup t (here at lane).lane callsite.0) refl)
   by_call at lane (call.Clone handle) e is =
       let there = found setup t fit what.Handle (slot_at t.handles handle) _ e is in
       nothing at lane (call.Clone handle) _ e there.2 refl refl
@@ -126,8 +126,8 @@ module _ (setup : Setup) (t : Tables) (fit : IsFit setup t) where
   by_call at lane (call.Exit guard) e is =
       let there = found setup t fit what.Guard (slot_at t.guards guard) _ e is in
       let leaves = exit_effect (here at lane) guard there.0.scope in
-      let alone = unrefused setup t fit (is_shared t.guards there.0) refusal.InUse (refuse_if (not (there.0.lane == lane)) (refusal.WrongLane there.0.lane) (Ok leaves)) e there.2 in
-      let mine = allowed setup t fit (there.0.lane == lane) (refusal.WrongLane there.0.lane) (Ok leaves) e alone.1 in
+      let alone = unrefused setup t fit (is_shared t.guards there.0) refusal.InUse (refuse_if (not (there.0.place == lane)) (refusal.WrongLane there.0.place) (Ok leaves)) e there.2 in
+      let mine = allowed setup t fit (there.0.place == lane) (refusal.WrongLane there.0.place) (Ok leaves) e alone.1 in
       nothing at lane (call.Exit guard) _ e mine.1 refl refl
   by_call at lane call.Current e is = nothing at lane call.Current _ e is refl refl
   by_call at lane (call.OrCurrent handle) e is =
@@ -154,7 +154,7 @@ module _ (setup : Setup) (t : Tables) (fit : IsFit setup t) where
       let there = found setup t fit what.Handle (slot_at t.handles handle) _ e is in
       nothing at lane (call.Context handle) _ e there.2 refl refl
   by_call at lane (call.Attach context) e is =
-      let there = found setup t fit what.Context (slice_get t.named context) _ e is in
+      let there = found setup t fit what.Context (slice_get t.named_contexts context) _ e is in
       let room = unrefused setup t fit (is_full (t.contexts (here at lane).lane)) (refusal.Full lane) (Ok (attach_effect (here at lane) there.0)) e there.2 in
       nothing at lane (call.Attach context) _ e room.1 refl refl
   by_call at lane (call.Detach guard) e is =
@@ -167,11 +167,11 @@ module _ (setup : Setup) (t : Tables) (fit : IsFit setup t) where
       nothing at lane (call.Follows handle from) _ e followed.2 (follows_none at lane there.0 followed.0) refl
   by_call at lane (call.SetParent handle context) e is =
       let there = found setup t fit what.Handle (slot_at t.handles handle) _ e is in
-      let given = found setup t fit what.Context (slice_get t.named context) _ e there.2 in
+      let given = found setup t fit what.Context (slice_get t.named_contexts context) _ e there.2 in
       nothing at lane (call.SetParent handle context) _ e given.2 refl refl
   by_call at lane (call.AddLink handle context attributes) e is =
       let there = found setup t fit what.Handle (slot_at t.handles handle) _ e is in
-      let given = found setup t fit what.Context (slice_get t.named context) _ e there.2 in
+      let given = found setup t fit what.Context (slice_get t.named_contexts context) _ e there.2 in
       nothing at lane (call.AddLink handle context attributes) _ e given.2 refl refl
   by_call at lane (call.SetAttribute handle key value) e is =
       let there = found setup t fit what.Handle (slot_at t.handles handle) _ e is in
@@ -187,7 +187,7 @@ module _ (setup : Setup) (t : Tables) (fit : IsFit setup t) where
       nothing at lane (call.Enabled site) _ e there.2 refl refl
   by_call at lane (call.Reload text) e is = by_read (text_read text) is
     where
-      by_read : (r : TextRead) → reload_by (here at lane) text r ≡ Ok e → Makes at lane (call.Reload text) e.made
+      by_read : (r : TextRead) → reload_by (here at lane) text r ≡ Ok e → Makes at lane (call.Reload text) e.new_span
       by_read (Ok ds) read = nothing at lane (call.Reload text) _ e read refl refl
       by_read (Err piece) read = absurd (cc read)
 
@@ -199,36 +199,36 @@ module _ (setup : Setup) (t : Tables) (fit : IsFit setup t) where
       let lane = found setup t fit what.Lane (slice_get setup.ids request.lane) (λ id. effect_of_call setup t request.at request.lane request.call) e passed.1 in
       lane.2
 
-  by_request : (request : Request) (e : Effect) → effect_of setup t request ≡ Ok e → Makes request.at request.lane request.call e.made
+  by_request : (request : Request) (e : Effect) → effect_of setup t request ≡ Ok e → Makes request.at request.lane request.call e.new_span
   by_request request e is = by_call request.at request.lane request.call e (call_of request e is)
 
-  by_made : (at lane : ℕ) (what_for : Call) (o : Option Made) → Makes at lane what_for o → is_some o ≡ asks_admitted setup t (here at lane).lane what_for
+  by_made : (at lane : ℕ) (what_for : Call) (o : Option MadeSpan) → Makes at lane what_for o → is_some o ≡ asks_admitted setup t (here at lane).lane what_for
   by_made at lane what_for None unasked = sym unasked
   by_made at lane what_for (Some m) made = sym made.0
 
 -- what starts before a span is made
-pub starts_before : (setup : Setup) (t : Tables) (fit : IsFit setup t) (request : Request) (e : Effect) (m : Made) → effect_of setup t request ≡ Ok e → e.made ≡ Some m → (by : IsMadeBy setup t request.at request.lane request.call m)
-    → e.starts ≡ option_to_list (above setup.layer.activation (parent_at by.under by.up) (current_of (t.entries (here_at setup t request.at request.lane).lane)))
+pub starts_before : (setup : Setup) (t : Tables) (fit : IsFit setup t) (request : Request) (e : Effect) (m : MadeSpan) → effect_of setup t request ≡ Ok e → e.new_span ≡ Some m → (by : IsMadeBy setup t request.at request.lane request.call m)
+    → e.starts ≡ option_to_list (parent_source setup.layer.activation (parent_at by.under by.up) (current_of (t.entries (here_at setup t request.at request.lane).lane)))
 starts_before setup t fit request e m is made by =
     let named_call = ap (effect_of_call setup t request.at request.lane) (sym by.asked) ∙ call_of setup t fit request e is in
     let callsite = found setup t fit what.Site (span_site setup.sites m.site) _ e named_call in
     let up = found setup t fit what.Handle (scope_at t (here_at setup t request.at request.lane).lane by.under) _ e callsite.2 in
     let values = found setup t fit what.Field (all_values callsite.0 by.fields) _ e up.2 in
     let same : up.0 ≡ by.up = cc (sym up.1 ∙ by.parent) in
-    by_gate callsite.0 up.0 values.0 (admitted setup t (here_at setup t request.at request.lane).lane callsite.0) (the_effect setup t fit _ e values.2)
-    ∙ ap (λ (scope : Scope). option_to_list (above setup.layer.activation (parent_at by.under scope) (current_of (t.entries (here_at setup t request.at request.lane).lane)))) same
+    by_gate callsite.0 up.0 values.0 (admits_at setup t (here_at setup t request.at request.lane).lane callsite.0) (the_effect setup t fit _ e values.2)
+    ∙ ap (λ (scope : Scope). option_to_list (parent_source setup.layer.activation (parent_at by.under scope) (current_of (t.entries (here_at setup t request.at request.lane).lane)))) same
   where
     by_gate : (callsite : Callsite) (up : Scope) (values : ValueSet) (b : Bool) → cond b (span_effect (here_at setup t request.at request.lane) m.site callsite values by.under up) (disabled_effect (here_at setup t request.at request.lane)) ≡ e
-        → e.starts ≡ option_to_list (above setup.layer.activation (parent_at by.under up) (current_of (t.entries (here_at setup t request.at request.lane).lane)))
+        → e.starts ≡ option_to_list (parent_source setup.layer.activation (parent_at by.under up) (current_of (t.entries (here_at setup t request.at request.lane).lane)))
     by_gate callsite up values true is = ap (λ (x : Effect). x.starts) (sym is)
-    by_gate callsite up values false is = (let none : ◌≡◌ {A = Option Made} None (Some m) = ap (λ (x : Effect). x.made) is ∙ made in absurd (cc none))
+    by_gate callsite up values false is = (let none : ◌≡◌ {A = Option MadeSpan} None (Some m) = ap (λ (x : Effect). x.new_span) is ∙ made in absurd (cc none))
 
-pub if_admitted : (setup : Setup) (h : History) (request : Request) (e : Effect) → IsHistory setup h → effect_of setup (tables setup h) request ≡ Ok e → is_some e.made ≡ is_making setup (tables setup h) request
+pub if_admitted : (setup : Setup) (h : History) (request : Request) (e : Effect) → IsHistory setup h → effect_of setup (tables setup h) request ≡ Ok e → is_some e.new_span ≡ is_making setup (tables setup h) request
 if_admitted setup h request e legal is =
     let fit = fits setup h (whole setup h legal) in
-    by_made setup (tables setup h) fit request.at request.lane request.call e.made (by_request setup (tables setup h) fit request e is)
+    by_made setup (tables setup h) fit request.at request.lane request.call e.new_span (by_request setup (tables setup h) fit request e is)
 
-pub made_by : (setup : Setup) (h : History) (request : Request) (e : Effect) (m : Made) → IsHistory setup h → effect_of setup (tables setup h) request ≡ Ok e → e.made ≡ Some m
+pub made_by : (setup : Setup) (h : History) (request : Request) (e : Effect) (m : MadeSpan) → IsHistory setup h → effect_of setup (tables setup h) request ≡ Ok e → e.new_span ≡ Some m
     → IsMadeBy setup (tables setup h) request.at request.lane request.call m
 made_by setup h request e m legal is made =
     let fit = fits setup h (whole setup h legal) in

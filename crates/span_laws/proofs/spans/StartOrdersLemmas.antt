@@ -8,10 +8,10 @@ use Rattle.std.proofs.lemmas.Bool.Decides.{nat_tests}
 use Rattle.otel_base.specs.declared.context.Context.{Context}
 use Rattle.otel_base.specs.declared.context.SpanContext.{SpanContext}
 use Rattle.otel_state.specs.declared.times.TheConstants.{GREATEST}
-use Rattle.otel_state.specs.Deeds.{Stamped}
-use Rattle.otel_state.specs.States.{Told}
+use Rattle.otel_state.specs.Deeds.{TimedOp}
+use Rattle.otel_state.specs.States.{SpanData}
 use Rattle.otel_layer.specs.Recording.{Recording, with_start, with_close}
-use Rattle.otel_layer.specs.Table.{told_at, waits, waits_by}
+use Rattle.otel_layer.specs.Table.{data_at, waits, waits_by}
 use Rattle.trace_base.specs.Spans.{is_in}
 use Rattle.span_script.specs.Setups.{Setup}
 use Rattle.span_script.specs.declared.request.Request.{Request}
@@ -19,7 +19,7 @@ use Rattle.span_script.specs.Tables.{Effect, History, Tables, done_by, tables}
 use Rattle.span_script.specs.Effects.{effect_of}
 use Rattle.span_laws.specs.Closes.{is_drop}
 use Rattle.span_laws.specs.Laws.{IsHistory, occurrences}
-use Rattle.span_laws.specs.Starts.{with_started, started, place_in}
+use Rattle.span_laws.specs.Starts.{with_started, starting_order, place_in}
 use Rattle.span_laws.proofs.records.HistoriesLemmas.{closing_once, did, done_in, fits, moved, shut, started_push, whole}
 use Rattle.span_laws.proofs.spans.MakingsLemmas.{first_of}
 use Rattle.span_laws.proofs.spans.OccurrencesLemmas.{occurs_cons}
@@ -35,7 +35,7 @@ if_waiting None s = []
 if_waiting (Some under) s = s ∷ []
 
 abbrev pub starting : ℕ → Recording → List ℕ
-starting s r = if_waiting (waits (told_at s r.spans)) s
+starting s r = if_waiting (waits (data_at s r.spans)) s
 
 -- those of some spans that start, one after the other, and those that start as they close
 abbrev pub starts_from : ℕ → Recording → List ℕ → List ℕ
@@ -46,11 +46,11 @@ abbrev pub closes_from : ℕ → Recording → List ℕ → List ℕ
 closes_from at r [] = []
 closes_from at r (s ∷ ss) = starting s r ++ closes_from at (with_close s at r) ss
 
-module _ (setup : Setup) (first : ℕ → Told) (now : ℕ) (most : now ≤ GREATEST) (opened : ℕ → ℕ) (n : ℕ) where
-  abbrev Now : List ℕ → (ℕ → SpanContext → List Stamped) → (ℕ → Bool) → Recording → Type 0
+module _ (setup : Setup) (first : ℕ → SpanData) (now : ℕ) (most : now ≤ GREATEST) (opened : ℕ → ℕ) (n : ℕ) where
+  abbrev Now : List ℕ → (ℕ → SpanContext → List TimedOp) → (ℕ → Bool) → Recording → Type 0
   Now order done is_known r = AreStories setup first order done opened now is_known n r
 
-  start_by : (order : List ℕ) (done : ℕ → SpanContext → List Stamped) (r : Recording) (id : ℕ) → (f : IsStory setup (told_at id r.spans) (first id) (place_in order id) (done id) (opened id) now)
+  start_by : (order : List ℕ) (done : ℕ → SpanContext → List TimedOp) (r : Recording) (id : ℕ) → (f : IsStory setup (data_at id r.spans) (first id) (place_in order id) (done id) (opened id) now)
       → (own : Option SpanContext) → f.told.own ≡ own → HasId own (place_in order id) f.told.parent → with_started order id ≡ order ++ starting id r
   start_by order done r id f None unstarted none =
       let out : is_in id order ≡ false = elim (cases_Bool (is_in id order)) [
@@ -64,10 +64,10 @@ module _ (setup : Setup) (first : ℕ → Told) (now : ℕ) (most : now ≤ GREA
       let under = ap waits f.is ∙ ap (λ (o : Option SpanContext). waits_by o f.told.parent) started in
       cond-true {A = List ℕ} (is_in id order) order (order ++ id ∷ []) there ∙ sym (append-nil order) ∙ ap (λ (u : Option Context). order ++ if_waiting u id) (sym under)
 
-  start_order : (order : List ℕ) (done : ℕ → SpanContext → List Stamped) (is_known : ℕ → Bool) (r : Recording) (id : ℕ) → Now order done is_known r → is_known id ≡ true → with_started order id ≡ order ++ starting id r
+  start_order : (order : List ℕ) (done : ℕ → SpanContext → List TimedOp) (is_known : ℕ → Bool) (r : Recording) (id : ℕ) → Now order done is_known r → is_known id ≡ true → with_started order id ≡ order ++ starting id r
   start_order order done is_known r id stories known = let f = stories.each id known in start_by order done r id f f.told.own refl f.has_id
 
-  pub starts_order : (order : List ℕ) (done : ℕ → SpanContext → List Stamped) (is_known : ℕ → Bool) (r : Recording) (ids : List ℕ) → Now order done is_known r → AllByRecursion (λ s. is_known s ≡ true) ids
+  pub starts_order : (order : List ℕ) (done : ℕ → SpanContext → List TimedOp) (is_known : ℕ → Bool) (r : Recording) (ids : List ℕ) → Now order done is_known r → AllByRecursion (λ s. is_known s ≡ true) ids
       → fold with_started order ids ≡ order ++ starts_from now r ids
   starts_order order done is_known r [] stories known = sym (append-nil order)
   starts_order order done is_known r (id ∷ ids) stories known =
@@ -75,7 +75,7 @@ module _ (setup : Setup) (first : ℕ → Told) (now : ℕ) (most : now ≤ GREA
       ∙ ap (λ (o : List ℕ). o ++ starts_from now (with_start id now r) ids) (start_order order done is_known r id stories known.0)
       ∙ append_assoc order (starting id r) (starts_from now (with_start id now r) ids)
 
-  pub closes_order : (order : List ℕ) (done : ℕ → SpanContext → List Stamped) (is_known : ℕ → Bool) (r : Recording) (ids : List ℕ) → Now order done is_known r → ((s : ℕ) → occurrences s ids ≤ cond (is_known s) 1 0)
+  pub closes_order : (order : List ℕ) (done : ℕ → SpanContext → List TimedOp) (is_known : ℕ → Bool) (r : Recording) (ids : List ℕ) → Now order done is_known r → ((s : ℕ) → occurrences s ids ≤ cond (is_known s) 1 0)
       → ((s : ℕ) → 0 < occurrences s ids → opened s ≡ 0) → fold with_started order ids ≡ order ++ closes_from now r ids
   closes_order order done is_known r [] stories once shut = sym (append-nil order)
   closes_order order done is_known r (id ∷ ids) stories once shut =
@@ -96,21 +96,21 @@ module _ (setup : Setup) (first : ℕ → Told) (now : ℕ) (most : now ≤ GREA
 
 -- the spans that an effect starts, beside the one that it makes
 abbrev pub order_in : Tables → Effect → List ℕ
-order_in t e = starts_from e.at t.recording e.starts ++ closes_from e.at (done_by (length t.made) e t.recording) e.closes
+order_in t e = starts_from e.at t.recording e.starts ++ closes_from e.at (done_by (length t.spans) e t.recording) e.closes
 
 pub effect_order : (setup : Setup) (h : History) (request : Request) (e : Effect) → IsHistory setup h → effect_of setup (tables setup h) request ≡ Ok e → e.begins ≡ None
-    → started (h ++ e ∷ []) ≡ started h ++ order_in (tables setup h) e
+    → starting_order (h ++ e ∷ []) ≡ starting_order h ++ order_in (tables setup h) e
 effect_order setup h request e legal is none =
     let t : Tables = tables setup h in
     let now = whole setup h legal in
     let step = step_of setup t (fits setup h now) request e is in
-    let before = fold with_started (started h) e.starts in
-    let closing = closes_from e.at (done_by (length t.made) e t.recording) e.closes in
+    let before = fold with_started (starting_order h) e.starts in
+    let closing = closes_from e.at (done_by (length t.spans) e t.recording) e.closes in
     started_push h e
-    ∙ closes_order setup _ e.at step.0.most _ _ (fold with_started before (option_to_list e.begins)) _ _ (done_by (length t.made) e t.recording) e.closes (did setup h now request.at (is_drop request.call) e step.0 step.1)
+    ∙ closes_order setup _ e.at step.0.most _ _ (fold with_started before (option_to_list e.begins)) _ _ (done_by (length t.spans) e t.recording) e.closes (did setup h now request.at (is_drop request.call) e step.0 step.1)
     (closing_once setup h now request.at (is_drop request.call) e step.0 step.1) (shut setup h now request.at (is_drop request.call) e step.0 step.1)
     ∙ ap (λ (o : List ℕ). o ++ closing) (
     ap (λ (b : Option ℕ). fold with_started before (option_to_list b)) none
-    ∙ starts_order setup (first_of t.made) e.at step.0.most (guards_of t.guards) (length t.made) (started h) (done_in h) _ t.recording e.starts (moved setup h now request.at (is_drop request.call) e step.0 step.1) step.1.starts
+    ∙ starts_order setup (first_of t.spans) e.at step.0.most (guards_of t.guards) (length t.spans) (starting_order h) (done_in h) _ t.recording e.starts (moved setup h now request.at (is_drop request.call) e step.0 step.1) step.1.starts
     )
-    ∙ append_assoc (started h) (starts_from e.at t.recording e.starts) closing
+    ∙ append_assoc (starting_order h) (starts_from e.at t.recording e.starts) closing

@@ -4,7 +4,7 @@ use Rattle.std.specs.Prelude.{if◌then◌else◌}
 use Rattle.std.proofs.lemmas.Bool.{cases_Bool, eq-eqb, eqb-true, ne_eqb, cond-true, cond-false}
 use Rattle.otel_base.specs.declared.context.SpanContext.{SpanContext}
 use Rattle.otel_state.specs.declared.op.Op.TheVariants as ops
-use Rattle.otel_state.specs.Deeds.{Stamped}
+use Rattle.otel_state.specs.Deeds.{TimedOp}
 use Rattle.trace_base.specs.Spans.{is_in}
 use Rattle.trace_base.proofs.Holding.{in_push, in_push_same}
 use Rattle.span_laws.specs.Records.{start_in}
@@ -37,18 +37,18 @@ started_in order id s = elim (cases_Bool (is_in id order)) [
     by_test there false other = or_false (is_in s order)
 
 module _ (own : SpanContext) (at s : ℕ) where
-  abbrev one : List Stamped
+  abbrev one : List TimedOp
   one = stamp at (ops.Start own) ∷ []
 
   pub starts_here : (order : List ℕ) (id : ℕ) → s ≡ id → is_in id order ≡ false → start_in own at s order (id ∷ []) ≡ one
   starts_here order id same out =
       let test : ((id == s || false) && not (is_in s order)) ≡ true = ap (λ b. (b || false) && not (is_in s order)) (eq-eqb id s (sym same)) ∙ ap not (ap (λ (q : ℕ). is_in q order) same ∙ out) in
-      cond-true {A = List Stamped} ((id == s || false) && not (is_in s order)) one [] test
+      cond-true {A = List TimedOp} ((id == s || false) && not (is_in s order)) one [] test
 
   pub starts_other : (order : List ℕ) (id : ℕ) → (s ≡ id → ⊥) → start_in own at s order (id ∷ []) ≡ []
   starts_other order id other =
       let test : ((id == s || false) && not (is_in s order)) ≡ false = ap (λ b. (b || false) && not (is_in s order)) (ne_eqb id s (λ e. other (sym e))) in
-      cond-false {A = List Stamped} ((id == s || false) && not (is_in s order)) one [] test
+      cond-false {A = List TimedOp} ((id == s || false) && not (is_in s order)) one [] test
 
   never : (b : Bool) → (b && false) ≡ false
   never true = refl
@@ -57,12 +57,12 @@ module _ (own : SpanContext) (at s : ℕ) where
   pub starts_not : (order ids : List ℕ) → is_in s order ≡ true → start_in own at s order ids ≡ []
   starts_not order ids there =
       let test : (is_in s ids && not (is_in s order)) ≡ false = ap (λ b. is_in s ids && not b) there ∙ never (is_in s ids) in
-      cond-false {A = List Stamped} (is_in s ids && not (is_in s order)) one [] test
+      cond-false {A = List TimedOp} (is_in s ids && not (is_in s order)) one [] test
 
   pub starts_absent : (order ids : List ℕ) → is_in s ids ≡ false → start_in own at s order ids ≡ []
   starts_absent order ids out =
       let test : (is_in s ids && not (is_in s order)) ≡ false = ap (λ b. b && not (is_in s order)) out in
-      cond-false {A = List Stamped} (is_in s ids && not (is_in s order)) one [] test
+      cond-false {A = List TimedOp} (is_in s ids && not (is_in s order)) one [] test
 
   -- the first of several starts, and the others
   parts : (a b c : Bool) → (if (a || b) && not c then one else []) ≡ (if (a || false) && not c then one else []) ++ (if b && not (c || a) then one else [])

@@ -7,7 +7,7 @@ use Rattle.std.proofs.lemmas.List.Sums.{sum_by-set}
 use Rattle.trace_base.specs.Spans.{is_in}
 use Rattle.trace_base.proofs.Entering.{count_push}
 use Rattle.otel_state.specs.Deeds.{deed}
-use Rattle.span_script.specs.Tables.{Scope, Done, Guarded, either_after, slot_at, own}
+use Rattle.span_script.specs.Tables.{Scope, SpanOp, ScopeGuard, either_after, slot_at, own_span}
 use Rattle.span_script.specs.calls.Spans.{is_open}
 use Rattle.span_laws.proofs.steps.GuardsLemmas.{IsGuarded, Enters, no_entry, skips, enters_by, exits_by}
 use Rattle.span_laws.proofs.records.RecordingLemmas.{turned_by}
@@ -21,25 +21,25 @@ abbrev pub is_own : ℕ → Scope → Bool
 is_own s [] = false
 is_own s (x ∷ up) = x == s
 
-abbrev pub guards_span : ℕ → Option Guarded → Bool
+abbrev pub guards_span : ℕ → Option ScopeGuard → Bool
 guards_span s None = false
 guards_span s (Some g) = is_own s g.scope
 
-abbrev pub guards_of : List (Option Guarded) → ℕ → ℕ
+abbrev pub guards_of : List (Option ScopeGuard) → ℕ → ℕ
 guards_of gs s = count_by (guards_span s) gs
 
 -- a span that is no more open has none
-pub guards_shut : (ids : List ℕ) (hs : List (Option Scope)) (gs : List (Option Guarded)) (es : ℕ → List ℕ) → IsGuarded ids hs gs es → (s : ℕ) → is_open hs s ≡ false → guards_of gs s ≡ 0
+pub guards_shut : (ids : List ℕ) (hs : List (Option Scope)) (gs : List (Option ScopeGuard)) (es : ℕ → List ℕ) → IsGuarded ids hs gs es → (s : ℕ) → is_open hs s ≡ false → guards_of gs s ≡ 0
 guards_shut ids hs gs es now s shut = elim (cases_lt 0 (guards_of gs s)) [
   | inl some ↦ (let found = pick (guards_span s) gs None some in absurd (by_slot found.0 (slot_at gs found.0) refl found.2))
   | inr none ↦ omega (arith, none)
 ]
   where
-    by_scope : (g : Guarded) (scope : Scope) → g.scope ≡ scope → slot_at hs g.handle ≡ Some scope → is_own s scope ≡ true → ⊥
+    by_scope : (g : ScopeGuard) (scope : Scope) → g.scope ≡ scope → slot_at hs g.handle ≡ Some scope → is_own s scope ≡ true → ⊥
     by_scope g [] is there passes = true≢false (sym passes)
     by_scope g (x ∷ up) is there passes = true≢false (sym (slot_open hs g.handle s (x ∷ up) there (ap (λ b. b || is_in s up) passes)) ∙ shut)
 
-    by_slot : (n : ℕ) (o : Option Guarded) → slot_at gs n ≡ o → guards_span s o ≡ true → ⊥
+    by_slot : (n : ℕ) (o : Option ScopeGuard) → slot_at gs n ≡ o → guards_span s o ≡ true → ⊥
     by_slot n None there passes = true≢false (sym passes)
     by_slot n (Some g) there passes = by_scope g g.scope refl (now.still n g there) passes
 
@@ -49,7 +49,7 @@ stands_still n false false unentered unleft = refl
 stands_still n false true unentered unleft = absurd (cc unentered)
 stands_still n true enters unentered unleft = absurd (cc unleft)
 
-calm : (ds : List Done) (f : ℕ → ℕ) (s : ℕ) → AllByRecursion IsCalm ds → fold (λ f d. turned_by d f) f ds s ≡ f s
+calm : (ds : List SpanOp) (f : ℕ → ℕ) (s : ℕ) → AllByRecursion IsCalm ds → fold (λ f d. turned_by d f) f ds s ≡ f s
 calm [] f s all = refl
 calm (d ∷ ds) f s all = calm ds (turned_by d f) s all.1 ∙ by_test (d.span == s)
   where
@@ -57,38 +57,38 @@ calm (d ∷ ds) f s all = calm ds (turned_by d f) s all.1 ∙ by_test (d.span ==
     by_test true = stands_still (f s) (deed d.op).exits (deed d.op).enters all.0.0 all.0.1
     by_test false = refl
 
-module _ (ids : List ℕ) (hs : List (Option Scope)) (gs : List (Option Guarded)) (lane : ℕ) where
+module _ (ids : List ℕ) (hs : List (Option Scope)) (gs : List (Option ScopeGuard)) (lane : ℕ) where
   -- after an effect
-  abbrev all_turned : List Done → ℕ → ℕ
+  abbrev all_turned : List SpanOp → ℕ → ℕ
   all_turned ds s = fold (λ f d. turned_by d f) (guards_of gs) ds s
 
-  by_entry : (g : Guarded) (scope : Scope) → g.scope ≡ scope → (ds : List Done) → Turns (own scope) None ds → (s : ℕ) → all_turned ds s ≤ guards_of (gs ++ Some g ∷ []) s
+  by_entry : (g : ScopeGuard) (scope : Scope) → g.scope ≡ scope → (ds : List SpanOp) → Turns (own_span scope) None ds → (s : ℕ) → all_turned ds s ≤ guards_of (gs ++ Some g ∷ []) s
   by_entry g [] is ds turns s = let same = calm ds (guards_of gs) s turns in let push = count_push (guards_span s) gs (Some g) in omega (arith, same, push)
   by_entry g (x ∷ up) is ds turns s =
       let push = count_push (guards_span s) gs (Some g) in
       let mine = ap (λ (scope : Scope). cond {A = ℕ} (is_own s scope) 1 0) is in
-      subst (λ (ds : List Done). all_turned ds s ≤ guards_of (gs ++ Some g ∷ []) s) (sym turns) (by_test (x == s) (push ∙ ap (λ n. guards_of gs s + n) mine))
+      subst (λ (ds : List SpanOp). all_turned ds s ≤ guards_of (gs ++ Some g ∷ []) s) (sym turns) (by_test (x == s) (push ∙ ap (λ n. guards_of gs s + n) mine))
     where
       by_test : (b : Bool) → guards_of (gs ++ Some g ∷ []) s ≡ guards_of gs s + cond b 1 0 → (if b then guards_of gs s + 1 else guards_of gs s) ≤ guards_of (gs ++ Some g ∷ []) s
       by_test true is = omega (arith, is)
       by_test false is = omega (arith, is)
 
-  by_exit : (n : ℕ) (g : Guarded) → slot_at gs n ≡ Some g → (scope : Scope) → g.scope ≡ scope → (ds : List Done) → Turns None (own scope) ds → (s : ℕ) → all_turned ds s ≤ guards_of (slice_set gs n None) s
+  by_exit : (n : ℕ) (g : ScopeGuard) → slot_at gs n ≡ Some g → (scope : Scope) → g.scope ≡ scope → (ds : List SpanOp) → Turns None (own_span scope) ds → (s : ℕ) → all_turned ds s ≤ guards_of (slice_set gs n None) s
   by_exit n g there scope is ds turns s =
-      let write = sum_by-set (λ (o : Option Guarded). cond {A = ℕ} (guards_span s o) 1 0) gs n None None (named_within gs n g there) in
-      let slot = ap (λ (o : Option Guarded). cond {A = ℕ} (guards_span s o) 1 0) there in
+      let write = sum_by-set (λ (o : Option ScopeGuard). cond {A = ℕ} (guards_span s o) 1 0) gs n None None (named_within gs n g there) in
+      let slot = ap (λ (o : Option ScopeGuard). cond {A = ℕ} (guards_span s o) 1 0) there in
       let mine = ap (λ (scope : Scope). cond {A = ℕ} (is_own s scope) 1 0) is in
       by_scope scope ds turns (omega (arith, write, slot, mine))
     where
-      by_scope : (scope : Scope) (ds : List Done) → Turns None (own scope) ds → guards_of (slice_set gs n None) s + cond (is_own s scope) 1 0 ≡ guards_of gs s → all_turned ds s ≤ guards_of (slice_set gs n None) s
+      by_scope : (scope : Scope) (ds : List SpanOp) → Turns None (own_span scope) ds → guards_of (slice_set gs n None) s + cond (is_own s scope) 1 0 ≡ guards_of gs s → all_turned ds s ≤ guards_of (slice_set gs n None) s
       by_scope [] ds turns fewer = let same = calm ds (guards_of gs) s turns in omega (arith, same, fewer)
-      by_scope (x ∷ up) ds turns fewer = subst (λ (ds : List Done). all_turned ds s ≤ guards_of (slice_set gs n None) s) (sym turns) (by_test (x == s) fewer)
+      by_scope (x ∷ up) ds turns fewer = subst (λ (ds : List SpanOp). all_turned ds s ≤ guards_of (slice_set gs n None) s) (sym turns) (by_test (x == s) fewer)
         where
           by_test : (b : Bool) → guards_of (slice_set gs n None) s + cond b 1 0 ≡ guards_of gs s → (if b then guards_of gs s - 1 else guards_of gs s) ≤ guards_of (slice_set gs n None) s
           by_test true is = omega (arith, is)
           by_test false is = omega (arith, is)
 
-  pub turns_within : (new : Option Guarded) (attach spent entry exit : Option ℕ) → Enters ids hs gs lane new attach spent entry exit → (ds : List Done) → Turns entry exit ds → (s : ℕ) → all_turned ds s ≤ guards_of (either_after gs new attach spent) s
+  pub turns_within : (new : Option ScopeGuard) (attach spent entry exit : Option ℕ) → Enters ids hs gs lane new attach spent entry exit → (ds : List SpanOp) → Turns entry exit ds → (s : ℕ) → all_turned ds s ≤ guards_of (either_after gs new attach spent) s
   turns_within _ _ _ _ _ (skips place) ds turns s = let same = calm ds (guards_of gs) s turns in let push = count_push (guards_span s) gs None in omega (arith, same, push)
   turns_within _ _ _ _ _ no_entry ds turns s = let same = calm ds (guards_of gs) s turns in omega (arith, same)
   turns_within _ _ _ _ _ (enters_by g there at) ds turns s = by_entry g g.scope refl ds turns s

@@ -8,34 +8,34 @@ use Rattle.trace_base.proofs.Entering.{count_push}
 use Rattle.trace_base.proofs.Holding.{times_without}
 use Rattle.span_script.specs.Setups.{id_at}
 use Rattle.span_script.specs.Balance.{guards, opened_by}
-use Rattle.span_script.specs.Tables.{Scope, Guarded, with_new, either_after, slot_at, own, with_entry, with_exit}
+use Rattle.span_script.specs.Tables.{Scope, ScopeGuard, with_item, either_after, slot_at, own_span, lanes_with_entry, lanes_with_exit}
 use Rattle.span_script.specs.calls.Spans.{borrows, is_borrowed}
 use Rattle.span_laws.proofs.spans.OccurrencesLemmas.{slot_push, slot_kept}
 use Rattle.span_script.proofs.spans.OpenSpansLemmas.{pick}
 use Rattle.span_script.proofs.steps.SlotsLemmas.{named_push, named_set, named_within, some_is}
 
 -- an open guard of a span on the lane of an id
-abbrev pub is_on : List ℕ → ℕ → ℕ → Option Guarded → Bool
+abbrev pub is_on : List ℕ → ℕ → ℕ → Option ScopeGuard → Bool
 is_on ids l s o = guards l s (opened_by ids o)
 
-pub record IsGuarded (ids : List ℕ) (hs : List (Option Scope)) (gs : List (Option Guarded)) (es : ℕ → List ℕ) : Type 0 where
-  pub still : (n : ℕ) (g : Guarded) → slot_at gs n ≡ Some g → slot_at hs g.handle ≡ Some g.scope
+pub record IsGuarded (ids : List ℕ) (hs : List (Option Scope)) (gs : List (Option ScopeGuard)) (es : ℕ → List ℕ) : Type 0 where
+  pub still : (n : ℕ) (g : ScopeGuard) → slot_at gs n ≡ Some g → slot_at hs g.handle ≡ Some g.scope
   pub counted : (l s : ℕ) → times_in s (es l) ≡ count_by (is_on ids l s) gs
 
 -- What an effect does to the guards of entries and to entries: nothing, a number passed over for an attach, a guard more with
 -- its entry, or a guard less with it.
-pub data Enters (ids : List ℕ) (hs : List (Option Scope)) (gs : List (Option Guarded)) (lane : ℕ) : Option Guarded → Option ℕ → Option ℕ → Option ℕ → Option ℕ → Type 0 where
+pub data Enters (ids : List ℕ) (hs : List (Option Scope)) (gs : List (Option ScopeGuard)) (lane : ℕ) : Option ScopeGuard → Option ℕ → Option ℕ → Option ℕ → Option ℕ → Type 0 where
   no_entry : Enters ids hs gs lane None None None None None
   skips : (place : ℕ) → Enters ids hs gs lane None (Some place) None None None
-  enters_by : (g : Guarded) → slot_at hs g.handle ≡ Some g.scope → lane ≡ id_at ids g.lane → Enters ids hs gs lane (Some g) None None (own g.scope) None
-  exits_by : (n : ℕ) (g : Guarded) → slot_at gs n ≡ Some g → lane ≡ id_at ids g.lane → Enters ids hs gs lane None None (Some n) None (own g.scope)
+  enters_by : (g : ScopeGuard) → slot_at hs g.handle ≡ Some g.scope → lane ≡ id_at ids g.place → Enters ids hs gs lane (Some g) None None (own_span g.scope) None
+  exits_by : (n : ℕ) (g : ScopeGuard) → slot_at gs n ≡ Some g → lane ≡ id_at ids g.place → Enters ids hs gs lane None None (Some n) None (own_span g.scope)
 
-module _ (ids : List ℕ) (hs : List (Option Scope)) (gs : List (Option Guarded)) (es : ℕ → List ℕ) (now : IsGuarded ids hs gs es) where
+module _ (ids : List ℕ) (hs : List (Option Scope)) (gs : List (Option ScopeGuard)) (es : ℕ → List ℕ) (now : IsGuarded ids hs gs es) where
   -- whether an open guard with that scope is one of a span on a lane
-  on_of : (l s : ℕ) (g : Guarded) (scope : Scope) → g.scope ≡ scope → is_on ids l s (Some g) ≡ guards l s (opened_by ids (Some (record g { scope = scope })))
+  on_of : (l s : ℕ) (g : ScopeGuard) (scope : Scope) → g.scope ≡ scope → is_on ids l s (Some g) ≡ guards l s (opened_by ids (Some (record g { scope = scope })))
   on_of l s g scope is = ap (λ (x : Scope). guards l s (opened_by ids (Some (record g { scope = x })))) is
 
-  entered_by : (g : Guarded) (lane : ℕ) → slot_at hs g.handle ≡ Some g.scope → lane ≡ id_at ids g.lane → (scope : Scope) → g.scope ≡ scope → (l s : ℕ) → times_in s (with_entry es lane (own scope) l) ≡ count_by (is_on ids l s) (gs ++ Some g ∷ [])
+  entered_by : (g : ScopeGuard) (lane : ℕ) → slot_at hs g.handle ≡ Some g.scope → lane ≡ id_at ids g.place → (scope : Scope) → g.scope ≡ scope → (l s : ℕ) → times_in s (lanes_with_entry es lane (own_span scope) l) ≡ count_by (is_on ids l s) (gs ++ Some g ∷ [])
   entered_by g lane there at [] is l s =
       let push = count_push (is_on ids l s) gs (Some g) in
       let none = ap (λ b. cond {A = ℕ} b 1 0) (on_of l s g [] is) in
@@ -50,24 +50,24 @@ module _ (ids : List ℕ) (hs : List (Option Scope)) (gs : List (Option Guarded)
             let e = ap (λ (xs : List ℕ). times_in s xs) (cond-true {A = List ℕ} (lane == l) (es lane ++ x ∷ []) (es l) (eq-eqb lane l here)) in
             let t = count_push (λ y. y == s) (es lane) x in
             let w = ap (λ (k : ℕ). times_in s (es k)) here in
-            let b = ap (λ b. cond {A = ℕ} (b && x == s) 1 0) (eq-eqb (id_at ids g.lane) l (sym at ∙ here)) in
+            let b = ap (λ b. cond {A = ℕ} (b && x == s) 1 0) (eq-eqb (id_at ids g.place) l (sym at ∙ here)) in
             omega (arith, push, mine, before, e, t, w, b))
         | inr other ↦ (
             let e = ap (λ (xs : List ℕ). times_in s xs) (cond-false {A = List ℕ} (lane == l) (es lane ++ x ∷ []) (es l) (ne_eqb lane l other)) in
-            let b = ap (λ b. cond {A = ℕ} (b && x == s) 1 0) (ne_eqb (id_at ids g.lane) l (λ e. other (at ∙ e))) in
+            let b = ap (λ b. cond {A = ℕ} (b && x == s) 1 0) (ne_eqb (id_at ids g.place) l (λ e. other (at ∙ e))) in
             omega (arith, push, mine, before, e, b))
       ]
 
-  exited_by : (n : ℕ) (g : Guarded) (lane : ℕ) → slot_at gs n ≡ Some g → lane ≡ id_at ids g.lane → (scope : Scope) → g.scope ≡ scope → (l s : ℕ) → times_in s (with_exit es lane (own scope) l) ≡ count_by (is_on ids l s) (slice_set gs n None)
+  exited_by : (n : ℕ) (g : ScopeGuard) (lane : ℕ) → slot_at gs n ≡ Some g → lane ≡ id_at ids g.place → (scope : Scope) → g.scope ≡ scope → (l s : ℕ) → times_in s (lanes_with_exit es lane (own_span scope) l) ≡ count_by (is_on ids l s) (slice_set gs n None)
   exited_by n g lane there at [] is l s =
-      let write = sum_by-set (λ (o : Option Guarded). cond {A = ℕ} (is_on ids l s o) 1 0) gs n None None (named_within gs n g there) in
-      let slot = ap (λ (o : Option Guarded). cond {A = ℕ} (is_on ids l s o) 1 0) there in
+      let write = sum_by-set (λ (o : Option ScopeGuard). cond {A = ℕ} (is_on ids l s o) 1 0) gs n None None (named_within gs n g there) in
+      let slot = ap (λ (o : Option ScopeGuard). cond {A = ℕ} (is_on ids l s o) 1 0) there in
       let none = ap (λ b. cond {A = ℕ} b 1 0) (on_of l s g [] is) in
       let before = now.counted l s in
       omega (arith, write, slot, none, before)
   exited_by n g lane there at (x ∷ up) is l s =
-      let write = sum_by-set (λ (o : Option Guarded). cond {A = ℕ} (is_on ids l s o) 1 0) gs n None None (named_within gs n g there) in
-      let slot = ap (λ (o : Option Guarded). cond {A = ℕ} (is_on ids l s o) 1 0) there in
+      let write = sum_by-set (λ (o : Option ScopeGuard). cond {A = ℕ} (is_on ids l s o) 1 0) gs n None None (named_within gs n g there) in
+      let slot = ap (λ (o : Option ScopeGuard). cond {A = ℕ} (is_on ids l s o) 1 0) there in
       let mine = ap (λ b. cond {A = ℕ} b 1 0) (on_of l s g (x ∷ up) is) in
       let before = now.counted l s in
       elim (cases_eq lane l) [
@@ -75,31 +75,31 @@ module _ (ids : List ℕ) (hs : List (Option Scope)) (gs : List (Option Guarded)
             let e = ap (λ (xs : List ℕ). times_in s xs) (cond-true {A = List ℕ} (lane == l) (without_last (λ y. y == x) (es lane)) (es l) (eq-eqb lane l here)) in
             let t = times_without (es lane) x s some in
             let w = ap (λ (k : ℕ). times_in s (es k)) here in
-            let b = ap (λ b. cond {A = ℕ} (b && x == s) 1 0) (eq-eqb (id_at ids g.lane) l (sym at ∙ here)) in
+            let b = ap (λ b. cond {A = ℕ} (b && x == s) 1 0) (eq-eqb (id_at ids g.place) l (sym at ∙ here)) in
             omega (arith, write, slot, mine, before, e, t, w, b))
         | inr other ↦ (
             let e = ap (λ (xs : List ℕ). times_in s xs) (cond-false {A = List ℕ} (lane == l) (without_last (λ y. y == x) (es lane)) (es l) (ne_eqb lane l other)) in
-            let b = ap (λ b. cond {A = ℕ} (b && x == s) 1 0) (ne_eqb (id_at ids g.lane) l (λ e. other (at ∙ e))) in
+            let b = ap (λ b. cond {A = ℕ} (b && x == s) 1 0) (ne_eqb (id_at ids g.place) l (λ e. other (at ∙ e))) in
             omega (arith, write, slot, mine, before, e, b))
       ]
     where
       some : 0 < times_in x (es lane)
       some =
-          let c = get_or-le-sum_by (λ (o : Option Guarded). cond {A = ℕ} (is_on ids lane x o) 1 0) gs n None (named_within gs n g there) in
-          let slot = ap (λ (o : Option Guarded). cond {A = ℕ} (is_on ids lane x o) 1 0) there in
-          let mine = ap (λ b. cond {A = ℕ} b 1 0) (on_of lane x g (x ∷ up) is ∙ and_from (id_at ids g.lane == lane) (x == x) (eq-eqb (id_at ids g.lane) lane (sym at)) (eq-eqb x x refl)) in
+          let c = get_or-le-sum_by (λ (o : Option ScopeGuard). cond {A = ℕ} (is_on ids lane x o) 1 0) gs n None (named_within gs n g there) in
+          let slot = ap (λ (o : Option ScopeGuard). cond {A = ℕ} (is_on ids lane x o) 1 0) there in
+          let mine = ap (λ b. cond {A = ℕ} b 1 0) (on_of lane x g (x ∷ up) is ∙ and_from (id_at ids g.place == lane) (x == x) (eq-eqb (id_at ids g.place) lane (sym at)) (eq-eqb x x refl)) in
           let before = now.counted lane x in
           omega (arith, c, slot, mine, before)
 
   -- after an effect's guard
-  pub guarded_after : (lane : ℕ) (new : Option Guarded) (attach spent entry exit : Option ℕ) → Enters ids hs gs lane new attach spent entry exit → IsGuarded ids hs (either_after gs new attach spent) (with_exit (with_entry es lane entry) lane exit)
+  pub guarded_after : (lane : ℕ) (new : Option ScopeGuard) (attach spent entry exit : Option ℕ) → Enters ids hs gs lane new attach spent entry exit → IsGuarded ids hs (either_after gs new attach spent) (lanes_with_exit (lanes_with_entry es lane entry) lane exit)
   guarded_after lane _ _ _ _ _ no_entry = now
   guarded_after lane _ _ _ _ _ (skips place) = record {
-    still = λ n x is. named_push (λ (y : Guarded). slot_at hs y.handle ≡ Some y.scope) gs None now.still (λ y e. absurd (cc e)) n x is;
+    still = λ n x is. named_push (λ (y : ScopeGuard). slot_at hs y.handle ≡ Some y.scope) gs None now.still (λ y e. absurd (cc e)) n x is;
     counted = λ l s. (let push = count_push (is_on ids l s) gs None in let before = now.counted l s in omega (arith, push, before));
   }
   guarded_after lane _ _ _ _ _ (enters_by g there at) = record {
-    still = λ n x is. named_push (λ (y : Guarded). slot_at hs y.handle ≡ Some y.scope) gs (Some g) now.still (λ y e. subst (λ (z : Guarded). slot_at hs z.handle ≡ Some z.scope) (some_is g y e) there) n x is;
+    still = λ n x is. named_push (λ (y : ScopeGuard). slot_at hs y.handle ≡ Some y.scope) gs (Some g) now.still (λ y e. subst (λ (z : ScopeGuard). slot_at hs z.handle ≡ Some z.scope) (some_is g y e) there) n x is;
     counted = entered_by g lane there at g.scope refl;
   }
   guarded_after lane _ _ _ _ _ (exits_by n g there at) = record {
@@ -108,7 +108,7 @@ module _ (ids : List ℕ) (hs : List (Option Scope)) (gs : List (Option Guarded)
   }
 
   -- after a handle more
-  pub guarded_more : (new : Option Scope) → IsGuarded ids (with_new hs (option_map Some new)) gs es
+  pub guarded_more : (new : Option Scope) → IsGuarded ids (with_item hs (option_map Some new)) gs es
   guarded_more None = now
   guarded_more (Some scope) = record { still = λ n g is. slot_push hs (Some scope) g.handle g.scope (now.still n g is); counted = now.counted }
 
@@ -116,7 +116,7 @@ module _ (ids : List ℕ) (hs : List (Option Scope)) (gs : List (Option Guarded)
   pub guarded_less : (k : ℕ) → is_borrowed gs k ≡ false → IsGuarded ids (slice_set hs k None) gs es
   guarded_less k free = record { still = λ n g is. slot_kept hs k g.handle g.scope (λ e. true≢false (sym (eq-eqb g.handle k e) ∙ unnamed gs n g free is)) (now.still n g is); counted = now.counted }
     where
-      unnamed : (gs : List (Option Guarded)) (n : ℕ) (g : Guarded) → is_borrowed gs k ≡ false → slot_at gs n ≡ Some g → (g.handle == k) ≡ false
+      unnamed : (gs : List (Option ScopeGuard)) (n : ℕ) (g : ScopeGuard) → is_borrowed gs k ≡ false → slot_at gs n ≡ Some g → (g.handle == k) ≡ false
       unnamed [] n g free is = absurd (cc is)
       unnamed (o ∷ gs) zero g free is = sym (ap (borrows k) is) ∙ first (borrows k o) (is_borrowed gs k) free
         where
@@ -136,12 +136,12 @@ module _ (ids : List ℕ) (hs : List (Option Scope)) (gs : List (Option Guarded)
       let found = pick (is_on ids l s) gs None (omega (arith, some, before)) in
       by_slot found.0 (slot_at gs found.0) refl found.2
     where
-      by_scope : (g : Guarded) (scope : Scope) → g.scope ≡ scope → slot_at hs g.handle ≡ Some scope → is_on ids l s (Some g) ≡ true → (k : ℕ) × (up : Scope) × (slot_at hs k ≡ Some (s ∷ up))
+      by_scope : (g : ScopeGuard) (scope : Scope) → g.scope ≡ scope → slot_at hs g.handle ≡ Some scope → is_on ids l s (Some g) ≡ true → (k : ℕ) × (up : Scope) × (slot_at hs k ≡ Some (s ∷ up))
       by_scope g [] is there passes = absurd (true≢false (sym passes ∙ on_of l s g [] is))
       by_scope g (x ∷ up) is there passes =
-          let same = eqb-true x s (and_parts (id_at ids g.lane == l) (x == s) (sym (on_of l s g (x ∷ up) is) ∙ passes)).1 in
+          let same = eqb-true x s (and_parts (id_at ids g.place == l) (x == s) (sym (on_of l s g (x ∷ up) is) ∙ passes)).1 in
           (g.handle, up, there ∙ ap (λ (y : ℕ). Some (y ∷ up)) same)
 
-      by_slot : (n : ℕ) (o : Option Guarded) → slot_at gs n ≡ o → is_on ids l s o ≡ true → (k : ℕ) × (up : Scope) × (slot_at hs k ≡ Some (s ∷ up))
+      by_slot : (n : ℕ) (o : Option ScopeGuard) → slot_at gs n ≡ o → is_on ids l s o ≡ true → (k : ℕ) × (up : Scope) × (slot_at hs k ≡ Some (s ∷ up))
       by_slot n None there passes = absurd (true≢false (sym passes))
       by_slot n (Some g) there passes = by_scope g g.scope refl (now.still n g there) passes

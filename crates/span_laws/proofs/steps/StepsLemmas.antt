@@ -19,8 +19,8 @@ use Rattle.otel_state.specs.fields.FirstAttributes.{first_attributes}
 use Rattle.otel_state.specs.fields.SpanFields.{span_update}
 use Rattle.otel_layer.specs.Asking.{link_of, event_at}
 use Rattle.otel_layer.specs.Recording.{Recording, started_under, with_starts}
-use Rattle.otel_layer.specs.Steps.{above, made_told}
-use Rattle.otel_layer.specs.Table.{told_at, waits}
+use Rattle.otel_layer.specs.Steps.{parent_source, new_span_data}
+use Rattle.otel_layer.specs.Table.{data_at, waits}
 use Rattle.trace_base.specs.declared.callsite.Callsite.{Callsite}
 use Rattle.trace_base.specs.declared.field.ValueSet.{ValueSet}
 use Rattle.trace_base.specs.declared.lane.Lane.{Lane}
@@ -41,11 +41,11 @@ use Rattle.span_script.specs.calls.Here.{Here, here_at, Resolved, refuse_if, ◌
 use Rattle.span_script.specs.Effects.{is_bad_moment, effect_of, effect_of_call}
 use Rattle.span_script.specs.calls.Contexts.{context_effect, own_context, attach_effect, detach_effect}
 use Rattle.span_script.specs.calls.Entries.{active, enter_effect, meets_full, entry_call, exit_effect, is_shared, is_full}
-use Rattle.span_script.specs.calls.Fields.{callsite_of, update_ops, heard_values}
-use Rattle.span_script.specs.calls.Filter.{admitted, reload_by}
+use Rattle.span_script.specs.calls.Fields.{callsite_of, update_ops, hooks_of_values}
+use Rattle.span_script.specs.calls.Filter.{admits_at, reload_by}
 use Rattle.span_script.specs.calls.Links.{follow_effect, happens_at}
-use Rattle.span_script.specs.calls.Spans.{is_open, holds, closed_of, is_borrowed, scope_at, parent_at, lane_in, made_at, span_effect, disabled_effect, clone_effect, drop_effect, current_scope, scope_or_current, exchange_effect}
-use Rattle.span_script.specs.Tables.{Scope, Made, Done, Guarded, Heard, Effect, Tables, with_new, either_after, slot_at, own}
+use Rattle.span_script.specs.calls.Spans.{is_open, holds, closed_of, is_borrowed, scope_at, parent_at, lane_in, new_span_data_at, span_effect, disabled_effect, clone_effect, drop_effect, current_scope, scope_or_current, exchange_effect}
+use Rattle.span_script.specs.Tables.{Scope, MadeSpan, SpanOp, ScopeGuard, FilterHook, Effect, Tables, with_item, either_after, slot_at, own_span}
 use Rattle.span_script.specs.Fields.{Fields, all_values, values_of}
 use Rattle.span_script.specs.Admission.{TextRead, text_read}
 use Rattle.span_laws.specs.Closes.{is_drop}
@@ -64,24 +64,24 @@ pub data IsKnown (hs : List (Option Scope)) : Scope → Type 0 where
   of_handle : (k : ℕ) (scope : Scope) → slot_at hs k ≡ Some scope → IsKnown hs scope
 
 -- A new handle and a new span: neither, a handle more of a known scope, or a span under one and a handle of it.
-pub data Names (hs : List (Option Scope)) (ms : List Made) : Option Scope → Option Made → Type 0 where
+pub data Names (hs : List (Option Scope)) (ms : List MadeSpan) : Option Scope → Option MadeSpan → Type 0 where
   no_name : Names hs ms None None
   another : (scope : Scope) → IsKnown hs scope → Names hs ms (Some scope) None
-  new_span : (m : Made) (up : Scope) → IsKnown hs up → m.scope ≡ length ms ∷ up → Names hs ms (Some m.scope) (Some m)
+  new_span : (m : MadeSpan) (up : Scope) → IsKnown hs up → m.scope ≡ length ms ∷ up → Names hs ms (Some m.scope) (Some m)
 
 -- A spent handle, which no guard names, and the spans that close: those of its scope that are open no more.
-pub data Spends (slots : List (Option Scope)) (gs : List (Option Guarded)) : Option ℕ → List ℕ → Type 0 where
+pub data Spends (slots : List (Option Scope)) (gs : List (Option ScopeGuard)) : Option ℕ → List ℕ → Type 0 where
   no_spending : Spends slots gs None []
   one_spent : (k : ℕ) (scope : Scope) (closes : List ℕ) → slot_at slots k ≡ Some scope → is_borrowed gs k ≡ false
       → closes ≡ closed_of (slice_set slots k None) scope → Spends slots gs (Some k) closes
 
 -- what a span is made with
-abbrev pub Begins : Setup → ℕ → Option Made → Type 0
+abbrev pub Begins : Setup → ℕ → Option MadeSpan → Type 0
 Begins setup at None = Unit {0}
-Begins setup at (Some m) = (making : Making) × Began setup at m.told making
+Begins setup at (Some m) = (making : Making) × Began setup at m.made_with making
 
 -- an op of an open span that is no start
-pub record IsReached (hs : List (Option Scope)) (d : Done) : Type 0 where
+pub record IsReached (hs : List (Option Scope)) (d : SpanOp) : Type 0 where
   pub there : is_open hs d.span ≡ true
   pub unstarted : (deed d.op).own ≡ None
 
@@ -92,11 +92,11 @@ IsUnstarted op = (deed op).own ≡ None
 abbrev IsCalmOp : Op → Type 0
 IsCalmOp op = ((deed op).enters ≡ false) × ((deed op).exits ≡ false)
 
-abbrev pub IsCalm : Done → Type 0
+abbrev pub IsCalm : SpanOp → Type 0
 IsCalm d = IsCalmOp d.op
 
 -- an effect's ops turn the entry that it adds or takes off, and no other
-abbrev pub Turns : Option ℕ → Option ℕ → List Done → Type 0
+abbrev pub Turns : Option ℕ → Option ℕ → List SpanOp → Type 0
 Turns (Some s) exit ds = ds ≡ record { span = s; op = ops.Enter } ∷ []
 Turns None (Some s) ds = ds ≡ record { span = s; op = ops.Exit } ∷ []
 Turns None None ds = AllByRecursion IsCalm ds
@@ -109,16 +109,16 @@ pub record IsTimed (before at : ℕ) : Type 0 where
 -- The effect of a request at a moment, which may be a drop.
 pub record IsStep (setup : Setup) (t : Tables) (at : ℕ) (is_drop : Bool) (e : Effect) : Type 0 where
   pub moment : e.at ≡ at
-  pub names : Names t.handles t.made e.new_handle e.made
+  pub names : Names t.handles t.spans e.new_handle e.new_span
   pub enters : Enters setup.ids t.handles t.guards e.lane e.new_guard e.new_attach e.spent_guard e.entry e.exit
-  pub spends : Spends (with_new t.handles (option_map Some e.new_handle)) (either_after t.guards e.new_guard e.new_attach e.spent_guard) e.spent_handle e.closes
-  pub begins : Begins setup e.at e.made
-  pub early : e.begins ≡ at_making setup.layer.eager (length t.made) e.made
+  pub spends : Spends (with_item t.handles (option_map Some e.new_handle)) (either_after t.guards e.new_guard e.new_attach e.spent_guard) e.spent_handle e.closes
+  pub begins : Begins setup e.at e.new_span
+  pub early : e.begins ≡ at_making setup.layer.eager (length t.spans) e.new_span
   pub starts : AllByRecursion (λ s. is_open t.handles s ≡ true) e.starts
   pub reached : AllByRecursion (IsReached t.handles) e.ops
   pub turns : Turns e.entry e.exit e.ops
   pub closing : is_drop ≡ false → e.closes ≡ []
-  pub heard : Hears t.handles (length t.made) e.closes e.made e.heard
+  pub heard : Hears t.handles (length t.spans) e.closes e.new_span e.hooks
 
 -- ---- each kind of request
 
@@ -138,21 +138,21 @@ exchange_closes hs k scope there s =
 pub record IsFit (setup : Setup) (t : Tables) : Type 0 where
   pub currents : (lane : ℕ) → IsKnown t.handles (current_scope t lane)
   pub entered : (lane s : ℕ) → current_of (t.entries lane) ≡ Some s → is_open t.handles s ≡ true
-  pub still : (n : ℕ) (g : Guarded) → slot_at t.guards n ≡ Some g → slot_at t.handles g.handle ≡ Some g.scope
+  pub still : (n : ℕ) (g : ScopeGuard) → slot_at t.guards n ≡ Some g → slot_at t.handles g.handle ≡ Some g.scope
   pub settings_are : t.recording.settings ≡ setup.layer
   pub counting_is : t.recording.counting ≡ is_some setup.counting
 
 -- settings stay with starts
 pub starts_keep : (o : Option ℕ) (at : ℕ) (r : Recording) → ((with_starts o at r).settings ≡ r.settings) × ((with_starts o at r).counting ≡ r.counting)
 starts_keep None at r = (refl, refl)
-starts_keep (Some id) at r = by_context (waits (told_at id r.spans))
+starts_keep (Some id) at r = by_context (waits (data_at id r.spans))
   where
     by_context : (under : Option Context) → ((started_under under id at r).settings ≡ r.settings) × ((started_under under id at r).counting ≡ r.counting)
     by_context None = (refl, refl)
     by_context (Some context) = (refl, refl)
 
 told_begins : (setup : Setup) (given : LayerSettings) (callsite : Callsite) (lane : Lane) (values : ValueSet) (context : Context) (at : ℕ) (counting : Bool) → given ≡ setup.layer → counting ≡ is_some setup.counting
-    → (making : Making) × Began setup at (made_told callsite lane values context at given counting) making
+    → (making : Making) × Began setup at (new_span_data callsite lane values context at given counting) making
 told_begins setup given callsite lane values context at counting same counting_is = (
   record { name = callsite.name; parent = context; made = at; first = first_attributes callsite lane given; counting = counting; inactivity = given.inactivity },
   record { update = span_update callsite values given; is = refl; made = refl; tracked = ap (λ (s : LayerSettings). s.inactivity) same; counting_is = counting_is },
@@ -174,7 +174,7 @@ module _ (setup : Setup) (t : Tables) (fit : IsFit setup t) where
   own_open _ (of_handle k scope there) s up is = slot_open t.handles k s scope there (ap (is_in s) is ∙ ap (λ b. b || is_in s up) (eq-eqb s s refl))
 
   -- what starts is open: the span that gives a new one its context, and the one that an entry activates
-  source_open : (activation : Bool) (under : Place) (up : Scope) (lane : ℕ) → IsKnown t.handles up → Open (option_to_list (above activation (parent_at under up) (current_of (t.entries lane))))
+  source_open : (activation : Bool) (under : Place) (up : Scope) (lane : ℕ) → IsKnown t.handles up → Open (option_to_list (parent_source activation (parent_at under up) (current_of (t.entries lane))))
   source_open activation place.Root up lane known = tt
   source_open true place.Contextual up lane known = tt
   source_open false place.Contextual up lane known = by_current (current_of (t.entries lane)) refl
@@ -198,11 +198,11 @@ module _ (setup : Setup) (t : Tables) (fit : IsFit setup t) where
   reaches : (scope : Scope) → IsKnown t.handles scope → (s : ℕ) (up : Scope) (op : Op) → scope ≡ s ∷ up → IsUnstarted op → IsReached t.handles (record { span = s; op = op })
   reaches scope known s up op is unstarted = record { there = own_open scope known s up is; unstarted = unstarted }
 
-  enters_on : (scope : Scope) → Turns (own scope) None (op_on scope ops.Enter)
+  enters_on : (scope : Scope) → Turns (own_span scope) None (op_on scope ops.Enter)
   enters_on [] = tt
   enters_on (s ∷ up) = refl
 
-  exits_on_own : (scope : Scope) → Turns None (own scope) (op_on scope ops.Exit)
+  exits_on_own : (scope : Scope) → Turns None (own_span scope) (op_on scope ops.Exit)
   exits_on_own [] = tt
   exits_on_own (s ∷ up) = refl
 
@@ -211,11 +211,11 @@ module _ (setup : Setup) (t : Tables) (fit : IsFit setup t) where
 
   made_span : (at lane site : ℕ) (callsite : Callsite) (values : ValueSet) (under : Place) (up : Scope) → IsKnown t.handles up → Step at false (span_effect (here at lane) site callsite values under up)
   made_span at lane site callsite values under up known =
-      let source = above setup.layer.activation (parent_at under up) (current_of (t.entries (here at lane).lane)) in
+      let source = parent_source setup.layer.activation (parent_at under up) (current_of (t.entries (here at lane).lane)) in
       let keep = starts_keep source at t.recording in
       record {
         moment = refl;
-        names = new_span (record { site = site; scope = length t.made ∷ up; told = made_at (here at lane) callsite values (parent_at under up) }) up known refl;
+        names = new_span (record { site = site; scope = length t.spans ∷ up; made_with = new_span_data_at (here at lane) callsite values (parent_at under up) }) up known refl;
         enters = no_entry;
         spends = no_spending;
         begins = told_begins setup (with_starts source at t.recording).settings callsite (lane_in (here at lane)) values _ at (with_starts source at t.recording).counting (keep.0 ∙ fit.settings_are) (keep.1 ∙ fit.counting_is);
@@ -278,7 +278,7 @@ module _ (setup : Setup) (t : Tables) (fit : IsFit setup t) where
   entered at lane handle owns scope there = record {
     moment = refl;
     names = no_name;
-    enters = enters_by (record { handle = handle; lane = lane; owns = owns; scope = scope }) there refl;
+    enters = enters_by (record { handle = handle; place = lane; owns = owns; scope = scope }) there refl;
     spends = no_spending;
     begins = tt;
     early = refl;
@@ -289,7 +289,7 @@ module _ (setup : Setup) (t : Tables) (fit : IsFit setup t) where
     heard = of_open None _ (heard_entry t.handles [] scope (here at lane).lane);
   }
 
-  exited : (at lane guard : ℕ) (g : Guarded) → slot_at t.guards guard ≡ Some g → g.lane ≡ lane → Step at false (exit_effect (here at lane) guard g.scope)
+  exited : (at lane guard : ℕ) (g : ScopeGuard) → slot_at t.guards guard ≡ Some g → g.place ≡ lane → Step at false (exit_effect (here at lane) guard g.scope)
   exited at lane guard g there on = record {
     moment = refl;
     names = no_name;
@@ -317,7 +317,7 @@ module _ (setup : Setup) (t : Tables) (fit : IsFit setup t) where
   updates_calm scope fields None = tt
   updates_calm scope fields (Some callsite) = on_calm scope (ops.Update (span_update callsite (values_of callsite fields) setup.layer)) refl refl
 
-  told : (at lane : ℕ) (answer : Reply) (done : List Done) → AllByRecursion (IsReached t.handles) done → AllByRecursion IsCalm done → Step at false (ops_effect (here at lane) answer done)
+  told : (at lane : ℕ) (answer : Reply) (done : List SpanOp) → AllByRecursion (IsReached t.handles) done → AllByRecursion IsCalm done → Step at false (ops_effect (here at lane) answer done)
   told at lane answer done reached calm = record { moment = refl; names = no_name; enters = no_entry; spends = no_spending; begins = tt; early = refl; starts = tt; reached = reached; turns = calm; closing = λ no. refl; heard = of_open None [] tt }
 
   -- one op on a known scope's own span
@@ -343,8 +343,8 @@ module _ (setup : Setup) (t : Tables) (fit : IsFit setup t) where
   })
 
   -- the same, of which a filter hears something, or which puts one in force, and with measures
-  beside : (at : ℕ) (e : Effect) (text : Option (List ℕ)) (heard : List Heard) (added : List Measure) → Hears t.handles (length t.made) e.closes e.made heard → Step at false e
-      → Step at false (record e { filter = text; heard = heard; measures = added })
+  beside : (at : ℕ) (e : Effect) (text : Option (List ℕ)) (heard : List FilterHook) (added : List Measure) → Hears t.handles (length t.spans) e.closes e.new_span heard → Step at false e
+      → Step at false (record e { filter = text; hooks = heard; measures = added })
   beside at e text heard added hears s = record { moment = s.moment; names = s.names; enters = s.enters; spends = s.spends; begins = s.begins; early = s.early; starts = s.starts; reached = s.reached; turns = s.turns; closing = s.closing; heard = hears }
 
   given : (at lane : ℕ) (starting : Option ℕ) (context : Context) → Open (option_to_list starting) → Step at false (context_effect (here at lane) starting context)
@@ -402,7 +402,7 @@ module _ (setup : Setup) (t : Tables) (fit : IsFit setup t) where
       let up = found what.Handle (scope_at t (here at lane).lane under) _ e callsite.2 in
       let values = found what.Field (all_values callsite.0 fields) _ e up.2 in
       subst (Step at false) (the_effect _ e values.2)
-      (if_both at (admitted setup t (here at lane).lane callsite.0) _ _
+      (if_both at (admits_at setup t (here at lane).lane callsite.0) _ _
       (made_span at lane site callsite.0 values.0 under up.0 (known_place (here at lane).lane under up.0 up.1)) (declined at lane))
   by_call at lane (call.Clone handle) e is =
       let there = found what.Handle (slot_at t.handles handle) _ e is in
@@ -415,9 +415,9 @@ module _ (setup : Setup) (t : Tables) (fit : IsFit setup t) where
   by_call at lane (call.Exit guard) e is =
       let there = found what.Guard (slot_at t.guards guard) _ e is in
       let leaves = exit_effect (here at lane) guard there.0.scope in
-      let alone = unrefused (is_shared t.guards there.0) refusal.InUse (refuse_if (not (there.0.lane == lane)) (refusal.WrongLane there.0.lane) (Ok leaves)) e there.2 in
-      let mine = allowed (there.0.lane == lane) (refusal.WrongLane there.0.lane) (Ok leaves) e alone.1 in
-      subst (Step at false) (the_effect _ e mine.1) (exited at lane guard there.0 there.1 (eqb-true there.0.lane lane mine.0))
+      let alone = unrefused (is_shared t.guards there.0) refusal.InUse (refuse_if (not (there.0.place == lane)) (refusal.WrongLane there.0.place) (Ok leaves)) e there.2 in
+      let mine = allowed (there.0.place == lane) (refusal.WrongLane there.0.place) (Ok leaves) e alone.1 in
+      subst (Step at false) (the_effect _ e mine.1) (exited at lane guard there.0 there.1 (eqb-true there.0.place lane mine.0))
   by_call at lane call.Current e is = subst (Step at false) (the_effect _ e is) (cloned at lane (current_scope t (here at lane).lane) (fit.currents (here at lane).lane))
   by_call at lane (call.OrCurrent handle) e is =
       let there = found what.Handle (slot_at t.handles handle) _ e is in
@@ -432,7 +432,7 @@ module _ (setup : Setup) (t : Tables) (fit : IsFit setup t) where
       let reached = found what.Handle (scope_at t (here at lane).lane under) _ e there.2 in
       let values = found what.Field (all_values there.0 fields) _ e reached.2 in
       let op = event_of there.0 values.0 setup.layer at in
-      let enabled = admitted setup t (here at lane).lane there.0 in
+      let enabled = admits_at setup t (here at lane).lane there.0 in
       let known = known_place (here at lane).lane under reached.0 reached.1 in
       subst (Step at false) (the_effect _ e values.2)
       (beside at (ops_effect (here at lane) (reply.Enabled enabled) _) None [] _ (of_open None [] tt)
@@ -443,7 +443,7 @@ module _ (setup : Setup) (t : Tables) (fit : IsFit setup t) where
       let there = found what.Handle (slot_at t.handles handle) _ e is in
       let callsite = callsite_of setup t there.0 in
       subst (Step at false) (the_effect _ e there.2)
-      (beside at (ops_effect (here at lane) reply.Done (update_ops setup.layer there.0 fields callsite)) None (heard_values there.0 fields callsite) []
+      (beside at (ops_effect (here at lane) reply.Done (update_ops setup.layer there.0 fields callsite)) None (hooks_of_values there.0 fields callsite) []
       (of_open None _ (heard_record t.handles [] there.0 fields callsite (own_open there.0 (of_handle handle there.0 there.1))))
       (told at lane reply.Done _ (updates_reached there.0 fields callsite (of_handle handle there.0 there.1)) (updates_calm there.0 fields callsite)))
   by_call at lane (call.HasField handle name) e is =
@@ -452,9 +452,9 @@ module _ (setup : Setup) (t : Tables) (fit : IsFit setup t) where
   by_call at lane (call.Remote ids) e is = subst (Step at false) (the_effect _ e is) (given at lane None _ tt)
   by_call at lane (call.Context handle) e is =
       let there = found what.Handle (slot_at t.handles handle) _ e is in
-      subst (Step at false) (the_effect _ e there.2) (given at lane (own there.0) _ (active_open true there.0 (of_handle handle there.0 there.1)))
+      subst (Step at false) (the_effect _ e there.2) (given at lane (own_span there.0) _ (active_open true there.0 (of_handle handle there.0 there.1)))
   by_call at lane (call.Attach context) e is =
-      let there = found what.Context (slice_get t.named context) _ e is in
+      let there = found what.Context (slice_get t.named_contexts context) _ e is in
       let room = unrefused (is_full (t.contexts (here at lane).lane)) (refusal.Full lane) (Ok (attach_effect (here at lane) there.0)) e there.2 in
       subst (Step at false) (the_effect _ e room.1) (attached at lane there.0)
   by_call at lane (call.Detach guard) e is =
@@ -467,11 +467,11 @@ module _ (setup : Setup) (t : Tables) (fit : IsFit setup t) where
       subst (Step at false) (the_effect _ e followed.2) (follower at lane there.0 followed.0 (of_handle handle there.0 there.1) (of_handle from followed.0 followed.1))
   by_call at lane (call.SetParent handle context) e is =
       let there = found what.Handle (slot_at t.handles handle) _ e is in
-      let given = found what.Context (slice_get t.named context) _ e there.2 in
+      let given = found what.Context (slice_get t.named_contexts context) _ e there.2 in
       subst (Step at false) (the_effect _ e given.2) (one_told at lane _ there.0 (ops.SetParent given.0) (of_handle handle there.0 there.1) refl refl refl)
   by_call at lane (call.AddLink handle context attributes) e is =
       let there = found what.Handle (slot_at t.handles handle) _ e is in
-      let given = found what.Context (slice_get t.named context) _ e there.2 in
+      let given = found what.Context (slice_get t.named_contexts context) _ e there.2 in
       let op = link_of (ids_of given.0) attributes in
       let valid = is_valid (ids_of given.0) in
       let known = of_handle handle there.0 there.1 in

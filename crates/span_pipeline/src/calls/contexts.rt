@@ -1,14 +1,14 @@
 //! Contexts: making them, attaching them to a lane, and detaching them again.
 ghost use Rattle.std.specs.Prelude.{◌≡◌, ◌↔◌, ◌<◌, ◌++◌, [], ◌∷◌, true, false, length, IfOk, OnErr};
-ghost use Rattle.otel_base.specs.Stack.{has, without};
-ghost use Rattle.otel_base.specs.declared.stack.TheConstants.{MOST as MOST_CONTEXTS};
+ghost use Rattle.otel_base.specs.Stack.{has_number, without_number};
+ghost use Rattle.otel_base.specs.declared.stack.TheConstants.{MAX_CONTEXTS};
 ghost use Rattle.otel_base.specs.declared.enter_error.EnterError.TheVariants.{Full};
 ghost use Rattle.span_script.specs.declared.request.Call.{Call};
 
 use crate::asked::context_of;
 use crate::laws;
 use crate::names::{add, context_at};
-use crate::pipeline::{MOST, Pipeline};
+use crate::pipeline::{MAX_NAMES, Pipeline};
 use otel_base::context::{Context, SpanContext};
 use otel_base::enter_error::EnterError;
 use otel_base::record::Moment;
@@ -22,8 +22,8 @@ fn attach_to(lane: &mut Lane, context: Context) -> Result<Attached, EnterError>
     ensures id { lane.new.id ≡ lane.old.id }
     ensures name { lane.new.name ≡ lane.old.name }
     ensures live { IfOk result (λ number. lane.new.contexts.live ≡ lane.old.contexts.live ++ (number, context) ∷ []) }
-    ensures number { IfOk result (λ number. has number lane.old.contexts.live ≡ false) }
-    ensures full { (result ≡ Err Full) ↔ (length lane.old.contexts.live ≡ MOST_CONTEXTS) }
+    ensures number { IfOk result (λ number. has_number number lane.old.contexts.live ≡ false) }
+    ensures full { (result ≡ Err Full) ↔ (length lane.old.contexts.live ≡ MAX_CONTEXTS) }
     ensures leaves { OnErr result (lane.new.contexts.live ≡ lane.old.contexts.live) }
 {
     lane.contexts.attach(context)
@@ -31,10 +31,10 @@ fn attach_to(lane: &mut Lane, context: Context) -> Result<Attached, EnterError>
 
 // Detaches a context of a lane, wherever it stands.
 fn detach_from(lane: &mut Lane, attached: Attached)
-    requires { has attached lane.old.contexts.live ≡ true }
+    requires { has_number attached lane.old.contexts.live ≡ true }
     ensures id { lane.new.id ≡ lane.old.id }
     ensures name { lane.new.name ≡ lane.old.name }
-    ensures live { lane.new.contexts.live ≡ without attached lane.old.contexts.live }
+    ensures live { lane.new.contexts.live ≡ without_number attached lane.old.contexts.live }
 {
     lane.contexts.detach(attached);
 }
@@ -78,7 +78,7 @@ impl Pipeline {
         requires { lane < length self.old.lanes }
         ensures { Serves self.old at lane (Call.Attach context) result self.new }
     {
-        if self.guards.len() >= MOST {
+        if self.guards.len() >= MAX_NAMES {
             return Err(Refusal::Memory);
         }
         let guard = self.guards.len() as u64;
@@ -94,7 +94,10 @@ impl Pipeline {
             Err(error) => return Err(Refusal::of_entry(lane, error)),
         };
         self.guards.skip();
-        self.contexts.attaches.keep(Attach { lane, attached });
+        self.contexts.attaches.keep(Attach {
+            place: lane,
+            attached,
+        });
         self.moment = at;
         Ok(Reply::Guard { guard })
     }
@@ -106,13 +109,13 @@ impl Pipeline {
         let Some(named) = self.contexts.attaches.get(guard) else {
             return Err(Refusal::UnknownName { what: What::Guard });
         };
-        if named.lane != lane {
-            return Err(Refusal::WrongLane { lane: named.lane });
+        if named.place != lane {
+            return Err(Refusal::WrongLane { lane: named.place });
         }
         let Some(open) = self.contexts.attaches.take(guard) else {
             unreachable!()
         };
-        let Attach { lane: _, attached } = open;
+        let Attach { place: _, attached } = open;
         detach_from(&mut self.lanes[lane as usize], attached);
         self.moment = at;
         Ok(Reply::Done)

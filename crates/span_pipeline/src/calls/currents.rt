@@ -3,7 +3,7 @@ ghost use Rattle.std.specs.Prelude.{◌<◌, length};
 ghost use Rattle.span_script.specs.declared.request.Call.TheVariants as request;
 
 use crate::laws;
-use crate::pipeline::{MOST, Pipeline};
+use crate::pipeline::{MAX_NAMES, Pipeline};
 use otel_base::record::Moment;
 use span_handles::span::Span;
 use span_script::reply::{Refusal, Reply, What};
@@ -16,7 +16,7 @@ impl Pipeline {
         ensures { Serves self.old at lane request.Current result self.new }
     {
         laws::calls();
-        if self.handles.len() >= MOST || self.guards.len() >= MOST {
+        if self.handles.len() >= MAX_NAMES || self.guards.len() >= MAX_NAMES {
             return Err(Refusal::Memory);
         }
         let number = self.handles.len() as u64;
@@ -44,7 +44,7 @@ impl Pipeline {
         ensures { Serves self.old at lane (request.OrCurrent handle) result self.new }
     {
         laws::calls();
-        if self.handles.len() >= MOST || self.guards.len() >= MOST {
+        if self.handles.len() >= MAX_NAMES || self.guards.len() >= MAX_NAMES {
             return Err(Refusal::Memory);
         }
         let Some(_named) = self.handles.get(handle) else {

@@ -3,7 +3,7 @@ ghost use Rattle.std.specs.Prelude.{◌<◌, length, false};
 ghost use Rattle.span_script.specs.declared.request.Call.{Call};
 
 use crate::laws;
-use crate::pipeline::{MOST, Pipeline};
+use crate::pipeline::{MAX_NAMES, Pipeline};
 use otel_base::record::Moment;
 use span_script::reply::{Refusal, Reply, What};
 use span_script::slots::Guard;
@@ -26,7 +26,7 @@ impl Pipeline {
     {
         laws::calls();
         laws::same();
-        if self.handles.len() >= MOST || self.guards.len() >= MOST {
+        if self.handles.len() >= MAX_NAMES || self.guards.len() >= MAX_NAMES {
             return Err(Refusal::Memory);
         }
         let guard = self.guards.len() as u64;
@@ -41,7 +41,7 @@ impl Pipeline {
         };
         self.guards.keep(Guard {
             handle,
-            lane,
+            place: lane,
             owns,
             entry,
         });
@@ -74,15 +74,15 @@ impl Pipeline {
         if self.guards.is_shared(named) {
             return Err(Refusal::InUse);
         }
-        if named.lane != lane {
-            return Err(Refusal::WrongLane { lane: named.lane });
+        if named.place != lane {
+            return Err(Refusal::WrongLane { lane: named.place });
         }
         let Some(open) = self.guards.take(guard) else {
             unreachable!()
         };
         let Guard {
             handle,
-            lane: _,
+            place: _,
             owns: _,
             entry,
         } = open;

@@ -9,7 +9,7 @@ ghost use Rattle.span_script.specs.Slots.{parent_of, IsAbove, MakesOnly};
 use crate::fields::all_values;
 use crate::laws;
 use crate::names::place_above;
-use crate::pipeline::{MOST, Pipeline};
+use crate::pipeline::{MAX_NAMES, Pipeline};
 use crate::sites::{callsite_at, site_at};
 use otel_base::list::Items;
 use otel_base::memory::Memory;
@@ -87,7 +87,7 @@ impl Pipeline {
     {
         laws::calls();
         laws::same();
-        if self.handles.len() >= MOST || self.guards.len() >= MOST {
+        if self.handles.len() >= MAX_NAMES || self.guards.len() >= MAX_NAMES {
             return Err(Refusal::Memory);
         }
         let number = self.handles.len() as u64;

@@ -2,7 +2,7 @@
 ghost use Rattle.span_script.specs.declared.request.Call.{Call};
 
 use crate::laws;
-use crate::pipeline::{MOST, Pipeline};
+use crate::pipeline::{MAX_NAMES, Pipeline};
 use otel_base::record::Moment;
 use span_script::reply::{Refusal, Reply, What};
 
@@ -18,7 +18,7 @@ impl Pipeline {
         ensures { Serves self.old at lane (Call.Clone handle) result self.new }
     {
         laws::calls();
-        if self.handles.len() >= MOST || self.guards.len() >= MOST {
+        if self.handles.len() >= MAX_NAMES || self.guards.len() >= MAX_NAMES {
             return Err(Refusal::Memory);
         }
         let number = self.handles.len() as u64;

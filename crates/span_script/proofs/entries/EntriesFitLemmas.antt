@@ -4,26 +4,26 @@ use Rattle.std.specs.Prelude.{◌==◌, ◌&&◌}
 use Rattle.std.proofs.lemmas.Bool.{eq-eqb, eqb-true, ne_eqb, cases_eq, cases_Bool, cases_lt, cond-true, cond-false, and_from}
 use Rattle.std.proofs.lemmas.List.{length_push, get_or_past, get_or_push, get_or_append_left, get_or-set_same, get_or-set_other}
 use Rattle.std.proofs.lemmas.List.Sums.{sum_by-set, get_or-le-sum_by}
-use Rattle.trace_base.specs.Spans.{Span, Entries, Spans, span_at, entries_on, with_entries, is_in, times_in, open_children, without_last, held, less_held, released}
-use Rattle.trace_base.specs.Calls.{entered, exited}
+use Rattle.trace_base.specs.Spans.{Span, Entries, Spans, span_at, entries_on, with_entries, is_in, times_in, open_children, without_last, with_hold, less_hold, without_hold}
+use Rattle.trace_base.specs.Calls.{with_span_entry, with_span_exit}
 use Rattle.trace_base.specs.Conditions.{HasOwnHold, IsLive, MayExit}
 use Rattle.trace_base.proofs.Entering.{count_push, any_if_counted, made_if_held, with_same, with_other}
 use Rattle.trace_base.proofs.Holding.{keeps_children, less_more, less_holds, times_without, first_if_in}
 use Rattle.trace_base.proofs.Moving.{entry_moves, exit_moves}
-use Rattle.span_script.specs.Tables.{slot_at, on_lane}
-use Rattle.span_script.specs.Balance.{Opened, names, guards, Balanced}
+use Rattle.span_script.specs.Tables.{slot_at, lanes_with}
+use Rattle.span_script.specs.Balance.{OpenGuard, names_span, guards, Balanced}
 
 -- open children stay
-enter_children : (x : Spans) (id lane q : ℕ) → IsLive x.made id → open_children (entered x id lane).made q ≡ open_children x.made q
+enter_children : (x : Spans) (id lane q : ℕ) → IsLive x.made id → open_children (with_span_entry x id lane).made q ≡ open_children x.made q
 enter_children x id lane q live =
     let ids = entries_on lane x.lanes in
     elim (cases_Bool (is_in id ids)) [
-      | inl again ↦ ap (λ (xs : List Span). open_children xs q) (cond-true {A = List Span} (is_in id ids) x.made (held x.made id) again)
-      | inr new ↦ ap (λ (xs : List Span). open_children xs q) (cond-false {A = List Span} (is_in id ids) x.made (held x.made id) new)
+      | inl again ↦ ap (λ (xs : List Span). open_children xs q) (cond-true {A = List Span} (is_in id ids) x.made (with_hold x.made id) again)
+      | inr new ↦ ap (λ (xs : List Span). open_children xs q) (cond-false {A = List Span} (is_in id ids) x.made (with_hold x.made id) new)
           ∙ keeps_children x.made id (record (span_at x.made id) { holds = (span_at x.made id).holds + 1 }) (made_if_held x.made id live) refl live (omega arith) q
     ]
 
-exit_children : (x : Spans) (id lane q : ℕ) → IsLive x.made id → MayExit x id lane → open_children (exited x id lane).made q ≡ open_children x.made q
+exit_children : (x : Spans) (id lane q : ℕ) → IsLive x.made id → MayExit x id lane → open_children (with_span_exit x id lane).made q ≡ open_children x.made q
 exit_children x id lane q live may =
     let ids = entries_on lane x.lanes in
     let was = span_at x.made id in
@@ -31,41 +31,41 @@ exit_children x id lane q live may =
       | inl last ↦ (
           let more = may.1 (eqb-true (times_in id ids) 1 last) in
           let fewer = less_holds was in
-          ap (λ (xs : List Span). open_children xs q) (cond-true {A = List Span} (times_in id ids == 1) (released x.made id) x.made last)
-          ∙ keeps_children x.made id (less_held was) (made_if_held x.made id live) (ap (λ (s : Span). s.parent) (less_more was (λ e. omega (arith, e, more)))) live (omega (arith, fewer, more)) q)
-      | inr several ↦ ap (λ (xs : List Span). open_children xs q) (cond-false {A = List Span} (times_in id ids == 1) (released x.made id) x.made several)
+          ap (λ (xs : List Span). open_children xs q) (cond-true {A = List Span} (times_in id ids == 1) (without_hold x.made id) x.made last)
+          ∙ keeps_children x.made id (less_hold was) (made_if_held x.made id live) (ap (λ (s : Span). s.parent) (less_more was (λ e. omega (arith, e, more)))) live (omega (arith, fewer, more)) q)
+      | inr several ↦ ap (λ (xs : List Span). open_children xs q) (cond-false {A = List Span} (times_in id ids == 1) (without_hold x.made id) x.made several)
     ]
 
 -- the entries of each lane after one lane's are written
-entries_written : (lanes : List Entries) (lane : ℕ) (ids : List ℕ) (es : ℕ → List ℕ) → ((l : ℕ) → entries_on l lanes ≡ es l) → (l : ℕ) → entries_on l (with_entries lane ids lanes) ≡ on_lane es lane ids l
+entries_written : (lanes : List Entries) (lane : ℕ) (ids : List ℕ) (es : ℕ → List ℕ) → ((l : ℕ) → entries_on l lanes ≡ es l) → (l : ℕ) → entries_on l (with_entries lane ids lanes) ≡ lanes_with es lane ids l
 entries_written lanes lane ids es same l = elim (cases_eq lane l) [
   | inl here ↦ ap (λ (k : ℕ). entries_on k (with_entries lane ids lanes)) (sym here) ∙ with_same lane ids lanes ∙ sym (cond-true {A = List ℕ} (lane == l) ids (es l) (eq-eqb lane l here))
   | inr other ↦ with_other lane l ids lanes other ∙ same l ∙ sym (cond-false {A = List ℕ} (lane == l) ids (es l) (ne_eqb lane l other))
 ]
 
-named_counts : (hs : List (Option ℕ)) (n s : ℕ) → slot_at hs n ≡ Some s → 0 < count_by (names s) hs
+named_counts : (hs : List (Option ℕ)) (n s : ℕ) → slot_at hs n ≡ Some s → 0 < count_by (names_span s) hs
 named_counts hs n s is =
     elim (cases_lt n (length hs)) [
       | inl within ↦ (
-          let c = get_or-le-sum_by (λ (o : Option ℕ). cond {A = ℕ} (names s o) 1 0) hs n None within in
-          let one = cond-true {A = ℕ} (names s (slot_at hs n)) 1 0 (ap (names s) is ∙ eq-eqb s s refl) in
+          let c = get_or-le-sum_by (λ (o : Option ℕ). cond {A = ℕ} (names_span s o) 1 0) hs n None within in
+          let one = cond-true {A = ℕ} (names_span s (slot_at hs n)) 1 0 (ap (names_span s) is ∙ eq-eqb s s refl) in
           omega (arith, c, one))
       | inr past ↦ absurd (let no : None ≡ Some s = sym (get_or_past hs n None past) ∙ is in cc no)
     ]
 
-pub fits_live : (spans : Spans) (hs : List (Option ℕ)) (gs : List (Option Opened)) (es : ℕ → List ℕ) → Balanced spans hs gs es → (n s : ℕ) → slot_at hs n ≡ Some s → IsLive spans.made s
+pub fits_live : (spans : Spans) (hs : List (Option ℕ)) (gs : List (Option OpenGuard)) (es : ℕ → List ℕ) → Balanced spans hs gs es → (n s : ℕ) → slot_at hs n ≡ Some s → IsLive spans.made s
 fits_live spans hs gs es fits n s is = let c = named_counts hs n s is in let h = fits.holds s in omega (arith, c, h)
 
 -- a handle's hold is its span's own
-pub fits_own : (spans : Spans) (hs : List (Option ℕ)) (gs : List (Option Opened)) (es : ℕ → List ℕ) → Balanced spans hs gs es → (n s : ℕ) → slot_at hs n ≡ Some s → HasOwnHold spans s
+pub fits_own : (spans : Spans) (hs : List (Option ℕ)) (gs : List (Option OpenGuard)) (es : ℕ → List ℕ) → Balanced spans hs gs es → (n s : ℕ) → slot_at hs n ≡ Some s → HasOwnHold spans s
 fits_own spans hs gs es fits n s is = let c = named_counts hs n s is in let h = fits.holds s in omega (arith, c, h)
 
 -- one entry more
-pub fits_enter : (spans : Spans) (hs : List (Option ℕ)) (gs : List (Option Opened)) (es : ℕ → List ℕ) → Balanced spans hs gs es → (handle s lane : ℕ) → slot_at hs handle ≡ Some s
-    → Balanced (entered spans s lane) hs (gs ++ Some (record { handle = handle; span = s; lane = lane }) ∷ []) (on_lane es lane (es lane ++ s ∷ []))
+pub fits_enter : (spans : Spans) (hs : List (Option ℕ)) (gs : List (Option OpenGuard)) (es : ℕ → List ℕ) → Balanced spans hs gs es → (handle s lane : ℕ) → slot_at hs handle ≡ Some s
+    → Balanced (with_span_entry spans s lane) hs (gs ++ Some (record { handle = handle; span = s; lane = lane }) ∷ []) (lanes_with es lane (es lane ++ s ∷ []))
 fits_enter spans hs gs es fits handle s lane is =
     let live = fits_live spans hs gs es fits handle s is in
-    let guard : Opened = record { handle = handle; span = s; lane = lane } in
+    let guard : OpenGuard = record { handle = handle; span = s; lane = lane } in
     record {
       holds = λ q. (let m = entry_moves spans s lane q live in let c = enter_children spans s lane q live in let h = fits.holds q in omega (arith, m, c, h));
       entries = λ l. ap (λ (xs : List ℕ). entries_on l (with_entries lane (xs ++ s ∷ []) spans.lanes)) (fits.entries lane) ∙ entries_written spans.lanes lane (es lane ++ s ∷ []) es fits.entries l;
@@ -90,24 +90,24 @@ fits_enter spans hs gs es fits handle s lane is =
           | inl here ↦ (
               let same : Some guard ≡ Some g = sym (get_or_push gs (Some guard) None n here) ∙ there in
               let is_guard : guard ≡ g = cc same in
-              subst (λ (x : Opened). slot_at hs x.handle ≡ Some x.span) is_guard is)
+              subst (λ (x : OpenGuard). slot_at hs x.handle ≡ Some x.span) is_guard is)
           | inr beyond ↦ absurd (let no : None ≡ Some g = sym (get_or_past (gs ++ Some guard ∷ []) n None (let k = length_push gs (Some guard) in omega (arith, k, past, beyond))) ∙ there in cc no)
         ]
       ];
     }
 
 -- an open guard may exit
-guard_counts : (gs : List (Option Opened)) (n : ℕ) (g : Opened) → slot_at gs n ≡ Some g → (n < length gs) × (cond {A = ℕ} (guards g.lane g.span (slot_at gs n)) 1 0 ≡ 1)
+guard_counts : (gs : List (Option OpenGuard)) (n : ℕ) (g : OpenGuard) → slot_at gs n ≡ Some g → (n < length gs) × (cond {A = ℕ} (guards g.lane g.span (slot_at gs n)) 1 0 ≡ 1)
 guard_counts gs n g is =
     elim (cases_lt n (length gs)) [
       | inl within ↦ (within, cond-true {A = ℕ} (guards g.lane g.span (slot_at gs n)) 1 0 (ap (guards g.lane g.span) is ∙ and_from (g.lane == g.lane) (g.span == g.span) (eq-eqb g.lane g.lane refl) (eq-eqb g.span g.span refl)))
       | inr past ↦ absurd (let no : None ≡ Some g = sym (get_or_past gs n None past) ∙ is in cc no)
     ]
 
-pub fits_may_exit : (spans : Spans) (hs : List (Option ℕ)) (gs : List (Option Opened)) (es : ℕ → List ℕ) → Balanced spans hs gs es → (n : ℕ) (g : Opened) → slot_at gs n ≡ Some g → MayExit spans g.span g.lane
+pub fits_may_exit : (spans : Spans) (hs : List (Option ℕ)) (gs : List (Option OpenGuard)) (es : ℕ → List ℕ) → Balanced spans hs gs es → (n : ℕ) (g : OpenGuard) → slot_at gs n ≡ Some g → MayExit spans g.span g.lane
 fits_may_exit spans hs gs es fits n g is =
     let at = guard_counts gs n g is in
-    let c = get_or-le-sum_by (λ (o : Option Opened). cond {A = ℕ} (guards g.lane g.span o) 1 0) gs n None at.0 in
+    let c = get_or-le-sum_by (λ (o : Option OpenGuard). cond {A = ℕ} (guards g.lane g.span o) 1 0) gs n None at.0 in
     let t = fits.guarded g.lane g.span in
     let e = ap (λ (xs : List ℕ). times_in g.span xs) (fits.entries g.lane) in
     let some : 0 < times_in g.span (entries_on g.lane spans.lanes) = omega (arith, at.1, c, t, e) in (
@@ -120,8 +120,8 @@ fits_may_exit spans hs gs es fits n g is =
     )
 
 -- one entry less
-pub fits_exit : (spans : Spans) (hs : List (Option ℕ)) (gs : List (Option Opened)) (es : ℕ → List ℕ) → Balanced spans hs gs es → (n : ℕ) (g : Opened) → slot_at gs n ≡ Some g
-    → Balanced (exited spans g.span g.lane) hs (set gs n None) (on_lane es g.lane (without_last (λ x. x == g.span) (es g.lane)))
+pub fits_exit : (spans : Spans) (hs : List (Option ℕ)) (gs : List (Option OpenGuard)) (es : ℕ → List ℕ) → Balanced spans hs gs es → (n : ℕ) (g : OpenGuard) → slot_at gs n ≡ Some g
+    → Balanced (with_span_exit spans g.span g.lane) hs (set gs n None) (lanes_with es g.lane (without_last (λ x. x == g.span) (es g.lane)))
 fits_exit spans hs gs es fits n g is =
     let live = fits_live spans hs gs es fits g.handle g.span (fits.borrowed n g is) in
     let may = fits_may_exit spans hs gs es fits n g is in
@@ -131,8 +131,8 @@ fits_exit spans hs gs es fits n g is =
       holds = λ q. (let m = exit_moves spans g.span g.lane q live may in let c = exit_children spans g.span g.lane q live may in let h = fits.holds q in omega (arith, m, c, h));
       entries = λ l. ap (λ (xs : List ℕ). entries_on l (with_entries g.lane (without_last (λ x. x == g.span) xs) spans.lanes)) (fits.entries g.lane) ∙ entries_written spans.lanes g.lane (without_last (λ x. x == g.span) (es g.lane)) es fits.entries l;
       guarded = λ l q. (
-          let write = sum_by-set (λ (o : Option Opened). cond {A = ℕ} (guards l q o) 1 0) gs n None None at.0 in
-          let slot = ap (λ (o : Option Opened). cond {A = ℕ} (guards l q o) 1 0) is in
+          let write = sum_by-set (λ (o : Option OpenGuard). cond {A = ℕ} (guards l q o) 1 0) gs n None None at.0 in
+          let slot = ap (λ (o : Option OpenGuard). cond {A = ℕ} (guards l q o) 1 0) is in
           let before = fits.guarded l q in
           elim (cases_eq g.lane l) [
             | inl here ↦ (

@@ -5,12 +5,12 @@ use Rattle.std.proofs.lemmas.Bool.{cases_eq, cases_Bool, eq-eqb, ne_eqb, cond-tr
 use Rattle.std.proofs.lemmas.List.{length-set, length-map, length_push, map_push}
 use Rattle.trace_base.specs.declared.lane.Lane.{Lane}
 use Rattle.trace_base.specs.Gate.{Worlds}
-use Rattle.trace_base.specs.Spans.{Span, Spans, span_at, held, released, without_last, is_in, times_in, entries_on}
-use Rattle.trace_base.specs.Calls.{SubscriberCall, Enter, Exit, entered, exited}
+use Rattle.trace_base.specs.Spans.{Span, Spans, span_at, with_hold, without_hold, without_last, is_in, times_in, entries_on}
+use Rattle.trace_base.specs.Calls.{SubscriberCall, Enter, Exit, with_span_entry, with_span_exit}
 use Rattle.trace_base.specs.Sound.{OneEach}
 use Rattle.trace_base.proofs.Sound.{one_with}
 use Rattle.trace_base.proofs.Entering.{count_cons}
-use Rattle.span_handles.specs.Worlds.{seen, spans_in}
+use Rattle.span_handles.specs.Worlds.{member_of, spans_in}
 use Rattle.span_handles.specs.Handles.{Handle, Held, ReplacedOn}
 use Rattle.span_script.specs.declared.slots.Guard.{Guard}
 use Rattle.span_script.specs.declared.contexts.Attach.{Attach}
@@ -24,22 +24,22 @@ use Rattle.std.specs.Option.{option_to_list}
 use Rattle.otel_base.specs.Stack.{empty_context}
 use Rattle.otel_state.specs.declared.op.Op.TheVariants as ops
 use Rattle.otel_state.specs.declared.settings.LayerSettings.{LayerSettings}
-use Rattle.otel_state.specs.States.{Told}
+use Rattle.otel_state.specs.States.{SpanData}
 use Rattle.otel_layer.specs.Core.{is_token}
-use Rattle.otel_layer.specs.Table.{told_at, own_or}
+use Rattle.otel_layer.specs.Table.{data_at, own_or}
 use Rattle.otel_layer.specs.Recording.{Recording, no_recording, with_start, with_starts, with_applied, source_of, RecordsCall, Enters, Exits}
-use Rattle.span_script.specs.Tables.{Scope, Made, Guarded, Heard, HeardEnter, HeardExit, Effect, Tables, after, recorded_by, slot_at, own, with_entry, with_exit, with_attached, with_detached, open_part, quiet, EntryOf, Attached}
+use Rattle.span_script.specs.Tables.{Scope, MadeSpan, ScopeGuard, FilterHook, HookEnter, HookExit, Effect, Tables, after_effect, recorded_by, slot_at, own_span, lanes_with_entry, lanes_with_exit, with_attached, with_detached, open_part, quiet_effect, EntryOf, Attached}
 use Rattle.span_script.specs.calls.Here.{here_at, Resolved, refuse_if, ◌>>=◌, need}
 use Rattle.span_script.specs.Effects.{effect_of_call}
 use Rattle.span_script.specs.calls.Entries.{active, attached_by, meets_full, entry_call, enter_effect, is_shared, exit_effect}
-use Rattle.span_script.specs.calls.Filter.{hears, heard_on}
+use Rattle.span_script.specs.calls.Filter.{after_filter_hook, hooks_of_span}
 use Rattle.span_script.specs.calls.Spans.{borrows, is_borrowed}
 use Rattle.span_script.specs.Slots.{names_handle, is_named, is_shared_by}
 use Rattle.span_script.proofs.spans.ChainsLemmas.{borrowed_is}
 use Rattle.span_script.specs.declared.reply.Reply.{Reply}
 use Rattle.span_script.specs.declared.reply.Refusal.{Refusal}
 use Rattle.span_script.specs.Balance.{Balanced, named_by, opened_by}
-use Rattle.span_script.specs.Fits.{Views, IsScope, Named, State, state_of, Laned, laned, lane_at, Fits, StandsFor, RecordingFits, AllContextsFit, MadeFit, IsKept, Served, IsRefusal, held_of, guard_of, lane_of, held_by, Parts, ServesResolved}
+use Rattle.span_script.specs.Fits.{Views, IsScope, ContextSlots, State, state_of, LaneValue, lane_value, lane_at, Fits, StandsFor, RecordingFits, AllContextsFit, MadeFit, IsKept, Served, IsRefusal, held_of, guard_of, lane_of, held_by, Parts, ServesResolved}
 use Rattle.span_script.proofs.steps.BalanceLemmas.{spans_entered, spans_exited, balanced_enter, balanced_exit, entered_most, exited_less, named_slot}
 use Rattle.span_script.proofs.entries.EntriesFitLemmas.{fits_live}
 use Rattle.span_script.proofs.spans.MadeSpansLemmas.{made_if, made_held, made_released}
@@ -53,10 +53,10 @@ use Rattle.span_script.proofs.steps.RecordingLemmas.{recorded_settings, start_op
 use Rattle.span_script.proofs.lane_contexts.LaneContextsLemmas.{all_skipped, all_entered, all_exited}
 use Rattle.span_script.proofs.steps.ServesLemmas.{AllFit, serve, known_still, kept_served, call_count, call_sites, call_cached, call_aside, call_whole, call_lanes}
 use Rattle.span_script.proofs.filter.FilterLemmas.{IsKnownHeard, count_heard, AreKnown, heard_none}
-use Rattle.env_filter.specs.Filtering.{Filtered}
+use Rattle.env_filter.specs.Filtering.{FilterState}
 use Rattle.span_script.specs.SubscriberLaws.{CallsLaw, aside_in}
 
-the_guard : (a b : Guarded) → ◌≡◌ {A = Option Guarded} (Some a) (Some b) → a ≡ b
+the_guard : (a b : ScopeGuard) → ◌≡◌ {A = Option ScopeGuard} (Some a) (Some b) → a ≡ b
 the_guard a b e = cc e
 
 one_entered : (spans : Spans) (line : Scope) (lane : ℕ) → OneEach spans.lanes → OneEach (spans_entered spans line lane).lanes
@@ -67,21 +67,21 @@ one_exited : (spans : Spans) (line : Scope) (lane : ℕ) → OneEach spans.lanes
 one_exited spans [] lane one = one
 one_exited spans (s ∷ up) lane one = one_with lane (without_last (λ x. x == s) (entries_on lane spans.lanes)) spans.lanes one
 
-made_entered : (spans : Spans) (ms : List Made) (line : Scope) (lane : ℕ) → MadeFit spans.made ms → ((s : ℕ) (up : Scope) → line ≡ s ∷ up → 0 < (span_at spans.made s).holds) → MadeFit (spans_entered spans line lane).made ms
+made_entered : (spans : Spans) (ms : List MadeSpan) (line : Scope) (lane : ℕ) → MadeFit spans.made ms → ((s : ℕ) (up : Scope) → line ≡ s ∷ up → 0 < (span_at spans.made s).holds) → MadeFit (spans_entered spans line lane).made ms
 made_entered spans ms [] lane fit live = fit
-made_entered spans ms (s ∷ up) lane fit live = made_if (is_in s (entries_on lane spans.lanes)) spans.made (held spans.made s) ms fit (made_held spans.made ms s fit (live s up refl))
+made_entered spans ms (s ∷ up) lane fit live = made_if (is_in s (entries_on lane spans.lanes)) spans.made (with_hold spans.made s) ms fit (made_held spans.made ms s fit (live s up refl))
 
-made_exited : (spans : Spans) (ms : List Made) (line : Scope) (lane : ℕ) → MadeFit spans.made ms → MadeFit (spans_exited spans line lane).made ms
+made_exited : (spans : Spans) (ms : List MadeSpan) (line : Scope) (lane : ℕ) → MadeFit spans.made ms → MadeFit (spans_exited spans line lane).made ms
 made_exited spans ms [] lane fit = fit
-made_exited spans ms (s ∷ up) lane fit = made_if (times_in s (entries_on lane spans.lanes) == 1) (released spans.made s) spans.made ms (made_released spans.made ms s fit) fit
+made_exited spans ms (s ∷ up) lane fit = made_if (times_in s (entries_on lane spans.lanes) == 1) (without_hold spans.made s) spans.made ms (made_released spans.made ms s fit) fit
 
 -- a guard more keeps its handle
-still_more : (gs : List (Option Guarded)) (hs : List (Option Scope)) (g : Guarded) → ((n : ℕ) (x : Guarded) → slot_at gs n ≡ Some x → slot_at hs x.handle ≡ Some x.scope) → slot_at hs g.handle ≡ Some g.scope
-    → (n : ℕ) (x : Guarded) → slot_at (gs ++ Some g ∷ []) n ≡ Some x → slot_at hs x.handle ≡ Some x.scope
-still_more gs hs g still there n x is = named_push (λ (y : Guarded). slot_at hs y.handle ≡ Some y.scope) gs (Some g) still (λ y e. subst (λ (z : Guarded). slot_at hs z.handle ≡ Some z.scope) (the_guard g y e) there) n x is
+still_more : (gs : List (Option ScopeGuard)) (hs : List (Option Scope)) (g : ScopeGuard) → ((n : ℕ) (x : ScopeGuard) → slot_at gs n ≡ Some x → slot_at hs x.handle ≡ Some x.scope) → slot_at hs g.handle ≡ Some g.scope
+    → (n : ℕ) (x : ScopeGuard) → slot_at (gs ++ Some g ∷ []) n ≡ Some x → slot_at hs x.handle ≡ Some x.scope
+still_more gs hs g still there n x is = named_push (λ (y : ScopeGuard). slot_at hs y.handle ≡ Some y.scope) gs (Some g) still (λ y e. subst (λ (z : ScopeGuard). slot_at hs z.handle ≡ Some z.scope) (the_guard g y e) there) n x is
 
 -- a guard shares its handle as its table tells
-borrowed_count : (dispatch handle : ℕ) (gs : List (Option Guarded)) → count_by (names_handle handle) (map (option_map (guard_of dispatch)) gs) ≡ count_by (borrows handle) gs
+borrowed_count : (dispatch handle : ℕ) (gs : List (Option ScopeGuard)) → count_by (names_handle handle) (map (option_map (guard_of dispatch)) gs) ≡ count_by (borrows handle) gs
 borrowed_count dispatch handle [] = refl
 borrowed_count dispatch handle (o ∷ gs) =
     count_cons (names_handle handle) (option_map (guard_of dispatch) o) (map (option_map (guard_of dispatch)) gs)
@@ -89,11 +89,11 @@ borrowed_count dispatch handle (o ∷ gs) =
     ∙ ap (λ (n : ℕ). cond {A = ℕ} (borrows handle o) 1 0 + n) (borrowed_count dispatch handle gs)
     ∙ sym (count_cons (borrows handle) o gs)
   where
-    by_guard : (o : Option Guarded) → names_handle handle (option_map (guard_of dispatch) o) ≡ borrows handle o
+    by_guard : (o : Option ScopeGuard) → names_handle handle (option_map (guard_of dispatch) o) ≡ borrows handle o
     by_guard None = refl
     by_guard (Some g) = refl
 
-pub shared_is : (dispatch : ℕ) (gs : List (Option Guarded)) (g : Guard) (x : Guarded) → g ≡ guard_of dispatch x → is_shared_by (map (option_map (guard_of dispatch)) gs) g ≡ is_shared gs x
+pub shared_is : (dispatch : ℕ) (gs : List (Option ScopeGuard)) (g : Guard) (x : ScopeGuard) → g ≡ guard_of dispatch x → is_shared_by (map (option_map (guard_of dispatch)) gs) g ≡ is_shared gs x
 shared_is dispatch gs g x is = ap (is_shared_by (map (option_map (guard_of dispatch)) gs)) is ∙ ap (λ (n : ℕ). x.owns && nat_lt 1 n) (borrowed_count dispatch x.handle gs)
 
 the_open : (a b : Guard) → ◌≡◌ {A = Option Guard} (Some a) (Some b) → a ≡ b
@@ -101,12 +101,12 @@ the_open a b e = cc e
 
 -- an entry
 pub fits_entered : (k next : State) (t : Tables) (at lane handle : ℕ) (owns : Bool) (line : Scope) → Fits k t → slot_at t.handles handle ≡ Some line → next.spans ≡ spans_entered k.spans line (id_at k.setup.ids lane) → next.setup ≡ k.setup
-    → next.dispatch ≡ k.dispatch → next.handles ≡ k.handles → next.handle_sites ≡ k.handle_sites → next.guards ≡ k.guards ++ Some (guard_of k.dispatch (record { handle = handle; lane = lane; owns = owns; scope = line })) ∷ [] → next.contexts.made ≡ k.contexts.made → next.contexts.attaches ≡ k.contexts.attaches ++ None ∷ [] → next.moment ≡ at
-    → Fits next (after t (enter_effect (here_at k.setup t at lane) handle owns line))
+    → next.dispatch ≡ k.dispatch → next.handles ≡ k.handles → next.handle_sites ≡ k.handle_sites → next.guards ≡ k.guards ++ Some (guard_of k.dispatch (record { handle = handle; place = lane; owns = owns; scope = line })) ∷ [] → next.contexts.contexts ≡ k.contexts.contexts → next.contexts.attaches ≡ k.contexts.attaches ++ None ∷ [] → next.moment ≡ at
+    → Fits next (after_effect t (enter_effect (here_at k.setup t at lane) handle owns line))
 fits_entered k next t at lane handle owns line fits there step setup dispatch handles sites guards named attaches moment =
-    let g : Guarded = record { handle = handle; lane = lane; owns = owns; scope = line } in
+    let g : ScopeGuard = record { handle = handle; place = lane; owns = owns; scope = line } in
     let id = id_at k.setup.ids lane in
-    let live : (s : ℕ) (up : Scope) → line ≡ s ∷ up → 0 < (span_at k.spans.made s).holds = λ s up e. fits_live k.spans (map named_by t.handles) (map (opened_by k.setup.ids) t.guards) t.entries fits.balanced handle s (named_slot t.handles handle line there ∙ ap own e) in
+    let live : (s : ℕ) (up : Scope) → line ≡ s ∷ up → 0 < (span_at k.spans.made s).holds = λ s up e. fits_live k.spans (map named_by t.handles) (map (opened_by k.setup.ids) t.guards) t.entries fits.balanced handle s (named_slot t.handles handle line there ∙ ap own_span e) in
     fits_step k t fits next (enter_effect (here_at k.setup t at lane) handle owns line) (record {
       setup_is = setup;
       dispatch_is = dispatch;
@@ -116,8 +116,8 @@ fits_entered k next t at lane handle owns line fits there step setup dispatch ha
       attaches_are = ap (map (option_map lane_of)) attaches ∙ map_push (option_map lane_of) k.contexts.attaches None;
       named_are = named;
       moment_is = moment;
-      balanced = subst (λ (x : Spans). Balanced x (map named_by t.handles) (map (opened_by k.setup.ids) (t.guards ++ Some g ∷ [])) (with_entry t.entries id (own line))) (sym step) (balanced_enter k.setup.ids k.spans t.handles t.guards t.entries fits.balanced handle lane owns line there);
-      made_fit = subst (λ (x : Spans). MadeFit x.made t.made) (sym step) (made_entered k.spans t.made line id fits.made live);
+      balanced = subst (λ (x : Spans). Balanced x (map named_by t.handles) (map (opened_by k.setup.ids) (t.guards ++ Some g ∷ [])) (lanes_with_entry t.entries id (own_span line))) (sym step) (balanced_enter k.setup.ids k.spans t.handles t.guards t.entries fits.balanced handle lane owns line there);
+      made_fit = subst (λ (x : Spans). MadeFit x.made t.spans) (sym step) (made_entered k.spans t.spans line id fits.made live);
       new_made = tt;
       new_site = tt;
       new_scope = λ l e. absurd (cc e);
@@ -128,23 +128,23 @@ fits_entered k next t at lane handle owns line fits there step setup dispatch ha
     })
 
 -- an exit
-pub fits_exited : (k next : State) (t : Tables) (at guard : ℕ) (g : Guarded) → Fits k t → slot_at t.guards guard ≡ Some g → next.spans ≡ spans_exited k.spans g.scope (id_at k.setup.ids g.lane) → next.setup ≡ k.setup
+pub fits_exited : (k next : State) (t : Tables) (at guard : ℕ) (g : ScopeGuard) → Fits k t → slot_at t.guards guard ≡ Some g → next.spans ≡ spans_exited k.spans g.scope (id_at k.setup.ids g.place) → next.setup ≡ k.setup
     → next.dispatch ≡ k.dispatch → next.handles ≡ k.handles → next.handle_sites ≡ k.handle_sites → next.guards ≡ slice_set k.guards guard None → next.contexts ≡ k.contexts → next.moment ≡ at
-    → (lane : ℕ) → id_at k.setup.ids lane ≡ id_at k.setup.ids g.lane → Fits next (after t (exit_effect (here_at k.setup t at lane) guard g.scope))
+    → (lane : ℕ) → id_at k.setup.ids lane ≡ id_at k.setup.ids g.place → Fits next (after_effect t (exit_effect (here_at k.setup t at lane) guard g.scope))
 fits_exited k next t at guard g fits there step setup dispatch handles sites guards contexts moment lane on =
-    let id = id_at k.setup.ids g.lane in
+    let id = id_at k.setup.ids g.place in
     fits_step k t fits next (exit_effect (here_at k.setup t at lane) guard g.scope) (record {
       setup_is = setup;
       dispatch_is = dispatch;
       handles_are = handles;
       sites_are = sites;
       guards_are = guards;
-      attaches_are = ap (λ (c : Named). map (option_map lane_of) c.attaches) contexts;
-      named_are = ap (λ (c : Named). c.made) contexts;
+      attaches_are = ap (λ (c : ContextSlots). map (option_map lane_of) c.attaches) contexts;
+      named_are = ap (λ (c : ContextSlots). c.contexts) contexts;
       moment_is = moment;
-      balanced = subst (λ (l : ℕ). Balanced next.spans (map named_by t.handles) (map (opened_by k.setup.ids) (slice_set t.guards guard None)) (with_exit t.entries l (own g.scope))) (sym on)
-          (subst (λ (x : Spans). Balanced x (map named_by t.handles) (map (opened_by k.setup.ids) (slice_set t.guards guard None)) (with_exit t.entries id (own g.scope))) (sym step) (balanced_exit k.setup.ids k.spans t.handles t.guards t.entries fits.balanced guard g there g.scope refl));
-      made_fit = subst (λ (x : Spans). MadeFit x.made t.made) (sym step) (made_exited k.spans t.made g.scope id fits.made);
+      balanced = subst (λ (l : ℕ). Balanced next.spans (map named_by t.handles) (map (opened_by k.setup.ids) (slice_set t.guards guard None)) (lanes_with_exit t.entries l (own_span g.scope))) (sym on)
+          (subst (λ (x : Spans). Balanced x (map named_by t.handles) (map (opened_by k.setup.ids) (slice_set t.guards guard None)) (lanes_with_exit t.entries id (own_span g.scope))) (sym step) (balanced_exit k.setup.ids k.spans t.handles t.guards t.entries fits.balanced guard g there g.scope refl));
+      made_fit = subst (λ (x : Spans). MadeFit x.made t.spans) (sym step) (made_exited k.spans t.spans g.scope id fits.made);
       new_made = tt;
       new_site = tt;
       new_scope = λ l e. absurd (cc e);
@@ -161,9 +161,9 @@ no_active false = refl
 entered_live : (spans : Spans) (line : Scope) (lane q : ℕ) → ((s : ℕ) (up : Scope) → line ≡ s ∷ up → 0 < (span_at spans.made s).holds) → 0 < (span_at (spans_entered spans line lane).made q).holds → 0 < (span_at spans.made q).holds
 entered_live spans [] lane q live some = some
 entered_live spans (s ∷ up) lane q live some = elim (cases_Bool (is_in s (entries_on lane spans.lanes))) [
-  | inl again ↦ (let e = ap (λ (xs : List Span). (span_at xs q).holds) (cond-true {A = List Span} (is_in s (entries_on lane spans.lanes)) spans.made (held spans.made s) again) in omega (arith, e, some))
+  | inl again ↦ (let e = ap (λ (xs : List Span). (span_at xs q).holds) (cond-true {A = List Span} (is_in s (entries_on lane spans.lanes)) spans.made (with_hold spans.made s) again) in omega (arith, e, some))
   | inr new ↦ (
-      let e = ap (λ (xs : List Span). (span_at xs q).holds) (cond-false {A = List Span} (is_in s (entries_on lane spans.lanes)) spans.made (held spans.made s) new) in
+      let e = ap (λ (xs : List Span). (span_at xs q).holds) (cond-false {A = List Span} (is_in s (entries_on lane spans.lanes)) spans.made (with_hold spans.made s) new) in
       elim (cases_eq q s) [
         | inl here ↦ (let l = live s up refl in let w = ap (λ (k : ℕ). (span_at spans.made k).holds) here in omega (arith, l, w))
         | inr other ↦ (let h = holds_other spans.made s (record (span_at spans.made s) { holds = (span_at spans.made s).holds + 1 }) q other in omega (arith, h, e, some))
@@ -172,32 +172,32 @@ entered_live spans (s ∷ up) lane q live some = elim (cases_Bool (is_in s (entr
 
 -- what the effect attaches is what the layer attached
 attach_is : (b : Bool) (s at : ℕ) (up : Scope) (r x : Recording) → open_part r ≡ x
-    → (if b then Some (record { owner = EntryOf s; context = own_or empty_context (told_at s (with_starts (source_of b s) at r).spans) }) else None) ≡ attached_by x at (active b (s ∷ up))
-attach_is true s at up r x is = ap (λ (xs : List (ℕ × Told)). Some (record { owner = EntryOf s; context = own_or empty_context (told_at s xs) })) (start_open s at r x is)
+    → (if b then Some (record { owner = EntryOf s; context = own_or empty_context (data_at s (with_starts (source_of b s) at r).spans) }) else None) ≡ attached_by x at (active b (s ∷ up))
+attach_is true s at up r x is = ap (λ (xs : List (ℕ × SpanData)). Some (record { owner = EntryOf s; context = own_or empty_context (data_at s xs) })) (start_open s at r x is)
 attach_is false s at up r x is = refl
 
 -- what is heard of a scope's own span, which was made
-on_known : (line : Scope) (heard : ℕ → Heard) (n : ℕ) → ((s : ℕ) (up : Scope) → line ≡ s ∷ up → IsKnownHeard n (heard s) × (count_heard n (heard s) ≡ n)) → AreKnown n (heard_on line heard) n
+on_known : (line : Scope) (heard : ℕ → FilterHook) (n : ℕ) → ((s : ℕ) (up : Scope) → line ≡ s ∷ up → IsKnownHeard n (heard s) × (count_heard n (heard s) ≡ n)) → AreKnown n (hooks_of_span line heard) n
 on_known [] heard n known = refl
 on_known (s ∷ up) heard n known = let k = known s up refl in (k.0, k.1)
 
 module _ {S : Type 0} (spans : S → Spans) (views : Views S) (attaches : S → Bool) (kept : S → ℕ → ℕ → ℕ) (is_whole : S → Type 0) (parts : Parts S) (new : Worlds S) where
   entered_spans : (at lane : ℕ) (before later : Lane) (line : Scope) → before.id ≡ lane → ShownOn spans views attaches kept is_whole parts.world new parts.dispatch line (λ id. Enter id at before later) → spans_in spans new parts.dispatch ≡ spans_entered (spans_in spans parts.world parts.dispatch) line lane
   entered_spans at lane before later [] id same = ap (λ (w : Worlds S). spans_in spans w parts.dispatch) same
-  entered_spans at lane before later (s ∷ up) id shown = shown.0.spans_after ∙ ap (λ (l : ℕ). entered (spans_in spans parts.world parts.dispatch) s l) id
+  entered_spans at lane before later (s ∷ up) id shown = shown.0.spans_after ∙ ap (λ (l : ℕ). with_span_entry (spans_in spans parts.world parts.dispatch) s l) id
 
   exited_spans : (at lane : ℕ) (before later : Lane) (line : Scope) → before.id ≡ lane → ShownOn spans views attaches kept is_whole parts.world new parts.dispatch line (λ id. Exit id at before later) → spans_in spans new parts.dispatch ≡ spans_exited (spans_in spans parts.world parts.dispatch) line lane
   exited_spans at lane before later [] id same = ap (λ (w : Worlds S). spans_in spans w parts.dispatch) same
-  exited_spans at lane before later (s ∷ up) id shown = shown.0.spans_after ∙ ap (λ (l : ℕ). exited (spans_in spans parts.world parts.dispatch) s l) id
+  exited_spans at lane before later (s ∷ up) id shown = shown.0.spans_after ∙ ap (λ (l : ℕ). with_span_exit (spans_in spans parts.world parts.dispatch) s l) id
 
   -- what was recorded: the span is known, so the layer was told
-  entry_told : (at : ℕ) (before later : Lane) (s : ℕ) → told_at s (seen views.recorded no_recording parts.world parts.dispatch).spans ≢ None → RecordsCall (spans_in spans parts.world parts.dispatch) (seen views.recorded no_recording parts.world parts.dispatch) (Enter s at before later) (seen views.recorded no_recording new parts.dispatch)
-      → Enters (seen views.recorded no_recording parts.world parts.dispatch) s at before later (seen views.recorded no_recording new parts.dispatch)
-  entry_told at before later s known told = told.is_known (knows_it s (seen views.recorded no_recording parts.world parts.dispatch).spans known)
+  entry_told : (at : ℕ) (before later : Lane) (s : ℕ) → data_at s (member_of views.recorded no_recording parts.world parts.dispatch).spans ≢ None → RecordsCall (spans_in spans parts.world parts.dispatch) (member_of views.recorded no_recording parts.world parts.dispatch) (Enter s at before later) (member_of views.recorded no_recording new parts.dispatch)
+      → Enters (member_of views.recorded no_recording parts.world parts.dispatch) s at before later (member_of views.recorded no_recording new parts.dispatch)
+  entry_told at before later s known told = told.is_known (knows_it s (member_of views.recorded no_recording parts.world parts.dispatch).spans known)
 
-  exit_told : (at : ℕ) (before later : Lane) (s : ℕ) → told_at s (seen views.recorded no_recording parts.world parts.dispatch).spans ≢ None → RecordsCall (spans_in spans parts.world parts.dispatch) (seen views.recorded no_recording parts.world parts.dispatch) (Exit s at before later) (seen views.recorded no_recording new parts.dispatch)
-      → Exits (seen views.recorded no_recording parts.world parts.dispatch) s at before later (seen views.recorded no_recording new parts.dispatch)
-  exit_told at before later s known told = told.is_known (knows_it s (seen views.recorded no_recording parts.world parts.dispatch).spans known)
+  exit_told : (at : ℕ) (before later : Lane) (s : ℕ) → data_at s (member_of views.recorded no_recording parts.world parts.dispatch).spans ≢ None → RecordsCall (spans_in spans parts.world parts.dispatch) (member_of views.recorded no_recording parts.world parts.dispatch) (Exit s at before later) (member_of views.recorded no_recording new parts.dispatch)
+      → Exits (member_of views.recorded no_recording parts.world parts.dispatch) s at before later (member_of views.recorded no_recording new parts.dispatch)
+  exit_told at before later s known told = told.is_known (knows_it s (member_of views.recorded no_recording parts.world parts.dispatch).spans known)
 
   -- over what the code has
   module _ (does : S → SubscriberCall → S → Type 0) (law : CallsLaw spans views attaches kept is_whole does)
@@ -212,96 +212,96 @@ module _ {S : Type 0} (spans : S → Spans) (views : Views S) (attaches : S → 
     id_is = id_seen parts.lanes lane before within here
 
     abbrev r : Recording
-    r = seen views.recorded no_recording parts.world parts.dispatch
+    r = member_of views.recorded no_recording parts.world parts.dispatch
 
     abbrev r' : Recording
-    r' = seen views.recorded no_recording new parts.dispatch
+    r' = member_of views.recorded no_recording new parts.dispatch
 
     setup_after : new.sites ≡ parts.world.sites → later.id ≡ before.id → later.name ≡ before.name → r'.settings ≡ r.settings → (state_of spans views (record parts { world = new; lanes = set parts.lanes lane later; moment = at })).setup ≡ now.setup
     setup_after sites id name settings = rw (sites, ids_same parts.lanes lane before later within here id, names_same parts.lanes lane before later within here name, settings) refl
 
-    abbrev parts_with : List (Option Guard) → Named → Parts S
+    abbrev parts_with : List (Option Guard) → ContextSlots → Parts S
     parts_with gs' cs' = record parts { world = new; lanes = set parts.lanes lane later; guards = gs'; contexts = cs'; moment = at }
 
-    abbrev then_with : List (Option Guard) → Named → State
+    abbrev then_with : List (Option Guard) → ContextSlots → State
     then_with gs' cs' = state_of spans views (parts_with gs' cs')
 
-    abbrev ls' : List Laned
-    ls' = map laned (set parts.lanes lane later)
+    abbrev ls' : List LaneValue
+    ls' = map lane_value (set parts.lanes lane later)
 
     abbrev lanes_of : Type 0
-    lanes_of = (n m : ℕ) → n < length (map laned parts.lanes) → m < length (map laned parts.lanes) → (lane_at (map laned parts.lanes) n).id ≡ (lane_at (map laned parts.lanes) m).id → n ≡ m
+    lanes_of = (n m : ℕ) → n < length (map lane_value parts.lanes) → m < length (map lane_value parts.lanes) → (lane_at (map lane_value parts.lanes) n).id ≡ (lane_at (map lane_value parts.lanes) m).id → n ≡ m
 
     -- what the filter hears of an entry and of an exit
     entry_heard : (line : Scope) → ShownOn spans views attaches kept is_whole parts.world new parts.dispatch line (λ id. Enter id at before later)
-        → seen views.filtered None new parts.dispatch ≡ option_map (λ f. fold hears f (heard_on line (λ s. HeardEnter s place_id))) (seen views.filtered None parts.world parts.dispatch)
-    entry_heard [] same = ap (λ (w : Worlds S). seen views.filtered None w parts.dispatch) same ∙ heard_none (seen views.filtered None parts.world parts.dispatch)
-    entry_heard (s ∷ up) shown = shown.3 ∙ ap (λ (l : ℕ). option_map (λ (f : Filtered). hears f (HeardEnter s l)) (seen views.filtered None parts.world parts.dispatch)) id_is
+        → member_of views.filtered None new parts.dispatch ≡ option_map (λ f. fold after_filter_hook f (hooks_of_span line (λ s. HookEnter s place_id))) (member_of views.filtered None parts.world parts.dispatch)
+    entry_heard [] same = ap (λ (w : Worlds S). member_of views.filtered None w parts.dispatch) same ∙ heard_none (member_of views.filtered None parts.world parts.dispatch)
+    entry_heard (s ∷ up) shown = shown.3 ∙ ap (λ (l : ℕ). option_map (λ (f : FilterState). after_filter_hook f (HookEnter s l)) (member_of views.filtered None parts.world parts.dispatch)) id_is
 
     exit_heard : (line : Scope) → ShownOn spans views attaches kept is_whole parts.world new parts.dispatch line (λ id. Exit id at before later)
-        → seen views.filtered None new parts.dispatch ≡ option_map (λ f. fold hears f (heard_on line (λ s. HeardExit s place_id))) (seen views.filtered None parts.world parts.dispatch)
-    exit_heard [] same = ap (λ (w : Worlds S). seen views.filtered None w parts.dispatch) same ∙ heard_none (seen views.filtered None parts.world parts.dispatch)
-    exit_heard (s ∷ up) shown = shown.3 ∙ ap (λ (l : ℕ). option_map (λ (f : Filtered). hears f (HeardExit s l)) (seen views.filtered None parts.world parts.dispatch)) id_is
+        → member_of views.filtered None new parts.dispatch ≡ option_map (λ f. fold after_filter_hook f (hooks_of_span line (λ s. HookExit s place_id))) (member_of views.filtered None parts.world parts.dispatch)
+    exit_heard [] same = ap (λ (w : Worlds S). member_of views.filtered None w parts.dispatch) same ∙ heard_none (member_of views.filtered None parts.world parts.dispatch)
+    exit_heard (s ∷ up) shown = shown.3 ∙ ap (λ (l : ℕ). option_map (λ (f : FilterState). after_filter_hook f (HookExit s l)) (member_of views.filtered None parts.world parts.dispatch)) id_is
 
     -- an exit, by the scope of its guard
     exited_record : (gs' : List (Option Guard)) (t : Tables) (guard : ℕ) (line : Scope) → RecordingFits now t → ((s : ℕ) (up : Scope) → line ≡ s ∷ up → 0 < (span_at now.spans.made s).holds) → lanes_of → later.id ≡ before.id → (line ≡ [] → later ≡ before)
         → ShownOn spans views attaches kept is_whole parts.world new parts.dispatch line (λ id. Exit id at before later)
-        → (toks : List Token) × (r' ≡ record (recorded_by (length t.made) (exit_effect (here_at now.setup t at lane) guard line) r) { tokens = toks }) × AllFit (then_with gs' parts.contexts) (after t (exit_effect (here_at now.setup t at lane) guard line)).contexts
+        → (toks : List Token) × (r' ≡ record (recorded_by (length t.spans) (exit_effect (here_at now.setup t at lane) guard line) r) { tokens = toks }) × AllFit (then_with gs' parts.contexts) (after_effect t (exit_effect (here_at now.setup t at lane) guard line)).contexts
     exited_record gs' t guard [] fit live differ same none shown =
-        let is = ap (λ (w : Worlds S). seen views.recorded no_recording w parts.dispatch) shown in (
+        let is = ap (λ (w : Worlds S). member_of views.recorded no_recording w parts.dispatch) shown in (
           r.tokens,
           is,
-          subst (λ (c : Recording). AllContextsFit c.settings.activation ls' c.tokens parts.contexts.attaches (after t (exit_effect (here_at now.setup t at lane) guard [])).contexts) (sym is)
-              (subst (λ (ls : List Laned). AllContextsFit r.settings.activation ls r.tokens parts.contexts.attaches (after t (exit_effect (here_at now.setup t at lane) guard [])).contexts) (sym (lanes_same parts.lanes lane before later within here (ap laned (none refl))))
-              (subst (λ (o : Option ℕ). AllContextsFit r.settings.activation (map laned parts.lanes) r.tokens parts.contexts.attaches (with_detached t.contexts place_id (option_map EntryOf o))) (sym (no_active r.settings.activation)) fit.attached)),
+          subst (λ (c : Recording). AllContextsFit c.settings.activation ls' c.tokens parts.contexts.attaches (after_effect t (exit_effect (here_at now.setup t at lane) guard [])).contexts) (sym is)
+              (subst (λ (ls : List LaneValue). AllContextsFit r.settings.activation ls r.tokens parts.contexts.attaches (after_effect t (exit_effect (here_at now.setup t at lane) guard [])).contexts) (sym (lanes_same parts.lanes lane before later within here (ap lane_value (none refl))))
+              (subst (λ (o : Option ℕ). AllContextsFit r.settings.activation (map lane_value parts.lanes) r.tokens parts.contexts.attaches (with_detached t.contexts place_id (option_map EntryOf o))) (sym (no_active r.settings.activation)) fit.attached)),
         )
     exited_record gs' t guard (s ∷ up) fit live differ same none shown =
         let x = exit_told at before later s (fit.known s (live s up refl)) shown.2 in
         let toks = without_last (is_token before.id s) r.tokens in (
           toks,
           x.is,
-          subst (λ (c : Recording). AllContextsFit c.settings.activation ls' c.tokens parts.contexts.attaches (after t (exit_effect (here_at now.setup t at lane) guard (s ∷ up))).contexts) (sym x.is)
+          subst (λ (c : Recording). AllContextsFit c.settings.activation ls' c.tokens parts.contexts.attaches (after_effect t (exit_effect (here_at now.setup t at lane) guard (s ∷ up))).contexts) (sym x.is)
               (subst (λ (l : ℕ). AllContextsFit r.settings.activation ls' toks parts.contexts.attaches (with_detached t.contexts l (option_map EntryOf (if r.settings.activation then Some s else None)))) id_is
               (all_exited r.settings.activation parts.lanes lane before later within here same differ r.tokens parts.contexts.attaches t.contexts fit.attached s x.token x.last x.lane)),
         )
 
     -- an entry, by the scope of its handle
-    entered_record : (gs' : List (Option Guard)) (cs' : Named) (t : Tables) (handle : ℕ) (owns : Bool) (line : Scope) → RecordingFits now t → ((s : ℕ) (up : Scope) → line ≡ s ∷ up → 0 < (span_at now.spans.made s).holds) → lanes_of → later.id ≡ before.id → (line ≡ [] → later ≡ before)
+    entered_record : (gs' : List (Option Guard)) (cs' : ContextSlots) (t : Tables) (handle : ℕ) (owns : Bool) (line : Scope) → RecordingFits now t → ((s : ℕ) (up : Scope) → line ≡ s ∷ up → 0 < (span_at now.spans.made s).holds) → lanes_of → later.id ≡ before.id → (line ≡ [] → later ≡ before)
         → cs'.attaches ≡ parts.contexts.attaches ++ None ∷ [] → ShownOn spans views attaches kept is_whole parts.world new parts.dispatch line (λ id. Enter id at before later)
-        → (toks : List Token) × (r' ≡ record (recorded_by (length t.made) (enter_effect (here_at now.setup t at lane) handle owns line) r) { tokens = toks }) × AllFit (then_with gs' cs') (after t (enter_effect (here_at now.setup t at lane) handle owns line)).contexts
+        → (toks : List Token) × (r' ≡ record (recorded_by (length t.spans) (enter_effect (here_at now.setup t at lane) handle owns line) r) { tokens = toks }) × AllFit (then_with gs' cs') (after_effect t (enter_effect (here_at now.setup t at lane) handle owns line)).contexts
     entered_record gs' cs' t handle owns [] fit live differ same none skip shown =
-        let is = ap (λ (w : Worlds S). seen views.recorded no_recording w parts.dispatch) shown in
-        let nothing : (b : Bool) → recorded_by (length t.made) (record (quiet at place_id (reply.Guard 0)) { starts = option_to_list (active b []) }) r ≡ r = λ b. ap (λ (o : Option ℕ). recorded_by (length t.made) (record (quiet at place_id (reply.Guard 0)) { starts = option_to_list o }) r) (no_active b) in (
+        let is = ap (λ (w : Worlds S). member_of views.recorded no_recording w parts.dispatch) shown in
+        let nothing : (b : Bool) → recorded_by (length t.spans) (record (quiet_effect at place_id (reply.Guard 0)) { starts = option_to_list (active b []) }) r ≡ r = λ b. ap (λ (o : Option ℕ). recorded_by (length t.spans) (record (quiet_effect at place_id (reply.Guard 0)) { starts = option_to_list o }) r) (no_active b) in (
           r.tokens,
           is ∙ ap (λ (x : Recording). record x { tokens = r.tokens }) (sym (nothing r.settings.activation)),
-          subst (λ (ks : List (Option Attach)). AllContextsFit r'.settings.activation ls' r'.tokens ks (after t (enter_effect (here_at now.setup t at lane) handle owns [])).contexts) (sym skip)
-              (all_skipped r'.settings.activation ls' r'.tokens parts.contexts.attaches (after t (enter_effect (here_at now.setup t at lane) handle owns [])).contexts
-              (subst (λ (c : Recording). AllContextsFit c.settings.activation ls' c.tokens parts.contexts.attaches (after t (enter_effect (here_at now.setup t at lane) handle owns [])).contexts) (sym is)
-              (subst (λ (ls : List Laned). AllContextsFit r.settings.activation ls r.tokens parts.contexts.attaches (after t (enter_effect (here_at now.setup t at lane) handle owns [])).contexts) (sym (lanes_same parts.lanes lane before later within here (ap laned (none refl))))
-              (subst (λ (o : Option ℕ). AllContextsFit r.settings.activation (map laned parts.lanes) r.tokens parts.contexts.attaches (with_attached t.contexts place_id (attached_by t.recording at o))) (sym (no_active r.settings.activation)) fit.attached)))),
+          subst (λ (ks : List (Option Attach)). AllContextsFit r'.settings.activation ls' r'.tokens ks (after_effect t (enter_effect (here_at now.setup t at lane) handle owns [])).contexts) (sym skip)
+              (all_skipped r'.settings.activation ls' r'.tokens parts.contexts.attaches (after_effect t (enter_effect (here_at now.setup t at lane) handle owns [])).contexts
+              (subst (λ (c : Recording). AllContextsFit c.settings.activation ls' c.tokens parts.contexts.attaches (after_effect t (enter_effect (here_at now.setup t at lane) handle owns [])).contexts) (sym is)
+              (subst (λ (ls : List LaneValue). AllContextsFit r.settings.activation ls r.tokens parts.contexts.attaches (after_effect t (enter_effect (here_at now.setup t at lane) handle owns [])).contexts) (sym (lanes_same parts.lanes lane before later within here (ap lane_value (none refl))))
+              (subst (λ (o : Option ℕ). AllContextsFit r.settings.activation (map lane_value parts.lanes) r.tokens parts.contexts.attaches (with_attached t.contexts place_id (attached_by t.recording at o))) (sym (no_active r.settings.activation)) fit.attached)))),
         )
     entered_record gs' cs' t handle owns (s ∷ up) fit live differ same none skip shown =
         let x = entry_told at before later s (fit.known s (live s up refl)) shown.2 in
         let b = r.settings.activation in
         let token : Token = record { lane = before.id; id = s; attached = x.attached } in
         let toks = r.tokens ++ token ∷ [] in
-        let own = own_or empty_context (told_at s (with_starts (source_of b s) at r).spans) in
-        let rec_is : r' ≡ record (recorded_by (length t.made) (enter_effect (here_at now.setup t at lane) handle owns (s ∷ up)) r) { tokens = toks } =
+        let own = own_or empty_context (data_at s (with_starts (source_of b s) at r).spans) in
+        let rec_is : r' ≡ record (recorded_by (length t.spans) (enter_effect (here_at now.setup t at lane) handle owns (s ∷ up)) r) { tokens = toks } =
         x.is ∙ ap (λ (y : Recording). record (with_applied s at ops.Enter y) { tokens = y.tokens ++ token ∷ [] }) (sym (starts_fold (source_of b s) at r))
         ∙ ap (λ (ts : List Token). record (with_applied s at ops.Enter (fold (λ r s. with_start s at r) r (option_to_list (source_of b s)))) { tokens = ts ++ token ∷ [] }) (ap (λ (y : Recording). y.tokens) (starts_fold (source_of b s) at r) ∙ entry_tokens (source_of b s) at r) in
-        let settings : r'.settings ≡ r.settings = ap (λ (c : Recording). c.settings) rec_is ∙ recorded_settings (length t.made) (enter_effect (here_at now.setup t at lane) handle owns (s ∷ up)) r in
+        let settings : r'.settings ≡ r.settings = ap (λ (c : Recording). c.settings) rec_is ∙ recorded_settings (length t.spans) (enter_effect (here_at now.setup t at lane) handle owns (s ∷ up)) r in
         let tokens : r'.tokens ≡ toks = ap (λ (c : Recording). c.tokens) rec_is in (
           toks,
           rec_is,
-          subst (λ (ks : List (Option Attach)). AllContextsFit r'.settings.activation ls' r'.tokens ks (after t (enter_effect (here_at now.setup t at lane) handle owns (s ∷ up))).contexts) (sym skip)
-              (subst (λ (ts : List Token). AllContextsFit r'.settings.activation ls' ts (parts.contexts.attaches ++ None ∷ []) (after t (enter_effect (here_at now.setup t at lane) handle owns (s ∷ up))).contexts) (sym tokens)
-              (subst (λ (c : LayerSettings). AllContextsFit c.activation ls' toks (parts.contexts.attaches ++ None ∷ []) (after t (enter_effect (here_at now.setup t at lane) handle owns (s ∷ up))).contexts) (sym settings)
+          subst (λ (ks : List (Option Attach)). AllContextsFit r'.settings.activation ls' r'.tokens ks (after_effect t (enter_effect (here_at now.setup t at lane) handle owns (s ∷ up))).contexts) (sym skip)
+              (subst (λ (ts : List Token). AllContextsFit r'.settings.activation ls' ts (parts.contexts.attaches ++ None ∷ []) (after_effect t (enter_effect (here_at now.setup t at lane) handle owns (s ∷ up))).contexts) (sym tokens)
+              (subst (λ (c : LayerSettings). AllContextsFit c.activation ls' toks (parts.contexts.attaches ++ None ∷ []) (after_effect t (enter_effect (here_at now.setup t at lane) handle owns (s ∷ up))).contexts) (sym settings)
               (subst (λ (o : Option Attached). AllContextsFit b ls' toks (parts.contexts.attaches ++ None ∷ []) (with_attached t.contexts place_id o)) (attach_is b s at up r t.recording fit.recorded)
               (subst (λ (l : ℕ). AllContextsFit b ls' toks (parts.contexts.attaches ++ None ∷ []) (with_attached t.contexts l (if b then Some (record { owner = EntryOf s; context = own }) else None))) id_is
               (all_entered b parts.lanes lane before later within here same differ r.tokens parts.contexts.attaches t.contexts fit.attached s own x.attached x.lane))))),
         )
 
-    module _ (guard : ℕ) (g : Guard) (found : slot_at parts.guards guard ≡ Some g) (on : g.lane ≡ lane) (gs' : List (Option Guard)) (one : gs' ≡ slice_set parts.guards guard None) (h : Handle) (entry_is : g.entry ≡ h.held)
+    module _ (guard : ℕ) (g : Guard) (found : slot_at parts.guards guard ≡ Some g) (on : g.place ≡ lane) (gs' : List (Option Guard)) (one : gs' ≡ slice_set parts.guards guard None) (h : Handle) (entry_is : g.entry ≡ h.held)
         (did : ReplacedOn (λ id s t. does s (Exit id at before later) t) parts.world new h.held) (none : h.held ≡ None → later ≡ before) (alone : is_shared_by parts.guards g ≡ false) (inv : IsKept spans views kept is_whole parts) where
       abbrev exited_then_parts : Parts S
       exited_then_parts = parts_with gs' parts.contexts
@@ -314,27 +314,27 @@ module _ {S : Type 0} (spans : S → Spans) (views : Views S) (attaches : S → 
           let fits = stands.fits in
           let open_one = find (guard_of parts.dispatch) parts.guards t.guards guard g fits.guard_slots found in
           let x = open_one.at in
-          let mine : x.lane ≡ lane = ap (λ (x : Guard). x.lane) (sym open_one.is) ∙ on in
+          let mine : x.lane ≡ lane = ap (λ (x : Guard). x.place) (sym open_one.is) ∙ on in
           let is : h.held ≡ held_of parts.dispatch x.scope = sym entry_is ∙ ap (λ (x : Guard). x.entry) open_one.is in
           let shown = shown_on spans views attaches kept is_whole does law parts.world new parts.dispatch x.scope h.held is (λ id. Exit id at before later) did in
           let none_at : x.scope ≡ [] → later ≡ before = λ e. none (is ∙ ap (held_of parts.dispatch) e) in
           let moved = call_lanes spans views attaches kept is_whole parts new x.scope (λ id. Exit id at before later) before later (λ s b f g l. (l.0.id, l.0.name, l.1)) none_at shown in
           let sites = call_sites spans views attaches kept is_whole parts new x.scope (λ id. Exit id at before later) shown in
-          let lane_is : place_id ≡ id_at now.setup.ids x.lane = ap (id_at now.setup.ids) (sym mine) in
+          let lane_is : place_id ≡ id_at now.setup.ids x.place = ap (id_at now.setup.ids) (sym mine) in
           let e : Effect = exit_effect (here_at now.setup t at lane) guard x.scope in
-          let live : (s : ℕ) (up : Scope) → x.scope ≡ s ∷ up → 0 < (span_at now.spans.made s).holds = λ s up e. fits_live now.spans (map named_by t.handles) (map (opened_by now.setup.ids) t.guards) t.entries fits.balanced x.handle s (named_slot t.handles x.handle x.scope (fits.still guard x open_one.there) ∙ ap own e) in
+          let live : (s : ℕ) (up : Scope) → x.scope ≡ s ∷ up → 0 < (span_at now.spans.made s).holds = λ s up e. fits_live now.spans (map named_by t.handles) (map (opened_by now.setup.ids) t.guards) t.entries fits.balanced x.handle s (named_slot t.handles x.handle x.scope (fits.still guard x open_one.there) ∙ ap own_span e) in
           let rec_is = exited_record gs' t guard x.scope stands.recording live inv.lanes.differ moved.0 none_at shown in
-          let settings = ap (λ (c : Recording). c.settings) rec_is.1 ∙ recorded_settings (length t.made) e r in
+          let settings = ap (λ (c : Recording). c.settings) rec_is.1 ∙ recorded_settings (length t.spans) e r in
           let setup = setup_after sites moved.0 moved.1 settings in
-          let step = exited_spans at (id_at now.setup.ids x.lane) before later x.scope (id_is ∙ lane_is) shown in
+          let step = exited_spans at (id_at now.setup.ids x.place) before later x.scope (id_is ∙ lane_is) shown in
           serve now exited_then t e _ reply.Done stands
-          (ap (λ o. need what.Guard o >>= (λ (y : Guarded). refuse_if (is_shared t.guards y) refusal.InUse (refuse_if (not (y.lane == lane)) (refusal.WrongLane y.lane) (Ok (exit_effect (here_at now.setup t at lane) guard y.scope))))) open_one.there
+          (ap (λ o. need what.Guard o >>= (λ (y : ScopeGuard). refuse_if (is_shared t.guards y) refusal.InUse (refuse_if (not (y.place == lane)) (refusal.WrongLane y.place) (Ok (exit_effect (here_at now.setup t at lane) guard y.scope))))) open_one.there
           ∙ cond-false {A = Resolved} (is_shared t.guards x) _ _ (sym (ap (λ (xs : List (Option Guard)). is_shared_by xs g) fits.guard_slots ∙ shared_is parts.dispatch t.guards g x open_one.is) ∙ alone)
-          ∙ cond-false {A = Resolved} (not (x.lane == lane)) _ _ (ap not (eq-eqb x.lane lane mine)))
+          ∙ cond-false {A = Resolved} (not (x.place == lane)) _ _ (ap not (eq-eqb x.place lane mine)))
           refl setup rec_is.0 rec_is.1 (fits_exited now exited_then t at guard x fits open_one.there step setup refl refl refl one refl refl lane lane_is)
-          (λ s some. known_still now exited_then t e rec_is.0 rec_is.1 stands.recording s refl (let a = exited_less now.spans x.scope (id_at now.setup.ids x.lane) s in let b = ap (λ (y : Spans). (span_at y.made s).holds) step in omega (arith, a, b, some)))
+          (λ s some. known_still now exited_then t e rec_is.0 rec_is.1 stands.recording s refl (let a = exited_less now.spans x.scope (id_at now.setup.ids x.place) s in let b = ap (λ (y : Spans). (span_at y.made s).holds) step in omega (arith, a, b, some)))
           rec_is.2
-          (record { quiet = refl; before = seen views.filtered None parts.world parts.dispatch; later = seen views.filtered None new parts.dispatch; shown_before = refl; shown_later = refl; told = exit_heard x.scope shown; known = on_known x.scope (λ s. HeardExit s place_id) (length t.made) (λ s up e. ((subst (IsScope t.made) e (fits.scopes x.handle x.scope (fits.still guard x open_one.there))).0, refl)); cached = call_cached spans views attaches kept is_whole parts new x.scope (λ id. Exit id at before later) shown; aside = record { before = aside_in views parts.world parts.dispatch; later = aside_in views new parts.dispatch; shown_before = refl; shown_later = refl; waits_before = refl; waits_later = refl; adds = call_aside spans views attaches kept is_whole parts new x.scope (λ id. Exit id at before later) (λ s. refl) shown } })
+          (record { quiet = refl; before = member_of views.filtered None parts.world parts.dispatch; later = member_of views.filtered None new parts.dispatch; shown_before = refl; shown_later = refl; told = exit_heard x.scope shown; known = on_known x.scope (λ s. HookExit s place_id) (length t.spans) (λ s up e. ((subst (IsScope t.spans) e (fits.scopes x.handle x.scope (fits.still guard x open_one.there))).0, refl)); cached = call_cached spans views attaches kept is_whole parts new x.scope (λ id. Exit id at before later) shown; aside = record { before = aside_in views parts.world parts.dispatch; later = aside_in views new parts.dispatch; shown_before = refl; shown_later = refl; waits_before = refl; waits_later = refl; adds = call_aside spans views attaches kept is_whole parts new x.scope (λ id. Exit id at before later) (λ s. refl) shown } })
 
       pub keeps_exited : IsKept spans views kept is_whole exited_then_parts
       keeps_exited =
@@ -346,8 +346,8 @@ module _ {S : Type 0} (spans : S → Spans) (views : Views S) (attaches : S → 
           kept_served spans views kept is_whole parts exited_then_parts inv _ _ (serves_exited inv.tables inv.stands) refl (call_count spans views attaches kept is_whole parts new x.scope (λ id. Exit id at before later) shown) (call_whole spans views attaches kept is_whole parts new x.scope (λ id. Exit id at before later) shown)
           (lanes_step _ _ parts.lanes lane before later within here inv.lanes moved.0 moved.2)
 
-    module _ (handle number : ℕ) (owns : Bool) (h : Handle) (entry : Held) (gs' : List (Option Guard)) (found : slot_at parts.handles handle ≡ Some h) (is : entry ≡ h.held) (many : number ≡ length parts.guards) (one : gs' ≡ parts.guards ++ Some (record { handle = handle; lane = lane; owns = owns; entry = entry }) ∷ [])
-        (cs' : Named) (named_same : cs'.made ≡ parts.contexts.made) (skip : cs'.attaches ≡ parts.contexts.attaches ++ None ∷ [])
+    module _ (handle number : ℕ) (owns : Bool) (h : Handle) (entry : Held) (gs' : List (Option Guard)) (found : slot_at parts.handles handle ≡ Some h) (is : entry ≡ h.held) (many : number ≡ length parts.guards) (one : gs' ≡ parts.guards ++ Some (record { handle = handle; place = lane; owns = owns; entry = entry }) ∷ [])
+        (cs' : ContextSlots) (named_same : cs'.contexts ≡ parts.contexts.contexts) (skip : cs'.attaches ≡ parts.contexts.attaches ++ None ∷ [])
         (did : ReplacedOn (λ id s t. does s (Enter id at before later) t) parts.world new h.held) (none : h.held ≡ None → later ≡ before) (inv : IsKept spans views kept is_whole parts)
         (free : (t : Tables) → StandsFor now t → (line : Scope) → slot_at t.handles handle ≡ Some line → h.held ≡ held_of parts.dispatch line → meets_full now.setup.layer.activation line (t.contexts place_id) ≡ false) where
       abbrev entered_then_parts : Parts S
@@ -364,11 +364,11 @@ module _ {S : Type 0} (spans : S → Spans) (views : Views S) (attaches : S → 
           let none_at : line.at ≡ [] → later ≡ before = λ e. none (line.is ∙ ap (held_of parts.dispatch) e) in
           let moved = call_lanes spans views attaches kept is_whole parts new line.at (λ id. Enter id at before later) before later (λ s b f g l. (l.0.id, l.0.name, l.1)) none_at shown in
           let sites = call_sites spans views attaches kept is_whole parts new line.at (λ id. Enter id at before later) shown in
-          let guards_are : gs' ≡ parts.guards ++ Some (guard_of parts.dispatch (record { handle = handle; lane = lane; owns = owns; scope = line.at })) ∷ [] = one ∙ ap (λ (h : Held). parts.guards ++ Some (record { handle = handle; lane = lane; owns = owns; entry = h }) ∷ []) (is ∙ line.is) in
+          let guards_are : gs' ≡ parts.guards ++ Some (guard_of parts.dispatch (record { handle = handle; place = lane; owns = owns; scope = line.at })) ∷ [] = one ∙ ap (λ (h : Held). parts.guards ++ Some (record { handle = handle; place = lane; owns = owns; entry = h }) ∷ []) (is ∙ line.is) in
           let e : Effect = enter_effect (here_at now.setup t at lane) handle owns line.at in
-          let live : (s : ℕ) (up : Scope) → line.at ≡ s ∷ up → 0 < (span_at now.spans.made s).holds = λ s up e. fits_live now.spans (map named_by t.handles) (map (opened_by now.setup.ids) t.guards) t.entries fits.balanced handle s (named_slot t.handles handle line.at line.there ∙ ap own e) in
+          let live : (s : ℕ) (up : Scope) → line.at ≡ s ∷ up → 0 < (span_at now.spans.made s).holds = λ s up e. fits_live now.spans (map named_by t.handles) (map (opened_by now.setup.ids) t.guards) t.entries fits.balanced handle s (named_slot t.handles handle line.at line.there ∙ ap own_span e) in
           let rec_is = entered_record gs' cs' t handle owns line.at stands.recording live inv.lanes.differ moved.0 none_at skip shown in
-          let settings = ap (λ (c : Recording). c.settings) rec_is.1 ∙ recorded_settings (length t.made) e r in
+          let settings = ap (λ (c : Recording). c.settings) rec_is.1 ∙ recorded_settings (length t.spans) e r in
           let setup = setup_after sites moved.0 moved.1 settings in
           let step = entered_spans at place_id before later line.at id_is shown in
           serve now entered_then t e _ (reply.Guard number) stands
@@ -378,7 +378,7 @@ module _ {S : Type 0} (spans : S → Spans) (views : Views S) (attaches : S → 
           setup rec_is.0 rec_is.1 (fits_entered now entered_then t at lane handle owns line.at fits line.there step setup refl refl refl guards_are named_same skip refl)
           (λ s some. known_still now entered_then t e rec_is.0 rec_is.1 stands.recording s refl (entered_live now.spans line.at place_id s live (subst (λ (y : Spans). 0 < (span_at y.made s).holds) step some)))
           rec_is.2
-          (record { quiet = refl; before = seen views.filtered None parts.world parts.dispatch; later = seen views.filtered None new parts.dispatch; shown_before = refl; shown_later = refl; told = entry_heard line.at shown; known = on_known line.at (λ s. HeardEnter s place_id) (length t.made) (λ s up e. ((subst (IsScope t.made) e (fits.scopes handle line.at line.there)).0, refl)); cached = call_cached spans views attaches kept is_whole parts new line.at (λ id. Enter id at before later) shown; aside = record { before = aside_in views parts.world parts.dispatch; later = aside_in views new parts.dispatch; shown_before = refl; shown_later = refl; waits_before = refl; waits_later = refl; adds = call_aside spans views attaches kept is_whole parts new line.at (λ id. Enter id at before later) (λ s. refl) shown } })
+          (record { quiet = refl; before = member_of views.filtered None parts.world parts.dispatch; later = member_of views.filtered None new parts.dispatch; shown_before = refl; shown_later = refl; told = entry_heard line.at shown; known = on_known line.at (λ s. HookEnter s place_id) (length t.spans) (λ s up e. ((subst (IsScope t.spans) e (fits.scopes handle line.at line.there)).0, refl)); cached = call_cached spans views attaches kept is_whole parts new line.at (λ id. Enter id at before later) shown; aside = record { before = aside_in views parts.world parts.dispatch; later = aside_in views new parts.dispatch; shown_before = refl; shown_later = refl; waits_before = refl; waits_later = refl; adds = call_aside spans views attaches kept is_whole parts new line.at (λ id. Enter id at before later) (λ s. refl) shown } })
 
       pub keeps_entered : IsKept spans views kept is_whole entered_then_parts
       keeps_entered =
@@ -393,21 +393,21 @@ pub refuses_shared : (k : State) (guard : ℕ) (g : Guard) → slot_at k.guards 
 refuses_shared k guard g found shared at lane t stands =
     let fits = stands.fits in
     let x = find (guard_of k.dispatch) k.guards t.guards guard g fits.guard_slots found in
-    ap (λ o. need what.Guard o >>= (λ (y : Guarded). refuse_if (is_shared t.guards y) refusal.InUse (refuse_if (not (y.lane == lane)) (refusal.WrongLane y.lane) (Ok (exit_effect (here_at k.setup t at lane) guard y.scope))))) x.there
+    ap (λ o. need what.Guard o >>= (λ (y : ScopeGuard). refuse_if (is_shared t.guards y) refusal.InUse (refuse_if (not (y.place == lane)) (refusal.WrongLane y.place) (Ok (exit_effect (here_at k.setup t at lane) guard y.scope))))) x.there
     ∙ cond-true {A = Resolved} (is_shared t.guards x.at) _ _ (sym (ap (λ (xs : List (Option Guard)). is_shared_by xs g) fits.guard_slots ∙ shared_is k.dispatch t.guards g x.at x.is) ∙ shared)
 
 abbrev wrong_lane : ℕ → Resolved
 wrong_lane lane = Err (refusal.WrongLane lane)
 
 -- one on another lane than the guard's
-pub refuses_wrong_lane : (k : State) (guard : ℕ) (g : Guard) → slot_at k.guards guard ≡ Some g → is_shared_by k.guards g ≡ false → (at lane : ℕ) → (g.lane ≡ lane → ⊥) → (t : Tables) → StandsFor k t → effect_of_call k.setup t at lane (call.Exit guard) ≡ Err (refusal.WrongLane g.lane)
+pub refuses_wrong_lane : (k : State) (guard : ℕ) (g : Guard) → slot_at k.guards guard ≡ Some g → is_shared_by k.guards g ≡ false → (at lane : ℕ) → (g.place ≡ lane → ⊥) → (t : Tables) → StandsFor k t → effect_of_call k.setup t at lane (call.Exit guard) ≡ Err (refusal.WrongLane g.place)
 refuses_wrong_lane k guard g found alone at lane other t stands =
     let fits = stands.fits in
     let x = find (guard_of k.dispatch) k.guards t.guards guard g fits.guard_slots found in
-    let lane_is : g.lane ≡ x.at.lane = ap (λ (y : Guard). y.lane) x.is in
-    ap (λ o. need what.Guard o >>= (λ (y : Guarded). refuse_if (is_shared t.guards y) refusal.InUse (refuse_if (not (y.lane == lane)) (refusal.WrongLane y.lane) (Ok (exit_effect (here_at k.setup t at lane) guard y.scope))))) x.there
+    let lane_is : g.place ≡ x.at.place = ap (λ (y : Guard). y.place) x.is in
+    ap (λ o. need what.Guard o >>= (λ (y : ScopeGuard). refuse_if (is_shared t.guards y) refusal.InUse (refuse_if (not (y.place == lane)) (refusal.WrongLane y.place) (Ok (exit_effect (here_at k.setup t at lane) guard y.scope))))) x.there
     ∙ cond-false {A = Resolved} (is_shared t.guards x.at) _ _ (sym (ap (λ (xs : List (Option Guard)). is_shared_by xs g) fits.guard_slots ∙ shared_is k.dispatch t.guards g x.at x.is) ∙ alone)
-    ∙ cond-true {A = Resolved} (not (x.at.lane == lane)) _ _ (ap not (ne_eqb x.at.lane lane (λ e. other (lane_is ∙ e))))
+    ∙ cond-true {A = Resolved} (not (x.at.place == lane)) _ _ (ap not (ne_eqb x.at.place lane (λ e. other (lane_is ∙ e))))
     ∙ ap wrong_lane (sym lane_is)
 
 pub alone_at : (gs : List (Option Guard)) (n : ℕ) (a b : Guard) → slot_at gs n ≡ Some a → slot_at gs n ≡ Some b → is_shared_by gs a ≡ false → is_shared_by gs b ≡ false

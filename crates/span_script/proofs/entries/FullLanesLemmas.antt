@@ -3,12 +3,12 @@ use Rattle.std.specs.Prelude.{◌&&◌, ◌||◌, ◌≢◌}
 use Rattle.std.proofs.Common.{◌≡◌, ℕ, ◌<◌, List, [], ◌∷◌, length, get_or, Bool, true, false, Option, Some, None, Err, map, refl, sym, ap, subst, ◌∙◌, arith, inl, inr, slice_get, Ok}
 use Rattle.std.proofs.lemmas.Bool.{cases_Bool, eq-eqb, eqb-true, cond-true, true≢false}
 use Rattle.std.proofs.lemmas.List.{length-map}
-use Rattle.otel_base.specs.declared.stack.TheConstants.{MOST}
+use Rattle.otel_base.specs.declared.stack.TheConstants.{MAX_CONTEXTS}
 use Rattle.otel_base.specs.declared.context.Context.{Context}
 use Rattle.otel_base.specs.declared.enter_error.EnterError.{EnterError}
 use Rattle.otel_base.specs.declared.enter_error.EnterError.TheVariants as errors
-use Rattle.otel_state.specs.States.{Told}
-use Rattle.otel_layer.specs.Table.{told_at, knows_span}
+use Rattle.otel_state.specs.States.{SpanData}
+use Rattle.otel_layer.specs.Table.{data_at, knows_span}
 use Rattle.otel_layer.specs.Recording.{Recording, no_recording}
 use Rattle.trace_base.specs.declared.lane.Lane.{Lane}
 use Rattle.trace_base.specs.Spans.{Spans}
@@ -23,7 +23,7 @@ use Rattle.span_script.specs.Tables.{Scope, Attached, Tables, slot_at}
 use Rattle.span_script.specs.calls.Here.{here_at, Resolved, refuse_if, ◌>>=◌, need}
 use Rattle.span_script.specs.calls.Entries.{meets_full, enter_effect, entry_call}
 use Rattle.span_script.specs.calls.Refusals.{refused_entry}
-use Rattle.span_script.specs.Fits.{Views, State, state_of, Laned, laned, lane_at, StandsFor, IsKept, is_room, held_by, held_of, Parts}
+use Rattle.span_script.specs.Fits.{Views, State, state_of, LaneValue, lane_value, lane_at, StandsFor, IsKept, is_for_memory, held_by, held_of, Parts}
 use Rattle.span_script.proofs.steps.BalanceLemmas.{named_slot}
 use Rattle.span_script.proofs.entries.EntriesFitLemmas.{fits_live}
 use Rattle.span_script.proofs.steps.LanesLemmas.{lane_seen, id_seen}
@@ -31,14 +31,14 @@ use Rattle.span_script.proofs.steps.KnownSpansLemmas.{knows_it}
 use Rattle.span_script.proofs.steps.SlotsLemmas.{find, held_slot}
 use Rattle.span_script.proofs.runs.RefusalsLemmas.{within_get}
 use Rattle.span_script.proofs.runs.TakeLemmas.{seen_there}
-use Rattle.env_filter.specs.Filtering.{Filtering}
-use Rattle.env_filter.specs.Reloading.{if_there}
+use Rattle.env_filter.specs.Filtering.{FilterWithRoom}
+use Rattle.env_filter.specs.Reloading.{layer_or}
 
 -- an entry of a span that the layer knows attaches where the layer activates
 abbrev pub Activates : {S : Type 0} → Views S → (S → ℕ → Bool) → Type 0
-Activates {S} views activates = (s : S) (id : ℕ) → told_at id (views.recorded s).spans ≢ None → activates s id ≡ (views.recorded s).settings.activation
+Activates {S} views activates = (s : S) (id : ℕ) → data_at id (views.recorded s).spans ≢ None → activates s id ≡ (views.recorded s).settings.activation
 
-pub layer_activates : (activation : Bool) (id : ℕ) (spans : List (ℕ × Told)) → told_at id spans ≢ None → ((activation && knows_span id spans) || false) ≡ activation
+pub layer_activates : (activation : Bool) (id : ℕ) (spans : List (ℕ × SpanData)) → data_at id spans ≢ None → ((activation && knows_span id spans) || false) ≡ activation
 layer_activates true id spans known = ap (λ b. b || false) (knows_it id spans known)
 layer_activates false id spans known = refl
 
@@ -46,12 +46,12 @@ meets_none : (b : Bool) (items : List Attached) → meets_full b [] items ≡ fa
 meets_none true items = refl
 meets_none false items = refl
 
-meets_parts : (b : Bool) (s : ℕ) (up : Scope) (items : List Attached) → meets_full b (s ∷ up) items ≡ true → (b ≡ true) × (length items ≡ MOST)
-meets_parts true s up items e = (refl, eqb-true (length items) MOST e)
+meets_parts : (b : Bool) (s : ℕ) (up : Scope) (items : List Attached) → meets_full b (s ∷ up) items ≡ true → (b ≡ true) × (length items ≡ MAX_CONTEXTS)
+meets_parts true s up items e = (refl, eqb-true (length items) MAX_CONTEXTS e)
 meets_parts false s up items e = absurd (true≢false (sym e))
 
-meets_made : (b : Bool) (s : ℕ) (up : Scope) (items : List Attached) → b ≡ true → length items ≡ MOST → meets_full b (s ∷ up) items ≡ true
-meets_made true s up items on many = eq-eqb (length items) MOST many
+meets_made : (b : Bool) (s : ℕ) (up : Scope) (items : List Attached) → b ≡ true → length items ≡ MAX_CONTEXTS → meets_full b (s ∷ up) items ≡ true
+meets_made true s up items on many = eq-eqb (length items) MAX_CONTEXTS many
 meets_made false s up items on many = absurd (true≢false (sym on))
 
 module _ {S : Type 0} (spans : S → Spans) (views : Views S) (activates : S → ℕ → Bool) (kept : S → ℕ → ℕ → ℕ) (is_whole : S → Type 0) (acts : Activates views activates) (parts : Parts S)
@@ -67,9 +67,9 @@ module _ {S : Type 0} (spans : S → Spans) (views : Views S) (activates : S →
   lives : (t : Tables) → StandsFor now t → length before.contexts.live ≡ length (t.contexts place_id)
   lives t stands =
       let seen_at = lane_seen parts.lanes lane before within here in
-      let fit = stands.recording.attached lane (let l = length-map parts.lanes laned in omega (arith, within, l)) in
-      let mine : (lane_at now.lanes lane).id ≡ place_id = ap (λ (l : Laned). l.id) seen_at ∙ id_seen parts.lanes lane before within here in
-      ap (λ (l : Laned). length l.live) (sym seen_at) ∙ sym (length-map (lane_at now.lanes lane).live (λ (x : ℕ × Context). x.1)) ∙ ap length fit.contexts
+      let fit = stands.recording.attached lane (let l = length-map parts.lanes lane_value in omega (arith, within, l)) in
+      let mine : (lane_at now.lanes lane).id ≡ place_id = ap (λ (l : LaneValue). l.id) seen_at ∙ id_seen parts.lanes lane before within here in
+      ap (λ (l : LaneValue). length l.live) (sym seen_at) ∙ sym (length-map (lane_at now.lanes lane).live (λ (x : ℕ × Context). x.1)) ∙ ap length fit.contexts
       ∙ length-map (t.contexts (lane_at now.lanes lane).id) (λ (a : Attached). a.context) ∙ ap (λ (n : ℕ). length (t.contexts n)) mine
 
   -- the subscriber attaches for an open span where the setup activates
@@ -77,7 +77,7 @@ module _ {S : Type 0} (spans : S → Spans) (views : Views S) (activates : S →
   acts_here t stands s up there x is =
       let live = fits_live now.spans (map named_by t.handles) (map (opened_by now.setup.ids) t.guards) t.entries stands.fits.balanced handle s (named_slot t.handles handle (s ∷ up) there) in
       let same = seen_there views.recorded no_recording parts.world parts.dispatch x is in
-      acts x s (λ none. stands.recording.known s live (ap (λ (r : Recording). told_at s r.spans) same ∙ none)) ∙ ap (λ (r : Recording). r.settings.activation) (sym same)
+      acts x s (λ none. stands.recording.known s live (ap (λ (r : Recording). data_at s r.spans) same ∙ none)) ∙ ap (λ (r : Recording). r.settings.activation) (sym same)
 
   meets_of : (t : Tables) → StandsFor now t → (line : Scope) → slot_at t.handles handle ≡ Some line → MeetsFullLane activates parts.world before (held_of parts.dispatch line) → meets_full now.setup.layer.activation line (t.contexts place_id) ≡ true
   meets_of t stands [] there meets = absurd meets
@@ -102,8 +102,8 @@ module _ {S : Type 0} (spans : S → Spans) (views : Views S) (activates : S →
   pub meets_full_of : (t : Tables) → StandsFor now t → (line : Scope) → slot_at t.handles handle ≡ Some line → h.held ≡ held_of parts.dispatch line → MeetsFullLane activates parts.world before h.held → meets_full now.setup.layer.activation line (t.contexts place_id) ≡ true
   meets_full_of t stands line there is meets = meets_of t stands line there (subst (λ (x : Held). MeetsFullLane activates parts.world before x) is meets)
 
-  pub refuses_entry : (owns : Bool) (error : EnterError) (given : Refusal) → given ≡ refused_entry lane error → (error ≡ errors.Full → MeetsFullLane activates parts.world before h.held) → is_room given ≡ false → (t : Tables) → StandsFor now t → entry_call (here_at now.setup t at lane) handle owns ≡ Err given
-  refuses_entry owns errors.Memory given is full other t stands = absurd (true≢false (sym (ap is_room is) ∙ other))
+  pub refuses_entry : (owns : Bool) (error : EnterError) (given : Refusal) → given ≡ refused_entry lane error → (error ≡ errors.Full → MeetsFullLane activates parts.world before h.held) → is_for_memory given ≡ false → (t : Tables) → StandsFor now t → entry_call (here_at now.setup t at lane) handle owns ≡ Err given
+  refuses_entry owns errors.Memory given is full other t stands = absurd (true≢false (sym (ap is_for_memory is) ∙ other))
   refuses_entry owns errors.Full given is full other t stands =
       let line = find (held_of parts.dispatch) (map held_by parts.handles) t.handles handle h.held stands.fits.handle_slots (held_slot parts.handles handle h found) in
       let meets = meets_full_of t stands line.at line.there line.is (full refl) in
@@ -111,6 +111,6 @@ module _ {S : Type 0} (spans : S → Spans) (views : Views S) (activates : S →
       ∙ cond-true {A = Resolved} (meets_full now.setup.layer.activation line.at (t.contexts place_id)) _ _ meets ∙ ap (λ (x : Refusal). Err x) (sym is)
 
 -- a filter over a stack attaches nothing
-pub filtered_activates : (o : Option Filtering) (knows inner activation : Bool) → inner ≡ activation → ((if_there false (λ (f : Filtering). false) o && knows) || inner) ≡ activation
+pub filtered_activates : (o : Option FilterWithRoom) (knows inner activation : Bool) → inner ≡ activation → ((layer_or false (λ (f : FilterWithRoom). false) o && knows) || inner) ≡ activation
 filtered_activates None knows inner activation is = is
 filtered_activates (Some f) knows inner activation is = is

@@ -16,28 +16,28 @@ use Rattle.trace_base.specs.declared.callsite.Kind.TheVariants as kinds
 use Rattle.trace_base.specs.declared.field.ValueSet.{ValueSet}
 use Rattle.trace_base.specs.declared.span.Parent.{Parent}
 use Rattle.trace_base.specs.Gate.{Worlds}
-use Rattle.env_filter.specs.Filtering.{Filtered, IsNew, enables_in}
+use Rattle.env_filter.specs.Filtering.{FilterState, IsNewFilter, enables_in}
 use Rattle.trace_base.specs.Spans.{Spans, span_at, entries_on, place_on}
 use Rattle.trace_base.specs.Calls.{SubscriberCall}
 use Rattle.trace_base.specs.Sound.{OneEach}
-use Rattle.span_handles.specs.Worlds.{seen, spans_in, kept_in, Has}
+use Rattle.span_handles.specs.Worlds.{member_of, spans_in, kept_in, Has}
 use Rattle.span_script.specs.declared.reply.Reply.{Reply}
 use Rattle.span_script.specs.declared.reply.Reply.TheVariants as reply
 use Rattle.span_script.specs.declared.request.Call.TheVariants as call
 use Rattle.span_script.specs.declared.request.Place.{Place}
 use Rattle.span_script.specs.declared.reply.What.TheVariants as what
 use Rattle.span_script.specs.Setups.{id_at, if_event, event_site}
-use Rattle.span_script.specs.Tables.{Scope, Done, Heard, Effect, Tables, own, recorded_by, quiet}
+use Rattle.span_script.specs.Tables.{Scope, SpanOp, FilterHook, Effect, Tables, own_span, recorded_by, quiet_effect}
 use Rattle.span_script.specs.Fields.{Fields, all_values}
 use Rattle.span_script.specs.Admission.{text_filter}
 use Rattle.span_script.specs.calls.Here.{here_at, Resolved, ◌>>=◌, need, ops_on}
 use Rattle.span_script.specs.Effects.{effect_of_call}
-use Rattle.span_script.specs.calls.Events.{if_told, counted_ops, event_effect}
-use Rattle.span_script.specs.calls.Filter.{hears}
+use Rattle.span_script.specs.calls.Events.{if_enabled, counted_ops, event_effect}
+use Rattle.span_script.specs.calls.Filter.{after_filter_hook}
 use Rattle.span_script.specs.calls.Spans.{scope_at}
 use Rattle.span_script.specs.Slots.{place_for, TellsOnly, LetsThrough}
 use Rattle.span_script.specs.Balance.{Balanced, named_by, opened_by}
-use Rattle.span_script.specs.Fits.{Views, shown_of, State, state_of, laned, held_by, StandsFor, MadeFit, LanesFit, IsKept, Served, Parts}
+use Rattle.span_script.specs.Fits.{Views, shown_of, State, state_of, lane_value, held_by, StandsFor, MadeFit, LanesFit, IsKept, Served, Parts}
 use Rattle.span_stack.specs.Counting.{with_counted, with_event_by}
 use Rattle.span_script.proofs.filter.CounterLemmas.{adds_same}
 use Rattle.span_script.proofs.steps.StepLemmas.{fits_step}
@@ -48,7 +48,7 @@ use Rattle.span_script.proofs.steps.RecordingLemmas.{recorded_settings, recorded
 use Rattle.span_script.proofs.spans.MoreHandlesLemmas.{find_up}
 use Rattle.span_script.proofs.steps.ServesLemmas.{serve, known_still, all_same, kept_served}
 use Rattle.span_script.proofs.spans.SitesLemmas.{the_callsite, found_site_is}
-use Rattle.span_script.specs.SubscriberLaws.{Adds, CallsLaw, aside_in}
+use Rattle.span_script.specs.SubscriberLaws.{AddsMeasures, CallsLaw, aside_in}
 
 -- the callsite of an event at a place
 pub site_is : (sites : List Callsite) (site : ℕ) (callsite : Callsite) → event_site sites site ≡ Some callsite → slice_get sites site ≡ Some callsite
@@ -74,11 +74,11 @@ event_kind sites site callsite is = by_site (slice_get sites site) is
     by_site (Some c) e = by_kind c c.kind refl e
 
 -- ops on spans, of which the filter hears
-abbrev pub tells_heard : ℕ → ℕ → Reply → List Done → List Heard → Effect
-tells_heard at lane answer done heard = record (quiet at lane answer) { ops = done; heard = heard }
+abbrev pub tells_heard : ℕ → ℕ → Reply → List SpanOp → List FilterHook → Effect
+tells_heard at lane answer done heard = record (quiet_effect at lane answer) { ops = done; hooks = heard }
 
 -- what a list of ops makes of what was recorded
-abbrev pub done_by : ℕ → List Done → Recording → Recording
+abbrev pub done_by : ℕ → List SpanOp → Recording → Recording
 done_by at o r = fold (λ r d. with_applied d.span at d.op r) r o
 
 -- what a list of starts makes of it
@@ -87,24 +87,24 @@ started_by at ss r = fold (λ r s. with_start s at r) r ss
 
 -- what law a new filter has for events
 abbrev pub Decides : Type 0
-Decides = (f : Filtered) (lane : ℕ) (c : Callsite) → IsNew f → c.kind ≡ kinds.Event → enables_in f lane c ≡ admits f.statics.directives c
+Decides = (f : FilterState) (lane : ℕ) (c : Callsite) → IsNewFilter f → c.kind ≡ kinds.Event → enables_in f lane c ≡ admits f.statics.directives c
 
 -- an event is some ops of the own span of the scope that it reaches
-told_is : Decides → (ids : List ℕ) (counting : Option (List ℕ)) (counter : Option Filtered) → option_map (shown_of 0 ids) counter ≡ option_map (shown_of 0 ids) (option_map text_filter counting) → IfSome (option_map text_filter counting) IsNew
+told_is : Decides → (ids : List ℕ) (counting : Option (List ℕ)) (counter : Option FilterState) → option_map (shown_of 0 ids) counter ≡ option_map (shown_of 0 ids) (option_map text_filter counting) → IfSome (option_map text_filter counting) IsNewFilter
     → (scope : Scope) (id lane : ℕ) → id ≡ id_at ids lane → lane < length ids → (at : ℕ) (callsite : Callsite) → callsite.kind ≡ kinds.Event → (values : ValueSet) (r : Recording)
-    → with_event_by counter (own scope) id at callsite values r ≡ done_by at (ops_on scope (counted_ops counting callsite (event_of callsite values r.settings at))) r
+    → with_event_by counter (own_span scope) id at callsite values r ≡ done_by at (ops_on scope (counted_ops counting callsite (event_of callsite values r.settings at))) r
 told_is decides ids counting counter shown new scope id lane mine within at callsite event values r = by_counting counting counter shown new scope
   where
-    by_flag : (b : Bool) (s : ℕ) → with_counted b s at callsite values r ≡ done_by at (ops_on (s ∷ []) (ops.Counted ∷ if_told b (event_of callsite values r.settings at ∷ []))) r
+    by_flag : (b : Bool) (s : ℕ) → with_counted b s at callsite values r ≡ done_by at (ops_on (s ∷ []) (ops.Counted ∷ if_enabled b (event_of callsite values r.settings at ∷ []))) r
     by_flag true s = refl
     by_flag false s = refl
 
-    takes : (f g : Filtered) → Some (shown_of 0 ids f) ≡ Some (shown_of 0 ids g) → IsNew g → enables_in f id callsite ≡ admits g.statics.directives callsite
+    takes : (f g : FilterState) → Some (shown_of 0 ids f) ≡ Some (shown_of 0 ids g) → IsNewFilter g → enables_in f id callsite ≡ admits g.statics.directives callsite
     takes f g same fresh =
         ap (λ (l : ℕ). enables_in f l callsite) mine ∙ enables_alike 0 ids f g lane callsite (agree_by 0 ids f g (let e : shown_of 0 ids f ≡ shown_of 0 ids g = cc same in e)) within ∙ decides g (id_at ids lane) callsite fresh event
 
-    by_counting : (text : Option (List ℕ)) (o : Option Filtered) → option_map (shown_of 0 ids) o ≡ option_map (shown_of 0 ids) (option_map text_filter text) → IfSome (option_map text_filter text) IsNew → (reached : Scope)
-        → with_event_by o (own reached) id at callsite values r ≡ done_by at (ops_on reached (counted_ops text callsite (event_of callsite values r.settings at))) r
+    by_counting : (text : Option (List ℕ)) (o : Option FilterState) → option_map (shown_of 0 ids) o ≡ option_map (shown_of 0 ids) (option_map text_filter text) → IfSome (option_map text_filter text) IsNewFilter → (reached : Scope)
+        → with_event_by o (own_span reached) id at callsite values r ≡ done_by at (ops_on reached (counted_ops text callsite (event_of callsite values r.settings at))) r
     by_counting None None same fresh [] = refl
     by_counting None None same fresh (s ∷ up) = refl
     by_counting None (Some f) same fresh reached = absurd (cc same)
@@ -114,19 +114,19 @@ told_is decides ids counting counter shown new scope id lane mine within at call
 
 module _ {S : Type 0} (spans : S → Spans) (views : Views S) (attaches : S → Bool) (kept : S → ℕ → ℕ → ℕ) (is_whole : S → Type 0) (parts : Parts S) (new : Worlds S) where
   -- spans were started, then ops were done on spans, of which the filter heard, some measures were added, and nothing else
-  pub record Starts (at : ℕ) (ss : List ℕ) (o : List Done) (heard : List Heard) (added : List Measure) : Type 0 where
+  pub record Starts (at : ℕ) (ss : List ℕ) (o : List SpanOp) (heard : List FilterHook) (added : List Measure) : Type 0 where
     pub spans_same : spans_in spans new parts.dispatch ≡ spans_in spans parts.world parts.dispatch
     pub kept_same : kept_in kept new parts.dispatch ≡ kept_in kept parts.world parts.dispatch
     pub sites_same : new.sites ≡ parts.world.sites
-    pub recorded_is : seen views.recorded no_recording new parts.dispatch ≡ done_by at o (started_by at ss (seen views.recorded no_recording parts.world parts.dispatch))
-    pub filter_is : seen views.filtered None new parts.dispatch ≡ option_map (λ f. fold hears f heard) (seen views.filtered None parts.world parts.dispatch)
+    pub recorded_is : member_of views.recorded no_recording new parts.dispatch ≡ done_by at o (started_by at ss (member_of views.recorded no_recording parts.world parts.dispatch))
+    pub filter_is : member_of views.filtered None new parts.dispatch ≡ option_map (λ f. fold after_filter_hook f heard) (member_of views.filtered None parts.world parts.dispatch)
     pub cached_same : new.cached ≡ parts.world.cached
-    pub aside_is : Adds (aside_in views parts.world parts.dispatch) (aside_in views new parts.dispatch) added
+    pub aside_is : AddsMeasures (aside_in views parts.world parts.dispatch) (aside_in views new parts.dispatch) added
     pub count : length new.subscribers ≡ length parts.world.subscribers
     pub whole : Has is_whole parts.world parts.dispatch → Has is_whole new parts.dispatch
 
   -- the ops alone
-  abbrev pub Does : ℕ → List Done → List Heard → Type 0
+  abbrev pub Does : ℕ → List SpanOp → List FilterHook → Type 0
   Does at o heard = Starts at [] o heard []
 
   -- none, where nothing changed
@@ -135,8 +135,8 @@ module _ {S : Type 0} (spans : S → Spans) (views : Views S) (attaches : S → 
     spans_same = ap (λ (w : Worlds S). spans_in spans w parts.dispatch) same;
     kept_same = ap (λ (w : Worlds S). kept_in kept w parts.dispatch) same;
     sites_same = ap (λ (w : Worlds S). w.sites) same;
-    recorded_is = ap (λ (w : Worlds S). seen views.recorded no_recording w parts.dispatch) same;
-    filter_is = ap (λ (w : Worlds S). seen views.filtered None w parts.dispatch) same ∙ heard_none (seen views.filtered None parts.world parts.dispatch);
+    recorded_is = ap (λ (w : Worlds S). member_of views.recorded no_recording w parts.dispatch) same;
+    filter_is = ap (λ (w : Worlds S). member_of views.filtered None w parts.dispatch) same ∙ heard_none (member_of views.filtered None parts.world parts.dispatch);
     cached_same = ap (λ (w : Worlds S). w.cached) same;
     aside_is = adds_same views parts.world new parts.dispatch same;
     count = ap (λ (w : Worlds S). length w.subscribers) same;
@@ -147,7 +147,7 @@ module _ {S : Type 0} (spans : S → Spans) (views : Views S) (attaches : S → 
   now = state_of spans views parts
 
   abbrev r : Recording
-  r = seen views.recorded no_recording parts.world parts.dispatch
+  r = member_of views.recorded no_recording parts.world parts.dispatch
 
   module _ (at lane : ℕ) where
     abbrev then_parts : Parts S
@@ -157,22 +157,22 @@ module _ {S : Type 0} (spans : S → Spans) (views : Views S) (attaches : S → 
     then = state_of spans views then_parts
 
     -- the effect of some starts and ops, of which the filter hears, and of measures
-    abbrev pub measures_then : List ℕ → List Done → List Heard → List Measure → Reply → Effect
+    abbrev pub measures_then : List ℕ → List SpanOp → List FilterHook → List Measure → Reply → Effect
     measures_then ss o heard added answer = record (tells_heard at (id_at now.setup.ids lane) answer o heard) { starts = ss; measures = added }
 
-    abbrev pub starts_then : List ℕ → List Done → List Heard → Reply → Effect
+    abbrev pub starts_then : List ℕ → List SpanOp → List FilterHook → Reply → Effect
     starts_then ss o heard answer = measures_then ss o heard [] answer
 
-    pub serves_measures : (t : Tables) → StandsFor now t → (ss : List ℕ) (o : List Done) (heard : List Heard) (added : List Measure) (known : AreKnown (length t.made) heard (length t.made)) (answer : Reply) (resolved : Resolved) → Starts at ss o heard added → resolved ≡ Ok (measures_then ss o heard added answer) → Served resolved t now then answer
+    pub serves_measures : (t : Tables) → StandsFor now t → (ss : List ℕ) (o : List SpanOp) (heard : List FilterHook) (added : List Measure) (known : AreKnown (length t.spans) heard (length t.spans)) (answer : Reply) (resolved : Resolved) → Starts at ss o heard added → resolved ≡ Ok (measures_then ss o heard added answer) → Served resolved t now then answer
     serves_measures t stands ss o heard added known answer resolved did is =
         let fits = stands.fits in
         let ids = now.setup.ids in
         let step = did.spans_same in
         let e : Effect = measures_then ss o heard added answer in
-        let tokens = recorded_tokens (length t.made) e r in
-        let rec_is : seen views.recorded no_recording new parts.dispatch ≡ record (recorded_by (length t.made) e r) { tokens = r.tokens } = did.recorded_is ∙ ap (λ (ts : List Token). record (recorded_by (length t.made) e r) { tokens = ts }) tokens in
-        let settings = ap (λ (x : Recording). x.settings) rec_is ∙ recorded_settings (length t.made) e r in
-        let setup : then.setup ≡ now.setup = ap (λ x. record now.setup { sites = x; layer = (seen views.recorded no_recording new parts.dispatch).settings }) did.sites_same ∙ ap (λ x. record now.setup { layer = x }) settings in
+        let tokens = recorded_tokens (length t.spans) e r in
+        let rec_is : member_of views.recorded no_recording new parts.dispatch ≡ record (recorded_by (length t.spans) e r) { tokens = r.tokens } = did.recorded_is ∙ ap (λ (ts : List Token). record (recorded_by (length t.spans) e r) { tokens = ts }) tokens in
+        let settings = ap (λ (x : Recording). x.settings) rec_is ∙ recorded_settings (length t.spans) e r in
+        let setup : then.setup ≡ now.setup = ap (λ x. record now.setup { sites = x; layer = (member_of views.recorded no_recording new parts.dispatch).settings }) did.sites_same ∙ ap (λ x. record now.setup { layer = x }) settings in
         serve now then t e resolved answer stands is refl setup r.tokens rec_is
         (fits_step now t fits then e (record {
           setup_is = setup;
@@ -184,7 +184,7 @@ module _ {S : Type 0} (spans : S → Spans) (views : Views S) (attaches : S → 
           named_are = refl;
           moment_is = refl;
           balanced = subst (λ (x : Spans). Balanced x (map named_by t.handles) (map (opened_by ids) t.guards) t.entries) (sym step) fits.balanced;
-          made_fit = subst (λ (x : Spans). MadeFit x.made t.made) (sym step) fits.made;
+          made_fit = subst (λ (x : Spans). MadeFit x.made t.spans) (sym step) fits.made;
           new_made = tt;
           new_site = tt;
           new_scope = λ l e. absurd (cc e);
@@ -195,32 +195,32 @@ module _ {S : Type 0} (spans : S → Spans) (views : Views S) (attaches : S → 
         }))
         (λ s some. known_still now then t e r.tokens rec_is stands.recording s refl (subst (λ (x : Spans). 0 < (span_at x.made s).holds) step some))
         (all_same now then t.contexts setup refl refl (ap (λ (x : Recording). x.tokens) rec_is) stands.recording.attached)
-        (record { quiet = refl; before = seen views.filtered None parts.world parts.dispatch; later = seen views.filtered None new parts.dispatch; shown_before = refl; shown_later = refl; told = did.filter_is; known = known; cached = did.cached_same; aside = record { before = aside_in views parts.world parts.dispatch; later = aside_in views new parts.dispatch; shown_before = refl; shown_later = refl; waits_before = refl; waits_later = refl; adds = did.aside_is } })
+        (record { quiet = refl; before = member_of views.filtered None parts.world parts.dispatch; later = member_of views.filtered None new parts.dispatch; shown_before = refl; shown_later = refl; told = did.filter_is; known = known; cached = did.cached_same; aside = record { before = aside_in views parts.world parts.dispatch; later = aside_in views new parts.dispatch; shown_before = refl; shown_later = refl; waits_before = refl; waits_later = refl; adds = did.aside_is } })
 
-    pub keeps_measures : (inv : IsKept spans views kept is_whole parts) (ss : List ℕ) (o : List Done) (heard : List Heard) (added : List Measure) (known : AreKnown (length inv.tables.made) heard (length inv.tables.made)) (answer : Reply) (resolved : Resolved) → Starts at ss o heard added → resolved ≡ Ok (measures_then ss o heard added answer) → IsKept spans views kept is_whole then_parts
+    pub keeps_measures : (inv : IsKept spans views kept is_whole parts) (ss : List ℕ) (o : List SpanOp) (heard : List FilterHook) (added : List Measure) (known : AreKnown (length inv.tables.spans) heard (length inv.tables.spans)) (answer : Reply) (resolved : Resolved) → Starts at ss o heard added → resolved ≡ Ok (measures_then ss o heard added answer) → IsKept spans views kept is_whole then_parts
     keeps_measures inv ss o heard added known answer resolved did is =
         kept_served spans views kept is_whole parts then_parts inv resolved answer (serves_measures inv.tables inv.stands ss o heard added known answer resolved did is) refl did.count did.whole
-        (subst (λ (f : ℕ → ℕ → ℕ). LanesFit f (map laned parts.lanes)) (sym did.kept_same) inv.lanes)
+        (subst (λ (f : ℕ → ℕ → ℕ). LanesFit f (map lane_value parts.lanes)) (sym did.kept_same) inv.lanes)
 
     -- the same without measures
-    pub serves_starts : (t : Tables) → StandsFor now t → (ss : List ℕ) (o : List Done) (heard : List Heard) (known : AreKnown (length t.made) heard (length t.made)) (answer : Reply) (resolved : Resolved) → Starts at ss o heard [] → resolved ≡ Ok (starts_then ss o heard answer) → Served resolved t now then answer
+    pub serves_starts : (t : Tables) → StandsFor now t → (ss : List ℕ) (o : List SpanOp) (heard : List FilterHook) (known : AreKnown (length t.spans) heard (length t.spans)) (answer : Reply) (resolved : Resolved) → Starts at ss o heard [] → resolved ≡ Ok (starts_then ss o heard answer) → Served resolved t now then answer
     serves_starts t stands ss o heard known answer resolved did is = serves_measures t stands ss o heard [] known answer resolved did is
 
-    pub keeps_starts : (inv : IsKept spans views kept is_whole parts) (ss : List ℕ) (o : List Done) (heard : List Heard) (known : AreKnown (length inv.tables.made) heard (length inv.tables.made)) (answer : Reply) (resolved : Resolved) → Starts at ss o heard [] → resolved ≡ Ok (starts_then ss o heard answer) → IsKept spans views kept is_whole then_parts
+    pub keeps_starts : (inv : IsKept spans views kept is_whole parts) (ss : List ℕ) (o : List SpanOp) (heard : List FilterHook) (known : AreKnown (length inv.tables.spans) heard (length inv.tables.spans)) (answer : Reply) (resolved : Resolved) → Starts at ss o heard [] → resolved ≡ Ok (starts_then ss o heard answer) → IsKept spans views kept is_whole then_parts
     keeps_starts inv ss o heard known answer resolved did is = keeps_measures inv ss o heard [] known answer resolved did is
 
     -- the same of ops alone
-    pub serves_ops : (t : Tables) → StandsFor now t → (o : List Done) (heard : List Heard) (known : AreKnown (length t.made) heard (length t.made)) (answer : Reply) (resolved : Resolved) → Does at o heard → resolved ≡ Ok (tells_heard at (id_at now.setup.ids lane) answer o heard) → Served resolved t now then answer
+    pub serves_ops : (t : Tables) → StandsFor now t → (o : List SpanOp) (heard : List FilterHook) (known : AreKnown (length t.spans) heard (length t.spans)) (answer : Reply) (resolved : Resolved) → Does at o heard → resolved ≡ Ok (tells_heard at (id_at now.setup.ids lane) answer o heard) → Served resolved t now then answer
     serves_ops t stands o heard known answer resolved did is = serves_starts t stands [] o heard known answer resolved did is
 
-    pub keeps_ops : (inv : IsKept spans views kept is_whole parts) (o : List Done) (heard : List Heard) (known : AreKnown (length inv.tables.made) heard (length inv.tables.made)) (answer : Reply) (resolved : Resolved) → Does at o heard → resolved ≡ Ok (tells_heard at (id_at now.setup.ids lane) answer o heard) → IsKept spans views kept is_whole then_parts
+    pub keeps_ops : (inv : IsKept spans views kept is_whole parts) (o : List SpanOp) (heard : List FilterHook) (known : AreKnown (length inv.tables.spans) heard (length inv.tables.spans)) (answer : Reply) (resolved : Resolved) → Does at o heard → resolved ≡ Ok (tells_heard at (id_at now.setup.ids lane) answer o heard) → IsKept spans views kept is_whole then_parts
     keeps_ops inv o heard known answer resolved did is = keeps_starts inv [] o heard known answer resolved did is
 
   module _ (does : S → SubscriberCall → S → Type 0) (law : CallsLaw spans views attaches kept is_whole does)
       (at lane : ℕ) where
     module _ (under : Place) (p : Parent) (found : place_for (map held_by parts.handles) under ≡ Some p) (found_site site : ℕ) (sited_is : found_site ≡ site) (evented : is_some (event_site parts.world.sites site) ≡ true)
         (fields : Fields) (values : ValueSet) (given : Callsite) (given_is : slice_get parts.world.sites found_site ≡ Some given) (valued : all_values given fields ≡ Some values)
-        (before : Lane) (within : lane < length parts.lanes) (here : before ≡ get_or parts.lanes lane before) (enabled : Bool) (gate : LetsThrough (seen views.filtered None parts.world parts.dispatch) parts.world.sites before.id found_site enabled) (did : TellsOnly does enabled parts.world new before at p found_site values parts.dispatch) (decides : Decides) where
+        (before : Lane) (within : lane < length parts.lanes) (here : before ≡ get_or parts.lanes lane before) (enabled : Bool) (gate : LetsThrough (member_of views.filtered None parts.world parts.dispatch) parts.world.sites before.id found_site enabled) (did : TellsOnly does enabled parts.world new before at p found_site values parts.dispatch) (decides : Decides) where
       its_site : (callsite : Callsite) × (event_site parts.world.sites site ≡ Some callsite)
       its_site = found_site_is (event_site parts.world.sites site) evented
 
@@ -228,28 +228,28 @@ module _ {S : Type 0} (spans : S → Spans) (views : Views S) (attaches : S → 
       same_site c is = the_callsite c its_site.0 (sym is ∙ ap (λ (k : ℕ). slice_get parts.world.sites k) sited_is ∙ site_is parts.world.sites site its_site.0 its_site.1)
 
       -- the ops that it is, on the own span of the scope that it reaches, and its measures
-      abbrev ops_of : Bool → Scope → List Done
-      ops_of b reached = if_told b (ops_on reached (counted_ops parts.opening.counting its_site.0 (event_of its_site.0 values r.settings at)))
+      abbrev ops_of : Bool → Scope → List SpanOp
+      ops_of b reached = if_enabled b (ops_on reached (counted_ops parts.opening.counting its_site.0 (event_of its_site.0 values r.settings at)))
 
       abbrev measures_of : Bool → List Measure
-      measures_of b = if_told b (measures its_site.0 values)
+      measures_of b = if_enabled b (measures its_site.0 values)
 
-      does_told : (t : Tables) → StandsFor now t → (b : Bool) → TellsOnly does b parts.world new before at p found_site values parts.dispatch → (reached : Scope) → place_on (entries_on before.id (spans_in spans parts.world parts.dispatch).lanes) p ≡ own reached
+      does_told : (t : Tables) → StandsFor now t → (b : Bool) → TellsOnly does b parts.world new before at p found_site values parts.dispatch → (reached : Scope) → place_on (entries_on before.id (spans_in spans parts.world parts.dispatch).lanes) p ≡ own_span reached
           → Starts at [] (ops_of b reached) [] (measures_of b)
       does_told t stands true told reached reaches =
           let rec = r in
           let shown = law.shown parts.world new parts.dispatch _ told.told in
-          let counter = seen views.counter None parts.world parts.dispatch in
+          let counter = member_of views.counter None parts.world parts.dispatch in
           let recalled = law.recalled parts.world new parts.dispatch _ told.told in
           record {
             spans_same = shown.spans_after;
             kept_same = shown.lanes;
             sites_same = ap (λ (w : Worlds S). w.sites) told.told.others;
             recorded_is = recalled.0 ∙ ap (λ (o : Option ℕ). with_event_by counter o before.id at told.callsite values rec) reaches
-                ∙ ap (λ (c : Callsite). with_event_by counter (own reached) before.id at c values rec) (same_site told.callsite told.is)
+                ∙ ap (λ (c : Callsite). with_event_by counter (own_span reached) before.id at c values rec) (same_site told.callsite told.is)
                 ∙ told_is decides (map (λ (l : Lane). l.id) parts.lanes) parts.opening.counting counter stands.filtering.counter stands.filtering.new reached before.id lane (id_seen parts.lanes lane before within here) (let l = length-map parts.lanes (λ (x : Lane). x.id) in omega (arith, within, l)) at its_site.0 (event_kind parts.world.sites site its_site.0 its_site.1) values rec;
             filter_is = recalled.1;
-            aside_is = subst (λ (c : Callsite). Adds (aside_in views parts.world parts.dispatch) (aside_in views new parts.dispatch) (measures c values)) (same_site told.callsite told.is) recalled.2;
+            aside_is = subst (λ (c : Callsite). AddsMeasures (aside_in views parts.world parts.dispatch) (aside_in views new parts.dispatch) (measures c values)) (same_site told.callsite told.is) recalled.2;
             cached_same = ap (λ (w : Worlds S). w.cached) told.told.others;
             count = shown.count;
             whole = shown.whole;
@@ -257,7 +257,7 @@ module _ {S : Type 0} (spans : S → Spans) (views : Views S) (attaches : S → 
       does_told t stands false same reached reaches = does_none at same
 
       record Told (t : Tables) : Type 0 where
-        ops : List Done
+        ops : List SpanOp
         added : List Measure
         done : Starts at [] ops [] added
         is : effect_of_call now.setup t at lane (call.Event site under fields) ≡ Ok (measures_then at lane [] ops [] added (reply.Enabled enabled))

@@ -12,7 +12,7 @@ use Rattle.trace_base.specs.Field.{place_of, named_field}
 use Rattle.trace_base.specs.Gate.{Worlds}
 use Rattle.trace_base.specs.Spans.{Spans}
 use Rattle.trace_base.specs.Calls.{SubscriberCall}
-use Rattle.span_handles.specs.Worlds.{seen}
+use Rattle.span_handles.specs.Worlds.{member_of}
 use Rattle.span_handles.specs.Handles.{Handle, Held, IsSite, RecordsAt, RecordsOn, callsite_in, field_at, field_in, place_under}
 use Rattle.span_script.specs.declared.reply.Reply.TheVariants as reply
 use Rattle.span_script.specs.declared.reply.Refusal.TheVariants as refusal
@@ -21,11 +21,11 @@ use Rattle.span_script.specs.declared.request.Call.TheVariants as call
 use Rattle.span_script.specs.declared.request.Place.{Place}
 use Rattle.span_script.specs.Setups.{id_at, span_site, event_site}
 use Rattle.span_script.specs.Tables.{Scope, Tables, slot_at, site_of}
-use Rattle.span_script.specs.Fields.{Fields, placed, declares, declared_by, all_values, values_of, values_by}
+use Rattle.span_script.specs.Fields.{Fields, declared_value, declares, declared_by, all_values, values_of, values_by}
 use Rattle.span_script.specs.calls.Here.{here_at, ◌>>=◌, need, ops_effect}
 use Rattle.span_script.specs.Effects.{effect_of_call}
 use Rattle.span_script.specs.calls.Events.{event_effect}
-use Rattle.span_script.specs.calls.Fields.{update_ops, heard_values, record_effect, callsite_of}
+use Rattle.span_script.specs.calls.Fields.{update_ops, hooks_of_values, record_effect, callsite_of}
 use Rattle.span_script.specs.calls.Spans.{scope_at, new_effect}
 use Rattle.span_script.specs.Slots.{place_for}
 use Rattle.span_script.specs.Fits.{Views, State, state_of, Fits, StandsFor, IsScope, IsKept, Served, held_by, held_of, Parts}
@@ -93,29 +93,29 @@ module _ (k : State) (t : Tables) (fits : Fits k t) (at lane site found_site : �
 
 -- values are fewer than the fields exactly where one of these isn't declared
 module _ (c : Callsite) where
-  at_most : (fields : Fields) → length (filter_map (placed c) fields) ≤ length fields
+  at_most : (fields : Fields) → length (filter_map (declared_value c) fields) ≤ length fields
   at_most [] = omega arith
   at_most (f ∷ fs) = by_place (place_of f.0 c) (at_most fs)
     where
-      by_place : (o : Option ℕ) → length (filter_map (placed c) fs) ≤ length fs → length (cons_option (option_map (λ (place : ℕ). (place, f.1)) o) (filter_map (placed c) fs)) ≤ suc (length fs)
+      by_place : (o : Option ℕ) → length (filter_map (declared_value c) fs) ≤ length fs → length (cons_option (option_map (λ (place : ℕ). (place, f.1)) o) (filter_map (declared_value c) fs)) ≤ suc (length fs)
       by_place None most = omega (arith, most)
       by_place (Some place) most = omega (arith, most)
 
-  all_declared : (fields : Fields) → (length (filter_map (placed c) fields) < length fields → ⊥) → list_all (λ field. declares c field.0) fields ≡ true
+  all_declared : (fields : Fields) → (length (filter_map (declared_value c) fields) < length fields → ⊥) → list_all (λ field. declares c field.0) fields ≡ true
   all_declared [] many = refl
   all_declared (f ∷ fs) many = by_place (place_of f.0 c) (at_most fs) (all_declared fs) many
     where
-      by_place : (o : Option ℕ) → length (filter_map (placed c) fs) ≤ length fs → ((length (filter_map (placed c) fs) < length fs → ⊥) → list_all (λ field. declares c field.0) fs ≡ true)
-          → (length (cons_option (option_map (λ (place : ℕ). (place, f.1)) o) (filter_map (placed c) fs)) < suc (length fs) → ⊥) → (is_some o && list_all (λ field. declares c field.0) fs) ≡ true
+      by_place : (o : Option ℕ) → length (filter_map (declared_value c) fs) ≤ length fs → ((length (filter_map (declared_value c) fs) < length fs → ⊥) → list_all (λ field. declares c field.0) fs ≡ true)
+          → (length (cons_option (option_map (λ (place : ℕ). (place, f.1)) o) (filter_map (declared_value c) fs)) < suc (length fs) → ⊥) → (is_some o && list_all (λ field. declares c field.0) fs) ≡ true
       by_place None most rest many = absurd (many (omega (arith, most)))
       by_place (Some place) most rest many = rest (λ fewer. many (omega (arith, fewer)))
 
-  not_declared : (fields : Fields) → length (filter_map (placed c) fields) < length fields → list_all (λ field. declares c field.0) fields ≡ false
+  not_declared : (fields : Fields) → length (filter_map (declared_value c) fields) < length fields → list_all (λ field. declares c field.0) fields ≡ false
   not_declared [] fewer = absurd (omega (arith, fewer))
   not_declared (f ∷ fs) fewer = by_place (place_of f.0 c) (not_declared fs) fewer
     where
-      by_place : (o : Option ℕ) → (length (filter_map (placed c) fs) < length fs → list_all (λ field. declares c field.0) fs ≡ false)
-          → length (cons_option (option_map (λ (place : ℕ). (place, f.1)) o) (filter_map (placed c) fs)) < suc (length fs) → (is_some o && list_all (λ field. declares c field.0) fs) ≡ false
+      by_place : (o : Option ℕ) → (length (filter_map (declared_value c) fs) < length fs → list_all (λ field. declares c field.0) fs ≡ false)
+          → length (cons_option (option_map (λ (place : ℕ). (place, f.1)) o) (filter_map (declared_value c) fs)) < suc (length fs) → (is_some o && list_all (λ field. declares c field.0) fs) ≡ false
       by_place None rest fewer = refl
       by_place (Some place) rest fewer = rest (omega (arith, fewer))
 
@@ -161,7 +161,7 @@ module _ {S : Type 0} (spans : S → Spans) (views : Views S) (attaches : S → 
     pub needs_site : IsKept spans views kept is_whole parts → IsSite parts.world h.site
     needs_site inv = by_scope (its_scope inv.tables inv.stands.fits).at (inv.stands.fits.scopes handle (its_scope inv.tables inv.stands.fits).at (its_scope inv.tables inv.stands.fits).there) h.site (site_found now inv.tables inv.stands.fits parts.handles refl handle h found (its_scope inv.tables inv.stands.fits).at (its_scope inv.tables inv.stands.fits).there)
       where
-        by_scope : (line : Scope) → IsScope inv.tables.made line → (site : Option ℕ) → site ≡ site_of inv.tables.made line → IsSite parts.world site
+        by_scope : (line : Scope) → IsScope inv.tables.spans line → (site : Option ℕ) → site ≡ site_of inv.tables.spans line → IsSite parts.world site
         by_scope [] is site e = subst (IsSite parts.world) (sym e) tt
         by_scope (s ∷ up) is site e = subst (IsSite parts.world) (sym e) (inv.stands.fits.sited s is.0)
 
@@ -190,9 +190,9 @@ module _ {S : Type 0} (spans : S → Spans) (views : Views S) (attaches : S → 
       module _ (does : S → SubscriberCall → S → Type 0) (law : CallsLaw spans views attaches kept is_whole does)
           (fields : Fields) (values : ValueSet) (is : values ≡ values_by (callsite_in parts.world h.site) fields) (did : RecordsOn does parts.world new at values h) where
         abbrev r : Recording
-        r = seen views.recorded no_recording parts.world parts.dispatch
+        r = member_of views.recorded no_recording parts.world parts.dispatch
 
-        does_update : (line : Scope) (o : Option Callsite) → RecordsAt does parts.world new at (values_by o fields) (held_of parts.dispatch line) o → Does spans views attaches kept is_whole parts new at (update_ops r.settings line fields o) (heard_values line fields o)
+        does_update : (line : Scope) (o : Option Callsite) → RecordsAt does parts.world new at (values_by o fields) (held_of parts.dispatch line) o → Does spans views attaches kept is_whole parts new at (update_ops r.settings line fields o) (hooks_of_values line fields o)
         does_update [] None step = does_none spans views attaches kept is_whole parts new at step
         does_update [] (Some c) step = does_none spans views attaches kept is_whole parts new at step
         does_update (s ∷ up) None step = does_none spans views attaches kept is_whole parts new at step
@@ -210,7 +210,7 @@ module _ {S : Type 0} (spans : S → Spans) (views : Views S) (attaches : S → 
               whole = shown.whole;
             }
 
-        updated : (t : Tables) (fits : Fits now t) → Does spans views attaches kept is_whole parts new at (update_ops r.settings (its_scope t fits).at fields (callsite_of now.setup t (its_scope t fits).at)) (heard_values (its_scope t fits).at fields (callsite_of now.setup t (its_scope t fits).at))
+        updated : (t : Tables) (fits : Fits now t) → Does spans views attaches kept is_whole parts new at (update_ops r.settings (its_scope t fits).at fields (callsite_of now.setup t (its_scope t fits).at)) (hooks_of_values (its_scope t fits).at fields (callsite_of now.setup t (its_scope t fits).at))
         updated t fits =
             let line = its_scope t fits in
             let mine = callsite_same parts.world h.site ∙ its_callsite t fits in
@@ -219,7 +219,7 @@ module _ {S : Type 0} (spans : S → Spans) (views : Views S) (attaches : S → 
             (subst (λ (held : Held). RecordsAt does parts.world new at (values_by (callsite_in parts.world h.site) fields) held (callsite_in parts.world h.site)) line.is
             (subst (λ (v : ValueSet). RecordsAt does parts.world new at v h.held (callsite_in parts.world h.site)) is did)))
 
-        values_known : (line : Scope) (o : Option Callsite) (n : ℕ) → AreKnown n (heard_values line fields o) n
+        values_known : (line : Scope) (o : Option Callsite) (n : ℕ) → AreKnown n (hooks_of_values line fields o) n
         values_known line None n = refl
         values_known [] (Some c) n = refl
         values_known (s ∷ up) (Some c) n = (tt, refl)
@@ -228,7 +228,7 @@ module _ {S : Type 0} (spans : S → Spans) (views : Views S) (attaches : S → 
         its_update t fits = ap (λ o. need what.Handle o >>= (λ scope. Ok (record_effect (here_at now.setup t at lane) scope fields))) (its_scope t fits).there
 
         pub serves_recorded : (t : Tables) → StandsFor now t → Served (effect_of_call now.setup t at lane (call.Record handle fields)) t now then reply.Done
-        serves_recorded t stands = serves_ops spans views attaches kept is_whole parts new at lane t stands _ _ (values_known (its_scope t stands.fits).at (callsite_of now.setup t (its_scope t stands.fits).at) (length t.made)) reply.Done _ (updated t stands.fits) (its_update t stands.fits)
+        serves_recorded t stands = serves_ops spans views attaches kept is_whole parts new at lane t stands _ _ (values_known (its_scope t stands.fits).at (callsite_of now.setup t (its_scope t stands.fits).at) (length t.spans)) reply.Done _ (updated t stands.fits) (its_update t stands.fits)
 
         pub keeps_recorded : IsKept spans views kept is_whole parts → IsKept spans views kept is_whole then_parts
-        keeps_recorded inv = keeps_ops spans views attaches kept is_whole parts new at lane inv _ _ (values_known (its_scope inv.tables inv.stands.fits).at (callsite_of now.setup inv.tables (its_scope inv.tables inv.stands.fits).at) (length inv.tables.made)) reply.Done _ (updated inv.tables inv.stands.fits) (its_update inv.tables inv.stands.fits)
+        keeps_recorded inv = keeps_ops spans views attaches kept is_whole parts new at lane inv _ _ (values_known (its_scope inv.tables inv.stands.fits).at (callsite_of now.setup inv.tables (its_scope inv.tables inv.stands.fits).at) (length inv.tables.spans)) reply.Done _ (updated inv.tables inv.stands.fits) (its_update inv.tables inv.stands.fits)

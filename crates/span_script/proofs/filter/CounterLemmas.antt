@@ -2,24 +2,24 @@
 use Rattle.std.proofs.Common.{◌≡◌, ℕ, List, [], ◌++◌, None, option_map, sym, ap, ◌∙◌}
 use Rattle.std.proofs.lemmas.List.{append-nil}
 use Rattle.trace_base.specs.Gate.{Worlds}
-use Rattle.span_handles.specs.Worlds.{seen}
+use Rattle.span_handles.specs.Worlds.{member_of}
 use Rattle.otel_metrics.specs.declared.measure.Measure.{Measure}
 use Rattle.span_stack.specs.Reading.{StackWorlds, counter_in, measures_in}
 use Rattle.span_script.specs.Fits.{Views, shown_of, stack_views, State}
-use Rattle.span_script.specs.SubscriberLaws.{Adds, Aside, aside_in}
+use Rattle.span_script.specs.SubscriberLaws.{AddsMeasures, Aside, aside_in}
 
-pub adds_none : (before later : Aside) → later.0 ≡ before.0 → later.1 ≡ before.1 → Adds before later []
+pub adds_none : (before later : Aside) → later.0 ≡ before.0 → later.1 ≡ before.1 → AddsMeasures before later []
 adds_none before later counter measures = record { counter = counter; measures = measures ∙ sym (append-nil before.1) }
 
-pub adds_nothing : (before later : Aside) → Adds before later [] → (later.0 ≡ before.0) × (later.1 ≡ before.1)
+pub adds_nothing : (before later : Aside) → AddsMeasures before later [] → (later.0 ≡ before.0) × (later.1 ≡ before.1)
 adds_nothing before later adds = (adds.counter, adds.measures ∙ append-nil before.1)
 
 -- where a world didn't change
-pub adds_same : {S : Type 0} (views : Views S) (old new : Worlds S) (dispatch : ℕ) → new ≡ old → Adds (aside_in views old dispatch) (aside_in views new dispatch) []
-adds_same views old new dispatch same = adds_none (aside_in views old dispatch) (aside_in views new dispatch) (ap (λ (w : Worlds _). seen views.counter None w dispatch) same) (ap (λ (w : Worlds _). seen views.measured [] w dispatch) same)
+pub adds_same : {S : Type 0} (views : Views S) (old new : Worlds S) (dispatch : ℕ) → new ≡ old → AddsMeasures (aside_in views old dispatch) (aside_in views new dispatch) []
+adds_same views old new dispatch same = adds_none (aside_in views old dispatch) (aside_in views new dispatch) (ap (λ (w : Worlds _). member_of views.counter None w dispatch) same) (ap (λ (w : Worlds _). member_of views.measured [] w dispatch) same)
 
 -- the same of stacks
-pub stack_same : (old new : StackWorlds) (dispatch : ℕ) → counter_in new dispatch ≡ counter_in old dispatch → measures_in new dispatch ≡ measures_in old dispatch → Adds (aside_in stack_views old dispatch) (aside_in stack_views new dispatch) []
+pub stack_same : (old new : StackWorlds) (dispatch : ℕ) → counter_in new dispatch ≡ counter_in old dispatch → measures_in new dispatch ≡ measures_in old dispatch → AddsMeasures (aside_in stack_views old dispatch) (aside_in stack_views new dispatch) []
 stack_same old new dispatch counter measures = adds_none (aside_in stack_views old dispatch) (aside_in stack_views new dispatch) counter measures
 
 -- what is seen of that in what is kept
@@ -30,7 +30,7 @@ pub record AddsTo (k next : State) (added : List Measure) : Type 0 where
   pub shown_later : next.counter ≡ option_map (shown_of 0 next.setup.ids) later.0
   pub waits_before : k.measures ≡ before.1
   pub waits_later : next.measures ≡ later.1
-  pub adds : Adds before later added
+  pub adds : AddsMeasures before later added
 
 pub measured : (k next : State) (added : List Measure) → AddsTo k next added → next.measures ≡ k.measures ++ added
 measured k next added a = a.waits_later ∙ a.adds.measures ∙ ap (λ (ms : List Measure). ms ++ added) (sym a.waits_before)

@@ -6,12 +6,12 @@ use Rattle.trace_base.specs.declared.callsite.Callsite.{Callsite}
 use Rattle.trace_base.specs.declared.lane.Lane.{Lane}
 use Rattle.trace_base.specs.Gate.{IsFresh}
 use Rattle.trace_base.specs.Spans.{Spans}
-use Rattle.env_filter.specs.Filtering.{Filtered, is_admitted, interest_in}
+use Rattle.env_filter.specs.Filtering.{FilterState, is_admitted, interest_in}
 use Rattle.trace_base.specs.declared.subscriber.Interest.{Interest}
-use Rattle.span_handles.specs.Worlds.{seen}
+use Rattle.span_handles.specs.Worlds.{member_of}
 use Rattle.span_script.specs.Setups.{id_at}
 use Rattle.span_script.specs.Tables.{Tables}
-use Rattle.span_script.specs.calls.Filter.{filter_at, admitted}
+use Rattle.span_script.specs.calls.Filter.{filter_at, admits_at}
 use Rattle.span_script.specs.Slots.{LetsThrough}
 use Rattle.span_script.specs.Fits.{Views, shown_of, State, state_of, StandsFor, FilteringFits, IsKept, Parts}
 use Rattle.span_script.proofs.filter.FilterLemmas.{InPlace, Agree, in_place_by, admits_alike, rows_of, rows_fresh}
@@ -22,32 +22,32 @@ module _ {S : Type 0} (spans : S → Spans) (views : Views S) (parts : Parts S) 
   now = state_of spans views parts
 
   -- the filter that is in place
-  pub placed : (t : Tables) → length now.spans.made ≡ length t.made → FilteringFits now t → InPlace (length t.made) now.setup.ids (seen views.filtered None parts.world parts.dispatch) (filter_at now.setup t)
-  placed t count fits = in_place_by (length t.made) now.setup.ids (seen views.filtered None parts.world parts.dispatch) (filter_at now.setup t)
-      (ap (λ (n : ℕ). option_map (shown_of n now.setup.ids) (seen views.filtered None parts.world parts.dispatch)) (sym count) ∙ fits.in_place)
+  pub placed : (t : Tables) → length now.spans.made ≡ length t.spans → FilteringFits now t → InPlace (length t.spans) now.setup.ids (member_of views.filtered None parts.world parts.dispatch) (filter_at now.setup t)
+  placed t count fits = in_place_by (length t.spans) now.setup.ids (member_of views.filtered None parts.world parts.dispatch) (filter_at now.setup t)
+      (ap (λ (n : ℕ). option_map (shown_of n now.setup.ids) (member_of views.filtered None parts.world parts.dispatch)) (sym count) ∙ fits.in_place)
 
-  rows_alike : (n : ℕ) (ids : List ℕ) (f g : Filtered) → Agree n ids f g → (sites : List Callsite) → rows_of g sites ≡ rows_of f sites
+  rows_alike : (n : ℕ) (ids : List ℕ) (f g : FilterState) → Agree n ids f g → (sites : List Callsite) → rows_of g sites ≡ rows_of f sites
   rows_alike n ids f g a [] = refl
   rows_alike n ids f g a (c ∷ sites) = (let one : interest_in f c ≡ interest_in g c = rw (a.statics, a.dynamics) refl in
       ap (λ (i : Interest). (i ∷ []) ∷ rows_of g sites) (sym one) ∙ ap (λ (rows : List (List Interest)). (interest_in f c ∷ []) ∷ rows) (rows_alike n ids f g a sites))
 
   -- the cache is that of the filter in place
-  pub is_current : (kept : S → ℕ → ℕ → ℕ) (is_whole : S → Type 0) (interest : S → Callsite → Interest) → ((s : S) (f : Filtered) (c : Callsite) → views.filtered s ≡ Some f → interest s c ≡ interest_in f c)
+  pub is_current : (kept : S → ℕ → ℕ → ℕ) (is_whole : S → Type 0) (interest : S → Callsite → Interest) → ((s : S) (f : FilterState) (c : Callsite) → views.filtered s ≡ Some f → interest s c ≡ interest_in f c)
       → IsKept spans views kept is_whole parts → IsFresh interest parts.world
   is_current kept is_whole interest shown inv =
       let place = placed inv.tables inv.stands.fits.made.count inv.stands.filtering in
       rows_fresh views interest shown parts.world parts.dispatch place.filter inv.alone inv.there place.is
-      (inv.stands.filtering.fresh ∙ rows_alike (length inv.tables.made) now.setup.ids place.filter (filter_at now.setup inv.tables) place.agree parts.world.sites)
+      (inv.stands.filtering.fresh ∙ rows_alike (length inv.tables.spans) now.setup.ids place.filter (filter_at now.setup inv.tables) place.agree parts.world.sites)
 
   -- one is
-  pub is_placed : (kept : S → ℕ → ℕ → ℕ) (is_whole : S → Type 0) → IsKept spans views kept is_whole parts → is_some (seen views.filtered None parts.world parts.dispatch) ≡ true
+  pub is_placed : (kept : S → ℕ → ℕ → ℕ) (is_whole : S → Type 0) → IsKept spans views kept is_whole parts → is_some (member_of views.filtered None parts.world parts.dispatch) ≡ true
   is_placed kept is_whole inv = ap is_some (placed inv.tables inv.stands.fits.made.count inv.stands.filtering).is
 
   pub answered : (lane : ℕ) (before : Lane) → lane < length parts.lanes → before ≡ get_or parts.lanes lane before → (site : ℕ) (callsite : Callsite) → slice_get parts.world.sites site ≡ Some callsite
-      → (enabled : Bool) → LetsThrough (seen views.filtered None parts.world parts.dispatch) parts.world.sites before.id site enabled → (t : Tables) → StandsFor now t → admitted now.setup t (id_at now.setup.ids lane) callsite ≡ enabled
+      → (enabled : Bool) → LetsThrough (member_of views.filtered None parts.world parts.dispatch) parts.world.sites before.id site enabled → (t : Tables) → StandsFor now t → admits_at now.setup t (id_at now.setup.ids lane) callsite ≡ enabled
   answered lane before within here site callsite is enabled gate t stands =
       let ids = now.setup.ids in
       let force = filter_at now.setup t in
       let place = placed t stands.fits.made.count stands.filtering in
       let inside : lane < length ids = (let l = length-map parts.lanes (λ (x : Lane). x.id) in omega (arith, within, l)) in
-      sym (admits_alike (length t.made) ids place.filter force lane callsite place.agree inside) ∙ ap (λ (l : ℕ). is_admitted place.filter l callsite) (sym (id_seen parts.lanes lane before within here)) ∙ sym (gate place.filter callsite place.is is)
+      sym (admits_alike (length t.spans) ids place.filter force lane callsite place.agree inside) ∙ ap (λ (l : ℕ). is_admitted place.filter l callsite) (sym (id_seen parts.lanes lane before within here)) ∙ sym (gate place.filter callsite place.is is)

@@ -7,21 +7,21 @@ use Rattle.trace_base.specs.declared.subscriber.Interest.{Interest}
 use Rattle.trace_base.specs.Gate.{Worlds, IsFresh}
 use Rattle.trace_base.specs.Spans.{Spans, span_at}
 use Rattle.trace_base.specs.Sound.{OneEach}
-use Rattle.env_filter.specs.Filtering.{Filtered, interest_in}
+use Rattle.env_filter.specs.Filtering.{FilterState, interest_in}
 use Rattle.otel_layer.specs.Recording.{Recording, no_recording}
-use Rattle.span_handles.specs.Worlds.{Alike, seen, spans_in}
+use Rattle.span_handles.specs.Worlds.{Alike, member_of, spans_in}
 use Rattle.span_script.specs.declared.reply.Reply.TheVariants as reply
 use Rattle.span_script.specs.declared.reply.What.TheVariants as what
 use Rattle.span_script.specs.declared.request.Call.TheVariants as call
 use Rattle.span_script.specs.Admission.{text_filter, filter_if, IsTextFilter}
 use Rattle.span_script.specs.Setups.{id_at}
-use Rattle.span_script.specs.Tables.{Effect, Tables, after, quiet}
+use Rattle.span_script.specs.Tables.{Effect, Tables, after_effect, quiet_effect}
 use Rattle.span_script.specs.calls.Here.{here_at, ◌>>=◌, need}
 use Rattle.span_script.specs.Effects.{effect_of_call}
 use Rattle.span_script.specs.calls.Filter.{enabled_effect, reload_effect, reload_by}
 use Rattle.span_script.specs.Balance.{Balanced, named_by, opened_by}
 use Rattle.span_script.specs.Slots.{LetsThrough}
-use Rattle.span_script.specs.Fits.{Views, shown_of, State, state_of, laned, StandsFor, FilteringFits, MadeFit, LanesFit, IsKept, Served, Parts}
+use Rattle.span_script.specs.Fits.{Views, shown_of, State, state_of, lane_value, StandsFor, FilteringFits, MadeFit, LanesFit, IsKept, Served, Parts}
 use Rattle.span_script.proofs.filter.CounterLemmas.{adds_nothing}
 use Rattle.span_script.proofs.filter.FilterLemmas.{cached_rows, rows_of}
 use Rattle.span_script.proofs.filter.GateLemmas.{answered}
@@ -30,7 +30,7 @@ use Rattle.span_script.proofs.runs.RefusalsLemmas.{within_get}
 use Rattle.span_script.proofs.steps.ServesLemmas.{serve_with, known_still, all_same, kept_served}
 use Rattle.span_script.proofs.steps.StepLemmas.{fits_step}
 use Rattle.span_script.proofs.events.EventsLemmas.{does_none, serves_ops, keeps_ops}
-use Rattle.span_script.specs.SubscriberLaws.{Adds, aside_in}
+use Rattle.span_script.specs.SubscriberLaws.{AddsMeasures, aside_in}
 
 module _ {S : Type 0} (spans : S → Spans) (views : Views S) (attaches : S → Bool) (kept : S → ℕ → ℕ → ℕ) (is_whole : S → Type 0) (parts : Parts S) (at lane : ℕ) where
   abbrev now : State
@@ -38,14 +38,14 @@ module _ {S : Type 0} (spans : S → Spans) (views : Views S) (attaches : S → 
 
   -- the gate is asked
   module _ (before : Lane) (within : lane < length parts.lanes) (here : before ≡ get_or parts.lanes lane before) (found_site site : ℕ) (sited_is : found_site ≡ site) (there : site < length parts.world.sites)
-      (enabled : Bool) (gate : LetsThrough (seen views.filtered None parts.world parts.dispatch) parts.world.sites before.id found_site enabled) where
+      (enabled : Bool) (gate : LetsThrough (member_of views.filtered None parts.world parts.dispatch) parts.world.sites before.id found_site enabled) where
     its_site : (c : Callsite) × (slice_get parts.world.sites site ≡ Some c)
     its_site = within_get parts.world.sites site there
 
-    its_answer : (t : Tables) → StandsFor now t → effect_of_call now.setup t at lane (call.Enabled site) ≡ Ok (quiet at (id_at now.setup.ids lane) (reply.Enabled enabled))
+    its_answer : (t : Tables) → StandsFor now t → effect_of_call now.setup t at lane (call.Enabled site) ≡ Ok (quiet_effect at (id_at now.setup.ids lane) (reply.Enabled enabled))
     its_answer t stands =
         ap (λ o. need what.Site o >>= (λ c. Ok (enabled_effect (here_at now.setup t at lane) c))) its_site.1
-        ∙ ap (λ (b : Bool). Ok (quiet at (id_at now.setup.ids lane) (reply.Enabled b))) (answered spans views parts lane before within here found_site its_site.0 (ap (λ (n : ℕ). slice_get parts.world.sites n) sited_is ∙ its_site.1) enabled gate t stands)
+        ∙ ap (λ (b : Bool). Ok (quiet_effect at (id_at now.setup.ids lane) (reply.Enabled b))) (answered spans views parts lane before within here found_site its_site.0 (ap (λ (n : ℕ). slice_get parts.world.sites n) sited_is ∙ its_site.1) enabled gate t stands)
 
     pub serves_enabled : (t : Tables) → StandsFor now t → Served (effect_of_call now.setup t at lane (call.Enabled site)) t now (state_of spans views (record parts { moment = at })) (reply.Enabled enabled)
     serves_enabled t stands = serves_ops spans views attaches kept is_whole parts parts.world at lane t stands [] [] refl (reply.Enabled enabled) _ (does_none spans views attaches kept is_whole parts parts.world at refl) (its_answer t stands)
@@ -55,8 +55,8 @@ module _ {S : Type 0} (spans : S → Spans) (views : Views S) (attaches : S → 
         (its_answer inv.tables inv.stands)
 
   -- a filter of another text
-  module _ (new : Worlds S) (alike : Alike spans attaches kept is_whole parts.world new parts.dispatch) (sites : new.sites ≡ parts.world.sites) (records : seen views.recorded no_recording new parts.dispatch ≡ seen views.recorded no_recording parts.world parts.dispatch)
-      (aside : Adds (aside_in views parts.world parts.dispatch) (aside_in views new parts.dispatch) []) where
+  module _ (new : Worlds S) (alike : Alike spans attaches kept is_whole parts.world new parts.dispatch) (sites : new.sites ≡ parts.world.sites) (records : member_of views.recorded no_recording new parts.dispatch ≡ member_of views.recorded no_recording parts.world parts.dispatch)
+      (aside : AddsMeasures (aside_in views parts.world parts.dispatch) (aside_in views new parts.dispatch) []) where
     abbrev then_parts : Parts S
     then_parts = record parts { world = new; moment = at }
 
@@ -64,18 +64,18 @@ module _ {S : Type 0} (spans : S → Spans) (views : Views S) (attaches : S → 
     then = state_of spans views then_parts
 
     abbrev r : Recording
-    r = seen views.recorded no_recording parts.world parts.dispatch
+    r = member_of views.recorded no_recording parts.world parts.dispatch
 
     -- after want of memory
-    module _ (filters : seen views.filtered None new parts.dispatch ≡ seen views.filtered None parts.world parts.dispatch) (cached : new.cached ≡ parts.world.cached) where
+    module _ (filters : member_of views.filtered None new parts.dispatch ≡ member_of views.filtered None parts.world parts.dispatch) (cached : new.cached ≡ parts.world.cached) where
       pub state_left : state_of spans views (record parts { world = new }) ≡ now
       state_left = (let still = adds_nothing (aside_in views parts.world parts.dispatch) (aside_in views new parts.dispatch) aside in rw (alike.spans_same, sites, records, filters, cached, still.0, still.1) refl)
 
       pub kept_left : IsKept spans views kept is_whole parts → IsKept spans views kept is_whole (record parts { world = new })
       kept_left inv = kept_alike spans views attaches kept is_whole parts (record parts { world = new }) inv state_left alike
 
-    module _ (text given : List ℕ) (given_is : given ≡ text) (f : Filtered) (read_given : IsTextFilter given f) (filters : seen views.filtered None new parts.dispatch ≡ Some f)
-        (interest : S → Callsite → Interest) (shown : (s : S) (f : Filtered) (c : Callsite) → views.filtered s ≡ Some f → interest s c ≡ interest_in f c) (fresh : IsFresh interest new) (inv : IsKept spans views kept is_whole parts) where
+    module _ (text given : List ℕ) (given_is : given ≡ text) (f : FilterState) (read_given : IsTextFilter given f) (filters : member_of views.filtered None new parts.dispatch ≡ Some f)
+        (interest : S → Callsite → Interest) (shown : (s : S) (f : FilterState) (c : Callsite) → views.filtered s ≡ Some f → interest s c ≡ interest_in f c) (fresh : IsFresh interest new) (inv : IsKept spans views kept is_whole parts) where
       read : IsTextFilter text f
       read = subst (λ (x : List ℕ). IsTextFilter x f) given_is read_given
 
@@ -85,12 +85,12 @@ module _ {S : Type 0} (spans : S → Spans) (views : Views S) (attaches : S → 
       setup : then.setup ≡ now.setup
       setup = rw (sites, records) refl
 
-      filter_is : (t : Tables) → length (spans_in spans new parts.dispatch).made ≡ length t.made → FilteringFits then (after t (reload_effect (here_at now.setup t at lane) text))
+      filter_is : (t : Tables) → length (spans_in spans new parts.dispatch).made ≡ length t.spans → FilteringFits then (after_effect t (reload_effect (here_at now.setup t at lane) text))
       filter_is t count = record {
         counter = ap (option_map (shown_of 0 then.setup.ids)) aside.counter ∙ inv.stands.filtering.counter;
         new = inv.stands.filtering.new;
-        in_place = ap (option_map (shown_of (length (spans_in spans new parts.dispatch).made) then.setup.ids)) filters ∙ ap (λ (n : ℕ). Some (shown_of n then.setup.ids f)) count ∙ ap (λ (x : Filtered). Some (shown_of (length t.made) then.setup.ids x)) (sym force_is);
-        fresh = cached_rows views interest shown new parts.dispatch f (alike.count ∙ inv.alone) (let c = alike.count in let b = inv.there in omega (arith, c, b)) filters fresh ∙ ap (λ (x : Filtered). rows_of x new.sites) (sym force_is);
+        in_place = ap (option_map (shown_of (length (spans_in spans new parts.dispatch).made) then.setup.ids)) filters ∙ ap (λ (n : ℕ). Some (shown_of n then.setup.ids f)) count ∙ ap (λ (x : FilterState). Some (shown_of (length t.spans) then.setup.ids x)) (sym force_is);
+        fresh = cached_rows views interest shown new parts.dispatch f (alike.count ∙ inv.alone) (let c = alike.count in let b = inv.there in omega (arith, c, b)) filters fresh ∙ ap (λ (x : FilterState). rows_of x new.sites) (sym force_is);
       }
 
       pub serves_reloaded : (t : Tables) → StandsFor now t → Served (effect_of_call now.setup t at lane (call.Reload text)) t now then reply.Done
@@ -110,7 +110,7 @@ module _ {S : Type 0} (spans : S → Spans) (views : Views S) (attaches : S → 
             named_are = refl;
             moment_is = refl;
             balanced = subst (λ (x : Spans). Balanced x (map named_by t.handles) (map (opened_by ids) t.guards) t.entries) (sym step) fits.balanced;
-            made_fit = subst (λ (x : Spans). MadeFit x.made t.made) (sym step) fits.made;
+            made_fit = subst (λ (x : Spans). MadeFit x.made t.spans) (sym step) fits.made;
             new_made = tt;
             new_site = tt;
             new_scope = λ l e. absurd (cc e);
@@ -125,4 +125,4 @@ module _ {S : Type 0} (spans : S → Spans) (views : Views S) (attaches : S → 
 
       pub keeps_reloaded : IsKept spans views kept is_whole then_parts
       keeps_reloaded = kept_served spans views kept is_whole parts then_parts inv _ _ (serves_reloaded inv.tables inv.stands) refl alike.count alike.whole
-          (subst (λ (f : ℕ → ℕ → ℕ). LanesFit f (map laned parts.lanes)) (sym alike.kept_same) inv.lanes)
+          (subst (λ (f : ℕ → ℕ → ℕ). LanesFit f (map lane_value parts.lanes)) (sym alike.kept_same) inv.lanes)

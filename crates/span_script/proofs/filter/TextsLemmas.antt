@@ -13,26 +13,26 @@ use Rattle.env_directives.proofs.forms.FaultsLemmas.{Explained}
 use Rattle.env_directives.proofs.forms.GrammarLemmas.{directive_reads, level_told, field_told}
 use Rattle.env_directives.proofs.forms.ReadingsLemmas.{reading_explained}
 use Rattle.env_filter.specs.declared.pieces.Ignored.{Ignored}
-use Rattle.env_filter.specs.texts.Building.{Building, default_builder, filter_by, IsFilterOf, IsRefusedAt}
-use Rattle.env_filter.specs.Filtering.{Filtered, IsNew}
-use Rattle.env_filter.specs.texts.Pieces.{is_memory, Reads, ReadsAll, ReadsText, IsFirstFault}
-use Rattle.span_script.specs.Admission.{TextRead, with_read, with_piece, pieces_read, text_read, filter_if, OpeningRead, judged, first_fault, counting_read, opening_read, IsTextFilter, IsCounter, IsUnread, unread_by}
+use Rattle.env_filter.specs.texts.Building.{BuilderValue, default_builder, filter_by, IsFilterOf, HasFilterFaultAt}
+use Rattle.env_filter.specs.Filtering.{FilterState, IsNewFilter}
+use Rattle.env_filter.specs.texts.Pieces.{is_memory, ReadsPiece, ReadsAll, ReadsText, IsFirstFault}
+use Rattle.span_script.specs.Admission.{TextRead, with_piece_read, with_piece, pieces_read, text_read, filter_if, OpeningRead, fault_in, first_fault, counting_read, opening_read, IsTextFilter, IsCounter, IsUnread, unread_by}
 use Rattle.span_script.specs.declared.open_error.OpenError.{OpenError}
 use Rattle.span_script.specs.declared.open_error.OpenError.TheVariants as errors
 
 -- a piece that is a directive, before those behind it
-one_read : (n : ℕ) (piece : List ℕ) (ds : List Directive) → Reads false n piece ds [] → (later : List Directive) (rest : TextRead) → rest ≡ Ok later → with_piece n piece rest ≡ Ok (ds ++ later)
+one_read : (n : ℕ) (piece : List ℕ) (ds : List Directive) → ReadsPiece false n piece ds [] → (later : List Directive) (rest : TextRead) → rest ≡ Ok later → with_piece n piece rest ≡ Ok (ds ++ later)
 one_read n [] [] r later rest e = e
 one_read n [] (d ∷ ds) r later rest e = absurd r
 one_read n (b ∷ bs) [] r later rest e = absurd r
-one_read n (b ∷ bs) (d ∷ []) r later rest e = ap (λ (x : Read). with_read n x rest) (directive_reads false (trim (b ∷ bs)) d r) ∙ ap (λ (x : TextRead). with_read n (Ok d) x) e
+one_read n (b ∷ bs) (d ∷ []) r later rest e = ap (λ (x : Read). with_piece_read n x rest) (directive_reads false (trim (b ∷ bs)) d r) ∙ ap (λ (x : TextRead). with_piece_read n (Ok d) x) e
 one_read n (b ∷ bs) (d ∷ c ∷ ds) r later rest e = absurd r
 
-one_passed : (n : ℕ) (piece : List ℕ) (ds : List Directive) → Reads false n piece ds [] → (k : ℕ) (rest : TextRead) → rest ≡ Err k → with_piece n piece rest ≡ Err k
+one_passed : (n : ℕ) (piece : List ℕ) (ds : List Directive) → ReadsPiece false n piece ds [] → (k : ℕ) (rest : TextRead) → rest ≡ Err k → with_piece n piece rest ≡ Err k
 one_passed n [] [] r k rest e = e
 one_passed n [] (d ∷ ds) r k rest e = absurd r
 one_passed n (b ∷ bs) [] r k rest e = absurd r
-one_passed n (b ∷ bs) (d ∷ []) r k rest e = ap (λ (x : Read). with_read n x rest) (directive_reads false (trim (b ∷ bs)) d r) ∙ ap (λ (x : TextRead). with_read n (Ok d) x) e
+one_passed n (b ∷ bs) (d ∷ []) r k rest e = ap (λ (x : Read). with_piece_read n x rest) (directive_reads false (trim (b ∷ bs)) d r) ∙ ap (λ (x : TextRead). with_piece_read n (Ok d) x) e
 one_passed n (b ∷ bs) (d ∷ c ∷ ds) r k rest e = absurd r
 
 -- a text with a fault isn't read
@@ -48,14 +48,14 @@ unread text fault.Memory h other d e is = true≢false other
 is_read : (text : List ℕ) (d : Directive) → reading false text ≡ Ok d → IsDirective false text d
 is_read text d e = subst (λ (r : Read). Explained (IsDirective false text) (HasNoLevel text) (HasEmptyField text) r) e (reading_explained false text)
 
-one_faulty : (n : ℕ) (text : List ℕ) (cause : ParseError) → HasFault false text cause → is_memory cause ≡ false → (rest : TextRead) → with_read n (reading false text) rest ≡ Err n
+one_faulty : (n : ℕ) (text : List ℕ) (cause : ParseError) → HasFault false text cause → is_memory cause ≡ false → (rest : TextRead) → with_piece_read n (reading false text) rest ≡ Err n
 one_faulty n text cause h other rest = by_read (reading false text) refl
   where
-    by_read : (r : Read) → reading false text ≡ r → with_read n r rest ≡ Err n
+    by_read : (r : Read) → reading false text ≡ r → with_piece_read n r rest ≡ Err n
     by_read (Err e) is = refl
     by_read (Ok d) is = absurd (unread text cause h other d is (is_read text d is))
 
-one_refused : (n : ℕ) (piece : List ℕ) (ds : List Directive) (i : Ignored) (is : List Ignored) → Reads false n piece ds (i ∷ is) → (rest : TextRead) → with_piece n piece rest ≡ Err i.piece
+one_refused : (n : ℕ) (piece : List ℕ) (ds : List Directive) (i : Ignored) (is : List Ignored) → ReadsPiece false n piece ds (i ∷ is) → (rest : TextRead) → with_piece n piece rest ≡ Err i.piece
 one_refused n [] [] i is r rest = absurd r
 one_refused n [] (d ∷ ds) i is r rest = absurd r
 one_refused n (b ∷ bs) [] i [] r rest = one_faulty n (trim (b ∷ bs)) i.fault r.fault r.no_memory rest ∙ ap Err (sym r.numbered)
@@ -68,7 +68,7 @@ pub all_read : (n : ℕ) (pieces : List (List ℕ)) (ds : List Directive) → Re
 all_read n [] ds r = ap Ok (sym r.0)
 all_read n (piece ∷ pieces) ds r = by_ignored (λ behind. all_read (n + 1) pieces r.later behind) r.ignored r.later_ignored r.all_ignored r.reads r.behind
   where
-    by_ignored : (ReadsAll false (n + 1) pieces r.later [] → pieces_read (n + 1) pieces ≡ Ok r.later) → (is js : List Ignored) → [] ≡ is ++ js → Reads false n piece r.directives is → ReadsAll false (n + 1) pieces r.later js → with_piece n piece (pieces_read (n + 1) pieces) ≡ Ok ds
+    by_ignored : (ReadsAll false (n + 1) pieces r.later [] → pieces_read (n + 1) pieces ≡ Ok r.later) → (is js : List Ignored) → [] ≡ is ++ js → ReadsPiece false n piece r.directives is → ReadsAll false (n + 1) pieces r.later js → with_piece n piece (pieces_read (n + 1) pieces) ≡ Ok ds
     by_ignored later [] [] e one behind = one_read n piece r.directives one r.later _ (later behind) ∙ ap Ok (sym r.all)
     by_ignored later [] (j ∷ js) e one behind = absurd (cc e)
     by_ignored later (i ∷ is) js e one behind = absurd (cc e)
@@ -80,24 +80,24 @@ pub all_refused : (n : ℕ) (pieces : List (List ℕ)) (ds : List Directive) (fi
 all_refused n [] ds first others r = absurd (let no = r.1 in cc no)
 all_refused n (piece ∷ pieces) ds first others r = by_ignored (λ behind. all_refused (n + 1) pieces r.later first others behind) r.ignored r.later_ignored r.all_ignored r.reads r.behind
   where
-    by_ignored : (ReadsAll false (n + 1) pieces r.later (first ∷ others) → pieces_read (n + 1) pieces ≡ Err first.piece) → (is js : List Ignored) → first ∷ others ≡ is ++ js → Reads false n piece r.directives is → ReadsAll false (n + 1) pieces r.later js → with_piece n piece (pieces_read (n + 1) pieces) ≡ Err first.piece
+    by_ignored : (ReadsAll false (n + 1) pieces r.later (first ∷ others) → pieces_read (n + 1) pieces ≡ Err first.piece) → (is js : List Ignored) → first ∷ others ≡ is ++ js → ReadsPiece false n piece r.directives is → ReadsAll false (n + 1) pieces r.later js → with_piece n piece (pieces_read (n + 1) pieces) ≡ Err first.piece
     by_ignored later [] js e one behind = one_passed n piece r.directives one first.piece _ (later (subst (ReadsAll false (n + 1) pieces r.later) (sym e) behind))
     by_ignored later (i ∷ is) js e one behind = one_refused n piece r.directives i is one _ ∙ ap (λ (x : Ignored). Err x.piece) (sym (first_of first i others (is ++ js) e))
 
 -- the filter of a text, and the piece at which it isn't read
-pub read_filter_is : (d b : Building) (text : List ℕ) (f : Filtered) → d ≡ default_builder → b ≡ record d { patterns = false } → IsFilterOf b text [] f → IsTextFilter text f
+pub read_filter_is : (d b : BuilderValue) (text : List ℕ) (f : FilterState) → d ≡ default_builder → b ≡ record d { patterns = false } → IsFilterOf b text [] f → IsTextFilter text f
 read_filter_is d b text f begun set is =
-    let off : b ≡ record default_builder { patterns = false } = set ∙ ap (λ (x : Building). record x { patterns = false }) begun in
-    let reads : ReadsText false text is.directives [] = subst (λ (x : Building). ReadsText x.patterns text is.directives []) off is.reads in
-    record { directives = is.directives; read = all_read 1 (comma_pieces text) is.directives reads; is = is.is ∙ ap (λ (x : Building). filter_by x is.directives) off }
+    let off : b ≡ record default_builder { patterns = false } = set ∙ ap (λ (x : BuilderValue). record x { patterns = false }) begun in
+    let reads : ReadsText false text is.directives [] = subst (λ (x : BuilderValue). ReadsText x.patterns text is.directives []) off is.reads in
+    record { directives = is.directives; read = all_read 1 (comma_pieces text) is.directives reads; is = is.is ∙ ap (λ (x : BuilderValue). filter_by x is.directives) off }
 
 at_first : (text : List ℕ) (number : ℕ) (cause : ParseError) → IsFirstFault false text number cause → text_read text ≡ Err number
 at_first text number cause first = all_refused 1 (comma_pieces text) first.directives first.first first.others first.reads ∙ ap Err (sym first.numbered)
 
-at_piece : (counting : Bool) (text : List ℕ) (number : ℕ) (cause : ParseError) → IsFirstFault false text number cause → judged counting (text_read text) ≡ Err (counting, number)
-at_piece counting text number cause first = ap (judged counting) (at_first text number cause first)
+at_piece : (counting : Bool) (text : List ℕ) (number : ℕ) (cause : ParseError) → IsFirstFault false text number cause → fault_in counting (text_read text) ≡ Err (counting, number)
+at_piece counting text number cause first = ap (fault_in counting) (at_first text number cause first)
 
-unread_with : (counting : Bool) (text : List ℕ) (number : ℕ) (cause : ParseError) → IsRefusedAt false text number cause → IsUnread (judged counting (text_read text)) (unread_by counting number cause)
+unread_with : (counting : Bool) (text : List ℕ) (number : ℕ) (cause : ParseError) → HasFilterFaultAt false text number cause → IsUnread (fault_in counting (text_read text)) (unread_by counting number cause)
 unread_with counting text number fault.Shape r = at_piece counting text number fault.Shape r
 unread_with counting text number fault.Level r = at_piece counting text number fault.Level r
 unread_with counting text number fault.Field r = at_piece counting text number fault.Field r
@@ -106,31 +106,31 @@ unread_with counting text number fault.Equals r = at_piece counting text number 
 unread_with counting text number (fault.Fields many) r = at_piece counting text number (fault.Fields many) r
 unread_with counting text number fault.Memory r = tt
 
-pub unread_is : (counting : Bool) (d b : Building) (text : List ℕ) (number : ℕ) (cause : ParseError) (error : OpenError) → b ≡ record d { patterns = false } → error ≡ unread_by counting number cause → IsRefusedAt b.patterns text number cause → IsUnread (judged counting (text_read text)) error
+pub unread_is : (counting : Bool) (d b : BuilderValue) (text : List ℕ) (number : ℕ) (cause : ParseError) (error : OpenError) → b ≡ record d { patterns = false } → error ≡ unread_by counting number cause → HasFilterFaultAt b.patterns text number cause → IsUnread (fault_in counting (text_read text)) error
 unread_is counting d b text number cause error set is refused =
-    subst (IsUnread (judged counting (text_read text))) (sym is) (unread_with counting text number cause (subst (λ (x : Building). IsRefusedAt x.patterns text number cause) set refused))
+    subst (IsUnread (fault_in counting (text_read text))) (sym is) (unread_with counting text number cause (subst (λ (x : BuilderValue). HasFilterFaultAt x.patterns text number cause) set refused))
 
 -- ---- both texts of an opening
 
-pub first_unread : (filter : List ℕ) (counting : Option (List ℕ)) (error : OpenError) → IsUnread (judged false (text_read filter)) error → IsUnread (opening_read filter counting) error
+pub first_unread : (filter : List ℕ) (counting : Option (List ℕ)) (error : OpenError) → IsUnread (fault_in false (text_read filter)) error → IsUnread (opening_read filter counting) error
 first_unread filter counting errors.Memory unread = tt
 first_unread filter counting (errors.Directive which piece) unread = ap (λ (r : OpeningRead). first_fault r (counting_read counting)) unread
 
-after_first : (filter : List ℕ) (counting : Option (List ℕ)) (f : Filtered) → IsTextFilter filter f → opening_read filter counting ≡ counting_read counting
-after_first filter counting f is = ap (λ (r : TextRead). first_fault (judged false r) (counting_read counting)) is.read
+after_first : (filter : List ℕ) (counting : Option (List ℕ)) (f : FilterState) → IsTextFilter filter f → opening_read filter counting ≡ counting_read counting
+after_first filter counting f is = ap (λ (r : TextRead). first_fault (fault_in false r) (counting_read counting)) is.read
 
-pub later_unread : (filter : List ℕ) (counting : Option (List ℕ)) (f : Filtered) (error : OpenError) → IsTextFilter filter f → IsUnread (counting_read counting) error → IsUnread (opening_read filter counting) error
+pub later_unread : (filter : List ℕ) (counting : Option (List ℕ)) (f : FilterState) (error : OpenError) → IsTextFilter filter f → IsUnread (counting_read counting) error → IsUnread (opening_read filter counting) error
 later_unread filter counting f error is unread = subst (λ (r : OpeningRead). IsUnread r error) (sym (after_first filter counting f is)) unread
 
-pub both_read : (filter : List ℕ) (counting : Option (List ℕ)) (f : Filtered) (counter : Option Filtered) → IsTextFilter filter f → IsCounter counting counter → opening_read filter counting ≡ Ok tt
+pub both_read : (filter : List ℕ) (counting : Option (List ℕ)) (f : FilterState) (counter : Option FilterState) → IsTextFilter filter f → IsCounter counting counter → opening_read filter counting ≡ Ok tt
 both_read filter counting f counter is counts = after_first filter counting f is ∙ counts.read
 
 -- ---- the text for counting
 
-pub counter_is : (text : List ℕ) (f : Filtered) → IsTextFilter text f → IsNew f → IsCounter (Some text) (Some f)
-counter_is text f is new = record { read = ap (judged true) is.read; is = ap Some (is.is ∙ sym (ap filter_if is.read)); new = new }
+pub counter_is : (text : List ℕ) (f : FilterState) → IsTextFilter text f → IsNewFilter f → IsCounter (Some text) (Some f)
+counter_is text f is new = record { read = ap (fault_in true) is.read; is = ap Some (is.is ∙ sym (ap filter_if is.read)); new = new }
 
 -- a text of one filter alone
-pub read_alone : (read : TextRead) (counting : Bool) (piece : ℕ) → judged false read ≡ Err (counting, piece) → read ≡ Err piece
+pub read_alone : (read : TextRead) (counting : Bool) (piece : ℕ) → fault_in false read ≡ Err (counting, piece) → read ≡ Err piece
 read_alone (Ok ds) counting piece e = absurd (cc e)
 read_alone (Err number) counting piece e = ap Err (let pairs : (false, number) ≡ (counting, piece) = cc e in ap (λ (p : Bool × ℕ). p.1) pairs)

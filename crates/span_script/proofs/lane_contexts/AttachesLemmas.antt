@@ -3,16 +3,16 @@ use Rattle.std.specs.Prelude.{◌==◌, Result}
 use Rattle.std.proofs.Common.{◌≡◌, ℕ, ◌<◌, List, [], ◌∷◌, ◌++◌, length, get_or, set, false, count_by, Option, Some, None, Ok, Err, option_map, map, refl, sym, ap, subst, ◌∙◌, arith, slice_get}
 use Rattle.std.proofs.lemmas.Bool.{ne_eqb, eq-eqb, cond-true, cond-false, true≢false}
 use Rattle.std.proofs.lemmas.List.{length-map, length_push, map_push}
-use Rattle.otel_base.specs.declared.stack.TheConstants.{MOST}
+use Rattle.otel_base.specs.declared.stack.TheConstants.{MAX_CONTEXTS}
 use Rattle.otel_base.specs.declared.context.Context.{Context}
 use Rattle.otel_base.specs.declared.enter_error.EnterError.{EnterError}
 use Rattle.otel_base.specs.declared.enter_error.EnterError.TheVariants as errors
-use Rattle.otel_base.specs.Stack.{has}
+use Rattle.otel_base.specs.Stack.{has_number}
 use Rattle.trace_base.specs.declared.lane.Lane.{Lane}
 use Rattle.trace_base.specs.Spans.{Spans}
 use Rattle.trace_base.proofs.Entering.{count_push}
 use Rattle.otel_layer.specs.Recording.{Recording, no_recording}
-use Rattle.span_handles.specs.Worlds.{seen, kept_in}
+use Rattle.span_handles.specs.Worlds.{member_of, kept_in}
 use Rattle.span_script.specs.declared.contexts.Attach.{Attach}
 use Rattle.span_script.specs.declared.slots.Guard.{Guard}
 use Rattle.span_script.specs.declared.reply.Refusal.TheVariants as refusal
@@ -22,13 +22,13 @@ use Rattle.span_script.specs.declared.reply.What.TheVariants as what
 use Rattle.span_script.specs.declared.request.Call.TheVariants as call
 use Rattle.span_script.specs.calls.Refusals.{refused_entry}
 use Rattle.span_script.specs.Setups.{id_at}
-use Rattle.span_script.specs.Tables.{GuardOf, Attached, Guarded, Effect, Tables, slot_at, with_attached}
+use Rattle.span_script.specs.Tables.{GuardOf, Attached, ScopeGuard, Effect, Tables, slot_at, with_attached}
 use Rattle.span_script.specs.calls.Here.{here_at, Resolved, refuse_if, ◌>>=◌, need}
 use Rattle.span_script.specs.Effects.{effect_of_call}
 use Rattle.span_script.specs.calls.Contexts.{attach_effect}
 use Rattle.span_script.specs.calls.Entries.{is_full}
-use Rattle.span_script.specs.Balance.{Balanced, Opened, named_by, opened_by}
-use Rattle.span_script.specs.Fits.{Views, Named, State, state_of, Laned, laned, lane_at, lane_of, StandsFor, AllContextsFit, IsKept, Served, is_room, LanesFit, Parts}
+use Rattle.span_script.specs.Balance.{Balanced, OpenGuard, named_by, opened_by}
+use Rattle.span_script.specs.Fits.{Views, ContextSlots, State, state_of, LaneValue, lane_value, lane_at, lane_of, StandsFor, AllContextsFit, IsKept, Served, is_for_memory, LanesFit, Parts}
 use Rattle.span_script.proofs.filter.CounterLemmas.{adds_same}
 use Rattle.span_script.proofs.steps.BalanceLemmas.{quiet_guard}
 use Rattle.span_script.proofs.steps.LanesLemmas.{lane_seen, lanes_same, same_lane, id_seen, ids_same, names_same, are_attached, lanes_after}
@@ -44,16 +44,16 @@ pub not_full : (number : ℕ) (P : Type 0) → (P → ◌≡◌ {A = Result ℕ 
 not_full number P full many = absurd (let no = full many in cc no)
 
 -- as many contexts are live on a lane as the history attached
-pub lives_there : (k : State) (t : Tables) → StandsFor k t → (lanes : List Lane) → k.lanes ≡ map laned lanes → (n : ℕ) (before : Lane) → n < length lanes → before ≡ get_or lanes n before → length before.contexts.live ≡ length (t.contexts before.id)
+pub lives_there : (k : State) (t : Tables) → StandsFor k t → (lanes : List Lane) → k.lanes ≡ map lane_value lanes → (n : ℕ) (before : Lane) → n < length lanes → before ≡ get_or lanes n before → length before.contexts.live ≡ length (t.contexts before.id)
 lives_there k t stands lanes are n before within here =
-    let seen_at : lane_at k.lanes n ≡ laned before = ap (λ (ls : List Laned). lane_at ls n) are ∙ lane_seen lanes n before within here in
-    let fit = stands.recording.attached n (let l = length-map lanes laned in let a = ap length are in omega (arith, within, l, a)) in
-    ap (λ (l : Laned). length l.live) (sym seen_at) ∙ sym (length-map (lane_at k.lanes n).live (λ (x : ℕ × Context). x.1)) ∙ ap length fit.contexts
-    ∙ length-map (t.contexts (lane_at k.lanes n).id) (λ (a : Attached). a.context) ∙ ap (λ (l : Laned). length (t.contexts l.id)) seen_at
+    let seen_at : lane_at k.lanes n ≡ lane_value before = ap (λ (ls : List LaneValue). lane_at ls n) are ∙ lane_seen lanes n before within here in
+    let fit = stands.recording.attached n (let l = length-map lanes lane_value in let a = ap length are in omega (arith, within, l, a)) in
+    ap (λ (l : LaneValue). length l.live) (sym seen_at) ∙ sym (length-map (lane_at k.lanes n).live (λ (x : ℕ × Context). x.1)) ∙ ap length fit.contexts
+    ∙ length-map (t.contexts (lane_at k.lanes n).id) (λ (a : Attached). a.context) ∙ ap (λ (l : LaneValue). length (t.contexts l.id)) seen_at
 
 module _ {S : Type 0} (spans : S → Spans) (views : Views S) (kept : S → ℕ → ℕ → ℕ) (is_whole : S → Type 0) (parts : Parts S)
     (at lane : ℕ) (before : Lane) (within : lane < length parts.lanes) (here : before ≡ get_or parts.lanes lane before)
-    (inv : IsKept spans views kept is_whole parts) (context : ℕ) (given : Context) (found : slice_get parts.contexts.made context ≡ Some given) where
+    (inv : IsKept spans views kept is_whole parts) (context : ℕ) (given : Context) (found : slice_get parts.contexts.contexts context ≡ Some given) where
   abbrev now : State
   now = state_of spans views parts
 
@@ -61,7 +61,7 @@ module _ {S : Type 0} (spans : S → Spans) (views : Views S) (kept : S → ℕ 
   place_id = id_at now.setup.ids lane
 
   abbrev r : Recording
-  r = seen views.recorded no_recording parts.world parts.dispatch
+  r = member_of views.recorded no_recording parts.world parts.dispatch
 
   id_is : before.id ≡ place_id
   id_is = id_seen parts.lanes lane before within here
@@ -69,8 +69,8 @@ module _ {S : Type 0} (spans : S → Spans) (views : Views S) (kept : S → ℕ 
   lives : (t : Tables) → StandsFor now t → length before.contexts.live ≡ length (t.contexts place_id)
   lives t stands = lives_there now t stands parts.lanes refl lane before within here ∙ ap (λ (n : ℕ). length (t.contexts n)) id_is
 
-  named_is : (t : Tables) → StandsFor now t → slice_get t.named context ≡ Some given
-  named_is t stands = ap (λ (xs : List Context). slice_get xs context) (sym stands.fits.named) ∙ found
+  named_is : (t : Tables) → StandsFor now t → slice_get t.named_contexts context ≡ Some given
+  named_is t stands = ap (λ (xs : List Context). slice_get xs context) (sym stands.fits.named_contexts) ∙ found
 
   -- after a refusal what is kept is as it was
   module _ (later : Lane) (same_id : later.id ≡ before.id) (same_name : later.name ≡ before.name) (live : later.contexts.live ≡ before.contexts.live) (gs' : List (Option Guard)) (guards_same : gs' ≡ parts.guards) (ks' : List (Option Attach)) (attaches_same : ks' ≡ parts.contexts.attaches) where
@@ -85,21 +85,21 @@ module _ {S : Type 0} (spans : S → Spans) (views : Views S) (kept : S → ℕ 
       there = inv.there;
       alone = inv.alone;
       whole = inv.whole;
-      lanes = subst (λ (ls : List Laned). LanesFit (kept_in kept parts.world parts.dispatch) ls) (sym (ap (λ (k : State). k.lanes) left_state)) inv.lanes;
+      lanes = subst (λ (ls : List LaneValue). LanesFit (kept_in kept parts.world parts.dispatch) ls) (sym (ap (λ (k : State). k.lanes) left_state)) inv.lanes;
       tables = inv.tables;
       stands = subst (λ (k : State). StandsFor k inv.tables) (sym left_state) inv.stands;
     }
 
   -- a lane with as many contexts as may be
-  pub refuses_attach : (error : EnterError) (refused : Refusal) → refused ≡ refused_entry lane error → (error ≡ errors.Full → length before.contexts.live ≡ MOST) → is_room refused ≡ false → (t : Tables) → StandsFor now t
+  pub refuses_attach : (error : EnterError) (refused : Refusal) → refused ≡ refused_entry lane error → (error ≡ errors.Full → length before.contexts.live ≡ MAX_CONTEXTS) → is_for_memory refused ≡ false → (t : Tables) → StandsFor now t
       → effect_of_call now.setup t at lane (call.Attach context) ≡ Err refused
-  refuses_attach errors.Memory refused is full other t stands = absurd (true≢false (sym (ap is_room is) ∙ other))
+  refuses_attach errors.Memory refused is full other t stands = absurd (true≢false (sym (ap is_for_memory is) ∙ other))
   refuses_attach errors.Full refused is full other t stands =
       ap (λ o. need what.Context o >>= (λ c. refuse_if (is_full (t.contexts place_id)) (refusal.Full lane) (Ok (attach_effect (here_at now.setup t at lane) c)))) (named_is t stands)
-      ∙ cond-true {A = Resolved} (is_full (t.contexts place_id)) _ _ (eq-eqb (length (t.contexts place_id)) MOST (sym (lives t stands) ∙ full refl)) ∙ ap (λ (x : Refusal). Err x) (sym is)
+      ∙ cond-true {A = Resolved} (is_full (t.contexts place_id)) _ _ (eq-eqb (length (t.contexts place_id)) MAX_CONTEXTS (sym (lives t stands) ∙ full refl)) ∙ ap (λ (x : Refusal). Err x) (sym is)
 
-  module _ (later : Lane) (same_id : later.id ≡ before.id) (same_name : later.name ≡ before.name) (number guard : ℕ) (many : guard ≡ length parts.guards) (fresh : has number before.contexts.live ≡ false) (live : later.contexts.live ≡ before.contexts.live ++ (number, given) ∷ [])
-      (room : length before.contexts.live ≡ MOST → ⊥) (gs' : List (Option Guard)) (skip : gs' ≡ parts.guards ++ None ∷ []) (cs' : Named) (made_same : cs'.made ≡ parts.contexts.made) (one : cs'.attaches ≡ parts.contexts.attaches ++ Some (record { lane = lane; attached = number }) ∷ []) where
+  module _ (later : Lane) (same_id : later.id ≡ before.id) (same_name : later.name ≡ before.name) (number guard : ℕ) (many : guard ≡ length parts.guards) (fresh : has_number number before.contexts.live ≡ false) (live : later.contexts.live ≡ before.contexts.live ++ (number, given) ∷ [])
+      (room : length before.contexts.live ≡ MAX_CONTEXTS → ⊥) (gs' : List (Option Guard)) (skip : gs' ≡ parts.guards ++ None ∷ []) (cs' : ContextSlots) (made_same : cs'.contexts ≡ parts.contexts.contexts) (one : cs'.attaches ≡ parts.contexts.attaches ++ Some (record { place = lane; attached = number }) ∷ []) where
     abbrev then_parts : Parts S
     then_parts = record parts { lanes = set parts.lanes lane later; guards = gs'; contexts = cs'; moment = at }
 
@@ -113,8 +113,8 @@ module _ {S : Type 0} (spans : S → Spans) (views : Views S) (kept : S → ℕ 
     all_fit t stands =
         let numbered : length parts.contexts.attaches ≡ length t.guards = sym (length-map parts.contexts.attaches (option_map lane_of)) ∙ ap length stands.fits.attach_slots ∙ stands.fits.paired in
         subst (λ (ks : List (Option Attach)). AllContextsFit r.settings.activation then.lanes r.tokens ks (with_attached t.contexts place_id (Some (record { owner = GuardOf (length t.guards); context = given })))) (sym one)
-        (subst (λ (l : ℕ). AllContextsFit r.settings.activation then.lanes r.tokens (parts.contexts.attaches ++ Some (record { lane = lane; attached = number }) ∷ []) (with_attached t.contexts l (Some (record { owner = GuardOf (length t.guards); context = given })))) id_is
-        (subst (λ (n : ℕ). AllContextsFit r.settings.activation then.lanes r.tokens (parts.contexts.attaches ++ Some (record { lane = lane; attached = number }) ∷ []) (with_attached t.contexts before.id (Some (record { owner = GuardOf n; context = given })))) numbered
+        (subst (λ (l : ℕ). AllContextsFit r.settings.activation then.lanes r.tokens (parts.contexts.attaches ++ Some (record { place = lane; attached = number }) ∷ []) (with_attached t.contexts l (Some (record { owner = GuardOf (length t.guards); context = given })))) id_is
+        (subst (λ (n : ℕ). AllContextsFit r.settings.activation then.lanes r.tokens (parts.contexts.attaches ++ Some (record { place = lane; attached = number }) ∷ []) (with_attached t.contexts before.id (Some (record { owner = GuardOf n; context = given })))) numbered
         (all_attached r.settings.activation parts.lanes lane before later within here same_id inv.lanes.differ r.tokens parts.contexts.attaches t.contexts stands.recording.attached number given fresh live)))
 
     pub serves_attached : (t : Tables) → StandsFor now t → Served (effect_of_call now.setup t at lane (call.Attach context)) t now then (reply.Guard guard)
@@ -122,7 +122,7 @@ module _ {S : Type 0} (spans : S → Spans) (views : Views S) (kept : S → ℕ 
         let fits = stands.fits in
         let ids = now.setup.ids in
         let e : Effect = attach_effect (here_at now.setup t at lane) given in
-        let free : is_full (t.contexts place_id) ≡ false = ne_eqb (length (t.contexts place_id)) MOST (λ e. room (lives t stands ∙ e)) in
+        let free : is_full (t.contexts place_id) ≡ false = ne_eqb (length (t.contexts place_id)) MAX_CONTEXTS (λ e. room (lives t stands ∙ e)) in
         serve now then t e _ (reply.Guard guard) stands
         (ap (λ o. need what.Context o >>= (λ c. refuse_if (is_full (t.contexts place_id)) (refusal.Full lane) (Ok (attach_effect (here_at now.setup t at lane) c)))) (named_is t stands) ∙ cond-false {A = Resolved} (is_full (t.contexts place_id)) _ _ free)
         (ap reply.Guard (many ∙ ap length fits.guard_slots ∙ length-map t.guards (option_map _))) setup_same r.tokens refl
@@ -132,22 +132,22 @@ module _ {S : Type 0} (spans : S → Spans) (views : Views S) (kept : S → ℕ 
           handles_are = refl;
           sites_are = refl;
           guards_are = skip;
-          attaches_are = ap (map (option_map lane_of)) one ∙ map_push (option_map lane_of) parts.contexts.attaches (Some (record { lane = lane; attached = number }));
+          attaches_are = ap (map (option_map lane_of)) one ∙ map_push (option_map lane_of) parts.contexts.attaches (Some (record { place = lane; attached = number }));
           named_are = made_same;
           moment_is = refl;
-          balanced = subst (λ (xs : List (Option Opened)). Balanced now.spans (map named_by t.handles) xs t.entries) (sym (map_push (opened_by ids) t.guards None)) (quiet_guard now.spans (map named_by t.handles) (map (opened_by ids) t.guards) t.entries fits.balanced);
+          balanced = subst (λ (xs : List (Option OpenGuard)). Balanced now.spans (map named_by t.handles) xs t.entries) (sym (map_push (opened_by ids) t.guards None)) (quiet_guard now.spans (map named_by t.handles) (map (opened_by ids) t.guards) t.entries fits.balanced);
           made_fit = fits.made;
           new_made = tt;
           new_site = tt;
           new_scope = λ l e. absurd (cc e);
-          still = named_push (λ (y : Guarded). slot_at t.handles y.handle ≡ Some y.scope) t.guards None fits.still (λ y e. absurd (cc e));
+          still = named_push (λ (y : ScopeGuard). slot_at t.handles y.handle ≡ Some y.scope) t.guards None fits.still (λ y e. absurd (cc e));
           few = fits.few;
           few_holds = λ s. (let f = fits.few_holds s in let l = length_push t.guards None in omega (arith, f, l));
           one = fits.one_lane;
         }))
         (λ s some. known_still now then t e r.tokens refl stands.recording s refl some)
         (all_fit t stands)
-        (record { quiet = refl; before = seen views.filtered None parts.world parts.dispatch; later = seen views.filtered None parts.world parts.dispatch; shown_before = refl; shown_later = refl; told = heard_none (seen views.filtered None parts.world parts.dispatch); known = refl; cached = refl; aside = record { before = aside_in views parts.world parts.dispatch; later = aside_in views parts.world parts.dispatch; shown_before = refl; shown_later = refl; waits_before = refl; waits_later = refl; adds = adds_same views parts.world parts.world parts.dispatch refl } })
+        (record { quiet = refl; before = member_of views.filtered None parts.world parts.dispatch; later = member_of views.filtered None parts.world parts.dispatch; shown_before = refl; shown_later = refl; told = heard_none (member_of views.filtered None parts.world parts.dispatch); known = refl; cached = refl; aside = record { before = aside_in views parts.world parts.dispatch; later = aside_in views parts.world parts.dispatch; shown_before = refl; shown_later = refl; waits_before = refl; waits_later = refl; adds = adds_same views parts.world parts.world parts.dispatch refl } })
 
     pub keeps_attached : IsKept spans views kept is_whole then_parts
     keeps_attached =

@@ -4,64 +4,64 @@ use Rattle.otel_base.specs.declared.context.Context.{Context}
 use Rattle.otel_base.specs.declared.context.SpanContext.{SpanContext}
 use Rattle.otel_base.specs.Ids.{ids_of}
 use Rattle.otel_base.specs.Stack.{empty_context}
-use Rattle.otel_state.specs.States.{Told}
+use Rattle.otel_state.specs.States.{SpanData}
 use Rattle.trace_base.specs.Gate.{Worlds}
 use Rattle.trace_base.specs.Spans.{Spans, span_at}
 use Rattle.trace_base.specs.Sound.{OneEach}
 use Rattle.otel_layer.specs.declared.tokens.Token.{Token}
-use Rattle.otel_layer.specs.Table.{told_at, own_or}
+use Rattle.otel_layer.specs.Table.{data_at, own_or}
 use Rattle.otel_layer.specs.Parts.{PartCall, Shows, context_at}
 use Rattle.otel_layer.specs.Asking.{AsksContext, ShowsOn, context_or_empty}
 use Rattle.otel_layer.specs.Recording.{Recording, no_recording, with_starts}
-use Rattle.span_handles.specs.Worlds.{Has, seen, spans_in, kept_in}
+use Rattle.span_handles.specs.Worlds.{Has, member_of, spans_in, kept_in}
 use Rattle.span_handles.specs.Handles.{Handle, Held}
 use Rattle.span_script.specs.declared.reply.Reply.TheVariants as reply
 use Rattle.span_script.specs.declared.reply.What.TheVariants as what
 use Rattle.span_script.specs.declared.request.Call.TheVariants as call
 use Rattle.span_script.specs.Setups.{id_at}
-use Rattle.span_script.specs.Tables.{Scope, Effect, Tables, recorded_by, slot_at, own, open_part}
+use Rattle.span_script.specs.Tables.{Scope, Effect, Tables, recorded_by, slot_at, own_span, open_part}
 use Rattle.span_script.specs.calls.Here.{here_at, Resolved, ◌>>=◌, need}
 use Rattle.span_script.specs.Effects.{effect_of_call}
 use Rattle.span_script.specs.calls.Contexts.{context_effect, own_context}
 use Rattle.span_script.specs.Balance.{Balanced, named_by, opened_by}
-use Rattle.span_script.specs.Fits.{Views, Named, State, state_of, laned, lane_of, held_by, held_of, StandsFor, MadeFit, LanesFit, IsKept, Served, Parts}
+use Rattle.span_script.specs.Fits.{Views, ContextSlots, State, state_of, lane_value, lane_of, held_by, held_of, StandsFor, MadeFit, LanesFit, IsKept, Served, Parts}
 use Rattle.span_script.proofs.filter.CounterLemmas.{adds_same}
 use Rattle.span_script.proofs.steps.SlotsLemmas.{find, held_slot}
 use Rattle.span_script.proofs.steps.StepLemmas.{fits_step}
 use Rattle.span_script.proofs.steps.RecordingLemmas.{recorded_settings, recorded_tokens, starts_fold, start_open}
 use Rattle.span_script.proofs.filter.FilterLemmas.{heard_none}
 use Rattle.span_script.proofs.steps.ServesLemmas.{serve, known_still, all_same, kept_served}
-use Rattle.span_script.specs.SubscriberLaws.{Adds, AsksLaw, aside_in}
+use Rattle.span_script.specs.SubscriberLaws.{AddsMeasures, AsksLaw, aside_in}
 
 -- the own context of a scope's span, by the open part of what was recorded
 pub own_open : (line : Scope) (at : ℕ) (r x : Recording) → open_part r ≡ x → own_context r at line ≡ own_context x at line
 own_open [] at r x is = refl
-own_open (s ∷ up) at r x is = ap (λ (spans : List (ℕ × Told)). own_or empty_context (told_at s spans)) (start_open s at r x is)
+own_open (s ∷ up) at r x is = ap (λ (spans : List (ℕ × SpanData)). own_or empty_context (data_at s spans)) (start_open s at r x is)
 
-shown_is : (o : Option Told) → context_or_empty (context_at o) ≡ own_or empty_context o
+shown_is : (o : Option SpanData) → context_or_empty (context_at o) ≡ own_or empty_context o
 shown_is None = refl
 shown_is (Some told) = refl
 
 module _ {S : Type 0} (spans : S → Spans) (views : Views S) (attaches : S → Bool) (kept : S → ℕ → ℕ → ℕ) (is_whole : S → Type 0) (parts : Parts S) (new : Worlds S)
-    (at lane number : ℕ) (many : number ≡ length parts.contexts.made)
+    (at lane number : ℕ) (many : number ≡ length parts.contexts.contexts)
     (inv : IsKept spans views kept is_whole parts) where
   abbrev now : State
   now = state_of spans views parts
 
-  abbrev parts_with : Named → Parts S
+  abbrev parts_with : ContextSlots → Parts S
   parts_with cs' = record parts { world = new; contexts = cs'; moment = at }
 
-  abbrev then_with : Named → State
+  abbrev then_with : ContextSlots → State
   then_with cs' = state_of spans views (parts_with cs')
 
   abbrev place_id : ℕ
   place_id = id_at now.setup.ids lane
 
   abbrev r : Recording
-  r = seen views.recorded no_recording parts.world parts.dispatch
+  r = member_of views.recorded no_recording parts.world parts.dispatch
 
   abbrev r' : Recording
-  r' = seen views.recorded no_recording new parts.dispatch
+  r' = member_of views.recorded no_recording new parts.dispatch
 
   -- what a start leaves
   record Starts (o : Option ℕ) : Type 0 where
@@ -71,35 +71,35 @@ module _ {S : Type 0} (spans : S → Spans) (views : Views S) (attaches : S → 
     kept_same : kept_in kept new parts.dispatch ≡ kept_in kept parts.world parts.dispatch
     count : length new.subscribers ≡ length parts.world.subscribers
     whole : Has is_whole parts.world parts.dispatch → Has is_whole new parts.dispatch
-    filter_same : seen views.filtered None new parts.dispatch ≡ seen views.filtered None parts.world parts.dispatch
+    filter_same : member_of views.filtered None new parts.dispatch ≡ member_of views.filtered None parts.world parts.dispatch
     cached_same : new.cached ≡ parts.world.cached
-    aside : Adds (aside_in views parts.world parts.dispatch) (aside_in views new parts.dispatch) []
+    aside : AddsMeasures (aside_in views parts.world parts.dispatch) (aside_in views new parts.dispatch) []
 
   unchanged : new ≡ parts.world → Starts None
   unchanged same = record {
     spans_same = ap (λ (w : Worlds S). spans_in spans w parts.dispatch) same;
     sites = ap (λ (w : Worlds S). w.sites) same;
-    records = ap (λ (w : Worlds S). seen views.recorded no_recording w parts.dispatch) same;
+    records = ap (λ (w : Worlds S). member_of views.recorded no_recording w parts.dispatch) same;
     kept_same = ap (λ (w : Worlds S). kept_in kept w parts.dispatch) same;
     count = ap (λ (w : Worlds S). length w.subscribers) same;
     whole = λ has. subst (λ (w : Worlds S). Has is_whole w parts.dispatch) (sym same) has;
-    filter_same = ap (λ (w : Worlds S). seen views.filtered None w parts.dispatch) same;
+    filter_same = ap (λ (w : Worlds S). member_of views.filtered None w parts.dispatch) same;
     cached_same = ap (λ (w : Worlds S). w.cached) same;
     aside = adds_same views parts.world new parts.dispatch same;
   }
 
-  given_served : (t : Tables) → StandsFor now t → (o : Option ℕ) → Starts o → (context : Context) (cs' : Named) → cs'.made ≡ parts.contexts.made ++ context ∷ [] → cs'.attaches ≡ parts.contexts.attaches → (resolved : Resolved) → resolved ≡ Ok (context_effect (here_at now.setup t at lane) o context)
+  given_served : (t : Tables) → StandsFor now t → (o : Option ℕ) → Starts o → (context : Context) (cs' : ContextSlots) → cs'.contexts ≡ parts.contexts.contexts ++ context ∷ [] → cs'.attaches ≡ parts.contexts.attaches → (resolved : Resolved) → resolved ≡ Ok (context_effect (here_at now.setup t at lane) o context)
       → Served resolved t now (then_with cs') (reply.Context number (ids_of context))
   given_served t stands o did context cs' made_is attaches_are resolved is =
       let fits = stands.fits in
       let ids = now.setup.ids in
       let then : State = then_with cs' in
       let e : Effect = context_effect (here_at now.setup t at lane) o context in
-      let rec : r' ≡ recorded_by (length t.made) e r = did.records ∙ sym (starts_fold o at r) in
-      let rec_is : r' ≡ record (recorded_by (length t.made) e r) { tokens = r.tokens } = rec ∙ ap (λ (ts : List Token). record (recorded_by (length t.made) e r) { tokens = ts }) (recorded_tokens (length t.made) e r) in
-      let settings = ap (λ (x : Recording). x.settings) rec_is ∙ recorded_settings (length t.made) e r in
+      let rec : r' ≡ recorded_by (length t.spans) e r = did.records ∙ sym (starts_fold o at r) in
+      let rec_is : r' ≡ record (recorded_by (length t.spans) e r) { tokens = r.tokens } = rec ∙ ap (λ (ts : List Token). record (recorded_by (length t.spans) e r) { tokens = ts }) (recorded_tokens (length t.spans) e r) in
+      let settings = ap (λ (x : Recording). x.settings) rec_is ∙ recorded_settings (length t.spans) e r in
       let setup : then.setup ≡ now.setup = ap (λ x. record now.setup { sites = x; layer = r'.settings }) did.sites ∙ ap (λ x. record now.setup { layer = x }) settings in
-      serve now then t e resolved (reply.Context number (ids_of context)) stands is (ap (λ n. reply.Context n (ids_of context)) (many ∙ ap length fits.named)) setup r.tokens rec_is
+      serve now then t e resolved (reply.Context number (ids_of context)) stands is (ap (λ n. reply.Context n (ids_of context)) (many ∙ ap length fits.named_contexts)) setup r.tokens rec_is
       (fits_step now t fits then e (record {
         setup_is = setup;
         dispatch_is = refl;
@@ -110,7 +110,7 @@ module _ {S : Type 0} (spans : S → Spans) (views : Views S) (attaches : S → 
         named_are = made_is;
         moment_is = refl;
         balanced = subst (λ (x : Spans). Balanced x (map named_by t.handles) (map (opened_by ids) t.guards) t.entries) (sym did.spans_same) fits.balanced;
-        made_fit = subst (λ (x : Spans). MadeFit x.made t.made) (sym did.spans_same) fits.made;
+        made_fit = subst (λ (x : Spans). MadeFit x.made t.spans) (sym did.spans_same) fits.made;
         new_made = tt;
         new_site = tt;
         new_scope = λ l e. absurd (cc e);
@@ -121,14 +121,14 @@ module _ {S : Type 0} (spans : S → Spans) (views : Views S) (attaches : S → 
       }))
       (λ s some. known_still now then t e r.tokens rec_is stands.recording s refl (subst (λ (x : Spans). 0 < (span_at x.made s).holds) did.spans_same some))
       (all_same now then t.contexts setup attaches_are refl (ap (λ (x : Recording). x.tokens) rec_is) stands.recording.attached)
-      (record { quiet = refl; before = seen views.filtered None parts.world parts.dispatch; later = seen views.filtered None new parts.dispatch; shown_before = refl; shown_later = refl; told = did.filter_same ∙ heard_none (seen views.filtered None parts.world parts.dispatch); known = refl; cached = did.cached_same; aside = record { before = aside_in views parts.world parts.dispatch; later = aside_in views new parts.dispatch; shown_before = refl; shown_later = refl; waits_before = refl; waits_later = refl; adds = did.aside } })
+      (record { quiet = refl; before = member_of views.filtered None parts.world parts.dispatch; later = member_of views.filtered None new parts.dispatch; shown_before = refl; shown_later = refl; told = did.filter_same ∙ heard_none (member_of views.filtered None parts.world parts.dispatch); known = refl; cached = did.cached_same; aside = record { before = aside_in views parts.world parts.dispatch; later = aside_in views new parts.dispatch; shown_before = refl; shown_later = refl; waits_before = refl; waits_later = refl; adds = did.aside } })
 
-  given_kept : (cs' : Named) (o : Option ℕ) → Starts o → (resolved : Resolved) (answer : _) → Served resolved inv.tables now (then_with cs') answer → IsKept spans views kept is_whole (parts_with cs')
+  given_kept : (cs' : ContextSlots) (o : Option ℕ) → Starts o → (resolved : Resolved) (answer : _) → Served resolved inv.tables now (then_with cs') answer → IsKept spans views kept is_whole (parts_with cs')
   given_kept cs' o did resolved answer served =
-      kept_served spans views kept is_whole parts (parts_with cs') inv _ _ served refl did.count did.whole (subst (λ (f : ℕ → ℕ → ℕ). LanesFit f (map laned parts.lanes)) (sym did.kept_same) inv.lanes)
+      kept_served spans views kept is_whole parts (parts_with cs') inv _ _ served refl did.count did.whole (subst (λ (f : ℕ → ℕ → ℕ). LanesFit f (map lane_value parts.lanes)) (sym did.kept_same) inv.lanes)
 
   -- a context of ids that are given
-  module _ (same : new ≡ parts.world) (ids : SpanContext) (cs' : Named) (made_is : cs'.made ≡ parts.contexts.made ++ record { span = Some ids } ∷ []) (attaches_are : cs'.attaches ≡ parts.contexts.attaches) where
+  module _ (same : new ≡ parts.world) (ids : SpanContext) (cs' : ContextSlots) (made_is : cs'.contexts ≡ parts.contexts.contexts ++ record { span = Some ids } ∷ []) (attaches_are : cs'.attaches ≡ parts.contexts.attaches) where
     pub serves_remote : (t : Tables) → StandsFor now t → Served (effect_of_call now.setup t at lane (call.Remote ids)) t now (then_with cs') (reply.Context number ids)
     serves_remote t stands = given_served t stands None (unchanged same) (record { span = Some ids }) cs' made_is attaches_are _ refl
 
@@ -137,8 +137,8 @@ module _ {S : Type 0} (spans : S → Spans) (views : Views S) (attaches : S → 
 
   -- the context of a handle's span
   module _ (touches : S → PartCall → S → Type 0) (law : AsksLaw spans views attaches kept is_whole touches)
-      (handle : ℕ) (h : Handle) (found : slot_at parts.handles handle ≡ Some h) (given : Context) (did : AsksContext touches parts.world new at h.held given) (cs' : Named) (made_is : cs'.made ≡ parts.contexts.made ++ given ∷ []) (attaches_are : cs'.attaches ≡ parts.contexts.attaches) where
-    asked : (line : Scope) (held : Held) → held ≡ held_of parts.dispatch line → AsksContext touches parts.world new at held given → Starts (own line) × (given ≡ own_context r at line)
+      (handle : ℕ) (h : Handle) (found : slot_at parts.handles handle ≡ Some h) (given : Context) (did : AsksContext touches parts.world new at h.held given) (cs' : ContextSlots) (made_is : cs'.contexts ≡ parts.contexts.contexts ++ given ∷ []) (attaches_are : cs'.attaches ≡ parts.contexts.attaches) where
+    asked : (line : Scope) (held : Held) → held ≡ held_of parts.dispatch line → AsksContext touches parts.world new at held given → Starts (own_span line) × (given ≡ own_context r at line)
     asked [] held is asks_it =
         let nothing = subst (λ (x : Held). ShowsOn touches parts.world new at x asks_it.answer) is asks_it.did in
         (unchanged nothing.1, asks_it.is ∙ ap context_or_empty nothing.0)
@@ -148,7 +148,7 @@ module _ {S : Type 0} (spans : S → Spans) (views : Views S) (attaches : S → 
         let told = law.recalled parts.world new parts.dispatch (Shows s at asks_it.answer) replaced in
         let records = told.0 in (
           record { spans_same = alike.spans_same; sites = ap (λ (w : Worlds S). w.sites) replaced.others; records = records.0; kept_same = alike.kept_same; count = alike.count; whole = alike.whole; filter_same = told.1; cached_same = ap (λ (w : Worlds S). w.cached) replaced.others; aside = told.2 },
-          asks_it.is ∙ ap context_or_empty records.1 ∙ shown_is (told_at s r'.spans) ∙ ap (λ (x : Recording). own_or empty_context (told_at s x.spans)) records.0,
+          asks_it.is ∙ ap context_or_empty records.1 ∙ shown_is (data_at s r'.spans) ∙ ap (λ (x : Recording). own_or empty_context (data_at s x.spans)) records.0,
         )
 
     pub serves_context : (ids : SpanContext) → ids ≡ ids_of given → (t : Tables) → StandsFor now t → Served (effect_of_call now.setup t at lane (call.Context handle)) t now (then_with cs') (reply.Context number ids)
@@ -157,10 +157,10 @@ module _ {S : Type 0} (spans : S → Spans) (views : Views S) (attaches : S → 
         let shown = asked line.at h.held line.is did in
         let given_is : given ≡ own_context t.recording at line.at = shown.1 ∙ own_open line.at at r t.recording stands.recording.recorded in
         subst (λ (i : SpanContext). Served (effect_of_call now.setup t at lane (call.Context handle)) t now (then_with cs') (reply.Context number i)) (sym (ids_are ∙ ap (λ (c : Context). ids_of c) given_is))
-        (given_served t stands (own line.at) shown.0 (own_context t.recording at line.at) cs' (made_is ∙ ap (λ (c : Context). parts.contexts.made ++ c ∷ []) given_is) attaches_are _
-        (ap (λ o. need what.Handle o >>= (λ scope. Ok (context_effect (here_at now.setup t at lane) (own scope) (own_context t.recording at scope)))) line.there))
+        (given_served t stands (own_span line.at) shown.0 (own_context t.recording at line.at) cs' (made_is ∙ ap (λ (c : Context). parts.contexts.contexts ++ c ∷ []) given_is) attaches_are _
+        (ap (λ o. need what.Handle o >>= (λ scope. Ok (context_effect (here_at now.setup t at lane) (own_span scope) (own_context t.recording at scope)))) line.there))
 
     pub keeps_context : IsKept spans views kept is_whole (parts_with cs')
     keeps_context =
         let line = find (held_of parts.dispatch) (map held_by parts.handles) inv.tables.handles handle h.held inv.stands.fits.handle_slots (held_slot parts.handles handle h found) in
-        given_kept cs' (own line.at) (asked line.at h.held line.is did).0 _ _ (serves_context (ids_of given) refl inv.tables inv.stands)
+        given_kept cs' (own_span line.at) (asked line.at h.held line.is did).0 _ _ (serves_context (ids_of given) refl inv.tables inv.stands)

@@ -5,14 +5,14 @@ use Rattle.std.proofs.lemmas.Bool.{cases_Bool, cases_eq, ne_eqb, eq-eqb, eqb-tru
 use Rattle.std.proofs.lemmas.List.{map-set}
 use Rattle.std.proofs.Math.ListN.{get_or-map}
 use Rattle.otel_base.specs.declared.context.Context.{Context}
-use Rattle.otel_base.specs.Stack.{has, without}
+use Rattle.otel_base.specs.Stack.{has_number, without_number}
 use Rattle.trace_base.specs.declared.lane.Lane.{Lane}
 use Rattle.trace_base.specs.Gate.{Worlds}
 use Rattle.trace_base.specs.Spans.{Spans}
 use Rattle.trace_base.proofs.Entering.{count_cons}
 use Rattle.otel_layer.specs.Core.{kept_by}
 use Rattle.otel_layer.specs.Recording.{Recording, no_recording}
-use Rattle.span_handles.specs.Worlds.{seen, kept_in}
+use Rattle.span_handles.specs.Worlds.{member_of, kept_in}
 use Rattle.span_script.specs.declared.contexts.Attach.{Attach}
 use Rattle.span_script.specs.declared.reply.Refusal.TheVariants as refusal
 use Rattle.span_script.specs.declared.reply.Reply.TheVariants as reply
@@ -23,7 +23,7 @@ use Rattle.span_script.specs.Tables.{GuardOf, Effect, Tables, slot_at, with_deta
 use Rattle.span_script.specs.calls.Here.{here_at, Resolved, refuse_if, ◌>>=◌, need}
 use Rattle.span_script.specs.Effects.{effect_of_call}
 use Rattle.span_script.specs.calls.Contexts.{detach_effect}
-use Rattle.span_script.specs.Fits.{Views, Named, State, state_of, lane_of, numbers_by, StandsFor, Fits, ContextsFit, AllContextsFit, IsKept, Served, Parts}
+use Rattle.span_script.specs.Fits.{Views, ContextSlots, State, state_of, lane_of, numbers_by, StandsFor, Fits, ContextsFit, AllContextsFit, IsKept, Served, Parts}
 use Rattle.span_script.proofs.filter.CounterLemmas.{adds_same}
 use Rattle.span_script.proofs.lane_contexts.OwnersLemmas.{owned_has}
 use Rattle.span_script.proofs.steps.LanesLemmas.{id_seen, ids_same, names_same, are_attached, lanes_after}
@@ -34,8 +34,8 @@ use Rattle.span_script.proofs.filter.FilterLemmas.{heard_none}
 use Rattle.span_script.proofs.steps.ServesLemmas.{serve, known_still, kept_served}
 use Rattle.span_script.proofs.steps.StepLemmas.{fits_step}
 use Rattle.span_script.proofs.runs.TakeLemmas.{seen_there}
-use Rattle.env_filter.specs.Filtering.{Filtering}
-use Rattle.env_filter.specs.Reloading.{if_there, none_kept}
+use Rattle.env_filter.specs.Filtering.{FilterWithRoom}
+use Rattle.env_filter.specs.Reloading.{layer_or, none_kept}
 use Rattle.span_script.specs.SubscriberLaws.{aside_in}
 
 -- a guard of an attach, as its table tells it
@@ -46,18 +46,18 @@ abbrev detached : State → Tables → ℕ → ℕ → ℕ → Option ℕ → Re
 detached k t at lane guard o = need what.Guard o >>= (λ mine. refuse_if (not (mine == lane)) (refusal.WrongLane mine) (Ok (detach_effect (here_at k.setup t at lane) guard)))
 
 -- the others stay as often live
-count_without : (n number : ℕ) (live : List (ℕ × Context)) → (n ≡ number → ⊥) → count_by (λ (item : ℕ × Context). item.0 == number) (without n live) ≡ count_by (λ (item : ℕ × Context). item.0 == number) live
+count_without : (n number : ℕ) (live : List (ℕ × Context)) → (n ≡ number → ⊥) → count_by (λ (item : ℕ × Context). item.0 == number) (without_number n live) ≡ count_by (λ (item : ℕ × Context). item.0 == number) live
 count_without n number [] apart = refl
 count_without n number (x ∷ live) apart =
     let here = count_cons (λ (item : ℕ × Context). item.0 == number) x live in
     elim (cases_Bool (x.0 == n)) [
       | inl this ↦ (
-          let gone = ap (λ (xs : List (ℕ × Context)). count_by (λ (item : ℕ × Context). item.0 == number) xs) (cond-true {A = List (ℕ × Context)} (x.0 == n) live (x ∷ without n live) this) in
+          let gone = ap (λ (xs : List (ℕ × Context)). count_by (λ (item : ℕ × Context). item.0 == number) xs) (cond-true {A = List (ℕ × Context)} (x.0 == n) live (x ∷ without_number n live) this) in
           let none = cond-false {A = ℕ} (x.0 == number) 1 0 (ne_eqb x.0 number (λ e. apart (sym (eqb-true x.0 n this) ∙ e))) in
           omega (arith, here, gone, none))
       | inr next ↦ (
-          let left = ap (λ (xs : List (ℕ × Context)). count_by (λ (item : ℕ × Context). item.0 == number) xs) (cond-false {A = List (ℕ × Context)} (x.0 == n) live (x ∷ without n live) next) in
-          let tail = count_cons (λ (item : ℕ × Context). item.0 == number) x (without n live) in
+          let left = ap (λ (xs : List (ℕ × Context)). count_by (λ (item : ℕ × Context). item.0 == number) xs) (cond-false {A = List (ℕ × Context)} (x.0 == n) live (x ∷ without_number n live) next) in
+          let tail = count_cons (λ (item : ℕ × Context). item.0 == number) x (without_number n live) in
           let rest = count_without n number live apart in
           omega (arith, here, left, tail, rest))
     ]
@@ -68,7 +68,7 @@ KeepsTokens {S} views kept = (s : S) (lane number : ℕ) → kept s lane number 
 
 module _ {S : Type 0} (spans : S → Spans) (views : Views S) (kept : S → ℕ → ℕ → ℕ) (is_whole : S → Type 0) (parts : Parts S)
     (at lane : ℕ) (before : Lane) (within : lane < length parts.lanes) (here : before ≡ get_or parts.lanes lane before)
-    (inv : IsKept spans views kept is_whole parts) (guard : ℕ) (a : Attach) (found : slot_at parts.contexts.attaches guard ≡ Some a) (on : a.lane ≡ lane) where
+    (inv : IsKept spans views kept is_whole parts) (guard : ℕ) (a : Attach) (found : slot_at parts.contexts.attaches guard ≡ Some a) (on : a.place ≡ lane) where
   abbrev now : State
   now = state_of spans views parts
 
@@ -76,7 +76,7 @@ module _ {S : Type 0} (spans : S → Spans) (views : Views S) (kept : S → ℕ 
   place_id = id_at now.setup.ids lane
 
   abbrev r : Recording
-  r = seen views.recorded no_recording parts.world parts.dispatch
+  r = member_of views.recorded no_recording parts.world parts.dispatch
 
   id_is : before.id ≡ place_id
   id_is = id_seen parts.lanes lane before within here
@@ -85,11 +85,11 @@ module _ {S : Type 0} (spans : S → Spans) (views : Views S) (kept : S → ℕ 
   its_fit = own_fit r.settings.activation parts.lanes lane before before within here refl inv.lanes.differ r.tokens parts.contexts.attaches inv.tables.contexts inv.stands.recording.attached
 
   -- what it attached is still live
-  pub still_live : has a.attached before.contexts.live ≡ true
+  pub still_live : has_number a.attached before.contexts.live ≡ true
   still_live = owned_has (GuardOf guard) before.contexts.live (inv.tables.contexts before.id) a.attached _ its_fit (guard_keeps r.settings.activation lane before.id r.tokens parts.contexts.attaches guard a found on)
 
-  module _ (later : Lane) (same_id : later.id ≡ before.id) (same_name : later.name ≡ before.name) (live : later.contexts.live ≡ without a.attached before.contexts.live)
-      (cs' : Named) (made_same : cs'.made ≡ parts.contexts.made) (one : cs'.attaches ≡ slice_set parts.contexts.attaches guard None) where
+  module _ (later : Lane) (same_id : later.id ≡ before.id) (same_name : later.name ≡ before.name) (live : later.contexts.live ≡ without_number a.attached before.contexts.live)
+      (cs' : ContextSlots) (made_same : cs'.contexts ≡ parts.contexts.contexts) (one : cs'.attaches ≡ slice_set parts.contexts.attaches guard None) where
     abbrev then_parts : Parts S
     then_parts = record parts { lanes = set parts.lanes lane later; contexts = cs'; moment = at }
 
@@ -110,7 +110,7 @@ module _ {S : Type 0} (spans : S → Spans) (views : Views S) (kept : S → ℕ 
         let fits = stands.fits in
         let e : Effect = detach_effect (here_at now.setup t at lane) guard in
         serve now then t e _ reply.Done stands
-        (ap (detached now t at lane guard) (attach_told now t fits guard ∙ ap (option_map lane_of) found) ∙ cond-false {A = Resolved} (not (a.lane == lane)) _ _ (ap not (eq-eqb a.lane lane on)))
+        (ap (detached now t at lane guard) (attach_told now t fits guard ∙ ap (option_map lane_of) found) ∙ cond-false {A = Resolved} (not (a.place == lane)) _ _ (ap not (eq-eqb a.place lane on)))
         refl setup_same r.tokens refl
         (fits_step now t fits then e (record {
           setup_is = setup_same;
@@ -133,7 +133,7 @@ module _ {S : Type 0} (spans : S → Spans) (views : Views S) (kept : S → ℕ 
         }))
         (λ s some. known_still now then t e r.tokens refl stands.recording s refl some)
         (all_fit t stands)
-        (record { quiet = refl; before = seen views.filtered None parts.world parts.dispatch; later = seen views.filtered None parts.world parts.dispatch; shown_before = refl; shown_later = refl; told = heard_none (seen views.filtered None parts.world parts.dispatch); known = refl; cached = refl; aside = record { before = aside_in views parts.world parts.dispatch; later = aside_in views parts.world parts.dispatch; shown_before = refl; shown_later = refl; waits_before = refl; waits_later = refl; adds = adds_same views parts.world parts.world parts.dispatch refl } })
+        (record { quiet = refl; before = member_of views.filtered None parts.world parts.dispatch; later = member_of views.filtered None parts.world parts.dispatch; shown_before = refl; shown_later = refl; told = heard_none (member_of views.filtered None parts.world parts.dispatch); known = refl; cached = refl; aside = record { before = aside_in views parts.world parts.dispatch; later = aside_in views parts.world parts.dispatch; shown_before = refl; shown_later = refl; waits_before = refl; waits_later = refl; adds = adds_same views parts.world parts.world parts.dispatch refl } })
 
     pub keeps_detached : ((lane number : ℕ) → kept_in kept parts.world parts.dispatch lane number ≡ kept_by r.settings.activation r.tokens lane number) → IsKept spans views kept is_whole then_parts
     keeps_detached keeps =
@@ -155,7 +155,7 @@ module _ {S : Type 0} (spans : S → Spans) (views : Views S) (kept : S → ℕ 
 
 -- the same, of a world's subscriber
 pub keeps_tokens : {S : Type 0} (views : Views S) (kept : S → ℕ → ℕ → ℕ) (world : Worlds S) (dispatch : ℕ) → dispatch < length world.subscribers → KeepsTokens views kept
-    → (lane number : ℕ) → kept_in kept world dispatch lane number ≡ kept_by (seen views.recorded no_recording world dispatch).settings.activation (seen views.recorded no_recording world dispatch).tokens lane number
+    → (lane number : ℕ) → kept_in kept world dispatch lane number ≡ kept_by (member_of views.recorded no_recording world dispatch).settings.activation (member_of views.recorded no_recording world dispatch).tokens lane number
 keeps_tokens {S} views kept world dispatch there law lane number =
     let x = within_get world.subscribers dispatch there in
     let one = seen_there kept (λ lane number. 0) world dispatch x.0 x.1 in
@@ -166,6 +166,6 @@ keeps_tokens {S} views kept world dispatch there law lane number =
 pub none_more : (n : ℕ) → 0 + (n + 0) ≡ n
 none_more n = omega arith
 
-pub filtered_keeps : (o : Option Filtering) (lane number inner n : ℕ) → inner ≡ n → if_there none_kept (λ (f : Filtering) (l k : ℕ). 0) o lane number + inner ≡ n
+pub filtered_keeps : (o : Option FilterWithRoom) (lane number inner n : ℕ) → inner ≡ n → layer_or none_kept (λ (f : FilterWithRoom) (l k : ℕ). 0) o lane number + inner ≡ n
 filtered_keeps None lane number inner n is = omega (arith, is)
 filtered_keeps (Some f) lane number inner n is = omega (arith, is)

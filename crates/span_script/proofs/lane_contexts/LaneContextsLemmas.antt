@@ -4,61 +4,61 @@ use Rattle.std.proofs.Common.{◌≡◌, ℕ, ◌<◌, List, [], ◌∷◌, ◌+
 use Rattle.std.proofs.lemmas.Bool.{cases_eq, eq-eqb, ne_eqb, cond-true, cond-false}
 use Rattle.std.proofs.lemmas.List.{length-set, length-map, map-set, get_or-set_same, get_or-set_other}
 use Rattle.otel_base.specs.declared.context.Context.{Context}
-use Rattle.otel_base.specs.Stack.{has, without}
+use Rattle.otel_base.specs.Stack.{has_number, without_number}
 use Rattle.otel_state.specs.Stack.{last_passing}
 use Rattle.trace_base.specs.declared.lane.Lane.{Lane}
 use Rattle.trace_base.specs.Spans.{without_last}
 use Rattle.otel_layer.specs.declared.tokens.Token.{Token}
 use Rattle.otel_layer.specs.Core.{is_token}
-use Rattle.otel_layer.specs.Recording.{Attaches, Detaches}
+use Rattle.otel_layer.specs.Recording.{AttachesOwn, Detaches}
 use Rattle.span_script.specs.declared.contexts.Attach.{Attach}
 use Rattle.span_script.specs.Tables.{Owner, EntryOf, GuardOf, Attached, is_owner, is_by, slot_at, with_attached, with_detached}
-use Rattle.span_script.specs.Fits.{Laned, laned, no_lane, lane_at, numbers_by, ContextsFit, AllContextsFit}
+use Rattle.span_script.specs.Fits.{LaneValue, lane_value, no_lane_value, lane_at, numbers_by, ContextsFit, AllContextsFit}
 use Rattle.span_script.proofs.steps.LanesLemmas.{lane_seen}
 use Rattle.span_script.proofs.lane_contexts.OwnersLemmas.{contexts_push, contexts_same, contexts_take}
 use Rattle.span_script.proofs.lane_contexts.NumbersLemmas.{entry_same, entry_own, entry_other, entry_quiet, exit_own, exit_others, exit_other, exit_quiet, attach_own, attach_other, detach_own, detach_others, detach_other}
 
 -- an entry's guard takes a number
-pub all_skipped : (activation : Bool) (lanes : List Laned) (tokens : List Token) (attaches : List (Option Attach)) (contexts : ℕ → List Attached) → AllContextsFit activation lanes tokens attaches contexts → AllContextsFit activation lanes tokens (attaches ++ None ∷ []) contexts
+pub all_skipped : (activation : Bool) (lanes : List LaneValue) (tokens : List Token) (attaches : List (Option Attach)) (contexts : ℕ → List Attached) → AllContextsFit activation lanes tokens attaches contexts → AllContextsFit activation lanes tokens (attaches ++ None ∷ []) contexts
 all_skipped activation lanes tokens attaches contexts fit n below = contexts_same _ _ _ _ (entry_same activation n (lane_at lanes n).id tokens attaches) (fit n below)
 
 module _ (activation : Bool) (lanes : List Lane) (lane : ℕ) (before later : Lane) (within : lane < length lanes) (seen : before ≡ get_or lanes lane before) (same : later.id ≡ before.id)
-    (differ : (n m : ℕ) → n < length (map laned lanes) → m < length (map laned lanes) → (lane_at (map laned lanes) n).id ≡ (lane_at (map laned lanes) m).id → n ≡ m)
-    (tokens : List Token) (attaches : List (Option Attach)) (contexts : ℕ → List Attached) (fit : AllContextsFit activation (map laned lanes) tokens attaches contexts) where
-  abbrev ls : List Laned
-  ls = map laned lanes
+    (differ : (n m : ℕ) → n < length (map lane_value lanes) → m < length (map lane_value lanes) → (lane_at (map lane_value lanes) n).id ≡ (lane_at (map lane_value lanes) m).id → n ≡ m)
+    (tokens : List Token) (attaches : List (Option Attach)) (contexts : ℕ → List Attached) (fit : AllContextsFit activation (map lane_value lanes) tokens attaches contexts) where
+  abbrev ls : List LaneValue
+  ls = map lane_value lanes
 
-  abbrev ls' : List Laned
-  ls' = map laned (set lanes lane later)
+  abbrev ls' : List LaneValue
+  ls' = map lane_value (set lanes lane later)
 
   inside : lane < length ls
-  inside = let k = length-map lanes laned in omega (arith, within, k)
+  inside = let k = length-map lanes lane_value in omega (arith, within, k)
 
-  at_lane : lane_at ls lane ≡ laned before
+  at_lane : lane_at ls lane ≡ lane_value before
   at_lane = lane_seen lanes lane before within seen
 
   pub own_fit : ContextsFit (numbers_by activation lane before.id tokens attaches) before.contexts.live (contexts before.id)
-  own_fit = subst (λ (l : Laned). ContextsFit (numbers_by activation lane l.id tokens attaches) l.live (contexts l.id)) at_lane (fit lane inside)
+  own_fit = subst (λ (l : LaneValue). ContextsFit (numbers_by activation lane l.id tokens attaches) l.live (contexts l.id)) at_lane (fit lane inside)
 
   -- each lane but the one that was written fits as it did
   all_after : (tokens' : List Token) (attaches' : List (Option Attach)) (contexts' : ℕ → List Attached) → ContextsFit (numbers_by activation lane before.id tokens' attaches') later.contexts.live (contexts' before.id)
       → ((n other : ℕ) (live : List (ℕ × Context)) → (n ≡ lane → ⊥) → (before.id ≡ other → ⊥) → ContextsFit (numbers_by activation n other tokens attaches) live (contexts other) → ContextsFit (numbers_by activation n other tokens' attaches') live (contexts' other))
       → AllContextsFit activation ls' tokens' attaches' contexts'
   all_after tokens' attaches' contexts' here there n below =
-      let written = map-set laned lanes lane later in
-      let P : ℕ → Laned → Type 0 = λ m l. ContextsFit (numbers_by activation m l.id tokens' attaches') l.live (contexts' l.id) in
-      let counts : length ls' ≡ length ls = length-map (set lanes lane later) laned ∙ length-set lanes lane later ∙ sym (length-map lanes laned) in
+      let written = map-set lane_value lanes lane later in
+      let P : ℕ → LaneValue → Type 0 = λ m l. ContextsFit (numbers_by activation m l.id tokens' attaches') l.live (contexts' l.id) in
+      let counts : length ls' ≡ length ls = length-map (set lanes lane later) lane_value ∙ length-set lanes lane later ∙ sym (length-map lanes lane_value) in
       elim (cases_eq n lane) [
-        | inl e ↦ subst (P n) (sym (ap (λ (k : ℕ). lane_at ls' k) e ∙ ap (λ (xs : List Laned). lane_at xs lane) written ∙ get_or-set_same ls lane (laned later) no_lane inside))
+        | inl e ↦ subst (P n) (sym (ap (λ (k : ℕ). lane_at ls' k) e ∙ ap (λ (xs : List LaneValue). lane_at xs lane) written ∙ get_or-set_same ls lane (lane_value later) no_lane_value inside))
             (subst (λ (i : ℕ). ContextsFit (numbers_by activation n i tokens' attaches') later.contexts.live (contexts' i)) (sym same)
             (subst (λ (m : ℕ). ContextsFit (numbers_by activation m before.id tokens' attaches') later.contexts.live (contexts' before.id)) (sym e) here))
-        | inr other ↦ subst (P n) (sym (ap (λ (xs : List Laned). lane_at xs n) written ∙ get_or-set_other ls lane n (laned later) no_lane other))
+        | inr other ↦ subst (P n) (sym (ap (λ (xs : List LaneValue). lane_at xs n) written ∙ get_or-set_other ls lane n (lane_value later) no_lane_value other))
             (let below' : n < length ls = omega (arith, below, counts) in
-            there n (lane_at ls n).id (lane_at ls n).live other (λ e. other (differ n lane below' inside (sym e ∙ ap (λ (l : Laned). l.id) (sym at_lane)))) (fit n below'))
+            there n (lane_at ls n).id (lane_at ls n).live other (λ e. other (differ n lane below' inside (sym e ∙ ap (λ (l : LaneValue). l.id) (sym at_lane)))) (fit n below'))
       ]
 
   -- the lane has one context more, whose number its owner keeps
-  pub all_pushed : (tokens' : List Token) (attaches' : List (Option Attach)) (owner : Owner) (number : ℕ) (context : Context) → has number before.contexts.live ≡ false → later.contexts.live ≡ before.contexts.live ++ (number, context) ∷ []
+  pub all_pushed : (tokens' : List Token) (attaches' : List (Option Attach)) (owner : Owner) (number : ℕ) (context : Context) → has_number number before.contexts.live ≡ false → later.contexts.live ≡ before.contexts.live ++ (number, context) ∷ []
       → ((o : Owner) → numbers_by activation lane before.id tokens' attaches' o ≡ numbers_by activation lane before.id tokens attaches o ++ (if is_owner owner o then Some number ∷ [] else []))
       → ((n other : ℕ) → (n ≡ lane → ⊥) → (before.id ≡ other → ⊥) → (o : Owner) → numbers_by activation n other tokens' attaches' o ≡ numbers_by activation n other tokens attaches o)
       → AllContextsFit activation ls' tokens' attaches' (with_attached contexts before.id (Some (record { owner = owner; context = context })))
@@ -71,7 +71,7 @@ module _ (activation : Bool) (lanes : List Lane) (lane : ℕ) (before later : La
       (contexts_same live (contexts other) _ _ (others n other apart off) was))
 
   -- the lane has one context less, whose number its owner kept last
-  pub all_taken : (tokens' : List Token) (attaches' : List (Option Attach)) (owner : Owner) (attached : Option ℕ) → ((number : ℕ) → attached ≡ Some number → later.contexts.live ≡ without number before.contexts.live)
+  pub all_taken : (tokens' : List Token) (attaches' : List (Option Attach)) (owner : Owner) (attached : Option ℕ) → ((number : ℕ) → attached ≡ Some number → later.contexts.live ≡ without_number number before.contexts.live)
       → numbers_by activation lane before.id tokens attaches owner ≡ numbers_by activation lane before.id tokens' attaches' owner ++ attached ∷ []
       → ((o : Owner) → (o ≡ owner → ⊥) → numbers_by activation lane before.id tokens' attaches' o ≡ numbers_by activation lane before.id tokens attaches o)
       → ((n other : ℕ) → (n ≡ lane → ⊥) → (before.id ≡ other → ⊥) → (o : Owner) → numbers_by activation n other tokens' attaches' o ≡ numbers_by activation n other tokens attaches o)
@@ -94,12 +94,12 @@ module _ (activation : Bool) (lanes : List Lane) (lane : ℕ) (before later : La
 
 -- an entry, with activation or without
 pub all_entered : (activation : Bool) (lanes : List Lane) (lane : ℕ) (before later : Lane) → lane < length lanes → before ≡ get_or lanes lane before → later.id ≡ before.id
-    → ((n m : ℕ) → n < length (map laned lanes) → m < length (map laned lanes) → (lane_at (map laned lanes) n).id ≡ (lane_at (map laned lanes) m).id → n ≡ m)
-    → (tokens : List Token) (attaches : List (Option Attach)) (contexts : ℕ → List Attached) → AllContextsFit activation (map laned lanes) tokens attaches contexts
-    → (s : ℕ) (own : Context) (attached : Option ℕ) → Attaches activation own before later attached
-    → AllContextsFit activation (map laned (set lanes lane later)) (tokens ++ record { lane = before.id; id = s; attached = attached } ∷ []) (attaches ++ None ∷ []) (with_attached contexts before.id (if activation then Some (record { owner = EntryOf s; context = own }) else None))
+    → ((n m : ℕ) → n < length (map lane_value lanes) → m < length (map lane_value lanes) → (lane_at (map lane_value lanes) n).id ≡ (lane_at (map lane_value lanes) m).id → n ≡ m)
+    → (tokens : List Token) (attaches : List (Option Attach)) (contexts : ℕ → List Attached) → AllContextsFit activation (map lane_value lanes) tokens attaches contexts
+    → (s : ℕ) (own : Context) (attached : Option ℕ) → AttachesOwn activation own before later attached
+    → AllContextsFit activation (map lane_value (set lanes lane later)) (tokens ++ record { lane = before.id; id = s; attached = attached } ∷ []) (attaches ++ None ∷ []) (with_attached contexts before.id (if activation then Some (record { owner = EntryOf s; context = own }) else None))
 all_entered true lanes lane before later within seen same differ tokens attaches contexts fit s own attached a =
-    subst (λ (o : Option ℕ). AllContextsFit true (map laned (set lanes lane later)) (tokens ++ record { lane = before.id; id = s; attached = o } ∷ []) (attaches ++ None ∷ []) (with_attached contexts before.id (Some (record { owner = EntryOf s; context = own })))) (sym a.is)
+    subst (λ (o : Option ℕ). AllContextsFit true (map lane_value (set lanes lane later)) (tokens ++ record { lane = before.id; id = s; attached = o } ∷ []) (attaches ++ None ∷ []) (with_attached contexts before.id (Some (record { owner = EntryOf s; context = own })))) (sym a.is)
     (all_pushed true lanes lane before later within seen same differ tokens attaches contexts fit (tokens ++ record { lane = before.id; id = s; attached = Some a.number } ∷ []) (attaches ++ None ∷ []) (EntryOf s) a.number own a.fresh a.live
     (entry_own lane before.id s a.number tokens attaches)
     (λ n other apart off. entry_other true n before.id other s (Some a.number) tokens attaches off))
@@ -109,10 +109,10 @@ all_entered false lanes lane before later within seen same differ tokens attache
 
 -- an exit
 pub all_exited : (activation : Bool) (lanes : List Lane) (lane : ℕ) (before later : Lane) → lane < length lanes → before ≡ get_or lanes lane before → later.id ≡ before.id
-    → ((n m : ℕ) → n < length (map laned lanes) → m < length (map laned lanes) → (lane_at (map laned lanes) n).id ≡ (lane_at (map laned lanes) m).id → n ≡ m)
-    → (tokens : List Token) (attaches : List (Option Attach)) (contexts : ℕ → List Attached) → AllContextsFit activation (map laned lanes) tokens attaches contexts
+    → ((n m : ℕ) → n < length (map lane_value lanes) → m < length (map lane_value lanes) → (lane_at (map lane_value lanes) n).id ≡ (lane_at (map lane_value lanes) m).id → n ≡ m)
+    → (tokens : List Token) (attaches : List (Option Attach)) (contexts : ℕ → List Attached) → AllContextsFit activation (map lane_value lanes) tokens attaches contexts
     → (s : ℕ) (token : Token) → last_passing (is_token before.id s) tokens ≡ Some token → Detaches (if activation then token.attached else None) before later
-    → AllContextsFit activation (map laned (set lanes lane later)) (without_last (is_token before.id s) tokens) attaches (with_detached contexts before.id (option_map EntryOf (if activation then Some s else None)))
+    → AllContextsFit activation (map lane_value (set lanes lane later)) (without_last (is_token before.id s) tokens) attaches (with_detached contexts before.id (option_map EntryOf (if activation then Some s else None)))
 all_exited true lanes lane before later within seen same differ tokens attaches contexts fit s token last leaves =
     all_taken true lanes lane before later within seen same differ tokens attaches contexts fit (without_last (is_token before.id s) tokens) attaches (EntryOf s) token.attached (λ number is. subst (λ (o : Option ℕ). Detaches o before later) is leaves)
     (exit_own lane before.id s tokens attaches token last) (exit_others true lane before.id s tokens attaches) (λ n other apart off. exit_other true n before.id other s tokens attaches off)
@@ -121,23 +121,23 @@ all_exited false lanes lane before later within seen same differ tokens attaches
 
 -- an attach
 pub all_attached : (activation : Bool) (lanes : List Lane) (lane : ℕ) (before later : Lane) → lane < length lanes → before ≡ get_or lanes lane before → later.id ≡ before.id
-    → ((n m : ℕ) → n < length (map laned lanes) → m < length (map laned lanes) → (lane_at (map laned lanes) n).id ≡ (lane_at (map laned lanes) m).id → n ≡ m)
-    → (tokens : List Token) (attaches : List (Option Attach)) (contexts : ℕ → List Attached) → AllContextsFit activation (map laned lanes) tokens attaches contexts
-    → (number : ℕ) (context : Context) → has number before.contexts.live ≡ false → later.contexts.live ≡ before.contexts.live ++ (number, context) ∷ []
-    → AllContextsFit activation (map laned (set lanes lane later)) tokens (attaches ++ Some (record { lane = lane; attached = number }) ∷ []) (with_attached contexts before.id (Some (record { owner = GuardOf (length attaches); context = context })))
+    → ((n m : ℕ) → n < length (map lane_value lanes) → m < length (map lane_value lanes) → (lane_at (map lane_value lanes) n).id ≡ (lane_at (map lane_value lanes) m).id → n ≡ m)
+    → (tokens : List Token) (attaches : List (Option Attach)) (contexts : ℕ → List Attached) → AllContextsFit activation (map lane_value lanes) tokens attaches contexts
+    → (number : ℕ) (context : Context) → has_number number before.contexts.live ≡ false → later.contexts.live ≡ before.contexts.live ++ (number, context) ∷ []
+    → AllContextsFit activation (map lane_value (set lanes lane later)) tokens (attaches ++ Some (record { place = lane; attached = number }) ∷ []) (with_attached contexts before.id (Some (record { owner = GuardOf (length attaches); context = context })))
 all_attached activation lanes lane before later within seen same differ tokens attaches contexts fit number context fresh live =
-    all_pushed activation lanes lane before later within seen same differ tokens attaches contexts fit tokens (attaches ++ Some (record { lane = lane; attached = number }) ∷ []) (GuardOf (length attaches)) number context fresh live
+    all_pushed activation lanes lane before later within seen same differ tokens attaches contexts fit tokens (attaches ++ Some (record { place = lane; attached = number }) ∷ []) (GuardOf (length attaches)) number context fresh live
     (attach_own activation lane before.id number tokens attaches) (λ n other apart off. attach_other activation lane n other number tokens attaches apart)
 
 -- a detach
 pub all_detached : (activation : Bool) (lanes : List Lane) (lane : ℕ) (before later : Lane) → lane < length lanes → before ≡ get_or lanes lane before → later.id ≡ before.id
-    → ((n m : ℕ) → n < length (map laned lanes) → m < length (map laned lanes) → (lane_at (map laned lanes) n).id ≡ (lane_at (map laned lanes) m).id → n ≡ m)
-    → (tokens : List Token) (attaches : List (Option Attach)) (contexts : ℕ → List Attached) → AllContextsFit activation (map laned lanes) tokens attaches contexts
-    → (guard : ℕ) (a : Attach) → slot_at attaches guard ≡ Some a → a.lane ≡ lane → later.contexts.live ≡ without a.attached before.contexts.live
-    → AllContextsFit activation (map laned (set lanes lane later)) tokens (slice_set attaches guard None) (with_detached contexts before.id (Some (GuardOf guard)))
+    → ((n m : ℕ) → n < length (map lane_value lanes) → m < length (map lane_value lanes) → (lane_at (map lane_value lanes) n).id ≡ (lane_at (map lane_value lanes) m).id → n ≡ m)
+    → (tokens : List Token) (attaches : List (Option Attach)) (contexts : ℕ → List Attached) → AllContextsFit activation (map lane_value lanes) tokens attaches contexts
+    → (guard : ℕ) (a : Attach) → slot_at attaches guard ≡ Some a → a.place ≡ lane → later.contexts.live ≡ without_number a.attached before.contexts.live
+    → AllContextsFit activation (map lane_value (set lanes lane later)) tokens (slice_set attaches guard None) (with_detached contexts before.id (Some (GuardOf guard)))
 all_detached activation lanes lane before later within seen same differ tokens attaches contexts fit guard a there on live =
     all_taken activation lanes lane before later within seen same differ tokens attaches contexts fit tokens (slice_set attaches guard None) (GuardOf guard) (Some a.attached)
-    (λ number is. live ∙ ap (λ (k : ℕ). without k before.contexts.live) (the_number a.attached number is))
+    (λ number is. live ∙ ap (λ (k : ℕ). without_number k before.contexts.live) (the_number a.attached number is))
     (detach_own activation lane before.id tokens attaches guard a there on) (detach_others activation lane before.id tokens attaches guard) (λ n other apart off. detach_other activation lane n other tokens attaches guard a there on apart)
   where
     the_number : (a b : ℕ) → Some a ≡ Some b → a ≡ b

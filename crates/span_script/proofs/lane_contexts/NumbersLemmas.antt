@@ -5,7 +5,7 @@ use Rattle.std.proofs.Common.{◌≡◌, ℕ, zero, suc, List, [], ◌∷◌, �
 use Rattle.std.proofs.lemmas.Bool.{cases_Bool, cases_eq, eq-eqb, eqb-true, ne_eqb, cond-true, cond-false, or_parts, true≢false, and_parts}
 use Rattle.std.proofs.lemmas.List.{append-nil, get_or-set_same, get_or-set_other}
 use Rattle.otel_base.specs.declared.context.Context.{Context}
-use Rattle.otel_base.specs.Stack.{has}
+use Rattle.otel_base.specs.Stack.{has_number}
 use Rattle.otel_state.specs.Stack.{last_passing}
 use Rattle.trace_base.specs.Spans.{without_last}
 use Rattle.trace_base.proofs.Entering.{count_cons}
@@ -13,7 +13,7 @@ use Rattle.otel_layer.specs.declared.tokens.Token.{Token}
 use Rattle.otel_layer.specs.Core.{is_token, is_number, keeps_as, kept_by}
 use Rattle.span_script.specs.declared.contexts.Attach.{Attach}
 use Rattle.span_script.specs.Tables.{Owner, EntryOf, GuardOf, Attached, is_owner, is_by, slot_at}
-use Rattle.span_script.specs.Fits.{numbers_of, tokens_of, kept_on, numbers_by, AreDistinct, ContextsFit}
+use Rattle.span_script.specs.Fits.{numbers_of, tokens_of, kept_on, numbers_by, HaveOwnNumbers, ContextsFit}
 use Rattle.span_script.proofs.lane_contexts.OwnersLemmas.{other_owner, owner_is, map_more, tokens_push, without_other, without_same}
 use Rattle.span_script.proofs.steps.SlotsLemmas.{named_within}
 
@@ -106,10 +106,10 @@ exit_quiet place lane tokens later attaches (GuardOf n) = refl
 -- ---- an attach
 
 pub attach_own : (activation : Bool) (place lane number : ℕ) (tokens : List Token) (attaches : List (Option Attach)) (o : Owner)
-    → numbers_by activation place lane tokens (attaches ++ Some (record { lane = place; attached = number }) ∷ []) o ≡ numbers_by activation place lane tokens attaches o ++ (if is_owner (GuardOf (length attaches)) o then Some number ∷ [] else [])
+    → numbers_by activation place lane tokens (attaches ++ Some (record { place = place; attached = number }) ∷ []) o ≡ numbers_by activation place lane tokens attaches o ++ (if is_owner (GuardOf (length attaches)) o then Some number ∷ [] else [])
 attach_own activation place lane number tokens attaches (EntryOf q) = sym (append-nil (numbers_by activation place lane tokens attaches (EntryOf q)))
 attach_own activation place lane number tokens attaches (GuardOf n) =
-    let a : Option Attach = Some (record { lane = place; attached = number }) in
+    let a : Option Attach = Some (record { place = place; attached = number }) in
     elim (cases_eq (length attaches) n) [
       | inl here ↦ (
           let now : kept_on place (slot_at (attaches ++ a ∷ []) n) ≡ Some number ∷ [] = ap (λ (k : ℕ). kept_on place (slot_at (attaches ++ a ∷ []) k)) (sym here) ∙ ap (kept_on place) (slot_last attaches a) ∙ cond-true {A = List (Option ℕ)} (place == place) (Some number ∷ []) [] (eq-eqb place place refl) in
@@ -120,10 +120,10 @@ attach_own activation place lane number tokens attaches (GuardOf n) =
     ]
 
 pub attach_other : (activation : Bool) (place other lane number : ℕ) (tokens : List Token) (attaches : List (Option Attach)) → (other ≡ place → ⊥) → (o : Owner)
-    → numbers_by activation other lane tokens (attaches ++ Some (record { lane = place; attached = number }) ∷ []) o ≡ numbers_by activation other lane tokens attaches o
+    → numbers_by activation other lane tokens (attaches ++ Some (record { place = place; attached = number }) ∷ []) o ≡ numbers_by activation other lane tokens attaches o
 attach_other activation place other lane number tokens attaches apart (EntryOf q) = refl
 attach_other activation place other lane number tokens attaches apart (GuardOf n) =
-    let a : Option Attach = Some (record { lane = place; attached = number }) in
+    let a : Option Attach = Some (record { place = place; attached = number }) in
     elim (cases_eq (length attaches) n) [
       | inl here ↦ ap (λ (k : ℕ). kept_on other (slot_at (attaches ++ a ∷ []) k)) (sym here) ∙ ap (kept_on other) (slot_last attaches a) ∙ cond-false {A = List (Option ℕ)} (place == other) (Some number ∷ []) [] (ne_eqb place other (λ e. apart (sym e)))
           ∙ sym (ap (λ (k : ℕ). kept_on other (slot_at attaches k)) (sym here) ∙ ap (kept_on other) (slot_past attaches))
@@ -132,11 +132,11 @@ attach_other activation place other lane number tokens attaches apart (GuardOf n
 
 -- ---- a detach
 
-pub guard_keeps : (activation : Bool) (place lane : ℕ) (tokens : List Token) (attaches : List (Option Attach)) (n : ℕ) (a : Attach) → slot_at attaches n ≡ Some a → a.lane ≡ place
+pub guard_keeps : (activation : Bool) (place lane : ℕ) (tokens : List Token) (attaches : List (Option Attach)) (n : ℕ) (a : Attach) → slot_at attaches n ≡ Some a → a.place ≡ place
     → numbers_by activation place lane tokens attaches (GuardOf n) ≡ Some a.attached ∷ []
-guard_keeps activation place lane tokens attaches n a there on = ap (kept_on place) there ∙ cond-true {A = List (Option ℕ)} (a.lane == place) (Some a.attached ∷ []) [] (eq-eqb a.lane place on)
+guard_keeps activation place lane tokens attaches n a there on = ap (kept_on place) there ∙ cond-true {A = List (Option ℕ)} (a.place == place) (Some a.attached ∷ []) [] (eq-eqb a.place place on)
 
-pub detach_own : (activation : Bool) (place lane : ℕ) (tokens : List Token) (attaches : List (Option Attach)) (n : ℕ) (a : Attach) → slot_at attaches n ≡ Some a → a.lane ≡ place
+pub detach_own : (activation : Bool) (place lane : ℕ) (tokens : List Token) (attaches : List (Option Attach)) (n : ℕ) (a : Attach) → slot_at attaches n ≡ Some a → a.place ≡ place
     → numbers_by activation place lane tokens attaches (GuardOf n) ≡ numbers_by activation place lane tokens (slice_set attaches n None) (GuardOf n) ++ Some a.attached ∷ []
 detach_own activation place lane tokens attaches n a there on =
     guard_keeps activation place lane tokens attaches n a there on
@@ -148,33 +148,33 @@ detach_others activation place lane tokens attaches n (EntryOf q) apart = refl
 detach_others activation place lane tokens attaches n (GuardOf m) apart = ap (kept_on place) (get_or-set_other attaches n m None None (λ e. apart (ap GuardOf e)))
 
 -- a guard keeps nothing on other lanes
-pub detach_other : (activation : Bool) (place other lane : ℕ) (tokens : List Token) (attaches : List (Option Attach)) (n : ℕ) (a : Attach) → slot_at attaches n ≡ Some a → a.lane ≡ place → (other ≡ place → ⊥) → (o : Owner)
+pub detach_other : (activation : Bool) (place other lane : ℕ) (tokens : List Token) (attaches : List (Option Attach)) (n : ℕ) (a : Attach) → slot_at attaches n ≡ Some a → a.place ≡ place → (other ≡ place → ⊥) → (o : Owner)
     → numbers_by activation other lane tokens (slice_set attaches n None) o ≡ numbers_by activation other lane tokens attaches o
 detach_other activation place other lane tokens attaches n a there on apart (EntryOf q) = refl
 detach_other activation place other lane tokens attaches n a there on apart (GuardOf m) = elim (cases_eq m n) [
   | inl here ↦ ap (λ (k : ℕ). kept_on other (slot_at (slice_set attaches n None) k)) here ∙ ap (kept_on other) (get_or-set_same attaches n None None (named_within attaches n a there))
-      ∙ sym (ap (λ (k : ℕ). kept_on other (slot_at attaches k)) here ∙ ap (kept_on other) there ∙ cond-false {A = List (Option ℕ)} (a.lane == other) (Some a.attached ∷ []) [] (ne_eqb a.lane other (λ e. apart (sym e ∙ on))))
+      ∙ sym (ap (λ (k : ℕ). kept_on other (slot_at attaches k)) here ∙ ap (kept_on other) there ∙ cond-false {A = List (Option ℕ)} (a.place == other) (Some a.attached ∷ []) [] (ne_eqb a.place other (λ e. apart (sym e ∙ on))))
   | inr before ↦ ap (kept_on other) (get_or-set_other attaches n m None None before)
 ]
 
 -- ---- what a guard keeps no entry keeps
 
-none_has : (o : Owner) (live : List (ℕ × Context)) (items : List Attached) (number : ℕ) → has number live ≡ false → list_any (is_number number) (numbers_of o live items) ≡ false
+none_has : (o : Owner) (live : List (ℕ × Context)) (items : List Attached) (number : ℕ) → has_number number live ≡ false → list_any (is_number number) (numbers_of o live items) ≡ false
 none_has o [] items number none = refl
 none_has o (x ∷ live) [] number none = refl
 none_has o (x ∷ live) (a ∷ items) number none =
-    let parts = or_parts (x.0 == number) (has number live) none in
+    let parts = or_parts (x.0 == number) (has_number number live) none in
     elim (cases_Bool (is_by o a)) [
       | inl here ↦ rw (here, parts.0) (none_has o live items number parts.1)
       | inr apart ↦ rw apart (none_has o live items number parts.1)
     ]
 
-once : (o r : Owner) → (o ≡ r → ⊥) → (live : List (ℕ × Context)) (items : List Attached) → AreDistinct live → (number : ℕ) → list_any (is_number number) (numbers_of o live items) ≡ true → list_any (is_number number) (numbers_of r live items) ≡ false
+once : (o r : Owner) → (o ≡ r → ⊥) → (live : List (ℕ × Context)) (items : List Attached) → HaveOwnNumbers live → (number : ℕ) → list_any (is_number number) (numbers_of o live items) ≡ true → list_any (is_number number) (numbers_of r live items) ≡ false
 once o r apart [] items distinct number some = refl
 once o r apart (x ∷ live) [] distinct number some = refl
 once o r apart (x ∷ live) (a ∷ items) distinct number some = elim (cases_Bool (x.0 == number)) [
   | inl this ↦ (
-      let fresh : has number live ≡ false = ap (λ (n : ℕ). has n live) (sym (eqb-true x.0 number this)) ∙ distinct.0 in
+      let fresh : has_number number live ≡ false = ap (λ (n : ℕ). has_number n live) (sym (eqb-true x.0 number this)) ∙ distinct.0 in
       elim (cases_Bool (is_by o a)) [
         | inl mine ↦ (
             let other : is_by r a ≡ false = other_owner a.owner r (λ e. apart (sym (owner_is a.owner o mine) ∙ e)) in

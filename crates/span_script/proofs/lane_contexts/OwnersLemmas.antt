@@ -4,14 +4,14 @@ use Rattle.std.specs.List.{list_any}
 use Rattle.std.proofs.Common.{◌≡◌, ℕ, List, [], ◌∷◌, ◌++◌, Bool, true, false, Option, Some, None, map, refl, sym, ap, subst, ◌∙◌, inl, inr}
 use Rattle.std.proofs.lemmas.Bool.{cases_Bool, eq-eqb, eqb-true, ne_eqb, cond-true, cond-false, or_parts, or_cases, true≢false}
 use Rattle.otel_base.specs.declared.context.Context.{Context}
-use Rattle.otel_base.specs.Stack.{has, without, last_context}
+use Rattle.otel_base.specs.Stack.{has_number, without_number, last_context}
 use Rattle.otel_state.specs.Stack.{last_passing}
 use Rattle.trace_base.specs.Spans.{without_last}
 use Rattle.otel_layer.specs.declared.tokens.Token.{Token}
 use Rattle.otel_layer.specs.Core.{is_token}
 use Rattle.span_script.specs.Tables.{Owner, EntryOf, GuardOf, Attached, is_owner, is_by}
 use Rattle.span_script.specs.calls.Spans.{last_attached}
-use Rattle.span_script.specs.Fits.{numbers_of, tokens_of, AreDistinct, ContextsFit}
+use Rattle.span_script.specs.Fits.{numbers_of, tokens_of, HaveOwnNumbers, ContextsFit}
 use Rattle.span_script.proofs.steps.SlotsLemmas.{some_is}
 
 -- ---- owners
@@ -31,16 +31,16 @@ other_owner a o apart = elim (cases_Bool (is_owner a o)) [ inl e ↦ absurd (apa
 
 -- ---- one context more
 
-has_push : (n : ℕ) (live : List (ℕ × Context)) (x : ℕ × Context) → has n live ≡ false → (x.0 ≡ n → ⊥) → has n (live ++ x ∷ []) ≡ false
+has_push : (n : ℕ) (live : List (ℕ × Context)) (x : ℕ × Context) → has_number n live ≡ false → (x.0 ≡ n → ⊥) → has_number n (live ++ x ∷ []) ≡ false
 has_push n [] x none other = ap (λ b. b || false) (ne_eqb x.0 n other)
 has_push n (y ∷ live) x none other =
-    let parts = or_parts (eqb y.0 n) (has n live) none in
-    ap (λ b. b || has n (live ++ x ∷ [])) parts.0 ∙ has_push n live x parts.1 other
+    let parts = or_parts (eqb y.0 n) (has_number n live) none in
+    ap (λ b. b || has_number n (live ++ x ∷ [])) parts.0 ∙ has_push n live x parts.1 other
 
-distinct_push : (live : List (ℕ × Context)) (x : ℕ × Context) → AreDistinct live → has x.0 live ≡ false → AreDistinct (live ++ x ∷ [])
+distinct_push : (live : List (ℕ × Context)) (x : ℕ × Context) → HaveOwnNumbers live → has_number x.0 live ≡ false → HaveOwnNumbers (live ++ x ∷ [])
 distinct_push [] x distinct fresh = (refl, tt)
 distinct_push (y ∷ live) x distinct fresh =
-    let parts = or_parts (eqb y.0 x.0) (has x.0 live) fresh in
+    let parts = or_parts (eqb y.0 x.0) (has_number x.0 live) fresh in
     (has_push y.0 live x distinct.0 (λ e. true≢false (sym (eq-eqb y.0 x.0 (sym e)) ∙ parts.0)), distinct_push live x distinct.1 parts.1)
 
 pub map_more : {A B : Type 0} (f : A → B) (xs : List A) (x : A) → map f (xs ++ x ∷ []) ≡ map f xs ++ f x ∷ []
@@ -66,7 +66,7 @@ tokens_push lane s [] k = elim (cases_Bool (is_token lane s k)) [ inl e ↦ rw e
 tokens_push lane s (y ∷ tokens) k = elim (cases_Bool (is_token lane s y)) [ inl e ↦ rw e (ap (λ ys. y.attached ∷ ys) (tokens_push lane s tokens k)) | inr e ↦ rw e (tokens_push lane s tokens k) ]
 
 -- a context more, whose number its owner keeps
-pub contexts_push : (owner : Owner) (live now : List (ℕ × Context)) (items : List Attached) (number : ℕ) (context : Context) (numbers later : Owner → List (Option ℕ)) → ContextsFit numbers live items → has number live ≡ false → now ≡ live ++ (number, context) ∷ []
+pub contexts_push : (owner : Owner) (live now : List (ℕ × Context)) (items : List Attached) (number : ℕ) (context : Context) (numbers later : Owner → List (Option ℕ)) → ContextsFit numbers live items → has_number number live ≡ false → now ≡ live ++ (number, context) ∷ []
     → ((o : Owner) → later o ≡ numbers o ++ (if is_owner owner o then Some number ∷ [] else [])) → ContextsFit later now (items ++ record { owner = owner; context = context } ∷ [])
 contexts_push owner live now items number context numbers later fit fresh is more = subst (λ (xs : List (ℕ × Context)). ContextsFit later xs (items ++ record { owner = owner; context = context } ∷ [])) (sym is) (record {
   contexts = map_more (λ (y : ℕ × Context). y.1) live (number, context) ∙ ap (λ cs. cs ++ context ∷ []) fit.contexts ∙ sym (map_more (λ (b : Attached). b.context) items (record { owner = owner; context = context }));
@@ -108,13 +108,13 @@ without_same p (y ∷ xs) x last = elim (cases_Bool (list_any p xs)) [
       ])
 ]
 
-has_without : (m n : ℕ) (live : List (ℕ × Context)) → has m live ≡ false → has m (without n live) ≡ false
+has_without : (m n : ℕ) (live : List (ℕ × Context)) → has_number m live ≡ false → has_number m (without_number n live) ≡ false
 has_without m n [] none = refl
 has_without m n (x ∷ live) none =
-    let parts = or_parts (eqb x.0 m) (has m live) none in
+    let parts = or_parts (eqb x.0 m) (has_number m live) none in
     elim (cases_Bool (eqb x.0 n)) [
       | inl here ↦ rw here parts.1
-      | inr apart ↦ rw apart (ap (λ b. b || has m (without n live)) parts.0 ∙ has_without m n live parts.1)
+      | inr apart ↦ rw apart (ap (λ b. b || has_number m (without_number n live)) parts.0 ∙ has_without m n live parts.1)
     ]
 
 none_numbers : (s : Owner) (live : List (ℕ × Context)) (items : List Attached) → list_any (is_by s) items ≡ false → numbers_of s live items ≡ []
@@ -140,35 +140,35 @@ some_numbers s (x ∷ live) (a ∷ items) same some none = elim (cases_Bool (is_
 record TakenOff (s : Owner) (live : List (ℕ × Context)) (items : List Attached) (ys : List (Option ℕ)) (o : Option ℕ) : Type 0 where
   number : ℕ
   is : o ≡ Some number
-  there : has number live ≡ true
-  contexts : map (λ x. x.1) (without number live) ≡ map (λ a. a.context) (without_last (is_by s) items)
-  distinct : AreDistinct (without number live)
-  own : numbers_of s (without number live) (without_last (is_by s) items) ≡ ys
-  others : (r : Owner) → (r ≡ s → ⊥) → numbers_of r (without number live) (without_last (is_by s) items) ≡ numbers_of r live items
+  there : has_number number live ≡ true
+  contexts : map (λ x. x.1) (without_number number live) ≡ map (λ a. a.context) (without_last (is_by s) items)
+  distinct : HaveOwnNumbers (without_number number live)
+  own : numbers_of s (without_number number live) (without_last (is_by s) items) ≡ ys
+  others : (r : Owner) → (r ≡ s → ⊥) → numbers_of r (without_number number live) (without_last (is_by s) items) ≡ numbers_of r live items
 
 pub head_is : {A : Type 0} (a b : A) (xs ys : List A) → (a ∷ xs) ≡ (b ∷ ys) → (a ≡ b) × (xs ≡ ys)
 head_is a b xs ys e = (cc e, cc e)
 
 -- one that stands before it
-taken_after : (s : Owner) (x : ℕ × Context) (a : Attached) (live : List (ℕ × Context)) (items : List Attached) (ys zs : List (Option ℕ)) (o : Option ℕ) → (x.1 ≡ a.context) → has x.0 live ≡ false → list_any (is_by s) items ≡ true
+taken_after : (s : Owner) (x : ℕ × Context) (a : Attached) (live : List (ℕ × Context)) (items : List Attached) (ys zs : List (Option ℕ)) (o : Option ℕ) → (x.1 ≡ a.context) → has_number x.0 live ≡ false → list_any (is_by s) items ≡ true
     → TakenOff s live items ys o → zs ≡ (if is_by s a then Some x.0 ∷ ys else ys) → TakenOff s (x ∷ live) (a ∷ items) zs o
 taken_after s x a live items ys zs o context fresh later t zs_are =
-    let apart : eqb x.0 t.number ≡ false = ne_eqb x.0 t.number (λ e. true≢false (sym t.there ∙ ap (λ (n : ℕ). has n live) (sym e) ∙ fresh)) in
-    let left : without t.number (x ∷ live) ≡ x ∷ without t.number live = cond-false {A = List (ℕ × Context)} (eqb x.0 t.number) live (x ∷ without t.number live) apart in
+    let apart : eqb x.0 t.number ≡ false = ne_eqb x.0 t.number (λ e. true≢false (sym t.there ∙ ap (λ (n : ℕ). has_number n live) (sym e) ∙ fresh)) in
+    let left : without_number t.number (x ∷ live) ≡ x ∷ without_number t.number live = cond-false {A = List (ℕ × Context)} (eqb x.0 t.number) live (x ∷ without_number t.number live) apart in
     let rest : without_last (is_by s) (a ∷ items) ≡ a ∷ without_last (is_by s) items = cond-true {A = List Attached} (list_any (is_by s) items) (a ∷ without_last (is_by s) items) (if is_by s a then items else a ∷ items) later in
-    let both : (r : Owner) → numbers_of r (without t.number (x ∷ live)) (without_last (is_by s) (a ∷ items)) ≡ (if is_by r a then Some x.0 ∷ numbers_of r (without t.number live) (without_last (is_by s) items) else numbers_of r (without t.number live) (without_last (is_by s) items))
-    = λ r. ap (λ (xs : List (ℕ × Context)). numbers_of r xs (without_last (is_by s) (a ∷ items))) left ∙ ap (λ (is : List Attached). numbers_of r (x ∷ without t.number live) is) rest in
+    let both : (r : Owner) → numbers_of r (without_number t.number (x ∷ live)) (without_last (is_by s) (a ∷ items)) ≡ (if is_by r a then Some x.0 ∷ numbers_of r (without_number t.number live) (without_last (is_by s) items) else numbers_of r (without_number t.number live) (without_last (is_by s) items))
+    = λ r. ap (λ (xs : List (ℕ × Context)). numbers_of r xs (without_last (is_by s) (a ∷ items))) left ∙ ap (λ (is : List Attached). numbers_of r (x ∷ without_number t.number live) is) rest in
     record {
       number = t.number;
       is = t.is;
-      there = ap (λ b. b || has t.number live) apart ∙ t.there;
-      contexts = ap (λ (xs : List (ℕ × Context)). map (λ y. y.1) xs) left ∙ ap (λ c. c ∷ map (λ y. y.1) (without t.number live)) context ∙ ap (λ cs. a.context ∷ cs) t.contexts ∙ ap (λ (is : List Attached). map (λ b. b.context) is) (sym rest);
-      distinct = subst AreDistinct (sym left) (has_without x.0 t.number live fresh, t.distinct);
+      there = ap (λ b. b || has_number t.number live) apart ∙ t.there;
+      contexts = ap (λ (xs : List (ℕ × Context)). map (λ y. y.1) xs) left ∙ ap (λ c. c ∷ map (λ y. y.1) (without_number t.number live)) context ∙ ap (λ cs. a.context ∷ cs) t.contexts ∙ ap (λ (is : List Attached). map (λ b. b.context) is) (sym rest);
+      distinct = subst HaveOwnNumbers (sym left) (has_without x.0 t.number live fresh, t.distinct);
       own = both s ∙ ap (λ ns. if is_by s a then Some x.0 ∷ ns else ns) t.own ∙ sym zs_are;
       others = λ r other. both r ∙ ap (λ ns. if is_by r a then Some x.0 ∷ ns else ns) (t.others r other);
     }
 
-take_off : (s : Owner) (live : List (ℕ × Context)) (items : List Attached) (ys : List (Option ℕ)) (o : Option ℕ) → map (λ x. x.1) live ≡ map (λ a. a.context) items → AreDistinct live → numbers_of s live items ≡ ys ++ o ∷ [] → TakenOff s live items ys o
+take_off : (s : Owner) (live : List (ℕ × Context)) (items : List Attached) (ys : List (Option ℕ)) (o : Option ℕ) → map (λ x. x.1) live ≡ map (λ a. a.context) items → HaveOwnNumbers live → numbers_of s live items ≡ ys ++ o ∷ [] → TakenOff s live items ys o
 take_off s [] items ys o same distinct are = absurd (no_end ys o are)
 take_off s (x ∷ live) [] ys o same distinct are = absurd (no_end ys o are)
 take_off s (x ∷ live) (a ∷ items) ys o same distinct are =
@@ -197,14 +197,14 @@ take_off s (x ∷ live) (a ∷ items) ys o same distinct are =
     last_one : (ys : List (Option ℕ)) → (Some x.0 ∷ numbers_of s live items) ≡ ys ++ o ∷ [] → map (λ x. x.1) live ≡ map (λ a. a.context) items → list_any (is_by s) items ≡ false → (is_by s a) ≡ true → TakenOff s (x ∷ live) (a ∷ items) ys o
     last_one (y ∷ zs) e rest none here = absurd (no_end zs o (sym (none_numbers s live items none) ∙ (head_is (Some x.0) y (numbers_of s live items) (zs ++ o ∷ []) e).1))
     last_one [] e rest none here =
-        let left : without x.0 (x ∷ live) ≡ live = cond-true {A = List (ℕ × Context)} (eqb x.0 x.0) live (x ∷ without x.0 live) (eq-eqb x.0 x.0 refl) in
+        let left : without_number x.0 (x ∷ live) ≡ live = cond-true {A = List (ℕ × Context)} (eqb x.0 x.0) live (x ∷ without_number x.0 live) (eq-eqb x.0 x.0 refl) in
         let gone : without_last (is_by s) (a ∷ items) ≡ items = cond-false {A = List Attached} (list_any (is_by s) items) (a ∷ without_last (is_by s) items) (if is_by s a then items else a ∷ items) none ∙ cond-true {A = List Attached} (is_by s a) items (a ∷ items) here in
         record {
           number = x.0;
           is = sym (head_is (Some x.0) o (numbers_of s live items) [] e).0;
-          there = ap (λ b. b || has x.0 live) (eq-eqb x.0 x.0 refl);
+          there = ap (λ b. b || has_number x.0 live) (eq-eqb x.0 x.0 refl);
           contexts = ap (λ (xs : List (ℕ × Context)). map (λ y. y.1) xs) left ∙ rest ∙ ap (λ (is : List Attached). map (λ b. b.context) is) (sym gone);
-          distinct = subst AreDistinct (sym left) distinct.1;
+          distinct = subst HaveOwnNumbers (sym left) distinct.1;
           own = ap (λ (xs : List (ℕ × Context)). numbers_of s xs (without_last (is_by s) (a ∷ items))) left ∙ ap (numbers_of s live) gone ∙ none_numbers s live items none;
           others = λ r other. ap (λ (xs : List (ℕ × Context)). numbers_of r xs (without_last (is_by s) (a ∷ items))) left ∙ ap (numbers_of r live) gone
               ∙ sym (cond-false {A = List (Option ℕ)} (is_by r a) (Some x.0 ∷ numbers_of r live items) (numbers_of r live items) (other_owner a.owner r (λ e. other (sym e ∙ owner_is a.owner s here))));
@@ -212,14 +212,14 @@ take_off s (x ∷ live) (a ∷ items) ys o same distinct are =
 
 -- a context less, whose number its owner kept last
 pub contexts_take : (owner : Owner) (live now : List (ℕ × Context)) (items : List Attached) (attached : Option ℕ) (numbers later : Owner → List (Option ℕ)) → ContextsFit numbers live items → numbers owner ≡ later owner ++ attached ∷ []
-    → ((o : Owner) → (o ≡ owner → ⊥) → later o ≡ numbers o) → ((number : ℕ) → attached ≡ Some number → now ≡ without number live) → ContextsFit later now (without_last (is_by owner) items)
+    → ((o : Owner) → (o ≡ owner → ⊥) → later o ≡ numbers o) → ((number : ℕ) → attached ≡ Some number → now ≡ without_number number live) → ContextsFit later now (without_last (is_by owner) items)
 contexts_take owner live now items attached numbers later fit mine others is =
     let t = take_off owner live items (later owner) attached fit.contexts fit.distinct (fit.numbers_are owner ∙ mine) in
     subst (λ (xs : List (ℕ × Context)). ContextsFit later xs (without_last (is_by owner) items)) (sym (is t.number t.is)) (record {
       contexts = t.contexts;
       distinct = t.distinct;
       numbers_are = λ o. elim (cases_Bool (is_owner o owner)) [
-        | inl here ↦ ap (λ (k : Owner). numbers_of k (without t.number live) (without_last (is_by owner) items)) (owner_is o owner here) ∙ t.own ∙ ap later (sym (owner_is o owner here))
+        | inl here ↦ ap (λ (k : Owner). numbers_of k (without_number t.number live) (without_last (is_by owner) items)) (owner_is o owner here) ∙ t.own ∙ ap later (sym (owner_is o owner here))
         | inr apart ↦ (
             let other : o ≡ owner → ⊥ = λ e. true≢false (sym (ap (λ k. is_owner k owner) e ∙ same_owner owner) ∙ apart) in
             t.others o other ∙ fit.numbers_are o ∙ sym (others o other))
@@ -227,10 +227,10 @@ contexts_take owner live now items attached numbers later fit mine others is =
     })
 
 -- what its owner keeps is live
-pub owned_has : (owner : Owner) (live : List (ℕ × Context)) (items : List Attached) (number : ℕ) (numbers : Owner → List (Option ℕ)) → ContextsFit numbers live items → numbers owner ≡ Some number ∷ [] → has number live ≡ true
+pub owned_has : (owner : Owner) (live : List (ℕ × Context)) (items : List Attached) (number : ℕ) (numbers : Owner → List (Option ℕ)) → ContextsFit numbers live items → numbers owner ≡ Some number ∷ [] → has_number number live ≡ true
 owned_has owner live items number numbers fit mine =
     let t = take_off owner live items [] (Some number) fit.contexts fit.distinct (fit.numbers_are owner ∙ mine) in
-    subst (λ (n : ℕ). has n live ≡ true) (the_number t.number number (sym t.is)) t.there
+    subst (λ (n : ℕ). has_number n live ≡ true) (the_number t.number number (sym t.is)) t.there
   where
     the_number : (a b : ℕ) → Some a ≡ Some b → a ≡ b
     the_number a b e = cc e

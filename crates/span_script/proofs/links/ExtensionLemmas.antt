@@ -11,21 +11,21 @@ use Rattle.otel_state.specs.declared.op.Op.{Op}
 use Rattle.otel_state.specs.declared.op.Op.TheVariants as ops
 use Rattle.otel_state.specs.declared.op.OpReply.{OpReply}
 use Rattle.otel_state.specs.declared.op.SetParentError.{SetParentError}
-use Rattle.otel_state.specs.States.{Told, reply_after, is_growing}
+use Rattle.otel_state.specs.States.{SpanData, reply_after, is_growing}
 use Rattle.trace_base.specs.Gate.{Worlds}
 use Rattle.trace_base.specs.Spans.{Spans}
-use Rattle.otel_layer.specs.Table.{told_at, with_op, waits, waits_by}
+use Rattle.otel_layer.specs.Table.{data_at, with_op, waits, waits_by}
 use Rattle.otel_layer.specs.Parts.{PartCall, Applies, AppliesTo}
 use Rattle.otel_layer.specs.Asking.{AppliesOn, AsksDone, AsksParent, link_of, event_at, done_answer, parent_reply, parent_answer}
 use Rattle.otel_layer.specs.Recording.{Recording, no_recording}
-use Rattle.span_handles.specs.Worlds.{Alike, seen}
+use Rattle.span_handles.specs.Worlds.{Alike, member_of}
 use Rattle.span_handles.specs.Handles.{Handle, Held}
 use Rattle.span_script.specs.declared.reply.Refusal.TheVariants as refusal
 use Rattle.span_script.specs.declared.reply.Reply.TheVariants as reply
 use Rattle.span_script.specs.declared.reply.What.TheVariants as what
 use Rattle.span_script.specs.declared.request.Call.TheVariants as call
 use Rattle.span_script.specs.Setups.{id_at}
-use Rattle.span_script.specs.Tables.{Scope, Done, Tables, slot_at, own}
+use Rattle.span_script.specs.Tables.{Scope, SpanOp, Tables, slot_at, own_span}
 use Rattle.span_script.specs.calls.Here.{here_at, Resolved, ◌>>=◌, need, op_on, ops_effect}
 use Rattle.span_script.specs.Effects.{effect_of_call}
 use Rattle.span_script.specs.calls.Links.{link_ops, happens_at, set_while, is_set}
@@ -38,26 +38,26 @@ use Rattle.span_script.proofs.entries.EntriesFitLemmas.{fits_live}
 use Rattle.span_script.proofs.steps.LanesLemmas.{kept_alike}
 use Rattle.span_script.proofs.steps.SlotsLemmas.{Found, find, held_slot}
 use Rattle.span_script.proofs.events.EventsLemmas.{Does, does_none, serves_ops, keeps_ops}
-use Rattle.span_script.specs.SubscriberLaws.{Adds, AsksLaw, aside_in}
+use Rattle.span_script.specs.SubscriberLaws.{AddsMeasures, AsksLaw, aside_in}
 
 -- ---- the answers of ops
 
 -- an op of a known span was applied, where no memory was wanted
-applied_by : (o : Option Told) → o ≢ None → (spans now : List (ℕ × Told)) (id at : ℕ) (op : Op) (answer : Option (Result OpReply Memory)) → AppliesTo o spans id at op answer now → done_answer answer ≡ Ok tt → now ≡ with_op id at op spans
+applied_by : (o : Option SpanData) → o ≢ None → (spans now : List (ℕ × SpanData)) (id at : ℕ) (op : Op) (answer : Option (Result OpReply Memory)) → AppliesTo o spans id at op answer now → done_answer answer ≡ Ok tt → now ≡ with_op id at op spans
 applied_by None known spans now id at op answer did done = absurd (known refl)
 applied_by (Some told) known spans now id at op None did done = absurd did
 applied_by (Some told) known spans now id at op (Some (Ok r)) did done = did.1
 applied_by (Some told) known spans now id at op (Some (Err memory)) did done = absurd (cc done)
 
 -- else nothing changed
-left_by : (o : Option Told) (spans now : List (ℕ × Told)) (id at : ℕ) (op : Op) (answer : Option (Result OpReply Memory)) (memory : Memory) → AppliesTo o spans id at op answer now → done_answer answer ≡ Err memory → now ≡ spans
+left_by : (o : Option SpanData) (spans now : List (ℕ × SpanData)) (id at : ℕ) (op : Op) (answer : Option (Result OpReply Memory)) (memory : Memory) → AppliesTo o spans id at op answer now → done_answer answer ≡ Err memory → now ≡ spans
 left_by None spans now id at op answer memory did wanted = did.1
 left_by (Some told) spans now id at op None memory did wanted = absurd did
 left_by (Some told) spans now id at op (Some (Ok r)) memory did wanted = absurd (cc wanted)
 left_by (Some told) spans now id at op (Some (Err m)) memory did wanted = did.1
 
 -- an op that doesn't grow wants none
-unwanted : (o : Option Told) (spans now : List (ℕ × Told)) (id at : ℕ) (op : Op) (answer : Option (Result OpReply Memory)) → is_growing op ≡ false → AppliesTo o spans id at op answer now → done_answer answer ≡ Ok tt
+unwanted : (o : Option SpanData) (spans now : List (ℕ × SpanData)) (id at : ℕ) (op : Op) (answer : Option (Result OpReply Memory)) → is_growing op ≡ false → AppliesTo o spans id at op answer now → done_answer answer ≡ Ok tt
 unwanted None spans now id at op answer still did = ap done_answer did.0
 unwanted (Some told) spans now id at op None still did = absurd did
 unwanted (Some told) spans now id at op (Some (Ok r)) still did = refl
@@ -68,7 +68,7 @@ own_answer : (own : Option SpanContext) (context parent : Context) → parent_re
 own_answer None context parent = refl
 own_answer (Some given) context parent = refl
 
-set_by : (o : Option Told) → o ≢ None → (held : ℕ × ℕ) (spans now : List (ℕ × Told)) (id at : ℕ) (context : Context) (answer : Option (Result OpReply Memory)) → AppliesTo o spans id at (ops.SetParent context) answer now
+set_by : (o : Option SpanData) → o ≢ None → (held : ℕ × ℕ) (spans now : List (ℕ × SpanData)) (id at : ℕ) (context : Context) (answer : Option (Result OpReply Memory)) → AppliesTo o spans id at (ops.SetParent context) answer now
     → parent_answer (Some held) answer ≡ set_while (is_some (waits o))
 set_by None known held spans now id at context answer did = absurd (known refl)
 set_by (Some told) known held spans now id at context None did = absurd did
@@ -90,23 +90,23 @@ module _ {S : Type 0} (spans : S → Spans) (views : Views S) (attaches : S → 
   later = state_of spans views later_parts
 
   abbrev r : Recording
-  r = seen views.recorded no_recording parts.world parts.dispatch
+  r = member_of views.recorded no_recording parts.world parts.dispatch
 
   abbrev place_id : ℕ
   place_id = id_at now.setup.ids lane
 
-  abbrev IsDone : List Done → Type 0
+  abbrev IsDone : List SpanOp → Type 0
   IsDone o = Does spans views attaches kept is_whole parts new at o []
 
   its_scope : (t : Tables) → Fits now t → Found (held_of parts.dispatch) t.handles handle h.held
   its_scope t fits = find (held_of parts.dispatch) (map held_by parts.handles) t.handles handle h.held fits.handle_slots (held_slot parts.handles handle h found)
 
   -- the span of an unspent handle is known
-  known : (t : Tables) → StandsFor now t → (line : Scope) → slot_at t.handles handle ≡ Some line → (s : ℕ) (up : Scope) → line ≡ s ∷ up → told_at s r.spans ≢ None
-  known t stands line there s up is = stands.recording.known s (fits_live now.spans (map named_by t.handles) (map (opened_by now.setup.ids) t.guards) t.entries stands.fits.balanced handle s (named_slot t.handles handle line there ∙ ap own is))
+  known : (t : Tables) → StandsFor now t → (line : Scope) → slot_at t.handles handle ≡ Some line → (s : ℕ) (up : Scope) → line ≡ s ∷ up → data_at s r.spans ≢ None
+  known t stands line there s up is = stands.recording.known s (fits_live now.spans (map named_by t.handles) (map (opened_by now.setup.ids) t.guards) t.entries stands.fits.balanced handle s (named_slot t.handles handle line there ∙ ap own_span is))
 
   abbrev Known : Scope → Type 0
-  Known line = (s : ℕ) (up : Scope) → line ≡ s ∷ up → told_at s r.spans ≢ None
+  Known line = (s : ℕ) (up : Scope) → line ≡ s ∷ up → data_at s r.spans ≢ None
 
   -- an op was applied
   did_op : (line : Scope) → Known line → (op : Op) (answer : Option (Result OpReply Memory)) → AppliesOn touches parts.world new at op (held_of parts.dispatch line) answer → done_answer answer ≡ Ok tt → IsDone (op_on line op)
@@ -119,8 +119,8 @@ module _ {S : Type 0} (spans : S → Spans) (views : Views S) (attaches : S → 
         spans_same = alike.spans_same;
         kept_same = alike.kept_same;
         sites_same = ap (λ (w : Worlds S). w.sites) did.others;
-        recorded_is = records.1 ∙ ap (λ (xs : List (ℕ × Told)). record r { spans = xs }) (applied_by (told_at s r.spans) (is_known s up refl) r.spans _ s at op answer records.0 done);
-        filter_is = told.1 ∙ heard_none (seen views.filtered None parts.world parts.dispatch);
+        recorded_is = records.1 ∙ ap (λ (xs : List (ℕ × SpanData)). record r { spans = xs }) (applied_by (data_at s r.spans) (is_known s up refl) r.spans _ s at op answer records.0 done);
+        filter_is = told.1 ∙ heard_none (member_of views.filtered None parts.world parts.dispatch);
         aside_is = told.2;
         cached_same = ap (λ (w : Worlds S). w.cached) did.others;
         count = alike.count;
@@ -130,16 +130,16 @@ module _ {S : Type 0} (spans : S → Spans) (views : Views S) (attaches : S → 
   -- one that doesn't grow always is
   still_done : (line : Scope) (op : Op) (answer : Option (Result OpReply Memory)) → is_growing op ≡ false → AppliesOn touches parts.world new at op (held_of parts.dispatch line) answer → done_answer answer ≡ Ok tt
   still_done [] op answer still did = ap done_answer did.0
-  still_done (s ∷ up) op answer still did = unwanted (told_at s r.spans) r.spans _ s at op answer still (law.recalled parts.world new parts.dispatch (Applies s at op answer) did).0.0
+  still_done (s ∷ up) op answer still did = unwanted (data_at s r.spans) r.spans _ s at op answer still (law.recalled parts.world new parts.dispatch (Applies s at op answer) did).0.0
 
   -- whether a parent was set
   was_set : (line : Scope) → Known line → (context : Context) (answer : Option (Result OpReply Memory)) → AppliesOn touches parts.world new at (ops.SetParent context) (held_of parts.dispatch line) answer → parent_answer (held_of parts.dispatch line) answer ≡ is_set r line
   was_set [] is_known context answer did = refl
-  was_set (s ∷ up) is_known context answer did = set_by (told_at s r.spans) (is_known s up refl) (parts.dispatch, s) r.spans _ s at context answer (law.recalled parts.world new parts.dispatch (Applies s at (ops.SetParent context) answer) did).0.0
+  was_set (s ∷ up) is_known context answer did = set_by (data_at s r.spans) (is_known s up refl) (parts.dispatch, s) r.spans _ s at context answer (law.recalled parts.world new parts.dispatch (Applies s at (ops.SetParent context) answer) did).0.0
 
   -- nothing of what is kept changed
   abbrev Rest : Type 0
-  Rest = Alike spans attaches kept is_whole parts.world new parts.dispatch × (new.sites ≡ parts.world.sites) × (seen views.recorded no_recording new parts.dispatch ≡ r) × (seen views.filtered None new parts.dispatch ≡ seen views.filtered None parts.world parts.dispatch) × (new.cached ≡ parts.world.cached) × Adds (aside_in views parts.world parts.dispatch) (aside_in views new parts.dispatch) []
+  Rest = Alike spans attaches kept is_whole parts.world new parts.dispatch × (new.sites ≡ parts.world.sites) × (member_of views.recorded no_recording new parts.dispatch ≡ r) × (member_of views.filtered None new parts.dispatch ≡ member_of views.filtered None parts.world parts.dispatch) × (new.cached ≡ parts.world.cached) × AddsMeasures (aside_in views parts.world parts.dispatch) (aside_in views new parts.dispatch) []
 
   -- where memory was wanted nothing changed
   left : (line : Scope) (op : Op) (answer : Option (Result OpReply Memory)) (memory : Memory) → AppliesOn touches parts.world new at op (held_of parts.dispatch line) answer → done_answer answer ≡ Err memory
@@ -150,7 +150,7 @@ module _ {S : Type 0} (spans : S → Spans) (views : Views S) (attaches : S → 
       let records = told.0 in (
         law.shown parts.world new parts.dispatch (Applies s at op answer) did,
         ap (λ (w : Worlds S). w.sites) did.others,
-        records.1 ∙ ap (λ (xs : List (ℕ × Told)). record r { spans = xs }) (left_by (told_at s r.spans) r.spans _ s at op answer memory records.0 wanted),
+        records.1 ∙ ap (λ (xs : List (ℕ × SpanData)). record r { spans = xs }) (left_by (data_at s r.spans) r.spans _ s at op answer memory records.0 wanted),
         told.1,
         ap (λ (w : Worlds S). w.cached) did.others,
         told.2,
@@ -215,20 +215,20 @@ module _ {S : Type 0} (spans : S → Spans) (views : Views S) (attaches : S → 
 
   module _ (context : ℕ) where
     -- one that isn't there
-    pub refuses_context : slice_get parts.contexts.made context ≡ None → (t : Tables) → Fits now t → (go : Scope → Context → Resolved)
-        → (need what.Handle (slot_at t.handles handle) >>= (λ scope. need what.Context (slice_get t.named context) >>= (go scope))) ≡ Err (refusal.UnknownName what.Context)
+    pub refuses_context : slice_get parts.contexts.contexts context ≡ None → (t : Tables) → Fits now t → (go : Scope → Context → Resolved)
+        → (need what.Handle (slot_at t.handles handle) >>= (λ scope. need what.Context (slice_get t.named_contexts context) >>= (go scope))) ≡ Err (refusal.UnknownName what.Context)
     refuses_context gone t fits go =
         let line = its_scope t fits in
-        ap (λ o. need what.Handle o >>= (λ scope. need what.Context (slice_get t.named context) >>= (go scope))) line.there
-        ∙ ap (λ o. need what.Context o >>= (go line.at)) (ap (λ (xs : List Context). slice_get xs context) (sym fits.named) ∙ gone)
+        ap (λ o. need what.Handle o >>= (λ scope. need what.Context (slice_get t.named_contexts context) >>= (go scope))) line.there
+        ∙ ap (λ o. need what.Context o >>= (go line.at)) (ap (λ (xs : List Context). slice_get xs context) (sym fits.named_contexts) ∙ gone)
 
-    module _ (given : Context) (there : slice_get parts.contexts.made context ≡ Some given) where
+    module _ (given : Context) (there : slice_get parts.contexts.contexts context ≡ Some given) where
       its_context : (t : Tables) (fits : Fits now t) → (go : Scope → Context → Resolved)
-          → (need what.Handle (slot_at t.handles handle) >>= (λ scope. need what.Context (slice_get t.named context) >>= (go scope))) ≡ go (its_scope t fits).at given
+          → (need what.Handle (slot_at t.handles handle) >>= (λ scope. need what.Context (slice_get t.named_contexts context) >>= (go scope))) ≡ go (its_scope t fits).at given
       its_context t fits go =
           let line = its_scope t fits in
-          ap (λ o. need what.Handle o >>= (λ scope. need what.Context (slice_get t.named context) >>= (go scope))) line.there
-          ∙ ap (λ o. need what.Context o >>= (go line.at)) (ap (λ (xs : List Context). slice_get xs context) (sym fits.named) ∙ there)
+          ap (λ o. need what.Handle o >>= (λ scope. need what.Context (slice_get t.named_contexts context) >>= (go scope))) line.there
+          ∙ ap (λ o. need what.Context o >>= (go line.at)) (ap (λ (xs : List Context). slice_get xs context) (sym fits.named_contexts) ∙ there)
 
       -- a parent
       module _ (set : Result (Unit {0}) SetParentError) (did : AsksParent touches parts.world new at given h.held set) where

@@ -3,22 +3,22 @@ use Rattle.std.specs.Prelude.{◌≢◌}
 use Rattle.std.proofs.Common.{◌≡◌, ℕ, List, [], ◌∷◌, Bool, Option, Some, None, Ok, Err, map, refl, sym, ap, subst, ◌∙◌}
 use Rattle.otel_base.specs.Ids.{ids_of}
 use Rattle.otel_base.specs.Stack.{empty_context}
-use Rattle.otel_state.specs.States.{Told}
+use Rattle.otel_state.specs.States.{SpanData}
 use Rattle.trace_base.specs.Gate.{Worlds}
 use Rattle.trace_base.specs.Spans.{Spans}
 use Rattle.trace_base.specs.Calls.{SubscriberCall}
 use Rattle.otel_layer.specs.Asking.{link_of}
 use Rattle.otel_layer.specs.Steps.{with_link}
-use Rattle.otel_layer.specs.Table.{told_at, with_op, own_or, ids_at}
+use Rattle.otel_layer.specs.Table.{data_at, with_op, own_or, ids_at}
 use Rattle.otel_layer.specs.Recording.{Recording, no_recording, with_start}
-use Rattle.span_handles.specs.Worlds.{seen}
+use Rattle.span_handles.specs.Worlds.{member_of}
 use Rattle.span_handles.specs.Handles.{Handle, Held, FollowsOn, AreOfOne}
 use Rattle.span_script.specs.declared.reply.Refusal.TheVariants as refusal
 use Rattle.span_script.specs.declared.reply.Reply.TheVariants as reply
 use Rattle.span_script.specs.declared.reply.What.TheVariants as what
 use Rattle.span_script.specs.declared.request.Call.TheVariants as call
 use Rattle.span_script.specs.Setups.{id_at}
-use Rattle.span_script.specs.Tables.{Scope, Done, Effect, Tables, slot_at}
+use Rattle.span_script.specs.Tables.{Scope, SpanOp, Effect, Tables, slot_at}
 use Rattle.span_script.specs.calls.Here.{here_at, ◌>>=◌, need, op_on}
 use Rattle.span_script.specs.Effects.{effect_of_call}
 use Rattle.span_script.specs.calls.Contexts.{own_context}
@@ -35,7 +35,7 @@ use Rattle.span_script.proofs.events.EventsLemmas.{Starts, does_none, starts_the
 use Rattle.span_script.specs.SubscriberLaws.{CallsLaw}
 
 -- the link to a known span is one to its own context
-linked_is : (o : Option Told) → o ≢ None → (s at : ℕ) (spans : List (ℕ × Told)) → with_link s at (ids_at o) spans ≡ with_op s at (link_of (ids_of (own_or empty_context o)) []) spans
+linked_is : (o : Option SpanData) → o ≢ None → (s at : ℕ) (spans : List (ℕ × SpanData)) → with_link s at (ids_at o) spans ≡ with_op s at (link_of (ids_of (own_or empty_context o)) []) spans
 linked_is None known s at spans = absurd (known refl)
 linked_is (Some told) known s at spans = refl
 
@@ -54,7 +54,7 @@ module _ {S : Type 0} (spans : S → Spans) (views : Views S) (attaches : S → 
   now = state_of spans views parts
 
   abbrev r : Recording
-  r = seen views.recorded no_recording parts.world parts.dispatch
+  r = member_of views.recorded no_recording parts.world parts.dispatch
 
   its_scope : (t : Tables) → Fits now t → (n : ℕ) (x : Handle) → slot_at parts.handles n ≡ Some x → Found (held_of parts.dispatch) t.handles n x.held
   its_scope t fits n x there = find (held_of parts.dispatch) (map held_by parts.handles) t.handles n x.held fits.handle_slots (held_slot parts.handles n x there)
@@ -84,7 +84,7 @@ module _ {S : Type 0} (spans : S → Spans) (views : Views S) (attaches : S → 
       -- what starts and what is linked
       record Followed (t : Tables) (line other : Scope) : Type 0 where
         starting : List ℕ
-        ops : List Done
+        ops : List SpanOp
         done : Starts spans views attaches kept is_whole parts new at starting ops [] []
         is : follow_effect (here_at now.setup t at lane) line other ≡ starts_then spans views attaches kept is_whole parts new at lane starting ops [] reply.Done
 
@@ -104,7 +104,7 @@ module _ {S : Type 0} (spans : S → Spans) (views : Views S) (attaches : S → 
               spans_same = shown.spans_after;
               kept_same = shown.lanes;
               sites_same = ap (λ (w : Worlds S). w.sites) step.others;
-              recorded_is = (law.recalled parts.world new parts.dispatch _ step).0 ∙ ap (λ (xs : List (ℕ × Told)). record r1 { spans = xs }) (linked_is (told_at q r1.spans) known s at r1.spans);
+              recorded_is = (law.recalled parts.world new parts.dispatch _ step).0 ∙ ap (λ (xs : List (ℕ × SpanData)). record r1 { spans = xs }) (linked_is (data_at q r1.spans) known s at r1.spans);
               filter_is = (law.recalled parts.world new parts.dispatch _ step).1;
               aside_is = (law.recalled parts.world new parts.dispatch _ step).2;
               cached_same = ap (λ (w : Worlds S). w.cached) step.others;

@@ -6,13 +6,13 @@ use Rattle.trace_base.specs.declared.callsite.Callsite.{Callsite}
 use Rattle.trace_base.specs.Gate.{Worlds, AreSame, IsFresh}
 use Rattle.trace_base.specs.declared.subscriber.Interest.{Interest}
 use Rattle.std.specs.Prelude.{IfSome, is_some}
-use Rattle.env_filter.specs.Filtering.{Filtered, Filtering, plain, IsNew, interest_in}
+use Rattle.env_filter.specs.Filtering.{FilterState, FilterWithRoom, plain, IsNewFilter, interest_in}
 use Rattle.otel_metrics.specs.declared.measure.Measure.{Measure}
 use Rattle.span_script.specs.Admission.{filter_if, text_filter, IsTextFilter, IsCounter}
 use Rattle.span_script.proofs.filter.CounterLemmas.{adds_nothing}
 use Rattle.span_script.proofs.filter.FilterLemmas.{cached_rows}
 use Rattle.trace_base.specs.Spans.{Spans, span_at}
-use Rattle.span_handles.specs.Worlds.{Has, Replaced, seen, spans_in, kept_in, no_spans}
+use Rattle.span_handles.specs.Worlds.{Has, Replaced, member_of, spans_in, kept_in, no_spans}
 use Rattle.span_stack.specs.Reading.{new_recording}
 use Rattle.span_handles.specs.Handles.{Handle}
 use Rattle.span_script.specs.declared.slots.Guard.{Guard}
@@ -21,20 +21,20 @@ use Rattle.span_script.specs.Setups.{Setup, HasOwnIds, id_at}
 use Rattle.otel_layer.specs.Recording.{Recording, no_recording}
 use Rattle.span_script.specs.Tables.{Owner, EntryOf, GuardOf, no_tables, nothing_recorded, open_part}
 use Rattle.otel_base.specs.declared.context.Context.{Context}
-use Rattle.span_script.specs.Fits.{Views, ShownFilter, shown_of, Named, State, state_of, Fits, StandsFor, RecordingFits, FilteringFits, numbers_by, ContextsFit, Laned, laned, lane_at, LanesFit, IsKept, Parts}
+use Rattle.span_script.specs.Fits.{Views, ShownFilter, shown_of, ContextSlots, State, state_of, Fits, StandsFor, RecordingFits, FilteringFits, numbers_by, ContextsFit, LaneValue, lane_value, lane_at, LanesFit, IsKept, Parts}
 use Rattle.span_script.proofs.steps.SlotsLemmas.{some_is}
-use Rattle.span_script.specs.SubscriberLaws.{Adds, SameLaw, aside_in}
+use Rattle.span_script.specs.SubscriberLaws.{AddsMeasures, SameLaw, aside_in}
 
 -- nothing fits no tables
-pub new_fits : (setup : Setup) (lanes : List Laned) (recording : Recording) (filter : Option ShownFilter) (cached : List (List Interest)) (counter : Option ShownFilter) (measures : List Measure) (base : Setup) (dispatch : ℕ) (spans : Spans) → spans ≡ no_spans
-    → Fits (record { setup = setup; spans = spans; lanes = lanes; recording = recording; filter = filter; cached = cached; counter = counter; measures = measures; dispatch = dispatch; handles = []; handle_sites = []; guards = []; contexts = record { made = []; attaches = [] }; moment = 0 }) (no_tables base)
-new_fits setup lanes recording filter cached counter measures base dispatch spans is = subst (λ (x : Spans). Fits (record { setup = setup; spans = x; lanes = lanes; recording = recording; filter = filter; cached = cached; counter = counter; measures = measures; dispatch = dispatch; handles = []; handle_sites = []; guards = []; contexts = record { made = []; attaches = [] }; moment = 0 }) (no_tables base)) (sym is) (record {
+pub new_fits : (setup : Setup) (lanes : List LaneValue) (recording : Recording) (filter : Option ShownFilter) (cached : List (List Interest)) (counter : Option ShownFilter) (measures : List Measure) (base : Setup) (dispatch : ℕ) (spans : Spans) → spans ≡ no_spans
+    → Fits (record { setup = setup; spans = spans; lanes = lanes; recording = recording; filter = filter; cached = cached; counter = counter; measures = measures; dispatch = dispatch; handles = []; handle_sites = []; guards = []; contexts = record { contexts = []; attaches = [] }; moment = 0 }) (no_tables base)
+new_fits setup lanes recording filter cached counter measures base dispatch spans is = subst (λ (x : Spans). Fits (record { setup = setup; spans = x; lanes = lanes; recording = recording; filter = filter; cached = cached; counter = counter; measures = measures; dispatch = dispatch; handles = []; handle_sites = []; guards = []; contexts = record { contexts = []; attaches = [] }; moment = 0 }) (no_tables base)) (sym is) (record {
   handle_slots = refl;
   site_slots = refl;
   guard_slots = refl;
   attach_slots = refl;
   paired = refl;
-  named = refl;
+  named_contexts = refl;
   latest = refl;
   balanced = record { holds = λ s. refl; entries = λ lane. refl; guarded = λ lane s. refl; borrowed = λ n g there. absurd (cc there) };
   made = record { count = refl; parent = λ s live. absurd (omega (arith, live)); site = λ s live. absurd (omega (arith, live)) };
@@ -48,19 +48,19 @@ new_fits setup lanes recording filter cached counter measures base dispatch span
 })
 
 -- lanes with ids of their own, where nothing is kept attached
-id_of_lane : (lanes : List Lane) (n : ℕ) → n < length lanes → (lane_at (map laned lanes) n).id ≡ id_at (map (λ (l : Lane). l.id) lanes) n
+id_of_lane : (lanes : List Lane) (n : ℕ) → n < length lanes → (lane_at (map lane_value lanes) n).id ≡ id_at (map (λ (l : Lane). l.id) lanes) n
 id_of_lane [] n within = absurd (omega (arith, within))
 id_of_lane (l ∷ ls) zero within = refl
 id_of_lane (l ∷ ls) (suc n) within = id_of_lane ls n (omega (arith, within))
 
-pub new_lanes : (lanes : List Lane) (ids : List ℕ) → map (λ (l : Lane). l.id) lanes ≡ ids → HasOwnIds ids → (kept : ℕ → ℕ → ℕ) → ((lane number : ℕ) → kept lane number ≡ 0) → LanesFit kept (map laned lanes)
+pub new_lanes : (lanes : List Lane) (ids : List ℕ) → map (λ (l : Lane). l.id) lanes ≡ ids → HasOwnIds ids → (kept : ℕ → ℕ → ℕ) → ((lane number : ℕ) → kept lane number ≡ 0) → LanesFit kept (map lane_value lanes)
 new_lanes lanes ids are own kept none =
-    let many : length (map laned lanes) ≡ length ids = length-map lanes laned ∙ sym (length-map lanes (λ (l : Lane). l.id)) ∙ ap length are in
-    let few : length (map laned lanes) ≡ length lanes = length-map lanes laned in
-    let at : (n : ℕ) → n < length (map laned lanes) → (lane_at (map laned lanes) n).id ≡ id_at ids n = λ n within. id_of_lane lanes n (omega (arith, within, few)) ∙ ap (λ (is : List ℕ). id_at is n) are in
+    let many : length (map lane_value lanes) ≡ length ids = length-map lanes lane_value ∙ sym (length-map lanes (λ (l : Lane). l.id)) ∙ ap length are in
+    let few : length (map lane_value lanes) ≡ length lanes = length-map lanes lane_value in
+    let at : (n : ℕ) → n < length (map lane_value lanes) → (lane_at (map lane_value lanes) n).id ≡ id_at ids n = λ n within. id_of_lane lanes n (omega (arith, within, few)) ∙ ap (λ (is : List ℕ). id_at is n) are in
     record {
       differ = λ n m in_n in_m e. own n m (omega (arith, in_n, many)) (omega (arith, in_m, many)) (sym (at n in_n) ∙ e ∙ at m in_m);
-      attached = λ n number within. (let z = none (lane_at (map laned lanes) n).id number in omega (arith, z));
+      attached = λ n number within. (let z = none (lane_at (map lane_value lanes) n).id number in omega (arith, z));
     }
 
 no_items : {A : Type 0} (xs : List A) → length xs ≡ 0 → xs ≡ []
@@ -74,9 +74,9 @@ module _ {S : Type 0} (same : S → S → Type 0) (spans : S → Spans) (views :
     pub there : dispatch < length world.subscribers
     pub spans_are : spans_in spans world dispatch ≡ spans first
     pub kept_is : kept_in kept world dispatch ≡ kept first
-    pub recorded_is : seen views.recorded no_recording world dispatch ≡ views.recorded first
-    pub filter_is : seen views.filtered None world dispatch ≡ views.filtered first
-    pub aside_is : Adds (views.counter first, views.measured first) (aside_in views world dispatch) []
+    pub recorded_is : member_of views.recorded no_recording world dispatch ≡ views.recorded first
+    pub filter_is : member_of views.filtered None world dispatch ≡ views.filtered first
+    pub aside_is : AddsMeasures (views.counter first, views.measured first) (aside_in views world dispatch) []
     pub alone : length world.subscribers ≡ 1
     pub whole : is_whole first → Has is_whole world dispatch
 
@@ -111,7 +111,7 @@ no_numbers false place lane (EntryOf s) = refl
 no_numbers activation place lane (GuardOf n) = refl
 
 -- lanes without contexts
-no_live : (lanes : List Lane) → map (λ (l : Lane). l.contexts.live) lanes ≡ map (λ (l : Lane). []) lanes → (n : ℕ) → (lane_at (map laned lanes) n).live ≡ []
+no_live : (lanes : List Lane) → map (λ (l : Lane). l.contexts.live) lanes ≡ map (λ (l : Lane). []) lanes → (n : ℕ) → (lane_at (map lane_value lanes) n).live ≡ []
 no_live [] are n = refl
 no_live (l ∷ ls) are zero = cc are
 no_live (l ∷ ls) are (suc n) = no_live ls (cc are) n
@@ -121,13 +121,13 @@ module _ {S : Type 0} (same : S → S → Type 0) (spans : S → Spans) (views :
     (law : SameLaw spans views attaches kept is_whole same) (first : S)
     (world before : Worlds S) (dispatch : ℕ) (opening : Texts) (lanes : List Lane) (ids : List ℕ) (is : dispatch ≡ length before.subscribers) (empty : length before.subscribers ≡ 0) (are : AreSame same (before.subscribers ++ first ∷ []) world.subscribers)
     (none : spans first ≡ no_spans) (base : Setup) (nothing : views.recorded first ≡ nothing_recorded base) (quiet : map (λ (l : Lane). l.contexts.live) lanes ≡ map (λ (l : Lane). []) lanes)
-    (interest : S → Callsite → Interest) (shown : (s : S) (f : Filtered) (c : Callsite) → views.filtered s ≡ Some f → interest s c ≡ interest_in f c) (fresh : IsFresh interest world)
-    (f : Filtered) (opened : IsTextFilter opening.filter f) (gate : views.filtered first ≡ Some f) (counts : IsCounter opening.counting (views.counter first)) (no_measures : views.measured first ≡ [])
-    (hs : List (Option Handle)) (no_handles : hs ≡ []) (gs : List (Option Guard)) (no_guards : gs ≡ []) (cs : Named) (no_contexts : cs ≡ record { made = []; attaches = [] }) where
+    (interest : S → Callsite → Interest) (shown : (s : S) (f : FilterState) (c : Callsite) → views.filtered s ≡ Some f → interest s c ≡ interest_in f c) (fresh : IsFresh interest world)
+    (f : FilterState) (opened : IsTextFilter opening.filter f) (gate : views.filtered first ≡ Some f) (counts : IsCounter opening.counting (views.counter first)) (no_measures : views.measured first ≡ [])
+    (hs : List (Option Handle)) (no_handles : hs ≡ []) (gs : List (Option Guard)) (no_guards : gs ≡ []) (cs : ContextSlots) (no_contexts : cs ≡ record { contexts = []; attaches = [] }) where
   its_only : Only same spans views attaches kept is_whole law first world dispatch
   its_only = only_one same spans views attaches kept is_whole law first world dispatch (is ∙ empty) (subst (λ (xs : List S). AreSame same (xs ++ first ∷ []) world.subscribers) (no_items before.subscribers empty) are)
 
-  abbrev begun_parts : List (Option Handle) → List (Option Guard) → Named → Parts S
+  abbrev begun_parts : List (Option Handle) → List (Option Guard) → ContextSlots → Parts S
   begun_parts handles guards contexts = record { world = world; dispatch = dispatch; opening = opening; lanes = lanes; handles = handles; guards = guards; contexts = contexts; moment = 0 }
 
   abbrev begun_state : State
@@ -139,16 +139,16 @@ module _ {S : Type 0} (same : S → S → Type 0) (spans : S → Spans) (views :
   fits_begun : Fits begun_state (no_tables base)
   fits_begun = subst (λ (x : List (Option Handle)). Fits (state_of spans views (begun_parts x gs cs)) (no_tables base)) (sym no_handles)
       (subst (λ (x : List (Option Guard)). Fits (state_of spans views (begun_parts [] x cs)) (no_tables base)) (sym no_guards)
-      (subst (λ (x : Named). Fits (state_of spans views (begun_parts [] [] x)) (no_tables base)) (sym no_contexts) (new_fits _ _ _ _ _ _ _ base _ _ (its_only.spans_are ∙ none))))
+      (subst (λ (x : ContextSlots). Fits (state_of spans views (begun_parts [] [] x)) (no_tables base)) (sym no_contexts) (new_fits _ _ _ _ _ _ _ base _ _ (its_only.spans_are ∙ none))))
 
   records_begun : RecordingFits begun_state (no_tables base)
   records_begun = record {
     recorded = ap open_part recorded_nothing;
     known = λ s live. absurd (let e = ap (λ (x : Spans). (span_at x.made s).holds) (its_only.spans_are ∙ none) in omega (arith, e, live));
-    attached = λ n within. subst (λ (live : List (ℕ × Context)). ContextsFit (numbers_by begun_state.setup.layer.activation n (lane_at (map laned lanes) n).id begun_state.recording.tokens cs.attaches) live []) (sym (no_live lanes quiet n))
-        (subst (λ (r : Recording). ContextsFit (numbers_by begun_state.setup.layer.activation n (lane_at (map laned lanes) n).id r.tokens cs.attaches) [] []) (sym recorded_nothing)
-        (subst (λ (x : Named). ContextsFit (numbers_by begun_state.setup.layer.activation n (lane_at (map laned lanes) n).id [] x.attaches) [] []) (sym no_contexts)
-        (record { contexts = refl; distinct = tt; numbers_are = λ o. sym (no_numbers begun_state.setup.layer.activation n (lane_at (map laned lanes) n).id o) })));
+    attached = λ n within. subst (λ (live : List (ℕ × Context)). ContextsFit (numbers_by begun_state.setup.layer.activation n (lane_at (map lane_value lanes) n).id begun_state.recording.tokens cs.attaches) live []) (sym (no_live lanes quiet n))
+        (subst (λ (r : Recording). ContextsFit (numbers_by begun_state.setup.layer.activation n (lane_at (map lane_value lanes) n).id r.tokens cs.attaches) [] []) (sym recorded_nothing)
+        (subst (λ (x : ContextSlots). ContextsFit (numbers_by begun_state.setup.layer.activation n (lane_at (map lane_value lanes) n).id [] x.attaches) [] []) (sym no_contexts)
+        (record { contexts = refl; distinct = tt; numbers_are = λ o. sym (no_numbers begun_state.setup.layer.activation n (lane_at (map lane_value lanes) n).id o) })));
   }
 
   filter_begun : FilteringFits begun_state (no_tables base)
@@ -156,11 +156,11 @@ module _ {S : Type 0} (same : S → S → Type 0) (spans : S → Spans) (views :
       let now : text_filter opening.filter ≡ f = ap filter_if opened.read ∙ sym opened.is in
       record {
         in_place = ap (option_map (shown_of (length (spans_in spans world dispatch).made) begun_state.setup.ids)) (its_only.filter_is ∙ gate)
-            ∙ ap (λ (x : Spans). Some (shown_of (length x.made) begun_state.setup.ids f)) (its_only.spans_are ∙ none) ∙ ap (λ (x : Filtered). Some (shown_of 0 begun_state.setup.ids x)) (sym now);
+            ∙ ap (λ (x : Spans). Some (shown_of (length x.made) begun_state.setup.ids f)) (its_only.spans_are ∙ none) ∙ ap (λ (x : FilterState). Some (shown_of 0 begun_state.setup.ids x)) (sym now);
         fresh = cached_rows views interest shown world dispatch f its_only.alone its_only.there (its_only.filter_is ∙ gate) fresh
-            ∙ ap (λ (x : Filtered). map (λ (c : Callsite). interest_in x c ∷ []) world.sites) (sym now);
+            ∙ ap (λ (x : FilterState). map (λ (c : Callsite). interest_in x c ∷ []) world.sites) (sym now);
         counter = ap (option_map (shown_of 0 begun_state.setup.ids)) (its_only.aside_is.counter ∙ counts.is);
-        new = subst (λ (o : Option Filtered). IfSome o IsNew) counts.is counts.new;
+        new = subst (λ (o : Option FilterState). IfSome o IsNewFilter) counts.is counts.new;
       }
 
   pub measured_nothing : begun_state.measures ≡ []
@@ -184,7 +184,7 @@ module _ {S : Type 0} (same : S → S → Type 0) (spans : S → Spans) (views :
   }
 
 -- a stack that was just made has recorded nothing, and counts where events are counted
-pub records_none : (r : Recording) (base : Setup) (counter : Option Filtering) → r ≡ new_recording base.layer (is_some counter) → IsCounter base.counting (option_map plain counter) → r ≡ nothing_recorded base
+pub records_none : (r : Recording) (base : Setup) (counter : Option FilterWithRoom) → r ≡ new_recording base.layer (is_some counter) → IsCounter base.counting (option_map plain counter) → r ≡ nothing_recorded base
 records_none r base counter is counts = is ∙ ap (λ (b : Bool). new_recording base.layer b) (sym (some_mapped plain counter) ∙ ap is_some counts.is ∙ some_mapped text_filter base.counting)
   where
     some_mapped : {A B : Type 0} (f : A → B) (o : Option A) → is_some (option_map f o) ≡ is_some o

@@ -12,10 +12,10 @@ use Rattle.span_script.specs.declared.reply.Reply.{Reply}
 use Rattle.span_script.specs.declared.reply.Refusal.{Refusal}
 use Rattle.span_script.specs.declared.reply.Refusal.TheVariants as refusal
 use Rattle.span_script.specs.declared.reply.What.TheVariants as what
-use Rattle.span_script.specs.Tables.{Scope, Tables, History, tables, after, no_tables, slot_at}
+use Rattle.span_script.specs.Tables.{Scope, Tables, History, tables, after_effect, no_tables, slot_at}
 use Rattle.span_script.specs.calls.Here.{Resolved, ◌>>=◌, need}
 use Rattle.span_script.specs.Effects.{is_bad_moment, effect_of, effect_of_call}
-use Rattle.span_script.specs.Fits.{State, Fits, StandsFor, Served, Recorded, IsRefusal, held_by, held_of}
+use Rattle.span_script.specs.Fits.{State, Fits, StandsFor, Served, ServedByHistory, IsRefusal, held_by, held_of}
 
 -- a handle that isn't there
 pub refuses_unknown : (view k : State) → view ≡ k → (hs : List (Option Handle)) → view.handles ≡ map held_by hs → (handle : ℕ) → slot_at hs handle ≡ None → (t : Tables) → Fits k t → (go : Scope → Resolved)
@@ -44,7 +44,7 @@ effect_is view k is lanes ids before moment t fits request good within =
     cond-false {A = Resolved} (is_bad_moment t.moment request.at) _ _ (ap (λ (n : ℕ). is_bad_moment n request.at) (sym latest) ∙ good)
     ∙ ap (λ o. need what.Lane o >>= (λ (id : ℕ). effect_of_call k.setup t request.at request.lane request.call)) at.1
 
-pub steps_ok : (result : Result Reply Refusal) (whole call : Resolved) (h : History) (old new : State) → whole ≡ call → IfOk result (Served call (tables old.setup h) old new) → IfOk result (Recorded whole h old new)
+pub steps_ok : (result : Result Reply Refusal) (whole call : Resolved) (h : History) (old new : State) → whole ≡ call → IfOk result (Served call (tables old.setup h) old new) → IfOk result (ServedByHistory whole h old new)
 steps_ok (Ok reply) whole call h old new same served = record {
   effect = served.effect;
   is = same ∙ served.is;
@@ -52,7 +52,7 @@ steps_ok (Ok reply) whole call h old new same served = record {
   setup = served.setup;
   records = served.records;
   measures = served.measures;
-  stands = subst (StandsFor new) (sym (fold_push after (no_tables old.setup) h served.effect)) served.stands;
+  stands = subst (StandsFor new) (sym (fold_push after_effect (no_tables old.setup) h served.effect)) served.stands;
 }
 steps_ok (Err error) whole call h old new same served = tt
 

@@ -12,12 +12,12 @@ use Rattle.span_script.specs.declared.reply.Refusal.{Refusal}
 use Rattle.span_script.specs.declared.outcome.Outcome.{Outcome}
 use Rattle.span_script.specs.declared.request.Request.{Request}
 use Rattle.span_script.specs.Setups.{Setup}
-use Rattle.span_script.specs.Tables.{Effect, History, Tables, no_tables, tables, after, records_of}
+use Rattle.span_script.specs.Tables.{Effect, History, Tables, no_tables, tables, after_effect, records_of}
 use Rattle.span_script.specs.calls.Here.{Resolved}
 use Rattle.span_script.specs.Effects.{effect_of}
 use Rattle.span_script.specs.calls.Spans.{open_spans}
-use Rattle.span_script.specs.Fits.{State, StandsFor, Recorded}
-use Rattle.span_script.specs.Outcomes.{followed_by, history_from, history_of, records_from, records, refusal_at, refused_behind, outcome_of, HasReplies, Ran}
+use Rattle.span_script.specs.Fits.{State, StandsFor, ServedByHistory}
+use Rattle.span_script.specs.Outcomes.{followed_by, history_from, history_of, records_from, records_of_history, refusal_at, refused_behind, outcome_of, HasReplies, Ran}
 
 -- where a script stands: the history so far, which goes on with what is left of its requests
 pub record Reached (setup : Setup) (requests left : List Request) (now : State) (replies : List Reply) : Type 0 where
@@ -25,7 +25,7 @@ pub record Reached (setup : Setup) (requests left : List Request) (now : State) 
   pub setup_is : now.setup ≡ setup
   pub stands : StandsFor now (tables setup history)
   pub replies_are : replies ≡ map (λ (e : Effect). e.reply) history
-  pub records_are : now.recording.finished ≡ records setup history
+  pub records_are : now.recording.finished ≡ records_of_history setup history
   pub goes_on : history_of setup requests ≡ history ++ history_from setup (tables setup history) left
   pub places : (n : ℕ) → slice_get requests (length history + n) ≡ slice_get left n
 
@@ -42,26 +42,26 @@ reached_first requests now replies stands none empty = record {
 }
 
 -- the records of one effect more
-pub records_push : (t : Tables) (h : History) (e : Effect) → records_from t (h ++ e ∷ []) ≡ records_from t h ++ records_of (fold after t h) e
+pub records_push : (t : Tables) (h : History) (e : Effect) → records_from t (h ++ e ∷ []) ≡ records_from t h ++ records_of (fold after_effect t h) e
 records_push t [] e = append-nil (records_of t e)
-records_push t (x ∷ h) e = ap (λ (rs : List Record). records_of t x ++ rs) (records_push (after t x) h e) ∙ sym (append_assoc (records_of t x) (records_from (after t x) h) (records_of (fold after (after t x) h) e))
+records_push t (x ∷ h) e = ap (λ (rs : List Record). records_of t x ++ rs) (records_push (after_effect t x) h e) ∙ sym (append_assoc (records_of t x) (records_from (after_effect t x) h) (records_of (fold after_effect (after_effect t x) h) e))
 
 -- the history with the effect of the next request, and where it has none
 pub goes_on_with : (setup : Setup) (h : History) (request : Request) (left : List Request) (e : Effect) → effect_of setup (tables setup h) request ≡ Ok e
     → h ++ history_from setup (tables setup h) (request ∷ left) ≡ (h ++ e ∷ []) ++ history_from setup (tables setup (h ++ e ∷ [])) left
 goes_on_with setup h request left e is =
-    ap (λ (r : Resolved). h ++ followed_by r (λ effect. history_from setup (after (tables setup h) effect) left)) is
-    ∙ ap (λ (t : Tables). h ++ e ∷ history_from setup t left) (sym (fold_push after (no_tables setup) h e))
+    ap (λ (r : Resolved). h ++ followed_by r (λ effect. history_from setup (after_effect (tables setup h) effect) left)) is
+    ∙ ap (λ (t : Tables). h ++ e ∷ history_from setup t left) (sym (fold_push after_effect (no_tables setup) h e))
     ∙ sym (append_assoc h (e ∷ []) (history_from setup (tables setup (h ++ e ∷ [])) left))
 
 pub stays_with : (setup : Setup) (h : History) (request : Request) (left : List Request) (refusal : Refusal) → effect_of setup (tables setup h) request ≡ Err refusal
     → h ++ history_from setup (tables setup h) (request ∷ left) ≡ h
 stays_with setup h request left refusal is =
-    ap (λ (r : Resolved). h ++ followed_by r (λ effect. history_from setup (after (tables setup h) effect) left)) is ∙ append-nil h
+    ap (λ (r : Resolved). h ++ followed_by r (λ effect. history_from setup (after_effect (tables setup h) effect) left)) is ∙ append-nil h
 
 -- a request that is served
 served_own : (requests left : List Request) (request : Request) (old new : State) (replies : List Reply) (answer : Reply)
-    → (r : Reached old.setup requests (request ∷ left) old replies) → Recorded (effect_of old.setup (tables old.setup r.history) request) r.history old new answer
+    → (r : Reached old.setup requests (request ∷ left) old replies) → ServedByHistory (effect_of old.setup (tables old.setup r.history) request) r.history old new answer
     → Reached old.setup requests left new (replies ++ answer ∷ [])
 served_own requests left request old new replies answer r did = record {
   history = r.history ++ did.effect ∷ [];
@@ -78,7 +78,7 @@ served_own requests left request old new replies answer r did = record {
 
 pub reached_next : (setup : Setup) (requests left rest : List Request) (request : Request) (old new : State) (replies later : List Reply) (answer : Reply)
     → rest ≡ request ∷ left → later ≡ replies ++ answer ∷ []
-    → ((h : History) → StandsFor old (tables old.setup h) → Recorded (effect_of old.setup (tables old.setup h) request) h old new answer)
+    → ((h : History) → StandsFor old (tables old.setup h) → ServedByHistory (effect_of old.setup (tables old.setup h) request) h old new answer)
     → Reached setup requests rest old replies → Reached setup requests left new later
 reached_next setup requests left rest request old new replies later answer rest_is later_is steps reached =
     let here : Reached old.setup requests rest old replies = subst (λ (s : Setup). Reached s requests rest old replies) (sym reached.setup_is) reached in
@@ -94,7 +94,7 @@ ran_by setup requests left now replies refused r is refused_is = record {
   setup_is = r.setup_is;
   stands = subst (λ (h : History). StandsFor now (tables setup h)) (sym is) r.stands;
   replies_are = r.replies_are ∙ ap (map (λ (e : Effect). e.reply)) (sym is);
-  records_are = r.records_are ∙ ap (records setup) (sym is);
+  records_are = r.records_are ∙ ap (records_of_history setup) (sym is);
   refused_is = refused_is ∙ ap (refused_behind setup requests) (sym is);
 }
 
@@ -143,20 +143,20 @@ outcome_is setup requests given now replies told finished refused left given_is 
 -- behind the history of requests on some tables none is left, or the first is refused
 abbrev Stops : Setup → Tables → List Request → History → Type 0
 Stops setup t requests made = (length made ≡ length requests)
-    ⊎ ((request : Request) × (refusal : Refusal) × (slice_get requests (length made) ≡ Some request) × (effect_of setup (fold after t made) request ≡ Err refusal))
+    ⊎ ((request : Request) × (refusal : Refusal) × (slice_get requests (length made) ≡ Some request) × (effect_of setup (fold after_effect t made) request ≡ Err refusal))
 
 stops_by : (setup : Setup) (t : Tables) (request : Request) (requests : List Request) (r : Resolved) → effect_of setup t request ≡ r
-    → ((e : Effect) → Stops setup (after t e) requests (history_from setup (after t e) requests)) → Stops setup t (request ∷ requests) (followed_by r (λ effect. history_from setup (after t effect) requests))
+    → ((e : Effect) → Stops setup (after_effect t e) requests (history_from setup (after_effect t e) requests)) → Stops setup t (request ∷ requests) (followed_by r (λ effect. history_from setup (after_effect t effect) requests))
 stops_by setup t request requests (Ok e) is behind = one_more (behind e)
   where
-    one_more : Stops setup (after t e) requests (history_from setup (after t e) requests) → Stops setup t (request ∷ requests) (e ∷ history_from setup (after t e) requests)
+    one_more : Stops setup (after_effect t e) requests (history_from setup (after_effect t e) requests) → Stops setup t (request ∷ requests) (e ∷ history_from setup (after_effect t e) requests)
     one_more (inl all) = inl (ap suc all)
     one_more (inr refused) = inr refused
 stops_by setup t request requests (Err refusal) is behind = inr (request, refusal, refl, is)
 
 stops : (setup : Setup) (t : Tables) (requests : List Request) → Stops setup t requests (history_from setup t requests)
 stops setup t [] = inl refl
-stops setup t (request ∷ requests) = stops_by setup t request requests (effect_of setup t request) refl (λ e. stops setup (after t e) requests)
+stops setup t (request ∷ requests) = stops_by setup t request requests (effect_of setup t request) refl (λ e. stops setup (after_effect t e) requests)
 
 has_replies : (setup : Setup) (requests : List Request) → HasReplies requests (outcome_of setup requests)
 has_replies setup requests = by_stop (stops setup (no_tables setup) requests)

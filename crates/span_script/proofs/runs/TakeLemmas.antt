@@ -3,13 +3,13 @@ use Rattle.std.specs.Prelude.{MatchOption}
 use Rattle.std.proofs.Common.{◌≡◌, ℕ, List, [], ◌∷◌, drop, Bool, Option, Some, None, map, refl, sym, ap, subst, ◌∙◌, arith, slice_get}
 use Rattle.trace_base.specs.Gate.{Worlds}
 use Rattle.trace_base.specs.Spans.{Spans}
-use Rattle.span_handles.specs.Worlds.{Alike, seen}
+use Rattle.span_handles.specs.Worlds.{Alike, member_of}
 use Rattle.otel_base.specs.declared.record.Record.{Record}
 use Rattle.std.specs.Option.{option_map_or}
 use Rattle.otel_layer.specs.Recording.{no_recording}
 use Rattle.span_script.specs.Tables.{Tables}
 use Rattle.otel_metrics.specs.declared.measure.Measure.{Measure}
-use Rattle.span_script.specs.Fits.{Views, State, state_of, Fits, StandsFor, LanesFit, IsKept, laned, Parts}
+use Rattle.span_script.specs.Fits.{Views, State, state_of, Fits, StandsFor, LanesFit, IsKept, lane_value, Parts}
 
 -- what is kept, but that some of the records and measures were taken
 abbrev pub but_taken : State → List Record → List Measure → State
@@ -22,7 +22,7 @@ fits_taken k t records measures fits = record {
   guard_slots = fits.guard_slots;
   attach_slots = fits.attach_slots;
   paired = fits.paired;
-  named = fits.named;
+  named_contexts = fits.named_contexts;
   latest = fits.latest;
   balanced = fits.balanced;
   made = fits.made;
@@ -44,9 +44,9 @@ stands_taken k t records measures stands = record {
 
 -- a world whose stack has some records and measures
 module _ {S : Type 0} (spans : S → Spans) (views : Views S) (attaches : S → Bool) (kept : S → ℕ → ℕ → ℕ) (is_whole : S → Type 0) (parts : Parts S) (new : Worlds S) (alike : Alike spans attaches kept is_whole parts.world new parts.dispatch)
-    (sites : new.sites ≡ parts.world.sites) (cached : new.cached ≡ parts.world.cached) (filters : seen views.filtered None new parts.dispatch ≡ seen views.filtered None parts.world parts.dispatch) (counter : seen views.counter None new parts.dispatch ≡ seen views.counter None parts.world parts.dispatch)
-    (records : List Record) (finished : seen views.recorded no_recording new parts.dispatch ≡ record (seen views.recorded no_recording parts.world parts.dispatch) { finished = records })
-    (measures : List Measure) (waiting : seen views.measured [] new parts.dispatch ≡ measures) where
+    (sites : new.sites ≡ parts.world.sites) (cached : new.cached ≡ parts.world.cached) (filters : member_of views.filtered None new parts.dispatch ≡ member_of views.filtered None parts.world parts.dispatch) (counter : member_of views.counter None new parts.dispatch ≡ member_of views.counter None parts.world parts.dispatch)
+    (records : List Record) (finished : member_of views.recorded no_recording new parts.dispatch ≡ record (member_of views.recorded no_recording parts.world parts.dispatch) { finished = records })
+    (measures : List Measure) (waiting : member_of views.measured [] new parts.dispatch ≡ measures) where
   abbrev taken_parts : Parts S
   taken_parts = record parts { world = new }
 
@@ -58,7 +58,7 @@ module _ {S : Type 0} (spans : S → Spans) (views : Views S) (attaches : S → 
     there = (let c = alike.count in let b = inv.there in omega (arith, c, b));
     alone = alike.count ∙ inv.alone;
     whole = alike.whole inv.whole;
-    lanes = subst (λ (f : ℕ → ℕ → ℕ). LanesFit f (map laned parts.lanes)) (sym alike.kept_same) inv.lanes;
+    lanes = subst (λ (f : ℕ → ℕ → ℕ). LanesFit f (map lane_value parts.lanes)) (sym alike.kept_same) inv.lanes;
     tables = inv.tables;
     stands = subst (λ (k : State). StandsFor k inv.tables) (sym state_taken) (stands_taken _ inv.tables records measures inv.stands);
   }
@@ -70,5 +70,5 @@ oldest_by {A} read view k rest o same without is =
     subst (λ (x : State). MatchOption o (read x ≡ []) (λ a. read x ≡ a ∷ rest)) same
     (subst (λ (zs : List A). MatchOption o (read view ≡ []) (λ a. read view ≡ a ∷ zs)) (sym without) is)
 
-pub seen_there : {S A : Type 0} (read : S → A) (none : A) (world : Worlds S) (dispatch : ℕ) (s : S) → slice_get world.subscribers dispatch ≡ Some s → seen read none world dispatch ≡ read s
+pub seen_there : {S A : Type 0} (read : S → A) (none : A) (world : Worlds S) (dispatch : ℕ) (s : S) → slice_get world.subscribers dispatch ≡ Some s → member_of read none world dispatch ≡ read s
 seen_there read none world dispatch s there = ap (λ (o : Option _). option_map_or read o none) there

@@ -5,18 +5,18 @@ use Rattle.std.proofs.lemmas.Bool.{cases_eq, eq-eqb, ne_eqb, cond-true, cond-fal
 use Rattle.std.proofs.lemmas.List.{length-set, map-set, get_or-set_other}
 use Rattle.std.proofs.lemmas.List.Sums.{sum_by-set}
 use Rattle.std.proofs.Math.ListN.{get_or-map}
-use Rattle.trace_base.specs.Spans.{Span, Spans, Entries, entries_on, span_at, less_held, released, next_of, first_entries, is_open_child, is_child_of, open_children}
+use Rattle.trace_base.specs.Spans.{Span, Spans, Entries, entries_on, span_at, less_hold, without_hold, next_of, first_entries, is_open_child, is_child_of, open_children}
 use Rattle.trace_base.proofs.Entering.{made_if_held}
 use Rattle.trace_base.proofs.Holding.{children_set, keeps_children, less_last, less_more, less_holds, holds_set, holds_other}
 use Rattle.trace_base.specs.Sound.{OneEach}
-use Rattle.span_handles.specs.Worlds.{Released, all_released, releases}
+use Rattle.span_handles.specs.Worlds.{ReleasesChain, all_released, releases}
 use Rattle.span_script.specs.Setups.{id_at}
-use Rattle.span_script.specs.Balance.{Balanced, Opened, names, named_by, opened_on, opened_by}
-use Rattle.span_script.specs.Tables.{Scope, Made, Guarded, Tables, after, slot_at, own}
+use Rattle.span_script.specs.Balance.{Balanced, OpenGuard, names_span, named_by, opened_on, opened_by}
+use Rattle.span_script.specs.Tables.{Scope, MadeSpan, ScopeGuard, Tables, after_effect, slot_at, own_span}
 use Rattle.span_script.specs.calls.Here.{here_at}
 use Rattle.span_script.specs.calls.Spans.{drop_effect, borrows, is_borrowed}
 use Rattle.span_script.specs.Slots.{is_named}
-use Rattle.span_script.specs.Fits.{Named, State, Fits, MadeFit, guard_of, lane_of}
+use Rattle.span_script.specs.Fits.{ContextSlots, State, Fits, MadeFit, guard_of, lane_of}
 use Rattle.span_script.proofs.steps.SlotsLemmas.{named_within}
 use Rattle.span_script.proofs.steps.StepLemmas.{fits_step}
 use Rattle.span_script.proofs.steps.BalanceLemmas.{named_slot, released_less, set_none}
@@ -24,20 +24,20 @@ use Rattle.span_script.proofs.spans.MadeSpansLemmas.{made_released}
 
 -- Within a chain: the holds are those of handles, entries and open children, and the one that is to be released next.
 abbrev pub Loose : Spans → List (Option ℕ) → Option ℕ → Type 0
-Loose spans hs next = (q : ℕ) → (span_at spans.made q).holds ≡ count_by (names q) hs + first_entries spans.lanes q + open_children spans.made q + cond (is_child_of q next) 1 0
+Loose spans hs next = (q : ℕ) → (span_at spans.made q).holds ≡ count_by (names_span q) hs + first_entries spans.lanes q + open_children spans.made q + cond (is_child_of q next) 1 0
 
 -- a release moves the hold on to the parent, or ends it
-pub loose_released : (x : Spans) (hs : List (Option ℕ)) (id : ℕ) → Loose x hs (Some id) → Loose (record x { made = released x.made id }) hs (next_of x.made id)
+pub loose_released : (x : Spans) (hs : List (Option ℕ)) (id : ℕ) → Loose x hs (Some id) → Loose (record x { made = without_hold x.made id }) hs (next_of x.made id)
 loose_released x hs id loose =
     let was = span_at x.made id in
-    let now : Span = less_held was in
+    let now : Span = less_hold was in
     let fewer = less_holds was in
     let self = cond-true {A = ℕ} (id == id) 1 0 (eq-eqb id id refl) in
     let own = loose id in
     let some : 0 < was.holds = omega (arith, self, own) in
     let within = made_if_held x.made id some in
     elim (cases_eq was.holds 1) [
-      | inl last ↦ subst (Loose (record x { made = released x.made id }) hs) (sym (cond-true {A = Option ℕ} (was.holds == 1) was.parent None (eq-eqb was.holds 1 last))) (λ q. (
+      | inl last ↦ subst (Loose (record x { made = without_hold x.made id }) hs) (sym (cond-true {A = Option ℕ} (was.holds == 1) was.parent None (eq-eqb was.holds 1 last))) (λ q. (
           let write = children_set x.made id now q within in
           let a = ap (λ b. cond {A = ℕ} b 1 0) (cond-false {A = Bool} (0 == was.holds) false (is_child_of q was.parent) (ne_eqb 0 was.holds (λ e. omega (arith, e, some)))) in
           let b = ap (λ (s : Span). cond {A = ℕ} (is_open_child q s) 1 0) (less_last was last) in
@@ -53,7 +53,7 @@ loose_released x hs id loose =
                 let none = cond-false {A = ℕ} (id == q) 1 0 (ne_eqb id q (λ e. other (sym e))) in
                 omega (arith, write, a, b, before, h, none))
           ]))
-      | inr more ↦ subst (Loose (record x { made = released x.made id }) hs) (sym (cond-false {A = Option ℕ} (was.holds == 1) was.parent None (ne_eqb was.holds 1 more))) (λ q. (
+      | inr more ↦ subst (Loose (record x { made = without_hold x.made id }) hs) (sym (cond-false {A = Option ℕ} (was.holds == 1) was.parent None (ne_eqb was.holds 1 more))) (λ q. (
           let children = keeps_children x.made id now within (ap (λ (s : Span). s.parent) (less_more was more)) some (omega (arith, some, more, fewer)) q in
           let before = loose q in
           elim (cases_eq q id) [
@@ -74,12 +74,12 @@ pub record ChainEnds (x y : Spans) (hs : List (Option ℕ)) : Type 0 where
   pub holds : Loose y hs None
   pub lanes : y.lanes ≡ x.lanes
   pub fewer : (q : ℕ) → (span_at y.made q).holds ≤ (span_at x.made q).holds
-  pub made : (ms : List Made) → MadeFit x.made ms → MadeFit y.made ms
+  pub made : (ms : List MadeSpan) → MadeFit x.made ms → MadeFit y.made ms
 
-pub chain_ends : (next : Option ℕ) (x y : Spans) → Released next x y → (hs : List (Option ℕ)) → Loose x hs next → ChainEnds x y hs
+pub chain_ends : (next : Option ℕ) (x y : Spans) → ReleasesChain next x y → (hs : List (Option ℕ)) → Loose x hs next → ChainEnds x y hs
 chain_ends _ _ _ (all_released x) hs loose = record { holds = loose; lanes = refl; fewer = λ q. omega arith; made = λ ms fit. fit }
 chain_ends _ _ _ (releases id at x y own rest) hs loose =
-    let more = chain_ends (next_of x.made id) (record x { made = released x.made id }) y rest hs (loose_released x hs id loose) in
+    let more = chain_ends (next_of x.made id) (record x { made = without_hold x.made id }) y rest hs (loose_released x hs id loose) in
     record {
       holds = more.holds;
       lanes = more.lanes;
@@ -88,49 +88,49 @@ chain_ends _ _ _ (releases id at x y own rest) hs loose =
     }
 
 -- no open guard borrows the handle
-pub not_borrowed : (gs : List (Option Guarded)) (handle n : ℕ) (g : Guarded) → is_borrowed gs handle ≡ false → slot_at gs n ≡ Some g → g.handle ≡ handle → ⊥
+pub not_borrowed : (gs : List (Option ScopeGuard)) (handle n : ℕ) (g : ScopeGuard) → is_borrowed gs handle ≡ false → slot_at gs n ≡ Some g → g.handle ≡ handle → ⊥
 not_borrowed [] handle n g none there same = absurd (cc there)
 not_borrowed (None ∷ gs) handle zero g none there same = absurd (cc there)
 not_borrowed (Some x ∷ gs) handle zero g none there same =
     let parts = or_parts (x.handle == handle) (is_borrowed gs handle) none in
     let is : x ≡ g = cc there in
-    absurd (let t = eq-eqb x.handle handle (ap (λ (y : Guarded). y.handle) is ∙ same) in let no : true ≡ false = sym t ∙ parts.0 in cc no)
+    absurd (let t = eq-eqb x.handle handle (ap (λ (y : ScopeGuard). y.handle) is ∙ same) in let no : true ≡ false = sym t ∙ parts.0 in cc no)
 not_borrowed (o ∷ gs) handle (suc n) g none there same = not_borrowed gs handle n g (or_parts (borrows handle o) (is_borrowed gs handle) none).1 there same
 
-pub borrowed_is : (dispatch : ℕ) (gs : List (Option Guarded)) (handle : ℕ) → is_named (map (option_map (guard_of dispatch)) gs) handle ≡ is_borrowed gs handle
+pub borrowed_is : (dispatch : ℕ) (gs : List (Option ScopeGuard)) (handle : ℕ) → is_named (map (option_map (guard_of dispatch)) gs) handle ≡ is_borrowed gs handle
 borrowed_is dispatch [] handle = refl
 borrowed_is dispatch (None ∷ gs) handle = borrowed_is dispatch gs handle
 borrowed_is dispatch (Some g ∷ gs) handle = ap (λ b. (g.handle == handle) || b) (borrowed_is dispatch gs handle)
 
-pub opened_handle : (ids : List ℕ) (o : Option Guarded) (g : Opened) → opened_by ids o ≡ Some g → (x : Guarded) × (o ≡ Some x) × (x.handle ≡ g.handle)
+pub opened_handle : (ids : List ℕ) (o : Option ScopeGuard) (g : OpenGuard) → opened_by ids o ≡ Some g → (x : ScopeGuard) × (o ≡ Some x) × (x.handle ≡ g.handle)
 opened_handle ids None g e = absurd (cc e)
 opened_handle ids (Some x) g e = (x, refl, by_line x.scope e)
   where
-    by_line : (line : Scope) → opened_on x.handle (id_at ids x.lane) line ≡ Some g → x.handle ≡ g.handle
+    by_line : (line : Scope) → opened_on x.handle (id_at ids x.place) line ≡ Some g → x.handle ≡ g.handle
     by_line [] e = absurd (cc e)
-    by_line (s ∷ up) e = (let is : ◌≡◌ {A = Opened} (record { handle = x.handle; span = s; lane = id_at ids x.lane }) g = cc e in ap (λ (y : Opened). y.handle) is)
+    by_line (s ∷ up) e = (let is : ◌≡◌ {A = OpenGuard} (record { handle = x.handle; span = s; lane = id_at ids x.place }) g = cc e in ap (λ (y : OpenGuard). y.handle) is)
 
 -- a spent handle's hold is the one that is released
-pub spent_loose : (spans : Spans) (hs : List (Option ℕ)) (gs : List (Option Opened)) (es : ℕ → List ℕ) → Balanced spans hs gs es → (n s : ℕ) → slot_at hs n ≡ Some s → Loose spans (slice_set hs n None) (Some s)
+pub spent_loose : (spans : Spans) (hs : List (Option ℕ)) (gs : List (Option OpenGuard)) (es : ℕ → List ℕ) → Balanced spans hs gs es → (n s : ℕ) → slot_at hs n ≡ Some s → Loose spans (slice_set hs n None) (Some s)
 spent_loose spans hs gs es fits n s is q =
-    let change = sum_by-set (λ (o : Option ℕ). cond {A = ℕ} (names q o) 1 0) hs n None None (named_within hs n s is) in
-    let mine = ap (λ (o : Option ℕ). cond {A = ℕ} (names q o) 1 0) is in
+    let change = sum_by-set (λ (o : Option ℕ). cond {A = ℕ} (names_span q o) 1 0) hs n None None (named_within hs n s is) in
+    let mine = ap (λ (o : Option ℕ). cond {A = ℕ} (names_span q o) 1 0) is in
     let h = fits.holds q in
     omega (arith, change, mine, h)
 
 abbrev pub ReleasedOn : Spans → Spans → Scope → Type 0
 ReleasedOn x y [] = y ≡ x
-ReleasedOn x y (s ∷ up) = Released (Some s) x y
+ReleasedOn x y (s ∷ up) = ReleasesChain (Some s) x y
 
 record DropEnds (x y : Spans) (hs : List (Option ℕ)) : Type 0 where
-  holds : (q : ℕ) → (span_at y.made q).holds ≡ count_by (names q) hs + first_entries y.lanes q + open_children y.made q
+  holds : (q : ℕ) → (span_at y.made q).holds ≡ count_by (names_span q) hs + first_entries y.lanes q + open_children y.made q
   lanes : y.lanes ≡ x.lanes
   fewer : (q : ℕ) → (span_at y.made q).holds ≤ (span_at x.made q).holds
-  made : (ms : List Made) → MadeFit x.made ms → MadeFit y.made ms
+  made : (ms : List MadeSpan) → MadeFit x.made ms → MadeFit y.made ms
 
-drop_ends : (x y : Spans) (hs : List (Option ℕ)) (gs : List (Option Opened)) (es : ℕ → List ℕ) → Balanced x hs gs es → (n : ℕ) (line : Scope) → slot_at hs n ≡ own line → ReleasedOn x y line → DropEnds x y (slice_set hs n None)
+drop_ends : (x y : Spans) (hs : List (Option ℕ)) (gs : List (Option OpenGuard)) (es : ℕ → List ℕ) → Balanced x hs gs es → (n : ℕ) (line : Scope) → slot_at hs n ≡ own_span line → ReleasedOn x y line → DropEnds x y (slice_set hs n None)
 drop_ends x y hs gs es fits n [] is same = subst (λ (z : Spans). DropEnds x z (slice_set hs n None)) (sym same) (record {
-  holds = λ q. fits.holds q ∙ ap (λ (xs : List (Option ℕ)). count_by (names q) xs + first_entries x.lanes q + open_children x.made q) (sym (set_none hs n is));
+  holds = λ q. fits.holds q ∙ ap (λ (xs : List (Option ℕ)). count_by (names_span q) xs + first_entries x.lanes q + open_children x.made q) (sym (set_none hs n is));
   lanes = refl;
   fewer = λ q. omega arith;
   made = λ ms fit. fit;
@@ -140,12 +140,12 @@ drop_ends x y hs gs es fits n (s ∷ up) is chain =
     record { holds = λ q. (let h = ends.holds q in omega (arith, h)); lanes = ends.lanes; fewer = ends.fewer; made = ends.made }
 
 -- what a guard keeps stays where another handle is spent
-pub still_spent : (gs : List (Option Guarded)) (hs : List (Option Scope)) (handle : ℕ) → is_borrowed gs handle ≡ false → ((n : ℕ) (x : Guarded) → slot_at gs n ≡ Some x → slot_at hs x.handle ≡ Some x.scope)
-    → (n : ℕ) (x : Guarded) → slot_at gs n ≡ Some x → slot_at (slice_set hs handle None) x.handle ≡ Some x.scope
+pub still_spent : (gs : List (Option ScopeGuard)) (hs : List (Option Scope)) (handle : ℕ) → is_borrowed gs handle ≡ false → ((n : ℕ) (x : ScopeGuard) → slot_at gs n ≡ Some x → slot_at hs x.handle ≡ Some x.scope)
+    → (n : ℕ) (x : ScopeGuard) → slot_at gs n ≡ Some x → slot_at (slice_set hs handle None) x.handle ≡ Some x.scope
 still_spent gs hs handle free still n x there = get_or-set_other hs handle x.handle None None (not_borrowed gs handle n x free there) ∙ still n x there
 
 pub fits_dropped : (k next : State) (t : Tables) (at lane handle : ℕ) (line : Scope) → Fits k t → slot_at t.handles handle ≡ Some line → is_borrowed t.guards handle ≡ false → ReleasedOn k.spans next.spans line → next.setup ≡ k.setup
-    → next.dispatch ≡ k.dispatch → next.handles ≡ slice_set k.handles handle None → next.handle_sites ≡ slice_set k.handle_sites handle None → next.guards ≡ k.guards → next.contexts ≡ k.contexts → next.moment ≡ at → Fits next (after t (drop_effect (here_at k.setup t at lane) handle line))
+    → next.dispatch ≡ k.dispatch → next.handles ≡ slice_set k.handles handle None → next.handle_sites ≡ slice_set k.handle_sites handle None → next.guards ≡ k.guards → next.contexts ≡ k.contexts → next.moment ≡ at → Fits next (after_effect t (drop_effect (here_at k.setup t at lane) handle line))
 fits_dropped k next t at lane handle line fits there free chain setup dispatch handles sites guards contexts moment =
     let ids = k.setup.ids in
     let hs = map named_by t.handles in
@@ -157,8 +157,8 @@ fits_dropped k next t at lane handle line fits there free chain setup dispatch h
       handles_are = handles;
       sites_are = sites;
       guards_are = guards;
-      attaches_are = ap (λ (c : Named). map (option_map lane_of) c.attaches) contexts;
-      named_are = ap (λ (c : Named). c.made) contexts;
+      attaches_are = ap (λ (c : ContextSlots). map (option_map lane_of) c.attaches) contexts;
+      named_are = ap (λ (c : ContextSlots). c.contexts) contexts;
       moment_is = moment;
       balanced = subst (λ (xs : List (Option ℕ)). Balanced next.spans xs (map (opened_by ids) t.guards) t.entries) spent (record {
         holds = ends.holds;
@@ -168,7 +168,7 @@ fits_dropped k next t at lane handle line fits there free chain setup dispatch h
             let o = opened_handle ids (slot_at t.guards n) g (sym (get_or-map (opened_by ids) t.guards n None) ∙ open_there) in
             get_or-set_other hs handle g.handle None None (λ e. not_borrowed t.guards handle n o.0 free o.1 (o.2 ∙ e)) ∙ fits.balanced.borrowed n g open_there);
       });
-      made_fit = ends.made t.made fits.made;
+      made_fit = ends.made t.spans fits.made;
       new_made = tt;
       new_site = tt;
       new_scope = λ l e. absurd (cc e);

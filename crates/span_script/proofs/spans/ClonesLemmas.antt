@@ -7,19 +7,19 @@ use Rattle.trace_base.specs.Gate.{Worlds}
 use Rattle.trace_base.specs.Spans.{Spans, span_at}
 use Rattle.trace_base.specs.Calls.{SubscriberCall, CloneSpan}
 use Rattle.trace_base.specs.Sound.{OneEach}
-use Rattle.span_handles.specs.Worlds.{seen, spans_in, kept_in}
+use Rattle.span_handles.specs.Worlds.{member_of, spans_in, kept_in}
 use Rattle.span_handles.specs.Handles.{Handle, Held, id_of, ReplacedOn}
 use Rattle.span_script.specs.declared.reply.Reply.TheVariants as reply
 use Rattle.span_script.specs.declared.request.Call.TheVariants as call
 use Rattle.span_script.specs.declared.reply.What.TheVariants as what
 use Rattle.span_script.specs.Setups.{id_at}
 use Rattle.otel_layer.specs.Recording.{Recording, no_recording}
-use Rattle.span_script.specs.Tables.{Scope, Made, Guarded, Effect, Tables, slot_at, own}
+use Rattle.span_script.specs.Tables.{Scope, MadeSpan, ScopeGuard, Effect, Tables, slot_at, own_span}
 use Rattle.span_script.specs.calls.Here.{here_at, ◌>>=◌, need}
 use Rattle.span_script.specs.Effects.{effect_of_call}
 use Rattle.span_script.specs.calls.Spans.{clone_effect}
 use Rattle.span_script.specs.Balance.{Balanced, named_by, opened_by}
-use Rattle.span_script.specs.Fits.{Views, State, state_of, laned, Fits, StandsFor, MadeFit, LanesFit, IsKept, Served, IsScope, held_of, held_by, site_by, Parts}
+use Rattle.span_script.specs.Fits.{Views, State, state_of, lane_value, Fits, StandsFor, MadeFit, LanesFit, IsKept, Served, IsScope, held_of, held_by, site_by, Parts}
 use Rattle.span_script.proofs.steps.SlotsLemmas.{find, held_slot, named_within}
 use Rattle.span_script.proofs.spans.SitesLemmas.{site_found}
 use Rattle.span_script.proofs.steps.StepLemmas.{fits_step}
@@ -48,7 +48,7 @@ pub one_clone : (spans : Spans) (line : Scope) → OneEach spans.lanes → OneEa
 one_clone spans [] one = one
 one_clone spans (s ∷ up) one = one
 
-pub made_clone : (spans : Spans) (ms : List Made) (line : Scope) → MadeFit spans.made ms → ((s : ℕ) (up : Scope) → line ≡ s ∷ up → 0 < (span_at spans.made s).holds) → MadeFit (spans_held spans line).made ms
+pub made_clone : (spans : Spans) (ms : List MadeSpan) (line : Scope) → MadeFit spans.made ms → ((s : ℕ) (up : Scope) → line ≡ s ∷ up → 0 < (span_at spans.made s).holds) → MadeFit (spans_held spans line).made ms
 made_clone spans ms [] fit live = fit
 made_clone spans ms (s ∷ up) fit live = made_held spans.made ms s fit (live s up refl)
 
@@ -56,13 +56,13 @@ pub the_scope : (a b : Scope) → ◌≡◌ {A = Option Scope} (Some a) (Some b)
 the_scope a b e = cc e
 
 -- whether a handle of a scope is enabled
-pub enabled_is : (dispatch : ℕ) (line : Scope) (held : Held) → held ≡ held_of dispatch line → is_some (id_of held) ≡ is_some (own line)
+pub enabled_is : (dispatch : ℕ) (line : Scope) (held : Held) → held ≡ held_of dispatch line → is_some (id_of held) ≡ is_some (own_span line)
 enabled_is dispatch [] held is = ap (λ (h : Held). is_some (id_of h)) is
 enabled_is dispatch (s ∷ up) held is = ap (λ (h : Held). is_some (id_of h)) is
 
 -- what a guard keeps stays where there is a handle more
-pub still_named_more : (gs : List (Option Guarded)) (hs : List (Option Scope)) (line : Scope) → ((n : ℕ) (x : Guarded) → slot_at gs n ≡ Some x → slot_at hs x.handle ≡ Some x.scope)
-    → (n : ℕ) (x : Guarded) → slot_at gs n ≡ Some x → slot_at (hs ++ Some line ∷ []) x.handle ≡ Some x.scope
+pub still_named_more : (gs : List (Option ScopeGuard)) (hs : List (Option Scope)) (line : Scope) → ((n : ℕ) (x : ScopeGuard) → slot_at gs n ≡ Some x → slot_at hs x.handle ≡ Some x.scope)
+    → (n : ℕ) (x : ScopeGuard) → slot_at gs n ≡ Some x → slot_at (hs ++ Some line ∷ []) x.handle ≡ Some x.scope
 still_named_more gs hs line still n x there = let at = still n x there in get_or_append_left hs (Some line ∷ []) None x.handle (named_within hs x.handle x.scope at) ∙ at
 
 module _ {S : Type 0} (spans : S → Spans) (views : Views S) (attaches : S → Bool) (kept : S → ℕ → ℕ → ℕ) (is_whole : S → Type 0) (parts : Parts S) (new : Worlds S) where
@@ -74,13 +74,13 @@ module _ {S : Type 0} (spans : S → Spans) (views : Views S) (attaches : S → 
   clone_kept [] same = ap (λ (w : Worlds S). kept_in kept w parts.dispatch) same
   clone_kept (s ∷ up) shown = shown.0.lanes
 
-  pub clone_recorded : (line : Scope) → ShownOn spans views attaches kept is_whole parts.world new parts.dispatch line (λ id. CloneSpan id) → seen views.recorded no_recording new parts.dispatch ≡ seen views.recorded no_recording parts.world parts.dispatch
-  clone_recorded [] same = ap (λ (w : Worlds S). seen views.recorded no_recording w parts.dispatch) same
+  pub clone_recorded : (line : Scope) → ShownOn spans views attaches kept is_whole parts.world new parts.dispatch line (λ id. CloneSpan id) → member_of views.recorded no_recording new parts.dispatch ≡ member_of views.recorded no_recording parts.world parts.dispatch
+  clone_recorded [] same = ap (λ (w : Worlds S). member_of views.recorded no_recording w parts.dispatch) same
   clone_recorded (s ∷ up) shown = shown.2
 
-  pub clone_filter : (line : Scope) → ShownOn spans views attaches kept is_whole parts.world new parts.dispatch line (λ id. CloneSpan id) → seen views.filtered None new parts.dispatch ≡ seen views.filtered None parts.world parts.dispatch
-  clone_filter [] same = ap (λ (w : Worlds S). seen views.filtered None w parts.dispatch) same
-  clone_filter (s ∷ up) shown = shown.3 ∙ sym (heard_none (seen views.filtered None parts.world parts.dispatch))
+  pub clone_filter : (line : Scope) → ShownOn spans views attaches kept is_whole parts.world new parts.dispatch line (λ id. CloneSpan id) → member_of views.filtered None new parts.dispatch ≡ member_of views.filtered None parts.world parts.dispatch
+  clone_filter [] same = ap (λ (w : Worlds S). member_of views.filtered None w parts.dispatch) same
+  clone_filter (s ∷ up) shown = shown.3 ∙ sym (heard_none (member_of views.filtered None parts.world parts.dispatch))
 
   module _ (does : S → SubscriberCall → S → Type 0) (law : CallsLaw spans views attaches kept is_whole does)
       (hs' : List (Option Handle)) (at lane number : ℕ) (many : number ≡ length parts.handles) (inv : IsKept spans views kept is_whole parts) where
@@ -110,13 +110,13 @@ module _ {S : Type 0} (spans : S → Spans) (views : Views S) (attaches : S → 
           let ids = now.setup.ids in
           let same = clone_recorded line.at shown in
           let sites = call_sites spans views attaches kept is_whole parts new line.at (λ id. CloneSpan id) shown in
-          let setup : then.setup ≡ now.setup = ap (λ x. record now.setup { sites = x; layer = (seen views.recorded no_recording new parts.dispatch).settings }) sites ∙ ap (λ (r : Recording). record now.setup { layer = r.settings }) same in
-          let live : (s : ℕ) (up : Scope) → line.at ≡ s ∷ up → 0 < (span_at sp.made s).holds = λ s up e. fits_live sp (map named_by t.handles) (map (opened_by ids) t.guards) t.entries fits.balanced handle s (named_slot t.handles handle line.at line.there ∙ ap own e) in
+          let setup : then.setup ≡ now.setup = ap (λ x. record now.setup { sites = x; layer = (member_of views.recorded no_recording new parts.dispatch).settings }) sites ∙ ap (λ (r : Recording). record now.setup { layer = r.settings }) same in
+          let live : (s : ℕ) (up : Scope) → line.at ≡ s ∷ up → 0 < (span_at sp.made s).holds = λ s up e. fits_live sp (map named_by t.handles) (map (opened_by ids) t.guards) t.entries fits.balanced handle s (named_slot t.handles handle line.at line.there ∙ ap own_span e) in
           let e : Effect = clone_effect (here_at now.setup t at lane) line.at in
           serve now then t e _ (reply.Made enabled number) stands
           (ap (λ o. need what.Handle o >>= (λ line. Ok (clone_effect (here_at now.setup t at lane) line))) line.there)
           (ap (λ n. reply.Made enabled n) (next_number t fits) ∙ ap (λ b. reply.Made b (length t.handles)) (shows ∙ enabled_is parts.dispatch line.at h.held line.is))
-          setup (seen views.recorded no_recording parts.world parts.dispatch).tokens same
+          setup (member_of views.recorded no_recording parts.world parts.dispatch).tokens same
           (fits_step now t fits then e (record {
             setup_is = setup;
             dispatch_is = refl;
@@ -127,22 +127,22 @@ module _ {S : Type 0} (spans : S → Spans) (views : Views S) (attaches : S → 
             named_are = refl;
             moment_is = refl;
             balanced = subst (λ (x : Spans). Balanced x (map named_by (t.handles ++ Some line.at ∷ [])) (map (opened_by ids) t.guards) t.entries) (sym step) (balanced_clone ids sp t.handles t.guards t.entries fits.balanced handle line.at line.there);
-            made_fit = subst (λ (x : Spans). MadeFit x.made t.made) (sym step) (made_clone sp t.made line.at fits.made live);
+            made_fit = subst (λ (x : Spans). MadeFit x.made t.spans) (sym step) (made_clone sp t.spans line.at fits.made live);
             new_made = tt;
             new_site = tt;
-            new_scope = λ l e. subst (IsScope t.made) (the_scope line.at l e) (fits.scopes handle line.at line.there);
+            new_scope = λ l e. subst (IsScope t.spans) (the_scope line.at l e) (fits.scopes handle line.at line.there);
             still = still_named_more t.guards t.handles line.at fits.still;
             few = (let l = length_push t.handles (Some line.at) in let f = fits.few in omega (arith, l, f));
             few_holds = λ s. (let a = held_scope_most sp line.at s in let f = fits.few_holds s in let e = ap (λ (x : Spans). (span_at x.made s).holds) step in let l = length_push t.handles (Some line.at) in omega (arith, a, f, e, l));
             one = subst (λ (x : Spans). OneEach x.lanes) (sym step) (one_clone sp line.at fits.one_lane);
           }))
-          (λ s some. known_still now then t e (seen views.recorded no_recording parts.world parts.dispatch).tokens same stands.recording s refl (clone_live sp line.at s live (subst (λ (x : Spans). 0 < (span_at x.made s).holds) step some)))
+          (λ s some. known_still now then t e (member_of views.recorded no_recording parts.world parts.dispatch).tokens same stands.recording s refl (clone_live sp line.at s live (subst (λ (x : Spans). 0 < (span_at x.made s).holds) step some)))
           (all_same now then t.contexts setup refl refl (ap (λ (r : Recording). r.tokens) same) stands.recording.attached)
-          (record { quiet = refl; before = seen views.filtered None parts.world parts.dispatch; later = seen views.filtered None new parts.dispatch; shown_before = refl; shown_later = refl; told = clone_filter line.at shown ∙ heard_none (seen views.filtered None parts.world parts.dispatch); known = refl; cached = call_cached spans views attaches kept is_whole parts new line.at (λ id. CloneSpan id) shown; aside = record { before = aside_in views parts.world parts.dispatch; later = aside_in views new parts.dispatch; shown_before = refl; shown_later = refl; waits_before = refl; waits_later = refl; adds = call_aside spans views attaches kept is_whole parts new line.at (λ id. CloneSpan id) (λ s. refl) shown } })
+          (record { quiet = refl; before = member_of views.filtered None parts.world parts.dispatch; later = member_of views.filtered None new parts.dispatch; shown_before = refl; shown_later = refl; told = clone_filter line.at shown ∙ heard_none (member_of views.filtered None parts.world parts.dispatch); known = refl; cached = call_cached spans views attaches kept is_whole parts new line.at (λ id. CloneSpan id) shown; aside = record { before = aside_in views parts.world parts.dispatch; later = aside_in views new parts.dispatch; shown_before = refl; shown_later = refl; waits_before = refl; waits_later = refl; adds = call_aside spans views attaches kept is_whole parts new line.at (λ id. CloneSpan id) (λ s. refl) shown } })
 
       pub keeps_cloned : IsKept spans views kept is_whole then_parts
       keeps_cloned =
           let line = find (held_of parts.dispatch) (map held_by parts.handles) inv.tables.handles handle h.held inv.stands.fits.handle_slots (held_slot parts.handles handle h found) in
           let shown = shown_on spans views attaches kept is_whole does law parts.world new parts.dispatch line.at h.held line.is (λ id. CloneSpan id) did in
           kept_served spans views kept is_whole parts then_parts inv _ _ (serves_cloned inv.tables inv.stands) refl (call_count spans views attaches kept is_whole parts new line.at (λ id. CloneSpan id) shown) (call_whole spans views attaches kept is_whole parts new line.at (λ id. CloneSpan id) shown)
-          (subst (λ (f : ℕ → ℕ → ℕ). LanesFit f (map laned parts.lanes)) (sym (clone_kept line.at shown)) inv.lanes)
+          (subst (λ (f : ℕ → ℕ → ℕ). LanesFit f (map lane_value parts.lanes)) (sym (clone_kept line.at shown)) inv.lanes)

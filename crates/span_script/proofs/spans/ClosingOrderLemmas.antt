@@ -2,36 +2,36 @@
 use Rattle.std.specs.Prelude.{◌==◌, not, nat_lt, slice_set}
 use Rattle.std.proofs.Common.{◌≡◌, ℕ, ◌<◌, List, [], ◌∷◌, true, false, Option, Some, None, map, refl, sym, ap, subst, ◌∙◌, arith, inl, inr}
 use Rattle.std.proofs.lemmas.Bool.{cases_eq, eq-eqb, ne_eqb, cond-true, cond-false, lt-ltb}
-use Rattle.trace_base.specs.Spans.{Span, Spans, span_at, less_held, released, next_of}
+use Rattle.trace_base.specs.Spans.{Span, Spans, span_at, less_hold, without_hold, next_of}
 use Rattle.trace_base.proofs.Entering.{made_if_held}
 use Rattle.trace_base.proofs.Holding.{less_holds, holds_set}
-use Rattle.span_handles.specs.Worlds.{Released, all_released, releases, closed_in}
+use Rattle.span_handles.specs.Worlds.{ReleasesChain, all_released, releases, closed_in}
 use Rattle.std.proofs.lemmas.List.{map-set}
-use Rattle.span_script.specs.Tables.{Scope, Made, after, slot_at, own, made_of}
+use Rattle.span_script.specs.Tables.{Scope, MadeSpan, after_effect, slot_at, own_span, made_of}
 use Rattle.span_script.specs.calls.Here.{Here}
 use Rattle.span_script.specs.calls.Spans.{is_open, closed_of, drop_effect}
 use Rattle.span_script.specs.Balance.{named_by, opened_by}
-use Rattle.span_script.specs.Fits.{State, Fits, MadeFit, IsScope, above}
+use Rattle.span_script.specs.Fits.{State, Fits, MadeFit, IsScope, parent_in}
 use Rattle.span_script.proofs.spans.ChainsLemmas.{Loose, loose_released, chain_ends, spent_loose}
 use Rattle.span_script.proofs.spans.OpenSpansLemmas.{open_slot, slot_open, up_in, opens}
 use Rattle.span_script.proofs.steps.BalanceLemmas.{named_slot}
 use Rattle.span_script.proofs.spans.MadeSpansLemmas.{made_released}
 
-at_end : (next : Option ℕ) (x y : Spans) (r : Released next x y) → next ≡ None → (closed_in next x y r ≡ []) × (y ≡ x)
+at_end : (next : Option ℕ) (x y : Spans) (r : ReleasesChain next x y) → next ≡ None → (closed_in next x y r ≡ []) × (y ≡ x)
 at_end _ _ _ (all_released x) none = (refl, refl)
 at_end _ _ _ (releases id at x y own rest) none = absurd (cc none)
 
-module _ (hs : List (Option Scope)) (ms : List Made) (named : (n : ℕ) (line : Scope) → slot_at hs n ≡ Some line → IsScope ms line) where
-  up_open : (s p : ℕ) → is_open hs s ≡ true → above (made_of ms s).scope ≡ Some p → is_open hs p ≡ true
+module _ (hs : List (Option Scope)) (ms : List MadeSpan) (named : (n : ℕ) (line : Scope) → slot_at hs n ≡ Some line → IsScope ms line) where
+  up_open : (s p : ℕ) → is_open hs s ≡ true → parent_in (made_of ms s).scope ≡ Some p → is_open hs p ≡ true
   up_open s p passes e = let at = open_slot hs s passes in slot_open hs at.0 p at.1 at.2 (up_in ms at.1 (named at.0 at.1 at.2) s p at.3 e)
 
   -- where a line's own span is open, so is each span above
-  none_closed : (line : Scope) → IsScope ms line → ((s : ℕ) → own line ≡ Some s → is_open hs s ≡ true) → closed_of hs line ≡ []
+  none_closed : (line : Scope) → IsScope ms line → ((s : ℕ) → own_span line ≡ Some s → is_open hs s ≡ true) → closed_of hs line ≡ []
   none_closed [] is first = refl
   none_closed (s ∷ up) is first =
-      cond-false {A = List ℕ} (not (is_open hs s)) (s ∷ closed_of hs up) (closed_of hs up) (ap not (first s refl)) ∙ none_closed up is.3 (λ p e. up_open s p (first s refl) (ap above is.1 ∙ e))
+      cond-false {A = List ℕ} (not (is_open hs s)) (s ∷ closed_of hs up) (closed_of hs up) (ap not (first s refl)) ∙ none_closed up is.3 (λ p e. up_open s p (first s refl) (ap parent_in is.1 ∙ e))
 
-  pub closed_are : (next : Option ℕ) (x y : Spans) (r : Released next x y) → (line : Scope) → IsScope ms line → own line ≡ next → Loose x (map named_by hs) next → MadeFit x.made ms
+  pub closed_are : (next : Option ℕ) (x y : Spans) (r : ReleasesChain next x y) → (line : Scope) → IsScope ms line → own_span line ≡ next → Loose x (map named_by hs) next → MadeFit x.made ms
       → ((s : ℕ) → nat_lt 0 (span_at y.made s).holds ≡ is_open hs s) → closed_in next x y r ≡ closed_of hs line
   closed_are _ _ _ (all_released x) [] is mine loose fit final = refl
   closed_are _ _ _ (all_released x) (s ∷ up) is mine loose fit final = absurd (cc mine)
@@ -39,15 +39,15 @@ module _ (hs : List (Option Scope)) (ms : List Made) (named : (n : ℕ) (line : 
   closed_are _ _ _ (releases id at x y own_hold rest) (s ∷ up) is mine loose fit final =
       let same : s ≡ id = cc mine in
       let was = span_at x.made id in
-      let now : Span = less_held was in
+      let now : Span = less_hold was in
       let fewer = less_holds was in
       let live : 0 < was.holds = omega (arith, own_hold) in
-      let after_one : Spans = record x { made = released x.made id } in
+      let after_one : Spans = record x { made = without_hold x.made id } in
       let within = made_if_held x.made id (omega (arith, own_hold)) in
       let h = holds_set x.made id now within id refl in
       let ends = chain_ends (next_of x.made id) after_one y rest (map named_by hs) (loose_released x (map named_by hs) id loose) in
       let left = cond-true {A = Option ℕ} (was.holds == 1) was.parent None in
-      let parent : was.parent ≡ own up = fit.parent id live ∙ ap (λ (k : ℕ). above (made_of ms k).scope) (sym same) ∙ ap above is.1 in
+      let parent : was.parent ≡ own_span up = fit.parent id live ∙ ap (λ (k : ℕ). parent_in (made_of ms k).scope) (sym same) ∙ ap parent_in is.1 in
       elim (cases_eq was.holds 1) [
         | inl last ↦ (
             let gone : is_open hs s ≡ false = ap (is_open hs) same ∙ sym (final id) ∙ (let f = ends.fewer id in let z : (span_at y.made id).holds ≡ 0 = omega (arith, f, h, last, fewer) in ap (nat_lt 0) z) in
@@ -63,10 +63,10 @@ module _ (hs : List (Option Scope)) (ms : List Made) (named : (n : ℕ) (line : 
             ∙ over.0 ∙ sym (none_closed (s ∷ up) is (λ q e. subst (λ (k : ℕ). is_open hs k ≡ true) (cc e) still)))
       ]
 
-pub drop_order : (k next : State) (stands : Here) (handle s : ℕ) (up : Scope) → Fits k stands.script → slot_at stands.script.handles handle ≡ Some (s ∷ up) → Fits next (after stands.script (drop_effect stands handle (s ∷ up))) → (r : Released (Some s) k.spans next.spans)
+pub drop_order : (k next : State) (stands : Here) (handle s : ℕ) (up : Scope) → Fits k stands.script → slot_at stands.script.handles handle ≡ Some (s ∷ up) → Fits next (after_effect stands.script (drop_effect stands handle (s ∷ up))) → (r : ReleasesChain (Some s) k.spans next.spans)
     → closed_in (Some s) k.spans next.spans r ≡ closed_of (slice_set stands.script.handles handle None) (s ∷ up)
 drop_order k next stands handle s up fits there later r =
     let t = stands.script in
-    closed_are (slice_set t.handles handle None) t.made later.scopes (Some s) k.spans next.spans r (s ∷ up) (fits.scopes handle (s ∷ up) there) refl
+    closed_are (slice_set t.handles handle None) t.spans later.scopes (Some s) k.spans next.spans r (s ∷ up) (fits.scopes handle (s ∷ up) there) refl
     (subst (λ (xs : List (Option ℕ)). Loose k.spans xs (Some s)) (sym (map-set named_by t.handles handle None)) (spent_loose k.spans (map named_by t.handles) (map (opened_by k.setup.ids) t.guards) t.entries fits.balanced handle s (named_slot t.handles handle (s ∷ up) there)))
-    fits.made (opens next (after t (drop_effect stands handle (s ∷ up))) later)
+    fits.made (opens next (after_effect t (drop_effect stands handle (s ∷ up))) later)

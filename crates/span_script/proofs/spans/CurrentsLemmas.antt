@@ -9,12 +9,12 @@ use Rattle.std.proofs.Math.ListN.{get_or-map}
 use Rattle.trace_base.specs.declared.lane.Lane.{Lane}
 use Rattle.trace_base.specs.declared.span.Parent.TheVariants as parent
 use Rattle.trace_base.specs.Gate.{Worlds}
-use Rattle.trace_base.specs.Spans.{Spans, span_at, held, current_of, entries_on}
+use Rattle.trace_base.specs.Spans.{Spans, span_at, with_hold, current_of, entries_on}
 use Rattle.trace_base.specs.Calls.{SubscriberCall, CloneSpan}
 use Rattle.trace_base.specs.Conditions.{IsLive}
 use Rattle.trace_base.specs.Sound.{OneEach}
 use Rattle.trace_base.proofs.Entering.{count_push}
-use Rattle.span_handles.specs.Worlds.{Has, seen, spans_in, kept_in, no_spans}
+use Rattle.span_handles.specs.Worlds.{Has, member_of, spans_in, kept_in, no_spans}
 use Rattle.span_handles.specs.Handles.{Handle, Held, id_of, ReplacedOn, Copies, IsCurrent}
 use Rattle.span_script.specs.declared.slots.Guard.{Guard}
 use Rattle.span_script.specs.declared.reply.Reply.TheVariants as reply
@@ -24,13 +24,13 @@ use Rattle.span_script.specs.declared.request.Call.TheVariants as call
 use Rattle.span_script.specs.declared.request.Place.TheVariants as place
 use Rattle.span_script.specs.Setups.{id_at}
 use Rattle.otel_layer.specs.Recording.{Recording, no_recording}
-use Rattle.span_script.specs.Tables.{Scope, Made, Guarded, Effect, Tables, slot_at, slots_after, own, site_of}
+use Rattle.span_script.specs.Tables.{Scope, MadeSpan, ScopeGuard, Effect, Tables, slot_at, slots_after, own_span, site_of}
 use Rattle.span_script.specs.calls.Here.{Here, here_at, Resolved, refuse_if, ◌>>=◌, need}
 use Rattle.span_script.specs.Effects.{effect_of_call}
 use Rattle.span_script.specs.calls.Spans.{clone_effect, current_scope, scope_or_current, exchange_effect, is_borrowed}
 use Rattle.span_script.specs.Slots.{is_named}
-use Rattle.span_script.specs.Balance.{Balanced, names, named_by, opened_by}
-use Rattle.span_script.specs.Fits.{Views, State, state_of, Laned, laned, Fits, StandsFor, MadeFit, LanesFit, IsKept, Served, IsScope, held_of, held_by, site_by, Parts}
+use Rattle.span_script.specs.Balance.{Balanced, names_span, named_by, opened_by}
+use Rattle.span_script.specs.Fits.{Views, State, state_of, LaneValue, lane_value, Fits, StandsFor, MadeFit, LanesFit, IsKept, Served, IsScope, held_of, held_by, site_by, Parts}
 use Rattle.span_script.proofs.filter.CounterLemmas.{adds_same}
 use Rattle.span_script.proofs.steps.SlotsLemmas.{Found, find, held_slot, named_within}
 use Rattle.span_script.proofs.spans.SitesLemmas.{site_slot, site_found, copied_site}
@@ -44,26 +44,26 @@ use Rattle.span_script.proofs.filter.FilterLemmas.{heard_none}
 use Rattle.span_script.proofs.spans.MoreHandlesLemmas.{find_up, spans_held, balanced_decline, another_handle}
 use Rattle.span_script.proofs.spans.ClonesLemmas.{held_scope_most, clone_live, one_clone, made_clone, the_scope, enabled_is, still_named_more, held_spans, clone_kept, clone_recorded, clone_filter}
 use Rattle.span_script.proofs.spans.ChainsLemmas.{not_borrowed, opened_handle, borrowed_is, still_spent}
-use Rattle.span_script.specs.SubscriberLaws.{Adds, CallsLaw, aside_in}
+use Rattle.span_script.specs.SubscriberLaws.{AddsMeasures, CallsLaw, aside_in}
 
 -- ---- balance
 
 -- one handle more of a scope that is live
-balanced_more : (ids : List ℕ) (spans : Spans) (hs : List (Option Scope)) (gs : List (Option Guarded)) (es : ℕ → List ℕ) → Balanced spans (map named_by hs) (map (opened_by ids) gs) es → (line : Scope) → IfSome (own line) (λ s. IsLive spans.made s)
+balanced_more : (ids : List ℕ) (spans : Spans) (hs : List (Option Scope)) (gs : List (Option ScopeGuard)) (es : ℕ → List ℕ) → Balanced spans (map named_by hs) (map (opened_by ids) gs) es → (line : Scope) → IfSome (own_span line) (λ s. IsLive spans.made s)
     → Balanced (spans_held spans line) (map named_by (hs ++ Some line ∷ [])) (map (opened_by ids) gs) es
 balanced_more ids spans hs gs es fits [] live = balanced_decline ids spans hs gs es fits
 balanced_more ids spans hs gs es fits (s ∷ up) live =
-    subst (λ (xs : List (Option ℕ)). Balanced (record spans { made = held spans.made s }) xs (map (opened_by ids) gs) es) (sym (map_push named_by hs (Some (s ∷ up))))
+    subst (λ (xs : List (Option ℕ)). Balanced (record spans { made = with_hold spans.made s }) xs (map (opened_by ids) gs) es) (sym (map_push named_by hs (Some (s ∷ up))))
     (another_handle spans (map named_by hs) (map (opened_by ids) gs) es fits s live)
 
 -- a disabled handle is spent
-balanced_without : (ids : List ℕ) (spans : Spans) (hs : List (Option Scope)) (gs : List (Option Guarded)) (es : ℕ → List ℕ) → Balanced spans (map named_by hs) (map (opened_by ids) gs) es → (handle : ℕ) → slot_at hs handle ≡ Some []
+balanced_without : (ids : List ℕ) (spans : Spans) (hs : List (Option Scope)) (gs : List (Option ScopeGuard)) (es : ℕ → List ℕ) → Balanced spans (map named_by hs) (map (opened_by ids) gs) es → (handle : ℕ) → slot_at hs handle ≡ Some []
     → Balanced spans (map named_by (slice_set hs handle None)) (map (opened_by ids) gs) es
 balanced_without ids spans hs gs es fits handle there =
     subst (λ (xs : List (Option ℕ)). Balanced spans xs (map (opened_by ids) gs) es) (sym (map-set named_by hs handle None ∙ set_none (map named_by hs) handle (named_slot hs handle [] there))) fits
 
 -- the hold of a handle that is spent is that of another one
-balanced_moved : (ids : List ℕ) (spans : Spans) (hs : List (Option Scope)) (gs : List (Option Guarded)) (es : ℕ → List ℕ) → Balanced spans (map named_by hs) (map (opened_by ids) gs) es → (handle s : ℕ) (up : Scope) → slot_at hs handle ≡ Some (s ∷ up)
+balanced_moved : (ids : List ℕ) (spans : Spans) (hs : List (Option Scope)) (gs : List (Option ScopeGuard)) (es : ℕ → List ℕ) → Balanced spans (map named_by hs) (map (opened_by ids) gs) es → (handle s : ℕ) (up : Scope) → slot_at hs handle ≡ Some (s ∷ up)
     → is_borrowed gs handle ≡ false → Balanced spans (map named_by (slice_set (hs ++ Some (s ∷ up) ∷ []) handle None)) (map (opened_by ids) gs) es
 balanced_moved ids spans hs gs es fits handle s up there free =
     let xs : List (Option ℕ) = map named_by hs in
@@ -73,9 +73,9 @@ balanced_moved ids spans hs gs es fits handle s up there free =
     let is : slot_at ys handle ≡ Some s = get_or_append_left xs (Some s ∷ []) None handle below ∙ at in
     subst (λ (zs : List (Option ℕ)). Balanced spans zs (map (opened_by ids) gs) es) (ap (λ (zs : List (Option ℕ)). slice_set zs handle None) (sym (map_push named_by hs (Some (s ∷ up)))) ∙ sym (map-set named_by (hs ++ Some (s ∷ up) ∷ []) handle None)) (record {
       holds = λ q. (
-          let change = sum_by-set (λ (o : Option ℕ). cond {A = ℕ} (names q o) 1 0) ys handle None None (named_within ys handle s is) in
-          let mine = ap (λ (o : Option ℕ). cond {A = ℕ} (names q o) 1 0) is in
-          let push = count_push (names q) xs (Some s) in
+          let change = sum_by-set (λ (o : Option ℕ). cond {A = ℕ} (names_span q o) 1 0) ys handle None None (named_within ys handle s is) in
+          let mine = ap (λ (o : Option ℕ). cond {A = ℕ} (names_span q o) 1 0) is in
+          let push = count_push (names_span q) xs (Some s) in
           let h = fits.holds q in
           omega (arith, change, mine, push, h));
       entries = fits.entries;
@@ -89,44 +89,44 @@ balanced_moved ids spans hs gs es fits handle s up there free =
 -- ---- the lane's current span
 
 record IsOn (k : State) (t : Tables) (lane : ℕ) : Type 0 where
-  scope : IsScope t.made (current_scope t lane)
-  on : current_of (entries_on lane k.spans.lanes) ≡ own (current_scope t lane)
-  live : IfSome (own (current_scope t lane)) (λ s. IsLive k.spans.made s)
+  scope : IsScope t.spans (current_scope t lane)
+  on : current_of (entries_on lane k.spans.lanes) ≡ own_span (current_scope t lane)
+  live : IfSome (own_span (current_scope t lane)) (λ s. IsLive k.spans.made s)
 
 is_on : (k : State) (t : Tables) → Fits k t → (lane : ℕ) → IsOn k t lane
 is_on k t fits lane =
     let up = find_up k t fits lane place.Contextual parent.Current refl in
     let e : up.up ≡ current_scope t lane = the_scope up.up (current_scope t lane) (sym up.is) in
     record {
-      scope = subst (IsScope t.made) e up.scope;
-      on = up.on ∙ ap own e;
-      live = subst (λ (line : Scope). IfSome (own line) (λ s. IsLive k.spans.made s)) e up.live;
+      scope = subst (IsScope t.spans) e up.scope;
+      on = up.on ∙ ap own_span e;
+      live = subst (λ (line : Scope). IfSome (own_span line) (λ s. IsLive k.spans.made s)) e up.live;
     }
 
-live_at : (spans : Spans) (line : Scope) → IfSome (own line) (λ s. IsLive spans.made s) → (s : ℕ) (up : Scope) → line ≡ s ∷ up → 0 < (span_at spans.made s).holds
-live_at spans line live s up e = subst (λ (l : Scope). IfSome (own l) (λ s. IsLive spans.made s)) e live
+live_at : (spans : Spans) (line : Scope) → IfSome (own_span line) (λ s. IsLive spans.made s) → (s : ℕ) (up : Scope) → line ≡ s ∷ up → 0 < (span_at spans.made s).holds
+live_at spans line live s up e = subst (λ (l : Scope). IfSome (own_span l) (λ s. IsLive spans.made s)) e live
 
-copied : {S : Type 0} (does : S → SubscriberCall → S → Type 0) (old new : Worlds S) (dispatch : ℕ) (site : ℕ → ℕ) (line : Scope) (h : Handle) → Copies does old new dispatch (option_map (λ id. (id, site id)) (own line)) h
+copied : {S : Type 0} (does : S → SubscriberCall → S → Type 0) (old new : Worlds S) (dispatch : ℕ) (site : ℕ → ℕ) (line : Scope) (h : Handle) → Copies does old new dispatch (option_map (λ id. (id, site id)) (own_span line)) h
     → (h.held ≡ held_of dispatch line) × ReplacedOn (λ id s t. does s (CloneSpan id) t) old new h.held
 copied does old new dispatch site [] h did = (ap (λ (x : Handle). x.held) did.0, subst (λ (x : Handle). ReplacedOn (λ id s t. does s (CloneSpan id) t) old new x.held) (sym did.0) did.1)
 copied does old new dispatch site (s ∷ up) h did = (ap (λ (x : Handle). x.held) did.0, subst (λ (x : Handle). ReplacedOn (λ id s t. does s (CloneSpan id) t) old new x.held) (sym did.0) did.1)
 
-current_copied : {S : Type 0} (spans : S → Spans) (does : S → SubscriberCall → S → Type 0) (old new : Worlds S) (dispatch lane : ℕ) (line : Scope) (h : Handle) → dispatch < length old.subscribers → current_of (entries_on lane (spans_in spans old dispatch).lanes) ≡ own line
+current_copied : {S : Type 0} (spans : S → Spans) (does : S → SubscriberCall → S → Type 0) (old new : Worlds S) (dispatch lane : ℕ) (line : Scope) (h : Handle) → dispatch < length old.subscribers → current_of (entries_on lane (spans_in spans old dispatch).lanes) ≡ own_span line
     → IsCurrent spans does old new lane (Some dispatch) h → (h.held ≡ held_of dispatch line) × ReplacedOn (λ id s t. does s (CloneSpan id) t) old new h.held
 current_copied {S} spans does old new dispatch lane line h there on did =
     let at = within_get old.subscribers dispatch there in
     let is : spans_in spans old dispatch ≡ spans at.0 = ap (λ (o : Option S). option_map_or spans o no_spans) at.1 in
-    let same : current_of (entries_on lane (spans at.0).lanes) ≡ own line = ap (λ (x : Spans). current_of (entries_on lane x.lanes)) (sym is) ∙ on in
+    let same : current_of (entries_on lane (spans at.0).lanes) ≡ own_span line = ap (λ (x : Spans). current_of (entries_on lane x.lanes)) (sym is) ∙ on in
     copied does old new dispatch (λ id. (span_at (spans at.0).made id).site) line h
     (subst (λ (o : Option ℕ). Copies does old new dispatch (option_map (λ id. (id, (span_at (spans at.0).made id).site)) o) h) same (did at.0 at.1))
 
 -- its callsite is that of the span that was made
-current_site : {S : Type 0} (spans : S → Spans) (does : S → SubscriberCall → S → Type 0) (old new : Worlds S) (dispatch lane : ℕ) (line : Scope) (h : Handle) → dispatch < length old.subscribers → current_of (entries_on lane (spans_in spans old dispatch).lanes) ≡ own line
-    → IsCurrent spans does old new lane (Some dispatch) h → (made : List Made) → MadeFit (spans_in spans old dispatch).made made → IfSome (own line) (λ s. IsLive (spans_in spans old dispatch).made s) → h.site ≡ site_of made line
+current_site : {S : Type 0} (spans : S → Spans) (does : S → SubscriberCall → S → Type 0) (old new : Worlds S) (dispatch lane : ℕ) (line : Scope) (h : Handle) → dispatch < length old.subscribers → current_of (entries_on lane (spans_in spans old dispatch).lanes) ≡ own_span line
+    → IsCurrent spans does old new lane (Some dispatch) h → (made : List MadeSpan) → MadeFit (spans_in spans old dispatch).made made → IfSome (own_span line) (λ s. IsLive (spans_in spans old dispatch).made s) → h.site ≡ site_of made line
 current_site {S} spans does old new dispatch lane line h there on did made fit live =
     let at = within_get old.subscribers dispatch there in
     let is : spans_in spans old dispatch ≡ spans at.0 = ap (λ (o : Option S). option_map_or spans o no_spans) at.1 in
-    let same : current_of (entries_on lane (spans at.0).lanes) ≡ own line = ap (λ (x : Spans). current_of (entries_on lane x.lanes)) (sym is) ∙ on in
+    let same : current_of (entries_on lane (spans at.0).lanes) ≡ own_span line = ap (λ (x : Spans). current_of (entries_on lane x.lanes)) (sym is) ∙ on in
     copied_site does old new dispatch (λ id. (span_at (spans at.0).made id).site) made line h
     (subst (λ (o : Option ℕ). Copies does old new dispatch (option_map (λ id. (id, (span_at (spans at.0).made id).site)) o) h) same (did at.0 at.1))
     (λ s up e. ap (λ (x : Spans). (span_at x.made s).site) (sym is) ∙ fit.site s (live_at (spans_in spans old dispatch) line live s up e))
@@ -159,28 +159,28 @@ one_more hs line (Some n) = length-set (hs ++ Some line ∷ []) n None ∙ lengt
 
 -- what it makes of the spans
 record Handed (k : State) (t : Tables) (later : Spans) (line : Scope) (spent : Option ℕ) : Type 0 where
-  scope : IsScope t.made line
+  scope : IsScope t.spans line
   balanced : Balanced later (map named_by (slots_after t.handles (Some line) spent)) (map (opened_by k.setup.ids) t.guards) t.entries
-  still : (n : ℕ) (g : Guarded) → slot_at t.guards n ≡ Some g → slot_at (slots_after t.handles (Some line) spent) g.handle ≡ Some g.scope
-  made : MadeFit later.made t.made
+  still : (n : ℕ) (g : ScopeGuard) → slot_at t.guards n ≡ Some g → slot_at (slots_after t.handles (Some line) spent) g.handle ≡ Some g.scope
+  made : MadeFit later.made t.spans
   most : (s : ℕ) → (span_at later.made s).holds ≤ (span_at k.spans.made s).holds + 1
   live : (s : ℕ) → 0 < (span_at later.made s).holds → 0 < (span_at k.spans.made s).holds
   one : OneEach later.lanes
 
 -- a hold more for it
-handed_more : (k : State) (t : Tables) → Fits k t → (line : Scope) → IsScope t.made line → IfSome (own line) (λ s. IsLive k.spans.made s) → Handed k t (spans_held k.spans line) line None
+handed_more : (k : State) (t : Tables) → Fits k t → (line : Scope) → IsScope t.spans line → IfSome (own_span line) (λ s. IsLive k.spans.made s) → Handed k t (spans_held k.spans line) line None
 handed_more k t fits line scope live = record {
   scope = scope;
   balanced = balanced_more k.setup.ids k.spans t.handles t.guards t.entries fits.balanced line live;
   still = still_named_more t.guards t.handles line fits.still;
-  made = made_clone k.spans t.made line fits.made (live_at k.spans line live);
+  made = made_clone k.spans t.spans line fits.made (live_at k.spans line live);
   most = held_scope_most k.spans line;
   live = λ s some. clone_live k.spans line s (live_at k.spans line live) some;
   one = one_clone k.spans line fits.one_lane;
 }
 
 -- the same in place of a disabled handle
-handed_instead : (k : State) (t : Tables) → Fits k t → (line : Scope) → IsScope t.made line → IfSome (own line) (λ s. IsLive k.spans.made s) → (handle : ℕ) → slot_at t.handles handle ≡ Some [] → is_borrowed t.guards handle ≡ false
+handed_instead : (k : State) (t : Tables) → Fits k t → (line : Scope) → IsScope t.spans line → IfSome (own_span line) (λ s. IsLive k.spans.made s) → (handle : ℕ) → slot_at t.handles handle ≡ Some [] → is_borrowed t.guards handle ≡ false
     → Handed k t (spans_held k.spans line) line (Some handle)
 handed_instead k t fits line scope live handle there free =
     let more = handed_more k t fits line scope live in
@@ -227,14 +227,14 @@ module _ {S : Type 0} (spans : S → Spans) (views : Views S) (attaches : S → 
     next_number : (t : Tables) → Fits now t → number ≡ length t.handles
     next_number t fits = many ∙ sym (length-map parts.handles held_by) ∙ ap length fits.handle_slots ∙ length-map t.handles (option_map (held_of parts.dispatch))
 
-    lanes_are : map laned (set parts.lanes lane (using before parts.dispatch)) ≡ map laned parts.lanes
+    lanes_are : map lane_value (set parts.lanes lane (using before parts.dispatch)) ≡ map lane_value parts.lanes
     lanes_are = lanes_same parts.lanes lane before (using before parts.dispatch) within here refl
 
-    on_id : (t : Tables) → Fits now t → current_of (entries_on before.id now.spans.lanes) ≡ own (current_scope t place_id)
+    on_id : (t : Tables) → Fits now t → current_of (entries_on before.id now.spans.lanes) ≡ own_span (current_scope t place_id)
     on_id t fits = ap (λ (l : ℕ). current_of (entries_on l now.spans.lanes)) (id_seen parts.lanes lane before within here) ∙ (is_on now t fits place_id).on
 
-    serves_handed : (t : Tables) → StandsFor now t → (resolved : Resolved) (line : Scope) (spent : Option ℕ) (enabled : Bool) → resolved ≡ Ok (hands (here_at now.setup t at lane) line spent) → enabled ≡ is_some (own line) → new.sites ≡ parts.world.sites
-        → seen views.recorded no_recording new parts.dispatch ≡ seen views.recorded no_recording parts.world parts.dispatch → seen views.filtered None new parts.dispatch ≡ seen views.filtered None parts.world parts.dispatch → new.cached ≡ parts.world.cached → Adds (aside_in views parts.world parts.dispatch) (aside_in views new parts.dispatch) [] → then.handles ≡ slots_after now.handles (Some (held_of parts.dispatch line)) spent → then.handle_sites ≡ slots_after now.handle_sites (Some (site_of t.made line)) spent → Handed now t then.spans line spent
+    serves_handed : (t : Tables) → StandsFor now t → (resolved : Resolved) (line : Scope) (spent : Option ℕ) (enabled : Bool) → resolved ≡ Ok (hands (here_at now.setup t at lane) line spent) → enabled ≡ is_some (own_span line) → new.sites ≡ parts.world.sites
+        → member_of views.recorded no_recording new parts.dispatch ≡ member_of views.recorded no_recording parts.world parts.dispatch → member_of views.filtered None new parts.dispatch ≡ member_of views.filtered None parts.world parts.dispatch → new.cached ≡ parts.world.cached → AddsMeasures (aside_in views parts.world parts.dispatch) (aside_in views new parts.dispatch) [] → then.handles ≡ slots_after now.handles (Some (held_of parts.dispatch line)) spent → then.handle_sites ≡ slots_after now.handle_sites (Some (site_of t.spans line)) spent → Handed now t then.spans line spent
         → Served resolved t now then (reply.Made enabled number)
     serves_handed t stands resolved line spent enabled is shows sites same filters cached aside handles handle_sites handed =
         let fits = stands.fits in
@@ -243,7 +243,7 @@ module _ {S : Type 0} (spans : S → Spans) (views : Views S) (attaches : S → 
         let more = one_more t.handles line spent in
         serve now then t e resolved (reply.Made enabled number) stands is
         (ap (λ n. reply.Made enabled n) (next_number t fits) ∙ ap (λ b. reply.Made b (length t.handles)) shows)
-        setup (seen views.recorded no_recording parts.world parts.dispatch).tokens same
+        setup (member_of views.recorded no_recording parts.world parts.dispatch).tokens same
         (fits_step now t fits then e (record {
           setup_is = setup;
           dispatch_is = refl;
@@ -257,19 +257,19 @@ module _ {S : Type 0} (spans : S → Spans) (views : Views S) (attaches : S → 
           made_fit = handed.made;
           new_made = tt;
           new_site = tt;
-          new_scope = λ l e. subst (IsScope t.made) (the_scope line l e) handed.scope;
+          new_scope = λ l e. subst (IsScope t.spans) (the_scope line l e) handed.scope;
           still = handed.still;
           few = (let f = fits.few in omega (arith, more, f));
           few_holds = λ s. (let a = handed.most s in let f = fits.few_holds s in omega (arith, a, f, more));
           one = handed.one;
         }))
-        (λ s some. known_still now then t e (seen views.recorded no_recording parts.world parts.dispatch).tokens same stands.recording s refl (handed.live s some))
+        (λ s some. known_still now then t e (member_of views.recorded no_recording parts.world parts.dispatch).tokens same stands.recording s refl (handed.live s some))
         (all_same now then t.contexts setup refl lanes_are (ap (λ (r : Recording). r.tokens) same) stands.recording.attached)
-        (record { quiet = refl; before = seen views.filtered None parts.world parts.dispatch; later = seen views.filtered None new parts.dispatch; shown_before = refl; shown_later = refl; told = filters ∙ heard_none (seen views.filtered None parts.world parts.dispatch); known = refl; cached = cached; aside = record { before = aside_in views parts.world parts.dispatch; later = aside_in views new parts.dispatch; shown_before = refl; shown_later = refl; waits_before = refl; waits_later = refl; adds = aside } })
+        (record { quiet = refl; before = member_of views.filtered None parts.world parts.dispatch; later = member_of views.filtered None new parts.dispatch; shown_before = refl; shown_later = refl; told = filters ∙ heard_none (member_of views.filtered None parts.world parts.dispatch); known = refl; cached = cached; aside = record { before = aside_in views parts.world parts.dispatch; later = aside_in views new parts.dispatch; shown_before = refl; shown_later = refl; waits_before = refl; waits_later = refl; adds = aside } })
 
     keeps_handed : (resolved : Resolved) (enabled : Bool) → Served resolved inv.tables now then (reply.Made enabled number) → length new.subscribers ≡ length parts.world.subscribers → (Has is_whole parts.world parts.dispatch → Has is_whole new parts.dispatch) → kept_in kept new parts.dispatch ≡ kept_in kept parts.world parts.dispatch → IsKept spans views kept is_whole then_parts
     keeps_handed resolved enabled served count whole same = kept_served spans views kept is_whole parts then_parts inv resolved _ served refl count whole
-        (subst (λ (ls : List Laned). LanesFit (kept_in kept new parts.dispatch) ls) (sym lanes_are) (subst (λ (f : ℕ → ℕ → ℕ). LanesFit f (map laned parts.lanes)) (sym same) inv.lanes))
+        (subst (λ (ls : List LaneValue). LanesFit (kept_in kept new parts.dispatch) ls) (sym lanes_are) (subst (λ (f : ℕ → ℕ → ℕ). LanesFit f (map lane_value parts.lanes)) (sym same) inv.lanes))
 
     -- a handle of the lane's current span
     module _ (h : Handle) (enabled : Bool) (shows : enabled ≡ is_some (id_of h.held)) (one : hs' ≡ parts.handles ++ Some h ∷ []) (did : IsCurrent spans does parts.world new before.id (Some parts.dispatch) h) where
@@ -283,7 +283,7 @@ module _ {S : Type 0} (spans : S → Spans) (views : Views S) (attaches : S → 
           serves_handed t stands _ line None enabled refl (shows ∙ enabled_is parts.dispatch line h.held copy.0) (call_sites spans views attaches kept is_whole parts new line (λ id. CloneSpan id) shown)
           (clone_recorded spans views attaches kept is_whole parts new line shown) (clone_filter spans views attaches kept is_whole parts new line shown) (call_cached spans views attaches kept is_whole parts new line (λ id. CloneSpan id) shown) (call_aside spans views attaches kept is_whole parts new line (λ id. CloneSpan id) (λ s. refl) shown)
           (ap (map held_by) one ∙ map_push held_by parts.handles (Some h) ∙ ap (λ (x : Held). map held_by parts.handles ++ Some x ∷ []) copy.0)
-          (ap (map site_by) one ∙ map_push site_by parts.handles (Some h) ∙ ap (λ (o : Option ℕ). map site_by parts.handles ++ Some o ∷ []) (current_site spans does parts.world new parts.dispatch before.id line h inv.there (on_id t fits) did t.made fits.made on.live))
+          (ap (map site_by) one ∙ map_push site_by parts.handles (Some h) ∙ ap (λ (o : Option ℕ). map site_by parts.handles ++ Some o ∷ []) (current_site spans does parts.world new parts.dispatch before.id line h inv.there (on_id t fits) did t.spans fits.made on.live))
           (subst (λ (x : Spans). Handed now t x line None) (sym (held_spans spans views attaches kept is_whole parts new line shown)) (handed_more now t fits line on.scope on.live))
 
       pub keeps_current : IsKept spans views kept is_whole then_parts
@@ -304,7 +304,7 @@ module _ {S : Type 0} (spans : S → Spans) (views : Views S) (attaches : S → 
           ∙ ap (λ (ys : List (Option Held)). ys ++ Some (held_of parts.dispatch line) ∷ []) (map-set held_by parts.handles handle None)
           ∙ sym (set-append_left xs (Some (held_of parts.dispatch line) ∷ []) handle None (named_within xs handle h.held (held_slot parts.handles handle h found)))
 
-      sites_are : (made : List Made) (line : Scope) → next.site ≡ site_of made line → then.handle_sites ≡ slots_after now.handle_sites (Some (site_of made line)) (Some handle)
+      sites_are : (made : List MadeSpan) (line : Scope) → next.site ≡ site_of made line → then.handle_sites ≡ slots_after now.handle_sites (Some (site_of made line)) (Some handle)
       sites_are made line is =
           let xs : List (Option (Option ℕ)) = map site_by parts.handles in
           ap (map site_by) one ∙ map_push site_by (slice_set parts.handles handle None) (Some next) ∙ ap (λ (o : Option ℕ). map site_by (slice_set parts.handles handle None) ++ Some o ∷ []) is
@@ -336,7 +336,7 @@ module _ {S : Type 0} (spans : S → Spans) (views : Views S) (attaches : S → 
           let shown = shown_on spans views attaches kept is_whole does law parts.world new parts.dispatch line next.held copy.0 (λ id. CloneSpan id) copy.1 in
           record {
             served = serves_handed t stands _ line (Some handle) enabled (its_effect t fits [] there) (shows ∙ enabled_is parts.dispatch line next.held copy.0) (call_sites spans views attaches kept is_whole parts new line (λ id. CloneSpan id) shown)
-                (clone_recorded spans views attaches kept is_whole parts new line shown) (clone_filter spans views attaches kept is_whole parts new line shown) (call_cached spans views attaches kept is_whole parts new line (λ id. CloneSpan id) shown) (call_aside spans views attaches kept is_whole parts new line (λ id. CloneSpan id) (λ s. refl) shown) (slots_are line copy.0) (sites_are t.made line (current_site spans does parts.world new parts.dispatch before.id line next inv.there (on_id t fits) (takes is) t.made fits.made on.live))
+                (clone_recorded spans views attaches kept is_whole parts new line shown) (clone_filter spans views attaches kept is_whole parts new line shown) (call_cached spans views attaches kept is_whole parts new line (λ id. CloneSpan id) shown) (call_aside spans views attaches kept is_whole parts new line (λ id. CloneSpan id) (λ s. refl) shown) (slots_are line copy.0) (sites_are t.spans line (current_site spans does parts.world new parts.dispatch before.id line next inv.there (on_id t fits) (takes is) t.spans fits.made on.live))
                 (subst (λ (x : Spans). Handed now t x line (Some handle)) (sym (held_spans spans views attaches kept is_whole parts new line shown)) (handed_instead now t fits line on.scope on.live handle there (not_used t fits)));
             count = call_count spans views attaches kept is_whole parts new line (λ id. CloneSpan id) shown;
             whole = call_whole spans views attaches kept is_whole parts new line (λ id. CloneSpan id) shown;
@@ -348,7 +348,7 @@ module _ {S : Type 0} (spans : S → Spans) (views : Views S) (attaches : S → 
           let held_is : next.held ≡ held_of parts.dispatch (s ∷ up) = ap (λ (x : Handle). x.held) mine.0 ∙ is in
           record {
             served = serves_handed t stands _ (s ∷ up) (Some handle) enabled (its_effect t fits (s ∷ up) there) (shows ∙ enabled_is parts.dispatch (s ∷ up) next.held held_is) (ap (λ (w : Worlds S). w.sites) mine.1)
-                (ap (λ (w : Worlds S). seen views.recorded no_recording w parts.dispatch) mine.1) (ap (λ (w : Worlds S). seen views.filtered None w parts.dispatch) mine.1) (ap (λ (w : Worlds S). w.cached) mine.1) (adds_same views parts.world new parts.dispatch mine.1) (slots_are (s ∷ up) held_is) (sites_are t.made (s ∷ up) (ap (λ (x : Handle). x.site) mine.0 ∙ site_found now t fits parts.handles refl handle h found (s ∷ up) there))
+                (ap (λ (w : Worlds S). member_of views.recorded no_recording w parts.dispatch) mine.1) (ap (λ (w : Worlds S). member_of views.filtered None w parts.dispatch) mine.1) (ap (λ (w : Worlds S). w.cached) mine.1) (adds_same views parts.world new parts.dispatch mine.1) (slots_are (s ∷ up) held_is) (sites_are t.spans (s ∷ up) (ap (λ (x : Handle). x.site) mine.0 ∙ site_found now t fits parts.handles refl handle h found (s ∷ up) there))
                 (subst (λ (x : Spans). Handed now t x (s ∷ up) (Some handle)) (sym (ap (λ (w : Worlds S). spans_in spans w parts.dispatch) mine.1)) (handed_on now t fits handle s up there (not_used t fits)));
             count = ap (λ (w : Worlds S). length w.subscribers) mine.1;
             whole = λ has. subst (λ (w : Worlds S). Has is_whole w parts.dispatch) (sym mine.1) has;

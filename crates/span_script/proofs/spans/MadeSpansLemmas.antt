@@ -2,9 +2,9 @@
 use Rattle.std.proofs.Common.{◌≡◌, ℕ, ◌+◌, ◌<◌, List, length, Bool, true, false, cond, set, refl, sym, ap, ◌∙◌, arith, inl, inr}
 use Rattle.std.proofs.lemmas.Bool.{cases_eq, cases_lt}
 use Rattle.std.proofs.lemmas.List.{length-set, get_or-set_same, get_or-set_other, get_or_past}
-use Rattle.trace_base.specs.Spans.{Span, no_span, span_at, held, less_held, released}
+use Rattle.trace_base.specs.Spans.{Span, no_span, span_at, with_hold, less_hold, without_hold}
 use Rattle.trace_base.proofs.Holding.{less_more, less_last, less_holds}
-use Rattle.span_script.specs.Tables.{Made}
+use Rattle.span_script.specs.Tables.{MadeSpan}
 use Rattle.span_script.specs.Fits.{MadeFit}
 
 -- a span with the same parent and callsite, or closed
@@ -12,7 +12,7 @@ abbrev pub AsMade : Span → Span → Type 0
 AsMade was now = 0 < now.holds → (now.parent ≡ was.parent) × (now.site ≡ was.site) × (0 < was.holds)
 
 -- a span of which only the holds were written
-pub made_written : (spans : List Span) (ms : List Made) (id : ℕ) (now : Span) → MadeFit spans ms → AsMade (span_at spans id) now → MadeFit (set spans id now) ms
+pub made_written : (spans : List Span) (ms : List MadeSpan) (id : ℕ) (now : Span) → MadeFit spans ms → AsMade (span_at spans id) now → MadeFit (set spans id now) ms
 made_written spans ms id now fit kin =
     let same : (q : ℕ) → AsMade (span_at spans q) (span_at (set spans id now) q) = λ q live. elim (cases_eq q id) [
       | inl here ↦ elim (cases_lt id (length spans)) [
@@ -34,17 +34,17 @@ made_written spans ms id now fit kin =
       site = λ q live. (same q live).1 ∙ fit.site q (same q live).2;
     }
 
-pub made_if : (b : Bool) (xs ys : List Span) (ms : List Made) → MadeFit xs ms → MadeFit ys ms → MadeFit (cond b xs ys) ms
+pub made_if : (b : Bool) (xs ys : List Span) (ms : List MadeSpan) → MadeFit xs ms → MadeFit ys ms → MadeFit (cond b xs ys) ms
 made_if true xs ys ms x y = x
 made_if false xs ys ms x y = y
 
-pub made_held : (spans : List Span) (ms : List Made) (id : ℕ) → MadeFit spans ms → 0 < (span_at spans id).holds → MadeFit (held spans id) ms
+pub made_held : (spans : List Span) (ms : List MadeSpan) (id : ℕ) → MadeFit spans ms → 0 < (span_at spans id).holds → MadeFit (with_hold spans id) ms
 made_held spans ms id fit live = made_written spans ms id (record (span_at spans id) { holds = (span_at spans id).holds + 1 }) fit (λ some. (refl, refl, live))
 
-pub made_released : (spans : List Span) (ms : List Made) (id : ℕ) → MadeFit spans ms → MadeFit (released spans id) ms
+pub made_released : (spans : List Span) (ms : List MadeSpan) (id : ℕ) → MadeFit spans ms → MadeFit (without_hold spans id) ms
 made_released spans ms id fit =
     let was = span_at spans id in
-    made_written spans ms id (less_held was) fit (λ some.
+    made_written spans ms id (less_hold was) fit (λ some.
     let fewer = less_holds was in
     let more = less_more was (λ last. let h = ap (λ (s : Span). s.holds) (less_last was last) in omega (arith, h, some)) in
     (ap (λ (s : Span). s.parent) more, ap (λ (s : Span). s.site) more, omega (arith, fewer, some)))

@@ -8,12 +8,12 @@ use Rattle.trace_base.specs.declared.span.Parent.{Parent}
 use Rattle.trace_base.specs.declared.callsite.Callsite.{Callsite}
 use Rattle.trace_base.specs.declared.field.ValueSet.{ValueSet}
 use Rattle.trace_base.specs.Gate.{Worlds}
-use Rattle.env_filter.specs.Filtering.{Filtered}
+use Rattle.env_filter.specs.Filtering.{FilterState}
 use Rattle.trace_base.specs.Spans.{Span, Spans, no_span, span_at, held_by_child, entries_on, place_on, current_of}
-use Rattle.trace_base.specs.Calls.{SubscriberCall, NewSpan, with_span}
+use Rattle.trace_base.specs.Calls.{SubscriberCall, NewSpan, with_new_span}
 use Rattle.trace_base.specs.Conditions.{IsLivePlace, HasFewHolds, AreFew, HasFewHoldsAbove}
 use Rattle.trace_base.specs.Sound.{OneEach}
-use Rattle.span_handles.specs.Worlds.{Shown, Replaced, seen, spans_in, kept_in, no_spans, Has}
+use Rattle.span_handles.specs.Worlds.{Shown, Replaced, member_of, spans_in, kept_in, no_spans, Has}
 use Rattle.span_handles.specs.Handles.{Handle, Makes, MayMake, no_handle}
 use Rattle.span_handles.proofs.Showing.{seen_before}
 use Rattle.span_script.specs.declared.reply.Reply.TheVariants as reply
@@ -29,21 +29,21 @@ use Rattle.otel_state.specs.declared.op.Op.TheVariants as ops
 use Rattle.otel_state.specs.declared.settings.LayerSettings.{LayerSettings}
 use Rattle.otel_state.specs.fields.FirstAttributes.{first_attributes}
 use Rattle.otel_state.specs.fields.SpanFields.{span_update}
-use Rattle.otel_state.specs.States.{Told, begun, changed}
+use Rattle.otel_state.specs.States.{SpanData, data_at_making, after_op}
 use Rattle.otel_layer.specs.declared.tokens.Token.{Token}
-use Rattle.otel_layer.specs.Steps.{above, around, context_from, made_told}
-use Rattle.otel_layer.specs.Table.{told_at, with_span as add_span}
+use Rattle.otel_layer.specs.Steps.{parent_source, around, context_from, new_span_data}
+use Rattle.otel_layer.specs.Table.{data_at, with_span_data}
 use Rattle.otel_layer.specs.Recording.{Recording, source_of, no_recording, with_start, with_starts}
 use Rattle.trace_base.specs.declared.callsite.Kind.{Kind}
 use Rattle.trace_base.specs.declared.callsite.Kind.TheVariants as kinds
 use Rattle.trace_base.specs.declared.span.Parent.TheVariants as parent
 use Rattle.trace_base.proofs.Entering.{length_held}
 use Rattle.trace_base.proofs.Holding.{holds_other}
-use Rattle.span_script.specs.Tables.{Scope, Made, Attached, no_making, HeardNew, Effect, Tables, recorded_by, open_part, slot_at, own, made_of}
+use Rattle.span_script.specs.Tables.{Scope, MadeSpan, Attached, no_made_span, HookNew, Effect, Tables, recorded_by, open_part, slot_at, own_span, made_of}
 use Rattle.span_script.specs.calls.Here.{here_at, ◌>>=◌, need}
 use Rattle.span_script.specs.Effects.{effect_of_call}
-use Rattle.span_script.specs.calls.Filter.{hears, admitted}
-use Rattle.span_script.specs.calls.Spans.{lane_in, made_at, context_around, parent_at, new_effect, span_effect, disabled_effect, scope_at}
+use Rattle.span_script.specs.calls.Filter.{after_filter_hook, admits_at}
+use Rattle.span_script.specs.calls.Spans.{lane_in, new_span_data_at, context_around, parent_at, new_effect, span_effect, disabled_effect, scope_at}
 use Rattle.span_script.proofs.filter.CounterLemmas.{adds_nothing, adds_same}
 use Rattle.span_script.proofs.steps.KnownSpansLemmas.{recorded_known, new_known}
 use Rattle.span_script.proofs.lane_contexts.OwnersLemmas.{last_is}
@@ -52,7 +52,7 @@ use Rattle.span_script.proofs.steps.RecordingLemmas.{recorded_settings, recorded
 use Rattle.span_script.specs.Fields.{Fields, all_values}
 use Rattle.span_script.specs.Slots.{place_for, MakesOnly, LetsThrough}
 use Rattle.span_script.specs.Balance.{Balanced, named_by, opened_by}
-use Rattle.span_script.specs.Fits.{Views, State, state_of, laned, Fits, StandsFor, MadeFit, LanesFit, IsKept, Served, IsScope, held_of, guard_of, held_by, site_by, Parts, above as parent_above}
+use Rattle.span_script.specs.Fits.{Views, State, state_of, lane_value, Fits, StandsFor, MadeFit, LanesFit, IsKept, Served, IsScope, held_of, guard_of, held_by, site_by, Parts, parent_in}
 use Rattle.span_script.proofs.steps.SlotsLemmas.{find}
 use Rattle.span_script.proofs.spans.ScopesLemmas.{new_line}
 use Rattle.span_script.proofs.spans.SitesLemmas.{got_within, the_callsite, found_site_is}
@@ -69,29 +69,29 @@ use Rattle.span_script.proofs.spans.MoreHandlesLemmas.{balanced_decline, balance
 use Rattle.span_script.specs.SubscriberLaws.{CallsLaw, SameLaw, aside_in}
 
 -- the spans with a new one under a scope
-made_pushed : (xs : List Span) (ms : List Made) (up : Scope) (site : ℕ) (told : Told) → MadeFit xs ms → MadeFit (xs ++ record { holds = 1; parent = own up; site = site } ∷ []) (ms ++ record { site = site; scope = length ms ∷ up; told = told } ∷ [])
+made_pushed : (xs : List Span) (ms : List MadeSpan) (up : Scope) (site : ℕ) (told : SpanData) → MadeFit xs ms → MadeFit (xs ++ record { holds = 1; parent = own_span up; site = site } ∷ []) (ms ++ record { site = site; scope = length ms ∷ up; made_with = told } ∷ [])
 made_pushed xs ms up site told fit =
-    let new : Span = record { holds = 1; parent = own up; site = site } in
-    let m : Made = record { site = site; scope = length ms ∷ up; told = told } in
+    let new : Span = record { holds = 1; parent = own_span up; site = site } in
+    let m : MadeSpan = record { site = site; scope = length ms ∷ up; made_with = told } in
     let counts = fit.count in
-    let all : (q : ℕ) → 0 < (span_at (xs ++ new ∷ []) q).holds → ((span_at (xs ++ new ∷ []) q).parent ≡ parent_above (made_of (ms ++ m ∷ []) q).scope) × ((span_at (xs ++ new ∷ []) q).site ≡ (made_of (ms ++ m ∷ []) q).site) = λ q live. elim (cases_lt q (length xs)) [
+    let all : (q : ℕ) → 0 < (span_at (xs ++ new ∷ []) q).holds → ((span_at (xs ++ new ∷ []) q).parent ≡ parent_in (made_of (ms ++ m ∷ []) q).scope) × ((span_at (xs ++ new ∷ []) q).site ≡ (made_of (ms ++ m ∷ []) q).site) = λ q live. elim (cases_lt q (length xs)) [
       | inl within ↦ (
           let a = get_or_append_left xs (new ∷ []) no_span q within in
-          let b = get_or_append_left ms (m ∷ []) no_making q (omega (arith, within, counts)) in
+          let b = get_or_append_left ms (m ∷ []) no_made_span q (omega (arith, within, counts)) in
           let h = ap (λ (s : Span). s.holds) a in
           let some : 0 < (span_at xs q).holds = omega (arith, h, live) in
-          (ap (λ (s : Span). s.parent) a ∙ fit.parent q some ∙ ap (λ (x : Made). parent_above x.scope) (sym b), ap (λ (s : Span). s.site) a ∙ fit.site q some ∙ ap (λ (x : Made). x.site) (sym b)))
+          (ap (λ (s : Span). s.parent) a ∙ fit.parent q some ∙ ap (λ (x : MadeSpan). parent_in x.scope) (sym b), ap (λ (s : Span). s.site) a ∙ fit.site q some ∙ ap (λ (x : MadeSpan). x.site) (sym b)))
       | inr past ↦ elim (cases_eq (length xs) q) [
         | inl here ↦ (
             let a = get_or_push xs new no_span q here in
-            let b = get_or_push ms m no_making q (sym counts ∙ here) in
-            (ap (λ (s : Span). s.parent) a ∙ ap (λ (x : Made). parent_above x.scope) (sym b), ap (λ (s : Span). s.site) a ∙ ap (λ (x : Made). x.site) (sym b)))
+            let b = get_or_push ms m no_made_span q (sym counts ∙ here) in
+            (ap (λ (s : Span). s.parent) a ∙ ap (λ (x : MadeSpan). parent_in x.scope) (sym b), ap (λ (s : Span). s.site) a ∙ ap (λ (x : MadeSpan). x.site) (sym b)))
         | inr other ↦ absurd (let a = ap (λ (s : Span). s.holds) (get_or_past (xs ++ new ∷ []) q no_span (let l = length_push xs new in omega (arith, l, past, other))) in omega (arith, a, live))
       ]
     ] in
     record { count = (let a = length_push xs new in let b = length_push ms m in omega (arith, a, b, counts)); parent = λ q live. (all q live).0; site = λ q live. (all q live).1 }
 
-made_child : (xs : List Span) (ms : List Made) (o : Option ℕ) → MadeFit xs ms → IfSome o (λ p. 0 < (span_at xs p).holds) → MadeFit (held_by_child xs o) ms
+made_child : (xs : List Span) (ms : List MadeSpan) (o : Option ℕ) → MadeFit xs ms → IfSome o (λ p. 0 < (span_at xs p).holds) → MadeFit (held_by_child xs o) ms
 made_child xs ms None fit live = fit
 made_child xs ms (Some p) fit live = made_held xs ms p fit live
 
@@ -151,33 +151,33 @@ site_is sites site callsite is = by_site (slice_get sites site) is
 
 -- the settings are those of the open part, whatever started
 told_settings : (setup : Setup) (t : Tables) (at lane : ℕ) (callsite : Callsite) (values : ValueSet) (q : Parent) (r : Recording) → open_part r ≡ t.recording
-    → made_told callsite (lane_in (here_at setup t at lane)) values
-    (context_from (with_starts (above r.settings.activation q (current_of (t.entries (here_at setup t at lane).lane))) at t.recording).spans (context_around (t.contexts (here_at setup t at lane).lane) q) (above r.settings.activation q (current_of (t.entries (here_at setup t at lane).lane)))) at r.settings r.counting
-    ≡ made_at (here_at (record setup { layer = r.settings }) t at lane) callsite values q
+    → new_span_data callsite (lane_in (here_at setup t at lane)) values
+    (context_from (with_starts (parent_source r.settings.activation q (current_of (t.entries (here_at setup t at lane).lane))) at t.recording).spans (context_around (t.contexts (here_at setup t at lane).lane) q) (parent_source r.settings.activation q (current_of (t.entries (here_at setup t at lane).lane)))) at r.settings r.counting
+    ≡ new_span_data_at (here_at (record setup { layer = r.settings }) t at lane) callsite values q
 told_settings setup t at lane callsite values q r is =
-    let source = above r.settings.activation q (current_of (t.entries (here_at setup t at lane).lane)) in
+    let source = parent_source r.settings.activation q (current_of (t.entries (here_at setup t at lane).lane)) in
     let c = context_from (with_starts source at t.recording).spans (context_around (t.contexts (here_at setup t at lane).lane) q) source in
-    ap (λ (x : LayerSettings). made_told callsite (lane_in (here_at setup t at lane)) values c at x r.counting) (ap (λ (x : Recording). x.settings) is ∙ sym (entry_settings source at t.recording))
-    ∙ ap (λ (b : Bool). made_told callsite (lane_in (here_at setup t at lane)) values c at (with_starts source at t.recording).settings b) (ap (λ (x : Recording). x.counting) is ∙ sym (entry_counting source at t.recording))
+    ap (λ (x : LayerSettings). new_span_data callsite (lane_in (here_at setup t at lane)) values c at x r.counting) (ap (λ (x : Recording). x.settings) is ∙ sym (entry_settings source at t.recording))
+    ∙ ap (λ (b : Bool). new_span_data callsite (lane_in (here_at setup t at lane)) values c at (with_starts source at t.recording).settings b) (ap (λ (x : Recording). x.counting) is ∙ sym (entry_counting source at t.recording))
 
 -- the recording with a span more
-abbrev made_record : ℕ → Told → Recording → Recording
-made_record n told x = record x { spans = add_span n told x.spans }
+abbrev made_record : ℕ → SpanData → Recording → Recording
+made_record n told x = record x { spans = with_span_data n told x.spans }
 
 -- what was made is what the effect makes
 made_is : (setup : Setup) (t : Tables) (at lane : ℕ) (callsite c : Callsite) (values : ValueSet) (p q : Parent) (before : Lane) (r : Recording) (current : Option ℕ) → open_part r ≡ t.recording → setup.layer ≡ r.settings → c ≡ callsite → p ≡ q
     → before.id ≡ (here_at setup t at lane).lane → before.name ≡ name_at setup.names lane → current ≡ current_of (t.entries (here_at setup t at lane).lane) → map (λ (x : ℕ × Context). x.1) before.contexts.live ≡ map (λ (a : Attached). a.context) (t.contexts (here_at setup t at lane).lane)
-    → made_told c before values (context_from (with_starts (above r.settings.activation p current) at r).spans (around before p) (above r.settings.activation p current)) at r.settings r.counting
-    ≡ made_told callsite (lane_in (here_at setup t at lane)) values
-    (context_from (with_starts (above r.settings.activation q (current_of (t.entries (here_at setup t at lane).lane))) at t.recording).spans (context_around (t.contexts (here_at setup t at lane).lane) q) (above r.settings.activation q (current_of (t.entries (here_at setup t at lane).lane)))) at r.settings r.counting
+    → new_span_data c before values (context_from (with_starts (parent_source r.settings.activation p current) at r).spans (around before p) (parent_source r.settings.activation p current)) at r.settings r.counting
+    ≡ new_span_data callsite (lane_in (here_at setup t at lane)) values
+    (context_from (with_starts (parent_source r.settings.activation q (current_of (t.entries (here_at setup t at lane).lane))) at t.recording).spans (context_around (t.contexts (here_at setup t at lane).lane) q) (parent_source r.settings.activation q (current_of (t.entries (here_at setup t at lane).lane)))) at r.settings r.counting
 made_is setup t at lane callsite c values p q before r current recorded layer c_is p_is id name current_is contexts =
-    let source = λ (x : Parent) (o : Option ℕ). above r.settings.activation x o in
-    ap (λ (x : Callsite). made_told x before values (context_from (with_starts (source p current) at r).spans (around before p) (source p current)) at r.settings r.counting) c_is
-    ∙ ap (λ (x : Parent). made_told callsite before values (context_from (with_starts (source x current) at r).spans (around before x) (source x current)) at r.settings r.counting) p_is
-    ∙ ap (λ (o : Option ℕ). made_told callsite before values (context_from (with_starts (source q o) at r).spans (around before q) (source q o)) at r.settings r.counting) current_is
-    ∙ ap (λ (xs : List (ℕ × Told)). made_told callsite before values (context_from xs (around before q) (source q (current_of (t.entries (here_at setup t at lane).lane)))) at r.settings r.counting) (starts_open (source q (current_of (t.entries (here_at setup t at lane).lane))) at r t.recording recorded)
-    ∙ ap (λ (x : Context). made_told callsite before values (context_from (with_starts (source q (current_of (t.entries (here_at setup t at lane).lane))) at t.recording).spans x (source q (current_of (t.entries (here_at setup t at lane).lane)))) at r.settings r.counting) (around_is q before (t.contexts (here_at setup t at lane).lane) contexts)
-    ∙ ap (λ (first : List KeyValue). changed (begun (record { name = callsite.name; parent = context_from (with_starts (source q (current_of (t.entries (here_at setup t at lane).lane))) at t.recording).spans (context_around (t.contexts (here_at setup t at lane).lane) q) (source q (current_of (t.entries (here_at setup t at lane).lane))); made = at; first = first; counting = r.counting; inactivity = r.settings.inactivity })) at (ops.Update (span_update callsite values r.settings))) (first_same callsite before (lane_in (here_at setup t at lane)) r.settings id name)
+    let source = λ (x : Parent) (o : Option ℕ). parent_source r.settings.activation x o in
+    ap (λ (x : Callsite). new_span_data x before values (context_from (with_starts (source p current) at r).spans (around before p) (source p current)) at r.settings r.counting) c_is
+    ∙ ap (λ (x : Parent). new_span_data callsite before values (context_from (with_starts (source x current) at r).spans (around before x) (source x current)) at r.settings r.counting) p_is
+    ∙ ap (λ (o : Option ℕ). new_span_data callsite before values (context_from (with_starts (source q o) at r).spans (around before q) (source q o)) at r.settings r.counting) current_is
+    ∙ ap (λ (xs : List (ℕ × SpanData)). new_span_data callsite before values (context_from xs (around before q) (source q (current_of (t.entries (here_at setup t at lane).lane)))) at r.settings r.counting) (starts_open (source q (current_of (t.entries (here_at setup t at lane).lane))) at r t.recording recorded)
+    ∙ ap (λ (x : Context). new_span_data callsite before values (context_from (with_starts (source q (current_of (t.entries (here_at setup t at lane).lane))) at t.recording).spans x (source q (current_of (t.entries (here_at setup t at lane).lane)))) at r.settings r.counting) (around_is q before (t.contexts (here_at setup t at lane).lane) contexts)
+    ∙ ap (λ (first : List KeyValue). after_op (data_at_making (record { name = callsite.name; parent = context_from (with_starts (source q (current_of (t.entries (here_at setup t at lane).lane))) at t.recording).spans (context_around (t.contexts (here_at setup t at lane).lane) q) (source q (current_of (t.entries (here_at setup t at lane).lane))); made = at; first = first; counting = r.counting; inactivity = r.settings.inactivity })) at (ops.Update (span_update callsite values r.settings))) (first_same callsite before (lane_in (here_at setup t at lane)) r.settings id name)
 
 module _ {S : Type 0} (spans : S → Spans) (views : Views S) (attaches : S → Bool) (kept : S → ℕ → ℕ → ℕ) (is_whole : S → Type 0) (parts : Parts S) (new : Worlds S) where
   module _ (does : S → SubscriberCall → S → Type 0) (law : CallsLaw spans views attaches kept is_whole does)
@@ -195,14 +195,14 @@ module _ {S : Type 0} (spans : S → Spans) (views : Views S) (attaches : S → 
     place_id = id_at now.setup.ids lane
 
     abbrev r : Recording
-    r = seen views.recorded no_recording parts.world parts.dispatch
+    r = member_of views.recorded no_recording parts.world parts.dispatch
 
     next_number : (t : Tables) → Fits now t → number ≡ length t.handles
     next_number t fits = many ∙ sym (length-map parts.handles held_by) ∙ ap length fits.handle_slots ∙ length-map t.handles (option_map (held_of parts.dispatch))
 
     module _ (under : Place) (p : Parent) (site : ℕ) (callsite : Callsite) (sited : span_site parts.world.sites site ≡ Some callsite) (found : place_for (map held_by parts.handles) under ≡ Some p) where
       -- a span that is let through
-      module _ (fields : Fields) (values : ValueSet) (valued : all_values callsite fields ≡ Some values) (made : Handle) (before : Lane) (within : lane < length parts.lanes) (seen_is : before ≡ get_or parts.lanes lane before) (through : (t : Tables) → StandsFor now t → admitted now.setup t place_id callsite ≡ true) (one : hs' ≡ parts.handles ++ Some made ∷ [])
+      module _ (fields : Fields) (values : ValueSet) (valued : all_values callsite fields ≡ Some values) (made : Handle) (before : Lane) (within : lane < length parts.lanes) (seen_is : before ≡ get_or parts.lanes lane before) (through : (t : Tables) → StandsFor now t → admits_at now.setup t place_id callsite ≡ true) (one : hs' ≡ parts.handles ++ Some made ∷ [])
           (did : Makes spans does parts.world new before at p site values parts.dispatch made) where
         abbrev made_call : Replaced (λ s t. does s (NewSpan before at p site did.callsite values) t) parts.world new parts.dispatch
         made_call = record { before = did.made.before; later = did.made.later; there = did.made.there; did = did.made.did.1; others = did.made.others }
@@ -220,84 +220,84 @@ module _ {S : Type 0} (spans : S → Spans) (views : Views S) (attaches : S → 
             let sp = spans_in spans parts.world parts.dispatch in
             let ids = now.setup.ids in
             let id_is' = id_seen parts.lanes lane before within seen_is in
-            let step : spans_in spans new parts.dispatch ≡ with_span sp (own up.up) site = made_shown.spans_after ∙ ap (λ (l : ℕ). with_span sp (place_on (entries_on l sp.lanes) p) site) id_is' ∙ ap (λ (o : Option ℕ). with_span sp o site) up.on in
-            let line : Scope = length t.made ∷ up.up in
-            let mine : did.id ≡ length t.made = id_is ∙ fits.made.count in
+            let step : spans_in spans new parts.dispatch ≡ with_new_span sp (own_span up.up) site = made_shown.spans_after ∙ ap (λ (l : ℕ). with_new_span sp (place_on (entries_on l sp.lanes) p) site) id_is' ∙ ap (λ (o : Option ℕ). with_new_span sp o site) up.on in
+            let line : Scope = length t.spans ∷ up.up in
+            let mine : did.id ≡ length t.spans = id_is ∙ fits.made.count in
             let q = parent_at under up.up in
             let current = current_of (entries_on before.id sp.lanes) in
             let current_is : current ≡ current_of (t.entries place_id) = ap (λ (l : ℕ). current_of (entries_on l sp.lanes)) id_is' ∙ ap current_of (fits.balanced.entries place_id) in
             let callsite_is : did.callsite ≡ callsite = the_callsite did.callsite callsite (sym did.is ∙ site_is parts.world.sites site callsite sited) in
             let contexts : map (λ (x : ℕ × Context). x.1) before.contexts.live ≡ map (λ (a : Attached). a.context) (t.contexts place_id) =
             (own_fit r.settings.activation parts.lanes lane before before within seen_is refl inv.lanes.differ r.tokens parts.contexts.attaches t.contexts stands.recording.attached).contexts ∙ ap (λ (l : ℕ). map (λ (a : Attached). a.context) (t.contexts l)) id_is' in
-            let told : Told = made_at (here_at now.setup t at lane) callsite values q in
-            let raw : Told = made_told did.callsite before values (context_from (with_starts (above r.settings.activation p current) at r).spans (around before p) (above r.settings.activation p current)) at r.settings r.counting in
+            let told : SpanData = new_span_data_at (here_at now.setup t at lane) callsite values q in
+            let raw : SpanData = new_span_data did.callsite before values (context_from (with_starts (parent_source r.settings.activation p current) at r).spans (around before p) (parent_source r.settings.activation p current)) at r.settings r.counting in
             let told_is : raw ≡ told =
             made_is now.setup t at lane callsite did.callsite values p q before r current stands.recording.recorded refl callsite_is up.parent_is id_is' (name_seen parts.lanes lane before within seen_is) current_is contexts
             ∙ told_settings now.setup t at lane callsite values q r stands.recording.recorded in
-            let new_made : Made = record { site = site; scope = line; told = told } in
+            let new_made : MadeSpan = record { site = site; scope = line; made_with = told } in
             let e : Effect = span_effect (here_at now.setup t at lane) site callsite values under up.up in
-            let source = above r.settings.activation p current in
-            let source_is : source ≡ above r.settings.activation q (current_of (t.entries place_id)) = ap (λ (x : Parent). above r.settings.activation x current) up.parent_is ∙ ap (λ (o : Option ℕ). above r.settings.activation q o) current_is in
+            let source = parent_source r.settings.activation p current in
+            let source_is : source ≡ parent_source r.settings.activation q (current_of (t.entries place_id)) = ap (λ (x : Parent). parent_source r.settings.activation x current) up.parent_is ∙ ap (λ (o : Option ℕ). parent_source r.settings.activation q o) current_is in
             let recalled = law.recalled parts.world new parts.dispatch _ made_call in
-            let rec_is : seen views.recorded no_recording new parts.dispatch ≡ record (recorded_by (length t.made) e r) { tokens = r.tokens } =
+            let rec_is : member_of views.recorded no_recording new parts.dispatch ≡ record (recorded_by (length t.spans) e r) { tokens = r.tokens } =
             recalled.0 ∙ ap (λ (n : ℕ). with_starts (source_of r.settings.eager n) at (made_record n raw (with_starts source at r))) fits.made.count
-            ∙ ap (λ (x : Told). with_starts (source_of r.settings.eager (length t.made)) at (made_record (length t.made) x (with_starts source at r))) told_is
-            ∙ ap (λ (x : Recording). with_starts (source_of r.settings.eager (length t.made)) at (made_record (length t.made) told x)) (sym (starts_fold source at r) ∙ ap (λ (o : Option ℕ). fold (λ r s. with_start s at r) r (option_to_list o)) source_is)
-            ∙ ap (λ (ts : List Token). record (recorded_by (length t.made) e r) { tokens = ts }) (recorded_tokens (length t.made) e r) in
-            let settings = ap (λ (x : Recording). x.settings) rec_is ∙ recorded_settings (length t.made) e r in
+            ∙ ap (λ (x : SpanData). with_starts (source_of r.settings.eager (length t.spans)) at (made_record (length t.spans) x (with_starts source at r))) told_is
+            ∙ ap (λ (x : Recording). with_starts (source_of r.settings.eager (length t.spans)) at (made_record (length t.spans) told x)) (sym (starts_fold source at r) ∙ ap (λ (o : Option ℕ). fold (λ r s. with_start s at r) r (option_to_list o)) source_is)
+            ∙ ap (λ (ts : List Token). record (recorded_by (length t.spans) e r) { tokens = ts }) (recorded_tokens (length t.spans) e r) in
+            let settings = ap (λ (x : Recording). x.settings) rec_is ∙ recorded_settings (length t.spans) e r in
             let sites = ap (λ (w : Worlds S). w.sites) did.made.others in
-            let setup : then.setup ≡ now.setup = ap (λ x. record now.setup { sites = x; layer = (seen views.recorded no_recording new parts.dispatch).settings }) sites ∙ ap (λ x. record now.setup { layer = x }) settings in
-            let known : (s : ℕ) → 0 < (span_at then.spans.made s).holds → told_at s (seen views.recorded no_recording new parts.dispatch).spans ≢ None = λ s some. elim (cases_eq s (length t.made)) [
-              | inl here ↦ (λ none. recorded_known (length t.made) s e r refl (subst (λ (k : ℕ). told_at k (add_span (length t.made) told (fold (λ r s. with_start s at r) r e.starts).spans) ≢ None) (sym here) (new_known (length t.made) told (fold (λ r s. with_start s at r) r e.starts).spans)) (ap (λ (x : Recording). told_at s x.spans) (sym rec_is) ∙ none))
-              | inr other ↦ known_still now then t e r.tokens rec_is stands.recording s refl (new_live sp.made (own up.up) site s up.live (λ e. other (e ∙ length_held sp.made (own up.up) ∙ fits.made.count)) (subst (λ (x : Spans). 0 < (span_at x.made s).holds) step some))
+            let setup : then.setup ≡ now.setup = ap (λ x. record now.setup { sites = x; layer = (member_of views.recorded no_recording new parts.dispatch).settings }) sites ∙ ap (λ x. record now.setup { layer = x }) settings in
+            let known : (s : ℕ) → 0 < (span_at then.spans.made s).holds → data_at s (member_of views.recorded no_recording new parts.dispatch).spans ≢ None = λ s some. elim (cases_eq s (length t.spans)) [
+              | inl here ↦ (λ none. recorded_known (length t.spans) s e r refl (subst (λ (k : ℕ). data_at k (with_span_data (length t.spans) told (fold (λ r s. with_start s at r) r e.starts).spans) ≢ None) (sym here) (new_known (length t.spans) told (fold (λ r s. with_start s at r) r e.starts).spans)) (ap (λ (x : Recording). data_at s x.spans) (sym rec_is) ∙ none))
+              | inr other ↦ known_still now then t e r.tokens rec_is stands.recording s refl (new_live sp.made (own_span up.up) site s up.live (λ e. other (e ∙ length_held sp.made (own_span up.up) ∙ fits.made.count)) (subst (λ (x : Spans). 0 < (span_at x.made s).holds) step some))
             ] in
             serve now then t e _ (reply.Made true number) stands
             (ap (λ o. need what.Site o >>= (λ callsite. need what.Handle (scope_at t place_id under) >>= (λ up. need what.Field (all_values callsite fields) >>= (λ v. Ok (new_effect (here_at now.setup t at lane) site callsite v under up))))) sited
             ∙ ap (λ o. need what.Handle o >>= (λ up. need what.Field (all_values callsite fields) >>= (λ v. Ok (new_effect (here_at now.setup t at lane) site callsite v under up)))) up.is
             ∙ ap (λ o. need what.Field o >>= (λ v. Ok (new_effect (here_at now.setup t at lane) site callsite v under up.up))) valued
-            ∙ ap Ok (cond-true {A = Effect} (admitted now.setup t place_id callsite) _ _ (through t stands)))
+            ∙ ap Ok (cond-true {A = Effect} (admits_at now.setup t place_id callsite) _ _ (through t stands)))
             (ap (λ n. reply.Made true n) (next_number t fits))
             setup r.tokens rec_is
             (fits_step now t fits then e (record {
               setup_is = setup;
               dispatch_is = refl;
               handles_are = ap (map held_by) one ∙ map_push held_by parts.handles (Some made) ∙ ap (λ (x : Handle). map held_by parts.handles ++ Some x.held ∷ []) did.handle_is ∙ ap (λ (i : ℕ). map held_by parts.handles ++ Some (Some (parts.dispatch, i)) ∷ []) mine;
-              sites_are = ap (map site_by) one ∙ map_push site_by parts.handles (Some made) ∙ ap (λ (x : Handle). map site_by parts.handles ++ Some x.site ∷ []) did.handle_is ∙ ap (λ (x : Made). map site_by parts.handles ++ Some (Some x.site) ∷ []) (sym (get_or_push t.made new_made no_making (length t.made) refl));
+              sites_are = ap (map site_by) one ∙ map_push site_by parts.handles (Some made) ∙ ap (λ (x : Handle). map site_by parts.handles ++ Some x.site ∷ []) did.handle_is ∙ ap (λ (x : MadeSpan). map site_by parts.handles ++ Some (Some x.site) ∷ []) (sym (get_or_push t.spans new_made no_made_span (length t.spans) refl));
               guards_are = refl;
               attaches_are = refl;
               named_are = refl;
               moment_is = refl;
-              balanced = subst (λ (x : Spans). Balanced x (map named_by (t.handles ++ Some line ∷ [])) (map (opened_by ids) t.guards) t.entries) (sym step) (balanced_new ids sp t.handles t.guards t.entries fits.balanced up.up site (length t.made) up.live fits.made.count);
-              made_fit = subst (λ (x : Spans). MadeFit x.made (t.made ++ new_made ∷ [])) (sym step) (made_pushed (held_by_child sp.made (own up.up)) t.made up.up site told (made_child sp.made t.made (own up.up) fits.made up.live));
+              balanced = subst (λ (x : Spans). Balanced x (map named_by (t.handles ++ Some line ∷ [])) (map (opened_by ids) t.guards) t.entries) (sym step) (balanced_new ids sp t.handles t.guards t.entries fits.balanced up.up site (length t.spans) up.live fits.made.count);
+              made_fit = subst (λ (x : Spans). MadeFit x.made (t.spans ++ new_made ∷ [])) (sym step) (made_pushed (held_by_child sp.made (own_span up.up)) t.spans up.up site told (made_child sp.made t.spans (own_span up.up) fits.made up.live));
               new_made = (up.up, refl, up.scope);
               new_site = got_within parts.world.sites site callsite (site_is parts.world.sites site callsite sited);
-              new_scope = λ l e. subst (IsScope (t.made ++ new_made ∷ [])) (the_scope line l e) (new_line t.made new_made up.up refl up.scope);
+              new_scope = λ l e. subst (IsScope (t.spans ++ new_made ∷ [])) (the_scope line l e) (new_line t.spans new_made up.up refl up.scope);
               still = still_named_more t.guards t.handles line fits.still;
-              few = (let a = length_push t.handles (Some line) in let b = length_push t.made new_made in let f = fits.few in omega (arith, a, b, f));
-              few_holds = λ s. (let a = new_most sp.made (own up.up) site s (length t.handles + length t.guards) (fits.few_holds s) in let e = ap (λ (x : Spans). (span_at x.made s).holds) step in let l = length_push t.handles (Some line) in omega (arith, a, e, l));
+              few = (let a = length_push t.handles (Some line) in let b = length_push t.spans new_made in let f = fits.few in omega (arith, a, b, f));
+              few_holds = λ s. (let a = new_most sp.made (own_span up.up) site s (length t.handles + length t.guards) (fits.few_holds s) in let e = ap (λ (x : Spans). (span_at x.made s).holds) step in let l = length_push t.handles (Some line) in omega (arith, a, e, l));
               one = subst (λ (x : Spans). OneEach x.lanes) (sym step) fits.one_lane;
             }))
             known
             (all_same now then t.contexts setup refl refl (ap (λ (x : Recording). x.tokens) rec_is) stands.recording.attached)
             (record {
               quiet = refl;
-              before = seen views.filtered None parts.world parts.dispatch;
-              later = seen views.filtered None new parts.dispatch;
+              before = member_of views.filtered None parts.world parts.dispatch;
+              later = member_of views.filtered None new parts.dispatch;
               shown_before = refl;
               shown_later = refl;
-              known = (refl, sym (length_push t.made new_made));
-              told = recalled.1 ∙ ap (λ (n : ℕ). option_map (λ (f : Filtered). hears f (HeardNew n did.callsite values)) (seen views.filtered None parts.world parts.dispatch)) fits.made.count
-                  ∙ ap (λ (c : Callsite). option_map (λ (f : Filtered). hears f (HeardNew (length t.made) c values)) (seen views.filtered None parts.world parts.dispatch)) callsite_is;
+              known = (refl, sym (length_push t.spans new_made));
+              told = recalled.1 ∙ ap (λ (n : ℕ). option_map (λ (f : FilterState). after_filter_hook f (HookNew n did.callsite values)) (member_of views.filtered None parts.world parts.dispatch)) fits.made.count
+                  ∙ ap (λ (c : Callsite). option_map (λ (f : FilterState). after_filter_hook f (HookNew (length t.spans) c values)) (member_of views.filtered None parts.world parts.dispatch)) callsite_is;
               cached = ap (λ (w : Worlds S). w.cached) did.made.others;
               aside = record { before = aside_in views parts.world parts.dispatch; later = aside_in views new parts.dispatch; shown_before = refl; shown_later = refl; waits_before = refl; waits_later = refl; adds = recalled.2 };
             })
 
         pub keeps_made : IsKept spans views kept is_whole then_parts
         keeps_made = kept_served spans views kept is_whole parts then_parts inv _ _ (serves_made inv.tables inv.stands) refl made_shown.count made_shown.whole
-            (subst (λ (f : ℕ → ℕ → ℕ). LanesFit f (map laned parts.lanes)) (sym made_shown.lanes) inv.lanes)
+            (subst (λ (f : ℕ → ℕ → ℕ). LanesFit f (map lane_value parts.lanes)) (sym made_shown.lanes) inv.lanes)
 
       -- one that isn't
-      module _ (fields : Fields) (values : ValueSet) (valued : all_values callsite fields ≡ Some values) (through : (t : Tables) → StandsFor now t → admitted now.setup t place_id callsite ≡ false) (one : hs' ≡ parts.handles ++ Some no_handle ∷ []) (same : new ≡ parts.world) where
+      module _ (fields : Fields) (values : ValueSet) (valued : all_values callsite fields ≡ Some values) (through : (t : Tables) → StandsFor now t → admits_at now.setup t place_id callsite ≡ false) (one : hs' ≡ parts.handles ++ Some no_handle ∷ []) (same : new ≡ parts.world) where
         pub serves_declined : (t : Tables) → StandsFor now t → Served (effect_of_call now.setup t at lane (call.New site under fields)) t now then (reply.Made false number)
         serves_declined t stands =
             let fits = stands.fits in
@@ -305,14 +305,14 @@ module _ {S : Type 0} (spans : S → Spans) (views : Views S) (attaches : S → 
             let sp = spans_in spans parts.world parts.dispatch in
             let ids = now.setup.ids in
             let step : spans_in spans new parts.dispatch ≡ sp = ap (λ (w : Worlds S). spans_in spans w parts.dispatch) same in
-            let rec_is : seen views.recorded no_recording new parts.dispatch ≡ r = ap (λ (w : Worlds S). seen views.recorded no_recording w parts.dispatch) same in
-            let setup : then.setup ≡ now.setup = ap (λ (w : Worlds S). record now.setup { sites = w.sites; layer = (seen views.recorded no_recording w parts.dispatch).settings }) same in
+            let rec_is : member_of views.recorded no_recording new parts.dispatch ≡ r = ap (λ (w : Worlds S). member_of views.recorded no_recording w parts.dispatch) same in
+            let setup : then.setup ≡ now.setup = ap (λ (w : Worlds S). record now.setup { sites = w.sites; layer = (member_of views.recorded no_recording w parts.dispatch).settings }) same in
             let e : Effect = disabled_effect (here_at now.setup t at lane) in
             serve now then t e _ (reply.Made false number) stands
             (ap (λ o. need what.Site o >>= (λ callsite. need what.Handle (scope_at t place_id under) >>= (λ up. need what.Field (all_values callsite fields) >>= (λ v. Ok (new_effect (here_at now.setup t at lane) site callsite v under up))))) sited
             ∙ ap (λ o. need what.Handle o >>= (λ up. need what.Field (all_values callsite fields) >>= (λ v. Ok (new_effect (here_at now.setup t at lane) site callsite v under up)))) up.is
             ∙ ap (λ o. need what.Field o >>= (λ v. Ok (new_effect (here_at now.setup t at lane) site callsite v under up.up))) valued
-            ∙ ap Ok (cond-false {A = Effect} (admitted now.setup t place_id callsite) _ _ (through t stands)))
+            ∙ ap Ok (cond-false {A = Effect} (admits_at now.setup t place_id callsite) _ _ (through t stands)))
             (ap (λ n. reply.Made false n) (next_number t fits))
             setup r.tokens rec_is
             (fits_step now t fits then e (record {
@@ -325,10 +325,10 @@ module _ {S : Type 0} (spans : S → Spans) (views : Views S) (attaches : S → 
               named_are = refl;
               moment_is = refl;
               balanced = subst (λ (x : Spans). Balanced x (map named_by (t.handles ++ Some [] ∷ [])) (map (opened_by ids) t.guards) t.entries) (sym step) (balanced_decline ids sp t.handles t.guards t.entries fits.balanced);
-              made_fit = subst (λ (x : Spans). MadeFit x.made t.made) (sym step) fits.made;
+              made_fit = subst (λ (x : Spans). MadeFit x.made t.spans) (sym step) fits.made;
               new_made = tt;
               new_site = tt;
-              new_scope = λ l e. subst (IsScope t.made) (the_scope [] l e) tt;
+              new_scope = λ l e. subst (IsScope t.spans) (the_scope [] l e) tt;
               still = still_named_more t.guards t.handles [] fits.still;
               few = (let l = length_push t.handles (Some []) in let f = fits.few in omega (arith, l, f));
               few_holds = λ s. (let f = fits.few_holds s in let e = ap (λ (x : Spans). (span_at x.made s).holds) step in let l = length_push t.handles (Some []) in omega (arith, f, e, l));
@@ -336,11 +336,11 @@ module _ {S : Type 0} (spans : S → Spans) (views : Views S) (attaches : S → 
             }))
             (λ s some. known_still now then t e r.tokens rec_is stands.recording s refl (subst (λ (x : Spans). 0 < (span_at x.made s).holds) step some))
             (all_same now then t.contexts setup refl refl (ap (λ (x : Recording). x.tokens) rec_is) stands.recording.attached)
-            (record { quiet = refl; before = seen views.filtered None parts.world parts.dispatch; later = seen views.filtered None new parts.dispatch; shown_before = refl; shown_later = refl; told = ap (λ (w : Worlds S). seen views.filtered None w parts.dispatch) same ∙ heard_none (seen views.filtered None parts.world parts.dispatch); known = refl; cached = ap (λ (w : Worlds S). w.cached) same; aside = record { before = aside_in views parts.world parts.dispatch; later = aside_in views new parts.dispatch; shown_before = refl; shown_later = refl; waits_before = refl; waits_later = refl; adds = adds_same views parts.world new parts.dispatch same } })
+            (record { quiet = refl; before = member_of views.filtered None parts.world parts.dispatch; later = member_of views.filtered None new parts.dispatch; shown_before = refl; shown_later = refl; told = ap (λ (w : Worlds S). member_of views.filtered None w parts.dispatch) same ∙ heard_none (member_of views.filtered None parts.world parts.dispatch); known = refl; cached = ap (λ (w : Worlds S). w.cached) same; aside = record { before = aside_in views parts.world parts.dispatch; later = aside_in views new parts.dispatch; shown_before = refl; shown_later = refl; waits_before = refl; waits_later = refl; adds = adds_same views parts.world new parts.dispatch same } })
 
         pub keeps_declined : IsKept spans views kept is_whole then_parts
         keeps_declined = kept_served spans views kept is_whole parts then_parts inv _ _ (serves_declined inv.tables inv.stands) refl (ap (λ (w : Worlds S). length w.subscribers) same) (λ has. subst (λ (w : Worlds S). Has is_whole w parts.dispatch) (sym same) has)
-            (subst (λ (w : Worlds S). LanesFit (kept_in kept w parts.dispatch) (map laned parts.lanes)) (sym same) inv.lanes)
+            (subst (λ (w : Worlds S). LanesFit (kept_in kept w parts.dispatch) (map lane_value parts.lanes)) (sym same) inv.lanes)
 
     -- let through or not
     module _ (under : Place) (p : Parent) (found_site site : ℕ) (sited_is : found_site ≡ site) (spanned : is_some (span_site parts.world.sites site) ≡ true) (found : place_for (map held_by parts.handles) under ≡ Some p)
@@ -353,16 +353,16 @@ module _ {S : Type 0} (spans : S → Spans) (views : Views S) (attaches : S → 
       its_values = ap (λ (c : Callsite). all_values c fields) (sym (the_callsite given its_site.0 (sym given_is ∙ ap (λ (k : ℕ). slice_get parts.world.sites k) sited_is ∙ site_is parts.world.sites site its_site.0 its_site.1))) ∙ valued
 
       -- the gate answered by the filter in force
-      its_answer : (enabled : Bool) → LetsThrough (seen views.filtered None parts.world parts.dispatch) parts.world.sites before.id found_site enabled → (t : Tables) → StandsFor now t → admitted now.setup t place_id its_site.0 ≡ enabled
+      its_answer : (enabled : Bool) → LetsThrough (member_of views.filtered None parts.world parts.dispatch) parts.world.sites before.id found_site enabled → (t : Tables) → StandsFor now t → admits_at now.setup t place_id its_site.0 ≡ enabled
       its_answer enabled gate t stands =
           answered spans views parts lane before within seen_is found_site its_site.0 (ap (λ (k : ℕ). slice_get parts.world.sites k) sited_is ∙ site_is parts.world.sites site its_site.0 its_site.1) enabled gate t stands
 
-      pub serves_new : (enabled : Bool) → LetsThrough (seen views.filtered None parts.world parts.dispatch) parts.world.sites before.id found_site enabled → MakesOnly spans does enabled parts.world new before at p found_site values parts.dispatch made
+      pub serves_new : (enabled : Bool) → LetsThrough (member_of views.filtered None parts.world parts.dispatch) parts.world.sites before.id found_site enabled → MakesOnly spans does enabled parts.world new before at p found_site values parts.dispatch made
           → (t : Tables) → StandsFor now t → Served (effect_of_call now.setup t at lane (call.New site under fields)) t now then (reply.Made enabled number)
       serves_new true gate did t stands = serves_made under p site its_site.0 its_site.1 found fields values its_values made before within seen_is (its_answer true gate) one (subst (λ (k : ℕ). Makes spans does parts.world new before at p k values parts.dispatch made) sited_is did) t stands
       serves_new false gate did t stands = serves_declined under p site its_site.0 its_site.1 found fields values its_values (its_answer false gate) (one ∙ ap (λ (h : Handle). parts.handles ++ Some h ∷ []) did.0) did.1 t stands
 
-      pub keeps_new : (enabled : Bool) → LetsThrough (seen views.filtered None parts.world parts.dispatch) parts.world.sites before.id found_site enabled → MakesOnly spans does enabled parts.world new before at p found_site values parts.dispatch made → IsKept spans views kept is_whole then_parts
+      pub keeps_new : (enabled : Bool) → LetsThrough (member_of views.filtered None parts.world parts.dispatch) parts.world.sites before.id found_site enabled → MakesOnly spans does enabled parts.world new before at p found_site values parts.dispatch made → IsKept spans views kept is_whole then_parts
       keeps_new true gate did = keeps_made under p site its_site.0 its_site.1 found fields values its_values made before within seen_is (its_answer true gate) one (subst (λ (k : ℕ). Makes spans does parts.world new before at p k values parts.dispatch made) sited_is did)
       keeps_new false gate did = keeps_declined under p site its_site.0 its_site.1 found fields values its_values (its_answer false gate) (one ∙ ap (λ (h : Handle). parts.handles ++ Some h ∷ []) did.0) did.1
 

@@ -4,19 +4,19 @@ use Rattle.std.proofs.Common.{◌≡◌, ℕ, ◌+◌, ◌<◌, List, [], ◌∷
 use Rattle.std.proofs.lemmas.Bool.{cases_eq, cases_lt, eq-eqb, ne_eqb, cond-true, cond-false}
 use Rattle.std.proofs.lemmas.List.{length-set, length_push, map_push, get_or_past, get_or_push, get_or_append_left}
 use Rattle.std.proofs.Math.ListN.{get_or-map}
-use Rattle.trace_base.specs.Spans.{Span, Spans, no_span, span_at, held, first_entries, is_open_child, is_child_of, open_children, entries_on, current_of, place_on}
-use Rattle.trace_base.specs.Calls.{with_span}
+use Rattle.trace_base.specs.Spans.{Span, Spans, no_span, span_at, with_hold, first_entries, is_open_child, is_child_of, open_children, entries_on, current_of, place_on}
+use Rattle.trace_base.specs.Calls.{with_new_span}
 use Rattle.trace_base.specs.Conditions.{IsLive, IsLivePlace}
 use Rattle.trace_base.specs.declared.span.Parent.{Parent}
 use Rattle.trace_base.specs.declared.span.Parent.TheVariants as parent
 use Rattle.trace_base.proofs.Entering.{count_push, made_if_held}
 use Rattle.trace_base.proofs.Holding.{keeps_children, holds_set, holds_other, current_in, first_if_in}
 use Rattle.span_handles.specs.Handles.{place_under}
-use Rattle.span_script.specs.Balance.{Balanced, Opened, names, named_by, opened_by}
+use Rattle.span_script.specs.Balance.{Balanced, OpenGuard, names_span, named_by, opened_by}
 use Rattle.span_script.proofs.entries.EntriesFitLemmas.{fits_live}
 use Rattle.span_script.specs.declared.request.Place.{Place}
 use Rattle.span_script.specs.declared.request.Place.TheVariants as place
-use Rattle.span_script.specs.Tables.{Scope, Guarded, Tables, slot_at, own, scope_of}
+use Rattle.span_script.specs.Tables.{Scope, ScopeGuard, Tables, slot_at, own_span, scope_of}
 use Rattle.span_script.specs.calls.Spans.{scope_at, parent_at}
 use Rattle.span_script.specs.Slots.{place_for}
 use Rattle.span_script.specs.Fits.{State, Fits, IsScope, held_of}
@@ -26,22 +26,22 @@ use Rattle.span_script.proofs.steps.BalanceLemmas.{named_slot}
 still_borrowed : (hs : List (Option ℕ)) (o : Option ℕ) (handle s : ℕ) → slot_at hs handle ≡ Some s → slot_at (hs ++ o ∷ []) handle ≡ Some s
 still_borrowed hs o handle s there = get_or_append_left hs (o ∷ []) None handle (named_within hs handle s there) ∙ there
 
-quiet_handle : (spans : Spans) (hs : List (Option ℕ)) (gs : List (Option Opened)) (es : ℕ → List ℕ) → Balanced spans hs gs es → Balanced spans (hs ++ None ∷ []) gs es
+quiet_handle : (spans : Spans) (hs : List (Option ℕ)) (gs : List (Option OpenGuard)) (es : ℕ → List ℕ) → Balanced spans hs gs es → Balanced spans (hs ++ None ∷ []) gs es
 quiet_handle spans hs gs es fits = record {
-  holds = λ s. (let c = count_push (names s) hs None in let h = fits.holds s in omega (arith, c, h));
+  holds = λ s. (let c = count_push (names_span s) hs None in let h = fits.holds s in omega (arith, c, h));
   entries = fits.entries;
   guarded = fits.guarded;
   borrowed = λ n g there. still_borrowed hs None g.handle g.span (fits.borrowed n g there);
 }
 
-pub another_handle : (spans : Spans) (hs : List (Option ℕ)) (gs : List (Option Opened)) (es : ℕ → List ℕ) → Balanced spans hs gs es → (s : ℕ) → IsLive spans.made s → Balanced (record spans { made = held spans.made s }) (hs ++ Some s ∷ []) gs es
+pub another_handle : (spans : Spans) (hs : List (Option ℕ)) (gs : List (Option OpenGuard)) (es : ℕ → List ℕ) → Balanced spans hs gs es → (s : ℕ) → IsLive spans.made s → Balanced (record spans { made = with_hold spans.made s }) (hs ++ Some s ∷ []) gs es
 another_handle spans hs gs es fits s live =
     let within = made_if_held spans.made s live in
     let now : Span = record (span_at spans.made s) { holds = (span_at spans.made s).holds + 1 } in
     record {
       holds = λ q. (
           let children = keeps_children spans.made s now within refl live (omega arith) q in
-          let push = count_push (names q) hs (Some s) in
+          let push = count_push (names_span q) hs (Some s) in
           let before = fits.holds q in
           elim (cases_eq q s) [
             | inl here ↦ (
@@ -61,27 +61,27 @@ another_handle spans hs gs es fits s live =
 
 abbrev pub spans_held : Spans → Scope → Spans
 spans_held spans [] = spans
-spans_held spans (s ∷ up) = record spans { made = held spans.made s }
+spans_held spans (s ∷ up) = record spans { made = with_hold spans.made s }
 
-pub balanced_clone : (ids : List ℕ) (spans : Spans) (hs : List (Option Scope)) (gs : List (Option Guarded)) (es : ℕ → List ℕ) → Balanced spans (map named_by hs) (map (opened_by ids) gs) es → (handle : ℕ) (line : Scope) → slot_at hs handle ≡ Some line
+pub balanced_clone : (ids : List ℕ) (spans : Spans) (hs : List (Option Scope)) (gs : List (Option ScopeGuard)) (es : ℕ → List ℕ) → Balanced spans (map named_by hs) (map (opened_by ids) gs) es → (handle : ℕ) (line : Scope) → slot_at hs handle ≡ Some line
     → Balanced (spans_held spans line) (map named_by (hs ++ Some line ∷ [])) (map (opened_by ids) gs) es
 balanced_clone ids spans hs gs es fits handle [] there = subst (λ (xs : List (Option ℕ)). Balanced spans xs (map (opened_by ids) gs) es) (sym (map_push named_by hs (Some []))) (quiet_handle spans (map named_by hs) (map (opened_by ids) gs) es fits)
 balanced_clone ids spans hs gs es fits handle (s ∷ up) there =
-    subst (λ (xs : List (Option ℕ)). Balanced (record spans { made = held spans.made s }) xs (map (opened_by ids) gs) es) (sym (map_push named_by hs (Some (s ∷ up))))
+    subst (λ (xs : List (Option ℕ)). Balanced (record spans { made = with_hold spans.made s }) xs (map (opened_by ids) gs) es) (sym (map_push named_by hs (Some (s ∷ up))))
     (another_handle spans (map named_by hs) (map (opened_by ids) gs) es fits s (fits_live spans (map named_by hs) (map (opened_by ids) gs) es fits handle s (named_slot hs handle (s ∷ up) there)))
 
-pub balanced_decline : (ids : List ℕ) (spans : Spans) (hs : List (Option Scope)) (gs : List (Option Guarded)) (es : ℕ → List ℕ) → Balanced spans (map named_by hs) (map (opened_by ids) gs) es
+pub balanced_decline : (ids : List ℕ) (spans : Spans) (hs : List (Option Scope)) (gs : List (Option ScopeGuard)) (es : ℕ → List ℕ) → Balanced spans (map named_by hs) (map (opened_by ids) gs) es
     → Balanced spans (map named_by (hs ++ Some [] ∷ [])) (map (opened_by ids) gs) es
 balanced_decline ids spans hs gs es fits = subst (λ (xs : List (Option ℕ)). Balanced spans xs (map (opened_by ids) gs) es) (sym (map_push named_by hs (Some []))) (quiet_handle spans (map named_by hs) (map (opened_by ids) gs) es fits)
 
 -- a span made, under one that has room for its hold
-pushed : (x : Spans) (hs : List (Option ℕ)) (above : Option ℕ) (site : ℕ) → ((q : ℕ) → (span_at x.made q).holds ≡ count_by (names q) hs + first_entries x.lanes q + open_children x.made q + cond (is_child_of q above) 1 0)
-    → (n : ℕ) → n ≡ length x.made → (q : ℕ) → (span_at (x.made ++ record { holds = 1; parent = above; site = site } ∷ []) q).holds ≡ count_by (names q) (hs ++ Some n ∷ []) + first_entries x.lanes q + open_children (x.made ++ record { holds = 1; parent = above; site = site } ∷ []) q
+pushed : (x : Spans) (hs : List (Option ℕ)) (above : Option ℕ) (site : ℕ) → ((q : ℕ) → (span_at x.made q).holds ≡ count_by (names_span q) hs + first_entries x.lanes q + open_children x.made q + cond (is_child_of q above) 1 0)
+    → (n : ℕ) → n ≡ length x.made → (q : ℕ) → (span_at (x.made ++ record { holds = 1; parent = above; site = site } ∷ []) q).holds ≡ count_by (names_span q) (hs ++ Some n ∷ []) + first_entries x.lanes q + open_children (x.made ++ record { holds = 1; parent = above; site = site } ∷ []) q
 pushed x hs above site loose n is q =
     let new : Span = record { holds = 1; parent = above; site = site } in
     let before = loose q in
     let children = count_push (is_open_child q) x.made new in
-    let push = count_push (names q) hs (Some n) in
+    let push = count_push (names_span q) hs (Some n) in
     elim (cases_eq n q) [
       | inl here ↦ (
           let h = ap (λ (s : Span). s.holds) (get_or_push x.made new no_span q (sym is ∙ here)) in
@@ -97,8 +97,8 @@ pushed x hs above site loose n is q =
           omega (arith, before, children, push, none, same))
     ]
 
-balanced_new_own : (spans : Spans) (hs : List (Option ℕ)) (gs : List (Option Opened)) (es : ℕ → List ℕ) → Balanced spans hs gs es → (above : Option ℕ) (site : ℕ) → IfSome above (λ p. IsLive spans.made p)
-    → Balanced (with_span spans above site) (hs ++ Some (length spans.made) ∷ []) gs es
+balanced_new_own : (spans : Spans) (hs : List (Option ℕ)) (gs : List (Option OpenGuard)) (es : ℕ → List ℕ) → Balanced spans hs gs es → (above : Option ℕ) (site : ℕ) → IfSome above (λ p. IsLive spans.made p)
+    → Balanced (with_new_span spans above site) (hs ++ Some (length spans.made) ∷ []) gs es
 balanced_new_own spans hs gs es fits None site live = record {
   holds = pushed spans hs None site (λ q. let h = fits.holds q in omega (arith, h)) (length spans.made) refl;
   entries = fits.entries;
@@ -109,7 +109,7 @@ balanced_new_own spans hs gs es fits (Some p) site live =
     let within = made_if_held spans.made p live in
     let now : Span = record (span_at spans.made p) { holds = (span_at spans.made p).holds + 1 } in
     record {
-      holds = pushed (record spans { made = held spans.made p }) hs (Some p) site (λ q. (
+      holds = pushed (record spans { made = with_hold spans.made p }) hs (Some p) site (λ q. (
           let children = keeps_children spans.made p now within refl live (omega arith) q in
           let before = fits.holds q in
           elim (cases_eq q p) [
@@ -128,27 +128,27 @@ balanced_new_own spans hs gs es fits (Some p) site live =
       borrowed = λ n g there. still_borrowed hs (Some (length spans.made)) g.handle g.span (fits.borrowed n g there);
     }
 
-pub balanced_new : (ids : List ℕ) (spans : Spans) (hs : List (Option Scope)) (gs : List (Option Guarded)) (es : ℕ → List ℕ) → Balanced spans (map named_by hs) (map (opened_by ids) gs) es → (up : Scope) (site n : ℕ) → IfSome (own up) (λ p. IsLive spans.made p) → length spans.made ≡ n
-    → Balanced (with_span spans (own up) site) (map named_by (hs ++ Some (n ∷ up) ∷ [])) (map (opened_by ids) gs) es
+pub balanced_new : (ids : List ℕ) (spans : Spans) (hs : List (Option Scope)) (gs : List (Option ScopeGuard)) (es : ℕ → List ℕ) → Balanced spans (map named_by hs) (map (opened_by ids) gs) es → (up : Scope) (site n : ℕ) → IfSome (own_span up) (λ p. IsLive spans.made p) → length spans.made ≡ n
+    → Balanced (with_new_span spans (own_span up) site) (map named_by (hs ++ Some (n ∷ up) ∷ [])) (map (opened_by ids) gs) es
 balanced_new ids spans hs gs es fits up site n live is =
-    subst (λ (xs : List (Option ℕ)). Balanced (with_span spans (own up) site) xs (map (opened_by ids) gs) es) (ap (λ (k : ℕ). map named_by hs ++ Some k ∷ []) is ∙ sym (map_push named_by hs (Some (n ∷ up))))
-    (balanced_new_own spans (map named_by hs) (map (opened_by ids) gs) es fits (own up) site live)
+    subst (λ (xs : List (Option ℕ)). Balanced (with_new_span spans (own_span up) site) xs (map (opened_by ids) gs) es) (ap (λ (k : ℕ). map named_by hs ++ Some k ∷ []) is ∙ sym (map_push named_by hs (Some (n ∷ up))))
+    (balanced_new_own spans (map named_by hs) (map (opened_by ids) gs) es fits (own_span up) site live)
 
 -- the place that the code found is the line that the request names
 pub record FoundUp (k : State) (t : Tables) (lane : ℕ) (under : Place) (p : Parent) : Type 0 where
   pub up : Scope
   pub is : scope_at t lane under ≡ Some up
   pub parent_is : p ≡ parent_at under up
-  pub scope : IsScope t.made up
-  pub on : place_on (entries_on lane k.spans.lanes) p ≡ own up
+  pub scope : IsScope t.spans up
+  pub on : place_on (entries_on lane k.spans.lanes) p ≡ own_span up
   pub live_place : IsLivePlace k.spans.made p
-  pub live : IfSome (own up) (λ p. IsLive k.spans.made p)
+  pub live : IfSome (own_span up) (λ p. IsLive k.spans.made p)
 
-own_lines : (k : State) (t : Tables) → Fits k t → (o : Option ℕ) → ((s : ℕ) → o ≡ Some s → IsLive k.spans.made s) → (o ≡ own (scope_of t.made o)) × IsScope t.made (scope_of t.made o) × IfSome (own (scope_of t.made o)) (λ p. IsLive k.spans.made p)
+own_lines : (k : State) (t : Tables) → Fits k t → (o : Option ℕ) → ((s : ℕ) → o ≡ Some s → IsLive k.spans.made s) → (o ≡ own_span (scope_of t.spans o)) × IsScope t.spans (scope_of t.spans o) × IfSome (own_span (scope_of t.spans o)) (λ p. IsLive k.spans.made p)
 own_lines k t fits None live = (refl, tt, tt)
 own_lines k t fits (Some s) live =
     let l = live s refl in
-    let below : s < length t.made = (let w = made_if_held k.spans.made s l in let c = fits.made.count in omega (arith, w, c)) in
+    let below : s < length t.spans = (let w = made_if_held k.spans.made s l in let c = fits.made.count in omega (arith, w, c)) in
     let mine = fits.own_scopes s below in
     (sym mine.0, mine.1, subst (λ (o : Option ℕ). IfSome o (λ p. IsLive k.spans.made p)) (sym mine.0) l)
 
@@ -164,7 +164,7 @@ find_up k t fits lane place.Contextual p is =
       | inl none ↦ absurd (cc none)
       | inr there ↦ (let first = first_if_in k.spans.lanes lane s there in let h = fits.balanced.holds s in omega (arith, first, h))
     ]) in
-    subst (FoundUp k t lane place.Contextual) (the_place parent.Current p is) (record { up = scope_of t.made o; is = refl; parent_is = refl; scope = mine.1; on = same ∙ mine.0; live_place = tt; live = mine.2 })
+    subst (FoundUp k t lane place.Contextual) (the_place parent.Current p is) (record { up = scope_of t.spans o; is = refl; parent_is = refl; scope = mine.1; on = same ∙ mine.0; live_place = tt; live = mine.2 })
 find_up k t fits lane (place.Under handle) p is = by_slot (slot_at t.handles handle) refl (sym (ap (λ xs. option_map place_under (slot_at xs handle)) fits.handle_slots ∙ ap (option_map place_under) (get_or-map (option_map (held_of k.dispatch)) t.handles handle None)) ∙ is)
   where
     by_line : (line : Scope) → slot_at t.handles handle ≡ Some line → place_under (held_of k.dispatch line) ≡ p → FoundUp k t lane (place.Under handle) p

@@ -74,6 +74,6 @@ open_counted view k is hs handles made spans n many t stands =
     let count = stands.fits.made.count in
     ap (λ (x : List Span). count_by (holds_one x) (range_with_len 0 n)) made_is
     ∙ same_count (holds_one k.spans.made) (is_open t.handles) (opens k t stands.fits) n
-    ∙ none_past (is_open t.handles) (length t.made) n
+    ∙ none_past (is_open t.handles) (length t.spans) n
     (λ s past. sym (opens k t stands.fits s) ∙ le-ltb 0 (span_at k.spans.made s).holds (let e = past_holds k.spans.made s (omega (arith, past, count)) in omega (arith, e)))
     (omega (arith, l, few))

@@ -7,13 +7,13 @@ use Rattle.trace_base.specs.Spans.{Span, no_span, span_at, entries_on, is_in, ti
 use Rattle.trace_base.specs.Conditions.{IsLive}
 use Rattle.trace_base.proofs.Entering.{count_cons, counted_if_any, made_if_held}
 use Rattle.trace_base.specs.Sound.{has_lane, OneEach}
-use Rattle.span_script.specs.Balance.{Opened, names, guards, named_by, opened_by}
+use Rattle.span_script.specs.Balance.{OpenGuard, names_span, guards, named_by, opened_by}
 use Rattle.span_script.proofs.entries.EntriesFitLemmas.{fits_live}
 use Rattle.span_script.proofs.steps.SlotsLemmas.{named_within}
-use Rattle.span_script.specs.Tables.{Scope, Made, Tables, after, slot_at, own, made_of}
+use Rattle.span_script.specs.Tables.{Scope, MadeSpan, Tables, after_effect, slot_at, own_span, made_of}
 use Rattle.span_script.specs.calls.Here.{Here}
 use Rattle.span_script.specs.calls.Spans.{holds, is_open, closed_of, drop_effect}
-use Rattle.span_script.specs.Fits.{State, Fits, IsScope, above}
+use Rattle.span_script.specs.Fits.{State, Fits, IsScope, parent_in}
 use Rattle.span_script.proofs.steps.BalanceLemmas.{named_slot}
 use Rattle.std.specs.List.{list_any}
 use Rattle.std.proofs.lemmas.Bool.Decides.{nat_tests}
@@ -35,8 +35,8 @@ first_found (e ∷ es) one s some =
           (more.0, or_right (e.lane == more.0) (has_lane more.0 es) more.1, ap (λ (xs : List ℕ). is_in s xs) (cond-false {A = List ℕ} (e.lane == more.0) e.ids (entries_on more.0 es) differs) ∙ more.2))
     ]
 
-named_counts : (hs : List (Option ℕ)) (n s : ℕ) → slot_at hs n ≡ Some s → (n < length hs) × (cond {A = ℕ} (names s (slot_at hs n)) 1 0 ≡ 1)
-named_counts hs n s is = (named_within hs n s is, cond-true {A = ℕ} (names s (slot_at hs n)) 1 0 (ap (names s) is ∙ eq-eqb s s refl))
+named_counts : (hs : List (Option ℕ)) (n s : ℕ) → slot_at hs n ≡ Some s → (n < length hs) × (cond {A = ℕ} (names_span s (slot_at hs n)) 1 0 ≡ 1)
+named_counts hs n s is = (named_within hs n s is, cond-true {A = ℕ} (names_span s (slot_at hs n)) 1 0 (ap (names_span s) is ∙ eq-eqb s s refl))
 
 -- ---- slots and lines
 
@@ -52,17 +52,17 @@ pick p (x ∷ xs) d some =
           (suc more.0, (let w = more.1 in omega (arith, w)), more.2))
     ]
 
-names_holds : (s : ℕ) (o : Option Scope) → names s (named_by o) ≡ true → holds s o ≡ true
+names_holds : (s : ℕ) (o : Option Scope) → names_span s (named_by o) ≡ true → holds s o ≡ true
 names_holds s None e = absurd (true≢false (sym e))
 names_holds s (Some []) e = absurd (true≢false (sym e))
 names_holds s (Some (x ∷ up)) e = or_left_true (x == s) (is_in s up) e
 
-named_open : (hs : List (Option Scope)) (s : ℕ) → 0 < count_by (names s) (map named_by hs) → is_open hs s ≡ true
+named_open : (hs : List (Option Scope)) (s : ℕ) → 0 < count_by (names_span s) (map named_by hs) → is_open hs s ≡ true
 named_open [] s some = absurd (omega (arith, some))
 named_open (o ∷ hs) s some =
-    elim (cases_Bool (names s (named_by o))) [
+    elim (cases_Bool (names_span s (named_by o))) [
       | inl passes ↦ or_left_true (holds s o) (is_open hs s) (names_holds s o passes)
-      | inr fails ↦ or_right (holds s o) (is_open hs s) (named_open hs s (let c = count_cons (names s) (named_by o) (map named_by hs) in let z = cond-false {A = ℕ} (names s (named_by o)) 1 0 fails in omega (arith, c, z, some)))
+      | inr fails ↦ or_right (holds s o) (is_open hs s) (named_open hs s (let c = count_cons (names_span s) (named_by o) (map named_by hs) in let z = cond-false {A = ℕ} (names_span s (named_by o)) 1 0 fails in omega (arith, c, z, some)))
     ]
 
 pub slot_open : (hs : List (Option Scope)) (n s : ℕ) (line : Scope) → slot_at hs n ≡ Some line → is_in s line ≡ true → is_open hs s ≡ true
@@ -78,18 +78,18 @@ open_slot (Some line ∷ hs) s passes = elim (or_cases (is_in s line) (is_open h
   | inr there ↦ (let more = open_slot hs s there in (suc more.0, more.1, more.2, more.3))
 ]
 
-own_in : (up : Scope) (p : ℕ) → own up ≡ Some p → is_in p up ≡ true
+own_in : (up : Scope) (p : ℕ) → own_span up ≡ Some p → is_in p up ≡ true
 own_in [] p e = absurd (cc e)
 own_in (y ∷ r) p e = or_left_true (y == p) (is_in p r) (eq-eqb y p (cc e))
 
-pub up_in : (made : List Made) (line : Scope) → IsScope made line → (c p : ℕ) → is_in c line ≡ true → above (made_of made c).scope ≡ Some p → is_in p line ≡ true
+pub up_in : (made : List MadeSpan) (line : Scope) → IsScope made line → (c p : ℕ) → is_in c line ≡ true → parent_in (made_of made c).scope ≡ Some p → is_in p line ≡ true
 up_in made [] is c p inside e = absurd (true≢false (sym inside))
 up_in made (x ∷ up) is c p inside e = elim (or_cases (x == c) (is_in c up) inside) [
-  | inl here ↦ or_right (x == p) (is_in p up) (own_in up p (ap above (sym is.1) ∙ ap (λ (k : ℕ). above (made_of made k).scope) (eqb-true x c here) ∙ e))
+  | inl here ↦ or_right (x == p) (is_in p up) (own_in up p (ap parent_in (sym is.1) ∙ ap (λ (k : ℕ). parent_in (made_of made k).scope) (eqb-true x c here) ∙ e))
   | inr there ↦ or_right (x == p) (is_in p up) (up_in made up is.3 c p there e)
 ]
 
-under_line : (made : List Made) (line : Scope) (c p : ℕ) → IsScope made line → own line ≡ Some c → above line ≡ Some p → p < c
+under_line : (made : List MadeSpan) (line : Scope) (c p : ℕ) → IsScope made line → own_span line ≡ Some c → parent_in line ≡ Some p → p < c
 under_line made [] c p is o a = absurd (cc o)
 under_line made (x ∷ []) c p is o a = absurd (cc a)
 under_line made (x ∷ y ∷ r) c p is o a = (let e : x ≡ c = cc o in let f : y ≡ p = cc a in let l = is.2 in omega (arith, e, f, l))
@@ -97,7 +97,7 @@ under_line made (x ∷ y ∷ r) c p is o a = (let e : x ≡ c = cc o in let f : 
 -- ---- holds and openness
 
 module _ (k : State) (t : Tables) (fits : Fits k t) where
-  child_live : (x p : ℕ) → IsLive k.spans.made x → above (made_of t.made x).scope ≡ Some p → IsLive k.spans.made p
+  child_live : (x p : ℕ) → IsLive k.spans.made x → parent_in (made_of t.spans x).scope ≡ Some p → IsLive k.spans.made p
   child_live x p live e =
       let parent = fits.made.parent x live ∙ e in
       let c = get_or-le-sum_by (λ (s : Span). cond {A = ℕ} (is_open_child p s) 1 0) k.spans.made x no_span (made_if_held k.spans.made x live) in
@@ -106,11 +106,11 @@ module _ (k : State) (t : Tables) (fits : Fits k t) where
       let h = fits.balanced.holds p in
       omega (arith, c, one, h)
 
-  all_live : (line : Scope) → IsScope t.made line → ((p : ℕ) → own line ≡ Some p → IsLive k.spans.made p) → (s : ℕ) → is_in s line ≡ true → IsLive k.spans.made s
+  all_live : (line : Scope) → IsScope t.spans line → ((p : ℕ) → own_span line ≡ Some p → IsLive k.spans.made p) → (s : ℕ) → is_in s line ≡ true → IsLive k.spans.made s
   all_live [] is first s inside = absurd (true≢false (sym inside))
   all_live (x ∷ up) is first s inside = elim (or_cases (x == s) (is_in s up) inside) [
     | inl here ↦ subst (IsLive k.spans.made) (eqb-true x s here) (first x refl)
-    | inr there ↦ all_live up is.3 (λ p e. child_live x p (first x refl) (ap above is.1 ∙ e)) s there
+    | inr there ↦ all_live up is.3 (λ p e. child_live x p (first x refl) (ap parent_in is.1 ∙ e)) s there
   ]
 
   live_if_open : (s : ℕ) → is_open t.handles s ≡ true → IsLive k.spans.made s
@@ -118,7 +118,7 @@ module _ (k : State) (t : Tables) (fits : Fits k t) where
       let at = open_slot t.handles s passes in
       all_live at.1 (fits.scopes at.0 at.1 at.2) (λ p e. fits_live k.spans (map named_by t.handles) (map (opened_by k.setup.ids) t.guards) t.entries fits.balanced at.0 p (get_or-map-named at.0 at.1 at.2 ∙ e)) s at.3
     where
-      get_or-map-named : (n : ℕ) (line : Scope) → slot_at t.handles n ≡ Some line → slot_at (map named_by t.handles) n ≡ own line
+      get_or-map-named : (n : ℕ) (line : Scope) → slot_at t.handles n ≡ Some line → slot_at (map named_by t.handles) n ≡ own_span line
       get_or-map-named n line there = named_slot t.handles n line there
 
   entered_open : (s : ℕ) → 0 < first_entries k.spans.lanes s → is_open t.handles s ≡ true
@@ -130,20 +130,20 @@ module _ (k : State) (t : Tables) (fits : Fits k t) where
       let found = pick (guards at.0 s) (map (opened_by k.setup.ids) t.guards) None (omega (arith, counted, same, g)) in
       by_guard at.0 found.0 (slot_at (map (opened_by k.setup.ids) t.guards) found.0) refl found.2
     where
-      by_guard : (lane n : ℕ) (o : Option Opened) → slot_at (map (opened_by k.setup.ids) t.guards) n ≡ o → guards lane s o ≡ true → is_open t.handles s ≡ true
+      by_guard : (lane n : ℕ) (o : Option OpenGuard) → slot_at (map (opened_by k.setup.ids) t.guards) n ≡ o → guards lane s o ≡ true → is_open t.handles s ≡ true
       by_guard lane n None there is = absurd (true≢false (sym is))
       by_guard lane n (Some g) there is =
           let here = eqb-true g.span s (and_parts (g.lane == lane) (g.span == s) is).1 in
           let b = fits.balanced.borrowed n g there in
           let at = named_counts (map named_by t.handles) g.handle s (b ∙ ap Some here) in
-          let c = get_or-le-sum_by (λ (o : Option ℕ). cond {A = ℕ} (names s o) 1 0) (map named_by t.handles) g.handle None at.0 in
+          let c = get_or-le-sum_by (λ (o : Option ℕ). cond {A = ℕ} (names_span s o) 1 0) (map named_by t.handles) g.handle None at.0 in
           named_open t.handles s (let one = at.1 in omega (arith, one, c))
 
-  open_if_live : (n s : ℕ) → length t.made ≤ s + n → IsLive k.spans.made s → is_open t.handles s ≡ true
+  open_if_live : (n s : ℕ) → length t.spans ≤ s + n → IsLive k.spans.made s → is_open t.handles s ≡ true
   open_if_live zero s past live = absurd (let w = made_if_held k.spans.made s live in let c = fits.made.count in omega (arith, past, w, c))
   open_if_live (suc n) s past live =
       let h = fits.balanced.holds s in
-      elim (cases_lt 0 (count_by (names s) (map named_by t.handles))) [
+      elim (cases_lt 0 (count_by (names_span s) (map named_by t.handles))) [
         | inl named ↦ named_open t.handles s named
         | inr none ↦ elim (cases_lt 0 (first_entries k.spans.lanes s)) [
           | inl entered ↦ entered_open s entered
@@ -157,11 +157,11 @@ module _ (k : State) (t : Tables) (fits : Fits k t) where
               ] in
               let of_it = sym (cond-false {A = Bool} (0 == (span_at k.spans.made c).holds) false (is_child_of s (span_at k.spans.made c).parent) (ne_eqb 0 (span_at k.spans.made c).holds (λ e. omega (arith, e, alive)))) ∙ is in
               let parent = sym (fits.made.parent c alive) ∙ the_parent s (span_at k.spans.made c).parent of_it in
-              let below : c < length t.made = (let w = child.1 in let m = fits.made.count in omega (arith, w, m)) in
+              let below : c < length t.spans = (let w = child.1 in let m = fits.made.count in omega (arith, w, m)) in
               let mine = fits.own_scopes c below in
-              let older = under_line t.made (made_of t.made c).scope c s mine.1 mine.0 parent in
+              let older = under_line t.spans (made_of t.spans c).scope c s mine.1 mine.0 parent in
               let at = open_slot t.handles c (open_if_live n c (omega (arith, past, older)) alive) in
-              slot_open t.handles at.0 s at.1 at.2 (up_in t.made at.1 (fits.scopes at.0 at.1 at.2) c s at.3 parent))
+              slot_open t.handles at.0 s at.1 at.2 (up_in t.spans at.1 (fits.scopes at.0 at.1 at.2) c s at.3 parent))
         ]
       ]
     where
@@ -174,7 +174,7 @@ module _ (k : State) (t : Tables) (fits : Fits k t) where
   opens s = elim (cases_Bool (is_open t.handles s)) [
     | inl passes ↦ lt-ltb 0 (span_at k.spans.made s).holds (live_if_open s passes) ∙ sym passes
     | inr fails ↦ elim (cases_lt 0 (span_at k.spans.made s).holds) [
-      | inl live ↦ absurd (true≢false (sym (open_if_live (length t.made) s (omega arith) live) ∙ fails))
+      | inl live ↦ absurd (true≢false (sym (open_if_live (length t.spans) s (omega arith) live) ∙ fails))
       | inr none ↦ le-ltb 0 (span_at k.spans.made s).holds none ∙ sym fails
     ]
   ]
@@ -211,12 +211,12 @@ in_filter p (x ∷ line) s = elim (cases_Bool (p x)) [
     gone (inr e) f = rw e refl
 
 -- the spans of the effect are those that had a hold and have none
-pub closes_them : (k next : State) (stands : Here) (handle : ℕ) (line : Scope) → Fits k stands.script → slot_at stands.script.handles handle ≡ Some line → Fits next (after stands.script (drop_effect stands handle line)) → (s : ℕ)
+pub closes_them : (k next : State) (stands : Here) (handle : ℕ) (line : Scope) → Fits k stands.script → slot_at stands.script.handles handle ≡ Some line → Fits next (after_effect stands.script (drop_effect stands handle line)) → (s : ℕ)
     → is_in s (closed_of (slice_set stands.script.handles handle None) line) ≡ (nat_lt 0 (span_at k.spans.made s).holds && not (nat_lt 0 (span_at next.spans.made s).holds))
 closes_them k next stands handle line fits there later s =
     let t = stands.script in
     let was = opens k t fits s in
-    let is = opens next (after t (drop_effect stands handle line)) later s in
+    let is = opens next (after_effect t (drop_effect stands handle line)) later s in
     in_filter (λ x. not (is_open (slice_set t.handles handle None) x)) line s ∙ only (is_in s line) (is_open (slice_set t.handles handle None) s)
     ∙ ap (λ b. b && not (is_open (slice_set t.handles handle None) s)) (sym (set_open t.handles handle s line there) ∙ sym was) ∙ ap (λ b. nat_lt 0 (span_at k.spans.made s).holds && not b) (sym is)
   where

@@ -3,72 +3,72 @@ use Rattle.std.proofs.Common.{◌≡◌, ℕ, ◌<◌, zero, suc, List, [], ◌�
 use Rattle.std.specs.Prelude.{IfSome}
 use Rattle.std.proofs.lemmas.Bool.{cases_eq}
 use Rattle.std.proofs.lemmas.List.{length_push, get_or_push, get_or_append_left}
-use Rattle.span_script.specs.Tables.{Scope, Made, no_making, made_of, own, site_of, slot_at, with_new}
-use Rattle.span_script.specs.Fits.{IsScope, IsUnder}
+use Rattle.span_script.specs.Tables.{Scope, MadeSpan, no_made_span, made_of, own_span, site_of, slot_at, with_item}
+use Rattle.span_script.specs.Fits.{IsScope, IsLaterThanParent}
 
-pub made_left : (made : List Made) (m : Made) (s : ℕ) → s < length made → made_of (made ++ m ∷ []) s ≡ made_of made s
+pub made_left : (made : List MadeSpan) (m : MadeSpan) (s : ℕ) → s < length made → made_of (made ++ m ∷ []) s ≡ made_of made s
 made_left made m s within = get_or_append_left made (m ∷ []) _ s within
 
-pub line_push : (made : List Made) (m : Made) (line : Scope) → IsScope made line → IsScope (made ++ m ∷ []) line
+pub line_push : (made : List MadeSpan) (m : MadeSpan) (line : Scope) → IsScope made line → IsScope (made ++ m ∷ []) line
 line_push made m [] is = tt
-line_push made m (s ∷ up) is = (let n = length_push made m in let k = is.0 in omega (arith, n, k), ap (λ (x : Made). x.scope) (made_left made m s is.0) ∙ is.1, is.2, line_push made m up is.3)
+line_push made m (s ∷ up) is = (let n = length_push made m in let k = is.0 in omega (arith, n, k), ap (λ (x : MadeSpan). x.scope) (made_left made m s is.0) ∙ is.1, is.2, line_push made m up is.3)
 
-under_all : (made : List Made) (up : Scope) → IsScope made up → IsUnder (length made) up
+under_all : (made : List MadeSpan) (up : Scope) → IsScope made up → IsLaterThanParent (length made) up
 under_all made [] is = tt
 under_all made (p ∷ up) is = is.0
 
 -- a span made under a line
-abbrev pub NewMade : List Made → Option Made → Type 0
+abbrev pub NewMade : List MadeSpan → Option MadeSpan → Type 0
 NewMade made None = Unit {0}
 NewMade made (Some m) = (up : Scope) × (m.scope ≡ length made ∷ up) × IsScope made up
 
-pub new_line : (made : List Made) (m : Made) (up : Scope) → m.scope ≡ length made ∷ up → IsScope made up → IsScope (made ++ m ∷ []) (length made ∷ up)
-new_line made m up is below = (let n = length_push made m in omega (arith, n), ap (λ (x : Made). x.scope) (get_or_push made m _ (length made) refl) ∙ is, under_all made up below, line_push made m up below)
+pub new_line : (made : List MadeSpan) (m : MadeSpan) (up : Scope) → m.scope ≡ length made ∷ up → IsScope made up → IsScope (made ++ m ∷ []) (length made ∷ up)
+new_line made m up is below = (let n = length_push made m in omega (arith, n), ap (λ (x : MadeSpan). x.scope) (get_or_push made m _ (length made) refl) ∙ is, under_all made up below, line_push made m up below)
 
-pub lines_with : (made : List Made) (new : Option Made) → NewMade made new → (line : Scope) → IsScope made line → IsScope (with_new made new) line
+pub lines_with : (made : List MadeSpan) (new : Option MadeSpan) → NewMade made new → (line : Scope) → IsScope made line → IsScope (with_item made new) line
 lines_with made None ok line is = is
 lines_with made (Some m) ok line is = line_push made m line is
 
-pub lines_after : (made : List Made) (new : Option Made) → NewMade made new → ((s : ℕ) → s < length made → (own (made_of made s).scope ≡ Some s) × IsScope made (made_of made s).scope)
-    → (s : ℕ) → s < length (with_new made new) → (own (made_of (with_new made new) s).scope ≡ Some s) × IsScope (with_new made new) (made_of (with_new made new) s).scope
+pub lines_after : (made : List MadeSpan) (new : Option MadeSpan) → NewMade made new → ((s : ℕ) → s < length made → (own_span (made_of made s).scope ≡ Some s) × IsScope made (made_of made s).scope)
+    → (s : ℕ) → s < length (with_item made new) → (own_span (made_of (with_item made new) s).scope ≡ Some s) × IsScope (with_item made new) (made_of (with_item made new) s).scope
 lines_after made None ok old s within = old s within
 lines_after made (Some m) ok old s within =
-    let P : Scope → Type 0 = λ line. (own line ≡ Some s) × IsScope (made ++ m ∷ []) line in
+    let P : Scope → Type 0 = λ line. (own_span line ≡ Some s) × IsScope (made ++ m ∷ []) line in
     elim (cases_eq s (length made)) [
-      | inl here ↦ subst P (sym (ap (λ (x : Made). x.scope) (get_or_push made m _ s (sym here)) ∙ ok.1)) (ap Some (sym here), new_line made m ok.0 ok.1 ok.2)
+      | inl here ↦ subst P (sym (ap (λ (x : MadeSpan). x.scope) (get_or_push made m _ s (sym here)) ∙ ok.1)) (ap Some (sym here), new_line made m ok.0 ok.1 ok.2)
       | inr other ↦ (
           let below : s < length made = (let n = length_push made m in omega (arith, n, other, within)) in
           let was = old s below in
-          subst P (sym (ap (λ (x : Made). x.scope) (made_left made m s below))) (was.0, line_push made m (made_of made s).scope was.1))
+          subst P (sym (ap (λ (x : MadeSpan). x.scope) (made_left made m s below))) (was.0, line_push made m (made_of made s).scope was.1))
     ]
 
 -- ---- callsites
 
-pub site_left : (made : List Made) (new : Option Made) (scope : Scope) → IsScope made scope → site_of (with_new made new) scope ≡ site_of made scope
+pub site_left : (made : List MadeSpan) (new : Option MadeSpan) (scope : Scope) → IsScope made scope → site_of (with_item made new) scope ≡ site_of made scope
 site_left made None scope is = refl
 site_left made (Some m) [] is = refl
-site_left made (Some m) (s ∷ up) is = ap (λ (x : Made). Some x.site) (made_left made m s is.0)
+site_left made (Some m) (s ∷ up) is = ap (λ (x : MadeSpan). Some x.site) (made_left made m s is.0)
 
 -- handles keep the callsites of their spans
-pub sites_left : (made : List Made) (new : Option Made) (slots : List (Option Scope)) → ((n : ℕ) (scope : Scope) → slot_at slots n ≡ Some scope → IsScope made scope)
-    → map (option_map (site_of made)) slots ≡ map (option_map (site_of (with_new made new))) slots
+pub sites_left : (made : List MadeSpan) (new : Option MadeSpan) (slots : List (Option Scope)) → ((n : ℕ) (scope : Scope) → slot_at slots n ≡ Some scope → IsScope made scope)
+    → map (option_map (site_of made)) slots ≡ map (option_map (site_of (with_item made new))) slots
 sites_left made new [] are = refl
 sites_left made new (None ∷ slots) are = ap (λ (xs : List (Option (Option ℕ))). None ∷ xs) (sites_left made new slots (λ n scope there. are (suc n) scope there))
 sites_left made new (Some scope ∷ slots) are =
     ap (λ (o : Option ℕ). Some o ∷ map (option_map (site_of made)) slots) (sym (site_left made new scope (are zero scope refl)))
-    ∙ ap (λ (xs : List (Option (Option ℕ))). Some (site_of (with_new made new) scope) ∷ xs) (sites_left made new slots (λ n scope there. are (suc n) scope there))
+    ∙ ap (λ (xs : List (Option (Option ℕ))). Some (site_of (with_item made new) scope) ∷ xs) (sites_left made new slots (λ n scope there. are (suc n) scope there))
 
 -- a span that is made has a callsite that is there
-abbrev pub NewSite : ℕ → Option Made → Type 0
+abbrev pub NewSite : ℕ → Option MadeSpan → Type 0
 NewSite many new = IfSome new (λ m. m.site < many)
 
-pub sited_after : (many : ℕ) (made : List Made) (new : Option Made) → NewSite many new → ((s : ℕ) → s < length made → (made_of made s).site < many) → (s : ℕ) → s < length (with_new made new) → (made_of (with_new made new) s).site < many
+pub sited_after : (many : ℕ) (made : List MadeSpan) (new : Option MadeSpan) → NewSite many new → ((s : ℕ) → s < length made → (made_of made s).site < many) → (s : ℕ) → s < length (with_item made new) → (made_of (with_item made new) s).site < many
 sited_after many made None ok old s within = old s within
 sited_after many made (Some m) ok old s within = elim (cases_eq s (length made)) [
-  | inl here ↦ (let e = ap (λ (x : Made). x.site) (get_or_push made m no_making s (sym here)) in omega (arith, e, ok))
+  | inl here ↦ (let e = ap (λ (x : MadeSpan). x.site) (get_or_push made m no_made_span s (sym here)) in omega (arith, e, ok))
   | inr other ↦ (
       let below : s < length made = (let n = length_push made m in omega (arith, n, other, within)) in
-      let e = ap (λ (x : Made). x.site) (made_left made m s below) in
+      let e = ap (λ (x : MadeSpan). x.site) (made_left made m s below) in
       let was = old s below in
       omega (arith, e, was))
 ]

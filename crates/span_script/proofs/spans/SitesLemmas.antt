@@ -4,7 +4,7 @@ use Rattle.std.proofs.Math.ListN.{get_or-map}
 use Rattle.trace_base.specs.Gate.{Worlds}
 use Rattle.trace_base.specs.Calls.{SubscriberCall}
 use Rattle.span_handles.specs.Handles.{Handle, Copies}
-use Rattle.span_script.specs.Tables.{Scope, Made, Tables, slot_at, own, site_of, made_of}
+use Rattle.span_script.specs.Tables.{Scope, MadeSpan, Tables, slot_at, own_span, site_of, made_of}
 use Rattle.span_script.specs.Fits.{State, Fits, site_by}
 use Rattle.trace_base.specs.declared.callsite.Callsite.{Callsite}
 use Rattle.std.specs.Prelude.{is_some}
@@ -17,12 +17,12 @@ the_site : (a b : Option ℕ) → ◌≡◌ {A = Option (Option ℕ)} (Some a) (
 the_site a b e = cc e
 
 -- a handle that was found
-pub site_found : (k : State) (t : Tables) → Fits k t → (hs : List (Option Handle)) → k.handle_sites ≡ map site_by hs → (n : ℕ) (h : Handle) → slot_at hs n ≡ Some h → (line : Scope) → slot_at t.handles n ≡ Some line → h.site ≡ site_of t.made line
+pub site_found : (k : State) (t : Tables) → Fits k t → (hs : List (Option Handle)) → k.handle_sites ≡ map site_by hs → (n : ℕ) (h : Handle) → slot_at hs n ≡ Some h → (line : Scope) → slot_at t.handles n ≡ Some line → h.site ≡ site_of t.spans line
 site_found k t fits hs are n h found line there =
-    the_site h.site (site_of t.made line) (sym (site_slot hs n h found) ∙ ap (λ (xs : List (Option (Option ℕ))). slot_at xs n) (sym are ∙ fits.site_slots) ∙ get_or-map (option_map (site_of t.made)) t.handles n None ∙ ap (option_map (site_of t.made)) there)
+    the_site h.site (site_of t.spans line) (sym (site_slot hs n h found) ∙ ap (λ (xs : List (Option (Option ℕ))). slot_at xs n) (sym are ∙ fits.site_slots) ∙ get_or-map (option_map (site_of t.spans)) t.handles n None ∙ ap (option_map (site_of t.spans)) there)
 
 -- a copy of a handle of a scope's own span
-pub copied_site : {S : Type 0} (does : S → SubscriberCall → S → Type 0) (old new : Worlds S) (dispatch : ℕ) (site : ℕ → ℕ) (made : List Made) (line : Scope) (h : Handle) → Copies does old new dispatch (option_map (λ id. (id, site id)) (own line)) h
+pub copied_site : {S : Type 0} (does : S → SubscriberCall → S → Type 0) (old new : Worlds S) (dispatch : ℕ) (site : ℕ → ℕ) (made : List MadeSpan) (line : Scope) (h : Handle) → Copies does old new dispatch (option_map (λ id. (id, site id)) (own_span line)) h
     → ((s : ℕ) (up : Scope) → line ≡ s ∷ up → site s ≡ (made_of made s).site) → h.site ≡ site_of made line
 copied_site does old new dispatch site made [] h did same = ap (λ (x : Handle). x.site) did.0
 copied_site does old new dispatch site made (s ∷ up) h did same = ap (λ (x : Handle). x.site) did.0 ∙ ap Some (same s up refl)

@@ -4,51 +4,51 @@ use Rattle.std.specs.Prelude.{◌==◌, slice_set}
 use Rattle.std.proofs.lemmas.Bool.{cases_eq, cases_Bool, cases_lt, cond-true, cond-false}
 use Rattle.std.proofs.lemmas.List.{length-set, map_push, map-set, get_or_past}
 use Rattle.std.proofs.Math.ListN.{get_or-map}
-use Rattle.trace_base.specs.Spans.{Span, Spans, no_span, span_at, is_in, times_in, entries_on, held, less_held, released}
-use Rattle.trace_base.specs.Calls.{entered, exited}
+use Rattle.trace_base.specs.Spans.{Span, Spans, no_span, span_at, is_in, times_in, entries_on, with_hold, less_hold, without_hold}
+use Rattle.trace_base.specs.Calls.{with_span_entry, with_span_exit}
 use Rattle.trace_base.proofs.Entering.{count_push}
 use Rattle.trace_base.proofs.Holding.{less_holds, holds_set, holds_other}
 use Rattle.span_script.specs.Setups.{id_at}
-use Rattle.span_script.specs.Balance.{Balanced, Opened, guards, named_by, opened_on, opened_by}
+use Rattle.span_script.specs.Balance.{Balanced, OpenGuard, guards, named_by, opened_on, opened_by}
 use Rattle.span_script.proofs.entries.EntriesFitLemmas.{fits_enter, fits_exit}
-use Rattle.span_script.specs.Tables.{Scope, Guarded, slot_at, own, on_lane, with_entry, with_exit}
+use Rattle.span_script.specs.Tables.{Scope, ScopeGuard, slot_at, own_span, lanes_with, lanes_with_entry, lanes_with_exit}
 use Rattle.span_script.proofs.steps.SlotsLemmas.{named_push}
 
 -- a guard of a disabled handle
-pub quiet_guard : (spans : Spans) (hs : List (Option ℕ)) (gs : List (Option Opened)) (es : ℕ → List ℕ) → Balanced spans hs gs es → Balanced spans hs (gs ++ None ∷ []) es
+pub quiet_guard : (spans : Spans) (hs : List (Option ℕ)) (gs : List (Option OpenGuard)) (es : ℕ → List ℕ) → Balanced spans hs gs es → Balanced spans hs (gs ++ None ∷ []) es
 quiet_guard spans hs gs es fits = record {
   holds = fits.holds;
   entries = fits.entries;
   guarded = λ lane s. (let c = count_push (guards lane s) gs None in let b = fits.guarded lane s in omega (arith, c, b));
-  borrowed = λ n g there. named_push (λ (x : Opened). slot_at hs x.handle ≡ Some x.span) gs None fits.borrowed (λ x e. absurd (cc e)) n g there;
+  borrowed = λ n g there. named_push (λ (x : OpenGuard). slot_at hs x.handle ≡ Some x.span) gs None fits.borrowed (λ x e. absurd (cc e)) n g there;
 }
 
 -- the slot that a handle's line gives
-pub named_slot : (hs : List (Option Scope)) (handle : ℕ) (line : Scope) → slot_at hs handle ≡ Some line → slot_at (map named_by hs) handle ≡ own line
+pub named_slot : (hs : List (Option Scope)) (handle : ℕ) (line : Scope) → slot_at hs handle ≡ Some line → slot_at (map named_by hs) handle ≡ own_span line
 named_slot hs handle line there = get_or-map named_by hs handle None ∙ ap named_by there
 
-pub opened_slot : (ids : List ℕ) (gs : List (Option Guarded)) (n : ℕ) (g : Guarded) → slot_at gs n ≡ Some g → slot_at (map (opened_by ids) gs) n ≡ opened_on g.handle (id_at ids g.lane) g.scope
+pub opened_slot : (ids : List ℕ) (gs : List (Option ScopeGuard)) (n : ℕ) (g : ScopeGuard) → slot_at gs n ≡ Some g → slot_at (map (opened_by ids) gs) n ≡ opened_on g.handle (id_at ids g.place) g.scope
 opened_slot ids gs n g there = get_or-map (opened_by ids) gs n None ∙ ap (opened_by ids) there
 
 -- what an entry or an exit makes of the spans
 abbrev pub spans_entered : Spans → Scope → ℕ → Spans
 spans_entered spans [] lane = spans
-spans_entered spans (s ∷ up) lane = entered spans s lane
+spans_entered spans (s ∷ up) lane = with_span_entry spans s lane
 
 abbrev pub spans_exited : Spans → Scope → ℕ → Spans
 spans_exited spans [] lane = spans
-spans_exited spans (s ∷ up) lane = exited spans s lane
+spans_exited spans (s ∷ up) lane = with_span_exit spans s lane
 
-pub balanced_enter : (ids : List ℕ) (spans : Spans) (hs : List (Option Scope)) (gs : List (Option Guarded)) (es : ℕ → List ℕ) → Balanced spans (map named_by hs) (map (opened_by ids) gs) es → (handle lane : ℕ) (owns : Bool) (line : Scope) → slot_at hs handle ≡ Some line
-    → Balanced (spans_entered spans line (id_at ids lane)) (map named_by hs) (map (opened_by ids) (gs ++ Some (record { handle = handle; lane = lane; owns = owns; scope = line }) ∷ [])) (with_entry es (id_at ids lane) (own line))
+pub balanced_enter : (ids : List ℕ) (spans : Spans) (hs : List (Option Scope)) (gs : List (Option ScopeGuard)) (es : ℕ → List ℕ) → Balanced spans (map named_by hs) (map (opened_by ids) gs) es → (handle lane : ℕ) (owns : Bool) (line : Scope) → slot_at hs handle ≡ Some line
+    → Balanced (spans_entered spans line (id_at ids lane)) (map named_by hs) (map (opened_by ids) (gs ++ Some (record { handle = handle; place = lane; owns = owns; scope = line }) ∷ [])) (lanes_with_entry es (id_at ids lane) (own_span line))
 balanced_enter ids spans hs gs es fits handle lane owns [] there =
-    subst (λ (xs : List (Option Opened)). Balanced spans (map named_by hs) xs es) (sym (map_push (opened_by ids) gs (Some (record { handle = handle; lane = lane; owns = owns; scope = [] })))) (quiet_guard spans (map named_by hs) (map (opened_by ids) gs) es fits)
+    subst (λ (xs : List (Option OpenGuard)). Balanced spans (map named_by hs) xs es) (sym (map_push (opened_by ids) gs (Some (record { handle = handle; place = lane; owns = owns; scope = [] })))) (quiet_guard spans (map named_by hs) (map (opened_by ids) gs) es fits)
 balanced_enter ids spans hs gs es fits handle lane owns (s ∷ up) there =
-    subst (λ (xs : List (Option Opened)). Balanced (entered spans s (id_at ids lane)) (map named_by hs) xs (on_lane es (id_at ids lane) (es (id_at ids lane) ++ s ∷ []))) (sym (map_push (opened_by ids) gs (Some (record { handle = handle; lane = lane; owns = owns; scope = s ∷ up }))))
+    subst (λ (xs : List (Option OpenGuard)). Balanced (with_span_entry spans s (id_at ids lane)) (map named_by hs) xs (lanes_with es (id_at ids lane) (es (id_at ids lane) ++ s ∷ []))) (sym (map_push (opened_by ids) gs (Some (record { handle = handle; place = lane; owns = owns; scope = s ∷ up }))))
     (fits_enter spans (map named_by hs) (map (opened_by ids) gs) es fits handle s (id_at ids lane) (named_slot hs handle (s ∷ up) there))
 
 -- a span written has as many holds as are written
-pub held_most : (made : List Span) (id q : ℕ) → (span_at (held made id) q).holds ≤ (span_at made q).holds + 1
+pub held_most : (made : List Span) (id q : ℕ) → (span_at (with_hold made id) q).holds ≤ (span_at made q).holds + 1
 held_most made id q =
     let now : Span = record (span_at made id) { holds = (span_at made id).holds + 1 } in
     elim (cases_eq q id) [
@@ -59,9 +59,9 @@ held_most made id q =
       | inr other ↦ (let h = holds_other made id now q other in omega (arith, h))
     ]
 
-pub released_less : (made : List Span) (id q : ℕ) → (span_at (released made id) q).holds ≤ (span_at made q).holds
+pub released_less : (made : List Span) (id q : ℕ) → (span_at (without_hold made id) q).holds ≤ (span_at made q).holds
 released_less made id q =
-    let now : Span = less_held (span_at made id) in
+    let now : Span = less_hold (span_at made id) in
     let less = less_holds (span_at made id) in
     elim (cases_eq q id) [
       | inl here ↦ elim (cases_lt id (length made)) [
@@ -74,15 +74,15 @@ released_less made id q =
 pub entered_most : (spans : Spans) (line : Scope) (lane q : ℕ) → (span_at (spans_entered spans line lane).made q).holds ≤ (span_at spans.made q).holds + 1
 entered_most spans [] lane q = omega arith
 entered_most spans (s ∷ up) lane q = elim (cases_Bool (is_in s (entries_on lane spans.lanes))) [
-  | inl again ↦ (let e = ap (λ (xs : List Span). (span_at xs q).holds) (cond-true {A = List Span} (is_in s (entries_on lane spans.lanes)) spans.made (held spans.made s) again) in omega (arith, e))
-  | inr new ↦ (let e = ap (λ (xs : List Span). (span_at xs q).holds) (cond-false {A = List Span} (is_in s (entries_on lane spans.lanes)) spans.made (held spans.made s) new) in let h = held_most spans.made s q in omega (arith, e, h))
+  | inl again ↦ (let e = ap (λ (xs : List Span). (span_at xs q).holds) (cond-true {A = List Span} (is_in s (entries_on lane spans.lanes)) spans.made (with_hold spans.made s) again) in omega (arith, e))
+  | inr new ↦ (let e = ap (λ (xs : List Span). (span_at xs q).holds) (cond-false {A = List Span} (is_in s (entries_on lane spans.lanes)) spans.made (with_hold spans.made s) new) in let h = held_most spans.made s q in omega (arith, e, h))
 ]
 
 pub exited_less : (spans : Spans) (line : Scope) (lane q : ℕ) → (span_at (spans_exited spans line lane).made q).holds ≤ (span_at spans.made q).holds
 exited_less spans [] lane q = omega arith
 exited_less spans (s ∷ up) lane q = elim (cases_Bool (times_in s (entries_on lane spans.lanes) == 1)) [
-  | inl last ↦ (let e = ap (λ (xs : List Span). (span_at xs q).holds) (cond-true {A = List Span} (times_in s (entries_on lane spans.lanes) == 1) (released spans.made s) spans.made last) in let h = released_less spans.made s q in omega (arith, e, h))
-  | inr more ↦ (let e = ap (λ (xs : List Span). (span_at xs q).holds) (cond-false {A = List Span} (times_in s (entries_on lane spans.lanes) == 1) (released spans.made s) spans.made more) in omega (arith, e))
+  | inl last ↦ (let e = ap (λ (xs : List Span). (span_at xs q).holds) (cond-true {A = List Span} (times_in s (entries_on lane spans.lanes) == 1) (without_hold spans.made s) spans.made last) in let h = released_less spans.made s q in omega (arith, e, h))
+  | inr more ↦ (let e = ap (λ (xs : List Span). (span_at xs q).holds) (cond-false {A = List Span} (times_in s (entries_on lane spans.lanes) == 1) (without_hold spans.made s) spans.made more) in omega (arith, e))
 ]
 
 pub set_none : {X : Type 0} (xs : List (Option X)) (n : ℕ) → slot_at xs n ≡ None → slice_set xs n None ≡ xs
@@ -90,11 +90,11 @@ set_none [] n e = refl
 set_none (x ∷ xs) zero e = ap (λ y. y ∷ xs) (sym e)
 set_none (x ∷ xs) (suc n) e = ap (λ ys. x ∷ ys) (set_none xs n e)
 
-pub balanced_exit : (ids : List ℕ) (spans : Spans) (hs : List (Option Scope)) (gs : List (Option Guarded)) (es : ℕ → List ℕ) → Balanced spans (map named_by hs) (map (opened_by ids) gs) es
-    → (n : ℕ) (g : Guarded) → slot_at gs n ≡ Some g → (line : Scope) → g.scope ≡ line
-    → Balanced (spans_exited spans line (id_at ids g.lane)) (map named_by hs) (map (opened_by ids) (slice_set gs n None)) (with_exit es (id_at ids g.lane) (own line))
+pub balanced_exit : (ids : List ℕ) (spans : Spans) (hs : List (Option Scope)) (gs : List (Option ScopeGuard)) (es : ℕ → List ℕ) → Balanced spans (map named_by hs) (map (opened_by ids) gs) es
+    → (n : ℕ) (g : ScopeGuard) → slot_at gs n ≡ Some g → (line : Scope) → g.scope ≡ line
+    → Balanced (spans_exited spans line (id_at ids g.place)) (map named_by hs) (map (opened_by ids) (slice_set gs n None)) (lanes_with_exit es (id_at ids g.place) (own_span line))
 balanced_exit ids spans hs gs es fits n g there [] is =
-    subst (λ (xs : List (Option Opened)). Balanced spans (map named_by hs) xs es) (sym (map-set (opened_by ids) gs n None ∙ set_none (map (opened_by ids) gs) n (opened_slot ids gs n g there ∙ ap (opened_on g.handle (id_at ids g.lane)) is))) fits
+    subst (λ (xs : List (Option OpenGuard)). Balanced spans (map named_by hs) xs es) (sym (map-set (opened_by ids) gs n None ∙ set_none (map (opened_by ids) gs) n (opened_slot ids gs n g there ∙ ap (opened_on g.handle (id_at ids g.place)) is))) fits
 balanced_exit ids spans hs gs es fits n g there (s ∷ up) is =
-    subst (λ (xs : List (Option Opened)). Balanced (exited spans s (id_at ids g.lane)) (map named_by hs) xs (with_exit es (id_at ids g.lane) (Some s))) (sym (map-set (opened_by ids) gs n None))
-    (fits_exit spans (map named_by hs) (map (opened_by ids) gs) es fits n (record { handle = g.handle; span = s; lane = id_at ids g.lane }) (opened_slot ids gs n g there ∙ ap (opened_on g.handle (id_at ids g.lane)) is))
+    subst (λ (xs : List (Option OpenGuard)). Balanced (with_span_exit spans s (id_at ids g.place)) (map named_by hs) xs (lanes_with_exit es (id_at ids g.place) (Some s))) (sym (map-set (opened_by ids) gs n None))
+    (fits_exit spans (map named_by hs) (map (opened_by ids) gs) es fits n (record { handle = g.handle; span = s; lane = id_at ids g.place }) (opened_slot ids gs n g there ∙ ap (opened_on g.handle (id_at ids g.place)) is))

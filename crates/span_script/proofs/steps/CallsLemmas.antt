@@ -5,7 +5,7 @@ use Rattle.trace_base.specs.Gate.{Worlds}
 use Rattle.trace_base.specs.Spans.{Spans}
 use Rattle.trace_base.specs.Calls.{SubscriberCall}
 use Rattle.trace_base.specs.Conditions.{HasOwnHold}
-use Rattle.span_handles.specs.Worlds.{Has, Shown, seen, spans_in}
+use Rattle.span_handles.specs.Worlds.{Has, Shown, member_of, spans_in}
 use Rattle.otel_layer.specs.Recording.{no_recording}
 use Rattle.span_stack.specs.Counting.{RecordsCallBy}
 use Rattle.span_stack.specs.Filtered.{filter_after}
@@ -14,7 +14,7 @@ use Rattle.span_handles.specs.Handles.{Held, HasOn, IsKnown, ReplacedOn}
 use Rattle.span_handles.specs.Entries.{IsThere}
 use Rattle.span_script.specs.Tables.{Scope}
 use Rattle.span_script.specs.Fits.{Views, held_of}
-use Rattle.span_script.specs.SubscriberLaws.{Adds, aside_in, CallsLaw}
+use Rattle.span_script.specs.SubscriberLaws.{AddsMeasures, aside_in, CallsLaw}
 
 -- what is read of a subscriber that is there
 pub has_by : {S A : Type 0} (read : S → A) (none : A) (world : Worlds S) (dispatch : ℕ) (P : A → Type 0) → P (option_map_or read (slice_get world.subscribers dispatch) none) → Has (λ s. P (read s)) world dispatch
@@ -25,9 +25,9 @@ module _ {S : Type 0} (spans : S → Spans) (views : Views S) (attaches : S → 
   abbrev pub ShownOn : Worlds S → Worlds S → ℕ → Scope → (ℕ → SubscriberCall) → Type 0
   ShownOn old new dispatch [] call = new ≡ old
   ShownOn old new dispatch (s ∷ up) call = Shown spans attaches kept is_whole old new dispatch (call s) × (new.sites ≡ old.sites)
-      × RecordsCallBy (seen views.counter None old dispatch) (spans_in spans old dispatch) (seen views.recorded no_recording old dispatch) (call s) (seen views.recorded no_recording new dispatch)
-      × (seen views.filtered None new dispatch ≡ option_map (filter_after (spans_in spans old dispatch) (call s)) (seen views.filtered None old dispatch)) × (new.cached ≡ old.cached)
-      × Adds (aside_in views old dispatch) (aside_in views new dispatch) (measured_by (call s))
+      × RecordsCallBy (member_of views.counter None old dispatch) (spans_in spans old dispatch) (member_of views.recorded no_recording old dispatch) (call s) (member_of views.recorded no_recording new dispatch)
+      × (member_of views.filtered None new dispatch ≡ option_map (filter_after (spans_in spans old dispatch) (call s)) (member_of views.filtered None old dispatch)) × (new.cached ≡ old.cached)
+      × AddsMeasures (aside_in views old dispatch) (aside_in views new dispatch) (measured_by (call s))
 
   pub shown_on : (does : S → SubscriberCall → S → Type 0) → CallsLaw spans views attaches kept is_whole does
       → (old new : Worlds S) (dispatch : ℕ) (line : Scope) (held : Held) → held ≡ held_of dispatch line → (call : ℕ → SubscriberCall) → ReplacedOn (λ id s t. does s (call id) t) old new held → ShownOn old new dispatch line call

@@ -7,7 +7,7 @@ use Rattle.trace_base.specs.declared.lane.Lane.{Lane}
 use Rattle.trace_base.specs.Gate.{Worlds}
 use Rattle.trace_base.specs.Spans.{Spans}
 use Rattle.trace_base.specs.lanes.Contexts.{attached_as, AreAttached, KeepsAttached}
-use Rattle.span_handles.specs.Worlds.{Has, Alike, seen, spans_in, kept_in}
+use Rattle.span_handles.specs.Worlds.{Has, Alike, member_of, spans_in, kept_in}
 use Rattle.span_handles.specs.Handles.{Handle, Held, ReplacedOn}
 use Rattle.span_handles.specs.Entries.{LeavesLane}
 use Rattle.span_script.specs.declared.slots.Guard.{Guard}
@@ -17,31 +17,31 @@ use Rattle.span_script.specs.Tables.{Scope, slot_at}
 use Rattle.span_script.proofs.filter.CounterLemmas.{adds_nothing, adds_same}
 use Rattle.span_script.proofs.steps.SlotsLemmas.{find, held_slot, Found}
 use Rattle.span_script.specs.Setups.{id_at, name_at}
-use Rattle.span_script.specs.Fits.{Views, State, state_of, Laned, laned, no_lane, lane_at, held_by, LanesFit, IsKept, held_of, StandsFor, Parts}
-use Rattle.span_script.specs.SubscriberLaws.{Adds, SameLaw, aside_in}
+use Rattle.span_script.specs.Fits.{Views, State, state_of, LaneValue, lane_value, no_lane_value, lane_at, held_by, LanesFit, IsKept, held_of, StandsFor, Parts}
+use Rattle.span_script.specs.SubscriberLaws.{AddsMeasures, SameLaw, aside_in}
 
 pub on_err : {T E : Type 0} (result : Result T E) (P : Type 0) → P → OnErr result P
 on_err (Ok v) P p = tt
 on_err (Err e) P p = p
 
-pub within_view : (view k : State) (lanes : List Lane) (n : ℕ) → view ≡ k → view.lanes ≡ map laned lanes → n < length k.lanes → n < length lanes
-within_view view k lanes n same is within = (let a = ap (λ (x : State). length x.lanes) same in let b = ap length is in let c = length-map lanes laned in omega (arith, a, b, c, within))
+pub within_view : (view k : State) (lanes : List Lane) (n : ℕ) → view ≡ k → view.lanes ≡ map lane_value lanes → n < length k.lanes → n < length lanes
+within_view view k lanes n same is within = (let a = ap (λ (x : State). length x.lanes) same in let b = ap length is in let c = length-map lanes lane_value in omega (arith, a, b, c, within))
 
 -- the lane that was written, seen without its room
-pub lane_seen : (lanes : List Lane) (n : ℕ) (before : Lane) → n < length lanes → before ≡ get_or lanes n before → lane_at (map laned lanes) n ≡ laned before
+pub lane_seen : (lanes : List Lane) (n : ℕ) (before : Lane) → n < length lanes → before ≡ get_or lanes n before → lane_at (map lane_value lanes) n ≡ lane_value before
 lane_seen [] n before within is = absurd (omega (arith, within))
-lane_seen (x ∷ xs) zero before within is = ap laned (sym is)
+lane_seen (x ∷ xs) zero before within is = ap lane_value (sym is)
 lane_seen (x ∷ xs) (suc n) before within is = lane_seen xs n before (omega (arith, within)) is
 
-pub lanes_same : (lanes : List Lane) (n : ℕ) (before later : Lane) → n < length lanes → before ≡ get_or lanes n before → laned later ≡ laned before → map laned (set lanes n later) ≡ map laned lanes
+pub lanes_same : (lanes : List Lane) (n : ℕ) (before later : Lane) → n < length lanes → before ≡ get_or lanes n before → lane_value later ≡ lane_value before → map lane_value (set lanes n later) ≡ map lane_value lanes
 lanes_same [] n before later within is same = refl
-lanes_same (x ∷ xs) zero before later within is same = ap (λ (l : Laned). l ∷ map laned xs) (same ∙ ap laned is)
-lanes_same (x ∷ xs) (suc n) before later within is same = ap (λ (ls : List Laned). laned x ∷ ls) (lanes_same xs n before later (omega (arith, within)) is same)
+lanes_same (x ∷ xs) zero before later within is same = ap (λ (l : LaneValue). l ∷ map lane_value xs) (same ∙ ap lane_value is)
+lanes_same (x ∷ xs) (suc n) before later within is same = ap (λ (ls : List LaneValue). lane_value x ∷ ls) (lanes_same xs n before later (omega (arith, within)) is same)
 
-pub same_lane : (before later : Lane) → later.id ≡ before.id → later.contexts.live ≡ before.contexts.live → laned later ≡ laned before
+pub same_lane : (before later : Lane) → later.id ≡ before.id → later.contexts.live ≡ before.contexts.live → lane_value later ≡ lane_value before
 same_lane before later id live = rw (id, live) refl
 
-live_count : ℕ → Laned → ℕ
+live_count : ℕ → LaneValue → ℕ
 live_count number l = count_by (λ item. item.0 == number) l.live
 
 -- the id of a lane, as the setup tells it
@@ -65,31 +65,31 @@ name_seen [] n before within is = absurd (omega (arith, within))
 name_seen (x ∷ xs) zero before within is = ap (λ (l : Lane). l.name) is
 name_seen (x ∷ xs) (suc n) before within is = name_seen xs n before (omega (arith, within)) is
 
-pub are_attached : (kept : ℕ → ℕ → ℕ) (lanes : List Lane) (n : ℕ) (before : Lane) → n < length lanes → before ≡ get_or lanes n before → LanesFit kept (map laned lanes) → AreAttached kept before
+pub are_attached : (kept : ℕ → ℕ → ℕ) (lanes : List Lane) (n : ℕ) (before : Lane) → n < length lanes → before ≡ get_or lanes n before → LanesFit kept (map lane_value lanes) → AreAttached kept before
 are_attached kept lanes n before within is fits number =
     let at = lane_seen lanes n before within is in
-    let a = fits.attached n number (let k = length-map lanes laned in omega (arith, within, k)) in
-    let w = ap (λ (l : Laned). count_by (λ item. item.0 == number) l.live) at in
-    let k = ap (λ (l : Laned). kept l.id number) at in
+    let a = fits.attached n number (let k = length-map lanes lane_value in omega (arith, within, k)) in
+    let w = ap (λ (l : LaneValue). count_by (λ item. item.0 == number) l.live) at in
+    let k = ap (λ (l : LaneValue). kept l.id number) at in
     omega (arith, a, w, k)
 
 -- what is kept on a lane that was written, and on the others
-pub lanes_after : (kept now : ℕ → ℕ → ℕ) (lanes : List Lane) (n : ℕ) (before later : Lane) → n < length lanes → before ≡ get_or lanes n before → LanesFit kept (map laned lanes) → later.id ≡ before.id
-    → ((number : ℕ) → now before.id number ≤ attached_as number later) → ((lane number : ℕ) → (before.id ≡ lane → ⊥) → now lane number ≡ kept lane number) → LanesFit now (map laned (set lanes n later))
+pub lanes_after : (kept now : ℕ → ℕ → ℕ) (lanes : List Lane) (n : ℕ) (before later : Lane) → n < length lanes → before ≡ get_or lanes n before → LanesFit kept (map lane_value lanes) → later.id ≡ before.id
+    → ((number : ℕ) → now before.id number ≤ attached_as number later) → ((lane number : ℕ) → (before.id ≡ lane → ⊥) → now lane number ≡ kept lane number) → LanesFit now (map lane_value (set lanes n later))
 lanes_after kept now lanes n before later within is fits same most others =
-    let ls = map laned lanes in
-    let ls' = map laned (set lanes n later) in
+    let ls = map lane_value lanes in
+    let ls' = map lane_value (set lanes n later) in
     let at = lane_seen lanes n before within is in
-    let inside : n < length ls = (let k = length-map lanes laned in omega (arith, within, k)) in
-    let counts : length ls' ≡ length ls = length-map (set lanes n later) laned ∙ length-set lanes n later ∙ sym (length-map lanes laned) in
-    let written = map-set laned lanes n later in
-    let here : lane_at ls' n ≡ laned later = ap (λ (xs : List Laned). lane_at xs n) written ∙ get_or-set_same ls n (laned later) no_lane inside in
-    let there : (m : ℕ) → (m ≡ n → ⊥) → lane_at ls' m ≡ lane_at ls m = λ m other. ap (λ (xs : List Laned). lane_at xs m) written ∙ get_or-set_other ls n m (laned later) no_lane other in
+    let inside : n < length ls = (let k = length-map lanes lane_value in omega (arith, within, k)) in
+    let counts : length ls' ≡ length ls = length-map (set lanes n later) lane_value ∙ length-set lanes n later ∙ sym (length-map lanes lane_value) in
+    let written = map-set lane_value lanes n later in
+    let here : lane_at ls' n ≡ lane_value later = ap (λ (xs : List LaneValue). lane_at xs n) written ∙ get_or-set_same ls n (lane_value later) no_lane_value inside in
+    let there : (m : ℕ) → (m ≡ n → ⊥) → lane_at ls' m ≡ lane_at ls m = λ m other. ap (λ (xs : List LaneValue). lane_at xs m) written ∙ get_or-set_other ls n m (lane_value later) no_lane_value other in
     let ids : (m : ℕ) → (lane_at ls' m).id ≡ (lane_at ls m).id = λ m. elim (cases_eq m n) [
-      | inl e ↦ ap (λ (k : ℕ). (lane_at ls' k).id) e ∙ ap (λ (l : Laned). l.id) here ∙ same ∙ ap (λ (l : Laned). l.id) (sym at) ∙ ap (λ (k : ℕ). (lane_at ls k).id) (sym e)
-      | inr other ↦ ap (λ (l : Laned). l.id) (there m other)
+      | inl e ↦ ap (λ (k : ℕ). (lane_at ls' k).id) e ∙ ap (λ (l : LaneValue). l.id) here ∙ same ∙ ap (λ (l : LaneValue). l.id) (sym at) ∙ ap (λ (k : ℕ). (lane_at ls k).id) (sym e)
+      | inr other ↦ ap (λ (l : LaneValue). l.id) (there m other)
     ] in
-    let mine : before.id ≡ (lane_at ls n).id = ap (λ (l : Laned). l.id) (sym at) in
+    let mine : before.id ≡ (lane_at ls n).id = ap (λ (l : LaneValue). l.id) (sym at) in
     record {
       differ = λ a b ina inb e. fits.differ a b (omega (arith, ina, counts)) (omega (arith, inb, counts)) (sym (ids a) ∙ e ∙ ids b);
       attached = λ m number below. (
@@ -98,19 +98,19 @@ lanes_after kept now lanes n before later within is fits same most others =
             | inl e ↦ (
                 let k = most number in
                 let p = ap (λ (x : ℕ). now x number) (mine ∙ ap (λ (x : ℕ). (lane_at ls x).id) (sym e)) in
-                let z = ap (λ (x : ℕ). count_by (λ item. item.0 == number) (lane_at ls' x).live) e ∙ ap (λ (l : Laned). count_by (λ item. item.0 == number) l.live) here in
+                let z = ap (λ (x : ℕ). count_by (λ item. item.0 == number) (lane_at ls' x).live) e ∙ ap (λ (l : LaneValue). count_by (λ item. item.0 == number) l.live) here in
                 omega (arith, k, p, z, q))
             | inr other ↦ (
                 let f = fits.attached m number (omega (arith, below, counts)) in
                 let k = others (lane_at ls m).id number (λ e. other (fits.differ m n (omega (arith, below, counts)) inside (sym e ∙ mine))) in
-                let w = ap (λ (l : Laned). count_by (λ item. item.0 == number) l.live) (there m other) in
+                let w = ap (λ (l : LaneValue). count_by (λ item. item.0 == number) l.live) (there m other) in
                 omega (arith, k, f, w, q))
           ]);
     }
 
 -- where a call keeps what it attached
-pub lanes_step : (kept now : ℕ → ℕ → ℕ) (lanes : List Lane) (n : ℕ) (before later : Lane) → n < length lanes → before ≡ get_or lanes n before → LanesFit kept (map laned lanes) → later.id ≡ before.id → KeepsAttached kept before later now
-    → LanesFit now (map laned (set lanes n later))
+pub lanes_step : (kept now : ℕ → ℕ → ℕ) (lanes : List Lane) (n : ℕ) (before later : Lane) → n < length lanes → before ≡ get_or lanes n before → LanesFit kept (map lane_value lanes) → later.id ≡ before.id → KeepsAttached kept before later now
+    → LanesFit now (map lane_value (set lanes n later))
 lanes_step kept now lanes n before later within is fits same keeps = lanes_after kept now lanes n before later within is fits same
     (λ number. (
     let k = keeps before.id number in
@@ -127,7 +127,7 @@ lanes_step kept now lanes n before later within is fits same keeps = lanes_after
 module _ {S : Type 0} (spans : S → Spans) (views : Views S) (attaches : S → Bool) (kept : S → ℕ → ℕ → ℕ) (is_whole : S → Type 0) where
   abbrev pub AlikeOn : Worlds S → Worlds S → ℕ → Scope → Type 0
   AlikeOn old new dispatch [] = new ≡ old
-  AlikeOn old new dispatch (s ∷ up) = Alike spans attaches kept is_whole old new dispatch × (new.sites ≡ old.sites) × (seen views.recorded no_recording new dispatch ≡ seen views.recorded no_recording old dispatch) × (seen views.filtered None new dispatch ≡ seen views.filtered None old dispatch) × (new.cached ≡ old.cached) × Adds (aside_in views old dispatch) (aside_in views new dispatch) []
+  AlikeOn old new dispatch (s ∷ up) = Alike spans attaches kept is_whole old new dispatch × (new.sites ≡ old.sites) × (member_of views.recorded no_recording new dispatch ≡ member_of views.recorded no_recording old dispatch) × (member_of views.filtered None new dispatch ≡ member_of views.filtered None old dispatch) × (new.cached ≡ old.cached) × AddsMeasures (aside_in views old dispatch) (aside_in views new dispatch) []
 
   pub alike_on : (same : S → S → Type 0) → SameLaw spans views attaches kept is_whole same
       → (old new : Worlds S) (dispatch : ℕ) (line : Scope) (held : Held) → held ≡ held_of dispatch line → ReplacedOn (λ id s t. same s t) old new held → AlikeOn old new dispatch line
@@ -137,18 +137,18 @@ module _ {S : Type 0} (spans : S → Spans) (views : Views S) (attaches : S → 
       let told = law.recalled old new dispatch r in
       (law.shown old new dispatch r, ap (λ (w : Worlds S). w.sites) r.others, told.0, told.1, ap (λ (w : Worlds S). w.cached) r.others, told.2)
 
-  pub alike_line : (old new : Worlds S) (dispatch : ℕ) (line : Scope) → AlikeOn old new dispatch line → Alike spans attaches kept is_whole old new dispatch × (new.sites ≡ old.sites) × (seen views.recorded no_recording new dispatch ≡ seen views.recorded no_recording old dispatch) × (seen views.filtered None new dispatch ≡ seen views.filtered None old dispatch) × (new.cached ≡ old.cached) × Adds (aside_in views old dispatch) (aside_in views new dispatch) []
+  pub alike_line : (old new : Worlds S) (dispatch : ℕ) (line : Scope) → AlikeOn old new dispatch line → Alike spans attaches kept is_whole old new dispatch × (new.sites ≡ old.sites) × (member_of views.recorded no_recording new dispatch ≡ member_of views.recorded no_recording old dispatch) × (member_of views.filtered None new dispatch ≡ member_of views.filtered None old dispatch) × (new.cached ≡ old.cached) × AddsMeasures (aside_in views old dispatch) (aside_in views new dispatch) []
   alike_line old new dispatch [] same = (
     record {
       spans_same = ap (λ (w : Worlds S). spans_in spans w dispatch) same;
-      attaches_same = ap (λ (w : Worlds S). seen attaches false w dispatch) same;
+      attaches_same = ap (λ (w : Worlds S). member_of attaches false w dispatch) same;
       kept_same = ap (λ (w : Worlds S). kept_in kept w dispatch) same;
       count = ap (λ (w : Worlds S). length w.subscribers) same;
       whole = λ has. subst (λ (w : Worlds S). Has is_whole w dispatch) (sym same) has;
     },
     ap (λ (w : Worlds S). w.sites) same,
-    ap (λ (w : Worlds S). seen views.recorded no_recording w dispatch) same,
-    ap (λ (w : Worlds S). seen views.filtered None w dispatch) same,
+    ap (λ (w : Worlds S). member_of views.recorded no_recording w dispatch) same,
+    ap (λ (w : Worlds S). member_of views.filtered None w dispatch) same,
     ap (λ (w : Worlds S). w.cached) same,
     adds_same views old new dispatch same,
   )
@@ -162,9 +162,9 @@ module _ {S : Type 0} (spans : S → Spans) (views : Views S) (attaches : S → 
         there = (let c = alike.count in let b = inv.there in omega (arith, on, c, b));
         alone = alike.count ∙ inv.alone;
         whole = subst (λ (d : ℕ). Has is_whole next.world d) (sym on) (alike.whole inv.whole);
-        lanes = subst (λ (d : ℕ). LanesFit (kept_in kept next.world d) (map laned next.lanes)) (sym on)
-            (subst (λ (ls : List Laned). LanesFit (kept_in kept next.world parts.dispatch) ls) (sym (ap (λ (k : State). k.lanes) same))
-            (subst (λ (f : ℕ → ℕ → ℕ). LanesFit f (map laned parts.lanes)) (sym alike.kept_same) inv.lanes));
+        lanes = subst (λ (d : ℕ). LanesFit (kept_in kept next.world d) (map lane_value next.lanes)) (sym on)
+            (subst (λ (ls : List LaneValue). LanesFit (kept_in kept next.world parts.dispatch) ls) (sym (ap (λ (k : State). k.lanes) same))
+            (subst (λ (f : ℕ → ℕ → ℕ). LanesFit f (map lane_value parts.lanes)) (sym alike.kept_same) inv.lanes));
         tables = inv.tables;
         stands = subst (λ (k : State). StandsFor k inv.tables) (sym same) inv.stands;
       }
@@ -175,7 +175,7 @@ module _ {S : Type 0} (spans : S → Spans) (views : Views S) (attaches : S → 
     its_line : Found (held_of parts.dispatch) inv.tables.handles handle named.held
     its_line = find (held_of parts.dispatch) (map held_by parts.handles) inv.tables.handles handle named.held inv.stands.fits.handle_slots (held_slot parts.handles handle named found)
 
-    its_alike : Alike spans attaches kept is_whole parts.world new parts.dispatch × (new.sites ≡ parts.world.sites) × (seen views.recorded no_recording new parts.dispatch ≡ seen views.recorded no_recording parts.world parts.dispatch) × (seen views.filtered None new parts.dispatch ≡ seen views.filtered None parts.world parts.dispatch) × (new.cached ≡ parts.world.cached) × Adds (aside_in views parts.world parts.dispatch) (aside_in views new parts.dispatch) []
+    its_alike : Alike spans attaches kept is_whole parts.world new parts.dispatch × (new.sites ≡ parts.world.sites) × (member_of views.recorded no_recording new parts.dispatch ≡ member_of views.recorded no_recording parts.world parts.dispatch) × (member_of views.filtered None new parts.dispatch ≡ member_of views.filtered None parts.world parts.dispatch) × (new.cached ≡ parts.world.cached) × AddsMeasures (aside_in views parts.world parts.dispatch) (aside_in views new parts.dispatch) []
     its_alike = alike_line parts.world new parts.dispatch its_line.at (alike_on same law parts.world new parts.dispatch its_line.at named.held its_line.is did)
 
     its_rest : ((aside_in views new parts.dispatch).0 ≡ (aside_in views parts.world parts.dispatch).0) × ((aside_in views new parts.dispatch).1 ≡ (aside_in views parts.world parts.dispatch).1)

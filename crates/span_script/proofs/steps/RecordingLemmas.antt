@@ -4,11 +4,11 @@ use Rattle.std.proofs.Common.{◌≡◌, ℕ, List, [], ◌∷◌, ◌++◌, len
 use Rattle.std.proofs.lemmas.List.{append-nil, append_assoc}
 use Rattle.otel_base.specs.declared.context.Context.{Context}
 use Rattle.otel_base.specs.declared.record.Record.{Record}
-use Rattle.otel_state.specs.States.{Told}
+use Rattle.otel_state.specs.States.{SpanData}
 use Rattle.otel_layer.specs.declared.tokens.Token.{Token}
-use Rattle.otel_layer.specs.Table.{told_at, waits}
-use Rattle.otel_layer.specs.Recording.{Recording, started_under, with_start, with_starts, with_applied, with_close, closed, closed_started}
-use Rattle.span_script.specs.Tables.{Made, Done, Effect, Tables, after, with_made, recorded_by, open_part, records_of}
+use Rattle.otel_layer.specs.Table.{data_at, waits}
+use Rattle.otel_layer.specs.Recording.{Recording, started_under, with_start, with_starts, with_applied, with_close, without_closed, closed_started}
+use Rattle.span_script.specs.Tables.{MadeSpan, SpanOp, Effect, Tables, after_effect, with_span_made, recorded_by, open_part, records_of}
 
 -- a recording with other entries, and records before its own
 abbrev shifted : List Token → List Record → Recording → Recording
@@ -16,24 +16,24 @@ shifted ts fs r = record r { tokens = ts; finished = fs ++ r.finished }
 
 module _ (ts : List Token) (fs : List Record) where
   start_apart : (s at : ℕ) (r : Recording) → with_start s at (shifted ts fs r) ≡ shifted ts fs (with_start s at r)
-  start_apart s at r = by_context (waits (told_at s r.spans))
+  start_apart s at r = by_context (waits (data_at s r.spans))
     where
       by_context : (o : Option Context) → started_under o s at (shifted ts fs r) ≡ shifted ts fs (started_under o s at r)
       by_context None = refl
       by_context (Some under) = refl
 
-  closed_apart : (o : Option Told) (s at : ℕ) (r : Recording) → closed o s at (shifted ts fs r) ≡ shifted ts fs (closed o s at r)
+  closed_apart : (o : Option SpanData) (s at : ℕ) (r : Recording) → without_closed o s at (shifted ts fs r) ≡ shifted ts fs (without_closed o s at r)
   closed_apart None s at r = refl
-  closed_apart (Some told) s at r = ap (λ (xs : List Record). record (shifted ts fs (closed (Some told) s at r)) { finished = xs }) (append_assoc fs r.finished _)
+  closed_apart (Some told) s at r = ap (λ (xs : List Record). record (shifted ts fs (without_closed (Some told) s at r)) { finished = xs }) (append_assoc fs r.finished _)
 
   close_apart : (s at : ℕ) (r : Recording) → with_close s at (shifted ts fs r) ≡ shifted ts fs (with_close s at r)
-  close_apart s at r = ap (closed_started s at) (start_apart s at r) ∙ closed_apart (told_at s (with_start s at r).spans) s at (with_start s at r)
+  close_apart s at r = ap (closed_started s at) (start_apart s at r) ∙ closed_apart (data_at s (with_start s at r).spans) s at (with_start s at r)
 
   starts_apart : (at : ℕ) (ss : List ℕ) (r : Recording) → fold (λ r s. with_start s at r) (shifted ts fs r) ss ≡ shifted ts fs (fold (λ r s. with_start s at r) r ss)
   starts_apart at [] r = refl
   starts_apart at (s ∷ ss) r = ap (λ (x : Recording). fold (λ r s. with_start s at r) x ss) (start_apart s at r) ∙ starts_apart at ss (with_start s at r)
 
-  ops_apart : (at : ℕ) (ds : List Done) (r : Recording) → fold (λ r d. with_applied d.span at d.op r) (shifted ts fs r) ds ≡ shifted ts fs (fold (λ r d. with_applied d.span at d.op r) r ds)
+  ops_apart : (at : ℕ) (ds : List SpanOp) (r : Recording) → fold (λ r d. with_applied d.span at d.op r) (shifted ts fs r) ds ≡ shifted ts fs (fold (λ r d. with_applied d.span at d.op r) r ds)
   ops_apart at [] r = refl
   ops_apart at (d ∷ ds) r = ops_apart at ds (with_applied d.span at d.op r)
 
@@ -41,7 +41,7 @@ module _ (ts : List Token) (fs : List Record) where
   closes_apart at [] r = refl
   closes_apart at (s ∷ ss) r = ap (λ (x : Recording). fold (λ r s. with_close s at r) x ss) (close_apart s at r) ∙ closes_apart at ss (with_close s at r)
 
-  made_apart : (n : ℕ) (o : Option Made) (r : Recording) → with_made n o (shifted ts fs r) ≡ shifted ts fs (with_made n o r)
+  made_apart : (n : ℕ) (o : Option MadeSpan) (r : Recording) → with_span_made n o (shifted ts fs r) ≡ shifted ts fs (with_span_made n o r)
   made_apart n None r = refl
   made_apart n (Some m) r = refl
 
@@ -52,12 +52,12 @@ module _ (ts : List Token) (fs : List Record) where
   recorded_apart : (n : ℕ) (e : Effect) (r : Recording) → recorded_by n e (shifted ts fs r) ≡ shifted ts fs (recorded_by n e r)
   recorded_apart n e r =
       let started = fold (λ r s. with_start s e.at r) r e.starts in
-      let made = with_made n e.made started in
+      let made = with_span_made n e.new_span started in
       let begun = with_starts e.begins e.at made in
       let done = fold (λ r d. with_applied d.span e.at d.op r) begun e.ops in
       let rest : Recording → Recording = λ x. fold (λ r s. with_close s e.at r) (fold (λ r d. with_applied d.span e.at d.op r) x e.ops) e.closes in
-      ap (λ (x : Recording). rest (with_starts e.begins e.at (with_made n e.made x))) (starts_apart e.at e.starts r)
-      ∙ ap (λ (x : Recording). rest (with_starts e.begins e.at x)) (made_apart n e.made started)
+      ap (λ (x : Recording). rest (with_starts e.begins e.at (with_span_made n e.new_span x))) (starts_apart e.at e.starts r)
+      ∙ ap (λ (x : Recording). rest (with_starts e.begins e.at x)) (made_apart n e.new_span started)
       ∙ ap rest (begins_apart e.begins e.at made)
       ∙ ap (λ (x : Recording). fold (λ r s. with_close s e.at r) x e.closes) (ops_apart e.at e.ops begun)
       ∙ closes_apart e.at e.closes done
@@ -68,12 +68,12 @@ shift_back r x is = sym (ap (λ (fs : List Record). record r { finished = fs }) 
 
 -- with the open part alone an effect makes the same of what was recorded
 pub record RecordedStep (k next : Recording) (t : Tables) (e : Effect) : Type 0 where
-  pub open_is : open_part next ≡ (after t e).recording
+  pub open_is : open_part next ≡ (after_effect t e).recording
   pub finished : next.finished ≡ k.finished ++ records_of t e
 
-pub recording_step : (k next : Recording) (t : Tables) (e : Effect) → open_part k ≡ t.recording → (toks : List Token) → next ≡ record (recorded_by (length t.made) e k) { tokens = toks } → RecordedStep k next t e
+pub recording_step : (k next : Recording) (t : Tables) (e : Effect) → open_part k ≡ t.recording → (toks : List Token) → next ≡ record (recorded_by (length t.spans) e k) { tokens = toks } → RecordedStep k next t e
 recording_step k next t e is toks now =
-    let n = length t.made in
+    let n = length t.spans in
     let all : recorded_by n e k ≡ shifted k.tokens k.finished (recorded_by n e t.recording) = ap (recorded_by n e) (shift_back k t.recording is) ∙ recorded_apart k.tokens k.finished n e t.recording in
     record {
       open_is = ap open_part now ∙ ap (λ (x : Recording). open_part x) all;
@@ -87,16 +87,16 @@ starts_fold (Some s) at r = refl
 
 -- settings stay
 start_settings : (s at : ℕ) (r : Recording) → (with_start s at r).settings ≡ r.settings
-start_settings s at r = by_context (waits (told_at s r.spans))
+start_settings s at r = by_context (waits (data_at s r.spans))
   where
     by_context : (o : Option Context) → (started_under o s at r).settings ≡ r.settings
     by_context None = refl
     by_context (Some under) = refl
 
 close_settings : (s at : ℕ) (r : Recording) → (with_close s at r).settings ≡ r.settings
-close_settings s at r = by_told (told_at s (with_start s at r).spans) ∙ start_settings s at r
+close_settings s at r = by_told (data_at s (with_start s at r).spans) ∙ start_settings s at r
   where
-    by_told : (o : Option Told) → (closed o s at (with_start s at r)).settings ≡ (with_start s at r).settings
+    by_told : (o : Option SpanData) → (without_closed o s at (with_start s at r)).settings ≡ (with_start s at r).settings
     by_told None = refl
     by_told (Some told) = refl
 
@@ -104,7 +104,7 @@ starts_settings : (at : ℕ) (ss : List ℕ) (r : Recording) → (fold (λ r s. 
 starts_settings at [] r = refl
 starts_settings at (s ∷ ss) r = starts_settings at ss (with_start s at r) ∙ start_settings s at r
 
-ops_settings : (at : ℕ) (ds : List Done) (r : Recording) → (fold (λ r d. with_applied d.span at d.op r) r ds).settings ≡ r.settings
+ops_settings : (at : ℕ) (ds : List SpanOp) (r : Recording) → (fold (λ r d. with_applied d.span at d.op r) r ds).settings ≡ r.settings
 ops_settings at [] r = refl
 ops_settings at (d ∷ ds) r = ops_settings at ds (with_applied d.span at d.op r)
 
@@ -112,7 +112,7 @@ closes_settings : (at : ℕ) (ss : List ℕ) (r : Recording) → (fold (λ r s. 
 closes_settings at [] r = refl
 closes_settings at (s ∷ ss) r = closes_settings at ss (with_close s at r) ∙ close_settings s at r
 
-made_settings : (n : ℕ) (o : Option Made) (r : Recording) → (with_made n o r).settings ≡ r.settings
+made_settings : (n : ℕ) (o : Option MadeSpan) (r : Recording) → (with_span_made n o r).settings ≡ r.settings
 made_settings n None r = refl
 made_settings n (Some m) r = refl
 
@@ -123,22 +123,22 @@ begins_settings (Some s) at r = start_settings s at r
 pub recorded_settings : (n : ℕ) (e : Effect) (r : Recording) → (recorded_by n e r).settings ≡ r.settings
 recorded_settings n e r =
     let started = fold (λ r s. with_start s e.at r) r e.starts in
-    let made = with_made n e.made started in
+    let made = with_span_made n e.new_span started in
     let begun = with_starts e.begins e.at made in
-    closes_settings e.at e.closes (fold (λ r d. with_applied d.span e.at d.op r) begun e.ops) ∙ ops_settings e.at e.ops begun ∙ begins_settings e.begins e.at made ∙ made_settings n e.made started ∙ starts_settings e.at e.starts r
+    closes_settings e.at e.closes (fold (λ r d. with_applied d.span e.at d.op r) begun e.ops) ∙ ops_settings e.at e.ops begun ∙ begins_settings e.begins e.at made ∙ made_settings n e.new_span started ∙ starts_settings e.at e.starts r
 
 -- so do open entries
 start_tokens : (s at : ℕ) (r : Recording) → (with_start s at r).tokens ≡ r.tokens
-start_tokens s at r = by_context (waits (told_at s r.spans))
+start_tokens s at r = by_context (waits (data_at s r.spans))
   where
     by_context : (o : Option Context) → (started_under o s at r).tokens ≡ r.tokens
     by_context None = refl
     by_context (Some under) = refl
 
 close_tokens : (s at : ℕ) (r : Recording) → (with_close s at r).tokens ≡ r.tokens
-close_tokens s at r = by_told (told_at s (with_start s at r).spans) ∙ start_tokens s at r
+close_tokens s at r = by_told (data_at s (with_start s at r).spans) ∙ start_tokens s at r
   where
-    by_told : (o : Option Told) → (closed o s at (with_start s at r)).tokens ≡ (with_start s at r).tokens
+    by_told : (o : Option SpanData) → (without_closed o s at (with_start s at r)).tokens ≡ (with_start s at r).tokens
     by_told None = refl
     by_told (Some told) = refl
 
@@ -146,7 +146,7 @@ starts_tokens : (at : ℕ) (ss : List ℕ) (r : Recording) → (fold (λ r s. wi
 starts_tokens at [] r = refl
 starts_tokens at (s ∷ ss) r = starts_tokens at ss (with_start s at r) ∙ start_tokens s at r
 
-ops_tokens : (at : ℕ) (ds : List Done) (r : Recording) → (fold (λ r d. with_applied d.span at d.op r) r ds).tokens ≡ r.tokens
+ops_tokens : (at : ℕ) (ds : List SpanOp) (r : Recording) → (fold (λ r d. with_applied d.span at d.op r) r ds).tokens ≡ r.tokens
 ops_tokens at [] r = refl
 ops_tokens at (d ∷ ds) r = ops_tokens at ds (with_applied d.span at d.op r)
 
@@ -154,7 +154,7 @@ closes_tokens : (at : ℕ) (ss : List ℕ) (r : Recording) → (fold (λ r s. wi
 closes_tokens at [] r = refl
 closes_tokens at (s ∷ ss) r = closes_tokens at ss (with_close s at r) ∙ close_tokens s at r
 
-made_tokens : (n : ℕ) (o : Option Made) (r : Recording) → (with_made n o r).tokens ≡ r.tokens
+made_tokens : (n : ℕ) (o : Option MadeSpan) (r : Recording) → (with_span_made n o r).tokens ≡ r.tokens
 made_tokens n None r = refl
 made_tokens n (Some m) r = refl
 
@@ -165,13 +165,13 @@ begins_tokens (Some s) at r = start_tokens s at r
 pub recorded_tokens : (n : ℕ) (e : Effect) (r : Recording) → (recorded_by n e r).tokens ≡ r.tokens
 recorded_tokens n e r =
     let started = fold (λ r s. with_start s e.at r) r e.starts in
-    let made = with_made n e.made started in
+    let made = with_span_made n e.new_span started in
     let begun = with_starts e.begins e.at made in
-    closes_tokens e.at e.closes (fold (λ r d. with_applied d.span e.at d.op r) begun e.ops) ∙ ops_tokens e.at e.ops begun ∙ begins_tokens e.begins e.at made ∙ made_tokens n e.made started ∙ starts_tokens e.at e.starts r
+    closes_tokens e.at e.closes (fold (λ r d. with_applied d.span e.at d.op r) begun e.ops) ∙ ops_tokens e.at e.ops begun ∙ begins_tokens e.begins e.at made ∙ made_tokens n e.new_span started ∙ starts_tokens e.at e.starts r
 
 -- a start of the open part
 pub start_open : (s at : ℕ) (r x : Recording) → open_part r ≡ x → (with_start s at r).spans ≡ (with_start s at x).spans
-start_open s at r x is = by_context (waits (told_at s r.spans)) ∙ ap (λ (y : Recording). (with_start s at y).spans) is
+start_open s at r x is = by_context (waits (data_at s r.spans)) ∙ ap (λ (y : Recording). (with_start s at y).spans) is
   where
     by_context : (o : Option Context) → (started_under o s at r).spans ≡ (started_under o s at (open_part r)).spans
     by_context None = refl
@@ -192,7 +192,7 @@ entry_settings (Some s) at r = start_settings s at r
 
 pub entry_counting : (o : Option ℕ) (at : ℕ) (r : Recording) → (with_starts o at r).counting ≡ r.counting
 entry_counting None at r = refl
-entry_counting (Some s) at r = by_context (waits (told_at s r.spans))
+entry_counting (Some s) at r = by_context (waits (data_at s r.spans))
   where
     by_context : (o : Option Context) → (started_under o s at r).counting ≡ r.counting
     by_context None = refl

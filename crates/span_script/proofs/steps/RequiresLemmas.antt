@@ -11,7 +11,7 @@ use Rattle.span_handles.specs.Handles.{Handle, Held, HasOn, IsKnown}
 use Rattle.span_handles.specs.Entries.{IsThere}
 use Rattle.span_script.specs.declared.slots.Guard.{Guard}
 use Rattle.span_script.specs.Setups.{id_at}
-use Rattle.span_script.specs.Tables.{Scope, slot_at, own}
+use Rattle.span_script.specs.Tables.{Scope, slot_at, own_span}
 use Rattle.span_script.specs.Balance.{named_by, opened_on, opened_by}
 use Rattle.span_script.specs.Fits.{Views, state_of, held_by, IsKept, held_of, guard_of, Parts}
 use Rattle.span_script.proofs.steps.SlotsLemmas.{Found, find, held_slot}
@@ -37,7 +37,7 @@ module _ {S : Type 0} (spans : S → Spans) (views : Views S) (kept : S → ℕ 
     scope_is = find (held_of parts.dispatch) (map held_by parts.handles) inv.tables.handles handle h.held inv.stands.fits.handle_slots (held_slot parts.handles handle h found)
 
     slot_is : (s : ℕ) (up : Scope) → scope_is.at ≡ s ∷ up → slot_at (map named_by inv.tables.handles) handle ≡ Some s
-    slot_is s up e = named_slot inv.tables.handles handle scope_is.at scope_is.there ∙ ap own e
+    slot_is s up e = named_slot inv.tables.handles handle scope_is.at scope_is.there ∙ ap own_span e
 
     pub needs_there : IsThere parts.world h.held
     needs_there = there_on parts.world parts.dispatch scope_is.at h.held scope_is.is inv.there
@@ -83,13 +83,13 @@ module _ {S : Type 0} (spans : S → Spans) (views : Views S) (kept : S → ℕ 
     pub guard_named : slot_at parts.handles g.handle ≡ None → ⊥
     guard_named none = (let no : Some g.entry ≡ None = sym guard_handle ∙ get_or-map held_by parts.handles g.handle None ∙ ap held_by none in cc no)
 
-    pub exit_may : (h : Handle) → slot_at parts.handles g.handle ≡ Some h → (n : ℕ) (before : Lane) → n < length parts.lanes → before ≡ get_or parts.lanes n before → g.lane ≡ n → HasOn (λ s id. MayExit (spans s) id before.id) parts.world h.held
+    pub exit_may : (h : Handle) → slot_at parts.handles g.handle ≡ Some h → (n : ℕ) (before : Lane) → n < length parts.lanes → before ≡ get_or parts.lanes n before → g.place ≡ n → HasOn (λ s id. MayExit (spans s) id before.id) parts.world h.held
     exit_may h there n before within seen on = has_on (λ s id. MayExit (spans s) id before.id) parts.world parts.dispatch open_is.at.scope h.held (sym (guard_entry h there) ∙ entry_is)
         (λ s up e. has_by spans no_spans parts.world parts.dispatch (λ (x : Spans). MayExit x s before.id) (
-        let lane_is : id_at ids open_is.at.lane ≡ before.id = ap (id_at ids) (ap (λ (x : Guard). x.lane) (sym open_is.is) ∙ on) ∙ sym (id_seen parts.lanes n before within seen) in
+        let lane_is : id_at ids open_is.at.place ≡ before.id = ap (id_at ids) (ap (λ (x : Guard). x.place) (sym open_is.is) ∙ on) ∙ sym (id_seen parts.lanes n before within seen) in
         subst (λ (l : ℕ). MayExit sp s l) lane_is
-        (fits_may_exit sp (map named_by inv.tables.handles) (map (opened_by ids) inv.tables.guards) inv.tables.entries inv.stands.fits.balanced guard (record { handle = open_is.at.handle; span = s; lane = id_at ids open_is.at.lane })
-        (opened_slot ids inv.tables.guards guard open_is.at open_is.there ∙ ap (opened_on open_is.at.handle (id_at ids open_is.at.lane)) e))))
+        (fits_may_exit sp (map named_by inv.tables.handles) (map (opened_by ids) inv.tables.guards) inv.tables.entries inv.stands.fits.balanced guard (record { handle = open_is.at.handle; span = s; lane = id_at ids open_is.at.place })
+        (opened_slot ids inv.tables.guards guard open_is.at open_is.there ∙ ap (opened_on open_is.at.handle (id_at ids open_is.at.place)) e))))
 
     pub exit_still : (h : Handle) → slot_at parts.handles g.handle ≡ Some h → (n : ℕ) (before : Lane) → n < length parts.lanes → before ≡ get_or parts.lanes n before → HasOn (λ s id. AreAttached (kept s) before) parts.world h.held
     exit_still h there n before within seen = has_on (λ s id. AreAttached (kept s) before) parts.world parts.dispatch open_is.at.scope h.held (sym (guard_entry h there) ∙ entry_is)

@@ -13,14 +13,14 @@ use Rattle.span_script.specs.declared.request.Call.{Call}
 use Rattle.otel_layer.specs.declared.tokens.Token.{Token}
 use Rattle.std.specs.Prelude.{◌==◌, ◌≢◌}
 use Rattle.std.specs.List.{list_any}
-use Rattle.otel_layer.specs.Table.{told_at}
+use Rattle.otel_layer.specs.Table.{data_at}
 use Rattle.otel_layer.specs.Recording.{Recording}
 use Rattle.span_script.specs.declared.contexts.Attach.{Attach}
 use Rattle.span_script.specs.Setups.{Setup}
-use Rattle.span_script.specs.Tables.{Scope, Attached, Effect, Tables, after, recorded_by}
+use Rattle.span_script.specs.Tables.{Scope, Attached, Effect, Tables, after_effect, recorded_by}
 use Rattle.span_script.specs.calls.Here.{Resolved}
 use Rattle.span_script.specs.Effects.{effect_of_call}
-use Rattle.span_script.specs.Fits.{Views, State, Laned, Fits, StandsFor, RecordingFits, FilteringFits, AllContextsFit, LanesFit, IsKept, Served, state_of, laned, Parts, is_room, ServesResolved, Serves}
+use Rattle.span_script.specs.Fits.{Views, State, LaneValue, Fits, StandsFor, RecordingFits, FilteringFits, AllContextsFit, LanesFit, IsKept, Served, state_of, lane_value, Parts, is_for_memory, ServesResolved, Serves}
 use Rattle.otel_metrics.specs.declared.measure.Measure.{Measure}
 use Rattle.span_stack.specs.Measured.{measured_by}
 use Rattle.span_script.proofs.filter.CounterLemmas.{adds_same, measured}
@@ -29,7 +29,7 @@ use Rattle.span_script.proofs.steps.RecordingLemmas.{recording_step}
 use Rattle.span_script.proofs.filter.FilterLemmas.{Hears, filtering_step}
 use Rattle.span_script.proofs.steps.CallsLemmas.{ShownOn}
 use Rattle.span_script.specs.declared.reply.Refusal.TheVariants as refusals
-use Rattle.span_script.specs.SubscriberLaws.{Adds, aside_in}
+use Rattle.span_script.specs.SubscriberLaws.{AddsMeasures, aside_in}
 
 -- what is said of the fields is said of the value that they make
 pub by_view : (at lane : ℕ) (request : Call) (then : State) (answer : Reply) (view k : State) → view ≡ k → ((t : Tables) → StandsFor view t → Served (effect_of_call view.setup t at lane request) t view then answer)
@@ -42,13 +42,13 @@ by_view at lane request then answer view k is serves = record {
 }
 
 -- a refusal is served where it is the first that applies
-pub serves_refusal : (resolved : Tables → Resolved) (takes_none : Bool) (old new : State) (given : Refusal) → ((t : Tables) → StandsFor old t → resolved t ≡ Err given) → new ≡ old → is_room given ≡ false
+pub serves_refusal : (resolved : Tables → Resolved) (takes_none : Bool) (old new : State) (given : Refusal) → ((t : Tables) → StandsFor old t → resolved t ≡ Err given) → new ≡ old → is_for_memory given ≡ false
     → ServesResolved resolved takes_none old (Err given) new
 serves_refusal resolved takes_none old new given refuses same named = record {
   ok = λ t stands. tt;
   refused = λ t stands no. refuses t stands;
   err = same;
-  room = λ none wants. (let memory : given ≡ refusals.Memory = cc wants in absurd (true≢false (sym (ap is_room memory) ∙ named)));
+  room = λ none wants. (let memory : given ≡ refusals.Memory = cc wants in absurd (true≢false (sym (ap is_for_memory memory) ∙ named)));
 }
 
 pub by_view_refused : (at lane : ℕ) (request : Call) (given : Refusal) (view k : State) → view ≡ k → ((t : Tables) → StandsFor view t → effect_of_call view.setup t at lane request ≡ Err given)
@@ -61,40 +61,40 @@ AllFit k contexts = AllContextsFit k.setup.layer.activation k.lanes k.recording.
 
 -- a request is served where its effect makes what is kept
 pub serve_with : (k next : State) (t : Tables) (e : Effect) (resolved : Resolved) (answer : Reply) → StandsFor k t → resolved ≡ Ok e → answer ≡ e.reply → next.setup ≡ k.setup → (toks : List Token)
-    → next.recording ≡ record (recorded_by (length t.made) e k.recording) { tokens = toks } → Fits next (after t e) → ((s : ℕ) → 0 < (span_at next.spans.made s).holds → told_at s next.recording.spans ≢ None) → AllFit next (after t e).contexts → FilteringFits next (after t e) → next.measures ≡ k.measures ++ e.measures → Served resolved t k next answer
+    → next.recording ≡ record (recorded_by (length t.spans) e k.recording) { tokens = toks } → Fits next (after_effect t e) → ((s : ℕ) → 0 < (span_at next.spans.made s).holds → data_at s next.recording.spans ≢ None) → AllFit next (after_effect t e).contexts → FilteringFits next (after_effect t e) → next.measures ≡ k.measures ++ e.measures → Served resolved t k next answer
 serve_with k next t e resolved answer stands is reply_is setup toks recorded fits known attached filtering measured =
     let step = recording_step k.recording next.recording t e stands.recording.recorded toks recorded in
     record { effect = e; is = is; reply_is = reply_is; setup = setup; records = step.finished; measures = measured; stands = record { fits = fits; recording = record { recorded = step.open_is; known = known; attached = attached }; filtering = filtering } }
 
 -- where no other filter is put in force
 pub serve : (k next : State) (t : Tables) (e : Effect) (resolved : Resolved) (answer : Reply) → StandsFor k t → resolved ≡ Ok e → answer ≡ e.reply → next.setup ≡ k.setup → (toks : List Token)
-    → next.recording ≡ record (recorded_by (length t.made) e k.recording) { tokens = toks } → Fits next (after t e) → ((s : ℕ) → 0 < (span_at next.spans.made s).holds → told_at s next.recording.spans ≢ None) → AllFit next (after t e).contexts → Hears k t e next → Served resolved t k next answer
+    → next.recording ≡ record (recorded_by (length t.spans) e k.recording) { tokens = toks } → Fits next (after_effect t e) → ((s : ℕ) → 0 < (span_at next.spans.made s).holds → data_at s next.recording.spans ≢ None) → AllFit next (after_effect t e).contexts → Hears k t e next → Served resolved t k next answer
 serve k next t e resolved answer stands is reply_is setup toks recorded fits known attached heard =
     serve_with k next t e resolved answer stands is reply_is setup toks recorded fits known attached (filtering_step k next t e stands.fits.made.count fits.made.count stands.filtering setup heard) (measured k next e.measures heard.aside)
 
 -- where no span closes and none is made, those with holds are still known
-pub known_still : (k next : State) (t : Tables) (e : Effect) (toks : List Token) → next.recording ≡ record (recorded_by (length t.made) e k.recording) { tokens = toks } → RecordingFits k t → (s : ℕ) → list_any (λ x. x == s) e.closes ≡ false
-    → 0 < (span_at k.spans.made s).holds → told_at s next.recording.spans ≢ None
-known_still k next t e toks is fit s out live none = still_known (length t.made) s e k.recording out (fit.known s live) (ap (λ (r : Recording). told_at s r.spans) (sym is) ∙ none)
+pub known_still : (k next : State) (t : Tables) (e : Effect) (toks : List Token) → next.recording ≡ record (recorded_by (length t.spans) e k.recording) { tokens = toks } → RecordingFits k t → (s : ℕ) → list_any (λ x. x == s) e.closes ≡ false
+    → 0 < (span_at k.spans.made s).holds → data_at s next.recording.spans ≢ None
+known_still k next t e toks is fit s out live none = still_known (length t.spans) s e k.recording out (fit.known s live) (ap (λ (r : Recording). data_at s r.spans) (sym is) ∙ none)
 
 -- where neither lanes nor open entries nor guards of attaches changed
 pub all_same : (k next : State) (contexts : ℕ → List Attached) → next.setup ≡ k.setup → next.contexts.attaches ≡ k.contexts.attaches → next.lanes ≡ k.lanes → next.recording.tokens ≡ k.recording.tokens → AllFit k contexts → AllFit next contexts
 all_same k next contexts setup attaches lanes tokens fit =
     subst (λ (x : Setup). AllContextsFit x.layer.activation next.lanes next.recording.tokens next.contexts.attaches contexts) (sym setup)
     (subst (λ (xs : List (Option Attach)). AllContextsFit k.setup.layer.activation next.lanes next.recording.tokens xs contexts) (sym attaches)
-    (subst (λ (ls : List Laned). AllContextsFit k.setup.layer.activation ls next.recording.tokens k.contexts.attaches contexts) (sym lanes)
+    (subst (λ (ls : List LaneValue). AllContextsFit k.setup.layer.activation ls next.recording.tokens k.contexts.attaches contexts) (sym lanes)
     (subst (λ (ts : List Token). AllContextsFit k.setup.layer.activation k.lanes ts k.contexts.attaches contexts) (sym tokens) fit)))
 
 -- what is kept besides what fits the tables
 pub kept_served : {S : Type 0} (spans : S → Spans) (views : Views S) (kept : S → ℕ → ℕ → ℕ) (is_whole : S → Type 0) (parts next : Parts S) (inv : IsKept spans views kept is_whole parts) (resolved : Resolved) (answer : Reply)
     → Served resolved inv.tables (state_of spans views parts) (state_of spans views next) answer → next.dispatch ≡ parts.dispatch → length next.world.subscribers ≡ length parts.world.subscribers
-    → (Has is_whole parts.world parts.dispatch → Has is_whole next.world parts.dispatch) → LanesFit (kept_in kept next.world parts.dispatch) (map laned next.lanes) → IsKept spans views kept is_whole next
+    → (Has is_whole parts.world parts.dispatch → Has is_whole next.world parts.dispatch) → LanesFit (kept_in kept next.world parts.dispatch) (map lane_value next.lanes) → IsKept spans views kept is_whole next
 kept_served spans views kept is_whole parts next inv resolved answer served dispatch count whole lanes = record {
   there = (let b = inv.there in omega (arith, b, dispatch, count));
   alone = count ∙ inv.alone;
   whole = subst (λ (d : ℕ). Has is_whole next.world d) (sym dispatch) (whole inv.whole);
-  lanes = subst (λ (d : ℕ). LanesFit (kept_in kept next.world d) (map laned next.lanes)) (sym dispatch) lanes;
-  tables = after inv.tables served.effect;
+  lanes = subst (λ (d : ℕ). LanesFit (kept_in kept next.world d) (map lane_value next.lanes)) (sym dispatch) lanes;
+  tables = after_effect inv.tables served.effect;
   stands = served.stands;
 }
 
@@ -112,9 +112,9 @@ module _ {S : Type 0} (spans : S → Spans) (views : Views S) (attaches : S → 
   call_cached [] call same = ap (λ (w : Worlds S). w.cached) same
   call_cached (s ∷ up) call shown = shown.4
 
-  pub call_aside : (line : Scope) (call : ℕ → SubscriberCall) → ((s : ℕ) → measured_by (call s) ≡ []) → ShownOn spans views attaches kept is_whole parts.world new parts.dispatch line call → Adds (aside_in views parts.world parts.dispatch) (aside_in views new parts.dispatch) []
+  pub call_aside : (line : Scope) (call : ℕ → SubscriberCall) → ((s : ℕ) → measured_by (call s) ≡ []) → ShownOn spans views attaches kept is_whole parts.world new parts.dispatch line call → AddsMeasures (aside_in views parts.world parts.dispatch) (aside_in views new parts.dispatch) []
   call_aside [] call none same = adds_same views parts.world new parts.dispatch same
-  call_aside (s ∷ up) call none shown = subst (λ (ms : List Measure). Adds (aside_in views parts.world parts.dispatch) (aside_in views new parts.dispatch) ms) (none s) shown.5
+  call_aside (s ∷ up) call none shown = subst (λ (ms : List Measure). AddsMeasures (aside_in views parts.world parts.dispatch) (aside_in views new parts.dispatch) ms) (none s) shown.5
 
   pub call_whole : (line : Scope) (call : ℕ → SubscriberCall) → ShownOn spans views attaches kept is_whole parts.world new parts.dispatch line call → Has is_whole parts.world parts.dispatch → Has is_whole new parts.dispatch
   call_whole [] call same has = subst (λ (w : Worlds S). Has is_whole w parts.dispatch) (sym same) has

@@ -8,7 +8,7 @@ use Rattle.span_script.specs.declared.request.Place.{Place}
 use Rattle.span_script.specs.declared.slots.Above.{Above}
 use Rattle.span_script.specs.Slots.{parent_of, place_for}
 use Rattle.span_script.specs.Fits.{held_by}
-use Rattle.span_script.specs.Tables.{slot_at, with_new, spend, slots_after, with_either, either_after}
+use Rattle.span_script.specs.Tables.{slot_at, with_item, spend, slots_after, with_either, either_after}
 
 -- what holds of each name that isn't spent holds after one more, if it holds of that
 pub named_push : {A : Type 0} (P : A → Type 0) (slots : List (Option A)) (o : Option A) → ((n : ℕ) (x : A) → slot_at slots n ≡ Some x → P x) → ((x : A) → o ≡ Some x → P x) → (n : ℕ) (x : A) → slot_at (slots ++ o ∷ []) n ≡ Some x → P x
@@ -36,9 +36,9 @@ spend_map f ys zs same (Some n) = ap (λ xs. slice_set xs n None) same ∙ sym (
 
 -- a name more and a name less, seen by a view
 pub slots_map : {A B : Type 0} (f : A → B) (xs : List (Option A)) (new : Option A) (spent : Option ℕ) → slots_after (map (option_map f) xs) (option_map f new) spent ≡ map (option_map f) (slots_after xs new spent)
-slots_map f xs new spent = spend_map f (with_new xs (option_map Some new)) (with_new (map (option_map f) xs) (option_map Some (option_map f new))) (new_map new) spent
+slots_map f xs new spent = spend_map f (with_item xs (option_map Some new)) (with_item (map (option_map f) xs) (option_map Some (option_map f new))) (new_map new) spent
   where
-    new_map : (new : Option _) → with_new (map (option_map f) xs) (option_map Some (option_map f new)) ≡ map (option_map f) (with_new xs (option_map Some new))
+    new_map : (new : Option _) → with_item (map (option_map f) xs) (option_map Some (option_map f new)) ≡ map (option_map f) (with_item xs (option_map Some new))
     new_map None = refl
     new_map (Some x) = sym (map_push (option_map f) xs (Some x))
 

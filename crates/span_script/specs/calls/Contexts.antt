@@ -6,17 +6,17 @@ use Rattle.otel_base.specs.Stack.{empty_context}
 use Rattle.otel_base.specs.declared.context.Context.{Context}
 use Rattle.otel_base.specs.declared.context.SpanContext.{SpanContext}
 use Rattle.otel_layer.specs.Recording.{Recording, with_start}
-use Rattle.otel_layer.specs.Table.{told_at, own_or}
+use Rattle.otel_layer.specs.Table.{data_at, own_or}
 use Rattle.span_script.specs.declared.reply.Reply.TheVariants as reply
 use Rattle.span_script.specs.declared.reply.Refusal.TheVariants as refusal
 use Rattle.span_script.specs.declared.reply.What.TheVariants as what
 use Rattle.span_script.specs.calls.Here.{Here, Resolved, ◌>>=◌, need, refuse_if, answer_effect}
-use Rattle.span_script.specs.Tables.{Effect, GuardOf, Scope, own, slot_at}
+use Rattle.span_script.specs.Tables.{Effect, GuardOf, Scope, own_span, slot_at}
 use Rattle.span_script.specs.calls.Entries.{is_elsewhere, is_full}
 
 -- a context more, and the span that starts for it
 abbrev pub context_effect : Here → Option ℕ → Context → Effect
-context_effect here starting context = record (answer_effect here (reply.Context (length here.script.named) (ids_of context))) {
+context_effect here starting context = record (answer_effect here (reply.Context (length here.script.named_contexts) (ids_of context))) {
   new_context = Some context;
   starts = option_to_list starting;
 }
@@ -27,12 +27,12 @@ remote_call here ids = Ok (context_effect here None (record { span = Some ids })
 -- the own context of a scope's span, which starts; the empty one where there is no span
 abbrev pub own_context : Recording → ℕ → Scope → Context
 own_context r at [] = empty_context
-own_context r at (s ∷ up) = own_or empty_context (told_at s (with_start s at r).spans)
+own_context r at (s ∷ up) = own_or empty_context (data_at s (with_start s at r).spans)
 
 abbrev pub context_call : Here → ℕ → Resolved
 context_call here handle = do
   scope ← need what.Handle (slot_at here.script.handles handle)
-  Ok (context_effect here (own scope) (own_context here.script.recording here.at scope))
+  Ok (context_effect here (own_span scope) (own_context here.script.recording here.at scope))
 
 -- an attach to the lane of the request
 abbrev pub attach_effect : Here → Context → Effect
@@ -45,7 +45,7 @@ attach_effect here context =
 
 abbrev pub attach_call : Here → ℕ → Resolved
 attach_call here context = do
-  given ← need what.Context (slice_get here.script.named context)
+  given ← need what.Context (slice_get here.script.named_contexts context)
   refuse_if (is_full (here.script.contexts here.lane)) (refusal.Full here.place) (Ok (attach_effect here given))
 
 abbrev pub detach_effect : Here → ℕ → Effect

@@ -2,42 +2,42 @@
 use Rattle.std.specs.Prelude.{ℕ, List, length, count_by, Bool, true, not, if◌then◌else◌, ◌==◌, ◌&&◌, nat_lt, is_some, Option, Some, None, Ok, option_map}
 use Rattle.std.specs.Option.{option_to_list}
 use Rattle.otel_base.specs.Stack.{empty_context}
-use Rattle.otel_base.specs.declared.stack.TheConstants.{MOST}
+use Rattle.otel_base.specs.declared.stack.TheConstants.{MAX_CONTEXTS}
 use Rattle.otel_state.specs.declared.op.Op.TheVariants as ops
 use Rattle.otel_layer.specs.Recording.{Recording, with_start}
-use Rattle.otel_layer.specs.Table.{told_at, own_or}
+use Rattle.otel_layer.specs.Table.{data_at, own_or}
 use Rattle.span_script.specs.declared.reply.Reply.TheVariants as reply
 use Rattle.span_script.specs.declared.reply.Refusal.TheVariants as refusal
 use Rattle.span_script.specs.declared.reply.What.TheVariants as what
 use Rattle.span_script.specs.calls.Here.{Here, Resolved, ◌>>=◌, need, refuse_if, answer_effect, op_on}
-use Rattle.span_script.specs.Tables.{Attached, Effect, EntryOf, Guarded, HeardEnter, HeardExit, Scope, own, slot_at}
-use Rattle.span_script.specs.calls.Filter.{heard_on}
+use Rattle.span_script.specs.Tables.{Attached, Effect, EntryOf, ScopeGuard, HookEnter, HookExit, Scope, own_span, slot_at}
+use Rattle.span_script.specs.calls.Filter.{hooks_of_span}
 use Rattle.span_script.specs.calls.Spans.{borrows, is_borrowed}
 
 -- the span that an entry activates
 abbrev pub active : Bool → Scope → Option ℕ
-active activation scope = if activation then own scope else None
+active activation scope = if activation then own_span scope else None
 
 abbrev pub attached_by : Recording → ℕ → Option ℕ → Option Attached
 attached_by r at None = None
-attached_by r at (Some s) = Some (record { owner = EntryOf s; context = own_or empty_context (told_at s (with_start s at r).spans) })
+attached_by r at (Some s) = Some (record { owner = EntryOf s; context = own_or empty_context (data_at s (with_start s at r).spans) })
 
 -- an entry of a handle's span, by a guard that owns the handle or not
 abbrev pub enter_effect : Here → ℕ → Bool → Scope → Effect
 enter_effect here handle owns scope =
     let starting = active here.setup.layer.activation scope in
     record (answer_effect here (reply.Guard (length here.script.guards))) {
-      new_guard = Some (record { handle = handle; lane = here.place; owns = owns; scope = scope });
+      new_guard = Some (record { handle = handle; place = here.place; owns = owns; scope = scope });
       starts = option_to_list starting;
       ops = op_on scope ops.Enter;
       attach = attached_by here.script.recording here.at starting;
-      entry = own scope;
-      heard = heard_on scope (λ s. HeardEnter s here.lane);
+      entry = own_span scope;
+      hooks = hooks_of_span scope (λ s. HookEnter s here.lane);
     }
 
 -- a lane is full that has as many contexts as may be
 abbrev pub is_full : List Attached → Bool
-is_full items = length items == MOST
+is_full items = length items == MAX_CONTEXTS
 
 -- an entry that attaches a context meets a full lane
 abbrev pub meets_full : Bool → Scope → List Attached → Bool
@@ -60,12 +60,12 @@ exit_effect here guard scope = record (answer_effect here reply.Done) {
   spent_guard = Some guard;
   ops = op_on scope ops.Exit;
   detach = option_map EntryOf (active here.setup.layer.activation scope);
-  exit = own scope;
-  heard = heard_on scope (λ s. HeardExit s here.lane);
+  exit = own_span scope;
+  hooks = hooks_of_span scope (λ s. HookExit s here.lane);
 }
 
 -- a guard that owns its handle isn't spent while the handle has another open guard
-abbrev pub is_shared : List (Option Guarded) → Guarded → Bool
+abbrev pub is_shared : List (Option ScopeGuard) → ScopeGuard → Bool
 is_shared slots guarded = guarded.owns && nat_lt 1 (count_by (borrows guarded.handle) slots)
 
 -- a guard is spent on its own lane
@@ -76,4 +76,4 @@ abbrev pub exit_call : Here → ℕ → Resolved
 exit_call here guard = do
   guarded ← need what.Guard (slot_at here.script.guards guard)
   refuse_if (is_shared here.script.guards guarded) refusal.InUse
-      (refuse_if (is_elsewhere here guarded.lane) (refusal.WrongLane guarded.lane) (Ok (exit_effect here guard guarded.scope)))
+      (refuse_if (is_elsewhere here guarded.place) (refusal.WrongLane guarded.place) (Ok (exit_effect here guard guarded.scope)))

@@ -15,26 +15,26 @@ use Rattle.span_script.specs.Fields.{Fields, all_values}
 use Rattle.span_script.specs.calls.Here.{Here, Resolved, ◌>>=◌, need, ops_effect, ops_on}
 use Rattle.span_script.specs.Setups.{event_site}
 use Rattle.span_script.specs.Tables.{Effect, Scope}
-use Rattle.span_script.specs.calls.Filter.{admitted}
+use Rattle.span_script.specs.calls.Filter.{admits_at}
 use Rattle.span_script.specs.calls.Spans.{scope_at}
 
 -- what isn't let through leaves nothing
-abbrev pub if_told : {A : Type 0} → Bool → List A → List A
-if_told enabled told = if enabled then told else []
+abbrev pub if_enabled : {A : Type 0} → Bool → List A → List A
+if_enabled enabled told = if enabled then told else []
 
 -- the ops of an event on its span: where events are counted it is counted, and told after that if the static directives of
 -- the text for counting let it through
 abbrev pub counted_ops : Option (List ℕ) → Callsite → Op → List Op
 counted_ops None callsite event = event ∷ []
-counted_ops (Some text) callsite event = ops.Counted ∷ if_told (admits (text_filter text).statics.directives callsite) (event ∷ [])
+counted_ops (Some text) callsite event = ops.Counted ∷ if_enabled (admits (text_filter text).statics.directives callsite) (event ∷ [])
 
 -- an event goes to the own span of the scope that its place names, and is measured, with a span or without
 abbrev pub event_effect : Here → Callsite → ValueSet → Scope → Effect
 event_effect here callsite values reached =
-    let enabled = admitted here.setup here.script here.lane callsite in
+    let enabled = admits_at here.setup here.script here.lane callsite in
     let event = event_of callsite values here.setup.layer here.at in
-    record (ops_effect here (reply.Enabled enabled) (if_told enabled (ops_on reached (counted_ops here.setup.counting callsite event)))) {
-      measures = if_told enabled (measures callsite values);
+    record (ops_effect here (reply.Enabled enabled) (if_enabled enabled (ops_on reached (counted_ops here.setup.counting callsite event)))) {
+      measures = if_enabled enabled (measures callsite values);
     }
 
 abbrev pub event_call : Here → ℕ → Place → Fields → Resolved

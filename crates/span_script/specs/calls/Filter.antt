@@ -4,14 +4,14 @@ use Rattle.trace_base.specs.declared.callsite.Callsite.{Callsite}
 use Rattle.trace_base.specs.declared.lane.Lane.{Lane}
 use Rattle.trace_base.specs.declared.span.Parent.TheVariants as parent
 use Rattle.trace_base.specs.layers.Hooks.{Hook, OnNewSpan, OnRecord, OnEnter, OnExit, OnClose}
-use Rattle.env_filter.specs.Filtering.{Filtered, is_admitted, after as after_hook}
+use Rattle.env_filter.specs.Filtering.{FilterState, is_admitted, after_hook}
 use Rattle.span_script.specs.declared.reply.Reply.TheVariants as reply
 use Rattle.span_script.specs.declared.reply.Refusal.TheVariants as refusal
 use Rattle.span_script.specs.declared.reply.What.TheVariants as what
 use Rattle.span_script.specs.Admission.{TextRead, text_read, text_filter}
 use Rattle.span_script.specs.calls.Here.{Here, Resolved, ◌>>=◌, need, answer_effect}
 use Rattle.span_script.specs.Setups.{Setup}
-use Rattle.span_script.specs.Tables.{Effect, Heard, HeardNew, HeardRecord, HeardEnter, HeardExit, HeardClose, Scope, Tables}
+use Rattle.span_script.specs.Tables.{Effect, FilterHook, HookNew, HookRecord, HookEnter, HookExit, HookClose, Scope, Tables}
 
 -- the text in force: that of the last reload, that of the settings before the first
 abbrev pub in_force : Setup → Tables → List ℕ
@@ -23,34 +23,34 @@ bare_lane id = record { id = id; name = None; default = None; contexts = record 
 
 -- The hook by which a filter hears it. A filter reads no moment and no parent, and of a lane the id alone: what stands for
 -- these says nothing.
-abbrev pub hook_of : Heard → Hook
-hook_of (HeardNew s callsite values) = OnNewSpan s (bare_lane 0) 0 parent.Root None callsite values
-hook_of (HeardRecord s callsite values) = OnRecord s 0 callsite values
-hook_of (HeardEnter s lane) = OnEnter s 0 (bare_lane lane) (bare_lane lane)
-hook_of (HeardExit s lane) = OnExit s 0 (bare_lane lane) (bare_lane lane)
-hook_of (HeardClose s) = OnClose s 0
+abbrev pub hook_of : FilterHook → Hook
+hook_of (HookNew s callsite values) = OnNewSpan s (bare_lane 0) 0 parent.Root None callsite values
+hook_of (HookRecord s callsite values) = OnRecord s 0 callsite values
+hook_of (HookEnter s lane) = OnEnter s 0 (bare_lane lane) (bare_lane lane)
+hook_of (HookExit s lane) = OnExit s 0 (bare_lane lane) (bare_lane lane)
+hook_of (HookClose s) = OnClose s 0
 
 -- what hearing it makes of a filter
-abbrev pub hears : Filtered → Heard → Filtered
-hears f heard = after_hook f (hook_of heard)
+abbrev pub after_filter_hook : FilterState → FilterHook → FilterState
+after_filter_hook f heard = after_hook f (hook_of heard)
 
 -- the filter in force: that of its text, after all that it heard
-abbrev pub filter_at : Setup → Tables → Filtered
-filter_at setup t = fold hears (text_filter (in_force setup t)) t.heard
+abbrev pub filter_at : Setup → Tables → FilterState
+filter_at setup t = fold after_filter_hook (text_filter (in_force setup t)) t.hooks
 
 -- whether what a callsite makes on the lane of an id is let through
-abbrev pub admitted : Setup → Tables → ℕ → Callsite → Bool
-admitted setup t lane callsite = is_admitted (filter_at setup t) lane callsite
+abbrev pub admits_at : Setup → Tables → ℕ → Callsite → Bool
+admits_at setup t lane callsite = is_admitted (filter_at setup t) lane callsite
 
 -- what is heard of a scope's own span, if it has one
-abbrev pub heard_on : Scope → (ℕ → Heard) → List Heard
-heard_on [] heard = []
-heard_on (s ∷ up) heard = heard s ∷ []
+abbrev pub hooks_of_span : Scope → (ℕ → FilterHook) → List FilterHook
+hooks_of_span [] heard = []
+hooks_of_span (s ∷ up) heard = heard s ∷ []
 
 -- ---- asking, an answer alone
 
 abbrev pub enabled_effect : Here → Callsite → Effect
-enabled_effect here callsite = answer_effect here (reply.Enabled (admitted here.setup here.script here.lane callsite))
+enabled_effect here callsite = answer_effect here (reply.Enabled (admits_at here.setup here.script here.lane callsite))
 
 abbrev pub enabled_call : Here → ℕ → Resolved
 enabled_call here site = do

@@ -6,7 +6,7 @@ use Rattle.span_script.specs.declared.reply.Refusal.{Refusal}
 use Rattle.span_script.specs.declared.reply.Refusal.TheVariants as refusal
 use Rattle.span_script.specs.declared.reply.What.{What}
 use Rattle.span_script.specs.Setups.{Setup, id_at}
-use Rattle.span_script.specs.Tables.{Done, Effect, Scope, Tables, quiet}
+use Rattle.span_script.specs.Tables.{SpanOp, Effect, Scope, Tables, quiet_effect}
 
 -- what the settings fix, the script so far, the moment of the request, and its lane, by its place and by its id
 pub record Here : Type 0 where
@@ -43,18 +43,18 @@ refuse_if test why resolved = if test then Err why else resolved
 
 -- an answer, and nothing changes
 abbrev pub answer_effect : Here → Reply → Effect
-answer_effect here answer = quiet here.at here.lane answer
+answer_effect here answer = quiet_effect here.at here.lane answer
 
 -- ops on spans and nothing else
-abbrev pub ops_effect : Here → Reply → List Done → Effect
+abbrev pub ops_effect : Here → Reply → List SpanOp → Effect
 ops_effect here answer done = record (answer_effect here answer) { ops = done }
 
 -- an op on a scope's own span, if it has one
-abbrev pub op_on : Scope → Op → List Done
+abbrev pub op_on : Scope → Op → List SpanOp
 op_on [] op = []
 op_on (s ∷ up) op = record { span = s; op = op } ∷ []
 
 -- the same of some ops
-abbrev pub ops_on : Scope → List Op → List Done
+abbrev pub ops_on : Scope → List Op → List SpanOp
 ops_on [] given = []
 ops_on (s ∷ up) given = map (λ op. record { span = s; op = op }) given

@@ -9,11 +9,11 @@ use Rattle.otel_state.specs.declared.op.SetParentError.{SetParentError}
 use Rattle.otel_state.specs.declared.op.SetParentError.TheVariants as unset
 use Rattle.otel_layer.specs.Asking.{link_of}
 use Rattle.otel_layer.specs.Recording.{Recording}
-use Rattle.otel_layer.specs.Table.{told_at, waits}
+use Rattle.otel_layer.specs.Table.{data_at, waits}
 use Rattle.span_script.specs.declared.reply.Reply.TheVariants as reply
 use Rattle.span_script.specs.declared.reply.What.TheVariants as what
 use Rattle.span_script.specs.calls.Here.{Here, Resolved, ◌>>=◌, need, answer_effect, ops_effect, op_on}
-use Rattle.span_script.specs.Tables.{Done, Effect, Scope, slot_at}
+use Rattle.span_script.specs.Tables.{SpanOp, Effect, Scope, slot_at}
 use Rattle.span_script.specs.calls.Contexts.{own_context}
 
 -- where both are enabled the followed span starts, and the other one is linked to its own context
@@ -39,22 +39,22 @@ set_while false = Err unset.AlreadyStarted
 -- it can be until the span starts
 abbrev pub is_set : Recording → Scope → Result (Unit {0}) SetParentError
 is_set r [] = Err unset.SpanDisabled
-is_set r (s ∷ up) = set_while (is_some (waits (told_at s r.spans)))
+is_set r (s ∷ up) = set_while (is_some (waits (data_at s r.spans)))
 
 abbrev pub set_parent_call : Here → ℕ → ℕ → Resolved
 set_parent_call here handle context = do
   scope ← need what.Handle (slot_at here.script.handles handle)
-  given ← need what.Context (slice_get here.script.named context)
+  given ← need what.Context (slice_get here.script.named_contexts context)
   Ok (ops_effect here (reply.Set (is_set here.script.recording scope)) (op_on scope (ops.SetParent given)))
 
 -- a link to what a context shows, none where that is invalid
-abbrev pub link_ops : Scope → SpanContext → List KeyValue → List Done
+abbrev pub link_ops : Scope → SpanContext → List KeyValue → List SpanOp
 link_ops scope ids attributes = if is_valid ids then op_on scope (link_of ids attributes) else []
 
 abbrev pub add_link_call : Here → ℕ → ℕ → List KeyValue → Resolved
 add_link_call here handle context attributes = do
   scope ← need what.Handle (slot_at here.script.handles handle)
-  given ← need what.Context (slice_get here.script.named context)
+  given ← need what.Context (slice_get here.script.named_contexts context)
   Ok (ops_effect here reply.Done (link_ops scope (ids_of given) attributes))
 
 -- an event of a request without a time happens at its moment

@@ -4,9 +4,9 @@ use Rattle.std.specs.List.{list_any, range_with_len}
 use Rattle.std.specs.Option.{option_to_list}
 use Rattle.otel_base.specs.declared.context.Context.{Context}
 use Rattle.otel_base.specs.Stack.{empty_context}
-use Rattle.otel_state.specs.States.{Told}
+use Rattle.otel_state.specs.States.{SpanData}
 use Rattle.otel_layer.specs.Recording.{source_of, with_starts}
-use Rattle.otel_layer.specs.Steps.{above, context_from, made_told}
+use Rattle.otel_layer.specs.Steps.{parent_source, context_from, new_span_data}
 use Rattle.trace_base.specs.Spans.{is_in, current_of}
 use Rattle.trace_base.specs.declared.callsite.Callsite.{Callsite}
 use Rattle.trace_base.specs.declared.field.ValueSet.{ValueSet}
@@ -21,8 +21,8 @@ use Rattle.span_script.specs.declared.request.Place.TheVariants as place
 use Rattle.span_script.specs.Fields.{Fields, all_values}
 use Rattle.span_script.specs.calls.Here.{Here, Resolved, ◌>>=◌, need, refuse_if, answer_effect}
 use Rattle.span_script.specs.Setups.{name_at, span_site}
-use Rattle.span_script.specs.Tables.{Attached, Effect, Guarded, HeardNew, HeardClose, Scope, Tables, own, scope_of, slot_at}
-use Rattle.span_script.specs.calls.Filter.{admitted, bare_lane}
+use Rattle.span_script.specs.Tables.{Attached, Effect, ScopeGuard, HookNew, HookClose, Scope, Tables, own_span, scope_of, slot_at}
+use Rattle.span_script.specs.calls.Filter.{admits_at, bare_lane}
 
 -- ---- spans that are open
 
@@ -41,15 +41,15 @@ closed_of slots scope = filter (λ s. not (is_open slots s)) scope
 
 -- how many spans are open
 abbrev pub open_spans : Tables → ℕ
-open_spans t = count_by (is_open t.handles) (range_with_len 0 (length t.made))
+open_spans t = count_by (is_open t.handles) (range_with_len 0 (length t.spans))
 
 -- a guard borrows its handle
-abbrev pub borrows : ℕ → Option Guarded → Bool
+abbrev pub borrows : ℕ → Option ScopeGuard → Bool
 borrows handle None = false
 borrows handle (Some guarded) = guarded.handle == handle
 
 -- as long as one of its guards isn't spent, a handle is lent
-abbrev pub is_borrowed : List (Option Guarded) → ℕ → Bool
+abbrev pub is_borrowed : List (Option ScopeGuard) → ℕ → Bool
 is_borrowed slots handle = list_any (borrows handle) slots
 
 -- ---- makings
@@ -57,7 +57,7 @@ is_borrowed slots handle = list_any (borrows handle) slots
 -- the scope that a new span is put under: that of a handle, of the lane's current span, or none
 abbrev pub scope_at : Tables → ℕ → Place → Option Scope
 scope_at t lane place.Root = Some []
-scope_at t lane place.Contextual = Some (scope_of t.made (current_of (t.entries lane)))
+scope_at t lane place.Contextual = Some (scope_of t.spans (current_of (t.entries lane)))
 scope_at t lane (place.Under handle) = slot_at t.handles handle
 
 -- a disabled handle
@@ -88,33 +88,33 @@ lane_in here = record (bare_lane here.lane) { name = name_at here.setup.names he
 
 -- the span that gives a new one the context that it is put under, if one does
 abbrev pub context_source : Here → Parent → Option ℕ
-context_source here p = above here.setup.layer.activation p (current_of (here.script.entries here.lane))
+context_source here p = parent_source here.setup.layer.activation p (current_of (here.script.entries here.lane))
 
 -- a new span at a place with some values: what gives its parent's context starts before
-abbrev pub made_at : Here → Callsite → ValueSet → Parent → Told
-made_at here callsite values p =
+abbrev pub new_span_data_at : Here → Callsite → ValueSet → Parent → SpanData
+new_span_data_at here callsite values p =
     let source = context_source here p in
     let r = with_starts source here.at here.script.recording in
-    made_told callsite (lane_in here) values
+    new_span_data callsite (lane_in here) values
     (context_from r.spans (context_around (here.script.contexts here.lane) p) source) here.at r.settings r.counting
 
 -- a span of a callsite under a scope, which starts at once where spans start early
 abbrev pub span_effect : Here → ℕ → Callsite → ValueSet → Place → Scope → Effect
 span_effect here site callsite values under up =
-    let span = length here.script.made in
+    let span = length here.script.spans in
     let scope : Scope = span ∷ up in
     record (answer_effect here (reply.Made true (length here.script.handles))) {
       new_handle = Some scope;
-      made = Some (record { site = site; scope = scope; told = made_at here callsite values (parent_at under up) });
+      new_span = Some (record { site = site; scope = scope; made_with = new_span_data_at here callsite values (parent_at under up) });
       starts = option_to_list (context_source here (parent_at under up));
       begins = source_of here.setup.layer.eager span;
-      heard = HeardNew span callsite values ∷ [];
+      hooks = HookNew span callsite values ∷ [];
     }
 
 -- a callsite that is let through gives a span, any other a disabled handle
 abbrev pub new_effect : Here → ℕ → Callsite → ValueSet → Place → Scope → Effect
 new_effect here site callsite values under up =
-    if admitted here.setup here.script here.lane callsite then span_effect here site callsite values under up else disabled_effect here
+    if admits_at here.setup here.script here.lane callsite then span_effect here site callsite values under up else disabled_effect here
 
 abbrev pub new_call : Here → ℕ → Place → Fields → Resolved
 new_call here site under fields = do
@@ -127,7 +127,7 @@ new_call here site under fields = do
 
 -- another handle of a scope: enabled if the scope has a span
 abbrev pub clone_effect : Here → Scope → Effect
-clone_effect here scope = record (answer_effect here (reply.Made (is_some (own scope)) (length here.script.handles))) { new_handle = Some scope }
+clone_effect here scope = record (answer_effect here (reply.Made (is_some (own_span scope)) (length here.script.handles))) { new_handle = Some scope }
 
 abbrev pub clone_call : Here → ℕ → Resolved
 clone_call here handle = do
@@ -141,7 +141,7 @@ drop_effect here handle scope =
     record (answer_effect here reply.Done) {
       spent_handle = Some handle;
       closes = closed;
-      heard = map HeardClose closed;
+      hooks = map HookClose closed;
     }
 
 abbrev pub drop_call : Here → ℕ → Resolved
@@ -153,7 +153,7 @@ drop_call here handle = do
 
 -- the scope of a lane's current span, the empty one where there is none
 abbrev pub current_scope : Tables → ℕ → Scope
-current_scope t lane = scope_of t.made (current_of (t.entries lane))
+current_scope t lane = scope_of t.spans (current_of (t.entries lane))
 
 abbrev pub current_call : Here → Resolved
 current_call here = Ok (clone_effect here (current_scope here.script here.lane))

@@ -8,18 +8,18 @@ use Rattle.trace_base.specs.declared.subscriber.Interest.TheVariants as interest
 use Rattle.trace_base.specs.Gate.{Admits, IsFresh}
 use Rattle.trace_base.proofs.Caching.{fresh_admits}
 use Rattle.span_registry.specs.Both.{hint_both}
-use Rattle.span_handles.specs.Worlds.{Has, seen}
-use Rattle.env_filter.specs.Filtering.{Filtered, Filtering, plain, AreWhole, hint_in, enables_in, is_admitted}
-use Rattle.env_filter.specs.Reloading.{if_there, HoldsIfThere, never_enabled}
+use Rattle.span_handles.specs.Worlds.{Has, member_of}
+use Rattle.env_filter.specs.Filtering.{FilterState, FilterWithRoom, plain, AreWhole, hint_in, enables_in, is_admitted}
+use Rattle.env_filter.specs.Reloading.{layer_or, HoldsIfThere, never_enabled}
 use Rattle.env_filter.specs.Worlds.{in_place_rule, IsWholeInPlace}
 use Rattle.env_filter.proofs.Worlds.{over_all_in_place}
 use Rattle.span_stack.specs.Reading.{Stacks, StackWorlds, in_place, stack_interest}
 
 abbrev pub hint_over : Stacks → Option LevelFilter
-hint_over s = hint_both (if_there None (λ f. Some (hint_in (plain f))) s.layer.inner) None
+hint_over s = hint_both (layer_or None (λ f. Some (hint_in (plain f))) s.layer.inner) None
 
 abbrev pub enables_over : Stacks → ℕ → Callsite → Bool
-enables_over s lane c = if_there never_enabled (λ f. enables_in (plain f)) s.layer.inner lane c && true
+enables_over s lane c = layer_or never_enabled (λ f. enables_in (plain f)) s.layer.inner lane c && true
 
 -- what is read of a subscriber was there to be read
 record ReadOf {S A : Type 0} (read : S → Option A) (o : Option S) (a : A) : Type 0 where
@@ -31,17 +31,17 @@ read_of : {S A : Type 0} (read : S → Option A) (o : Option S) (a : A) → opti
 read_of read None a e = absurd (cc e)
 read_of read (Some s) a e = record { from = s; there = refl; is = e }
 
-rule_of : (o : Option Filtering) (f : Filtered) (lane : ℕ) (c : Callsite) → option_map plain o ≡ Some f → in_place_rule o lane c ≡ is_admitted f lane c
+rule_of : (o : Option FilterWithRoom) (f : FilterState) (lane : ℕ) (c : Callsite) → option_map plain o ≡ Some f → in_place_rule o lane c ≡ is_admitted f lane c
 rule_of None f lane c e = absurd (cc e)
-rule_of (Some g) f lane c e = (let same : plain g ≡ f = cc e in ap (λ (x : Filtered). is_admitted x lane c) same)
+rule_of (Some g) f lane c e = (let same : plain g ≡ f = cc e in ap (λ (x : FilterState). is_admitted x lane c) same)
 
-whole_in : (o : Option Filtering) → HoldsIfThere (λ f. AreWhole (plain f)) o → IsWholeInPlace o
+whole_in : (o : Option FilterWithRoom) → HoldsIfThere (λ f. AreWhole (plain f)) o → IsWholeInPlace o
 whole_in None w = tt
 whole_in (Some f) w = w
 
 pub admits_by_rule : (world : StackWorlds) (dispatch lane site : ℕ) (answer : Bool) → Admits hint_over enables_over world lane site (Some dispatch) answer → IsFresh stack_interest world
     → Has (λ (s : Stacks). HoldsIfThere (λ f. AreWhole (plain f)) s.layer.inner) world dispatch
-    → (f : Filtered) (c : Callsite) → seen in_place None world dispatch ≡ Some f → slice_get world.sites site ≡ Some c → answer ≡ is_admitted f lane c
+    → (f : FilterState) (c : Callsite) → member_of in_place None world dispatch ≡ Some f → slice_get world.sites site ≡ Some c → answer ≡ is_admitted f lane c
 admits_by_rule world dispatch lane site answer admits fresh whole f c in_force at =
     let read = read_of in_place (slice_get world.subscribers dispatch) f in_force in
     let o = read.from.layer.inner in

@@ -3,7 +3,7 @@ use Rattle.std.proofs.Common.{◌≡◌, ℕ, List, [], ◌∷◌, length, Bool,
 use Rattle.std.specs.Prelude.{◌==◌}
 use Rattle.std.specs.Option.{option_map}
 use Rattle.std.proofs.lemmas.Bool.{cases_Bool, cases_eq, cond-true, cond-false}
-use Rattle.otel_base.specs.Recorder.{Recorded}
+use Rattle.otel_base.specs.Recorder.{RecorderValue}
 use Rattle.otel_base.specs.Recorder.{Records as RecordsBy}
 use Rattle.trace_base.specs.declared.callsite.Callsite.{Callsite}
 use Rattle.trace_base.specs.declared.field.ValueSet.{ValueSet}
@@ -11,68 +11,68 @@ use Rattle.trace_base.specs.declared.lane.Lane.{Lane}
 use Rattle.trace_base.specs.Gate.{Worlds}
 use Rattle.trace_base.specs.layers.Hooks.{Hook, OnEvent}
 use Rattle.trace_base.specs.Spans.{Spans, next_of, span_at, entries_on, place_on}
-use Rattle.trace_base.specs.Calls.{SubscriberCall, NewSpan, Records, Follows, Event, Enter, Exit, CloneSpan, TryClose, after}
+use Rattle.trace_base.specs.Calls.{SubscriberCall, NewSpan, Records, Follows, Event, Enter, Exit, CloneSpan, TryClose, spans_after_call}
 use Rattle.trace_base.specs.Conditions.{Allowed}
 use Rattle.span_registry.specs.declared.layered.Layered.{Layered}
 use Rattle.span_registry.specs.Both.{DoesBoth, InStep}
 use Rattle.span_registry.specs.Layering.{both_allowed, both_shows}
-use Rattle.span_registry.specs.Registering.{Registered, DoesRegistry}
-use Rattle.span_handles.specs.Worlds.{Replaced, seen, Chain, ended, closes, no_spans}
+use Rattle.span_registry.specs.Registering.{RegistryValue, DoesRegistry}
+use Rattle.span_handles.specs.Worlds.{Replaced, member_of, Chain, ended, closes, no_spans}
 use Rattle.otel_state.specs.declared.op.Op.TheVariants as ops
 use Rattle.otel_state.specs.fields.EventFields.{event_of}
-use Rattle.otel_state.specs.States.{Told, changed}
-use Rattle.otel_layer.specs.Core.{Core, Roomed, seen_in}
-use Rattle.otel_layer.specs.Counting.{counted, IsNoEvent, hook_any}
+use Rattle.otel_state.specs.States.{SpanData, after_op}
+use Rattle.otel_layer.specs.Core.{Core, CoreWithRoom, seen_in}
+use Rattle.otel_layer.specs.Counting.{after_counted, IsNoEvent, hook_any}
 use Rattle.otel_layer.specs.Parts.{PartCall, Applies, Shows, Touches}
 use Rattle.otel_layer.specs.Steps.{SameCore, DoesHook, Step, all_events}
-use Rattle.otel_layer.specs.Table.{told_at, update}
+use Rattle.otel_layer.specs.Table.{data_at, update}
 use Rattle.otel_layer.specs.Recording.{Recording, recording_of, no_recording, RecordsCall, RecordsChain, RecordsPart}
 use Rattle.otel_layer.proofs.Finding.{told_at_next}
 use Rattle.otel_layer.proofs.Recalling.{room_recording, start_recording}
 use Rattle.otel_layer.proofs.Replaying.{layered_recording, chain_recording}
-use Rattle.env_filter.specs.Filtering.{Filtered, Filtering, plain, enables_in}
+use Rattle.env_filter.specs.Filtering.{FilterState, FilterWithRoom, plain, enables_in}
 use Rattle.span_stack.specs.declared.telemetry.Telemetry.{Telemetry}
-use Rattle.span_stack.specs.Counters.{roomed_of, core_of, counter_of, events_by}
+use Rattle.span_stack.specs.Counters.{core_with_room_of, core_of, counter_of, events_by}
 use Rattle.span_stack.specs.Counting.{with_counted, with_event_by, RecordsCallBy}
 
 -- ---- events
 
-update_twice : (id : ℕ) (f g : Told → Told) (spans : List (ℕ × Told)) → update id (λ t. f (g t)) spans ≡ update id f (update id g spans)
+update_twice : (id : ℕ) (f g : SpanData → SpanData) (spans : List (ℕ × SpanData)) → update id (λ t. f (g t)) spans ≡ update id f (update id g spans)
 update_twice id f g [] = refl
 update_twice id f g (e ∷ es) =
-    let rest : List (ℕ × Told) = (e.0, g e.1) ∷ es in
+    let rest : List (ℕ × SpanData) = (e.0, g e.1) ∷ es in
     elim (cases_Bool (e.0 == id)) [
-      | inl here ↦ cond-true {A = List (ℕ × Told)} (e.0 == id) ((e.0, f (g e.1)) ∷ es) (e ∷ update id (λ t. f (g t)) es) here
-          ∙ sym (cond-true {A = List (ℕ × Told)} (e.0 == id) ((e.0, f (g e.1)) ∷ es) ((e.0, g e.1) ∷ update id f es) here)
-          ∙ ap (λ (xs : List (ℕ × Told)). update id f xs) (sym (cond-true {A = List (ℕ × Told)} (e.0 == id) rest (e ∷ update id g es) here))
-      | inr apart ↦ cond-false {A = List (ℕ × Told)} (e.0 == id) ((e.0, f (g e.1)) ∷ es) (e ∷ update id (λ t. f (g t)) es) apart
-          ∙ ap (λ (xs : List (ℕ × Told)). e ∷ xs) (update_twice id f g es)
-          ∙ sym (cond-false {A = List (ℕ × Told)} (e.0 == id) ((e.0, f e.1) ∷ update id g es) (e ∷ update id f (update id g es)) apart)
-          ∙ ap (λ (xs : List (ℕ × Told)). update id f xs) (sym (cond-false {A = List (ℕ × Told)} (e.0 == id) rest (e ∷ update id g es) apart))
+      | inl here ↦ cond-true {A = List (ℕ × SpanData)} (e.0 == id) ((e.0, f (g e.1)) ∷ es) (e ∷ update id (λ t. f (g t)) es) here
+          ∙ sym (cond-true {A = List (ℕ × SpanData)} (e.0 == id) ((e.0, f (g e.1)) ∷ es) ((e.0, g e.1) ∷ update id f es) here)
+          ∙ ap (λ (xs : List (ℕ × SpanData)). update id f xs) (sym (cond-true {A = List (ℕ × SpanData)} (e.0 == id) rest (e ∷ update id g es) here))
+      | inr apart ↦ cond-false {A = List (ℕ × SpanData)} (e.0 == id) ((e.0, f (g e.1)) ∷ es) (e ∷ update id (λ t. f (g t)) es) apart
+          ∙ ap (λ (xs : List (ℕ × SpanData)). e ∷ xs) (update_twice id f g es)
+          ∙ sym (cond-false {A = List (ℕ × SpanData)} (e.0 == id) ((e.0, f e.1) ∷ update id g es) (e ∷ update id f (update id g es)) apart)
+          ∙ ap (λ (xs : List (ℕ × SpanData)). update id f xs) (sym (cond-false {A = List (ℕ × SpanData)} (e.0 == id) rest (e ∷ update id g es) apart))
     ]
 
 counts_one : (taken : Bool) (id at : ℕ) (callsite : Callsite) (values : ValueSet) (r : Recording)
-    → record r { spans = update id (counted taken at (event_of callsite values r.settings at)) r.spans } ≡ with_counted taken id at callsite values r
+    → record r { spans = update id (after_counted taken at (event_of callsite values r.settings at)) r.spans } ≡ with_counted taken id at callsite values r
 counts_one true id at callsite values r =
     let op = event_of callsite values r.settings at in
-    ap (λ (xs : List (ℕ × Told)). record r { spans = xs }) (update_twice id (λ t. changed t at op) (λ t. changed t at ops.Counted) r.spans)
+    ap (λ (xs : List (ℕ × SpanData)). record r { spans = xs }) (update_twice id (λ t. after_op t at op) (λ t. after_op t at ops.Counted) r.spans)
 counts_one false id at callsite values r = refl
 
 -- the filter that counts, without its room
-abbrev pub plain_counter : Option Filtering → Option Filtered
+abbrev pub plain_counter : Option FilterWithRoom → Option FilterState
 plain_counter o = option_map plain o
 
-abbrev enables : Filtering → ℕ → Callsite → Bool
+abbrev enables : FilterWithRoom → ℕ → Callsite → Bool
 enables f = enables_in (plain f)
 
-event_step : (o : Option Filtering) (c : Core Recorded) (reached : Option ℕ) (lane : Lane) (at : ℕ) (callsite : Callsite) (values : ValueSet) (d : Core Recorded)
+event_step : (o : Option FilterWithRoom) (c : Core RecorderValue) (reached : Option ℕ) (lane : Lane) (at : ℕ) (callsite : Callsite) (values : ValueSet) (d : Core RecorderValue)
     → Step RecordsBy (events_by enables o) c (OnEvent reached lane at callsite values) d → recording_of d ≡ with_event_by (plain_counter o) reached lane.id at callsite values (recording_of c)
 event_step None c None lane at callsite values d h = ap recording_of h
 event_step None c (Some id) lane at callsite values d h = ap recording_of h
 event_step (Some f) c None lane at callsite values d h = ap recording_of h
 event_step (Some f) c (Some id) lane at callsite values d h = ap recording_of h ∙ counts_one (enables f lane.id callsite) id at callsite values (recording_of c)
 
-event_hook : (o : Option Filtering) (c : Core Recorded) (reached : Option ℕ) (lane : Lane) (at : ℕ) (callsite : Callsite) (values : ValueSet) (d : Core Recorded)
+event_hook : (o : Option FilterWithRoom) (c : Core RecorderValue) (reached : Option ℕ) (lane : Lane) (at : ℕ) (callsite : Callsite) (values : ValueSet) (d : Core RecorderValue)
     → DoesHook RecordsBy (events_by enables o) c (OnEvent reached lane at callsite values) d → recording_of d ≡ with_event_by (plain_counter o) reached lane.id at callsite values (recording_of c)
 event_hook o c reached lane at callsite values d h =
     event_step o h.prepared reached lane at callsite values d h.step ∙ ap (with_event_by (plain_counter o) reached lane.id at callsite values) (room_recording c h.prepared h.room)
@@ -80,34 +80,34 @@ event_hook o c reached lane at callsite values d h =
 -- ---- the layer over the registry
 
 abbrev pub Base : Type 0
-Base = Layered (Telemetry Recorded Filtering) Registered
+Base = Layered (Telemetry RecorderValue FilterWithRoom) RegistryValue
 
-abbrev hooks_of : Telemetry Recorded Filtering → Hook → Telemetry Recorded Filtering → Type 0
+abbrev hooks_of : Telemetry RecorderValue FilterWithRoom → Hook → Telemetry RecorderValue FilterWithRoom → Type 0
 hooks_of l hook m = DoesHook RecordsBy (events_by enables (counter_of l)) (core_of l) hook (core_of m) × (counter_of m ≡ counter_of l)
 
-abbrev room_of : Telemetry Recorded Filtering → Telemetry Recorded Filtering → Type 0
+abbrev room_of : Telemetry RecorderValue FilterWithRoom → Telemetry RecorderValue FilterWithRoom → Type 0
 room_of l m = SameCore RecordsBy (core_of l) (core_of m) × (counter_of m ≡ counter_of l)
 
-abbrev active : Telemetry Recorded Filtering → Bool
+abbrev active : Telemetry RecorderValue FilterWithRoom → Bool
 active l = (core_of l).settings.activation
 
-abbrev spans_of : Registered → Spans
+abbrev spans_of : RegistryValue → Spans
 spans_of s = s.spans
 
-abbrev Does : Registered → Telemetry Recorded Filtering → SubscriberCall → Registered → Telemetry Recorded Filtering → Type 0
+abbrev Does : RegistryValue → Telemetry RecorderValue FilterWithRoom → SubscriberCall → RegistryValue → Telemetry RecorderValue FilterWithRoom → Type 0
 Does s l call t m = DoesBoth spans_of DoesRegistry hooks_of room_of active s l call t m
 
 -- the same as of a layer that counts none
-abbrev plain_hooks : Roomed Recorded → Hook → Roomed Recorded → Type 0
+abbrev plain_hooks : CoreWithRoom RecorderValue → Hook → CoreWithRoom RecorderValue → Type 0
 plain_hooks l hook m = DoesHook RecordsBy all_events l.core hook m.core
 
-abbrev plain_room : Roomed Recorded → Roomed Recorded → Type 0
+abbrev plain_room : CoreWithRoom RecorderValue → CoreWithRoom RecorderValue → Type 0
 plain_room l m = SameCore RecordsBy l.core m.core
 
-abbrev plain_active : Roomed Recorded → Bool
+abbrev plain_active : CoreWithRoom RecorderValue → Bool
 plain_active l = l.core.settings.activation
 
-abbrev PlainDoes : Registered → Roomed Recorded → SubscriberCall → Registered → Roomed Recorded → Type 0
+abbrev PlainDoes : RegistryValue → CoreWithRoom RecorderValue → SubscriberCall → RegistryValue → CoreWithRoom RecorderValue → Type 0
 PlainDoes s l call t m = DoesBoth spans_of DoesRegistry plain_hooks plain_room plain_active s l call t m
 
 abbrev IsQuiet : SubscriberCall → Type 0
@@ -120,10 +120,10 @@ IsQuiet (Exit id at before later) = Unit {0}
 IsQuiet (CloneSpan id) = Unit {0}
 IsQuiet (TryClose id at) = Unit {0}
 
-as_plain : (l : Telemetry Recorded Filtering) (hook : Hook) (m : Telemetry Recorded Filtering) → IsNoEvent hook → hooks_of l hook m → plain_hooks (roomed_of l) hook (roomed_of m)
+as_plain : (l : Telemetry RecorderValue FilterWithRoom) (hook : Hook) (m : Telemetry RecorderValue FilterWithRoom) → IsNoEvent hook → hooks_of l hook m → plain_hooks (core_with_room_of l) hook (core_with_room_of m)
 as_plain l hook m quiet h = hook_any RecordsBy (events_by enables (counter_of l)) all_events (core_of l) hook (core_of m) quiet h.0
 
-does_plain : (s : Registered) (l : Telemetry Recorded Filtering) (call : SubscriberCall) (t : Registered) (m : Telemetry Recorded Filtering) → IsQuiet call → Does s l call t m → PlainDoes s (roomed_of l) call t (roomed_of m)
+does_plain : (s : RegistryValue) (l : Telemetry RecorderValue FilterWithRoom) (call : SubscriberCall) (t : RegistryValue) (m : Telemetry RecorderValue FilterWithRoom) → IsQuiet call → Does s l call t m → PlainDoes s (core_with_room_of l) call t (core_with_room_of m)
 does_plain s l (Event lane at place site callsite values) t m quiet d = absurd quiet
 does_plain s l (NewSpan lane at place site callsite values) t m quiet d = (d.0, as_plain l _ m tt d.1)
 does_plain s l (Records id at callsite values) t m quiet d = (d.0, as_plain l _ m tt d.1)
@@ -142,11 +142,11 @@ BaseDoes s call t = Does s.inner s.layer call t.inner t.layer
 abbrev pub base_recorded : Base → Recording
 base_recorded s = recording_of (core_of s.layer)
 
-abbrev pub base_counter : Base → Option Filtered
+abbrev pub base_counter : Base → Option FilterState
 base_counter s = plain_counter (counter_of s.layer)
 
-abbrev as_layered : Base → Layered (Roomed Recorded) Registered
-as_layered s = record { layer = roomed_of s.layer; inner = s.inner }
+abbrev as_layered : Base → Layered (CoreWithRoom RecorderValue) RegistryValue
+as_layered s = record { layer = core_with_room_of s.layer; inner = s.inner }
 
 quiet_records : (s : Base) (call : SubscriberCall) (t : Base) → IsQuiet call → BaseDoes s call t → RecordsCall (base_spans s) (base_recorded s) call (base_recorded t)
 quiet_records s call t quiet d = layered_recording (as_layered s) call (as_layered t) (does_plain s.inner s.layer call t.inner t.layer quiet d)
@@ -174,7 +174,7 @@ base_counts s (CloneSpan id) t d = d.1.1
 base_counts s (TryClose id at) t d = elim (cases_eq (span_at s.inner.spans.made id).holds 1) [ inl one ↦ (d.closed one).1 | inr more ↦ (d.open_still more).1 ]
 
 pub counter_kept : (s : Base) (call : SubscriberCall) (t : Base) → BaseDoes s call t → base_counter t ≡ base_counter s
-counter_kept s call t d = ap (λ (o : Option Filtering). plain_counter o) (base_counts s call t d)
+counter_kept s call t d = ap (λ (o : Option FilterWithRoom). plain_counter o) (base_counts s call t d)
 
 -- ---- chains
 
@@ -184,7 +184,7 @@ Quietly s call t = BaseDoes s call t × IsQuiet call
 base_allowed : (s : Base) (call : SubscriberCall) (t : Base) → Quietly s call t → Allowed (base_spans s) call
 base_allowed s call t d = both_allowed spans_of DoesRegistry hooks_of room_of active s.inner t.inner s.layer t.layer call (λ c h. h.allowed) d.0
 
-base_shows : (s : Base) (call : SubscriberCall) (t : Base) → Quietly s call t → base_spans t ≡ after (base_spans s) call
+base_shows : (s : Base) (call : SubscriberCall) (t : Base) → Quietly s call t → base_spans t ≡ spans_after_call (base_spans s) call
 base_shows s call t d = both_shows spans_of DoesRegistry hooks_of room_of active s.inner t.inner s.layer t.layer call (λ c h. h.shows) d.0
 
 quiet_chain : (at : ℕ) (next : Option ℕ) (s t : Base) → Chain base_spans BaseDoes at next s t → Chain base_spans Quietly at next s t
@@ -192,7 +192,7 @@ quiet_chain at _ _ _ (ended s) = ended s
 quiet_chain at _ _ _ (closes id s m t did rest) = closes id s m t (did, tt) (quiet_chain at (next_of (base_spans s).made id) m t rest)
 
 pub base_chain : (at : ℕ) (old new : Worlds Base) (dispatch id : ℕ) → Replaced (λ s t. Chain base_spans BaseDoes at (Some id) s t) old new dispatch
-    → RecordsChain at (Some id) (seen base_spans no_spans old dispatch) (seen base_spans no_spans new dispatch) (seen base_recorded no_recording old dispatch) (seen base_recorded no_recording new dispatch)
+    → RecordsChain at (Some id) (member_of base_spans no_spans old dispatch) (member_of base_spans no_spans new dispatch) (member_of base_recorded no_recording old dispatch) (member_of base_recorded no_recording new dispatch)
 base_chain at old new dispatch id r =
     chain_recording base_spans Quietly base_recorded (λ s call t d. quiet_records s call t d.1 d.0) base_allowed base_shows at old new dispatch id
     (record { before = r.before; later = r.later; there = r.there; did = quiet_chain at (Some id) r.before r.later r.did; others = r.others })
@@ -206,11 +206,11 @@ pub base_same : (s t : Base) → base_room s t → base_recorded t ≡ base_reco
 base_same s t h = room_recording (core_of s.layer) (core_of t.layer) h.1.0
 
 pub counter_same : (s t : Base) → base_room s t → base_counter t ≡ base_counter s
-counter_same s t h = ap (λ (o : Option Filtering). plain_counter o) h.1.1
+counter_same s t h = ap (λ (o : Option FilterWithRoom). plain_counter o) h.1.1
 
-pub base_next : (s : Base) → InStep s.inner.spans (seen_in (core_of s.layer)) → told_at (length (base_spans s).made) (base_recorded s).spans ≡ None
+pub base_next : (s : Base) → InStep s.inner.spans (seen_in (core_of s.layer)) → data_at (length (base_spans s).made) (base_recorded s).spans ≡ None
 base_next s step = told_at_next (length s.inner.spans.made) (core_of s.layer).spans (step.made (length s.inner.spans.made))
 
-pub base_part : (c : Core Recorded) (call : PartCall) (d : Core Recorded) → Touches RecordsBy c call d → RecordsPart (recording_of c) call (recording_of d)
+pub base_part : (c : Core RecorderValue) (call : PartCall) (d : Core RecorderValue) → Touches RecordsBy c call d → RecordsPart (recording_of c) call (recording_of d)
 base_part c (Applies id at op answer) d h = (h.1, ap recording_of h.2)
 base_part c (Shows id at answer) d h = (start_recording id at c d h.0, h.1)

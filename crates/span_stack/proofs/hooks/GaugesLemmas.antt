@@ -11,17 +11,17 @@ use Rattle.trace_base.specs.layers.Unseeing.{LeavesLanes}
 use Rattle.span_registry.specs.declared.layered.Layered.{Layered}
 use Rattle.span_registry.specs.Both.{DoesBoth}
 use Rattle.span_registry.specs.Hearing.{HearsCall}
-use Rattle.span_handles.specs.Worlds.{Replaced, Chain, ended, closes, seen}
+use Rattle.span_handles.specs.Worlds.{Replaced, Chain, ended, closes, member_of}
 use Rattle.span_handles.proofs.Showing.{seen_before, seen_later}
 use Rattle.otel_metrics.specs.declared.measure.Measure.{Measure}
-use Rattle.otel_metrics.specs.Waiting.{Tells, told_by}
+use Rattle.otel_metrics.specs.Waiting.{AddsMeasuresOf, measures_of_hook}
 use Rattle.env_filter.proofs.kept.StackedLemmas.{Steps, over_hears}
 use Rattle.span_stack.specs.declared.measuring.Measuring.{Measuring}
-use Rattle.span_stack.specs.Measured.{waiting, measured_by}
+use Rattle.span_stack.specs.Measured.{waiting_measures, measured_by}
 use Rattle.span_stack.proofs.worlds.ViewsLemmas.{kept_place}
 
 abbrev pub measures_at : Measuring → Hook → Measuring → Type 0
-measures_at l hook m = Tells l.layer hook m.layer × LeavesLanes hook
+measures_at l hook m = AddsMeasuresOf l.layer hook m.layer × LeavesLanes hook
 
 abbrev pub unchanged : Measuring → Measuring → Type 0
 unchanged l m = m.layer.measures ≡ l.layer.measures
@@ -33,7 +33,7 @@ abbrev kept : Measuring → List Measure
 kept l = l.layer.measures
 
 abbrev behind : List Measure → Hook → List Measure
-behind ms hook = ms ++ told_by hook
+behind ms hook = ms ++ measures_of_hook hook
 
 from_heard : (spans : Spans) (call : SubscriberCall) (a b : List Measure) → HearsCall (Steps behind) spans a call b → b ≡ a ++ measured_by call
 from_heard spans (NewSpan lane at place site callsite values) a b h = h
@@ -52,24 +52,24 @@ abbrev does_over : {S : Type 0} → (S → Spans) → (S → SubscriberCall → 
 does_over spans inner = λ p call q. DoesBoth spans inner measures_at unchanged attaches_no p.inner p.layer call q.inner q.layer
 
 pub one_call : {S : Type 0} (spans : S → Spans) (inner : S → SubscriberCall → S → Type 0) (attaches : S → Bool) (held : S → ℕ → ℕ → ℕ) → ((s : S) (c : SubscriberCall) (t : S) → inner s c t → Lanes (attaches s) (held s) c (held t))
-    → (old new : Worlds (Whole S)) (dispatch : ℕ) (call : SubscriberCall) → Replaced (λ p q. does_over spans inner p call q) old new dispatch → seen waiting [] new dispatch ≡ seen waiting [] old dispatch ++ measured_by call
+    → (old new : Worlds (Whole S)) (dispatch : ℕ) (call : SubscriberCall) → Replaced (λ p q. does_over spans inner p call q) old new dispatch → member_of waiting_measures [] new dispatch ≡ member_of waiting_measures [] old dispatch ++ measured_by call
 one_call {S} spans inner attaches held lanes old new dispatch call r =
     let R : Whole S → Whole S → Type 0 = λ p q. does_over spans inner p call q in
     let p = r.before in
     let q = r.later in
     let h = over_hears spans inner measures_at unchanged attaches_no behind kept (λ l hook m d. d.0) (λ l m e. e) p.inner q.inner p.layer q.layer call (attaches p.inner) (held p.inner) (held q.inner) (λ c. lanes p.inner c q.inner) r.did in
-    seen_later R old new dispatch r waiting [] ∙ from_heard (spans p.inner) call (kept p.layer) (kept q.layer) h ∙ ap (λ (ms : List Measure). ms ++ measured_by call) (sym (seen_before R old new dispatch r waiting []))
+    seen_later R old new dispatch r waiting_measures [] ∙ from_heard (spans p.inner) call (kept p.layer) (kept q.layer) h ∙ ap (λ (ms : List Measure). ms ++ measured_by call) (sym (seen_before R old new dispatch r waiting_measures []))
 
-pub one_room : {S : Type 0} (same : S → S → Type 0) (old new : Worlds (Whole S)) (dispatch : ℕ) → Replaced (λ p q. same p.inner q.inner × unchanged p.layer q.layer) old new dispatch → seen waiting [] new dispatch ≡ seen waiting [] old dispatch
-one_room same old new dispatch r = kept_place waiting [] (λ p q h. h.1) old new dispatch r
+pub one_room : {S : Type 0} (same : S → S → Type 0) (old new : Worlds (Whole S)) (dispatch : ℕ) → Replaced (λ p q. same p.inner q.inner × unchanged p.layer q.layer) old new dispatch → member_of waiting_measures [] new dispatch ≡ member_of waiting_measures [] old dispatch
+one_room same old new dispatch r = kept_place waiting_measures [] (λ p q h. h.1) old new dispatch r
 
-closing_keeps : {S : Type 0} (spans : S → Spans) (inner : S → SubscriberCall → S → Type 0) (p : Whole S) (id at : ℕ) (q : Whole S) → does_over spans inner p (TryClose id at) q → waiting q ≡ waiting p
-closing_keeps spans inner p id at q d = elim (cases_eq (span_at (spans p.inner).made id).holds 1) [ inl last ↦ (d.closed last).0 ∙ append-nil (waiting p) | inr several ↦ d.open_still several ]
+closing_keeps : {S : Type 0} (spans : S → Spans) (inner : S → SubscriberCall → S → Type 0) (p : Whole S) (id at : ℕ) (q : Whole S) → does_over spans inner p (TryClose id at) q → waiting_measures q ≡ waiting_measures p
+closing_keeps spans inner p id at q d = elim (cases_eq (span_at (spans p.inner).made id).holds 1) [ inl last ↦ (d.closed last).0 ∙ append-nil (waiting_measures p) | inr several ↦ d.open_still several ]
 
-chain_keeps : {S : Type 0} (spans : S → Spans) (inner : S → SubscriberCall → S → Type 0) (at : ℕ) (next : Option ℕ) (p q : Whole S) → Chain (λ (s : Whole S). spans s.inner) (does_over spans inner) at next p q → waiting q ≡ waiting p
+chain_keeps : {S : Type 0} (spans : S → Spans) (inner : S → SubscriberCall → S → Type 0) (at : ℕ) (next : Option ℕ) (p q : Whole S) → Chain (λ (s : Whole S). spans s.inner) (does_over spans inner) at next p q → waiting_measures q ≡ waiting_measures p
 chain_keeps spans inner at _ _ _ (ended p) = refl
 chain_keeps spans inner at _ _ _ (closes id p m q did rest) = chain_keeps spans inner at (next_of (spans p.inner).made id) m q rest ∙ closing_keeps spans inner p id at m did
 
 pub one_chain : {S : Type 0} (spans : S → Spans) (inner : S → SubscriberCall → S → Type 0) (at : ℕ) (old new : Worlds (Whole S)) (dispatch id : ℕ) → Replaced (λ p q. Chain (λ (s : Whole S). spans s.inner) (does_over spans inner) at (Some id) p q) old new dispatch
-    → seen waiting [] new dispatch ≡ seen waiting [] old dispatch
-one_chain spans inner at old new dispatch id r = kept_place waiting [] (λ p q d. chain_keeps spans inner at (Some id) p q d) old new dispatch r
+    → member_of waiting_measures [] new dispatch ≡ member_of waiting_measures [] old dispatch
+one_chain spans inner at old new dispatch id r = kept_place waiting_measures [] (λ p q d. chain_keeps spans inner at (Some id) p q d) old new dispatch r

@@ -5,7 +5,7 @@ use Rattle.std.specs.Option.{option_map}
 use Rattle.std.proofs.lemmas.Bool.{cases_eq, eq-eqb, ne_eqb}
 use Rattle.trace_base.specs.Gate.{Worlds}
 use Rattle.trace_base.specs.Spans.{Spans, span_at}
-use Rattle.trace_base.specs.Calls.{SubscriberCall, NewSpan, Records, Follows, Event, Enter, Exit, CloneSpan, TryClose, after as spans_after}
+use Rattle.trace_base.specs.Calls.{SubscriberCall, NewSpan, Records, Follows, Event, Enter, Exit, CloneSpan, TryClose, spans_after_call}
 use Rattle.trace_base.specs.Conditions.{Allowed}
 use Rattle.trace_base.specs.lanes.Contexts.{Lanes}
 use Rattle.trace_base.specs.layers.Hooks.{Hook}
@@ -14,58 +14,58 @@ use Rattle.span_registry.specs.declared.layered.Layered.{Layered}
 use Rattle.span_registry.specs.Both.{DoesBoth}
 use Rattle.span_registry.specs.Layering.{both_allowed, both_shows}
 use Rattle.span_registry.specs.Hearing.{HearsCall}
-use Rattle.span_handles.specs.Worlds.{Replaced, Chain, seen, no_spans, closed_in}
+use Rattle.span_handles.specs.Worlds.{Replaced, Chain, member_of, no_spans, closed_in}
 use Rattle.span_handles.proofs.Showing.{seen_before, seen_later}
 use Rattle.span_handles.proofs.Telling.{told_world}
 use Rattle.env_filter.specs.declared.reload.Layer.{Layer}
-use Rattle.env_filter.specs.Filtering.{Filtered, Filtering, plain, span_level, DoesFilter}
+use Rattle.env_filter.specs.Filtering.{FilterState, FilterWithRoom, plain, span_level, DoesFilter}
 use Rattle.env_filter.specs.spans.Keyed.{put}
-use Rattle.env_filter.specs.spans.Kept.{opened, closed}
-use Rattle.env_filter.specs.Reloading.{Both, if_there}
+use Rattle.env_filter.specs.spans.Kept.{with_open_level, without_open_level}
+use Rattle.env_filter.specs.Reloading.{Both, layer_or}
 use Rattle.env_filter.proofs.kept.StackedLemmas.{Steps, over_hears, step_in_place, does_in_place, same_in_place}
 use Rattle.span_stack.specs.Filtered.{without_span, filter_after, FiltersChain}
 use Rattle.span_stack.specs.Reading.{in_place}
 
 -- a filter that can be exchanged, as a layer
-abbrev pub hooks_on : Layer Filtering → Hook → Layer Filtering → Type 0
+abbrev pub hooks_on : Layer FilterWithRoom → Hook → Layer FilterWithRoom → Type 0
 hooks_on l hook m = Both (λ a b. DoesFilter a hook b) (LeavesLanes hook) l.inner m.inner
 
-abbrev pub alike : Layer Filtering → Layer Filtering → Type 0
-alike l m = Both (λ (a b : Filtering). plain b ≡ plain a) (Unit {0}) l.inner m.inner
+abbrev pub alike : Layer FilterWithRoom → Layer FilterWithRoom → Type 0
+alike l m = Both (λ (a b : FilterWithRoom). plain b ≡ plain a) (Unit {0}) l.inner m.inner
 
-abbrev pub attaching : Layer Filtering → Bool
-attaching l = if_there false (λ _. false) l.inner
+abbrev pub attaching : Layer FilterWithRoom → Bool
+attaching l = layer_or false (λ _. false) l.inner
 
-abbrev there : Layer Filtering → Option Filtered
+abbrev there : Layer FilterWithRoom → Option FilterState
 there l = option_map plain l.inner
 
 map_itself : {A : Type 0} (o : Option A) → o ≡ option_map (λ a. a) o
 map_itself None = refl
 map_itself (Some a) = refl
 
-from_heard : (spans : Spans) (call : SubscriberCall) (a b : Option Filtered) → HearsCall (Steps step_in_place) spans a call b → b ≡ option_map (filter_after spans call) a
+from_heard : (spans : Spans) (call : SubscriberCall) (a b : Option FilterState) → HearsCall (Steps step_in_place) spans a call b → b ≡ option_map (filter_after spans call) a
 from_heard spans (NewSpan lane at place site callsite values) a b h = h
 from_heard spans (Records id at callsite values) a b h = h
 from_heard spans (Follows id from at) a b h = h
 from_heard spans (Event lane at place site callsite values) a b h = h
 from_heard spans (Enter id at before later) a b h =
-    h.heard ∙ ap (λ (lane : ℕ). option_map (λ (f : Filtered). record f { lanes = put f.lanes lane (opened (span_level f id) id (f.lanes lane)) }) a) h.id
+    h.heard ∙ ap (λ (lane : ℕ). option_map (λ (f : FilterState). record f { lanes = put f.lanes lane (with_open_level (span_level f id) id (f.lanes lane)) }) a) h.id
 from_heard spans (Exit id at before later) a b h =
-    h.heard ∙ ap (λ (lane : ℕ). option_map (λ (f : Filtered). record f { lanes = put f.lanes lane (closed (is_some (f.spans id)) id (f.lanes lane)) }) a) h.id
+    h.heard ∙ ap (λ (lane : ℕ). option_map (λ (f : FilterState). record f { lanes = put f.lanes lane (without_open_level (is_some (f.spans id)) id (f.lanes lane)) }) a) h.id
 from_heard spans (CloneSpan id) a b h = h ∙ map_itself a
 from_heard spans (TryClose id at) a b h =
     let holds = (span_at spans.made id).holds in
-    let upon : Bool → Option Filtered = λ last. option_map (λ (f : Filtered). if last then without_span f id else f) a in
+    let upon : Bool → Option FilterState = λ last. option_map (λ (f : FilterState). if last then without_span f id else f) a in
     elim (cases_eq holds 1) [
       | inl last ↦ h.closed last ∙ ap upon (sym (eq-eqb holds 1 last))
       | inr several ↦ h.open_still several ∙ map_itself a ∙ ap upon (sym (ne_eqb holds 1 several))
     ]
 
 module _ {S : Type 0} (spans : S → Spans) (inner : S → SubscriberCall → S → Type 0) (attaches : S → Bool) (kept : S → ℕ → ℕ → ℕ)
-    (allowed : (s : S) (c : SubscriberCall) (t : S) → inner s c t → Allowed (spans s) c) (shows : (s : S) (c : SubscriberCall) (t : S) → inner s c t → spans t ≡ spans_after (spans s) c)
+    (allowed : (s : S) (c : SubscriberCall) (t : S) → inner s c t → Allowed (spans s) c) (shows : (s : S) (c : SubscriberCall) (t : S) → inner s c t → spans t ≡ spans_after_call (spans s) c)
     (lanes : (s : S) (c : SubscriberCall) (t : S) → inner s c t → Lanes (attaches s) (kept s) c (kept t)) where
   abbrev Whole : Type 0
-  Whole = Layered (Layer Filtering) S
+  Whole = Layered (Layer FilterWithRoom) S
 
   abbrev does : Whole → SubscriberCall → Whole → Type 0
   does p call q = DoesBoth spans inner hooks_on alike attaching p.inner p.layer call q.inner q.layer
@@ -79,29 +79,29 @@ module _ {S : Type 0} (spans : S → Spans) (inner : S → SubscriberCall → S 
       p.inner q.inner p.layer q.layer call (attaches p.inner) (kept p.inner) (kept q.inner) (λ c. lanes p.inner c q.inner) d
 
   pub one_call : (old new : Worlds Whole) (dispatch : ℕ) (call : SubscriberCall) → Replaced (λ p q. does p call q) old new dispatch
-      → seen in_place None new dispatch ≡ option_map (filter_after (seen spans_of no_spans old dispatch) call) (seen in_place None old dispatch)
+      → member_of in_place None new dispatch ≡ option_map (filter_after (member_of spans_of no_spans old dispatch) call) (member_of in_place None old dispatch)
   one_call old new dispatch call r =
       let R : Whole → Whole → Type 0 = λ p q. does p call q in
       rw (seen_before R old new dispatch r spans_of no_spans, seen_before R old new dispatch r in_place None, seen_later R old new dispatch r in_place None)
       (from_heard (spans_of r.before) call (there r.before.layer) (there r.later.layer) (hears r.before call r.later r.did))
 
-  folded : (ids : List ℕ) (o : Option Filtered) → fold (λ (p : Option Filtered) (id : ℕ). option_map (λ (f : Filtered). without_span f id) p) o ids ≡ option_map (λ (f : Filtered). fold without_span f ids) o
+  folded : (ids : List ℕ) (o : Option FilterState) → fold (λ (p : Option FilterState) (id : ℕ). option_map (λ (f : FilterState). without_span f id) p) o ids ≡ option_map (λ (f : FilterState). fold without_span f ids) o
   folded [] o = map_itself o
   folded (id ∷ ids) None = folded ids None
   folded (id ∷ ids) (Some f) = folded ids (Some (without_span f id))
 
   pub one_chain : (at : ℕ) (old new : Worlds Whole) (dispatch id : ℕ) → Replaced (λ p q. Chain spans_of does at (Some id) p q) old new dispatch
-      → FiltersChain (Some id) (seen spans_of no_spans old dispatch) (seen spans_of no_spans new dispatch) (seen in_place None old dispatch) (seen in_place None new dispatch)
+      → FiltersChain (Some id) (member_of spans_of no_spans old dispatch) (member_of spans_of no_spans new dispatch) (member_of in_place None old dispatch) (member_of in_place None new dispatch)
   one_chain at old new dispatch id r =
       let told = told_world spans_of does
       (λ p c q d. both_allowed spans inner hooks_on alike attaching p.inner q.inner p.layer q.layer c (λ k. allowed p.inner k q.inner) d)
       (λ p c q d. both_shows spans inner hooks_on alike attaching p.inner q.inner p.layer q.layer c (λ k. shows p.inner k q.inner) d)
-      in_place None (λ (o : Option Filtered) (n : ℕ). option_map (λ (f : Filtered). without_span f n) o)
+      in_place None (λ (o : Option FilterState) (n : ℕ). option_map (λ (f : FilterState). without_span f n) o)
       (λ p n when q d. (let h = hears p (TryClose n when) q d in (h.closed, h.open_still))) at old new dispatch id r in
-      record { chain = told.chain; is = told.told ∙ folded (closed_in (Some id) (seen spans_of no_spans old dispatch) (seen spans_of no_spans new dispatch) told.chain) (seen in_place None old dispatch) }
+      record { chain = told.chain; is = told.told ∙ folded (closed_in (Some id) (member_of spans_of no_spans old dispatch) (member_of spans_of no_spans new dispatch) told.chain) (member_of in_place None old dispatch) }
 
-pub one_room : {S : Type 0} (same : S → S → Type 0) (old new : Worlds (Layered (Layer Filtering) S)) (dispatch : ℕ) → Replaced (λ p q. same p.inner q.inner × alike p.layer q.layer) old new dispatch
-    → seen in_place None new dispatch ≡ seen in_place None old dispatch
+pub one_room : {S : Type 0} (same : S → S → Type 0) (old new : Worlds (Layered (Layer FilterWithRoom) S)) (dispatch : ℕ) → Replaced (λ p q. same p.inner q.inner × alike p.layer q.layer) old new dispatch
+    → member_of in_place None new dispatch ≡ member_of in_place None old dispatch
 one_room {S} same old new dispatch r =
-    let R : Layered (Layer Filtering) S → Layered (Layer Filtering) S → Type 0 = λ p q. same p.inner q.inner × alike p.layer q.layer in
+    let R : Layered (Layer FilterWithRoom) S → Layered (Layer FilterWithRoom) S → Type 0 = λ p q. same p.inner q.inner × alike p.layer q.layer in
     seen_later R old new dispatch r in_place None ∙ same_in_place (Unit {0}) r.before.layer.inner r.later.layer.inner r.did.1 ∙ sym (seen_before R old new dispatch r in_place None)

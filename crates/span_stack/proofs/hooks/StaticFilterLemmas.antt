@@ -11,10 +11,10 @@ use Rattle.trace_base.specs.words.Level.{is_within, greatest_verbosity, verbosit
 use Rattle.env_directives.specs.declared.directive.StaticDirective.{StaticDirective}
 use Rattle.env_directives.specs.Cares.{cares, cares_for_span, is_span}
 use Rattle.env_directives.specs.orders.Choice.{admits, lets_through}
-use Rattle.env_filter.specs.Filtering.{Filtered, IsNew, Each, IsBelow, has_dynamics, is_open, enables_in}
+use Rattle.env_filter.specs.Filtering.{FilterState, IsNewFilter, Each, IsAtMostLevel, has_dynamics, levels_admit, enables_in}
 
 -- what they let through is within the greatest level
-admitted_within : (c : Callsite) (most : LevelFilter) (ds : List StaticDirective) → Each (λ (d : StaticDirective). IsBelow most d.level) ds → admits ds c ≡ true → is_within c.level most ≡ true
+admitted_within : (c : Callsite) (most : LevelFilter) (ds : List StaticDirective) → Each (λ (d : StaticDirective). IsAtMostLevel most d.level) ds → admits ds c ≡ true → is_within c.level most ≡ true
 admitted_within c most [] all is = absurd (true≢false (sym is))
 admitted_within c most (d ∷ ds) all is = elim (cases_Bool (cares d c)) [
   | inl cared ↦ (
@@ -36,13 +36,13 @@ by_statics true false false false is = refl
 by_statics false dynamic false true is = is refl
 by_statics false dynamic false false is = refl
 
-pub statics_decide : (f : Filtered) (lane : ℕ) (c : Callsite) → IsNew f → c.kind ≡ kind.Event → enables_in f lane c ≡ admits f.statics.directives c
+pub statics_decide : (f : FilterState) (lane : ℕ) (c : Callsite) → IsNewFilter f → c.kind ≡ kind.Event → enables_in f lane c ≡ admits f.statics.directives c
 statics_decide f lane c new event =
     let some = has_dynamics f in
     let dynamic = is_within c.level f.dynamics.greatest in
     let static = is_within c.level f.statics.greatest in
     let admitted = admits f.statics.directives c in
     let cared = list_any (λ d. cares_for_span d c) f.dynamics.directives in
-    ap (λ (k : Kind). (some && (dynamic && ((is_span k && cared) || is_open c.level (f.lanes lane)))) || (static && admitted)) event
-    ∙ ap (λ (g : Filtered). (some && (dynamic && (false || is_open c.level (g.lanes lane)))) || (static && admitted)) new.alone
+    ap (λ (k : Kind). (some && (dynamic && ((is_span k && cared) || levels_admit c.level (f.lanes lane)))) || (static && admitted)) event
+    ∙ ap (λ (g : FilterState). (some && (dynamic && (false || levels_admit c.level (g.lanes lane)))) || (static && admitted)) new.alone
     ∙ by_statics some dynamic static admitted (admitted_within c f.statics.greatest f.statics.directives new.whole.statics)

@@ -2,20 +2,20 @@
 use Rattle.std.proofs.Common.{◌≡◌, Option, refl, ap, ◌∙◌}
 use Rattle.std.specs.Prelude.{drop}
 use Rattle.std.specs.Option.{option_map}
-use Rattle.otel_base.specs.Recorder.{Recorded}
+use Rattle.otel_base.specs.Recorder.{RecorderValue}
 use Rattle.otel_layer.specs.Core.{IsWholeCore, seen_in, kept_in}
 use Rattle.otel_layer.specs.Recording.{Recording, recording_of}
-use Rattle.env_filter.specs.Filtering.{Filtering, plain}
+use Rattle.env_filter.specs.Filtering.{FilterWithRoom, plain}
 use Rattle.span_stack.specs.declared.telemetry.Telemetry.{Telemetry}
 use Rattle.span_stack.specs.declared.telemetry.Telemetry.TheVariants.{Plain, Counting}
 use Rattle.span_stack.specs.Counters.{core_of, counter_of, taken_from}
-use Rattle.span_stack.specs.Reading.{Stacks, recorded, counts_by, without_first}
+use Rattle.span_stack.specs.Reading.{Stacks, stack_recording, counts_by, without_first}
 
 abbrev pub one_less : Recording → Recording → Type 0
 one_less before later = later ≡ record before { finished = drop 1 before.finished }
 
 abbrev pub Layers : Type 0
-Layers = Telemetry Recorded Filtering
+Layers = Telemetry RecorderValue FilterWithRoom
 
 recorded_less : (l : Layers) → one_less (recording_of (core_of l)) (recording_of (core_of (taken_from l)))
 recorded_less (Plain layer) = refl
@@ -25,11 +25,11 @@ counter_left : (l : Layers) → counter_of (taken_from l) ≡ counter_of l
 counter_left (Plain layer) = refl
 counter_left (Counting layer) = refl
 
-pub taken_recorded : (s t : Stacks) → t ≡ without_first s → one_less (recorded s) (recorded t)
-taken_recorded s t e = ap recorded e ∙ recorded_less s.inner.inner.layer
+pub taken_recorded : (s t : Stacks) → t ≡ without_first s → one_less (stack_recording s) (stack_recording t)
+taken_recorded s t e = ap stack_recording e ∙ recorded_less s.inner.inner.layer
 
 pub taken_counts_by : (s t : Stacks) → t ≡ without_first s → counts_by t ≡ counts_by s
-taken_counts_by s t e = ap counts_by e ∙ ap (λ (o : Option Filtering). option_map plain o) (counter_left s.inner.inner.layer)
+taken_counts_by s t e = ap counts_by e ∙ ap (λ (o : Option FilterWithRoom). option_map plain o) (counter_left s.inner.inner.layer)
 
 pub active_left : (l : Layers) → (core_of (taken_from l)).settings.activation ≡ (core_of l).settings.activation
 active_left (Plain layer) = refl

@@ -4,16 +4,16 @@ use Rattle.trace_base.specs.declared.callsite.Callsite.{Callsite}
 use Rattle.trace_base.specs.declared.level.LevelFilter.{LevelFilter}
 use Rattle.trace_base.specs.declared.subscriber.Interest.{Interest}
 use Rattle.trace_base.specs.declared.subscriber.Interest.TheVariants as interests
-use Rattle.trace_base.specs.Gate.{AreSame, registered}
+use Rattle.trace_base.specs.Gate.{AreSame, interests_of_sites}
 use Rattle.trace_base.proofs.Caching.{registered_same}
-use Rattle.span_registry.specs.Both.{picked}
-use Rattle.env_filter.specs.Filtering.{Filtered, Filtering, plain, interest_in}
+use Rattle.span_registry.specs.Both.{joint_interest}
+use Rattle.env_filter.specs.Filtering.{FilterState, FilterWithRoom, plain, interest_in}
 use Rattle.env_filter.specs.Reloading.{sometimes, both_alike}
-use Rattle.span_stack.specs.Reading.{Stacks, StackWorlds, stack_interest, IsCurrent}
+use Rattle.span_stack.specs.Reading.{Stacks, StackWorlds, stack_interest, HasCurrentInterests}
 use Rattle.span_registry.specs.declared.layered.Layered.{Layered}
 use Rattle.otel_layer.specs.Recording.{Recording}
 use Rattle.span_stack.specs.declared.measuring.Measuring.{Measuring}
-use Rattle.span_stack.specs.Measured.{waiting}
+use Rattle.span_stack.specs.Measured.{waiting_measures}
 use Rattle.span_stack.proofs.hooks.CountersLemmas.{Base, base_room, base_recorded, base_counter, base_same, counter_same}
 use Rattle.span_stack.proofs.hooks.GaugesLemmas.{unchanged}
 use Rattle.span_stack.proofs.worlds.ExchangesLemmas.{room_over}
@@ -28,7 +28,7 @@ middle_room s t = base_room s.inner t.inner × unchanged s.layer t.layer
 abbrev pub middle_recorded : Middle → Recording
 middle_recorded s = base_recorded s.inner
 
-abbrev pub middle_counter : Middle → Option Filtered
+abbrev pub middle_counter : Middle → Option FilterState
 middle_counter s = base_counter s.inner
 
 pub middle_same : (s t : Middle) → middle_room s t → middle_recorded t ≡ middle_recorded s
@@ -37,16 +37,16 @@ middle_same s t h = base_same s.inner t.inner h.0
 pub middle_counts : (s t : Middle) → middle_room s t → middle_counter t ≡ middle_counter s
 middle_counts s t h = counter_same s.inner t.inner h.0
 
-pub middle_measures : (s t : Middle) → middle_room s t → waiting t ≡ waiting s
+pub middle_measures : (s t : Middle) → middle_room s t → waiting_measures t ≡ waiting_measures s
 middle_measures s t h = h.1
 
 interest_same : (s t : Stacks) → room_over middle_room s t → stack_interest t ≡ stack_interest s
 interest_same s t h =
-    let pick : (Callsite → Interest) → Callsite → Interest = λ f c. picked (f c) interests.Always in
-    ap pick (both_alike (λ (a b : Filtering). plain b ≡ plain a) (Unit {0}) sometimes (λ f. interest_in (plain f)) (λ l m e. ap interest_in e) s.layer.inner t.layer.inner h.1)
+    let pick : (Callsite → Interest) → Callsite → Interest = λ f c. joint_interest (f c) interests.Always in
+    ap pick (both_alike (λ (a b : FilterWithRoom). plain b ≡ plain a) (Unit {0}) sometimes (λ f. interest_in (plain f)) (λ l m e. ap interest_in e) s.layer.inner t.layer.inner h.1)
 
-pub current_left : (old new : StackWorlds) → AreSame (room_over middle_room) old.subscribers new.subscribers → new.cached ≡ old.cached → new.sites ≡ old.sites → IsCurrent old → IsCurrent new
+pub current_left : (old new : StackWorlds) → AreSame (room_over middle_room) old.subscribers new.subscribers → new.cached ≡ old.cached → new.sites ≡ old.sites → HasCurrentInterests old → HasCurrentInterests new
 current_left old new all cached sites is =
     let none : Stacks → Option LevelFilter = λ s. None in
     cached ∙ is ∙ sym (registered_same (room_over middle_room) stack_interest none (λ s t h. (interest_same s t h, refl)) old.subscribers new.subscribers old.sites all)
-    ∙ ap (λ (cs : List Callsite). registered stack_interest new.subscribers cs) (sym sites)
+    ∙ ap (λ (cs : List Callsite). interests_of_sites stack_interest new.subscribers cs) (sym sites)

@@ -6,16 +6,16 @@ use Rattle.std.proofs.lemmas.Bool.{cases_eq, true≢false}
 use Rattle.std.proofs.lemmas.Option.{slice_get_within, slice_get-get_or}
 use Rattle.trace_base.specs.Gate.{Worlds, AreSame}
 use Rattle.trace_base.specs.Spans.{Spans, entries_on, times_in}
-use Rattle.trace_base.specs.layers.Hooks.{Seen}
-use Rattle.trace_base.specs.layers.Unseeing.{unseeing}
+use Rattle.trace_base.specs.layers.Hooks.{KnownSpans}
+use Rattle.trace_base.specs.layers.Unseeing.{no_known_spans}
 use Rattle.span_registry.specs.declared.layered.Layered.{Layered}
 use Rattle.span_registry.specs.Both.{InStep, IsWholeBoth, KnowsNone}
-use Rattle.span_handles.specs.Worlds.{Replaced, Alike, seen, no_spans}
+use Rattle.span_handles.specs.Worlds.{Replaced, Alike, member_of, no_spans}
 use Rattle.span_handles.proofs.Showing.{now_there, as_many, seen_before}
 use Rattle.otel_layer.specs.Parts.{StaysStack}
 use Rattle.env_filter.specs.declared.reload.Layer.{Layer}
-use Rattle.env_filter.specs.Filtering.{Filtered, Filtering, plain, seen_in, AreWhole, IsNew}
-use Rattle.env_filter.specs.Reloading.{if_there, HoldsIfThere, Both, both_refl, Swaps, none_kept}
+use Rattle.env_filter.specs.Filtering.{FilterState, FilterWithRoom, plain, seen_in, AreWhole, IsNewFilter}
+use Rattle.env_filter.specs.Reloading.{layer_or, HoldsIfThere, Both, both_refl, Swaps, none_kept}
 use Rattle.env_filter.proofs.kept.StackedLemmas.{same_in_place}
 use Rattle.span_stack.specs.Reading.{in_place}
 use Rattle.span_stack.proofs.worlds.ViewsLemmas.{the_one, see}
@@ -66,16 +66,16 @@ alike_there spans kept attaches is_whole old new dispatch s t before later count
 
 -- ---- a filter that was just made over a subscriber that stays
 
-keeps_zero : (o : Option Filtering) → if_there none_kept (λ _ lane number. 0) o ≡ none_kept
+keeps_zero : (o : Option FilterWithRoom) → layer_or none_kept (λ _ lane number. 0) o ≡ none_kept
 keeps_zero None = refl
 keeps_zero (Some f) = refl
 
-attaches_zero : (o : Option Filtering) → if_there false (λ _. false) o ≡ false
+attaches_zero : (o : Option FilterWithRoom) → layer_or false (λ _. false) o ≡ false
 attaches_zero None = refl
 attaches_zero (Some f) = refl
 
 -- a layer that knows no span is in step with any subscriber that another was in step with
-step_anew : (spans : Spans) (before later : Seen) → KnowsNone later → InStep spans before → InStep spans later
+step_anew : (spans : Spans) (before later : KnownSpans) → KnowsNone later → InStep spans before → InStep spans later
 step_anew spans before later none step = record {
   made = λ id known. absurd (true≢false (sym known ∙ none.none id));
   entries = λ lane id. none.no_entries lane id ∙ ap (λ (b : Bool). if b then times_in id (entries_on lane spans.lanes) else 0) (sym (none.none id));
@@ -83,66 +83,66 @@ step_anew spans before later none step = record {
 }
 
 abbrev pub Over : Type 0 → Type 0
-Over S = Layered (Layer Filtering) S
+Over S = Layered (Layer FilterWithRoom) S
 
 abbrev pub spans_over : {S : Type 0} → (S → Spans) → Over S → Spans
 spans_over spans = λ p. spans p.inner
 
 abbrev pub kept_over : {S : Type 0} → (S → ℕ → ℕ → ℕ) → Over S → ℕ → ℕ → ℕ
-kept_over kept = λ p lane number. if_there none_kept (λ _ lane number. 0) p.layer.inner lane number + kept p.inner lane number
+kept_over kept = λ p lane number. layer_or none_kept (λ _ lane number. 0) p.layer.inner lane number + kept p.inner lane number
 
 abbrev pub attaches_over : {S : Type 0} → (S → Bool) → Over S → Bool
-attaches_over attaches = λ p. if_there false (λ _. false) p.layer.inner || attaches p.inner
+attaches_over attaches = λ p. layer_or false (λ _. false) p.layer.inner || attaches p.inner
 
-abbrev pub whole_over : {S : Type 0} → (S → Spans) → (S → Bool) → (S → Type 0) → Option Filtering → S → Type 0
+abbrev pub whole_over : {S : Type 0} → (S → Spans) → (S → Bool) → (S → Type 0) → Option FilterWithRoom → S → Type 0
 whole_over spans attaches is_whole o below =
-    IsWholeBoth (is_whole below) (HoldsIfThere (λ f. AreWhole (plain f)) o) (spans below) (if_there unseeing (λ f. seen_in (plain f)) o) (attaches below) (if_there false (λ _. false) o)
+    IsWholeBoth (is_whole below) (HoldsIfThere (λ f. AreWhole (plain f)) o) (spans below) (layer_or no_known_spans (λ f. seen_in (plain f)) o) (attaches below) (layer_or false (λ _. false) o)
 
 abbrev pub is_whole_over : {S : Type 0} → (S → Spans) → (S → Bool) → (S → Type 0) → Over S → Type 0
 is_whole_over spans attaches is_whole = λ p. whole_over spans attaches is_whole p.layer.inner p.inner
 
 module _ {S : Type 0} (spans : S → Spans) (kept : S → ℕ → ℕ → ℕ) (attaches : S → Bool) (is_whole : S → Type 0) where
-  anew : (o : Option Filtering) (below : S) (f : Filtering) → IsNew (plain f) → whole_over spans attaches is_whole o below → whole_over spans attaches is_whole (Some f) below
-  anew o below f new w = record { inner = w.inner; outer = new.whole; in_step = step_anew (spans below) (if_there unseeing (λ f. seen_in (plain f)) o) (seen_in (plain f)) new.none w.in_step; one_attaches = refl }
+  anew : (o : Option FilterWithRoom) (below : S) (f : FilterWithRoom) → IsNewFilter (plain f) → whole_over spans attaches is_whole o below → whole_over spans attaches is_whole (Some f) below
+  anew o below f new w = record { inner = w.inner; outer = new.whole; in_step = step_anew (spans below) (layer_or no_known_spans (λ f. seen_in (plain f)) o) (seen_in (plain f)) new.none w.in_step; one_attaches = refl }
 
-  pub stays_under : (s t : Over S) (f : Filtering) → IsNew (plain f) → t.inner ≡ s.inner → t.layer.inner ≡ Some f → StaysStack (spans_over spans) (kept_over kept) (attaches_over attaches) (is_whole_over spans attaches is_whole) s t
+  pub stays_under : (s t : Over S) (f : FilterWithRoom) → IsNewFilter (plain f) → t.inner ≡ s.inner → t.layer.inner ≡ Some f → StaysStack (spans_over spans) (kept_over kept) (attaches_over attaches) (is_whole_over spans attaches is_whole) s t
   stays_under s t f new below is =
       let beside : (ℕ → ℕ → ℕ) → ℕ → ℕ → ℕ = λ k lane number. k lane number + kept t.inner lane number in
-      let over_it : S → ℕ → ℕ → ℕ = λ b lane number. if_there none_kept (λ _ lane number. 0) s.layer.inner lane number + kept b lane number in
+      let over_it : S → ℕ → ℕ → ℕ = λ b lane number. layer_or none_kept (λ _ lane number. 0) s.layer.inner lane number + kept b lane number in
       record {
         spans_same = ap spans below;
         kept_same = ap beside (keeps_zero t.layer.inner ∙ sym (keeps_zero s.layer.inner)) ∙ ap over_it below;
-        attaches_same = ap (λ (k : Bool). k || attaches t.inner) (attaches_zero t.layer.inner ∙ sym (attaches_zero s.layer.inner)) ∙ ap (λ (b : S). if_there false (λ _. false) s.layer.inner || attaches b) below;
-        whole = λ w. subst (λ (o : Option Filtering). whole_over spans attaches is_whole o t.inner) (sym is) (subst (λ (b : S). whole_over spans attaches is_whole (Some f) b) (sym below) (anew s.layer.inner s.inner f new w));
+        attaches_same = ap (λ (k : Bool). k || attaches t.inner) (attaches_zero t.layer.inner ∙ sym (attaches_zero s.layer.inner)) ∙ ap (λ (b : S). layer_or false (λ _. false) s.layer.inner || attaches b) below;
+        whole = λ w. subst (λ (o : Option FilterWithRoom). whole_over spans attaches is_whole o t.inner) (sym is) (subst (λ (b : S). whole_over spans attaches is_whole (Some f) b) (sym below) (anew s.layer.inner s.inner f new w));
       }
 
 -- ---- a filter that is put in, and put back
 
-pub swapped_in : (o p : Option Filtering) (f out : Filtering) → is_some (option_map plain o) ≡ true → Swaps o f p out → p ≡ Some f
+pub swapped_in : (o p : Option FilterWithRoom) (f out : FilterWithRoom) → is_some (option_map plain o) ≡ true → Swaps o f p out → p ≡ Some f
 swapped_in None p f out there h = absurd (true≢false (sym there))
 swapped_in (Some l) p f out there h = h.0
 
-swapped_back : (o p q u : Option Filtering) (f out last : Filtering) → Swaps o f p out → Both (λ (a b : Filtering). plain b ≡ plain a) (Unit {0}) p q → Swaps q out u last → u ≡ o
+swapped_back : (o p q u : Option FilterWithRoom) (f out last : FilterWithRoom) → Swaps o f p out → Both (λ (a b : FilterWithRoom). plain b ≡ plain a) (Unit {0}) p q → Swaps q out u last → u ≡ o
 swapped_back None p None u f out last h b k = k.0
-swapped_back None p (Some m) u f out last h b k = absurd (subst (λ (x : Option Filtering). Both (λ (a b : Filtering). plain b ≡ plain a) (Unit {0}) x (Some m)) h.0 b)
-swapped_back (Some l) p None u f out last h b k = absurd (subst (λ (x : Option Filtering). Both (λ (a b : Filtering). plain b ≡ plain a) (Unit {0}) x None) h.0 b)
-swapped_back (Some l) p (Some m) u f out last h b k = k.0 ∙ ap (λ (x : Filtering). Some x) h.1
+swapped_back None p (Some m) u f out last h b k = absurd (subst (λ (x : Option FilterWithRoom). Both (λ (a b : FilterWithRoom). plain b ≡ plain a) (Unit {0}) x (Some m)) h.0 b)
+swapped_back (Some l) p None u f out last h b k = absurd (subst (λ (x : Option FilterWithRoom). Both (λ (a b : FilterWithRoom). plain b ≡ plain a) (Unit {0}) x None) h.0 b)
+swapped_back (Some l) p (Some m) u f out last h b k = k.0 ∙ ap (λ (x : FilterWithRoom). Some x) h.1
 
 abbrev pub room_over : {S : Type 0} → (S → S → Type 0) → Over S → Over S → Type 0
-room_over same = λ p q. same p.inner q.inner × Both (λ (a b : Filtering). plain b ≡ plain a) (Unit {0}) p.layer.inner q.layer.inner
+room_over same = λ p q. same p.inner q.inner × Both (λ (a b : FilterWithRoom). plain b ≡ plain a) (Unit {0}) p.layer.inner q.layer.inner
 
-abbrev pub swap : {S : Type 0} → Filtering → Filtering → Over S → Over S → Type 0
+abbrev pub swap : {S : Type 0} → FilterWithRoom → FilterWithRoom → Over S → Over S → Type 0
 swap f out = λ p q. (q.inner ≡ p.inner) × Swaps p.layer.inner f q.layer.inner out
 
 module _ {S : Type 0} (same : S → S → Type 0) where
-  back : (s m t u : Over S) (f out last : Filtering) → swap f out s m → (room_over same) m t → swap out last t u → (room_over same) s u
+  back : (s m t u : Over S) (f out last : FilterWithRoom) → swap f out s m → (room_over same) m t → swap out last t u → (room_over same) s u
   back s m t u f out last first room second = (
     subst (λ (x : S). same s.inner x) (sym second.0) (subst (λ (x : S). same x t.inner) first.0 room.0),
-    subst (λ (o : Option Filtering). Both (λ (a b : Filtering). plain b ≡ plain a) (Unit {0}) s.layer.inner o) (sym (swapped_back s.layer.inner m.layer.inner t.layer.inner u.layer.inner f out last first.1 room.1 second.1)) (both_refl (λ (a b : Filtering). plain b ≡ plain a) (λ l. refl) s.layer.inner),
+    subst (λ (o : Option FilterWithRoom). Both (λ (a b : FilterWithRoom). plain b ≡ plain a) (Unit {0}) s.layer.inner o) (sym (swapped_back s.layer.inner m.layer.inner t.layer.inner u.layer.inner f out last first.1 room.1 second.1)) (both_refl (λ (a b : FilterWithRoom). plain b ≡ plain a) (λ l. refl) s.layer.inner),
   )
 
   -- put in, room taken, and put back: nothing but room changed
-  pub put_back : (w v x y : Worlds (Over S)) (dispatch : ℕ) (f out last : Filtering) → Replaced (swap f out) w v dispatch → AreSame (room_over same) v.subscribers x.subscribers → Replaced (swap out last) x y dispatch → AreSame (room_over same) w.subscribers y.subscribers
+  pub put_back : (w v x y : Worlds (Over S)) (dispatch : ℕ) (f out last : FilterWithRoom) → Replaced (swap f out) w v dispatch → AreSame (room_over same) v.subscribers x.subscribers → Replaced (swap out last) x y dispatch → AreSame (room_over same) w.subscribers y.subscribers
   put_back w v x y dispatch f out last first all second = record {
     count = as_many (swap out last) x y dispatch second ∙ all.count ∙ as_many (swap f out) w v dispatch first;
     each = λ k p q hp hq. elim (cases_eq k dispatch) [
@@ -158,19 +158,19 @@ module _ {S : Type 0} (same : S → S → Type 0) where
   }
 
   -- what is read of the subscriber below, where its room alone changed
-  module _ (w v x : Worlds (Over S)) (dispatch : ℕ) (f out : Filtering) (first : Replaced (swap f out) w v dispatch) (all : AreSame (room_over same) v.subscribers x.subscribers) where
+  module _ (w v x : Worlds (Over S)) (dispatch : ℕ) (f out : FilterWithRoom) (first : Replaced (swap f out) w v dispatch) (all : AreSame (room_over same) v.subscribers x.subscribers) where
     now : SameThere (room_over same) first.later x.subscribers dispatch
     now = same_there (room_over same) v.subscribers x.subscribers dispatch first.later all (now_there (swap f out) w v dispatch first)
 
-    is_put : is_some (seen in_place None w dispatch) ≡ true → first.later.layer.inner ≡ Some f
-    is_put there = swapped_in first.before.layer.inner first.later.layer.inner f out (subst (λ (o : Option Filtered). is_some o ≡ true) (seen_before (swap f out) w v dispatch first in_place None) there) first.did.1
+    is_put : is_some (member_of in_place None w dispatch) ≡ true → first.later.layer.inner ≡ Some f
+    is_put there = swapped_in first.before.layer.inner first.later.layer.inner f out (subst (λ (o : Option FilterState). is_some o ≡ true) (seen_before (swap f out) w v dispatch first in_place None) there) first.did.1
 
-    pub filter_put : is_some (seen in_place None w dispatch) ≡ true → seen in_place None x dispatch ≡ Some (plain f)
+    pub filter_put : is_some (member_of in_place None w dispatch) ≡ true → member_of in_place None x dispatch ≡ Some (plain f)
     filter_put there =
         see in_place None x dispatch now.now now.there ∙ same_in_place (Unit {0}) first.later.layer.inner now.now.layer.inner now.is_same.1
-        ∙ ap (λ (o : Option Filtering). option_map plain o) (is_put there)
+        ∙ ap (λ (o : Option FilterWithRoom). option_map plain o) (is_put there)
 
-    pub read_put : {A : Type 0} (read : S → A) (none : A) → ((s t : S) → same s t → read t ≡ read s) → seen (λ (p : Over S). read p.inner) none x dispatch ≡ seen (λ (p : Over S). read p.inner) none w dispatch
+    pub read_put : {A : Type 0} (read : S → A) (none : A) → ((s t : S) → same s t → read t ≡ read s) → member_of (λ (p : Over S). read p.inner) none x dispatch ≡ member_of (λ (p : Over S). read p.inner) none w dispatch
     read_put read none reads =
         see (λ (p : Over S). read p.inner) none x dispatch now.now now.there ∙ reads first.later.inner now.now.inner now.is_same.0 ∙ ap read first.did.0
         ∙ sym (seen_before (swap f out) w v dispatch first (λ (p : Over S). read p.inner) none)
@@ -179,7 +179,7 @@ module _ {S : Type 0} (same : S → S → Type 0) where
     rest_put other s t apart before later = all.each other s t (other_there (swap f out) w v dispatch first other apart ∙ before) later
 
     module _ (spans : S → Spans) (kept : S → ℕ → ℕ → ℕ) (attaches : S → Bool) (is_whole : S → Type 0) where
-      pub alike_put : ((s t : Over S) → (room_over same) s t → StaysStack (spans_over spans) (kept_over kept) (attaches_over attaches) (is_whole_over spans attaches is_whole) s t) → IsNew (plain f) → is_some (seen in_place None w dispatch) ≡ true
+      pub alike_put : ((s t : Over S) → (room_over same) s t → StaysStack (spans_over spans) (kept_over kept) (attaches_over attaches) (is_whole_over spans attaches is_whole) s t) → IsNewFilter (plain f) → is_some (member_of in_place None w dispatch) ≡ true
           → Alike (spans_over spans) (attaches_over attaches) (kept_over kept) (is_whole_over spans attaches is_whole) w x dispatch
       alike_put room new there =
           let whole : Over S → Type 0 = is_whole_over spans attaches is_whole in
@@ -193,7 +193,7 @@ module _ {S : Type 0} (same : S → S → Type 0) (w y : Worlds S) (dispatch : �
   left : SameThere same s y.subscribers dispatch
   left = same_there same w.subscribers y.subscribers dispatch s all there
 
-  pub read_left : {A : Type 0} (read : S → A) (none : A) → ((s t : S) → same s t → read t ≡ read s) → seen read none y dispatch ≡ seen read none w dispatch
+  pub read_left : {A : Type 0} (read : S → A) (none : A) → ((s t : S) → same s t → read t ≡ read s) → member_of read none y dispatch ≡ member_of read none w dispatch
   read_left read none reads = see read none y dispatch left.now left.there ∙ reads s left.now left.is_same ∙ sym (see read none w dispatch s there)
 
   pub alike_left : (spans : S → Spans) (kept : S → ℕ → ℕ → ℕ) (attaches : S → Bool) (is_whole : S → Type 0) → ((s t : S) → same s t → StaysStack spans kept attaches is_whole s t) → Alike spans attaches kept is_whole w y dispatch

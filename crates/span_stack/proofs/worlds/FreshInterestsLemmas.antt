@@ -2,7 +2,7 @@
 use Rattle.std.proofs.Common.{◌≡◌, ℕ, zero, suc, List, [], ◌∷◌, map, Option, Some, refl, sym, ap, subst, ◌∙◌, slice_get, slice_set}
 use Rattle.trace_base.specs.declared.callsite.Callsite.{Callsite}
 use Rattle.trace_base.specs.declared.subscriber.Interest.{Interest}
-use Rattle.trace_base.specs.Gate.{Worlds, IsFresh, interests_in, registered}
+use Rattle.trace_base.specs.Gate.{Worlds, IsFresh, interests_in, interests_of_sites}
 use Rattle.trace_base.specs.Spans.{Spans, next_of}
 use Rattle.trace_base.specs.Calls.{SubscriberCall, TryClose}
 use Rattle.span_handles.specs.Worlds.{Replaced, Chain, ended, closes}
@@ -13,10 +13,10 @@ map_same f [] n x y there e = refl
 map_same {X} {Y} f (z ∷ xs) zero x y there e = ap (λ (v : Y). v ∷ map f xs) (e ∙ ap f (sym (the_one z x there)))
 map_same {X} {Y} f (z ∷ xs) (suc n) x y there e = ap (λ (ys : List Y). f z ∷ ys) (map_same f xs n x y there e)
 
-rows_same : {S : Type 0} (interest : S → Callsite → Interest) (xs ys : List S) → ((c : Callsite) → interests_in interest ys c ≡ interests_in interest xs c) → (sites : List Callsite) → registered interest ys sites ≡ registered interest xs sites
+rows_same : {S : Type 0} (interest : S → Callsite → Interest) (xs ys : List S) → ((c : Callsite) → interests_in interest ys c ≡ interests_in interest xs c) → (sites : List Callsite) → interests_of_sites interest ys sites ≡ interests_of_sites interest xs sites
 rows_same interest xs ys e [] = refl
 rows_same interest xs ys e (c ∷ sites) =
-    ap (λ (row : List Interest). row ∷ registered interest ys sites) (e c) ∙ ap (λ (rows : List (List Interest)). interests_in interest xs c ∷ rows) (rows_same interest xs ys e sites)
+    ap (λ (row : List Interest). row ∷ interests_of_sites interest ys sites) (e c) ∙ ap (λ (rows : List (List Interest)). interests_in interest xs c ∷ rows) (rows_same interest xs ys e sites)
 
 pub fresh_later : {S : Type 0} (interest : S → Callsite → Interest) (R : S → S → Type 0) → ((s t : S) → R s t → interest t ≡ interest s)
     → (old new : Worlds S) (dispatch : ℕ) → Replaced R old new dispatch → IsFresh interest old → IsFresh interest new

@@ -9,8 +9,8 @@ use Rattle.span_registry.specs.declared.layered.Layered.{Layered}
 use Rattle.span_registry.specs.Both.{DoesBoth}
 use Rattle.span_handles.specs.Worlds.{Chain, ended, closes}
 use Rattle.otel_layer.specs.Parts.{PartCall, TouchesFirst}
-use Rattle.env_filter.specs.Filtering.{Filtering}
-use Rattle.env_filter.specs.Reloading.{if_there}
+use Rattle.env_filter.specs.Filtering.{FilterWithRoom}
+use Rattle.env_filter.specs.Reloading.{layer_or}
 
 pub both_below : {S L : Type 0} (spans : S → Spans) (inner : S → SubscriberCall → S → Type 0) (outer : L → Hook → L → Type 0) (same : L → L → Type 0) (attaches : L → Bool) (kept : L → ℕ → ℕ → ℕ)
     → ((l : L) (hook : Hook) (m : L) → outer l hook m → HookLanes (attaches l) (kept l) hook (kept m)) → ((l : L) → attaches l ≡ false)
@@ -40,6 +40,6 @@ first_below true outer inner l s call m t e d = absurd (true≢false e)
 first_below false outer inner l s call m t e d = d
 
 -- a filter attaches nothing
-pub attaches_none : (o : Option Filtering) → if_there false (λ _. false) o ≡ false
+pub attaches_none : (o : Option FilterWithRoom) → layer_or false (λ _. false) o ≡ false
 attaches_none None = refl
 attaches_none (Some f) = refl

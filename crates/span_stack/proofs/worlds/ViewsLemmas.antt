@@ -5,7 +5,7 @@ use Rattle.std.proofs.lemmas.Option.{slice_get-map}
 use Rattle.trace_base.specs.Gate.{Worlds}
 use Rattle.trace_base.specs.Spans.{Spans}
 use Rattle.span_registry.specs.declared.layered.Layered.{Layered}
-use Rattle.span_handles.specs.Worlds.{Has, Replaced, Alike, seen}
+use Rattle.span_handles.specs.Worlds.{Has, Replaced, Alike, member_of}
 use Rattle.span_handles.proofs.Showing.{seen_before, seen_later, alike}
 use Rattle.span_stack.specs.Through.{inner_of, below}
 
@@ -29,7 +29,7 @@ read_inner : {L S A : Type 0} (read : S → A) (none : A) (o : Option (Layered L
 read_inner read none None = refl
 read_inner read none (Some s) = refl
 
-pub seen_below : {L S A : Type 0} (read : S → A) (none : A) (world : Worlds (Layered L S)) (dispatch : ℕ) → seen read none (below world) dispatch ≡ seen (λ (s : Layered L S). read s.inner) none world dispatch
+pub seen_below : {L S A : Type 0} (read : S → A) (none : A) (world : Worlds (Layered L S)) (dispatch : ℕ) → member_of read none (below world) dispatch ≡ member_of (λ (s : Layered L S). read s.inner) none world dispatch
 seen_below {L} {S} {A} read none world dispatch = ap (λ (o : Option S). option_map_or read o none) (slice_get-map inner_of world.subscribers dispatch) ∙ read_inner read none (slice_get world.subscribers dispatch)
 
 pub the_one : {X : Type 0} (x y : X) → ◌≡◌ {A = Option X} (Some x) (Some y) → x ≡ y
@@ -42,7 +42,7 @@ inner_there P (Some s) x e all = subst P (the_one s.inner x e) (all s refl)
 pub has_below : {L S : Type 0} (Q : Layered L S → Type 0) (P : S → Type 0) → ((s : Layered L S) → Q s → P s.inner) → (world : Worlds (Layered L S)) (dispatch : ℕ) → Has Q world dispatch → Has P (below world) dispatch
 has_below P' P step world dispatch has x there = inner_there P (slice_get world.subscribers dispatch) x (sym (slice_get-map inner_of world.subscribers dispatch) ∙ there) (λ s at. step s (has s at))
 
-pub see : {S A : Type 0} (read : S → A) (none : A) (world : Worlds S) (dispatch : ℕ) (s : S) → slice_get world.subscribers dispatch ≡ Some s → seen read none world dispatch ≡ read s
+pub see : {S A : Type 0} (read : S → A) (none : A) (world : Worlds S) (dispatch : ℕ) (s : S) → slice_get world.subscribers dispatch ≡ Some s → member_of read none world dispatch ≡ read s
 see {S} read none world dispatch s there = ap (λ (o : Option S). option_map_or read o none) there
 
 -- of three things, along what they are
@@ -59,7 +59,7 @@ pub along_two : {A B : Type 0} (P : A → B → Type 0) {a a' : A} {b b' : B} �
 along_two P {a} {a'} {b} {b'} e f h = subst (P a') f (subst (λ x. P x b) e h)
 
 -- what is read of a subscriber, where it is replaced by one with the same
-pub kept_place : {S A : Type 0} {R : S → S → Type 0} (read : S → A) (none : A) → ((s t : S) → R s t → read t ≡ read s) → (old new : Worlds S) (dispatch : ℕ) → Replaced R old new dispatch → seen read none new dispatch ≡ seen read none old dispatch
+pub kept_place : {S A : Type 0} {R : S → S → Type 0} (read : S → A) (none : A) → ((s t : S) → R s t → read t ≡ read s) → (old new : Worlds S) (dispatch : ℕ) → Replaced R old new dispatch → member_of read none new dispatch ≡ member_of read none old dispatch
 kept_place {S} {A} {R} read none keeps old new dispatch r = seen_later R old new dispatch r read none ∙ keeps r.before r.later r.did ∙ sym (seen_before R old new dispatch r read none)
 
 pub below_at : {L S : Type 0} (world : Worlds (Layered L S)) (dispatch : ℕ) (s : Layered L S) → slice_get world.subscribers dispatch ≡ Some s → slice_get (below world).subscribers dispatch ≡ Some s.inner
@@ -75,15 +75,15 @@ leave_alike {S} spans attaches kept is_whole change same_spans same_attaches sam
 
 -- what a step of a subscriber is to what is read of it
 pub read_step : {S A B C : Type 0} {R : S → S → Type 0} (P : A → B → C → C → Type 0) (f : S → A) (no_f : A) (g : S → B) (no_g : B) (k : S → C) (no_k : C) → ((s t : S) → R s t → P (f s) (g s) (k s) (k t))
-    → (old new : Worlds S) (dispatch : ℕ) → Replaced R old new dispatch → P (seen f no_f old dispatch) (seen g no_g old dispatch) (seen k no_k old dispatch) (seen k no_k new dispatch)
+    → (old new : Worlds S) (dispatch : ℕ) → Replaced R old new dispatch → P (member_of f no_f old dispatch) (member_of g no_g old dispatch) (member_of k no_k old dispatch) (member_of k no_k new dispatch)
 read_step {S} {A} {B} {C} {R} P f no_f g no_g k no_k step old new dispatch r =
     along_four P (sym (seen_before R old new dispatch r f no_f)) (sym (seen_before R old new dispatch r g no_g)) (sym (seen_before R old new dispatch r k no_k)) (sym (seen_later R old new dispatch r k no_k)) (step r.before r.later r.did)
 
 pub read_two : {S C : Type 0} {R : S → S → Type 0} (P : C → C → Type 0) (k : S → C) (no_k : C) → ((s t : S) → R s t → P (k s) (k t))
-    → (old new : Worlds S) (dispatch : ℕ) → Replaced R old new dispatch → P (seen k no_k old dispatch) (seen k no_k new dispatch)
+    → (old new : Worlds S) (dispatch : ℕ) → Replaced R old new dispatch → P (member_of k no_k old dispatch) (member_of k no_k new dispatch)
 read_two {S} {C} {R} P k no_k step old new dispatch r =
     along_two P (sym (seen_before R old new dispatch r k no_k)) (sym (seen_later R old new dispatch r k no_k)) (step r.before r.later r.did)
 
 -- the same below two layers
-pub seen_two : {K L S A : Type 0} (read : S → A) (none : A) (world : Worlds (Layered K (Layered L S))) (dispatch : ℕ) → seen read none (below (below world)) dispatch ≡ seen (λ (s : Layered K (Layered L S)). read s.inner.inner) none world dispatch
+pub seen_two : {K L S A : Type 0} (read : S → A) (none : A) (world : Worlds (Layered K (Layered L S))) (dispatch : ℕ) → member_of read none (below (below world)) dispatch ≡ member_of (λ (s : Layered K (Layered L S)). read s.inner.inner) none world dispatch
 seen_two {K} {L} {S} read none world dispatch = seen_below read none (below world) dispatch ∙ seen_below (λ (s : Layered L S). read s.inner) none world dispatch

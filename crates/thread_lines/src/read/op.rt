@@ -4,7 +4,7 @@ ghost use Rattle.serde_json.specs.View.{view};
 ghost use Rattle.trace_pipeline.specs.forms.AttributeForm.{attributes_form};
 ghost use Rattle.trace_pipeline.specs.forms.ExtensionForm.{as_moment, time_form};
 ghost use Rattle.trace_pipeline.specs.reading.Gives.{Gives};
-ghost use Rattle.line_members.specs.Left.{left};
+ghost use Rattle.line_members.specs.Left.{members_left};
 ghost use Rattle.thread_lines.specs.ThreadForm.{word_of_op, word_form, record_op_form, event_op_form, attribute_op_form, status_op_form, added_event_form, valid_context, link_op_form, call_form, op_form};
 
 use crate::line::{ThreadCall, ThreadOp};
@@ -55,7 +55,7 @@ fn word_of_op(word: &str) -> Option<OpWord>
 
 // Takes the word of what is to be done.
 fn op_word(members: &mut Members) -> Result<OpWord, LineError>
-    ensures { Gives (λ w. (w, left members.new)) result (word_form (left members.old)) }
+    ensures { Gives (λ w. (w, members_left members.new)) result (word_form (members_left members.old)) }
 {
     let word = members.text("do")?;
     word_of_op(word.as_str()).ok_or(LineError::BadLine)
@@ -63,7 +63,7 @@ fn op_word(members: &mut Members) -> Result<OpWord, LineError>
 
 // Takes the attributes that are given, which are none where nothing is said.
 fn given_attributes(alloc: Global, members: &mut Members) -> Result<Items<KeyValue>, LineError>
-    ensures { Gives (λ l. (l, left members.new)) result (attributes_form (left members.old)) }
+    ensures { Gives (λ l. (l, members_left members.new)) result (attributes_form (members_left members.old)) }
 {
     match members.optional("attributes") {
         Some(value) => read_attributes(alloc, &value),
@@ -85,7 +85,7 @@ fn moment_of(value: &Json) -> Result<Moment, LineError>
 
 // Takes the time of an event, if it is said.
 fn time(members: &mut Members) -> Result<Option<Moment>, LineError>
-    ensures { Gives (λ t. (t, left members.new)) result (time_form (left members.old)) }
+    ensures { Gives (λ t. (t, members_left members.new)) result (time_form (members_left members.old)) }
 {
     match members.optional("time") {
         Some(value) => Ok(Some(moment_of(&value)?)),
@@ -95,7 +95,7 @@ fn time(members: &mut Members) -> Result<Option<Moment>, LineError>
 
 #[tactic(auto, unfolding(crate::specs::ThreadForm::record_op_form))]
 fn record_op(alloc: Global, members: &mut Members) -> Result<ThreadCall, LineError>
-    ensures { Gives (λ c. (c, left members.new)) result (record_op_form (left members.old)) }
+    ensures { Gives (λ c. (c, members_left members.new)) result (record_op_form (members_left members.old)) }
 {
     let value = members.member("fields")?;
     let fields = read_fields(alloc, &value)?;
@@ -104,7 +104,7 @@ fn record_op(alloc: Global, members: &mut Members) -> Result<ThreadCall, LineErr
 
 #[tactic(auto, unfolding(crate::specs::ThreadForm::event_op_form))]
 fn event_op(alloc: Global, members: &mut Members) -> Result<ThreadCall, LineError>
-    ensures { Gives (λ c. (c, left members.new)) result (event_op_form (left members.old)) }
+    ensures { Gives (λ c. (c, members_left members.new)) result (event_op_form (members_left members.old)) }
 {
     let site = members.whole("site")?;
     let fields = members.given_fields(alloc)?;
@@ -113,7 +113,7 @@ fn event_op(alloc: Global, members: &mut Members) -> Result<ThreadCall, LineErro
 
 #[tactic(auto, unfolding(crate::specs::ThreadForm::attribute_op_form))]
 fn attribute_op(alloc: Global, members: &mut Members) -> Result<Op, LineError>
-    ensures { Gives (λ o. (o, left members.new)) result (attribute_op_form (left members.old)) }
+    ensures { Gives (λ o. (o, members_left members.new)) result (attribute_op_form (members_left members.old)) }
 {
     let key = members.text("key")?;
     let value = members.member("value")?;
@@ -124,7 +124,7 @@ fn attribute_op(alloc: Global, members: &mut Members) -> Result<Op, LineError>
 
 #[tactic(auto, unfolding(crate::specs::ThreadForm::status_op_form))]
 fn status_op(alloc: Global, members: &mut Members) -> Result<Op, LineError>
-    ensures { Gives (λ o. (o, left members.new)) result (status_op_form (left members.old)) }
+    ensures { Gives (λ o. (o, members_left members.new)) result (status_op_form (members_left members.old)) }
 {
     let value = members.member("status")?;
     let status = read_status(alloc, &value)?;
@@ -134,7 +134,7 @@ fn status_op(alloc: Global, members: &mut Members) -> Result<Op, LineError>
 // An event at the time that is said, else at the moment of its call.
 #[tactic(auto, unfolding(crate::specs::ThreadForm::added_event_form))]
 fn added_event(alloc: Global, at: Moment, members: &mut Members) -> Result<Op, LineError>
-    ensures { Gives (λ o. (o, left members.new)) result (added_event_form at (left members.old)) }
+    ensures { Gives (λ o. (o, members_left members.new)) result (added_event_form at (members_left members.old)) }
 {
     let name = members.text("name")?;
     let attributes = given_attributes(alloc, members)?;
@@ -159,7 +159,7 @@ fn valid_context(trace: u128, span: u64) -> Result<SpanContext, LineError>
 
 #[tactic(auto, unfolding(crate::specs::ThreadForm::link_op_form))]
 fn link_op(alloc: Global, members: &mut Members) -> Result<Op, LineError>
-    ensures { Gives (λ o. (o, left members.new)) result (link_op_form (left members.old)) }
+    ensures { Gives (λ o. (o, members_left members.new)) result (link_op_form (members_left members.old)) }
 {
     let trace = members.member("trace")?;
     let trace = read_trace_id(&trace)?;
@@ -181,7 +181,7 @@ fn call(
     word: OpWord,
     members: &mut Members,
 ) -> Result<ThreadCall, LineError>
-    ensures { Gives (λ c. (c, left members.new)) result (call_form at word (left members.old)) }
+    ensures { Gives (λ c. (c, members_left members.new)) result (call_form at word (members_left members.old)) }
 {
     let op = match word {
         OpWord::Record => return record_op(alloc, members),
@@ -202,7 +202,7 @@ fn call(
 /// Takes the members of a call.
 #[tactic(auto, unfolding(crate::specs::ThreadForm::op_form))]
 pub(crate) fn op(alloc: Global, members: &mut Members) -> Result<ThreadOp, LineError>
-    ensures { Gives (λ o. (o, left members.new)) result (op_form (left members.old)) }
+    ensures { Gives (λ o. (o, members_left members.new)) result (op_form (members_left members.old)) }
 {
     let at = members.whole("at")?;
     let span = members.whole("span")?;

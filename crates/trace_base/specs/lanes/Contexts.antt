@@ -1,6 +1,6 @@
 -- The contexts that something keeps attached to lanes.
 use Rattle.std.specs.Prelude.{◌≡◌, ℕ, ◌+◌, ◌≤◌, ◌==◌, if◌then◌else◌, Bool, false, length, count_by}
-use Rattle.otel_base.specs.declared.stack.TheConstants.{MOST}
+use Rattle.otel_base.specs.declared.stack.TheConstants.{MAX_CONTEXTS}
 use Rattle.trace_base.specs.declared.lane.Lane.{Lane}
 use Rattle.trace_base.specs.Calls.{SubscriberCall, NewSpan, Records, Follows, Event, Enter, Exit, CloneSpan, TryClose}
 
@@ -14,7 +14,7 @@ attached_on id number lane = if lane.id == id then attached_as number lane else 
 
 -- as many contexts are live as may be
 abbrev pub IsFull : Lane → Type 0
-IsFull lane = length lane.contexts.live ≡ MOST
+IsFull lane = length lane.contexts.live ≡ MAX_CONTEXTS
 
 -- all that is kept attached to a lane, by lane and number, is still attached there
 abbrev pub AreAttached : (ℕ → ℕ → ℕ) → Lane → Type 0

@@ -25,7 +25,7 @@ pub data Preparation : Type 0 where
   ForEnter : (id lane : ℕ) → Preparation
 
 -- what a layer knows: which spans, and how many entries of a span it has open on a lane
-pub record Seen : Type 0 where
+pub record KnownSpans : Type 0 where
   pub knows : ℕ → Bool
   pub entries : ℕ → ℕ → ℕ
 
@@ -72,7 +72,7 @@ goes (OnClose id at) lane other = 0
 
 -- A layer comes to know only spans that are made, forgets only those that close, and follows the entries of those it
 -- knows.
-pub record Sees (old : Seen) (hook : Hook) (new : Seen) : Type 0 where
+pub record Sees (old : KnownSpans) (hook : Hook) (new : KnownSpans) : Type 0 where
   pub gains : (id : ℕ) → new.knows id ≡ true → old.knows id ≡ false → makes hook id ≡ true
   pub loses : (id : ℕ) → old.knows id ≡ true → new.knows id ≡ false → closes hook id ≡ true
   pub known : (lane id : ℕ) → old.knows id ≡ true → new.entries lane id + goes hook lane id ≡ old.entries lane id + comes hook lane id

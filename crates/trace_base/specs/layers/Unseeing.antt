@@ -4,10 +4,10 @@ use Rattle.std.proofs.Common.{refl, sym, ap, arith}
 use Rattle.std.proofs.lemmas.Bool.{true≢false}
 use Rattle.trace_base.specs.declared.lane.Lane.{Lane}
 use Rattle.trace_base.specs.lanes.Contexts.{KeepsLane, KeepsAttached, attached_on}
-use Rattle.trace_base.specs.layers.Hooks.{Hook, OnNewSpan, OnRecord, OnFollows, OnEvent, OnEnter, OnExit, OnClose, Seen, Sees, HookLanes}
+use Rattle.trace_base.specs.layers.Hooks.{Hook, OnNewSpan, OnRecord, OnFollows, OnEvent, OnEnter, OnExit, OnClose, KnownSpans, Sees, HookLanes}
 
-abbrev pub unseeing : Seen
-unseeing = record { knows = λ id. false; entries = λ lane id. 0 }
+abbrev pub no_known_spans : KnownSpans
+no_known_spans = record { knows = λ id. false; entries = λ lane id. 0 }
 
 -- an entry and an exit leave the lane as it is
 abbrev pub LeavesLanes : Hook → Type 0
@@ -19,7 +19,7 @@ LeavesLanes (OnFollows id from at) = Unit {0}
 LeavesLanes (OnEvent reached lane at callsite values) = Unit {0}
 LeavesLanes (OnClose id at) = Unit {0}
 
-pub unseeing_sees : (hook : Hook) → Sees unseeing hook unseeing
+pub unseeing_sees : (hook : Hook) → Sees no_known_spans hook no_known_spans
 unseeing_sees hook = record {
   gains = λ id knows not. absurd (true≢false (sym knows));
   loses = λ id knew not. absurd (true≢false (sym knew));

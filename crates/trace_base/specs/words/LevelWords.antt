@@ -33,9 +33,9 @@ unfoldable pub named_filter : List ℕ → Option LevelFilter
 named_filter text = option_or (filter_of_word text) (option_and_then filter_of_number (decimal_value text))
 
 -- the filter that a text reads as, ERROR where it is empty
-abbrev pub filter_of : List ℕ → Option LevelFilter
-filter_of [] = Some filter.ERROR
-filter_of (b ∷ bs) = named_filter (b ∷ bs)
+abbrev pub level_filter_of : List ℕ → Option LevelFilter
+level_filter_of [] = Some filter.ERROR
+level_filter_of (b ∷ bs) = named_filter (b ∷ bs)
 
 -- the level that a text reads as
 abbrev pub level_of : List ℕ → Option Level

@@ -19,5 +19,5 @@ escaped b =
     b ∷ []
 
 -- a text between double quotes
-abbrev pub quoted : List ℕ → List ℕ
-quoted text = 34 ∷ flat_map escaped text ++ 34 ∷ []
+abbrev pub in_quotes : List ℕ → List ℕ
+in_quotes text = 34 ∷ flat_map escaped text ++ 34 ∷ []

@@ -3,7 +3,7 @@ use Rattle.std.proofs.Common.{◌≡◌, ℕ, ◌+◌, ◌<◌, length, get_or, 
 use Rattle.std.specs.List.{list_any}
 use Rattle.std.proofs.lemmas.List.{drop_more}
 use Rattle.std.proofs.lemmas.Bool.Decides.{nat_tests}
-use Rattle.trace_pipeline.specs.forms.SettingsForm.{Lane, ids, all_differ}
+use Rattle.trace_pipeline.specs.forms.SettingsForm.{Lane, lane_ids, all_differ}
 
 -- no number is in the set
 abbrev pub all_new : (ℕ → Bool) → List ℕ → Bool
@@ -54,11 +54,11 @@ module _ (before after : ℕ → Bool) (lanes : List Lane) (i : ℕ) (lane : Lan
   at_lane : drop i lanes ≡ lane ∷ drop (i + 1) lanes
   at_lane = drop_more lanes i lane within ∙ ap (λ l. l ∷ drop (i + 1) lanes) (sym is)
 
-  pub next_lane : added ≡ true → ((q : ℕ) → after q ≡ cond (is_eq (nat_cmp lane.0 q)) true (before q)) → still_differ after (ids (drop (i + 1) lanes)) ≡ still_differ before (ids (drop i lanes))
-  next_lane new adds = rw at_lane (goes_on lane.0 before after adds (ids (drop (i + 1) lanes)) (not_seen added (before lane.0) tells new))
+  pub next_lane : added ≡ true → ((q : ℕ) → after q ≡ cond (is_eq (nat_cmp lane.0 q)) true (before q)) → still_differ after (lane_ids (drop (i + 1) lanes)) ≡ still_differ before (lane_ids (drop i lanes))
+  next_lane new adds = rw at_lane (goes_on lane.0 before after adds (lane_ids (drop (i + 1) lanes)) (not_seen added (before lane.0) tells new))
 
-  pub same_lane : added ≡ false → still_differ before (ids (drop i lanes)) ≡ false
-  same_lane old = rw at_lane (ends lane.0 before (ids (drop (i + 1) lanes)) (was_seen added (before lane.0) tells old))
+  pub same_lane : added ≡ false → still_differ before (lane_ids (drop i lanes)) ≡ false
+  same_lane old = rw at_lane (ends lane.0 before (lane_ids (drop (i + 1) lanes)) (was_seen added (before lane.0) tells old))
 
 -- the empty set
 pub begins : (seen : ℕ → Bool) (ns : List ℕ) → ((q : ℕ) → seen q ≡ false) → still_differ seen ns ≡ all_differ ns

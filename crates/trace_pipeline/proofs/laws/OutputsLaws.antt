@@ -11,7 +11,7 @@ use Rattle.span_script.specs.Tables.{History, Effect, tables, records_of}
 use Rattle.trace_pipeline.specs.Lines.{is_blank}
 use Rattle.span_script.specs.Admission.{OpeningRead, opening_read}
 use Rattle.trace_pipeline.specs.reading.Spelled.{settings_spelled}
-use Rattle.trace_pipeline.specs.Report.{Report, behind, answer_text, answer_count, effect_of_line, following, opened, opening, report_on, report_from, accepts}
+use Rattle.trace_pipeline.specs.Report.{Report, with_text_before, answer_text, answer_count, effect_of_line, report_on_effect, report_on_opening, report_on_settings, report_on, report_from, accepts}
 use Rattle.trace_pipeline.specs.Laws.{GoesOn}
 
 -- ---- what is told
@@ -24,15 +24,15 @@ either_alike : (b : Bool) (x x2 y y2 : Report) → Alike x x2 → Alike y y2 →
 either_alike true x x2 y y2 one two = one
 either_alike false x x2 y y2 one two = two
 
-followed_alike : (effect : Result Effect Told) (go go2 : Effect → Report) (n : ℕ) → ((e : Effect) → Alike (go e) (go2 e)) → Alike (following effect go n) (following effect go2 n)
+followed_alike : (effect : Result Effect Told) (go go2 : Effect → Report) (n : ℕ) → ((e : Effect) → Alike (go e) (go2 e)) → Alike (report_on_effect effect go n) (report_on_effect effect go2 n)
 followed_alike (Ok e) go go2 n on = on e
 followed_alike (Err why) go go2 n on = refl
 
-read_alike : (read : OpeningRead) (x y : Report) (n : ℕ) → Alike x y → Alike (opened read x n) (opened read y n)
+read_alike : (read : OpeningRead) (x y : Report) (n : ℕ) → Alike x y → Alike (report_on_opening read x n) (report_on_opening read y n)
 read_alike (Ok all) x y n on = on
 read_alike (Err unread) x y n on = refl
 
-settled_alike : (settings : Result Settings Told) (go go2 : Settings → Report) (n : ℕ) → ((s : Settings) → Alike (go s) (go2 s)) → Alike (opening settings go n) (opening settings go2 n)
+settled_alike : (settings : Result Settings Told) (go go2 : Settings → Report) (n : ℕ) → ((s : Settings) → Alike (go s) (go2 s)) → Alike (report_on_settings settings go n) (report_on_settings settings go2 n)
 settled_alike (Ok s) go go2 n on = read_alike (opening_read s.filter s.counting) (go s) (go2 s) n (on s)
 settled_alike (Err why) go go2 n on = refl
 
@@ -62,7 +62,7 @@ either : (told : Signal) (b : Bool) (x x2 y y2 : Report) → Extends told x x2 �
 either told true x x2 y y2 one two accepted = one accepted
 either told false x x2 y y2 one two accepted = two accepted
 
-behind_both : (told : Signal) (text : List ℕ) (x y : Report) → Extends told x y → Extends told (behind text x) (behind text y)
+behind_both : (told : Signal) (text : List ℕ) (x y : Report) → Extends told x y → Extends told (with_text_before text x) (with_text_before text y)
 behind_both told text x y on accepted =
     let g : GoesOn told x.written y.written = on accepted in
     record {
@@ -74,16 +74,16 @@ behind_both told text x y on accepted =
       new_is = ap (λ (t : List ℕ). text ++ t) g.new_is ∙ sym (append_assoc text g.before g.more);
     }
 
-followed : (told : Signal) (effect : Result Effect Told) (go go2 : Effect → Report) (n : ℕ) → ((e : Effect) → Extends told (go e) (go2 e)) → Extends told (following effect go n) (following effect go2 n)
+followed : (told : Signal) (effect : Result Effect Told) (go go2 : Effect → Report) (n : ℕ) → ((e : Effect) → Extends told (go e) (go2 e)) → Extends told (report_on_effect effect go n) (report_on_effect effect go2 n)
 followed told (Ok e) go go2 n on accepted = on e accepted
 followed told (Err why) go go2 n on accepted = absurd (cc accepted)
 
 -- the settings' texts are read
-read_over : (told : Signal) (read : OpeningRead) (x y : Report) (n : ℕ) → Extends told x y → Extends told (opened read x n) (opened read y n)
+read_over : (told : Signal) (read : OpeningRead) (x y : Report) (n : ℕ) → Extends told x y → Extends told (report_on_opening read x n) (report_on_opening read y n)
 read_over told (Ok all) x y n on accepted = on accepted
 read_over told (Err unread) x y n on accepted = absurd (cc accepted)
 
-settled : (told : Signal) (settings : Result Settings Told) (go go2 : Settings → Report) (n : ℕ) → ((s : Settings) → Extends told (go s) (go2 s)) → Extends told (opening settings go n) (opening settings go2 n)
+settled : (told : Signal) (settings : Result Settings Told) (go go2 : Settings → Report) (n : ℕ) → ((s : Settings) → Extends told (go s) (go2 s)) → Extends told (report_on_settings settings go n) (report_on_settings settings go2 n)
 settled told (Ok s) go go2 n on accepted = read_over told (opening_read s.filter s.counting) (go s) (go2 s) n (on s) accepted
 settled told (Err why) go go2 n on accepted = absurd (cc accepted)
 

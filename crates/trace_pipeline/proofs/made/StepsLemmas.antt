@@ -20,15 +20,15 @@ use Rattle.span_script.specs.declared.request.Request.{Request}
 use Rattle.span_script.specs.declared.request.TheConstants.{LAST_MOMENT}
 use Rattle.span_script.specs.Fields.{values_of}
 use Rattle.span_script.specs.Setups.{id_at}
-use Rattle.span_script.specs.Tables.{Scope, EntryOf, Attached, is_by, Guarded, Effect, Tables, History, tables, after, slot_at, scope_of, with_attached, with_detached}
+use Rattle.span_script.specs.Tables.{Scope, EntryOf, Attached, is_by, ScopeGuard, Effect, Tables, History, tables, after_effect, slot_at, scope_of, with_attached, with_detached}
 use Rattle.span_script.specs.calls.Here.{here_at, Resolved}
 use Rattle.span_script.specs.Effects.{effect_of, effect_of_call, is_bad_moment}
 use Rattle.span_script.specs.calls.Entries.{enter_effect, exit_effect, attached_by, active, is_full}
 use Rattle.span_script.specs.calls.Events.{event_effect}
-use Rattle.span_script.specs.calls.Filter.{admitted}
+use Rattle.span_script.specs.calls.Filter.{admits_at}
 use Rattle.span_script.specs.calls.Spans.{borrows, is_borrowed, new_effect, span_effect, disabled_effect, drop_effect}
 use Rattle.trace_pipeline.specs.Generated.{made_site, made_setup, root_fields, row_fields, round, rounds, made_requests}
-use Rattle.trace_pipeline.specs.Replay.{going_on, replayed}
+use Rattle.trace_pipeline.specs.Replay.{history_unless_refused, history_after}
 use Rattle.trace_pipeline.proofs.made.LinesLemmas.{asked, root_call, below_call, event_call}
 
 -- ---- histories, a request more at a time
@@ -40,24 +40,24 @@ made_tables h = tables made_setup h
 pub record Steps (t : Tables) (request : Request) (P : Tables → Type 0) : Type 0 where
   pub effect : Effect
   pub is : effect_of made_setup t request ≡ Ok effect
-  pub now : P (after t effect)
+  pub now : P (after_effect t effect)
 
 -- some requests have effects
 pub record Replays (h : History) (requests : List Request) (P : Tables → Type 0) : Type 0 where
   pub history : History
-  pub replays : (more : List Request) → replayed made_setup h (requests ++ more) ≡ replayed made_setup history more
+  pub replays : (more : List Request) → history_after made_setup h (requests ++ more) ≡ history_after made_setup history more
   pub now : P (made_tables history)
 
 steps_on : (t : Tables) (request : Request) (P Q : Tables → Type 0) → Steps t request P → ((u : Tables) → P u → Q u) → Steps t request Q
-steps_on t request P Q s on = record { effect = s.effect; is = s.is; now = on (after t s.effect) s.now }
+steps_on t request P Q s on = record { effect = s.effect; is = s.is; now = on (after_effect t s.effect) s.now }
 
-tables_more : (h : History) (e : Effect) → made_tables (h ++ e ∷ []) ≡ after (made_tables h) e
-tables_more h e = fold-append after _ h (e ∷ [])
+tables_more : (h : History) (e : Effect) → made_tables (h ++ e ∷ []) ≡ after_effect (made_tables h) e
+tables_more h e = fold-append after_effect _ h (e ∷ [])
 
 one : (h : History) (request : Request) (P : Tables → Type 0) → Steps (made_tables h) request P → Replays h (request ∷ []) P
 one h request P s = record {
   history = h ++ s.effect ∷ [];
-  replays = λ more. ap (λ (r : Resolved). going_on r (λ e. replayed made_setup (h ++ e ∷ []) more)) s.is;
+  replays = λ more. ap (λ (r : Resolved). history_unless_refused r (λ e. history_after made_setup (h ++ e ∷ []) more)) s.is;
   now = subst P (sym (tables_more h s.effect)) s.now;
 }
 
@@ -66,14 +66,14 @@ followed h requests more P Q first later =
     let second = later first.history first.now in
     record {
       history = second.history;
-      replays = λ rest. ap (replayed made_setup h) (append_assoc requests more rest) ∙ first.replays (more ++ rest) ∙ second.replays rest;
+      replays = λ rest. ap (history_after made_setup h) (append_assoc requests more rest) ∙ first.replays (more ++ rest) ∙ second.replays rest;
       now = second.now;
     }
 
 -- ---- the tables within a round
 
 -- Behind the slots of the rounds before stand those of this one, and the lane alone has contexts.
-pub record Within (xs : List (Option Scope)) (ys : List (Option Guarded)) (lane : ℕ) (hs : List (Option Scope)) (gs : List (Option Guarded)) (items : List Attached) (at : ℕ) (t : Tables) : Type 0 where
+pub record Within (xs : List (Option Scope)) (ys : List (Option ScopeGuard)) (lane : ℕ) (hs : List (Option Scope)) (gs : List (Option ScopeGuard)) (items : List Attached) (at : ℕ) (t : Tables) : Type 0 where
   pub handles : t.handles ≡ xs ++ hs
   pub guards : t.guards ≡ ys ++ gs
   pub contexts : (l : ℕ) → t.contexts l ≡ (if lane == l then items else [])
@@ -109,13 +109,13 @@ spent_behind slots front back k is =
 -- ---- makings
 
 made_kept : (enabled : Bool) (t : Tables) (before at lane place site : ℕ) (callsite : Callsite) (values : ValueSet) (under : Place) (up : Scope)
-    (xs hs : List (Option Scope)) (ys gs : List (Option Guarded)) (items : List Attached) → Within xs ys lane hs gs items before t
+    (xs hs : List (Option Scope)) (ys gs : List (Option ScopeGuard)) (items : List Attached) → Within xs ys lane hs gs items before t
     → (scope : Scope) × Within xs ys lane (hs ++ Some scope ∷ []) gs items at
-    (after t (if enabled then span_effect (here_at made_setup t at place) site callsite values under up else disabled_effect (here_at made_setup t at place)))
+    (after_effect t (if enabled then span_effect (here_at made_setup t at place) site callsite values under up else disabled_effect (here_at made_setup t at place)))
 made_kept true t before at lane place site callsite values under up xs hs ys gs items w = (
-  length t.made ∷ up,
+  length t.spans ∷ up,
   record {
-    handles = ap (λ l. l ++ Some (length t.made ∷ up) ∷ []) w.handles ∙ append_assoc xs hs (Some (length t.made ∷ up) ∷ []);
+    handles = ap (λ l. l ++ Some (length t.spans ∷ up) ∷ []) w.handles ∙ append_assoc xs hs (Some (length t.spans ∷ up) ∷ []);
     guards = w.guards;
     contexts = w.contexts;
     moment = omega arith;
@@ -140,42 +140,42 @@ query_site = made_site (codes "query") (codes "web::db") kind.Span []
 abbrev row_site : Callsite
 row_site = made_site (codes "row") (codes "web::db") kind.Event (codes "message" ∷ [])
 
-root_step : (t : Tables) (before at lane place i : ℕ) (xs hs : List (Option Scope)) (ys gs : List (Option Guarded)) (items : List Attached)
+root_step : (t : Tables) (before at lane place i : ℕ) (xs hs : List (Option Scope)) (ys gs : List (Option ScopeGuard)) (items : List Attached)
     → Within xs ys lane hs gs items before t → OnTime t.moment at place
     → Steps t (asked at place (root_call i)) (λ u. (scope : Scope) × Within xs ys lane (hs ++ Some scope ∷ []) gs items at u)
 root_step t before at lane place i xs hs ys gs items w on = record {
   effect = new_effect (here_at made_setup t at place) 0 request_site (values_of request_site (root_fields i)) put.Root [];
   is = resolved t at place (root_call i) on;
-  now = made_kept (admitted made_setup t (id_at made_setup.ids place) request_site) t before at lane place 0 request_site (values_of request_site (root_fields i)) put.Root [] xs hs ys gs items w;
+  now = made_kept (admits_at made_setup t (id_at made_setup.ids place) request_site) t before at lane place 0 request_site (values_of request_site (root_fields i)) put.Root [] xs hs ys gs items w;
 }
 
-below_step : (t : Tables) (before at lane place : ℕ) (xs hs : List (Option Scope)) (ys gs : List (Option Guarded)) (items : List Attached)
+below_step : (t : Tables) (before at lane place : ℕ) (xs hs : List (Option Scope)) (ys gs : List (Option ScopeGuard)) (items : List Attached)
     → Within xs ys lane hs gs items before t → OnTime t.moment at place
     → Steps t (asked at place below_call) (λ u. (scope : Scope) × Within xs ys lane (hs ++ Some scope ∷ []) gs items at u)
 below_step t before at lane place xs hs ys gs items w on =
-    let up = scope_of t.made (current_of (t.entries (id_at made_setup.ids place))) in
+    let up = scope_of t.spans (current_of (t.entries (id_at made_setup.ids place))) in
     record {
       effect = new_effect (here_at made_setup t at place) 1 query_site (values_of query_site []) put.Contextual up;
       is = resolved t at place below_call on;
-      now = made_kept (admitted made_setup t (id_at made_setup.ids place) query_site) t before at lane place 1 query_site (values_of query_site []) put.Contextual up xs hs ys gs items w;
+      now = made_kept (admits_at made_setup t (id_at made_setup.ids place) query_site) t before at lane place 1 query_site (values_of query_site []) put.Contextual up xs hs ys gs items w;
     }
 
 -- ---- events
 
-event_step : (t : Tables) (before at lane place : ℕ) (xs hs : List (Option Scope)) (ys gs : List (Option Guarded)) (items : List Attached)
+event_step : (t : Tables) (before at lane place : ℕ) (xs hs : List (Option Scope)) (ys gs : List (Option ScopeGuard)) (items : List Attached)
     → Within xs ys lane hs gs items before t → OnTime t.moment at place → Steps t (asked at place event_call) (Within xs ys lane hs gs items at)
 event_step t before at lane place xs hs ys gs items w on =
     let id = id_at made_setup.ids place in
     record {
-      effect = event_effect (here_at made_setup t at place) row_site (values_of row_site row_fields) (scope_of t.made (current_of (t.entries id)));
+      effect = event_effect (here_at made_setup t at place) row_site (values_of row_site row_fields) (scope_of t.spans (current_of (t.entries id)));
       is = resolved t at place event_call on;
       now = record { handles = w.handles; guards = w.guards; contexts = w.contexts; moment = omega arith };
     }
 
 -- ---- entries
 
-abbrev entry : ℕ → ℕ → Scope → Guarded
-entry handle place scope = record { handle = handle; lane = place; owns = false; scope = scope }
+abbrev entry : ℕ → ℕ → Scope → ScopeGuard
+entry handle place scope = record { handle = handle; place = place; owns = false; scope = scope }
 
 attached_more : (contexts : ℕ → List Attached) (lane : ℕ) (items : List Attached) (new : Option Attached) → ((l : ℕ) → contexts l ≡ (if lane == l then items else []))
     → (l : ℕ) → with_attached contexts lane new l ≡ (if lane == l then items ++ option_to_list new else [])
@@ -200,7 +200,7 @@ not_full some items few = rw (unequal (length items) few) (and_false some)
     and_false true = refl
     and_false false = refl
 
-enter_step : (t : Tables) (before at place k : ℕ) (scope : Scope) (xs hs : List (Option Scope)) (ys gs : List (Option Guarded)) (items : List Attached)
+enter_step : (t : Tables) (before at place k : ℕ) (scope : Scope) (xs hs : List (Option Scope)) (ys gs : List (Option ScopeGuard)) (items : List Attached)
     → Within xs ys (id_at made_setup.ids place) hs gs items before t → OnTime t.moment at place → slot_at hs k ≡ Some scope → length items ≤ 2
     → Steps t (asked at place (call.Enter (length xs + k)))
     (λ u. (new : List Attached) × OwnedBy scope new × Within xs ys (id_at made_setup.ids place) hs (gs ++ Some (entry (length xs + k) place scope) ∷ []) (items ++ new) at u)
@@ -250,7 +250,7 @@ detached_one contexts lane items rest new (s ∷ up) is all owned l = by_case (l
     by_case true e = gone
     by_case false e = is l ∙ rw e refl
 
-exit_step : (t : Tables) (before at place k handle : ℕ) (scope : Scope) (xs hs : List (Option Scope)) (ys gs : List (Option Guarded)) (items rest new : List Attached)
+exit_step : (t : Tables) (before at place k handle : ℕ) (scope : Scope) (xs hs : List (Option Scope)) (ys gs : List (Option ScopeGuard)) (items rest new : List Attached)
     → Within xs ys (id_at made_setup.ids place) hs gs items before t → OnTime t.moment at place → slot_at gs k ≡ Some (entry handle place scope)
     → items ≡ rest ++ new → OwnedBy scope new
     → Steps t (asked at place (call.Exit (length ys + k))) (Within xs ys (id_at made_setup.ids place) hs (slice_set gs k None) rest at)
@@ -270,7 +270,7 @@ exit_step t before at place k handle scope xs hs ys gs items rest new w on there
 
 -- ---- drops
 
-drop_step : (t : Tables) (before at place k : ℕ) (scope : Scope) (xs hs : List (Option Scope)) (ys gs : List (Option Guarded)) (items : List Attached)
+drop_step : (t : Tables) (before at place k : ℕ) (scope : Scope) (xs hs : List (Option Scope)) (ys gs : List (Option ScopeGuard)) (items : List Attached)
     → Within xs ys (id_at made_setup.ids place) hs gs items before t → OnTime t.moment at place → slot_at hs k ≡ Some scope
     → list_any (borrows (length xs + k)) ys ≡ false → list_any (borrows (length xs + k)) gs ≡ false
     → Steps t (asked at place (call.Drop (length xs + k))) (Within xs ys (id_at made_setup.ids place) (slice_set hs k None) gs items at)
@@ -313,11 +313,11 @@ begins i t lane r = record {
   moment = r.moment;
 }
 
-ends : (i lane at : ℕ) (xs : List (Option Scope)) (ys : List (Option Guarded)) (t : Tables) → length xs ≡ 2 * i → length ys ≡ 2 * i → ((handle : ℕ) → list_any (borrows handle) ys ≡ false)
+ends : (i lane at : ℕ) (xs : List (Option Scope)) (ys : List (Option ScopeGuard)) (t : Tables) → length xs ≡ 2 * i → length ys ≡ 2 * i → ((handle : ℕ) → list_any (borrows handle) ys ≡ false)
     → at ≤ 1000 * (i + 1) → Within xs ys lane (None ∷ None ∷ []) (None ∷ None ∷ []) [] at t → Ready (i + 1) t
 ends i lane at xs ys t handles guards free early w = record {
   handles = ap (λ (l : List (Option Scope)). length l) w.handles ∙ length-append xs (None ∷ None ∷ []) ∙ omega (arith, handles);
-  guards = ap (λ (l : List (Option Guarded)). length l) w.guards ∙ length-append ys (None ∷ None ∷ []) ∙ omega (arith, guards);
+  guards = ap (λ (l : List (Option ScopeGuard)). length l) w.guards ∙ length-append ys (None ∷ None ∷ []) ∙ omega (arith, guards);
   free = λ handle. ap (list_any (borrows handle)) w.guards ∙ list_any-append (borrows handle) ys (None ∷ None ∷ []) ∙ rw (free handle) refl;
   contexts = λ l. w.contexts l ∙ in_lane (lane == l) [];
   moment = omega (arith, early, w.moment);
@@ -395,7 +395,7 @@ rounds_replay first (suc n) h few r =
     followed h (round first) (rounds (first + 1) n) (Ready (first + 1)) (Ready (first + suc n)) (round_replays first h (omega (arith, few)) r)
     (λ g s. subst (λ k. Replays g (rounds (first + 1) n) (Ready k)) next (rounds_replay (first + 1) n g (omega (arith, few)) s))
 
-pub made_replays : (n : ℕ) → n ≤ 50000 → ((h : History) × (replayed made_setup [] (made_requests n) ≡ Some h))
+pub made_replays : (n : ℕ) → n ≤ 50000 → ((h : History) × (history_after made_setup [] (made_requests n) ≡ Some h))
 made_replays n few =
     let all = rounds_replay 0 n [] (omega (arith, few)) none_ready in
-    (all.history, ap (replayed made_setup []) (sym (append-nil (made_requests n))) ∙ all.replays [])
+    (all.history, ap (history_after made_setup []) (sym (append-nil (made_requests n))) ∙ all.replays [])

@@ -7,7 +7,7 @@ use Rattle.otel_base.specs.declared.value.KeyValue.{KeyValue}
 use Rattle.otel_base.specs.declared.value.OtelValue.{OtelValue}
 use Rattle.otel_base.specs.declared.value.OtelValue.TheVariants as otel
 use Rattle.span_script.specs.declared.request.TheConstants.{LAST_MOMENT}
-use Rattle.trace_pipeline.specs.forms.AttributeForm.{otel_value_of, keyed, attribute_of, error_status_form, status_of}
+use Rattle.trace_pipeline.specs.forms.AttributeForm.{otel_value_of, key_value, attribute_spelled, error_status_form, status_spelled}
 use Rattle.trace_pipeline.specs.values.FieldData.{IsOtelValue, AreAttributes}
 use Rattle.trace_pipeline.specs.forms.Forms.{at_most, each}
 use Rattle.trace_pipeline.specs.reading.Object.{items}
@@ -21,16 +21,16 @@ otel_read (otel.I64 (negsuc n)) is = refl
 otel_read (otel.Str s) is = refl
 otel_read (otel.List texts) is = rw (texts_read texts) refl
 
-attribute_read : (attribute : KeyValue) → IsOtelValue attribute.value → attribute_of (attribute_data attribute) ≡ Some attribute
-attribute_read attribute is = ap (λ o. option_map keyed (option_map (λ v. (attribute.key, v)) o)) (otel_read attribute.value is)
+attribute_read : (attribute : KeyValue) → IsOtelValue attribute.value → attribute_spelled (attribute_data attribute) ≡ Some attribute
+attribute_read attribute is = ap (λ o. option_map key_value (option_map (λ v. (attribute.key, v)) o)) (otel_read attribute.value is)
 
-pub attributes_read : (attributes : List KeyValue) → AreAttributes attributes → each attribute_of (items attribute_data attributes) ≡ Some attributes
+pub attributes_read : (attributes : List KeyValue) → AreAttributes attributes → each attribute_spelled (items attribute_data attributes) ≡ Some attributes
 attributes_read [] all = refl
 attributes_read (a ∷ attributes) all =
-    ap (λ o. option_and_then (λ a. option_map (λ more. a ∷ more) (each attribute_of (items attribute_data attributes))) o) (attribute_read a all.0)
+    ap (λ o. option_and_then (λ a. option_map (λ more. a ∷ more) (each attribute_spelled (items attribute_data attributes))) o) (attribute_read a all.0)
     ∙ ap (option_map (λ more. a ∷ more)) (attributes_read attributes all.1)
 
-pub status_read : (written : Status) → status_of (status_data written) ≡ Some written
+pub status_read : (written : Status) → status_spelled (status_data written) ≡ Some written
 unfolding error_status_form
 status_read status.Unset = refl
 status_read (status.Error description) = refl

@@ -21,7 +21,7 @@ use Rattle.serde_json.specs.Written.{outline, items_outline, members_outline, co
 use Rattle.serde_json.proofs.Numbers.{number_of-decimal, number_of-negative}
 use Rattle.serde_json.proofs.Texts.{print-outline}
 use Rattle.trace_pipeline.specs.reading.Spelled.{line_members, line_value}
-use Rattle.trace_pipeline.specs.text.Compact.{nested, plain_data, onto, Reads, Begins, BeginsItems, BeginsMembers, BeginsNested}
+use Rattle.trace_pipeline.specs.text.Compact.{nested_value, plain_data, onto, ReadsValue, BeginsWithValue, BeginsItems, BeginsMembers, BeginsNested}
 use Rattle.trace_pipeline.specs.declared.read.plain.Plain.{Plain}
 use Rattle.trace_pipeline.proofs.readings.LinesLemmas.{read_value}
 
@@ -36,21 +36,21 @@ read_compact raw d numbers shallow is =
 
 -- ---- values that don't nest
 
-pub whole_begins : (text rest : List ℕ) (n : ℕ) → text ≡ decimal n ++ rest → n < 2 ^ 64 → Begins 0 text (number (unsigned n)) rest
+pub whole_begins : (text rest : List ℕ) (n : ℕ) → text ≡ decimal n ++ rest → n < 2 ^ 64 → BeginsWithValue 0 text (number (unsigned n)) rest
 whole_begins text rest n is fits = (number (unsigned n), is, (IsNumber-decimal n fits, omega arith, ap (option_map number) (number_of-decimal n fits)))
 
-pub below_begins : (text digits rest : List ℕ) (m n : ℕ) → text ≡ 45 ∷ digits → digits ≡ decimal m ++ rest → m ≡ suc n → n < 2 ^ 63 - 1 → Begins 0 text (number (negative (negsuc n))) rest
+pub below_begins : (text digits rest : List ℕ) (m n : ℕ) → text ≡ 45 ∷ digits → digits ≡ decimal m ++ rest → m ≡ suc n → n < 2 ^ 63 - 1 → BeginsWithValue 0 text (number (negative (negsuc n))) rest
 below_begins text digits rest m n a b one fits =
     (number (negative (negsuc n)), a ∙ ap (λ (l : List ℕ). 45 ∷ l) (b ∙ ap (λ k. decimal k ++ rest) one), (IsNumber-signed_decimal (negsuc n) (omega (arith, fits)), omega arith, ap (option_map number) (number_of-negative n (omega (arith, fits)))))
 
-pub text_begins : (text rest words : List ℕ) → text ≡ quoted words ++ rest → Begins 0 text (string words) rest
+pub text_begins : (text rest words : List ℕ) → text ≡ quoted words ++ rest → BeginsWithValue 0 text (string words) rest
 text_begins text rest words is = (string words, is, (tt, omega arith, refl))
 
-pub flag_begins : (text rest : List ℕ) (b : Bool) → text ≡ compact_text (boolean b) ++ rest → Begins 0 text (boolean b) rest
+pub flag_begins : (text rest : List ℕ) (b : Bool) → text ≡ compact_text (boolean b) ++ rest → BeginsWithValue 0 text (boolean b) rest
 flag_begins text rest b is = (boolean b, is, (tt, omega arith, refl))
 
 -- a leaf is a value of any depth
-pub leaf_begins : (deep : ℕ) (text rest : List ℕ) (d : Data) → Begins 0 text d rest → Begins deep text d rest
+pub leaf_begins : (deep : ℕ) (text rest : List ℕ) (d : Data) → BeginsWithValue 0 text d rest → BeginsWithValue deep text d rest
 leaf_begins deep text rest d b = (b.0, b.1, (b.2.0, omega (arith, b.2.1), b.2.2))
 
 -- ---- items: what is written, and what it is read as
@@ -70,9 +70,9 @@ read_items (p ∷ ps) = item p.1 (read_items ps)
 
 abbrev pub AllRead : ℕ → List Pair → Type 0
 AllRead deep [] = ⊤
-AllRead deep (p ∷ ps) = Reads deep p.0 p.1 × AllRead deep ps
+AllRead deep (p ∷ ps) = ReadsValue deep p.0 p.1 × AllRead deep ps
 
-pub AllRead-push : (deep : ℕ) (ps : List Pair) (p : Pair) → AllRead deep ps → Reads deep p.0 p.1 → AllRead deep (ps ++ p ∷ [])
+pub AllRead-push : (deep : ℕ) (ps : List Pair) (p : Pair) → AllRead deep ps → ReadsValue deep p.0 p.1 → AllRead deep (ps ++ p ∷ [])
 AllRead-push deep [] p all one = (one, tt)
 AllRead-push deep (q ∷ ps) p all one = (all.0, AllRead-push deep ps p all.1 one)
 
@@ -131,9 +131,9 @@ held (n ∷ ns) found = held ns (put n.0 n.1.1 found)
 
 abbrev pub AllNamed : ℕ → List Named → Type 0
 AllNamed deep [] = ⊤
-AllNamed deep (n ∷ ns) = Reads deep n.1.0 n.1.1 × AllNamed deep ns
+AllNamed deep (n ∷ ns) = ReadsValue deep n.1.0 n.1.1 × AllNamed deep ns
 
-pub AllNamed-push : (deep : ℕ) (ns : List Named) (n : Named) → AllNamed deep ns → Reads deep n.1.0 n.1.1 → AllNamed deep (ns ++ n ∷ [])
+pub AllNamed-push : (deep : ℕ) (ns : List Named) (n : Named) → AllNamed deep ns → ReadsValue deep n.1.0 n.1.1 → AllNamed deep (ns ++ n ∷ [])
 AllNamed-push deep [] n all one = (one, tt)
 AllNamed-push deep (m ∷ ns) n all one = (all.0, AllNamed-push deep ns n all.1 one)
 
@@ -196,13 +196,13 @@ no_items_begin deep text rest is = (no_items, no_items, is, tt, omega arith, ref
 pub no_members_begin : (deep : ℕ) (text rest : List ℕ) → text ≡ 125 ∷ rest → BeginsMembers deep text rest
 no_members_begin deep text rest is = (no_members, no_members, is, tt, omega arith, refl)
 
-pub leaf_is_value : (deep : ℕ) (text rest : List ℕ) (d : Data) → Begins 0 text d rest → (e : Data) × Begins deep text e rest
+pub leaf_is_value : (deep : ℕ) (text rest : List ℕ) (d : Data) → BeginsWithValue 0 text d rest → (e : Data) × BeginsWithValue deep text e rest
 leaf_is_value deep text rest d b = (d, leaf_begins deep text rest d b)
 
-pub text_is_value : (deep : ℕ) (text rest words : List ℕ) → text ≡ quoted words ++ rest → (d : Data) × Begins deep text d rest
+pub text_is_value : (deep : ℕ) (text rest words : List ℕ) → text ≡ quoted words ++ rest → (d : Data) × BeginsWithValue deep text d rest
 text_is_value deep text rest words is = leaf_is_value deep text rest (string words) (text_begins text rest words is)
 
-pub nested_is_value : (deep : ℕ) (text rest : List ℕ) → BeginsNested deep text rest → (d : Data) × Begins deep text d rest
+pub nested_is_value : (deep : ℕ) (text rest : List ℕ) → BeginsNested deep text rest → (d : Data) × BeginsWithValue deep text d rest
 nested_is_value deep text rest b = (b.0, b.2)
 
 pub array_begins : (deep inner : ℕ) (text items rest : List ℕ) → deep ≡ suc inner → text ≡ 91 ∷ items → BeginsItems inner items rest → BeginsNested deep text rest
@@ -229,7 +229,7 @@ array_read deep line rest ps utf8 shallow all a b =
 
 -- an array in front of a text, by its items
 pub array_front : (deep : ℕ) (text items rest : List ℕ) (ps : List Pair) → AllRead deep ps → text ≡ 91 ∷ items → items ≡ items_text false (raw_items ps no_items) ++ rest
-    → Begins (deep + 1) text (array (read_items ps)) rest
+    → BeginsWithValue (deep + 1) text (array (read_items ps)) rest
 array_front deep text items rest ps all is more = (
   array (raw_items ps no_items),
   is ∙ ap (λ (l : List ℕ). 91 ∷ l) more,
@@ -237,17 +237,17 @@ array_front deep text items rest ps all is more = (
 )
 
 -- a text with nothing behind its value
-pub whole_text_read : (deep : ℕ) (line text rest : List ℕ) (d : Data) → IsUtf8 line → deep ≤ max_depth → line ≡ text → rest ≡ [] → Begins deep text d rest → line_value line ≡ Some d
+pub whole_text_read : (deep : ℕ) (line text rest : List ℕ) (d : Data) → IsUtf8 line → deep ≤ max_depth → line ≡ text → rest ≡ [] → BeginsWithValue deep text d rest → line_value line ≡ Some d
 whole_text_read deep line text rest d utf8 shallow is none b =
     read_value line d utf8
     (ap read (is ∙ b.1 ∙ ap (λ (l : List ℕ). compact_text b.0 ++ l) none ∙ append-nil (compact_text b.0)) ∙ read_compact b.0 d b.2.0 (omega (arith, shallow, b.2.1)) b.2.2)
 
 -- a nested value stays a text, which is read as the value
-pub nested_begins : (deep : ℕ) (text words rest : List ℕ) → IsUtf8 words → words ++ rest ≡ text → deep ≤ max_depth → (d : Data) → nested d ≡ d → (raw : Data) → words ≡ compact_text raw → Reads deep raw d
-    → Begins deep text (nested (unwrap_or (line_value words) null)) rest
+pub nested_begins : (deep : ℕ) (text words rest : List ℕ) → IsUtf8 words → words ++ rest ≡ text → deep ≤ max_depth → (d : Data) → nested_value d ≡ d → (raw : Data) → words ≡ compact_text raw → ReadsValue deep raw d
+    → BeginsWithValue deep text (nested_value (unwrap_or (line_value words) null)) rest
 nested_begins deep text words rest utf8 cut shallow d same raw is reads =
     let read_as = ap read is ∙ read_compact raw d reads.0 (omega (arith, shallow, reads.1)) reads.2 in
-    let value : nested (unwrap_or (line_value words) null) ≡ d = ap (λ v. nested (unwrap_or v null)) (read_value words d utf8 read_as) ∙ same in
+    let value : nested_value (unwrap_or (line_value words) null) ≡ d = ap (λ v. nested_value (unwrap_or v null)) (read_value words d utf8 read_as) ∙ same in
     (raw, sym cut ∙ ap (λ (l : List ℕ). l ++ rest) is, (reads.0, reads.1, reads.2 ∙ ap (λ e. Some e) (sym value)))
 
 -- ---- entries of the list

@@ -11,7 +11,7 @@ use Rattle.trace_base.specs.declared.field.Value.{Value}
 use Rattle.trace_base.specs.declared.field.Value.TheVariants.{Bool as Truth, I64, U64, I128, U128, Str, Debug, Error}
 use Rattle.trace_pipeline.specs.text.Decimals.{i128_word, below_zero, from_zero}
 use Rattle.trace_pipeline.specs.values.FieldData.{written_value, written_field, HasBits, IsValue, AreValues}
-use Rattle.trace_pipeline.specs.forms.FieldForm.{error_form, typed_form, value_of, field_of}
+use Rattle.trace_pipeline.specs.forms.FieldForm.{error_form, typed_form, value_spelled, field_of}
 use Rattle.trace_pipeline.specs.forms.Forms.{at_most, each}
 use Rattle.trace_pipeline.specs.reading.Object.{items}
 use Rattle.trace_pipeline.proofs.texts.DecimalsLemmas.{decimal_read, no_minus}
@@ -43,7 +43,7 @@ texts_read (s ∷ chain) = ap (option_map (λ more. s ∷ more)) (texts_read cha
 pub small_number : (n : ℕ) → n < 2 ^ 63 → nat_lt n (2 ^ 63) ≡ true
 small_number n small = grind (arith, nat_tests, small)
 
-value_read : (v : Value) → IsValue v → value_of (written_value v) ≡ Some v
+value_read : (v : Value) → IsValue v → value_spelled (written_value v) ≡ Some v
 unfolding typed_form error_form
 value_read (Truth b) is = refl
 value_read (I64 (pos n)) is = rw (small_number n is) refl

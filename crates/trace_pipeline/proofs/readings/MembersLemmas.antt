@@ -9,7 +9,7 @@ use Rattle.serde_json.specs.Data.{Members, member}
 use Rattle.serde_json.specs.Find.{get_member}
 use Rattle.serde_json.specs.View.{view, members_view}
 use Rattle.serde_json.proofs.Views.{Entry, view-lookup}
-use Rattle.trace_pipeline.specs.forms.Forms.{without, nothing}
+use Rattle.trace_pipeline.specs.forms.Forms.{without_member, no_more}
 use Rattle.trace_pipeline.specs.text.Compact.{members_of}
 use Rattle.trace_pipeline.proofs.readings.CompactLemmas.{Entry as Flat}
 
@@ -23,7 +23,7 @@ removed_at Less e es less ms is = ap (member (string_bytes e.0) (view e.1)) is
 removed_at Equal e es less ms is = refl
 removed_at Greater e es less ms is = ap (member (string_bytes e.0) (view e.1)) is
 
-removed : (name : List ℕ) (es : List Entry) → members_view (remove_entry (is_name name) es) ≡ without name (members_view es)
+removed : (name : List ℕ) (es : List Entry) → members_view (remove_entry (is_name name) es) ≡ without_member name (members_view es)
 removed name [] = refl
 removed name (e ∷ es) = removed_at (slice_cmp nat_cmp name (string_bytes e.0)) e es _ _ (removed name es)
 
@@ -32,21 +32,21 @@ pub found : (name : List ℕ) (es : List Entry) (result : Option Value) → resu
 found name es result is = ap (option_map view) is ∙ view-lookup name es
 
 -- and what it leaves are the other members
-pub kept : (name : List ℕ) (es after : List Entry) → after ≡ remove_entry (is_name name) es → members_view after ≡ without name (members_view es)
+pub kept : (name : List ℕ) (es after : List Entry) → after ≡ remove_entry (is_name name) es → members_view after ≡ without_member name (members_view es)
 kept name es after is = ap members_view is ∙ removed name es
 
-pub nothing_left : (es : List Entry) → length es ≡ 0 → nothing (members_view es) ≡ Some tt
+pub nothing_left : (es : List Entry) → length es ≡ 0 → no_more (members_view es) ≡ Some tt
 nothing_left [] none = refl
 nothing_left (e ∷ es) none = absurd (omega arith)
 
-pub something_left : (es : List Entry) → (length es ≡ 0 → ⊥) → nothing (members_view es) ≡ None
+pub something_left : (es : List Entry) → (length es ≡ 0 → ⊥) → no_more (members_view es) ≡ None
 something_left [] some = absurd (some refl)
 something_left (e ∷ es) some = refl
 
-pub no_entry_left : (es : List Flat) → length es ≡ 0 → nothing (members_of es) ≡ Some tt
+pub no_entry_left : (es : List Flat) → length es ≡ 0 → no_more (members_of es) ≡ Some tt
 no_entry_left [] none = refl
 no_entry_left (e ∷ es) none = absurd (omega arith)
 
-pub some_entry_left : (es : List Flat) → (length es ≡ 0 → ⊥) → nothing (members_of es) ≡ None
+pub some_entry_left : (es : List Flat) → (length es ≡ 0 → ⊥) → no_more (members_of es) ≡ None
 some_entry_left [] some = absurd (some refl)
 some_entry_left (e ∷ es) some = refl

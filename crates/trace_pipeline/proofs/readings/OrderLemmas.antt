@@ -6,7 +6,7 @@ use Rattle.std.specs.Cmp.{nat_cmp_is}
 use Rattle.std.specs.Ordering.{match_ordering, ordering_reverse, ordering_then}
 use Rattle.serde_json.specs.Data.{Data, Members, no_members, member, put}
 use Rattle.trace_pipeline.specs.text.Compact.{plain_data, onto, members_of}
-use Rattle.trace_pipeline.specs.reading.Placed.{Before, InOrder, GoesLast}
+use Rattle.trace_pipeline.specs.reading.Placed.{Before, MembersInOrder, GoesLast}
 use Rattle.trace_pipeline.proofs.readings.CompactLemmas.{Entry, Named, held, onto_push}
 
 -- the first bytes tell how names compare, where they differ
@@ -33,17 +33,17 @@ before_put : (l k : List ℕ) (d : Data) (ms : Members) → slice_cmp nat_cmp l 
 before_put l k d no_members here all = here
 before_put l k d (member m e ms) here all = before_put_by (slice_cmp nat_cmp k m) l k m d e ms here all
 
-put_by : (o : Ordering) (k l : List ℕ) (d e : Data) (ms : Members) → slice_cmp nat_cmp k l ≡ o → InOrder (member l e ms) → InOrder (put k d ms)
-    → InOrder (match_ordering o (member k d (member l e ms)) (member l d ms) (member l e (put k d ms)))
+put_by : (o : Ordering) (k l : List ℕ) (d e : Data) (ms : Members) → slice_cmp nat_cmp k l ≡ o → MembersInOrder (member l e ms) → MembersInOrder (put k d ms)
+    → MembersInOrder (match_ordering o (member k d (member l e ms)) (member l d ms) (member l e (put k d ms)))
 put_by Less k l d e ms is sorted more = (is, sorted)
 put_by Equal k l d e ms is sorted more = sorted
 put_by Greater k l d e ms is sorted more = (before_put l k d ms (after k l is) sorted.0, more)
 
-put_in_order : (k : List ℕ) (d : Data) (ms : Members) → InOrder ms → InOrder (put k d ms)
+put_in_order : (k : List ℕ) (d : Data) (ms : Members) → MembersInOrder ms → MembersInOrder (put k d ms)
 put_in_order k d no_members sorted = (tt, tt)
 put_in_order k d (member l e ms) sorted = put_by (slice_cmp nat_cmp k l) k l d e ms refl sorted (put_in_order k d ms sorted.1)
 
-pub held_in_order : (ns : List Named) (found : Members) → InOrder found → InOrder (held ns found)
+pub held_in_order : (ns : List Named) (found : Members) → MembersInOrder found → MembersInOrder (held ns found)
 held_in_order [] found sorted = sorted
 held_in_order (n ∷ ns) found sorted = held_in_order ns (put n.0 n.1.1 found) (put_in_order n.0 n.1.1 found sorted)
 
@@ -52,7 +52,7 @@ held_in_order (n ∷ ns) found sorted = held_in_order ns (put n.0 n.1.1 found) (
 behind_both : (name k l : List ℕ) → slice_cmp nat_cmp k l ≡ Less → slice_cmp nat_cmp name l ≡ Greater → slice_cmp nat_cmp name k ≡ Greater
 behind_both name k l below above = nat_list_cmp_total.antisymm name k ∙ ap ordering_reverse (nat_list_cmp_total.trans k l name below (after name l above))
 
-goes_last : (name : List ℕ) (e : Entry) (es : List Entry) (at : ℕ) (x : Entry) → at ≡ length es → InOrder (members_of (e ∷ es)) → slice_cmp nat_cmp name (get_or (e ∷ es) at x).0.now ≡ Greater
+goes_last : (name : List ℕ) (e : Entry) (es : List Entry) (at : ℕ) (x : Entry) → at ≡ length es → MembersInOrder (members_of (e ∷ es)) → slice_cmp nat_cmp name (get_or (e ∷ es) at x).0.now ≡ Greater
     → (slice_cmp nat_cmp name e.0.now ≡ Greater) × GoesLast name (e ∷ es)
 goes_last name e [] zero x is sorted above = (above, λ d. rw above refl)
 goes_last name e [] (suc at) x is sorted above = absurd (omega (arith, is))
@@ -62,7 +62,7 @@ goes_last name e (f ∷ es) (suc at) x is sorted above =
     let here = behind_both name e.0.now f.0.now sorted.0 rest.0 in
     (here, λ d. rw here (ap (member e.0.now (plain_data e.1)) (rest.1 d)))
 
-pub behind_last : (name : List ℕ) (es : List Entry) (at : ℕ) (x : Entry) → at + 1 ≡ length es → InOrder (members_of es) → Greater ≡ slice_cmp nat_cmp name (get_or es at x).0.now → GoesLast name es
+pub behind_last : (name : List ℕ) (es : List Entry) (at : ℕ) (x : Entry) → at + 1 ≡ length es → MembersInOrder (members_of es) → Greater ≡ slice_cmp nat_cmp name (get_or es at x).0.now → GoesLast name es
 behind_last name [] at x is sorted above = absurd (omega (arith, is))
 behind_last name (e ∷ es) at x is sorted above = (goes_last name e es at x (omega (arith, is)) sorted (sym above)).1
 

@@ -9,13 +9,13 @@ use Rattle.std.specs.Cmp.Lexicographic.{slice_cmp}
 use Rattle.std.specs.Ordering.{match_ordering}
 use Rattle.serde_json.specs.Data.{Data, Members, no_members, member, put}
 use Rattle.serde_json.specs.Find.{get_member}
-use Rattle.trace_pipeline.specs.forms.Forms.{without}
+use Rattle.trace_pipeline.specs.forms.Forms.{without_member}
 use Rattle.trace_pipeline.specs.text.Compact.{plain_data, onto}
-use Rattle.trace_pipeline.specs.reading.Placed.{Finds, FitsIn}
+use Rattle.trace_pipeline.specs.reading.Placed.{FindsMember, FitsIn}
 use Rattle.trace_pipeline.proofs.readings.CompactLemmas.{Entry, onto_push}
 
 abbrev pub Passed : List ℕ → List Entry → ℕ → Type 0
-Passed name es at = (get_member name (onto es no_members) ≡ get_member name (onto (drop at es) no_members)) × (without name (onto es no_members) ≡ onto (take at es) (without name (onto (drop at es) no_members)))
+Passed name es at = (get_member name (onto es no_members) ≡ get_member name (onto (drop at es) no_members)) × (without_member name (onto es no_members) ≡ onto (take at es) (without_member name (onto (drop at es) no_members)))
 
 same_text : (xs : List ℕ) → slice_cmp nat_cmp xs xs ≡ Equal
 same_text xs = tied_itself nat_list_cmp_total xs
@@ -23,7 +23,7 @@ same_text xs = tied_itself nat_list_cmp_total xs
 get_here : (name k : List ℕ) (d : Data) (ms : Members) → k ≡ name → get_member name (member k d ms) ≡ Some d
 get_here name k d ms is = rw (is, same_text) refl
 
-without_here : (name k : List ℕ) (d : Data) (ms : Members) → k ≡ name → without name (member k d ms) ≡ ms
+without_here : (name k : List ℕ) (d : Data) (ms : Members) → k ≡ name → without_member name (member k d ms) ≡ ms
 without_here name k d ms is = rw (is, same_text) refl
 
 either : {A : Type 0} (o : Ordering) (a b : A) → is_eq o ≡ false → match_ordering o a b a ≡ a
@@ -58,20 +58,20 @@ passed_more name es at d within other passed =
     let left = onto (drop (suc at) es) no_members in
     let one : Passed name es (suc at) = (
       passed.0 ∙ ap (λ xs. get_member name (onto xs no_members)) seam ∙ either (slice_cmp nat_cmp name e.0.now) (get_member name left) (Some (plain_data e.1)) (unlike name e.0.now other),
-      passed.1 ∙ ap (λ xs. onto (take at es) (without name (onto xs no_members))) seam
-          ∙ ap (onto (take at es)) (either (slice_cmp nat_cmp name e.0.now) (member e.0.now (plain_data e.1) (without name left)) left (unlike name e.0.now other))
-          ∙ sym (onto_push (take at es) e (without name left))
-          ∙ ap (λ xs. onto xs (without name left)) (sym (take_more es at d within)),
+      passed.1 ∙ ap (λ xs. onto (take at es) (without_member name (onto xs no_members))) seam
+          ∙ ap (onto (take at es)) (either (slice_cmp nat_cmp name e.0.now) (member e.0.now (plain_data e.1) (without_member name left)) left (unlike name e.0.now other))
+          ∙ sym (onto_push (take at es) e (without_member name left))
+          ∙ ap (λ xs. onto xs (without_member name left)) (sym (take_more es at d within)),
     ) in
     subst (Passed name es) next one
 
-pub is_found : (name : List ℕ) (es : List Entry) (at : ℕ) (d : Entry) → at < length es → (get_or es at d).0.now ≡ name → Passed name es at → Finds name es (Some at)
+pub is_found : (name : List ℕ) (es : List Entry) (at : ℕ) (d : Entry) → at < length es → (get_or es at d).0.now ≡ name → Passed name es at → FindsMember name es (Some at)
 is_found name es at d within same passed =
     let seam = λ (x : Entry). drop-cons es at x within in
     let e = get_or es at d in (
       within,
       λ x. passed.0 ∙ ap (λ xs. get_member name (onto xs no_members)) (seam x) ∙ get_here name (get_or es at x).0.now _ _ (ap (λ (y : Entry). y.0.now) (get_or-any es at x d within) ∙ same),
-      passed.1 ∙ ap (λ xs. onto (take at es) (without name (onto xs no_members))) (seam d)
+      passed.1 ∙ ap (λ xs. onto (take at es) (without_member name (onto xs no_members))) (seam d)
           ∙ ap (onto (take at es)) (without_here name e.0.now (plain_data e.1) (onto (drop (suc at) es) no_members) same)
           ∙ sym (onto_append (take at es) (drop (suc at) es) no_members),
     )
@@ -81,10 +81,10 @@ is_found name es at d within same passed =
     get_or-any (e ∷ es) zero x d h = refl
     get_or-any (e ∷ es) (suc at) x d h = get_or-any es at x d (omega arith)
 
-pub not_found : (name : List ℕ) (es : List Entry) (at : ℕ) → length es ≤ at → Passed name es at → Finds name es None
+pub not_found : (name : List ℕ) (es : List Entry) (at : ℕ) → length es ≤ at → Passed name es at → FindsMember name es None
 not_found name es at past passed = (
   passed.0 ∙ ap (λ xs. get_member name (onto xs no_members)) (drop_of_length-le es at past),
-  passed.1 ∙ ap (λ xs. onto (take at es) (without name (onto xs no_members))) (drop_of_length-le es at past) ∙ ap (λ xs. onto xs no_members) (take_all es at past),
+  passed.1 ∙ ap (λ xs. onto (take at es) (without_member name (onto xs no_members))) (drop_of_length-le es at past) ∙ ap (λ xs. onto xs no_members) (take_all es at past),
 )
   where
     take_all : (es : List Entry) (at : ℕ) → length es ≤ at → take at es ≡ es

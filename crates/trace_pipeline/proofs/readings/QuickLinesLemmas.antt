@@ -16,10 +16,10 @@ use Rattle.span_script.specs.declared.request.Place.TheVariants as place
 use Rattle.span_script.specs.declared.request.Request.{Request}
 use Rattle.trace_pipeline.specs.declared.told.Told.TheVariants.{BadLine}
 use Rattle.trace_base.specs.declared.field.Value.{Value}
-use Rattle.trace_pipeline.specs.text.Compact.{Reads}
+use Rattle.trace_pipeline.specs.text.Compact.{ReadsValue}
 use Rattle.trace_pipeline.specs.forms.FieldForm.{fields_of}
 use Rattle.trace_pipeline.specs.forms.Forms.{all_of}
-use Rattle.trace_pipeline.specs.text.QuickLines.{fronted, two_numbers}
+use Rattle.trace_pipeline.specs.text.QuickLines.{line_from, two_numbers}
 use Rattle.trace_pipeline.specs.forms.RequestForm.{request_form, new_form, drop_form, enter_form, exit_form, event_form}
 use Rattle.trace_pipeline.specs.reading.Spelled.{request_spelled}
 use Rattle.trace_pipeline.proofs.readings.LinesLemmas.{read_value}
@@ -53,115 +53,115 @@ filled word fields at lane site =
 abbrev numbered_late : List ℕ → List ℕ → ℕ → ℕ → ℕ → Members
 numbered_late word name at lane n = member (codes "at") (number (unsigned at)) (member (codes "do") (string word) (member (codes "lane") (number (unsigned lane)) (member name (number (unsigned n)) no_members)))
 
-pub drop_read : (line rest : List ℕ) (at handle lane : ℕ) → IsUtf8 line → at < 2 ^ 64 → handle < 2 ^ 64 → lane < 2 ^ 64 → line ≡ fronted at rest
+pub drop_read : (line rest : List ℕ) (at handle lane : ℕ) → IsUtf8 line → at < 2 ^ 64 → handle < 2 ^ 64 → lane < 2 ^ 64 → line ≡ line_from at rest
     → rest ≡ two_numbers (codes "drop\",\"handle\":") handle (codes ",\"lane\":") lane → request_spelled line ≡ Ok (record { at = at; lane = lane; call = call.Drop handle })
 unfolding request_form drop_form escape_byte
 drop_read line rest at handle lane text a h l is behind =
     let ms = numbered (codes "drop") (codes "handle") at handle lane in
-    spells ms ms (record { at = at; lane = lane; call = call.Drop handle }) line text (is ∙ ap (fronted at) behind)
+    spells ms ms (record { at = at; lane = lane; call = call.Drop handle }) line text (is ∙ ap (line_from at) behind)
     (IsNumber-decimal at a, (tt, (IsNumber-decimal handle h, (IsNumber-decimal lane l, tt)))) (omega arith)
     (rw (number_of-decimal at a, number_of-decimal handle h, number_of-decimal lane l) refl) refl
 
-pub drop_read_late : (line rest : List ℕ) (at lane handle : ℕ) → IsUtf8 line → at < 2 ^ 64 → lane < 2 ^ 64 → handle < 2 ^ 64 → line ≡ fronted at rest
+pub drop_read_late : (line rest : List ℕ) (at lane handle : ℕ) → IsUtf8 line → at < 2 ^ 64 → lane < 2 ^ 64 → handle < 2 ^ 64 → line ≡ line_from at rest
     → rest ≡ two_numbers (codes "drop\",\"lane\":") lane (codes ",\"handle\":") handle → request_spelled line ≡ Ok (record { at = at; lane = lane; call = call.Drop handle })
 unfolding request_form drop_form escape_byte
 drop_read_late line rest at lane handle text a l h is behind =
     let raw = numbered_late (codes "drop") (codes "handle") at lane handle in
     let ms = numbered (codes "drop") (codes "handle") at handle lane in
-    spells raw ms (record { at = at; lane = lane; call = call.Drop handle }) line text (is ∙ ap (fronted at) behind)
+    spells raw ms (record { at = at; lane = lane; call = call.Drop handle }) line text (is ∙ ap (line_from at) behind)
     (IsNumber-decimal at a, (tt, (IsNumber-decimal lane l, (IsNumber-decimal handle h, tt)))) (omega arith)
     (rw (number_of-decimal at a, number_of-decimal lane l, number_of-decimal handle h) refl) refl
 
-pub enter_read : (line rest : List ℕ) (at handle lane : ℕ) → IsUtf8 line → at < 2 ^ 64 → handle < 2 ^ 64 → lane < 2 ^ 64 → line ≡ fronted at rest
+pub enter_read : (line rest : List ℕ) (at handle lane : ℕ) → IsUtf8 line → at < 2 ^ 64 → handle < 2 ^ 64 → lane < 2 ^ 64 → line ≡ line_from at rest
     → rest ≡ two_numbers (codes "enter\",\"handle\":") handle (codes ",\"lane\":") lane → request_spelled line ≡ Ok (record { at = at; lane = lane; call = call.Enter handle })
 unfolding request_form enter_form escape_byte
 enter_read line rest at handle lane text a h l is behind =
     let ms = numbered (codes "enter") (codes "handle") at handle lane in
-    spells ms ms (record { at = at; lane = lane; call = call.Enter handle }) line text (is ∙ ap (fronted at) behind)
+    spells ms ms (record { at = at; lane = lane; call = call.Enter handle }) line text (is ∙ ap (line_from at) behind)
     (IsNumber-decimal at a, (tt, (IsNumber-decimal handle h, (IsNumber-decimal lane l, tt)))) (omega arith)
     (rw (number_of-decimal at a, number_of-decimal handle h, number_of-decimal lane l) refl) refl
 
-pub enter_read_late : (line rest : List ℕ) (at lane handle : ℕ) → IsUtf8 line → at < 2 ^ 64 → lane < 2 ^ 64 → handle < 2 ^ 64 → line ≡ fronted at rest
+pub enter_read_late : (line rest : List ℕ) (at lane handle : ℕ) → IsUtf8 line → at < 2 ^ 64 → lane < 2 ^ 64 → handle < 2 ^ 64 → line ≡ line_from at rest
     → rest ≡ two_numbers (codes "enter\",\"lane\":") lane (codes ",\"handle\":") handle → request_spelled line ≡ Ok (record { at = at; lane = lane; call = call.Enter handle })
 unfolding request_form enter_form escape_byte
 enter_read_late line rest at lane handle text a l h is behind =
     let raw = numbered_late (codes "enter") (codes "handle") at lane handle in
     let ms = numbered (codes "enter") (codes "handle") at handle lane in
-    spells raw ms (record { at = at; lane = lane; call = call.Enter handle }) line text (is ∙ ap (fronted at) behind)
+    spells raw ms (record { at = at; lane = lane; call = call.Enter handle }) line text (is ∙ ap (line_from at) behind)
     (IsNumber-decimal at a, (tt, (IsNumber-decimal lane l, (IsNumber-decimal handle h, tt)))) (omega arith)
     (rw (number_of-decimal at a, number_of-decimal lane l, number_of-decimal handle h) refl) refl
 
-pub exit_read : (line rest : List ℕ) (at guard lane : ℕ) → IsUtf8 line → at < 2 ^ 64 → guard < 2 ^ 64 → lane < 2 ^ 64 → line ≡ fronted at rest
+pub exit_read : (line rest : List ℕ) (at guard lane : ℕ) → IsUtf8 line → at < 2 ^ 64 → guard < 2 ^ 64 → lane < 2 ^ 64 → line ≡ line_from at rest
     → rest ≡ two_numbers (codes "exit\",\"guard\":") guard (codes ",\"lane\":") lane → request_spelled line ≡ Ok (record { at = at; lane = lane; call = call.Exit guard })
 unfolding request_form exit_form escape_byte
 exit_read line rest at guard lane text a h l is behind =
     let ms = numbered (codes "exit") (codes "guard") at guard lane in
-    spells ms ms (record { at = at; lane = lane; call = call.Exit guard }) line text (is ∙ ap (fronted at) behind)
+    spells ms ms (record { at = at; lane = lane; call = call.Exit guard }) line text (is ∙ ap (line_from at) behind)
     (IsNumber-decimal at a, (tt, (IsNumber-decimal guard h, (IsNumber-decimal lane l, tt)))) (omega arith)
     (rw (number_of-decimal at a, number_of-decimal guard h, number_of-decimal lane l) refl) refl
 
-pub exit_read_late : (line rest : List ℕ) (at lane guard : ℕ) → IsUtf8 line → at < 2 ^ 64 → lane < 2 ^ 64 → guard < 2 ^ 64 → line ≡ fronted at rest
+pub exit_read_late : (line rest : List ℕ) (at lane guard : ℕ) → IsUtf8 line → at < 2 ^ 64 → lane < 2 ^ 64 → guard < 2 ^ 64 → line ≡ line_from at rest
     → rest ≡ two_numbers (codes "exit\",\"lane\":") lane (codes ",\"guard\":") guard → request_spelled line ≡ Ok (record { at = at; lane = lane; call = call.Exit guard })
 unfolding request_form exit_form escape_byte
 exit_read_late line rest at lane guard text a l h is behind =
     let raw = numbered_late (codes "exit") (codes "guard") at lane guard in
     let ms = numbered (codes "exit") (codes "guard") at guard lane in
-    spells raw ms (record { at = at; lane = lane; call = call.Exit guard }) line text (is ∙ ap (fronted at) behind)
+    spells raw ms (record { at = at; lane = lane; call = call.Exit guard }) line text (is ∙ ap (line_from at) behind)
     (IsNumber-decimal at a, (tt, (IsNumber-decimal lane l, (IsNumber-decimal guard h, tt)))) (omega arith)
     (rw (number_of-decimal at a, number_of-decimal lane l, number_of-decimal guard h) refl) refl
 
-pub new_read : (line rest : List ℕ) (at lane site : ℕ) → IsUtf8 line → at < 2 ^ 64 → lane < 2 ^ 64 → site < 2 ^ 64 → line ≡ fronted at rest
+pub new_read : (line rest : List ℕ) (at lane site : ℕ) → IsUtf8 line → at < 2 ^ 64 → lane < 2 ^ 64 → site < 2 ^ 64 → line ≡ line_from at rest
     → rest ≡ two_numbers (codes "new\",\"lane\":") lane (codes ",\"site\":") site → request_spelled line ≡ Ok (record { at = at; lane = lane; call = call.New site place.Contextual [] })
 unfolding request_form new_form escape_byte
 new_read line rest at lane site text a l h is behind =
     let ms = numbered_late (codes "new") (codes "site") at lane site in
-    spells ms ms (record { at = at; lane = lane; call = call.New site place.Contextual [] }) line text (is ∙ ap (fronted at) behind)
+    spells ms ms (record { at = at; lane = lane; call = call.New site place.Contextual [] }) line text (is ∙ ap (line_from at) behind)
     (IsNumber-decimal at a, (tt, (IsNumber-decimal lane l, (IsNumber-decimal site h, tt)))) (omega arith)
     (rw (number_of-decimal at a, number_of-decimal lane l, number_of-decimal site h) refl) refl
 
-pub event_read : (line rest : List ℕ) (at lane site : ℕ) → IsUtf8 line → at < 2 ^ 64 → lane < 2 ^ 64 → site < 2 ^ 64 → line ≡ fronted at rest
+pub event_read : (line rest : List ℕ) (at lane site : ℕ) → IsUtf8 line → at < 2 ^ 64 → lane < 2 ^ 64 → site < 2 ^ 64 → line ≡ line_from at rest
     → rest ≡ two_numbers (codes "event\",\"lane\":") lane (codes ",\"site\":") site → request_spelled line ≡ Ok (record { at = at; lane = lane; call = call.Event site place.Contextual [] })
 unfolding request_form event_form escape_byte
 event_read line rest at lane site text a l h is behind =
     let ms = numbered_late (codes "event") (codes "site") at lane site in
-    spells ms ms (record { at = at; lane = lane; call = call.Event site place.Contextual [] }) line text (is ∙ ap (fronted at) behind)
+    spells ms ms (record { at = at; lane = lane; call = call.Event site place.Contextual [] }) line text (is ∙ ap (line_from at) behind)
     (IsNumber-decimal at a, (tt, (IsNumber-decimal lane l, (IsNumber-decimal site h, tt)))) (omega arith)
     (rw (number_of-decimal at a, number_of-decimal lane l, number_of-decimal site h) refl) refl
 
-pub new_root_read : (line rest : List ℕ) (at lane site : ℕ) → IsUtf8 line → at < 2 ^ 64 → lane < 2 ^ 64 → site < 2 ^ 64 → line ≡ fronted at rest
+pub new_root_read : (line rest : List ℕ) (at lane site : ℕ) → IsUtf8 line → at < 2 ^ 64 → lane < 2 ^ 64 → site < 2 ^ 64 → line ≡ line_from at rest
     → rest ≡ two_numbers (codes "new\",\"lane\":") lane (codes ",\"parent\":\"root\",\"site\":") site → request_spelled line ≡ Ok (record { at = at; lane = lane; call = call.New site place.Root [] })
 unfolding request_form new_form escape_byte
 new_root_read line rest at lane site text a l h is behind =
     let ms = rooted (codes "new") at lane site in
-    spells ms ms (record { at = at; lane = lane; call = call.New site place.Root [] }) line text (is ∙ ap (fronted at) behind)
+    spells ms ms (record { at = at; lane = lane; call = call.New site place.Root [] }) line text (is ∙ ap (line_from at) behind)
     (IsNumber-decimal at a, (tt, (IsNumber-decimal lane l, (tt, (IsNumber-decimal site h, tt))))) (omega arith)
     (rw (number_of-decimal at a, number_of-decimal lane l, number_of-decimal site h) refl) refl
 
-pub new_fields_read : (line rest array tail : List ℕ) (at lane site : ℕ) (raw d : Data) (fields : List (List ℕ × Value)) → IsUtf8 line → at < 2 ^ 64 → lane < 2 ^ 64 → site < 2 ^ 64 → line ≡ fronted at rest
-    → rest ≡ codes "new\",\"fields\":" ++ array → array ≡ compact_text raw ++ tail → Reads 18 raw d → fields_of d ≡ Some fields → tail ≡ two_numbers (codes ",\"lane\":") lane (codes ",\"site\":") site
+pub new_fields_read : (line rest array tail : List ℕ) (at lane site : ℕ) (raw d : Data) (fields : List (List ℕ × Value)) → IsUtf8 line → at < 2 ^ 64 → lane < 2 ^ 64 → site < 2 ^ 64 → line ≡ line_from at rest
+    → rest ≡ codes "new\",\"fields\":" ++ array → array ≡ compact_text raw ++ tail → ReadsValue 18 raw d → fields_of d ≡ Some fields → tail ≡ two_numbers (codes ",\"lane\":") lane (codes ",\"site\":") site
     → request_spelled line ≡ Ok (record { at = at; lane = lane; call = call.New site place.Contextual fields })
 unfolding request_form new_form escape_byte
 new_fields_read line rest array tail at lane site raw d fields text a l h is front begins reads given behind =
     spells (filled (codes "new") raw at lane site) (filled (codes "new") d at lane site) (record { at = at; lane = lane; call = call.New site place.Contextual fields }) line text
-    (is ∙ ap (fronted at) (front ∙ ap (λ (t : List ℕ). codes "new\",\"fields\":" ++ t) (begins ∙ ap (λ (t : List ℕ). compact_text raw ++ t) behind)))
+    (is ∙ ap (line_from at) (front ∙ ap (λ (t : List ℕ). codes "new\",\"fields\":" ++ t) (begins ∙ ap (λ (t : List ℕ). compact_text raw ++ t) behind)))
     (IsNumber-decimal at a, (tt, (reads.0, (IsNumber-decimal lane l, (IsNumber-decimal site h, tt))))) (omega (arith, reads.1))
     (rw (number_of-decimal at a, reads.2, number_of-decimal lane l, number_of-decimal site h) refl) (rw given refl)
 
-pub event_root_read : (line rest : List ℕ) (at lane site : ℕ) → IsUtf8 line → at < 2 ^ 64 → lane < 2 ^ 64 → site < 2 ^ 64 → line ≡ fronted at rest
+pub event_root_read : (line rest : List ℕ) (at lane site : ℕ) → IsUtf8 line → at < 2 ^ 64 → lane < 2 ^ 64 → site < 2 ^ 64 → line ≡ line_from at rest
     → rest ≡ two_numbers (codes "event\",\"lane\":") lane (codes ",\"parent\":\"root\",\"site\":") site → request_spelled line ≡ Ok (record { at = at; lane = lane; call = call.Event site place.Root [] })
 unfolding request_form event_form escape_byte
 event_root_read line rest at lane site text a l h is behind =
     let ms = rooted (codes "event") at lane site in
-    spells ms ms (record { at = at; lane = lane; call = call.Event site place.Root [] }) line text (is ∙ ap (fronted at) behind)
+    spells ms ms (record { at = at; lane = lane; call = call.Event site place.Root [] }) line text (is ∙ ap (line_from at) behind)
     (IsNumber-decimal at a, (tt, (IsNumber-decimal lane l, (tt, (IsNumber-decimal site h, tt))))) (omega arith)
     (rw (number_of-decimal at a, number_of-decimal lane l, number_of-decimal site h) refl) refl
 
-pub event_fields_read : (line rest array tail : List ℕ) (at lane site : ℕ) (raw d : Data) (fields : List (List ℕ × Value)) → IsUtf8 line → at < 2 ^ 64 → lane < 2 ^ 64 → site < 2 ^ 64 → line ≡ fronted at rest
-    → rest ≡ codes "event\",\"fields\":" ++ array → array ≡ compact_text raw ++ tail → Reads 18 raw d → fields_of d ≡ Some fields → tail ≡ two_numbers (codes ",\"lane\":") lane (codes ",\"site\":") site
+pub event_fields_read : (line rest array tail : List ℕ) (at lane site : ℕ) (raw d : Data) (fields : List (List ℕ × Value)) → IsUtf8 line → at < 2 ^ 64 → lane < 2 ^ 64 → site < 2 ^ 64 → line ≡ line_from at rest
+    → rest ≡ codes "event\",\"fields\":" ++ array → array ≡ compact_text raw ++ tail → ReadsValue 18 raw d → fields_of d ≡ Some fields → tail ≡ two_numbers (codes ",\"lane\":") lane (codes ",\"site\":") site
     → request_spelled line ≡ Ok (record { at = at; lane = lane; call = call.Event site place.Contextual fields })
 unfolding request_form event_form escape_byte
 event_fields_read line rest array tail at lane site raw d fields text a l h is front begins reads given behind =
     spells (filled (codes "event") raw at lane site) (filled (codes "event") d at lane site) (record { at = at; lane = lane; call = call.Event site place.Contextual fields }) line text
-    (is ∙ ap (fronted at) (front ∙ ap (λ (t : List ℕ). codes "event\",\"fields\":" ++ t) (begins ∙ ap (λ (t : List ℕ). compact_text raw ++ t) behind)))
+    (is ∙ ap (line_from at) (front ∙ ap (λ (t : List ℕ). codes "event\",\"fields\":" ++ t) (begins ∙ ap (λ (t : List ℕ). compact_text raw ++ t) behind)))
     (IsNumber-decimal at a, (tt, (reads.0, (IsNumber-decimal lane l, (IsNumber-decimal site h, tt))))) (omega (arith, reads.1))
     (rw (number_of-decimal at a, reads.2, number_of-decimal lane l, number_of-decimal site h) refl) (rw given refl)

@@ -7,9 +7,9 @@ use Rattle.trace_pipeline.specs.reading.Left.{value_data}
 use Rattle.trace_pipeline.specs.reading.Object.{items}
 use Rattle.trace_pipeline.specs.declared.read.value.Value.{Value}
 use Rattle.trace_pipeline.proofs.readings.CompactLemmas.{Pair, read_items}
-use Rattle.trace_pipeline.specs.text.Compact.{nested}
+use Rattle.trace_pipeline.specs.text.Compact.{nested_value}
 
-of_nested : (d : Data) → as_object (nested d) ≡ as_object d
+of_nested : (d : Data) → as_object (nested_value d) ≡ as_object d
 of_nested null = refl
 of_nested (boolean b) = refl
 of_nested (number n) = refl
@@ -17,7 +17,7 @@ of_nested (string s) = refl
 of_nested (array ds) = refl
 of_nested (object ms) = refl
 
-pub of_nested_array : (d : Data) → as_array (nested d) ≡ as_array d
+pub of_nested_array : (d : Data) → as_array (nested_value d) ≡ as_array d
 of_nested_array null = refl
 of_nested_array (boolean b) = refl
 of_nested_array (number n) = refl
@@ -26,16 +26,16 @@ of_nested_array (array ds) = refl
 of_nested_array (object ms) = refl
 
 -- the object of a nested text is that of the line that it is
-pub nested_object : (o : Option Data) → as_object (nested (unwrap_or o null)) ≡ option_and_then as_object o
+pub nested_object : (o : Option Data) → as_object (nested_value (unwrap_or o null)) ≡ option_and_then as_object o
 nested_object None = refl
 nested_object (Some d) = of_nested d
 
 -- and so is the array
-pub nested_array : (o : Option Data) → as_array (nested (unwrap_or o null)) ≡ option_and_then as_array o
+pub nested_array : (o : Option Data) → as_array (nested_value (unwrap_or o null)) ≡ option_and_then as_array o
 nested_array None = refl
 nested_array (Some d) = of_nested_array d
 
-pub no_number : (d : Data) → None ≡ as_whole (nested d)
+pub no_number : (d : Data) → None ≡ as_whole (nested_value d)
 no_number null = refl
 no_number (boolean b) = refl
 no_number (number n) = refl
@@ -43,7 +43,7 @@ no_number (string s) = refl
 no_number (array ds) = refl
 no_number (object ms) = refl
 
-pub no_flag : (d : Data) → None ≡ as_bool (nested d)
+pub no_flag : (d : Data) → None ≡ as_bool (nested_value d)
 no_flag null = refl
 no_flag (boolean b) = refl
 no_flag (number n) = refl
@@ -51,7 +51,7 @@ no_flag (string s) = refl
 no_flag (array ds) = refl
 no_flag (object ms) = refl
 
-pub no_text : (d : Data) → None ≡ as_str (nested d)
+pub no_text : (d : Data) → None ≡ as_str (nested_value d)
 no_text null = refl
 no_text (boolean b) = refl
 no_text (number n) = refl

@@ -8,19 +8,19 @@ use Rattle.json.proofs.Printed.Utf8.{IsUtf8-quoted}
 use Rattle.serde_json.specs.Data.{Data}
 use Rattle.serde_json.specs.Written.{compact_text, items_text, comma_if}
 use Rattle.trace_pipeline.specs.reading.Object.{items}
-use Rattle.trace_pipeline.specs.text.Writes.{Adds}
+use Rattle.trace_pipeline.specs.text.Writes.{AddsText}
 
-pub begun : (old : List ℕ) → Adds old old []
+pub begun : (old : List ℕ) → AddsText old old []
 begun old = (sym (append-nil old), IsUtf8-nil)
 
-pub then : (old mid new s t : List ℕ) → Adds old mid s → Adds mid new t → Adds old new (s ++ t)
+pub then : (old mid new s t : List ℕ) → AddsText old mid s → AddsText mid new t → AddsText old new (s ++ t)
 then old mid new s t x y = (y.0 ∙ ap (λ (l : List ℕ). l ++ t) x.0 ∙ append_assoc old s t, IsUtf8-append s t x.1 y.1)
 
 -- the same text, told otherwise
-pub retold : (old new s t : List ℕ) → Adds old new s → s ≡ t → Adds old new t
+pub retold : (old new s t : List ℕ) → AddsText old new s → s ≡ t → AddsText old new t
 retold old new s t x same = (x.0 ∙ ap (λ (l : List ℕ). old ++ l) same, subst IsUtf8 same x.1)
 
-pub quoted_added : (old a b d new front s : List ℕ) → Adds old a front → b ≡ a ++ 34 ∷ [] → d ≡ b ++ escape s → new ≡ d ++ 34 ∷ [] → IsUtf8 s → Adds old new (front ++ quoted s)
+pub quoted_added : (old a b d new front s : List ℕ) → AddsText old a front → b ≡ a ++ 34 ∷ [] → d ≡ b ++ escape s → new ≡ d ++ 34 ∷ [] → IsUtf8 s → AddsText old new (front ++ quoted s)
 quoted_added old a b d new front s x begin body close utf8 =
     (close ∙ ap (λ (l : List ℕ). l ++ 34 ∷ []) (body ∙ ap (λ (l : List ℕ). l ++ escape s) (begin ∙ ap (λ (l : List ℕ). l ++ 34 ∷ []) x.0)) ∙ parts old front (escape s), IsUtf8-append front (quoted s) x.1 (IsUtf8-quoted s utf8))
   where
@@ -28,15 +28,15 @@ quoted_added old a b d new front s x begin body close utf8 =
     parts old front body = simp append_assoc
 
 -- the same of a text that needs no escape
-pub quoted_plain : (old a b d new front s : List ℕ) → Adds old a front → b ≡ a ++ 34 ∷ [] → Adds b d s → new ≡ d ++ 34 ∷ [] → escape s ≡ s → Adds old new (front ++ quoted s)
+pub quoted_plain : (old a b d new front s : List ℕ) → AddsText old a front → b ≡ a ++ 34 ∷ [] → AddsText b d s → new ≡ d ++ 34 ∷ [] → escape s ≡ s → AddsText old new (front ++ quoted s)
 quoted_plain old a b d new front s x begin body close plain =
     quoted_added old a b d new front s x begin (body.0 ∙ ap (λ (l : List ℕ). b ++ l) (sym plain)) close body.1
 
 -- a text that was added to none
-pub alone : (old new s : List ℕ) → old ≡ [] → Adds old new s → new ≡ s
+pub alone : (old new s : List ℕ) → old ≡ [] → AddsText old new s → new ≡ s
 alone old new s none x = x.0 ∙ ap (λ (l : List ℕ). l ++ s) none
 
-pub alone_utf8 : (old new s : List ℕ) → old ≡ [] → Adds old new s → IsUtf8 new
+pub alone_utf8 : (old new s : List ℕ) → old ≡ [] → AddsText old new s → IsUtf8 new
 alone_utf8 old new s none x = subst IsUtf8 (sym (alone old new s none x)) x.1
 
 -- one item more of an array

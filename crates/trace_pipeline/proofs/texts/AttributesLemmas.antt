@@ -2,10 +2,10 @@
 use Rattle.std.proofs.Common.{◌≡◌, refl}
 use Rattle.serde_json.specs.Data.{Data, null, boolean, number, string, array, object}
 use Rattle.trace_pipeline.specs.forms.AttributeForm.{list_of, otel_value_of}
-use Rattle.trace_pipeline.specs.text.Compact.{nested}
+use Rattle.trace_pipeline.specs.text.Compact.{nested_value}
 
 -- a value that nests is a list, or none of an attribute
-pub list_nested : (d : Data) → otel_value_of (nested d) ≡ list_of (nested d)
+pub list_nested : (d : Data) → otel_value_of (nested_value d) ≡ list_of (nested_value d)
 list_nested null = refl
 list_nested (boolean b) = refl
 list_nested (number n) = refl

@@ -5,8 +5,8 @@ use Rattle.serde_json.specs.Data.{Data, null, boolean, number, string, array, ob
 use Rattle.serde_json.specs.Find.{as_object}
 use Rattle.serde_json.specs.Written.{compact_text}
 use Rattle.trace_base.specs.declared.field.Value.{Value as FieldValue}
-use Rattle.trace_pipeline.specs.text.Compact.{nested, Begins}
-use Rattle.trace_pipeline.specs.forms.FieldForm.{typed_form, value_of, field_of, fields_of}
+use Rattle.trace_pipeline.specs.text.Compact.{nested_value, BeginsWithValue}
+use Rattle.trace_pipeline.specs.forms.FieldForm.{typed_form, value_spelled, field_of, fields_of}
 use Rattle.trace_pipeline.specs.forms.Forms.{all_of, each, pair_with}
 use Rattle.trace_pipeline.specs.reading.Left.{value_data}
 use Rattle.trace_pipeline.specs.reading.Object.{items}
@@ -32,7 +32,7 @@ no_pair f (x ∷ y ∷ z ∷ vs) other = refl
 -- ---- nested values
 
 -- a value that nests is an object, or none of a field
-pub typed_nested : (d : Data) → value_of (nested d) ≡ option_and_then (all_of typed_form) (as_object (nested d))
+pub typed_nested : (d : Data) → value_spelled (nested_value d) ≡ option_and_then (all_of typed_form) (as_object (nested_value d))
 typed_nested null = refl
 typed_nested (boolean b) = refl
 typed_nested (number n) = refl
@@ -41,7 +41,7 @@ typed_nested (array ds) = refl
 typed_nested (object ms) = refl
 
 -- the fields of a nested text are those of the line that it is
-pub nested_fields : (o : Option Data) → fields_of (nested (unwrap_or o null)) ≡ option_and_then fields_of o
+pub nested_fields : (o : Option Data) → fields_of (nested_value (unwrap_or o null)) ≡ option_and_then fields_of o
 nested_fields None = refl
 nested_fields (Some d) = ap (option_and_then (each field_of)) (of_nested_array d)
 
@@ -51,8 +51,8 @@ joined : (name value rest : List ℕ) → 91 ∷ (name ++ 44 ∷ (value ++ 93 �
 joined name value rest = simp append_assoc
 
 pub pair_begins : (deep : ℕ) (text inner comma more end rest name : List ℕ) (d : Data)
-    → text ≡ 91 ∷ inner → inner ≡ quoted name ++ comma → comma ≡ 44 ∷ more → Begins deep more d end → end ≡ 93 ∷ rest
-    → Begins (deep + 1) text (array (item (string name) (item d no_items))) rest
+    → text ≡ 91 ∷ inner → inner ≡ quoted name ++ comma → comma ≡ 44 ∷ more → BeginsWithValue deep more d end → end ≡ 93 ∷ rest
+    → BeginsWithValue (deep + 1) text (array (item (string name) (item d no_items))) rest
 pair_begins deep text inner comma more end rest name d a b c v e = (
   array (item (string name) (item v.0 no_items)),
   a ∙ ap (λ (l : List ℕ). 91 ∷ l) (b ∙ ap (λ (l : List ℕ). quoted name ++ l) (c ∙ ap (λ (l : List ℕ). 44 ∷ l) (v.1 ∙ ap (λ (l : List ℕ). compact_text v.0 ++ l) e))) ∙ joined (quoted name) (compact_text v.0) rest,

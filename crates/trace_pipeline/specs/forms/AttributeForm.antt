@@ -23,21 +23,21 @@ otel_value_of (array ds) = list_of (array ds)
 otel_value_of (object ms) = None
 
 -- an attribute has a key and a value
-abbrev pub keyed : List ℕ × OtelValue → KeyValue
-keyed pair = record { key = pair.0; value = pair.1 }
+abbrev pub key_value : List ℕ × OtelValue → KeyValue
+key_value pair = record { key = pair.0; value = pair.1 }
 
-abbrev pub attribute_of : Data → Option KeyValue
-attribute_of d = option_map keyed (option_and_then (pair_with otel_value_of) (as_array d))
+abbrev pub attribute_spelled : Data → Option KeyValue
+attribute_spelled d = option_map key_value (option_and_then (pair_with otel_value_of) (as_array d))
 
 -- the attributes that an array spells, in its order
-abbrev pub attributes_of : Data → Option (List KeyValue)
-attributes_of d = option_and_then (each attribute_of) (as_array d)
+abbrev pub attributes_spelled : Data → Option (List KeyValue)
+attributes_spelled d = option_and_then (each attribute_spelled) (as_array d)
 
 -- the attributes that are given, which are none where nothing is said
 abbrev pub attributes_form : Form (List KeyValue)
 attributes_form = do
   there ← optional (codes "attributes")
-  when (if_absent [] attributes_of there)
+  when (if_absent [] attributes_spelled there)
 
 -- ---- statuses
 
@@ -58,5 +58,5 @@ abbrev pub status_by : Option (List ℕ) → Data → Option Status
 status_by (Some word) d = status_word word
 status_by None d = object_of error_status_form d
 
-abbrev pub status_of : Data → Option Status
-status_of d = status_by (as_str d) d
+abbrev pub status_spelled : Data → Option Status
+status_spelled d = status_by (as_str d) d

@@ -52,19 +52,19 @@ typed_form =
 -- ---- values
 
 -- the value of a field that a JSON value spells
-abbrev pub value_of : Data → Option Value
-value_of null = None
-value_of (boolean b) = Some (Bool b)
-value_of (number n) = whole_value (as_i64 n) (as_u64 n)
-value_of (string s) = Some (Str s)
-value_of (array ds) = None
-value_of (object ms) = all_of typed_form ms
+abbrev pub value_spelled : Data → Option Value
+value_spelled null = None
+value_spelled (boolean b) = Some (Bool b)
+value_spelled (number n) = whole_value (as_i64 n) (as_u64 n)
+value_spelled (string s) = Some (Str s)
+value_spelled (array ds) = None
+value_spelled (object ms) = all_of typed_form ms
 
 -- ---- fields
 
 -- a field has a name and a value
 abbrev pub field_of : Data → Option (List ℕ × Value)
-field_of d = option_and_then (pair_with value_of) (as_array d)
+field_of d = option_and_then (pair_with value_spelled) (as_array d)
 
 -- the fields that an array spells, in its order
 abbrev pub fields_of : Data → Option (List (List ℕ × Value))

@@ -29,19 +29,19 @@ abbrev pub provided : Bool → Option ⊤
 provided b = if b then Some tt else None
 
 -- the members without the one of a name
-abbrev pub without : List ℕ → Members → Members
-without k no_members = no_members
-without k (json.member l d ms) =
+abbrev pub without_member : List ℕ → Members → Members
+without_member k no_members = no_members
+without_member k (json.member l d ms) =
     match_ordering (slice_cmp nat_cmp k l)
-    (json.member l d (without k ms)) ms (json.member l d (without k ms))
+    (json.member l d (without_member k ms)) ms (json.member l d (without_member k ms))
 
 -- the member of a name, which has to be there
 abbrev pub member : List ℕ → Members → Option (Data × Members)
-member name ms = option_map (λ d. (d, without name ms)) (get_member name ms)
+member name ms = option_map (λ d. (d, without_member name ms)) (get_member name ms)
 
 -- the member of a name, if it is there
 abbrev pub optional : List ℕ → Members → Option (Option Data × Members)
-optional name ms = Some (get_member name ms, without name ms)
+optional name ms = Some (get_member name ms, without_member name ms)
 
 -- ---- kinds of values
 
@@ -82,15 +82,15 @@ pair_with f (item name (item value (item d ds))) = None
 -- ---- members of a kind
 
 -- a whole number
-abbrev pub whole : List ℕ → Members → Option (ℕ × Members)
-whole name = do
+abbrev pub natural : List ℕ → Members → Option (ℕ × Members)
+natural name = do
   d ← member name
   when (as_whole d)
 
 -- a whole number up to the greatest
 abbrev pub whole_to : ℕ → List ℕ → Members → Option (ℕ × Members)
 whole_to greatest name = do
-  n ← whole name
+  n ← natural name
   when (at_most greatest n)
 
 -- a text
@@ -132,13 +132,13 @@ texts name = do
 -- ---- whole objects
 
 -- no member is left
-abbrev pub nothing : Members → Option ⊤
-nothing no_members = Some tt
-nothing (json.member k d ms) = None
+abbrev pub no_more : Members → Option ⊤
+no_more no_members = Some tt
+no_more (json.member k d ms) = None
 
 -- the members are of a form, and there is none more
 abbrev pub all_of : {A : Type 0} → (Members → Option (A × Members)) → Members → Option A
-all_of f ms = option_and_then (λ x. option_map (λ _. x.0) (nothing x.1)) (f ms)
+all_of f ms = option_and_then (λ x. option_map (λ _. x.0) (no_more x.1)) (f ms)
 
 -- a value that is an object of a form
 abbrev pub object_of : {A : Type 0} → (Members → Option (A × Members)) → Data → Option A

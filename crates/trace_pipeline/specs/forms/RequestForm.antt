@@ -12,7 +12,7 @@ use Rattle.span_script.specs.declared.request.Place.{Place}
 use Rattle.span_script.specs.declared.request.Place.TheVariants as place
 use Rattle.trace_pipeline.specs.forms.ExtensionForm.{follows_form, set_parent_form, add_link_form, set_attribute_form, set_status_form, add_event_form}
 use Rattle.trace_pipeline.specs.forms.FieldForm.{fields_of}
-use Rattle.trace_pipeline.specs.forms.Forms.{Form, ◌>>=◌, give, when, whole, text, member, optional, if_absent, as_whole}
+use Rattle.trace_pipeline.specs.forms.Forms.{Form, ◌>>=◌, give, when, natural, text, member, optional, if_absent, as_whole}
 use Rattle.trace_pipeline.specs.text.Hex.{id_word, long_id_word}
 
 -- the words of `do` that are built
@@ -51,14 +51,14 @@ abbrev pub place_by : Option ℕ → Data → Option Place
 place_by (Some handle) d = Some (place.Under handle)
 place_by None d = option_and_then root_word (as_str d)
 
-abbrev pub place_of : Data → Option Place
-place_of d = place_by (as_whole d) d
+abbrev pub place_spelled : Data → Option Place
+place_spelled d = place_by (as_whole d) d
 
 -- where a new span or an event is put: under the current span where nothing is said
 abbrev pub place_form : Form Place
 place_form = do
   there ← optional (codes "parent")
-  when (if_absent place.Contextual place_of there)
+  when (if_absent place.Contextual place_spelled there)
 
 -- the fields that are given, which are none where nothing is said
 abbrev pub fields_form : Form (List (List ℕ × Value))
@@ -69,7 +69,7 @@ fields_form = do
 -- `new` makes a span of a callsite, with the values of some fields
 unfoldable pub new_form : Form Call
 new_form = do
-  site ← whole (codes "site")
+  site ← natural (codes "site")
   put ← place_form
   fields ← fields_form
   give (call.New site put fields)
@@ -77,61 +77,61 @@ new_form = do
 -- `clone` makes a handle of what a handle stands for
 unfoldable pub clone_form : Form Call
 clone_form = do
-  handle ← whole (codes "handle")
+  handle ← natural (codes "handle")
   give (call.Clone handle)
 
 -- `or_current` spends a handle, and makes one of its span or of the current one
 unfoldable pub or_current_form : Form Call
 or_current_form = do
-  handle ← whole (codes "handle")
+  handle ← natural (codes "handle")
   give (call.OrCurrent handle)
 
 -- `drop` spends a handle
 unfoldable pub drop_form : Form Call
 drop_form = do
-  handle ← whole (codes "handle")
+  handle ← natural (codes "handle")
   give (call.Drop handle)
 
 -- `enter` enters a handle's span
 unfoldable pub enter_form : Form Call
 enter_form = do
-  handle ← whole (codes "handle")
+  handle ← natural (codes "handle")
   give (call.Enter handle)
 
 -- `entered` enters it by a guard that owns the handle
 unfoldable pub entered_form : Form Call
 entered_form = do
-  handle ← whole (codes "handle")
+  handle ← natural (codes "handle")
   give (call.Entered handle)
 
 -- `exit` spends a guard of an entry
 unfoldable pub exit_form : Form Call
 exit_form = do
-  guard ← whole (codes "guard")
+  guard ← natural (codes "guard")
   give (call.Exit guard)
 
 -- `context` makes the context of a handle's span
 unfoldable pub context_form : Form Call
 context_form = do
-  handle ← whole (codes "handle")
+  handle ← natural (codes "handle")
   give (call.Context handle)
 
 -- `attach` attaches a context
 unfoldable pub attach_form : Form Call
 attach_form = do
-  context ← whole (codes "context")
+  context ← natural (codes "context")
   give (call.Attach context)
 
 -- `detach` spends a guard of an attached context
 unfoldable pub detach_form : Form Call
 detach_form = do
-  guard ← whole (codes "guard")
+  guard ← natural (codes "guard")
   give (call.Detach guard)
 
 -- `record` records the values of some fields on a handle's span
 unfoldable pub record_form : Form Call
 record_form = do
-  handle ← whole (codes "handle")
+  handle ← natural (codes "handle")
   there ← member (codes "fields")
   fields ← when (fields_of there)
   give (call.Record handle fields)
@@ -139,14 +139,14 @@ record_form = do
 -- `has_field` asks whether a handle's callsite declares a field of a name
 unfoldable pub has_field_form : Form Call
 has_field_form = do
-  handle ← whole (codes "handle")
+  handle ← natural (codes "handle")
   name ← text (codes "name")
   give (call.HasField handle name)
 
 -- `event` records an event of a callsite, with the values of some fields
 unfoldable pub event_form : Form Call
 event_form = do
-  site ← whole (codes "site")
+  site ← natural (codes "site")
   put ← place_form
   fields ← fields_form
   give (call.Event site put fields)
@@ -163,7 +163,7 @@ remote_form = do
 -- `enabled` asks whether what a callsite makes is let through
 unfoldable pub enabled_form : Form Call
 enabled_form = do
-  site ← whole (codes "site")
+  site ← natural (codes "site")
   give (call.Enabled site)
 
 -- `reload` puts a filter of another text in force
@@ -207,8 +207,8 @@ verb_form = do
 -- a moment, a lane, and what a word of `do` goes on with
 unfoldable pub request_form : Form Request
 request_form = do
-  at ← whole (codes "at")
-  lane ← whole (codes "lane")
+  at ← natural (codes "at")
+  lane ← natural (codes "lane")
   verb ← verb_form
   call ← call_form verb
   give (record { at = at; lane = lane; call = call })

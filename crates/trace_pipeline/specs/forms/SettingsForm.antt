@@ -105,8 +105,8 @@ all_differ [] = true
 all_differ (n ∷ ns) = not (list_any (λ m. n == m) ns) && all_differ ns
 
 -- the ids of lanes
-abbrev pub ids : List Lane → List ℕ
-ids lanes = map (λ lane. lane.0) lanes
+abbrev pub lane_ids : List Lane → List ℕ
+lane_ids lanes = map (λ lane. lane.0) lanes
 
 -- the callsites
 abbrev pub callsites_form : Form (List Callsite)
@@ -119,7 +119,7 @@ abbrev pub lanes_form : Form (List Lane)
 lanes_form = do
   lane_items ← array (codes "lanes")
   lanes ← when (each (object_of lane_form) lane_items)
-  differ ← when (provided (all_differ (ids lanes)))
+  differ ← when (provided (all_differ (lane_ids lanes)))
   give lanes
 
 -- what the layer tells, which is what is usual where nothing is said

@@ -19,6 +19,6 @@ value_data (value.Tree tree) = view tree
 abbrev pub flat_left : FlatMembers → List (Bor (List ℕ) × Plain)
 flat_left flat = drop flat.taken flat.members.items
 
-abbrev pub left : Object → Members
-left (Flat members) = members_of (flat_left members)
-left (Tree members) = members_view members.entries
+abbrev pub members_left : Object → Members
+members_left (Flat members) = members_of (flat_left members)
+members_left (Tree members) = members_view members.entries

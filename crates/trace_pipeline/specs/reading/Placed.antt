@@ -6,17 +6,17 @@ use Rattle.std.specs.Cmp.Lexicographic.{slice_cmp}
 use Rattle.std.specs.Borrow.{Bor}
 use Rattle.serde_json.specs.Data.{Data, Members, no_members, member, put}
 use Rattle.serde_json.specs.Find.{get_member}
-use Rattle.trace_pipeline.specs.forms.Forms.{without}
+use Rattle.trace_pipeline.specs.forms.Forms.{without_member}
 use Rattle.trace_pipeline.specs.text.Compact.{plain_data, onto, members_of}
 use Rattle.trace_pipeline.specs.declared.read.plain.Plain.{Plain}
 
 -- where the member of a name stands, if there is one
-abbrev pub Finds : List ℕ → List (Bor (List ℕ) × Plain) → Option ℕ → Type 0
-Finds name es None = (get_member name (members_of es) ≡ None) × (without name (members_of es) ≡ members_of es)
-Finds name es (Some i) =
+abbrev pub FindsMember : List ℕ → List (Bor (List ℕ) × Plain) → Option ℕ → Type 0
+FindsMember name es None = (get_member name (members_of es) ≡ None) × (without_member name (members_of es) ≡ members_of es)
+FindsMember name es (Some i) =
     (i < length es)
     × ((d : Bor (List ℕ) × Plain) → get_member name (members_of es) ≡ Some (plain_data (get_or es i d).1))
-    × (without name (members_of es) ≡ members_of (remove es i))
+    × (without_member name (members_of es) ≡ members_of (remove es i))
 
 -- the name comes before all the members, which is that it comes before the first
 abbrev pub Before : List ℕ → Members → Type 0
@@ -24,9 +24,9 @@ Before k no_members = ⊤
 Before k (member l d ms) = slice_cmp nat_cmp k l ≡ Less
 
 -- the members stand in the order of their names
-abbrev pub InOrder : Members → Type 0
-InOrder no_members = ⊤
-InOrder (member k d ms) = Before k ms × InOrder ms
+abbrev pub MembersInOrder : Members → Type 0
+MembersInOrder no_members = ⊤
+MembersInOrder (member k d ms) = Before k ms × MembersInOrder ms
 
 -- a member of the name goes behind all
 abbrev pub GoesLast : List ℕ → List (Bor (List ℕ) × Plain) → Type 0

@@ -21,13 +21,13 @@ abbrev pub line_members : List ℕ → Option Members
 line_members line = option_and_then as_object (line_value line)
 
 -- what a line spells by a form
-abbrev pub spelled : {A : Type 0} → (Members → Option A) → List ℕ → Option A
-spelled form line = option_and_then form (line_members line)
+abbrev pub value_on_line : {A : Type 0} → (Members → Option A) → List ℕ → Option A
+value_on_line form line = option_and_then form (line_members line)
 
 -- the settings that a line spells
 unfoldable pub settings_spelled : List ℕ → Result Settings Told
-settings_spelled line = ok_or (spelled (all_of settings_form) line) BadLine
+settings_spelled line = ok_or (value_on_line (all_of settings_form) line) BadLine
 
 -- the request that a line spells
 unfoldable pub request_spelled : List ℕ → Result Request Told
-request_spelled line = ok_or (spelled (all_of request_form) line) BadLine
+request_spelled line = ok_or (value_on_line (all_of request_form) line) BadLine

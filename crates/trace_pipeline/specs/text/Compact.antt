@@ -10,13 +10,13 @@ use Rattle.trace_pipeline.specs.declared.read.plain.Plain.{Plain}
 use Rattle.trace_pipeline.specs.declared.read.plain.Plain.TheVariants.{Whole, Below, Text, Flag, Nested}
 
 -- an array or an object as it is, and null in the place of another value
-abbrev pub nested : Data → Data
-nested null = null
-nested (boolean b) = null
-nested (number n) = null
-nested (string s) = null
-nested (array ds) = array ds
-nested (object ms) = object ms
+abbrev pub nested_value : Data → Data
+nested_value null = null
+nested_value (boolean b) = null
+nested_value (number n) = null
+nested_value (string s) = null
+nested_value (array ds) = array ds
+nested_value (object ms) = object ms
 
 -- the value that stands plainly, of which what nests is still a text
 abbrev pub plain_data : Plain → Data
@@ -24,7 +24,7 @@ plain_data (Whole n) = number (unsigned n)
 plain_data (Below z) = number (negative z)
 plain_data (Text s) = string s.now
 plain_data (Flag b) = boolean b
-plain_data (Nested s) = nested (unwrap_or (line_value s.now) null)
+plain_data (Nested s) = nested_value (unwrap_or (line_value s.now) null)
 
 -- members as they stand, in front of others
 abbrev pub onto : List (Bor (List ℕ) × Plain) → Members → Members
@@ -37,12 +37,12 @@ members_of es = onto es no_members
 
 -- What is written as `raw`, with members in any order and more than once, is read as d. It nests so deep at
 -- the most.
-abbrev pub Reads : ℕ → Data → Data → Type 0
-Reads deep raw d = HasNumbers (outline raw) × (depth (outline raw) ≤ deep) × (of_json (outline raw) ≡ Some d)
+abbrev pub ReadsValue : ℕ → Data → Data → Type 0
+ReadsValue deep raw d = HasNumbers (outline raw) × (depth (outline raw) ≤ deep) × (of_json (outline raw) ≡ Some d)
 
 -- the text begins with a value that is read as d
-abbrev pub Begins : ℕ → List ℕ → Data → List ℕ → Type 0
-Begins deep text d rest = (raw : Data) × (text ≡ compact_text raw ++ rest) × Reads deep raw d
+abbrev pub BeginsWithValue : ℕ → List ℕ → Data → List ℕ → Type 0
+BeginsWithValue deep text d rest = (raw : Data) × (text ≡ compact_text raw ++ rest) × ReadsValue deep raw d
 
 -- the text begins with the items of an array and its closing bracket
 abbrev pub BeginsItems : ℕ → List ℕ → List ℕ → Type 0
@@ -60,4 +60,4 @@ BeginsMembers deep text rest =
 
 -- the text begins with an array or an object
 abbrev pub BeginsNested : ℕ → List ℕ → List ℕ → Type 0
-BeginsNested deep text rest = (d : Data) × (nested d ≡ d) × Begins deep text d rest
+BeginsNested deep text rest = (d : Data) × (nested_value d ≡ d) × BeginsWithValue deep text d rest

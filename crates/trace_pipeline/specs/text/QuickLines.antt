@@ -2,8 +2,8 @@
 use Rattle.std.specs.Prelude.{ℕ, List, [], ◌∷◌, ◌++◌, codes, decimal}
 
 -- a line's moment, and what stands behind the quote of its word
-abbrev pub fronted : ℕ → List ℕ → List ℕ
-fronted at rest = codes "{\"at\":" ++ (decimal at ++ (codes ",\"do\":\"" ++ rest))
+abbrev pub line_from : ℕ → List ℕ → List ℕ
+line_from at rest = codes "{\"at\":" ++ (decimal at ++ (codes ",\"do\":\"" ++ rest))
 
 -- two numbers, each behind a text, and the bracket that closes the line
 abbrev pub two_numbers : List ℕ → ℕ → List ℕ → ℕ → List ℕ

@@ -4,9 +4,9 @@ use Rattle.std.specs.Str.{IsUtf8}
 use Rattle.std.specs.declared.alloc.Global.{Global}
 
 -- a text, which is UTF-8, is added
-abbrev pub Adds : List ℕ → List ℕ → List ℕ → Type 0
-Adds old new text = (new ≡ old ++ text) × IsUtf8 text
+abbrev pub AddsText : List ℕ → List ℕ → List ℕ → Type 0
+AddsText old new text = (new ≡ old ++ text) × IsUtf8 text
 
 -- a writer that doesn't fail adds a text
 abbrev pub Writes : {S E : Type 0} → Result S E → Vec ℕ Global → Vec ℕ Global → List ℕ → Type 0
-Writes result old new text = OnOk result (Adds old.items new.items text)
+Writes result old new text = OnOk result (AddsText old.items new.items text)

@@ -11,18 +11,18 @@ use Rattle.trace_base.specs.declared.field.Value.TheVariants.{Bool, I64, U64, I1
 use Rattle.trace_pipeline.specs.reading.Object.{by_name, array_of}
 
 -- a value whose type is named by its member
-abbrev pub typed : List ℕ → Data → Data
-typed name d = object (member name d no_members)
+abbrev pub typed_value : List ℕ → Data → Data
+typed_value name d = object (member name d no_members)
 
 -- a value
 abbrev pub written_value : Value → Data
 written_value (Bool b) = boolean b
 written_value (I64 z) = number (of_integer z)
-written_value (U64 n) = typed (codes "u64") (number (unsigned n))
-written_value (I128 z) = typed (codes "i128") (string (signed_decimal z))
-written_value (U128 n) = typed (codes "u128") (string (decimal n))
+written_value (U64 n) = typed_value (codes "u64") (number (unsigned n))
+written_value (I128 z) = typed_value (codes "i128") (string (signed_decimal z))
+written_value (U128 n) = typed_value (codes "u128") (string (decimal n))
 written_value (Str s) = string s
-written_value (Debug s) = typed (codes "debug") (string s)
+written_value (Debug s) = typed_value (codes "debug") (string s)
 written_value (Error message chain) =
     object (by_name ((codes "error", string message) ∷ (codes "chain", array_of string chain) ∷ []))
 

@@ -15,8 +15,8 @@ use Rattle.trace_pipeline.specs.reading.Object.{array_of}
 use Rattle.trace_pipeline.specs.values.RecordData.{attribute_value, attributes_data, status_data}
 
 -- a call at a moment on a lane
-abbrev pub called : ℕ → ℕ → Call → Request
-called at lane call = record { at = at; lane = lane; call = call }
+abbrev pub request_of : ℕ → ℕ → Call → Request
+request_of at lane call = record { at = at; lane = lane; call = call }
 
 -- ids have 128 and 64 bits, numbers of fields and attributes those of their types, and a time is a moment
 abbrev pub IsInRange : Call → Type 0
@@ -71,58 +71,58 @@ word_of (call.SetStatus handle status) = codes "set_status"
 word_of (call.AddEvent handle name attributes time) = codes "add_event"
 
 -- a member that names something by its number
-abbrev pub names : List ℕ → ℕ → List (List ℕ × Data)
-names name n = (name, number (unsigned n)) ∷ []
+abbrev pub number_member : List ℕ → ℕ → List (List ℕ × Data)
+number_member name n = (name, number (unsigned n)) ∷ []
 
 -- the member that says where a new span or an event is put
-abbrev pub put_at : Place → List (List ℕ × Data)
-put_at place.Contextual = []
-put_at place.Root = (codes "parent", string (codes "root")) ∷ []
-put_at (place.Under handle) = names (codes "parent") handle
+abbrev pub parent_member : Place → List (List ℕ × Data)
+parent_member place.Contextual = []
+parent_member place.Root = (codes "parent", string (codes "root")) ∷ []
+parent_member (place.Under handle) = number_member (codes "parent") handle
 
 -- the member that gives fields
-abbrev pub given : List (List ℕ × Value) → List (List ℕ × Data)
-given fields = (codes "fields", array_of written_field fields) ∷ []
+abbrev pub fields_member : List (List ℕ × Value) → List (List ℕ × Data)
+fields_member fields = (codes "fields", array_of written_field fields) ∷ []
 
 -- the member that gives attributes
 abbrev pub given_attributes : List KeyValue → List (List ℕ × Data)
 given_attributes attributes = (codes "attributes", attributes_data attributes) ∷ []
 
 -- the member that says when an event happened
-abbrev pub happened : Option ℕ → List (List ℕ × Data)
-happened None = []
-happened (Some time) = names (codes "time") time
+abbrev pub time_member : Option ℕ → List (List ℕ × Data)
+time_member None = []
+time_member (Some time) = number_member (codes "time") time
 
 -- what a call names
-abbrev pub names_of : Call → List (List ℕ × Data)
-names_of (call.New site put fields) = names (codes "site") site ++ (put_at put ++ given fields)
-names_of call.Current = []
-names_of (call.Clone handle) = names (codes "handle") handle
-names_of (call.OrCurrent handle) = names (codes "handle") handle
-names_of (call.Drop handle) = names (codes "handle") handle
-names_of (call.Enter handle) = names (codes "handle") handle
-names_of (call.Entered handle) = names (codes "handle") handle
-names_of (call.Exit guard) = names (codes "guard") guard
-names_of (call.Record handle fields) = names (codes "handle") handle ++ given fields
-names_of (call.HasField handle name) = names (codes "handle") handle ++ (codes "name", string name) ∷ []
-names_of (call.Enabled site) = names (codes "site") site
-names_of (call.Reload text) = (codes "text", string text) ∷ []
-names_of (call.Event site put fields) = names (codes "site") site ++ (put_at put ++ given fields)
-names_of (call.Remote ids) =
+abbrev pub number_members_of : Call → List (List ℕ × Data)
+number_members_of (call.New site put fields) = number_member (codes "site") site ++ (parent_member put ++ fields_member fields)
+number_members_of call.Current = []
+number_members_of (call.Clone handle) = number_member (codes "handle") handle
+number_members_of (call.OrCurrent handle) = number_member (codes "handle") handle
+number_members_of (call.Drop handle) = number_member (codes "handle") handle
+number_members_of (call.Enter handle) = number_member (codes "handle") handle
+number_members_of (call.Entered handle) = number_member (codes "handle") handle
+number_members_of (call.Exit guard) = number_member (codes "guard") guard
+number_members_of (call.Record handle fields) = number_member (codes "handle") handle ++ fields_member fields
+number_members_of (call.HasField handle name) = number_member (codes "handle") handle ++ (codes "name", string name) ∷ []
+number_members_of (call.Enabled site) = number_member (codes "site") site
+number_members_of (call.Reload text) = (codes "text", string text) ∷ []
+number_members_of (call.Event site put fields) = number_member (codes "site") site ++ (parent_member put ++ fields_member fields)
+number_members_of (call.Remote ids) =
     (codes "trace", string (hex32 ids.trace)) ∷ (codes "span", string (hex16 ids.span)) ∷ []
-names_of (call.Context handle) = names (codes "handle") handle
-names_of (call.Attach context) = names (codes "context") context
-names_of (call.Detach guard) = names (codes "guard") guard
-names_of (call.Follows handle from) = names (codes "handle") handle ++ names (codes "from") from
-names_of (call.SetParent handle context) = names (codes "handle") handle ++ names (codes "context") context
-names_of (call.AddLink handle context attributes) =
-    names (codes "handle") handle ++ (names (codes "context") context ++ given_attributes attributes)
-names_of (call.SetAttribute handle key value) =
-    names (codes "handle") handle ++ (codes "key", string key) ∷ (codes "value", attribute_value value) ∷ []
-names_of (call.SetStatus handle status) =
-    names (codes "handle") handle ++ (codes "status", status_data status) ∷ []
-names_of (call.AddEvent handle name attributes time) =
-    names (codes "handle") handle ++ (codes "name", string name) ∷ (given_attributes attributes ++ happened time)
+number_members_of (call.Context handle) = number_member (codes "handle") handle
+number_members_of (call.Attach context) = number_member (codes "context") context
+number_members_of (call.Detach guard) = number_member (codes "guard") guard
+number_members_of (call.Follows handle from) = number_member (codes "handle") handle ++ number_member (codes "from") from
+number_members_of (call.SetParent handle context) = number_member (codes "handle") handle ++ number_member (codes "context") context
+number_members_of (call.AddLink handle context attributes) =
+    number_member (codes "handle") handle ++ (number_member (codes "context") context ++ given_attributes attributes)
+number_members_of (call.SetAttribute handle key value) =
+    number_member (codes "handle") handle ++ (codes "key", string key) ∷ (codes "value", attribute_value value) ∷ []
+number_members_of (call.SetStatus handle status) =
+    number_member (codes "handle") handle ++ (codes "status", status_data status) ∷ []
+number_members_of (call.AddEvent handle name attributes time) =
+    number_member (codes "handle") handle ++ (codes "name", string name) ∷ (given_attributes attributes ++ time_member time)
 
 -- the members of an object, from their names and values
 abbrev pub put_all : List (List ℕ × Data) → Members
@@ -133,4 +133,4 @@ abbrev pub request_data : Request → Data
 request_data request = object (put_all (
     (codes "at", number (unsigned request.at)) ∷
     (codes "lane", number (unsigned request.lane)) ∷
-    (codes "do", string (word_of request.call)) ∷ names_of request.call))
+    (codes "do", string (word_of request.call)) ∷ number_members_of request.call))

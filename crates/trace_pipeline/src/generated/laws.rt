@@ -4,7 +4,7 @@ ghost use Rattle.span_script.specs.Admission.{opening_read};
 ghost use Rattle.span_script.specs.Tables.{History};
 ghost use Rattle.trace_pipeline.specs.Generated.{made_settings, made_setup, made_requests, request_line, settings_line, made_lines, made_script};
 ghost use Rattle.trace_pipeline.specs.Lines.{lines_of};
-ghost use Rattle.trace_pipeline.specs.Replay.{replayed};
+ghost use Rattle.trace_pipeline.specs.Replay.{history_after};
 ghost use Rattle.trace_pipeline.specs.Report.{IsValid};
 ghost use Rattle.trace_pipeline.specs.reading.Spelled.{settings_spelled, request_spelled};
 
@@ -21,11 +21,11 @@ pub fn spelled()
 /// A script is valid if the text of its filter is one of directives, and its requests have effects.
 pub fn valid()
     ensures { (rounds : ℕ) (h : History) → rounds ≤ MOST_ROUNDS → opening_read made_settings.filter made_settings.counting ≡ Ok tt
-        → replayed made_setup [] (made_requests rounds) ≡ Some h → IsValid (made_script rounds) }
+        → history_after made_setup [] (made_requests rounds) ≡ Some h → IsValid (made_script rounds) }
 {}
 
 /// Each request of a script has an effect.
 pub fn served()
     ensures { (rounds : ℕ) → rounds ≤ MOST_ROUNDS
-        → (h : History) × (replayed made_setup [] (made_requests rounds) ≡ Some h) }
+        → (h : History) × (history_after made_setup [] (made_requests rounds) ≡ Some h) }
 {}

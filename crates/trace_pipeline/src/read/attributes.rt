@@ -1,11 +1,11 @@
 //! Reading attributes and statuses.
 ghost use Rattle.std.specs.Prelude.{◌≡◌, option_map};
 ghost use Rattle.serde_json.specs.View.{view};
-ghost use Rattle.trace_pipeline.specs.forms.AttributeForm.{list_of, otel_value_of, keyed, attribute_of, attributes_of, attributes_form, status_word, error_status_form, status_of};
+ghost use Rattle.trace_pipeline.specs.forms.AttributeForm.{list_of, otel_value_of, key_value, attribute_spelled, attributes_spelled, attributes_form, status_word, error_status_form, status_spelled};
 ghost use Rattle.trace_pipeline.specs.text.Compact.{plain_data};
 ghost use Rattle.trace_pipeline.specs.forms.Forms.{each, pair_with, object_of};
 ghost use Rattle.trace_pipeline.specs.reading.Gives.{Gives};
-ghost use Rattle.trace_pipeline.specs.reading.Left.{value_data, left};
+ghost use Rattle.trace_pipeline.specs.reading.Left.{value_data, members_left};
 ghost use Rattle.trace_pipeline.specs.reading.Object.{items};
 
 use crate::read::LineError;
@@ -75,7 +75,7 @@ pub fn otel_value_of(alloc: Global, value: Value<'_>) -> Result<OtelValue, LineE
 // The attribute that a pair of a key and a value spells.
 #[tactic(auto, using(crate::proofs::texts::FieldsLemmas::no_pair))]
 fn keyed(alloc: Global, values: Vec<Value<'_>>) -> Result<KeyValue, LineError>
-    ensures { Gives (λ a. a) result (option_map keyed (pair_with otel_value_of (items value_data values.entry.items))) }
+    ensures { Gives (λ a. a) result (option_map key_value (pair_with otel_value_of (items value_data values.entry.items))) }
 {
     match two_of(values) {
         Some((key, value)) => {
@@ -89,14 +89,14 @@ fn keyed(alloc: Global, values: Vec<Value<'_>>) -> Result<KeyValue, LineError>
 
 // The attribute that a value spells.
 fn attribute(alloc: Global, value: Value<'_>) -> Result<KeyValue, LineError>
-    ensures { Gives (λ a. a) result (attribute_of (value_data value.entry)) }
+    ensures { Gives (λ a. a) result (attribute_spelled (value_data value.entry)) }
 {
     keyed(alloc, value.into_array(alloc)?)
 }
 
 // The attributes that the items of an array spell.
 fn attributes(alloc: Global, values: Vec<Value<'_>>) -> Result<Items<KeyValue>, LineError>
-    ensures { Gives (λ l. l) result (each attribute_of (items value_data values.entry.items)) }
+    ensures { Gives (λ l. l) result (each attribute_spelled (items value_data values.entry.items)) }
 {
     let mut attributes = Items::new(alloc);
     for value in values {
@@ -110,7 +110,7 @@ pub(crate) fn given_attributes(
     alloc: Global,
     object: &mut Object,
 ) -> Result<Items<KeyValue>, LineError>
-    ensures { Gives (λ l. (l, left object.new)) result (attributes_form (left object.old)) }
+    ensures { Gives (λ l. (l, members_left object.new)) result (attributes_form (members_left object.old)) }
 {
     match object.optional("attributes") {
         Some(value) => attributes(alloc, value.into_array(alloc)?),
@@ -130,7 +130,7 @@ fn status_word(word: &str) -> Option<Status>
 
 #[tactic(auto, unfolding(crate::specs::forms::AttributeForm::error_status_form))]
 fn error_members(alloc: Global, object: &mut Object) -> Result<Status, LineError>
-    ensures { Gives (λ s. (s, left object.new)) result (error_status_form (left object.old)) }
+    ensures { Gives (λ s. (s, members_left object.new)) result (error_status_form (members_left object.old)) }
 {
     let description = object.text(alloc, "error")?;
     Ok(Status::Error { description })
@@ -147,7 +147,7 @@ fn error_status(alloc: Global, value: Value<'_>) -> Result<Status, LineError>
 
 /// The status that a value names: by a word, or as an error.
 pub(crate) fn status_of(alloc: Global, value: Value<'_>) -> Result<Status, LineError>
-    ensures { Gives (λ s. s) result (status_of (value_data value.entry)) }
+    ensures { Gives (λ s. s) result (status_spelled (value_data value.entry)) }
 {
     match value.word() {
         Ok(word) => return status_word(word).ok_or(LineError::BadLine),
@@ -159,7 +159,7 @@ pub(crate) fn status_of(alloc: Global, value: Value<'_>) -> Result<Status, LineE
 
 /// The attributes that a JSON value spells, for readers of other lines. `BadLine` where it spells none, `Memory` freely.
 pub fn read_attributes(alloc: Global, value: &Json) -> Result<Items<KeyValue>, LineError>
-    ensures { Gives (λ l. l) result (attributes_of (view value.now)) }
+    ensures { Gives (λ l. l) result (attributes_spelled (view value.now)) }
 {
     let tree = value.clone()?;
     attributes(alloc, Value::Tree(tree).into_array(alloc)?)
@@ -175,7 +175,7 @@ pub fn read_attribute_value(alloc: Global, value: &Json) -> Result<OtelValue, Li
 
 /// The status that a JSON value spells. `BadLine` where it spells none, `Memory` freely.
 pub fn read_status(alloc: Global, value: &Json) -> Result<Status, LineError>
-    ensures { Gives (λ s. s) result (status_of (view value.now)) }
+    ensures { Gives (λ s. s) result (status_spelled (view value.now)) }
 {
     let tree = value.clone()?;
     status_of(alloc, Value::Tree(tree))

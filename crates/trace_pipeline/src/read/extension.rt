@@ -1,7 +1,7 @@
 //! Reading the requests that follow spans, and that ask something of the span extension.
 ghost use Rattle.trace_pipeline.specs.forms.ExtensionForm.{follows_form, set_parent_form, add_link_form, set_attribute_form, set_status_form, time_form, add_event_form};
 ghost use Rattle.trace_pipeline.specs.reading.Gives.{Gives};
-ghost use Rattle.trace_pipeline.specs.reading.Left.{left};
+ghost use Rattle.trace_pipeline.specs.reading.Left.{members_left};
 
 use crate::read::LineError;
 use crate::read::attributes::{given_attributes, otel_value_of, status_of};
@@ -12,7 +12,7 @@ use std::alloc::Global;
 
 #[tactic(auto, unfolding(crate::specs::forms::ExtensionForm::follows_form))]
 pub(crate) fn follows_call(object: &mut Object) -> Result<Call, LineError>
-    ensures { Gives (λ c. (c, left object.new)) result (follows_form (left object.old)) }
+    ensures { Gives (λ c. (c, members_left object.new)) result (follows_form (members_left object.old)) }
 {
     let handle = object.whole("handle")?;
     let from = object.whole("from")?;
@@ -21,7 +21,7 @@ pub(crate) fn follows_call(object: &mut Object) -> Result<Call, LineError>
 
 #[tactic(auto, unfolding(crate::specs::forms::ExtensionForm::set_parent_form))]
 pub(crate) fn set_parent_call(object: &mut Object) -> Result<Call, LineError>
-    ensures { Gives (λ c. (c, left object.new)) result (set_parent_form (left object.old)) }
+    ensures { Gives (λ c. (c, members_left object.new)) result (set_parent_form (members_left object.old)) }
 {
     let handle = object.whole("handle")?;
     let context = object.whole("context")?;
@@ -30,7 +30,7 @@ pub(crate) fn set_parent_call(object: &mut Object) -> Result<Call, LineError>
 
 #[tactic(auto, unfolding(crate::specs::forms::ExtensionForm::add_link_form))]
 pub(crate) fn add_link_call(alloc: Global, object: &mut Object) -> Result<Call, LineError>
-    ensures { Gives (λ c. (c, left object.new)) result (add_link_form (left object.old)) }
+    ensures { Gives (λ c. (c, members_left object.new)) result (add_link_form (members_left object.old)) }
 {
     let handle = object.whole("handle")?;
     let context = object.whole("context")?;
@@ -44,7 +44,7 @@ pub(crate) fn add_link_call(alloc: Global, object: &mut Object) -> Result<Call, 
 
 #[tactic(auto, unfolding(crate::specs::forms::ExtensionForm::set_attribute_form))]
 pub(crate) fn set_attribute_call(alloc: Global, object: &mut Object) -> Result<Call, LineError>
-    ensures { Gives (λ c. (c, left object.new)) result (set_attribute_form (left object.old)) }
+    ensures { Gives (λ c. (c, members_left object.new)) result (set_attribute_form (members_left object.old)) }
 {
     let handle = object.whole("handle")?;
     let key = object.text(alloc, "key")?;
@@ -54,7 +54,7 @@ pub(crate) fn set_attribute_call(alloc: Global, object: &mut Object) -> Result<C
 
 #[tactic(auto, unfolding(crate::specs::forms::ExtensionForm::set_status_form))]
 pub(crate) fn set_status_call(alloc: Global, object: &mut Object) -> Result<Call, LineError>
-    ensures { Gives (λ c. (c, left object.new)) result (set_status_form (left object.old)) }
+    ensures { Gives (λ c. (c, members_left object.new)) result (set_status_form (members_left object.old)) }
 {
     let handle = object.whole("handle")?;
     let status = status_of(alloc, object.member("status")?)?;
@@ -63,7 +63,7 @@ pub(crate) fn set_status_call(alloc: Global, object: &mut Object) -> Result<Call
 
 // Takes the time of an event, if it is said.
 fn time(object: &mut Object) -> Result<Option<Moment>, LineError>
-    ensures { Gives (λ t. (t, left object.new)) result (time_form (left object.old)) }
+    ensures { Gives (λ t. (t, members_left object.new)) result (time_form (members_left object.old)) }
 {
     match object.optional("time") {
         Some(value) => Ok(Some(within(LAST_MOMENT, value.whole()?)?)),
@@ -73,7 +73,7 @@ fn time(object: &mut Object) -> Result<Option<Moment>, LineError>
 
 #[tactic(auto, unfolding(crate::specs::forms::ExtensionForm::add_event_form))]
 pub(crate) fn add_event_call(alloc: Global, object: &mut Object) -> Result<Call, LineError>
-    ensures { Gives (λ c. (c, left object.new)) result (add_event_form (left object.old)) }
+    ensures { Gives (λ c. (c, members_left object.new)) result (add_event_form (members_left object.old)) }
 {
     let handle = object.whole("handle")?;
     let name = object.text(alloc, "name")?;

@@ -6,9 +6,9 @@ ghost use Rattle.serde_json.specs.Find.{as_str, as_i64};
 ghost use Rattle.serde_json.specs.View.{view, number_view};
 ghost use Rattle.trace_pipeline.specs.text.Compact.{plain_data};
 ghost use Rattle.trace_pipeline.specs.forms.Forms.{each, texts, pair_with, all_of};
-ghost use Rattle.trace_pipeline.specs.forms.FieldForm.{whole_value, u64_of, i128_of, u128_of, debug_of, error_form, typed_form, value_of, field_of, fields_of};
+ghost use Rattle.trace_pipeline.specs.forms.FieldForm.{whole_value, u64_of, i128_of, u128_of, debug_of, error_form, typed_form, value_spelled, field_of, fields_of};
 ghost use Rattle.trace_pipeline.specs.reading.Gives.{Gives};
-ghost use Rattle.trace_pipeline.specs.reading.Left.{value_data, left};
+ghost use Rattle.trace_pipeline.specs.reading.Left.{value_data, members_left};
 ghost use Rattle.trace_pipeline.specs.reading.Object.{items};
 
 use crate::read::LineError;
@@ -35,7 +35,7 @@ fn whole_value(number: u64) -> FieldValue
 
 // The value of an object that names its type.
 fn typed_value(alloc: Global, object: Object<'_>) -> Result<FieldValue, LineError>
-    ensures { Gives (λ v. v) result (all_of typed_form (left object.entry)) }
+    ensures { Gives (λ v. v) result (all_of typed_form (members_left object.entry)) }
 {
     let mut object = object;
     let typed = typed_members(alloc, &mut object)?;
@@ -87,14 +87,14 @@ pub(crate) fn taken_texts(
     object: &mut Object,
     name: &str,
 ) -> Result<Items<Text>, LineError>
-    ensures { Gives (λ l. (l, left object.new)) result (texts name.now (left object.old)) }
+    ensures { Gives (λ l. (l, members_left object.new)) result (texts name.now (members_left object.old)) }
 {
     texts(alloc, object.array(alloc, name)?)
 }
 
 #[tactic(auto, unfolding(crate::specs::forms::FieldForm::error_form))]
 fn error_members(alloc: Global, object: &mut Object) -> Result<FieldValue, LineError>
-    ensures { Gives (λ v. (v, left object.new)) result (error_form (left object.old)) }
+    ensures { Gives (λ v. (v, members_left object.new)) result (error_form (members_left object.old)) }
 {
     let message = object.text(alloc, "error")?;
     let chain = taken_texts(alloc, object, "chain")?;
@@ -104,7 +104,7 @@ fn error_members(alloc: Global, object: &mut Object) -> Result<FieldValue, LineE
 // Takes the member that names the type of a value; an error has two.
 #[tactic(auto, unfolding(crate::specs::forms::FieldForm::typed_form))]
 fn typed_members(alloc: Global, object: &mut Object) -> Result<FieldValue, LineError>
-    ensures { Gives (λ v. (v, left object.new)) result (typed_form (left object.old)) }
+    ensures { Gives (λ v. (v, members_left object.new)) result (typed_form (members_left object.old)) }
 {
     if let Some(value) = object.optional("u64") {
         return u64_value(&value);
@@ -124,7 +124,7 @@ fn typed_members(alloc: Global, object: &mut Object) -> Result<FieldValue, LineE
 /// The value of a field that a value of a text spells.
 #[tactic(auto, using(crate::proofs::texts::FieldsLemmas::typed_nested))]
 pub(crate) fn plain_value(alloc: Global, plain: Plain<'_>) -> Result<FieldValue, LineError>
-    ensures { Gives (λ v. v) result (value_of (plain_data plain.entry)) }
+    ensures { Gives (λ v. v) result (value_spelled (plain_data plain.entry)) }
 {
     match plain {
         Plain::Whole(number) => Ok(whole_value(number)),
@@ -137,7 +137,7 @@ pub(crate) fn plain_value(alloc: Global, plain: Plain<'_>) -> Result<FieldValue,
 
 // The value of a field that a number of a tree spells.
 fn number_value(number: &Number) -> Result<FieldValue, LineError>
-    ensures { Gives (λ v. v) result (value_of (json.number (number_view number.now))) }
+    ensures { Gives (λ v. v) result (value_spelled (json.number (number_view number.now))) }
 {
     match number.as_i64() {
         Some(signed) => Ok(FieldValue::I64(signed)),
@@ -150,7 +150,7 @@ fn number_value(number: &Number) -> Result<FieldValue, LineError>
 
 // The value of a field that a tree spells.
 fn tree_value(alloc: Global, tree: Json) -> Result<FieldValue, LineError>
-    ensures { Gives (λ v. v) result (value_of (view tree)) }
+    ensures { Gives (λ v. v) result (value_spelled (view tree)) }
 {
     match tree {
         Json::Bool(flag) => Ok(FieldValue::Bool(flag)),
@@ -164,7 +164,7 @@ fn tree_value(alloc: Global, tree: Json) -> Result<FieldValue, LineError>
 
 // The value of a field that a value spells.
 fn field_value(alloc: Global, value: Value<'_>) -> Result<FieldValue, LineError>
-    ensures { Gives (λ v. v) result (value_of (value_data value.entry)) }
+    ensures { Gives (λ v. v) result (value_spelled (value_data value.entry)) }
 {
     match value {
         Value::Plain(plain) => plain_value(alloc, plain),
@@ -190,7 +190,7 @@ pub(crate) fn two_of<'a>(values: Vec<Value<'a>>) -> Option<(Value<'a>, Value<'a>
 // The field that a pair of a name and a value spells.
 #[tactic(auto, using(crate::proofs::texts::FieldsLemmas::no_pair))]
 fn pair(alloc: Global, values: Vec<Value<'_>>) -> Result<(Text, FieldValue), LineError>
-    ensures { Gives (λ f. f) result (pair_with value_of (items value_data values.entry.items)) }
+    ensures { Gives (λ f. f) result (pair_with value_spelled (items value_data values.entry.items)) }
 {
     match two_of(values) {
         Some((name, value)) => {

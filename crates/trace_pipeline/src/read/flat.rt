@@ -7,12 +7,12 @@ ghost use Rattle.std.specs.Str.{IsUtf8};
 ghost use Rattle.json.specs.Print.{quoted};
 ghost use Rattle.serde_json.specs.Data.{array, put};
 ghost use Rattle.serde_json.specs.Find.{get_member};
-ghost use Rattle.trace_pipeline.specs.forms.Forms.{without};
+ghost use Rattle.trace_pipeline.specs.forms.Forms.{without_member};
 ghost use Rattle.trace_pipeline.specs.reading.Object.{items};
 ghost use Rattle.trace_pipeline.specs.reading.Spelled.{line_value, line_members};
-ghost use Rattle.trace_pipeline.specs.text.Compact.{plain_data, members_of, Begins};
+ghost use Rattle.trace_pipeline.specs.text.Compact.{plain_data, members_of, BeginsWithValue};
 ghost use Rattle.trace_pipeline.specs.reading.Left.{value_data};
-ghost use Rattle.trace_pipeline.specs.reading.Placed.{Finds, FitsIn, InOrder, GoesLast};
+ghost use Rattle.trace_pipeline.specs.reading.Placed.{FindsMember, FitsIn, MembersInOrder, GoesLast};
 
 use crate::read::plain::Plain;
 use crate::read::scan::{DEEPEST, behind, text, value};
@@ -39,7 +39,7 @@ pub fn is_text(bytes: &[u8]) -> bool
 // A member, and what stands behind it.
 fn member(bytes: &[u8]) -> Option<((&[u8], Plain<'_>), &[u8])>
     ensures { IfSome result (λ r. (inner : List ℕ) × (bytes.now ≡ quoted r.0.0.now ++ 58 ∷ inner)
-        × Begins DEEPEST inner (plain_data r.0.1) r.1.now) }
+        × BeginsWithValue DEEPEST inner (plain_data r.0.1) r.1.now) }
 {
     let (name, colon) = text(bytes)?;
     let inner = behind(colon, b':')?;
@@ -153,7 +153,7 @@ fn place_for(members: &[(&[u8], Plain<'_>)], name: &[u8]) -> Option<usize>
 
 // Whether a name is known to come behind all that are there.
 fn is_last(members: &[(&[u8], Plain<'_>)], name: &[u8]) -> bool
-    requires { InOrder (members_of members.now) }
+    requires { MembersInOrder (members_of members.now) }
     ensures { result ≡ true → GoesLast name.now members.now }
 {
     if members.is_empty() {
@@ -169,7 +169,7 @@ fn is_last(members: &[(&[u8], Plain<'_>)], name: &[u8]) -> bool
 
 // Puts a member in its place, which mostly is the last. None where its name is there, or there is no memory.
 fn place<'a>(members: &mut Vec<(&'a [u8], Plain<'a>)>, named: (&'a [u8], Plain<'a>)) -> Option<()>
-    requires { InOrder (members_of members.old.items) }
+    requires { MembersInOrder (members_of members.old.items) }
     ensures { IfSome result (λ _.
         members_of members.new.items ≡ put named.entry.0.now (plain_data named.entry.1) (members_of members.old.items)) }
 {
@@ -193,7 +193,7 @@ fn is_same(one: &[u8], other: &[u8]) -> bool
 #[inline(always)]
 #[tactic(auto, using(crate::proofs::readings::PlacesLemmas::passed_first, crate::proofs::readings::PlacesLemmas::passed_more, crate::proofs::readings::PlacesLemmas::is_found, crate::proofs::readings::PlacesLemmas::not_found))]
 fn place_of(members: &[(&[u8], Plain<'_>)], name: &[u8]) -> Option<usize>
-    ensures { Finds name.now members.now result }
+    ensures { FindsMember name.now members.now result }
 {
     let mut at = 0usize;
     while at < members.len() {
@@ -272,7 +272,7 @@ impl<'a> FlatMembers<'a> {
     #[inline(always)]
     pub(crate) fn take(&mut self, name: &[u8]) -> Option<Plain<'a>>
         ensures found { option_map plain_data result ≡ get_member name.now (members_of (flat_left self.old)) }
-        ensures left { members_of (flat_left self.new) ≡ without name.now (members_of (flat_left self.old)) }
+        ensures left { members_of (flat_left self.new) ≡ without_member name.now (members_of (flat_left self.old)) }
     {
         match place_of(self.left(), name) {
             Some(at) => Some(self.take_at(at)),

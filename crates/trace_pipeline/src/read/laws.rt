@@ -2,7 +2,7 @@
 ghost use Rattle.std.specs.Prelude.{◌≡◌, ℕ, [], ◌∷◌, false, Ok, Err, Some, None, codes};
 ghost use Rattle.otel_state.specs.Settings.{default_settings};
 ghost use Rattle.trace_pipeline.specs.forms.Forms.{object_of};
-ghost use Rattle.trace_pipeline.specs.values.RequestData.{IsInRange, called, request_data};
+ghost use Rattle.trace_pipeline.specs.values.RequestData.{IsInRange, request_of, request_data};
 ghost use Rattle.trace_pipeline.specs.forms.RequestForm.{request_form};
 ghost use Rattle.trace_pipeline.specs.reading.Spelled.{settings_spelled, request_spelled};
 ghost use Rattle.trace_pipeline.specs.declared.told.Told.{Told};
@@ -16,7 +16,7 @@ use trace_base::level::Level;
 /// A line that enters a span, and the same line with a member too many.
 pub fn enter_line()
     ensures read { request_spelled (codes "{\"at\":5,\"lane\":0,\"do\":\"enter\",\"handle\":3}")
-        ≡ Ok (called 5 0 (Call.Enter 3)) }
+        ≡ Ok (request_of 5 0 (Call.Enter 3)) }
     ensures refused { request_spelled (codes "{\"at\":5,\"lane\":0,\"do\":\"enter\",\"handle\":3,\"name\":\"a\"}")
         ≡ Err Told.BadLine }
 {}
@@ -44,5 +44,5 @@ pub fn settings_line()
 /// Each request, on whatever lane, with ids, numbers and times in their ranges, has a value that is read as it.
 pub fn every_request()
     ensures { (at lane : ℕ) (call : AnyCall) → IsInRange call
-        → object_of request_form (request_data (called at lane call)) ≡ Some (called at lane call) }
+        → object_of request_form (request_data (request_of at lane call)) ≡ Some (request_of at lane call) }
 {}

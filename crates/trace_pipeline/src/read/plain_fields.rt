@@ -1,8 +1,8 @@
 //! Fields that stand plainly in a text, read in one pass. None says nothing of what the text is.
 ghost use Rattle.std.specs.Prelude.{◌≡◌, ◌+◌, ◌++◌, [], ◌∷◌, Some, IfSome, option_and_then};
 ghost use Rattle.serde_json.specs.Data.{Data};
-ghost use Rattle.trace_pipeline.specs.text.Compact.{plain_data, Begins};
-ghost use Rattle.trace_pipeline.specs.forms.FieldForm.{value_of, field_of, fields_of};
+ghost use Rattle.trace_pipeline.specs.text.Compact.{plain_data, BeginsWithValue};
+ghost use Rattle.trace_pipeline.specs.forms.FieldForm.{value_spelled, field_of, fields_of};
 ghost use Rattle.trace_pipeline.specs.reading.Spelled.{line_value};
 
 use crate::read::fields::plain_value;
@@ -20,7 +20,7 @@ const MOST_FIELDS: u32 = 65_536;
 // A name and a value, to be kept.
 fn kept(alloc: Global, name: &[u8], plain: Plain<'_>) -> Option<(Text, FieldValue)>
     ensures name { IfSome result (λ field. field.0 ≡ name.now) }
-    ensures value { IfSome result (λ field. value_of (plain_data plain.entry) ≡ Some field.1) }
+    ensures value { IfSome result (λ field. value_spelled (plain_data plain.entry) ≡ Some field.1) }
 {
     let words = str::from_utf8(name).ok()?;
     let name = Text::from(String::from_str(alloc, words).ok()?);
@@ -31,7 +31,7 @@ fn kept(alloc: Global, name: &[u8], plain: Plain<'_>) -> Option<(Text, FieldValu
 // A field, and what stands behind it.
 fn plain_field<'a>(alloc: Global, bytes: &'a [u8]) -> Option<((Text, FieldValue), &'a [u8])>
     ensures { IfSome result (λ r.
-        (d : Data) × Begins (DEEPEST + 1) bytes.now d r.1.now × (field_of d ≡ Some r.0)) }
+        (d : Data) × BeginsWithValue (DEEPEST + 1) bytes.now d r.1.now × (field_of d ≡ Some r.0)) }
 {
     let inner = behind(bytes, b'[')?;
     let (name, comma) = text(inner)?;
@@ -56,7 +56,7 @@ pub fn leading_fields<'a>(
     bytes: &'a [u8],
 ) -> Option<(Items<(Text, FieldValue)>, &'a [u8])>
     ensures { IfSome result (λ r.
-        (d : Data) × Begins (DEEPEST + 2) bytes.now d r.1.now × (fields_of d ≡ Some r.0)) }
+        (d : Data) × BeginsWithValue (DEEPEST + 2) bytes.now d r.1.now × (fields_of d ≡ Some r.0)) }
 {
     let mut fields = Vec::new(alloc);
     let mut rest = behind(bytes, b'[')?;

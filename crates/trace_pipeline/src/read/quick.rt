@@ -3,7 +3,7 @@
 //! None says nothing of what the line spells.
 ghost use Rattle.std.specs.Prelude.{◌≡◌, ◌<◌, ◌^◌, Ok, IfSome};
 ghost use Rattle.std.specs.Str.{IsUtf8};
-ghost use Rattle.trace_pipeline.specs.text.QuickLines.{fronted, two_numbers};
+ghost use Rattle.trace_pipeline.specs.text.QuickLines.{line_from, two_numbers};
 ghost use Rattle.trace_pipeline.specs.reading.Spelled.{request_spelled};
 
 use crate::read::flat::{closes, is_text};
@@ -33,7 +33,7 @@ fn pair(text: &[u8], first: &[u8], second: &[u8]) -> Option<(u64, u64)>
 fn drop_line(line: &[u8], at: u64, rest: &[u8]) -> Option<Request>
     requires text { IsUtf8 line.now }
     requires fits { at < 2 ^ 64 }
-    requires front { line.now ≡ fronted at rest.now }
+    requires front { line.now ≡ line_from at rest.now }
     ensures { IfSome result (λ request. request_spelled line.now ≡ Ok request) }
 {
     match pair(rest, b"drop\",\"handle\":", b",\"lane\":") {
@@ -57,7 +57,7 @@ fn drop_line(line: &[u8], at: u64, rest: &[u8]) -> Option<Request>
 fn enter_line(line: &[u8], at: u64, rest: &[u8]) -> Option<Request>
     requires text { IsUtf8 line.now }
     requires fits { at < 2 ^ 64 }
-    requires front { line.now ≡ fronted at rest.now }
+    requires front { line.now ≡ line_from at rest.now }
     ensures { IfSome result (λ request. request_spelled line.now ≡ Ok request) }
 {
     match pair(rest, b"enter\",\"handle\":", b",\"lane\":") {
@@ -81,7 +81,7 @@ fn enter_line(line: &[u8], at: u64, rest: &[u8]) -> Option<Request>
 fn exit_line(line: &[u8], at: u64, rest: &[u8]) -> Option<Request>
     requires text { IsUtf8 line.now }
     requires fits { at < 2 ^ 64 }
-    requires front { line.now ≡ fronted at rest.now }
+    requires front { line.now ≡ line_from at rest.now }
     ensures { IfSome result (λ request. request_spelled line.now ≡ Ok request) }
 {
     match pair(rest, b"exit\",\"guard\":", b",\"lane\":") {
@@ -105,7 +105,7 @@ fn exit_line(line: &[u8], at: u64, rest: &[u8]) -> Option<Request>
 fn new_line(alloc: Global, line: &[u8], at: u64, rest: &[u8]) -> Option<Request>
     requires text { IsUtf8 line.now }
     requires fits { at < 2 ^ 64 }
-    requires front { line.now ≡ fronted at rest.now }
+    requires front { line.now ≡ line_from at rest.now }
     ensures { IfSome result (λ request. request_spelled line.now ≡ Ok request) }
 {
     let fields = Items::new(alloc);
@@ -138,7 +138,7 @@ fn new_line(alloc: Global, line: &[u8], at: u64, rest: &[u8]) -> Option<Request>
 fn new_fields_line(alloc: Global, line: &[u8], at: u64, rest: &[u8]) -> Option<Request>
     requires text { IsUtf8 line.now }
     requires fits { at < 2 ^ 64 }
-    requires front { line.now ≡ fronted at rest.now }
+    requires front { line.now ≡ line_from at rest.now }
     ensures { IfSome result (λ request. request_spelled line.now ≡ Ok request) }
 {
     let array = word(rest, b"new\",\"fields\":")?;
@@ -156,7 +156,7 @@ fn new_fields_line(alloc: Global, line: &[u8], at: u64, rest: &[u8]) -> Option<R
 fn event_line(alloc: Global, line: &[u8], at: u64, rest: &[u8]) -> Option<Request>
     requires text { IsUtf8 line.now }
     requires fits { at < 2 ^ 64 }
-    requires front { line.now ≡ fronted at rest.now }
+    requires front { line.now ≡ line_from at rest.now }
     ensures { IfSome result (λ request. request_spelled line.now ≡ Ok request) }
 {
     let fields = Items::new(alloc);
@@ -193,7 +193,7 @@ fn event_line(alloc: Global, line: &[u8], at: u64, rest: &[u8]) -> Option<Reques
 fn event_fields_line(alloc: Global, line: &[u8], at: u64, rest: &[u8]) -> Option<Request>
     requires text { IsUtf8 line.now }
     requires fits { at < 2 ^ 64 }
-    requires front { line.now ≡ fronted at rest.now }
+    requires front { line.now ≡ line_from at rest.now }
     ensures { IfSome result (λ request. request_spelled line.now ≡ Ok request) }
 {
     let array = word(rest, b"event\",\"fields\":")?;
@@ -210,7 +210,7 @@ fn event_fields_line(alloc: Global, line: &[u8], at: u64, rest: &[u8]) -> Option
 // The moment in front, and what stands behind the quote of the word.
 #[inline(always)]
 fn moment(line: &[u8]) -> Option<(u64, &[u8])>
-    ensures front { IfSome result (λ r. line.now ≡ fronted r.0 r.1.now) }
+    ensures front { IfSome result (λ r. line.now ≡ line_from r.0 r.1.now) }
     ensures fits { IfSome result (λ r. r.0 < 2 ^ 64) }
 {
     let digits = word(line, b"{\"at\":")?;

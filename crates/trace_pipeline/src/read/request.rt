@@ -1,8 +1,8 @@
 //! Reading requests: a function for each word of `do`.
 ghost use Rattle.std.specs.Prelude.{◌≡◌};
 ghost use Rattle.trace_pipeline.specs.reading.Gives.{Gives};
-ghost use Rattle.trace_pipeline.specs.reading.Left.{value_data, left};
-ghost use Rattle.trace_pipeline.specs.forms.RequestForm.{verb_word, verb_form, root_word, place_of, place_form, fields_form, new_form, clone_form, or_current_form, drop_form, enter_form, entered_form, exit_form, record_form, has_field_form, event_form, remote_form, context_form, attach_form, detach_form, call_form, request_form, enabled_form, reload_form};
+ghost use Rattle.trace_pipeline.specs.reading.Left.{value_data, members_left};
+ghost use Rattle.trace_pipeline.specs.forms.RequestForm.{verb_word, verb_form, root_word, place_spelled, place_form, fields_form, new_form, clone_form, or_current_form, drop_form, enter_form, entered_form, exit_form, record_form, has_field_form, event_form, remote_form, context_form, attach_form, detach_form, call_form, request_form, enabled_form, reload_form};
 
 use crate::read::LineError;
 use crate::read::extension::{
@@ -81,7 +81,7 @@ fn verb_of(word: &str) -> Option<Verb>
 
 // Takes what is to be done.
 fn taken_verb(object: &mut Object) -> Result<Verb, LineError>
-    ensures { Gives (λ v. (v, left object.new)) result (verb_form (left object.old)) }
+    ensures { Gives (λ v. (v, members_left object.new)) result (verb_form (members_left object.old)) }
 {
     let word = object.member("do")?;
     verb_of(word.word()?).ok_or(LineError::BadLine)
@@ -98,7 +98,7 @@ fn root_of(word: &str) -> Option<Place>
 
 // The place that a value names: a handle's number, or no span.
 fn place_of(value: &Value<'_>) -> Result<Place, LineError>
-    ensures { Gives (λ place. place) result (place_of (value_data value.now)) }
+    ensures { Gives (λ place. place) result (place_spelled (value_data value.now)) }
 {
     match value.whole() {
         Ok(handle) => Ok(Place::Under { handle }),
@@ -109,7 +109,7 @@ fn place_of(value: &Value<'_>) -> Result<Place, LineError>
 
 // Takes where a new span or an event is put: under the current span where nothing is said.
 fn place(object: &mut Object) -> Result<Place, LineError>
-    ensures { Gives (λ place. (place, left object.new)) result (place_form (left object.old)) }
+    ensures { Gives (λ place. (place, members_left object.new)) result (place_form (members_left object.old)) }
 {
     match object.optional("parent") {
         Some(value) => place_of(&value),
@@ -119,7 +119,7 @@ fn place(object: &mut Object) -> Result<Place, LineError>
 
 /// Takes the fields that are given, which are none where nothing is said.
 pub fn fields(alloc: Global, object: &mut Object) -> Result<Items<(Text, FieldValue)>, LineError>
-    ensures { Gives (λ fields. (fields, left object.new)) result (fields_form (left object.old)) }
+    ensures { Gives (λ fields. (fields, members_left object.new)) result (fields_form (members_left object.old)) }
 {
     match object.optional("fields") {
         Some(value) => fields_of(alloc, value),
@@ -129,7 +129,7 @@ pub fn fields(alloc: Global, object: &mut Object) -> Result<Items<(Text, FieldVa
 
 #[tactic(auto, unfolding(crate::specs::forms::RequestForm::new_form))]
 fn new_call(alloc: Global, object: &mut Object) -> Result<Call, LineError>
-    ensures { Gives (λ c. (c, left object.new)) result (new_form (left object.old)) }
+    ensures { Gives (λ c. (c, members_left object.new)) result (new_form (members_left object.old)) }
 {
     let site = object.whole("site")?;
     let place = place(object)?;
@@ -143,7 +143,7 @@ fn new_call(alloc: Global, object: &mut Object) -> Result<Call, LineError>
 
 #[tactic(auto, unfolding(crate::specs::forms::RequestForm::clone_form))]
 fn clone_call(object: &mut Object) -> Result<Call, LineError>
-    ensures { Gives (λ c. (c, left object.new)) result (clone_form (left object.old)) }
+    ensures { Gives (λ c. (c, members_left object.new)) result (clone_form (members_left object.old)) }
 {
     let handle = object.whole("handle")?;
     Ok(Call::Clone { handle })
@@ -151,7 +151,7 @@ fn clone_call(object: &mut Object) -> Result<Call, LineError>
 
 #[tactic(auto, unfolding(crate::specs::forms::RequestForm::or_current_form))]
 fn or_current_call(object: &mut Object) -> Result<Call, LineError>
-    ensures { Gives (λ c. (c, left object.new)) result (or_current_form (left object.old)) }
+    ensures { Gives (λ c. (c, members_left object.new)) result (or_current_form (members_left object.old)) }
 {
     let handle = object.whole("handle")?;
     Ok(Call::OrCurrent { handle })
@@ -159,7 +159,7 @@ fn or_current_call(object: &mut Object) -> Result<Call, LineError>
 
 #[tactic(auto, unfolding(crate::specs::forms::RequestForm::drop_form))]
 fn drop_call(object: &mut Object) -> Result<Call, LineError>
-    ensures { Gives (λ c. (c, left object.new)) result (drop_form (left object.old)) }
+    ensures { Gives (λ c. (c, members_left object.new)) result (drop_form (members_left object.old)) }
 {
     let handle = object.whole("handle")?;
     Ok(Call::Drop { handle })
@@ -167,7 +167,7 @@ fn drop_call(object: &mut Object) -> Result<Call, LineError>
 
 #[tactic(auto, unfolding(crate::specs::forms::RequestForm::enter_form))]
 fn enter_call(object: &mut Object) -> Result<Call, LineError>
-    ensures { Gives (λ c. (c, left object.new)) result (enter_form (left object.old)) }
+    ensures { Gives (λ c. (c, members_left object.new)) result (enter_form (members_left object.old)) }
 {
     let handle = object.whole("handle")?;
     Ok(Call::Enter { handle })
@@ -175,7 +175,7 @@ fn enter_call(object: &mut Object) -> Result<Call, LineError>
 
 #[tactic(auto, unfolding(crate::specs::forms::RequestForm::entered_form))]
 fn entered_call(object: &mut Object) -> Result<Call, LineError>
-    ensures { Gives (λ c. (c, left object.new)) result (entered_form (left object.old)) }
+    ensures { Gives (λ c. (c, members_left object.new)) result (entered_form (members_left object.old)) }
 {
     let handle = object.whole("handle")?;
     Ok(Call::Entered { handle })
@@ -183,7 +183,7 @@ fn entered_call(object: &mut Object) -> Result<Call, LineError>
 
 #[tactic(auto, unfolding(crate::specs::forms::RequestForm::exit_form))]
 fn exit_call(object: &mut Object) -> Result<Call, LineError>
-    ensures { Gives (λ c. (c, left object.new)) result (exit_form (left object.old)) }
+    ensures { Gives (λ c. (c, members_left object.new)) result (exit_form (members_left object.old)) }
 {
     let guard = object.whole("guard")?;
     Ok(Call::Exit { guard })
@@ -191,7 +191,7 @@ fn exit_call(object: &mut Object) -> Result<Call, LineError>
 
 #[tactic(auto, unfolding(crate::specs::forms::RequestForm::context_form))]
 fn context_call(object: &mut Object) -> Result<Call, LineError>
-    ensures { Gives (λ c. (c, left object.new)) result (context_form (left object.old)) }
+    ensures { Gives (λ c. (c, members_left object.new)) result (context_form (members_left object.old)) }
 {
     let handle = object.whole("handle")?;
     Ok(Call::Context { handle })
@@ -199,7 +199,7 @@ fn context_call(object: &mut Object) -> Result<Call, LineError>
 
 #[tactic(auto, unfolding(crate::specs::forms::RequestForm::attach_form))]
 fn attach_call(object: &mut Object) -> Result<Call, LineError>
-    ensures { Gives (λ c. (c, left object.new)) result (attach_form (left object.old)) }
+    ensures { Gives (λ c. (c, members_left object.new)) result (attach_form (members_left object.old)) }
 {
     let context = object.whole("context")?;
     Ok(Call::Attach { context })
@@ -207,7 +207,7 @@ fn attach_call(object: &mut Object) -> Result<Call, LineError>
 
 #[tactic(auto, unfolding(crate::specs::forms::RequestForm::detach_form))]
 fn detach_call(object: &mut Object) -> Result<Call, LineError>
-    ensures { Gives (λ c. (c, left object.new)) result (detach_form (left object.old)) }
+    ensures { Gives (λ c. (c, members_left object.new)) result (detach_form (members_left object.old)) }
 {
     let guard = object.whole("guard")?;
     Ok(Call::Detach { guard })
@@ -215,7 +215,7 @@ fn detach_call(object: &mut Object) -> Result<Call, LineError>
 
 #[tactic(auto, unfolding(crate::specs::forms::RequestForm::record_form))]
 fn record_call(alloc: Global, object: &mut Object) -> Result<Call, LineError>
-    ensures { Gives (λ c. (c, left object.new)) result (record_form (left object.old)) }
+    ensures { Gives (λ c. (c, members_left object.new)) result (record_form (members_left object.old)) }
 {
     let handle = object.whole("handle")?;
     let fields = fields_of(alloc, object.member("fields")?)?;
@@ -224,7 +224,7 @@ fn record_call(alloc: Global, object: &mut Object) -> Result<Call, LineError>
 
 #[tactic(auto, unfolding(crate::specs::forms::RequestForm::has_field_form))]
 fn has_field_call(alloc: Global, object: &mut Object) -> Result<Call, LineError>
-    ensures { Gives (λ c. (c, left object.new)) result (has_field_form (left object.old)) }
+    ensures { Gives (λ c. (c, members_left object.new)) result (has_field_form (members_left object.old)) }
 {
     let handle = object.whole("handle")?;
     let name = object.text(alloc, "name")?;
@@ -233,7 +233,7 @@ fn has_field_call(alloc: Global, object: &mut Object) -> Result<Call, LineError>
 
 #[tactic(auto, unfolding(crate::specs::forms::RequestForm::event_form))]
 fn event_call(alloc: Global, object: &mut Object) -> Result<Call, LineError>
-    ensures { Gives (λ c. (c, left object.new)) result (event_form (left object.old)) }
+    ensures { Gives (λ c. (c, members_left object.new)) result (event_form (members_left object.old)) }
 {
     let site = object.whole("site")?;
     let place = place(object)?;
@@ -247,7 +247,7 @@ fn event_call(alloc: Global, object: &mut Object) -> Result<Call, LineError>
 
 #[tactic(auto, unfolding(crate::specs::forms::RequestForm::remote_form))]
 fn remote_call(object: &mut Object) -> Result<Call, LineError>
-    ensures { Gives (λ c. (c, left object.new)) result (remote_form (left object.old)) }
+    ensures { Gives (λ c. (c, members_left object.new)) result (remote_form (members_left object.old)) }
 {
     let trace = long_id_of(object.member("trace")?.word()?).ok_or(LineError::BadLine)?;
     let span = id_of(object.member("span")?.word()?).ok_or(LineError::BadLine)?;
@@ -257,7 +257,7 @@ fn remote_call(object: &mut Object) -> Result<Call, LineError>
 
 #[tactic(auto, unfolding(crate::specs::forms::RequestForm::enabled_form))]
 fn enabled_call(object: &mut Object) -> Result<Call, LineError>
-    ensures { Gives (λ c. (c, left object.new)) result (enabled_form (left object.old)) }
+    ensures { Gives (λ c. (c, members_left object.new)) result (enabled_form (members_left object.old)) }
 {
     let site = object.whole("site")?;
     Ok(Call::Enabled { site })
@@ -265,14 +265,14 @@ fn enabled_call(object: &mut Object) -> Result<Call, LineError>
 
 #[tactic(auto, unfolding(crate::specs::forms::RequestForm::reload_form))]
 fn reload_call(alloc: Global, object: &mut Object) -> Result<Call, LineError>
-    ensures { Gives (λ c. (c, left object.new)) result (reload_form (left object.old)) }
+    ensures { Gives (λ c. (c, members_left object.new)) result (reload_form (members_left object.old)) }
 {
     let text = object.text(alloc, "text")?;
     Ok(Call::Reload { text })
 }
 
 fn call(alloc: Global, verb: Verb, object: &mut Object) -> Result<Call, LineError>
-    ensures { Gives (λ c. (c, left object.new)) result (call_form verb (left object.old)) }
+    ensures { Gives (λ c. (c, members_left object.new)) result (call_form verb (members_left object.old)) }
 {
     match verb {
         Verb::New => new_call(alloc, object),
@@ -304,7 +304,7 @@ fn call(alloc: Global, verb: Verb, object: &mut Object) -> Result<Call, LineErro
 /// Takes the members of a request.
 #[tactic(auto, unfolding(crate::specs::forms::RequestForm::request_form))]
 pub(crate) fn request_members(alloc: Global, object: &mut Object) -> Result<Request, LineError>
-    ensures { Gives (λ r. (r, left object.new)) result (request_form (left object.old)) }
+    ensures { Gives (λ r. (r, members_left object.new)) result (request_form (members_left object.old)) }
 {
     let at = object.whole("at")?;
     let lane = object.whole("lane")?;

@@ -4,7 +4,7 @@ ghost use Rattle.std.specs.Prelude.{◌≡◌, ◌<◌, ◌-◌, ◌^◌, ◌∷
 ghost use Rattle.json.specs.Print.{quoted};
 ghost use Rattle.serde_json.specs.Data.{Data, boolean};
 ghost use Rattle.serde_json.specs.Written.{compact_text};
-ghost use Rattle.trace_pipeline.specs.text.Compact.{plain_data, Begins, BeginsItems, BeginsMembers, BeginsNested};
+ghost use Rattle.trace_pipeline.specs.text.Compact.{plain_data, BeginsWithValue, BeginsItems, BeginsMembers, BeginsNested};
 
 use crate::read::plain::Plain;
 use crate::write::escape::plain_run;
@@ -13,7 +13,7 @@ use crate::write::escape::plain_run;
 pub const DEEPEST: u32 = 16;
 
 // The most items that are taken of an array, and members of an object.
-const MOST: u32 = 65_536;
+const MAX_ITEMS: u32 = 65_536;
 
 /// What stands behind a byte.
 #[inline(always)]
@@ -62,7 +62,7 @@ pub fn text(bytes: &[u8]) -> Option<(&[u8], &[u8])>
 #[inline(always)]
 #[tactic(auto, using(crate::proofs::readings::CompactLemmas::text_begins))]
 fn text_value(bytes: &[u8]) -> Option<(Plain<'_>, &[u8])>
-    ensures { IfSome result (λ r. Begins 0 bytes.now (plain_data r.0) r.1.now) }
+    ensures { IfSome result (λ r. BeginsWithValue 0 bytes.now (plain_data r.0) r.1.now) }
 {
     let (words, rest) = text(bytes)?;
     let words = str::from_utf8(words).ok()?;
@@ -72,7 +72,7 @@ fn text_value(bytes: &[u8]) -> Option<(Plain<'_>, &[u8])>
 #[inline(always)]
 #[tactic(auto, using(crate::proofs::readings::CompactLemmas::whole_begins))]
 fn whole_value(bytes: &[u8]) -> Option<(Plain<'_>, &[u8])>
-    ensures { IfSome result (λ r. Begins 0 bytes.now (plain_data r.0) r.1.now) }
+    ensures { IfSome result (λ r. BeginsWithValue 0 bytes.now (plain_data r.0) r.1.now) }
 {
     let (whole, rest) = number(bytes)?;
     Some((Plain::Whole(whole), rest))
@@ -92,7 +92,7 @@ fn below_zero(whole: u64) -> Option<i64>
 
 // A number below zero that is no less than -2^63 + 1.
 fn below_value(bytes: &[u8]) -> Option<(Plain<'_>, &[u8])>
-    ensures { IfSome result (λ r. Begins 0 bytes.now (plain_data r.0) r.1.now) }
+    ensures { IfSome result (λ r. BeginsWithValue 0 bytes.now (plain_data r.0) r.1.now) }
 {
     let digits = behind(bytes, b'-')?;
     let (whole, rest) = number(digits)?;
@@ -102,7 +102,7 @@ fn below_value(bytes: &[u8]) -> Option<(Plain<'_>, &[u8])>
 
 #[tactic(auto, using(crate::proofs::readings::CompactLemmas::flag_begins))]
 fn flag_value(bytes: &[u8]) -> Option<(Plain<'_>, &[u8])>
-    ensures { IfSome result (λ r. Begins 0 bytes.now (plain_data r.0) r.1.now) }
+    ensures { IfSome result (λ r. BeginsWithValue 0 bytes.now (plain_data r.0) r.1.now) }
 {
     if let Some(rest) = word(bytes, b"true") {
         return Some((Plain::Flag(true), rest));
@@ -122,7 +122,7 @@ pub fn word<'a>(text: &'a [u8], word: &[u8]) -> Option<&'a [u8]>
 // A value that doesn't nest, and what stands behind it.
 #[inline(always)]
 fn leaf(bytes: &[u8]) -> Option<(Plain<'_>, &[u8])>
-    ensures { IfSome result (λ r. Begins 0 bytes.now (plain_data r.0) r.1.now) }
+    ensures { IfSome result (λ r. BeginsWithValue 0 bytes.now (plain_data r.0) r.1.now) }
 {
     if bytes.is_empty() {
         return None;
@@ -139,7 +139,7 @@ fn leaf(bytes: &[u8]) -> Option<(Plain<'_>, &[u8])>
 #[cycle(past)]
 #[tactic(auto, using(crate::proofs::readings::CompactLemmas::text_is_value, crate::proofs::readings::CompactLemmas::leaf_is_value, crate::proofs::readings::CompactLemmas::nested_is_value))]
 fn past_value(bytes: &[u8], deep: u32) -> Option<&[u8]>
-    ensures { IfSome result (λ rest. (d : Data) × Begins deep bytes.now d rest.now) }
+    ensures { IfSome result (λ rest. (d : Data) × BeginsWithValue deep bytes.now d rest.now) }
 {
     if let Some((_words, rest)) = text(bytes) {
         return Some(rest);
@@ -177,7 +177,7 @@ fn past_items(bytes: &[u8], deep: u32) -> Option<&[u8]>
         return Some(rest);
     }
     let mut left = bytes;
-    'items: for _ in 0..MOST {
+    'items: for _ in 0..MAX_ITEMS {
         let after = past_value(left, deep)?;
         match behind(after, b',') {
             Some(more) => left = more,
@@ -200,7 +200,7 @@ fn past_members(bytes: &[u8], deep: u32) -> Option<&[u8]>
         return Some(rest);
     }
     let mut left = bytes;
-    'members: for _ in 0..MOST {
+    'members: for _ in 0..MAX_ITEMS {
         let (name, colon) = text(left)?;
         let inner = behind(colon, b':')?;
         let after = past_value(inner, deep)?;
@@ -217,7 +217,7 @@ fn past_members(bytes: &[u8], deep: u32) -> Option<&[u8]>
 
 // An array or an object, and what stands behind it.
 fn nested_value(bytes: &[u8]) -> Option<(Plain<'_>, &[u8])>
-    ensures { IfSome result (λ r. Begins DEEPEST bytes.now (plain_data r.0) r.1.now) }
+    ensures { IfSome result (λ r. BeginsWithValue DEEPEST bytes.now (plain_data r.0) r.1.now) }
 {
     let rest = past_nested(bytes, DEEPEST)?;
     let front = bytes.len() - rest.len();
@@ -229,7 +229,7 @@ fn nested_value(bytes: &[u8]) -> Option<(Plain<'_>, &[u8])>
 #[inline(always)]
 #[tactic(auto, using(crate::proofs::readings::CompactLemmas::leaf_begins))]
 pub fn value(bytes: &[u8]) -> Option<(Plain<'_>, &[u8])>
-    ensures { IfSome result (λ r. Begins DEEPEST bytes.now (plain_data r.0) r.1.now) }
+    ensures { IfSome result (λ r. BeginsWithValue DEEPEST bytes.now (plain_data r.0) r.1.now) }
 {
     match leaf(bytes) {
         Some((plain, rest)) => Some((plain, rest)),

@@ -1,10 +1,10 @@
 //! Reading settings: callsites, the texts of filters, lanes and the layer.
 ghost use Rattle.std.specs.Prelude.{◌≡◌, true, IfOk};
 ghost use Rattle.trace_pipeline.specs.reading.Gives.{Gives};
-ghost use Rattle.trace_pipeline.specs.reading.Left.{value_data, left};
+ghost use Rattle.trace_pipeline.specs.reading.Left.{value_data, members_left};
 ghost use Rattle.trace_pipeline.specs.forms.Forms.{each, object_of, provided};
 ghost use Rattle.trace_pipeline.specs.reading.Object.{items};
-ghost use Rattle.trace_pipeline.specs.forms.SettingsForm.{Lane, lane_form, level_form, kind_form, source_form, callsite_form, callsites_form, error_flags, span_flags, layer_form, lanes_form, given_layer, settings_form, ids, all_differ};
+ghost use Rattle.trace_pipeline.specs.forms.SettingsForm.{Lane, lane_form, level_form, kind_form, source_form, callsite_form, callsites_form, error_flags, span_flags, layer_form, lanes_form, given_layer, settings_form, lane_ids, all_differ};
 
 use crate::level_words::{kind_of, level_of};
 use crate::read::LineError;
@@ -25,7 +25,7 @@ const GREATEST_ID: u64 = 9_223_372_036_854_775_807;
 
 #[tactic(auto, unfolding(crate::specs::forms::SettingsForm::lane_form))]
 fn lane_members(alloc: Global, object: &mut Object) -> Result<(u64, Option<Text>), LineError>
-    ensures { Gives (λ l. (l, left object.new)) result (lane_form (left object.old)) }
+    ensures { Gives (λ l. (l, members_left object.new)) result (lane_form (members_left object.old)) }
 {
     let id = object.whole_to(GREATEST_ID, "id")?;
     let name = object.optional_text(alloc, "name")?;
@@ -53,7 +53,7 @@ fn lanes(alloc: Global, values: Vec<Value<'_>>) -> Result<Items<(u64, Option<Tex
 
 // Takes the level of a callsite.
 fn level(object: &mut Object) -> Result<Level, LineError>
-    ensures { Gives (λ l. (l, left object.new)) result (level_form (left object.old)) }
+    ensures { Gives (λ l. (l, members_left object.new)) result (level_form (members_left object.old)) }
 {
     let word = object.member("level")?;
     level_of(word.word()?).ok_or(LineError::BadLine)
@@ -61,7 +61,7 @@ fn level(object: &mut Object) -> Result<Level, LineError>
 
 // Takes what a callsite makes.
 fn kind(object: &mut Object) -> Result<Kind, LineError>
-    ensures { Gives (λ k. (k, left object.new)) result (kind_form (left object.old)) }
+    ensures { Gives (λ k. (k, members_left object.new)) result (kind_form (members_left object.old)) }
 {
     let word = object.member("kind")?;
     kind_of(word.word()?).ok_or(LineError::BadLine)
@@ -69,7 +69,7 @@ fn kind(object: &mut Object) -> Result<Kind, LineError>
 
 // Takes the file and the module that a callsite stands in.
 fn source(alloc: Global, object: &mut Object) -> Result<(Option<Text>, Option<Text>), LineError>
-    ensures { Gives (λ s. (s, left object.new)) result (source_form (left object.old)) }
+    ensures { Gives (λ s. (s, members_left object.new)) result (source_form (members_left object.old)) }
 {
     let file = object.optional_text(alloc, "file")?;
     let module_path = object.optional_text(alloc, "module")?;
@@ -78,7 +78,7 @@ fn source(alloc: Global, object: &mut Object) -> Result<(Option<Text>, Option<Te
 
 #[tactic(auto, unfolding(crate::specs::forms::SettingsForm::callsite_form))]
 fn callsite_members(alloc: Global, object: &mut Object) -> Result<Callsite, LineError>
-    ensures { Gives (λ c. (c, left object.new)) result (callsite_form (left object.old)) }
+    ensures { Gives (λ c. (c, members_left object.new)) result (callsite_form (members_left object.old)) }
 {
     let name = object.text(alloc, "name")?;
     let target = object.text(alloc, "target")?;
@@ -121,7 +121,7 @@ fn callsites(alloc: Global, values: Vec<Value<'_>>) -> Result<Items<Callsite>, L
 // Takes what is told of errors.
 #[tactic(auto, unfolding(crate::specs::forms::SettingsForm::error_flags))]
 fn error_flags(object: &mut Object, usual: LayerSettings) -> Result<LayerSettings, LineError>
-    ensures { Gives (λ s. (s, left object.new)) result (error_flags usual (left object.old)) }
+    ensures { Gives (λ s. (s, members_left object.new)) result (error_flags usual (members_left object.old)) }
 {
     let error_events_to_exceptions = object.flag_or(
         usual.error_events_to_exceptions,
@@ -151,7 +151,7 @@ fn error_flags(object: &mut Object, usual: LayerSettings) -> Result<LayerSetting
 // Takes what is told of a span beside its fields.
 #[tactic(auto, unfolding(crate::specs::forms::SettingsForm::span_flags))]
 fn span_flags(object: &mut Object, usual: LayerSettings) -> Result<LayerSettings, LineError>
-    ensures { Gives (λ s. (s, left object.new)) result (span_flags usual (left object.old)) }
+    ensures { Gives (λ s. (s, members_left object.new)) result (span_flags usual (members_left object.old)) }
 {
     let level = object.flag_or(usual.level, "level")?;
     let location = object.flag_or(usual.location, "location")?;
@@ -168,7 +168,7 @@ fn span_flags(object: &mut Object, usual: LayerSettings) -> Result<LayerSettings
 
 #[tactic(auto, unfolding(crate::specs::forms::SettingsForm::layer_form))]
 fn layer_members(object: &mut Object) -> Result<LayerSettings, LineError>
-    ensures { Gives (λ s. (s, left object.new)) result (layer_form (left object.old)) }
+    ensures { Gives (λ s. (s, members_left object.new)) result (layer_form (members_left object.old)) }
 {
     let usual = LayerSettings::default();
     let activation = object.flag_or(usual.activation, "activation")?;
@@ -195,7 +195,7 @@ fn layer_of(alloc: Global, value: Value<'_>) -> Result<LayerSettings, LineError>
 
 // Makes sure that no two lanes have the same id.
 fn distinct(alloc: Global, lanes: &[(u64, Option<Text>)]) -> Result<(), LineError>
-    ensures { Gives (λ u. u) result (provided (all_differ (ids lanes.now))) }
+    ensures { Gives (λ u. u) result (provided (all_differ (lane_ids lanes.now))) }
 {
     let mut seen = BTreeSet::new(alloc);
     for lane in lanes {
@@ -208,15 +208,15 @@ fn distinct(alloc: Global, lanes: &[(u64, Option<Text>)]) -> Result<(), LineErro
 
 // Takes the callsites.
 fn given_callsites(alloc: Global, object: &mut Object) -> Result<Items<Callsite>, LineError>
-    ensures { Gives (λ c. (c, left object.new)) result (callsites_form (left object.old)) }
+    ensures { Gives (λ c. (c, members_left object.new)) result (callsites_form (members_left object.old)) }
 {
     callsites(alloc, object.array(alloc, "callsites")?)
 }
 
 // Takes the lanes, whose ids have to differ.
 fn given_lanes(alloc: Global, object: &mut Object) -> Result<Items<(u64, Option<Text>)>, LineError>
-    ensures form { Gives (λ l. (l, left object.new)) result (lanes_form (left object.old)) }
-    ensures differ { IfOk result (λ l. all_differ (ids l) ≡ true) }
+    ensures form { Gives (λ l. (l, members_left object.new)) result (lanes_form (members_left object.old)) }
+    ensures differ { IfOk result (λ l. all_differ (lane_ids l) ≡ true) }
 {
     let lanes = lanes(alloc, object.array(alloc, "lanes")?)?;
     distinct(alloc, lanes.as_slice())?;
@@ -225,7 +225,7 @@ fn given_lanes(alloc: Global, object: &mut Object) -> Result<Items<(u64, Option<
 
 // Takes what the layer tells.
 fn given_layer(alloc: Global, object: &mut Object) -> Result<LayerSettings, LineError>
-    ensures { Gives (λ s. (s, left object.new)) result (given_layer (left object.old)) }
+    ensures { Gives (λ s. (s, members_left object.new)) result (given_layer (members_left object.old)) }
 {
     match object.optional("layer") {
         Some(value) => layer_of(alloc, value),
@@ -236,8 +236,8 @@ fn given_layer(alloc: Global, object: &mut Object) -> Result<LayerSettings, Line
 /// Takes the members of settings.
 #[tactic(auto, unfolding(crate::specs::forms::SettingsForm::settings_form))]
 pub(crate) fn settings_members(alloc: Global, object: &mut Object) -> Result<Settings, LineError>
-    ensures form { Gives (λ s. (s, left object.new)) result (settings_form (left object.old)) }
-    ensures differ { IfOk result (λ s. all_differ (ids s.lanes) ≡ true) }
+    ensures form { Gives (λ s. (s, members_left object.new)) result (settings_form (members_left object.old)) }
+    ensures differ { IfOk result (λ s. all_differ (lane_ids s.lanes) ≡ true) }
 {
     let callsites = given_callsites(alloc, object)?;
     let counting = object.optional_text(alloc, "counting")?;

@@ -2,19 +2,19 @@
 use Rattle.std.specs.Prelude.{ℕ, ◌<◌, ◌≤◌, List, Bool, Some}
 use Rattle.batch_lines.specs.Texts.{TellsBatches}
 use Rattle.span_script.specs.calls.Spans.{open_spans}
-use Rattle.span_script.specs.Outcomes.{records}
+use Rattle.span_script.specs.Outcomes.{records_of_history}
 use Rattle.span_script.specs.Tables.{tables}
 use Rattle.trace_batch.specs.declared.relay.TheConstants.{MOST_LANES}
 use Rattle.trace_records.specs.Inputs.{TellsRun, accepts_within}
-use Rattle.trace_records.specs.Scripts.{Script, script_of}
+use Rattle.trace_records.specs.Scripts.{ScriptRan, script_of}
 use Rattle.trace_stream.specs.reading.AllLines.{all_lines}
 use Rattle.trace_stream.specs.Meaning.{Meaning}
 use Rattle.trace_run.specs.declared.batch.TheConstants.{MOST_ITEMS}
 
 -- the records of a script, in batches of n
-abbrev pub TellsBatchesOf : ℕ → Script → List ℕ → Type 0
+abbrev pub TellsBatchesOf : ℕ → ScriptRan → List ℕ → Type 0
 TellsBatchesOf n script text =
-    TellsBatches n (records script.setup script.history) script.lanes (open_spans (tables script.setup script.history)) text
+    TellsBatches n (records_of_history script.setup script.history) script.lanes (open_spans (tables script.setup script.history)) text
 
 -- the records of the script of at most eight lanes that lines come to, in batches of n, or the refusal line alone
 abbrev pub TellsAll : ℕ → List (List ℕ) → List ℕ → Type 0

@@ -4,7 +4,7 @@ use Rattle.std.proofs.Common.{◌⊎◌}
 use Rattle.span_script.specs.Tables.{History}
 use Rattle.trace_pipeline.specs.declared.generated.TheConstants.{MOST_ROUNDS}
 use Rattle.trace_pipeline.specs.Generated.{made_setup, made_requests, made_script}
-use Rattle.trace_pipeline.specs.Replay.{replayed, summary_of, summary_text}
+use Rattle.trace_pipeline.specs.Replay.{history_after, summary_of, summary_text}
 use Rattle.trace_pipeline.specs.Report.{IsValid}
 use Rattle.trace_stream.specs.Meaning.{Meaning}
 use Rattle.trace_stream.specs.Streams.{Streams, IsQuiet, Puts, PutsFront}
@@ -18,7 +18,7 @@ line_if (Some h) = summary_text (summary_of made_setup h)
 
 -- the summary of the script of so many rounds
 abbrev pub made_line : ℕ → List ℕ
-made_line rounds = line_if (replayed made_setup [] (made_requests rounds))
+made_line rounds = line_if (history_after made_setup [] (made_requests rounds))
 
 -- What is left in a sink at each status: the whole line, the script being valid, a front of it, or nothing.
 abbrev pub LeavesSum : Status → ℕ → Option (List ℕ) → Option (List ℕ) → Type 0
@@ -40,5 +40,5 @@ pub record MakesSum (rounds : ℕ) (status : Status) (before now : Streams) : Ty
   pub front : PutsFront before.held now.held (made_line rounds)
   pub complete : CompletesSum status before.write_faults now.write_faults
 
-abbrev pub makes : ℕ → Meaning
-makes rounds = record { IsPossible = rounds ≤ MOST_ROUNDS; reads = false; Does = MakesSum rounds }
+abbrev pub meaning_of_make : ℕ → Meaning
+meaning_of_make rounds = record { IsPossible = rounds ≤ MOST_ROUNDS; reads = false; Does = MakesSum rounds }

@@ -6,7 +6,7 @@ use Rattle.script_lines.specs.declared.answer.Answer.{Answer}
 use Rattle.script_lines.specs.Refusals.{Refuses, NoneRefused}
 use Rattle.trace_stream.specs.reading.Breaks.{whole_lines}
 use Rattle.trace_stream.specs.Meaning.{Meaning}
-use Rattle.trace_stream.specs.reading.Reading.{Answering, reading}
+use Rattle.trace_stream.specs.reading.Reading.{Answering, meaning_of_reading}
 use Rattle.trace_stream.specs.declared.input.End.{End}
 use Rattle.trace_stream.specs.declared.input.End.TheVariants as end
 use Rattle.trace_stream.specs.declared.status.Status.{Status}
@@ -23,7 +23,7 @@ writes_last accepts Whole = record {
 -- What such a command does, by the lines that it accepts and the texts that it may write for all lines of an input, which is
 -- the refusal line alone where one is refused.
 abbrev pub all_lines : (List (List ℕ) → Bool) → (List (List ℕ) → List ℕ → Type 0) → Meaning
-all_lines accepts Whole = reading (writes_last accepts Whole)
+all_lines accepts Whole = meaning_of_reading (writes_last accepts Whole)
 
 -- ---- inner
 
@@ -33,15 +33,15 @@ AnswersCut accepts Whole true lines text = Refuses accepts Whole lines text
 AnswersCut accepts Whole false lines text = NoneRefused accepts lines × (text ≡ [])
 
 -- what is written for the bytes that were read, by how their reading ended
-abbrev pub Tells : (List (List ℕ) → Bool) → (List (List ℕ) → List ℕ → Type 0) → End → List ℕ → Answer → Type 0
-Tells accepts Whole end.Whole read answer =
+abbrev pub WritesAnswer : (List (List ℕ) → Bool) → (List (List ℕ) → List ℕ → Type 0) → End → List ℕ → Answer → Type 0
+WritesAnswer accepts Whole end.Whole read answer =
     Whole (lines_of read) answer.text.items × (accepts (lines_of read) ≡ not answer.refused)
-Tells accepts Whole end.Fault read answer = AnswersCut accepts Whole answer.refused (whole_lines (take MAX_INPUT read)) answer.text.items
-Tells accepts Whole end.TooLong read answer = AnswersCut accepts Whole answer.refused (whole_lines (take MAX_INPUT read)) answer.text.items
+WritesAnswer accepts Whole end.Fault read answer = AnswersCut accepts Whole answer.refused (whole_lines (take MAX_INPUT read)) answer.text.items
+WritesAnswer accepts Whole end.TooLong read answer = AnswersCut accepts Whole answer.refused (whole_lines (take MAX_INPUT read)) answer.text.items
 
 -- the status of a command whose text is written: a refused line is told before a fault and before too long an input
-abbrev pub status_of : Bool → End → Status
-status_of true ending = ends.Refused
-status_of false end.Whole = ends.Ok
-status_of false end.Fault = ends.ReadFault
-status_of false end.TooLong = ends.TooLong
+abbrev pub status_at_end : Bool → End → Status
+status_at_end true ending = ends.Refused
+status_at_end false end.Whole = ends.Ok
+status_at_end false end.Fault = ends.ReadFault
+status_at_end false end.TooLong = ends.TooLong

@@ -4,10 +4,10 @@ use Rattle.trace_pipeline.specs.declared.signal.Signal.{Signal}
 use Rattle.span_script.specs.declared.reply.Reply.{Reply}
 use Rattle.span_script.specs.Tables.{History, tables}
 use Rattle.span_script.specs.Fits.{State, StandsFor}
-use Rattle.trace_pipeline.specs.Report.{behind, answer_text, answer_count, report_on, report_from}
+use Rattle.trace_pipeline.specs.Report.{with_text_before, answer_text, answer_count, report_on, report_from}
 use Rattle.script_lines.specs.Refusals.{are_blank}
 use Rattle.trace_records.specs.Following.{without_taken}
-use Rattle.trace_stream.specs.Streams.{IsFront}
+use Rattle.trace_stream.specs.Streams.{IsFrontOf}
 use Rattle.trace_stream.specs.reading.Breaks.{AnswersAll}
 use Rattle.trace_stream.specs.declared.answers.Answers.{Answers}
 use Rattle.trace_stream.specs.declared.answers.Stage.{Stage}
@@ -27,7 +27,7 @@ pub record Runs (signal : Signal) (lines : List (List ℕ)) (count : ℕ) (kept 
   pub stands : StandsFor kept (tables kept.setup history)
   pub taken : IsEmptied kept
   pub report_is : (more : List (List ℕ)) → report_from signal 0 (lines ++ more)
-      ≡ behind text (report_on signal kept.setup history count tally more)
+      ≡ with_text_before text (report_on signal kept.setup history count tally more)
 
 -- A request on a line that was served is answered: what is told of it stands behind what was written before, and no record
 -- and no measure waits any more.
@@ -75,4 +75,4 @@ is_refused stage.Refused = true
 abbrev pub Cuts : Signal → Bool → List (List ℕ) → List ℕ → Type 0
 Cuts signal true lines text = Stops signal lines text
 Cuts signal false lines text = AnswersAll signal lines text
-    × ((more : List (List ℕ)) → IsFront text (report_from signal 0 (lines ++ more)).written)
+    × ((more : List (List ℕ)) → IsFrontOf text (report_from signal 0 (lines ++ more)).written)

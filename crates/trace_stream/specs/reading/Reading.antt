@@ -67,14 +67,14 @@ pub record RunsOver (answers : Answering) (bytes : List ℕ) (left before now : 
   pub answered : answers.Broken (whole_lines (take MAX_INPUT read)) text
   pub put : Puts before now text
 
-abbrev pub Leaves : Answering → Status → List ℕ → Option (List ℕ) → Option (List ℕ) → Option (List ℕ) → Type 0
-Leaves answers ends.Ok bytes left before now = ReadsWhole answers bytes left before now
-Leaves answers ends.Usage bytes left before now = ⊥
-Leaves answers ends.Refused bytes left before now = StopsRefused answers bytes left before now
-Leaves answers ends.ReadFault bytes left before now = BreaksOff answers bytes left before now
-Leaves answers ends.WriteFault bytes left before now = PutsSome answers bytes before now
-Leaves answers ends.Memory bytes left before now = PutsSome answers bytes before now
-Leaves answers ends.TooLong bytes left before now = RunsOver answers bytes left before now
+abbrev pub LeavesStreams : Answering → Status → List ℕ → Option (List ℕ) → Option (List ℕ) → Option (List ℕ) → Type 0
+LeavesStreams answers ends.Ok bytes left before now = ReadsWhole answers bytes left before now
+LeavesStreams answers ends.Usage bytes left before now = ⊥
+LeavesStreams answers ends.Refused bytes left before now = StopsRefused answers bytes left before now
+LeavesStreams answers ends.ReadFault bytes left before now = BreaksOff answers bytes left before now
+LeavesStreams answers ends.WriteFault bytes left before now = PutsSome answers bytes before now
+LeavesStreams answers ends.Memory bytes left before now = PutsSome answers bytes before now
+LeavesStreams answers ends.TooLong bytes left before now = RunsOver answers bytes left before now
 
 -- ---- the whole of it
 
@@ -93,11 +93,11 @@ IsRefusedAt answers status before now = status ≡ ends.Refused
 
 -- Lines were read and answered. Where the source tells its bytes, what is left and what is written follow from these.
 pub record ReadsLines (answers : Answering) (status : Status) (before now : Streams) : Type 0 where
-  pub leaves : IfSome before.left (λ bytes. Leaves answers status bytes now.left before.held now.held)
+  pub leaves : IfSome before.left (λ bytes. LeavesStreams answers status bytes now.left before.held now.held)
   pub front : IfSome before.left (λ bytes. PutsSome answers bytes before.held now.held)
   pub complete : IfSome before.left (λ bytes. Completes answers status bytes before now)
   pub refused : IsRefusedAt answers status before now
   pub met : status ≡ ends.Ok → MeetsEnd before.ends now.ends
 
-abbrev pub reading : Answering → Meaning
-reading answers = record { IsPossible = Unit {0}; reads = true; Does = ReadsLines answers }
+abbrev pub meaning_of_reading : Answering → Meaning
+meaning_of_reading answers = record { IsPossible = Unit {0}; reads = true; Does = ReadsLines answers }

@@ -11,7 +11,7 @@ use Rattle.trace_base.specs.declared.lane.Lane.{Lane}
 use Rattle.trace_base.specs.declared.level.LevelFilter.{LevelFilter}
 use Rattle.trace_base.specs.Gate.{Worlds}
 use Rattle.trace_base.specs.Spans.{Spans}
-use Rattle.trace_base.specs.Calls.{SubscriberCall, Records, Event, after}
+use Rattle.trace_base.specs.Calls.{SubscriberCall, Records, Event, spans_after_call}
 use Rattle.trace_base.specs.lanes.Contexts.{Lanes}
 use Rattle.span_handles.specs.Entries.{LeavesLane}
 use Rattle.span_futures.specs.Calling.{Beside, CallsBy}
@@ -43,7 +43,7 @@ lent_then spans kept is_whole old world new before lane later first second = rec
 
 module _ {S : Type 0} (spans : S → Spans) (hint : S → Option LevelFilter) (enables : S → ℕ → Callsite → Bool) (attaches : S → Bool) (kept : S → ℕ → ℕ → ℕ) (is_whole : S → Type 0) (does : S → SubscriberCall → S → Type 0) (touches : S → PartCall → S → Type 0) (same : S → S → Type 0) where
   module _ (same_spans : (s t : S) → same s t → spans t ≡ spans s) (same_kept : (s t : S) → same s t → kept t ≡ kept s) (same_whole : (s t : S) → same s t → is_whole s → is_whole t)
-      (shows : (s : S) (call : SubscriberCall) (t : S) → does s call t → spans t ≡ after (spans s) call) (lanes : (s : S) (call : SubscriberCall) (t : S) → does s call t → Lanes (attaches s) (kept s) call (kept t))
+      (shows : (s : S) (call : SubscriberCall) (t : S) → does s call t → spans t ≡ spans_after_call (spans s) call) (lanes : (s : S) (call : SubscriberCall) (t : S) → does s call t → Lanes (attaches s) (kept s) call (kept t))
       (keeps_whole : (s : S) (call : SubscriberCall) (t : S) → does s call t → is_whole s → is_whole t)
       (stays : (s : S) (call : PartCall) (t : S) → touches s call t → StaysStack spans kept attaches is_whole s t) where
     -- a change keeps all

@@ -3,23 +3,23 @@ use Rattle.std.proofs.Common.{◌≡◌, ℕ, List, [], ◌∷◌, ◌++◌, len
 use Rattle.trace_base.specs.declared.callsite.Callsite.{Callsite}
 use Rattle.trace_base.specs.declared.lane.Lane.{Lane}
 use Rattle.trace_base.specs.declared.level.LevelFilter.{LevelFilter}
-use Rattle.trace_base.specs.Calls.{SubscriberCall, Enter, Exit, after, entered, exited}
+use Rattle.trace_base.specs.Calls.{SubscriberCall, Enter, Exit, spans_after_call, with_span_entry, with_span_exit}
 use Rattle.trace_base.specs.lanes.Contexts.{Lanes}
 use Rattle.trace_base.specs.Gate.{Worlds}
-use Rattle.trace_base.specs.Spans.{Span, Spans, span_at, entries_on, current_on, released}
+use Rattle.trace_base.specs.Spans.{Span, Spans, span_at, entries_on, current_on, without_hold}
 use Rattle.span_handles.specs.Worlds.{Replaced, spans_in, no_spans}
 use Rattle.span_handles.specs.Handles.{Handle, Held, ReplacedOn}
-use Rattle.span_handles.specs.Entries.{Begins}
+use Rattle.span_handles.specs.Entries.{BeginsInside}
 use Rattle.span_handles.proofs.Showing.{as_many, seen_before, seen_later}
 use Rattle.otel_layer.specs.Parts.{PartCall}
 use Rattle.span_script.specs.declared.request.Call.TheVariants as call
 use Rattle.span_script.specs.declared.request.Request.{Request}
-use Rattle.trace_tape.specs.Taping.{on_lane}
+use Rattle.trace_tape.specs.Taping.{on_first_lane}
 use Rattle.trace_tasks.specs.declared.script.Step.{Step}
 use Rattle.trace_tasks.specs.Acts.{now_of, StepsOn}
 use Rattle.trace_tasks.specs.Carrying.{Stage, Entered, Exited, Carries}
 use Rattle.trace_tasks.specs.Flat.{Left, step_call, moment_of}
-use Rattle.trace_tasks.specs.Turning.{alone, IsAloneAs}
+use Rattle.trace_tasks.specs.Turning.{root_of_one_handle, IsAloneAs}
 use Rattle.trace_tasks.proofs.queues.RootLemmas.{back, entered_made, entered_entries, entered_current, exited_made, exited_entries, none_current}
 use Rattle.trace_tasks.proofs.polls.StepLemmas.{IsAt, disabled, enabled, steps_carry}
 
@@ -35,7 +35,7 @@ current_by None site = None
 current_by (Some h) site = Some (h.1, site)
 
 module _ {S : Type 0} (spans : S → Spans) (hint : S → Option LevelFilter) (enables : S → ℕ → Callsite → Bool) (attaches : S → Bool) (kept : S → ℕ → ℕ → ℕ) (does : S → SubscriberCall → S → Type 0) (touches : S → PartCall → S → Type 0) (d : ℕ)
-    (shows : (s : S) (call : SubscriberCall) (t : S) → does s call t → spans t ≡ after (spans s) call) (lanes : (s : S) (call : SubscriberCall) (t : S) → does s call t → Lanes (attaches s) (kept s) call (kept t))
+    (shows : (s : S) (call : SubscriberCall) (t : S) → does s call t → spans t ≡ spans_after_call (spans s) call) (lanes : (s : S) (call : SubscriberCall) (t : S) → does s call t → Lanes (attaches s) (kept s) call (kept t))
     (stays : (s : S) (call : PartCall) (t : S) → touches s call t → spans t ≡ spans s) where
   -- one thing after another
   pub carry_then : (rs more : List Request) (s m t : Stage S) → Carries spans hint enables does touches d rs s m → Carries spans hint enables does touches d more m t → Carries spans hint enables does touches d (rs ++ more) s t
@@ -53,17 +53,17 @@ module _ {S : Type 0} (spans : S → Spans) (hint : S → Option LevelFilter) (e
     pub carried : (t : Left) (k : ℕ) (handles : List Handle) (guards : List Held) (more : List Request) (end : Stage S) → at ≡ moment_of k → length guards ≡ k → t.site ≡ site → t.steps ≡ steps
         → slice_get handles t.number ≡ Some (record { held = held; site = own })
         → Carries spans hint enables does touches d more (record { world = new; lane = later; handles = handles; guards = guards ++ held ∷ [] }) end
-        → Carries spans hint enables does touches d (on_lane (moment_of k) (call.Enter t.number) ∷ map (λ s. on_lane (moment_of k) (step_call old.sites t s)) (now_of t.steps) ++ on_lane (moment_of k) (call.Exit k) ∷ more)
+        → Carries spans hint enables does touches d (on_first_lane (moment_of k) (call.Enter t.number) ∷ map (λ s. on_first_lane (moment_of k) (step_call old.sites t s)) (now_of t.steps) ++ on_first_lane (moment_of k) (call.Exit k) ∷ more)
         (record { world = old; lane = before; handles = handles; guards = guards }) end
 
-  module _ (held : Held) (own : Option ℕ) (site at : ℕ) (steps : List Step) (old world left new : Worlds S) (before lane later : Lane) (default : before.default ≡ Some d) (begins : Begins does at held old before world lane)
+  module _ (held : Held) (own : Option ℕ) (site at : ℕ) (steps : List Step) (old world left new : Worlds S) (before lane later : Lane) (default : before.default ≡ Some d) (begins : BeginsInside does at held old before world lane)
       (on : StepsOn spans hint enables does touches lane at (now_of steps) world left) (exits : ReplacedOn (λ id s t. does s (Exit id at lane later) t) left new held) (none : held ≡ None → later ≡ lane)
       (sites : world.sites ≡ old.sites) (lane_default : lane.default ≡ before.default) (current : current_on lane.id (spans_in spans world d) ≡ current_by held site)
       (here : IsAt d site (record { held = held; site = own }) (current_by held site)) where
     carried : (t : Left) (k : ℕ) (handles : List Handle) (guards : List Held) (more : List Request) (end : Stage S) → at ≡ moment_of k → length guards ≡ k → t.site ≡ site → t.steps ≡ steps
         → slice_get handles t.number ≡ Some (record { held = held; site = own })
         → Carries spans hint enables does touches d more (record { world = new; lane = later; handles = handles; guards = guards ++ held ∷ [] }) end
-        → Carries spans hint enables does touches d (on_lane (moment_of k) (call.Enter t.number) ∷ map (λ s. on_lane (moment_of k) (step_call old.sites t s)) (now_of t.steps) ++ on_lane (moment_of k) (call.Exit k) ∷ more)
+        → Carries spans hint enables does touches d (on_first_lane (moment_of k) (call.Enter t.number) ∷ map (λ s. on_first_lane (moment_of k) (step_call old.sites t s)) (now_of t.steps) ++ on_first_lane (moment_of k) (call.Exit k) ∷ more)
         (record { world = old; lane = before; handles = handles; guards = guards }) end
     carried t k handles guards more end moment count site_is steps_are is rest =
         let m : ℕ = moment_of k in
@@ -74,7 +74,7 @@ module _ {S : Type 0} (spans : S → Spans) (hint : S → Option LevelFilter) (e
         let enter : Entered spans hint enables does touches d m t.number (record { world = old; lane = before; handles = handles; guards = guards }) inside = record {
           handle = record { held = held; site = own };
           is = is;
-          begins = subst (λ (n : ℕ). Begins does n held old before world lane) now begins;
+          begins = subst (λ (n : ℕ). BeginsInside does n held old before world lane) now begins;
           handles = refl;
           guards = refl;
         } in
@@ -89,11 +89,11 @@ module _ {S : Type 0} (spans : S → Spans) (hint : S → Option LevelFilter) (e
           handles = refl;
           guards = refl;
         } in
-        (inside, enter, carry_then (map (λ s. on_lane m (step_call old.sites t s)) (now_of t.steps)) (on_lane m (call.Exit k) ∷ more) inside leaving end did.0 (_, exit, rest))
+        (inside, enter, carry_then (map (λ s. on_first_lane m (step_call old.sites t s)) (now_of t.steps)) (on_first_lane m (call.Exit k) ∷ more) inside leaving end did.0 (_, exit, rest))
 
   -- of a disabled handle: nothing is entered
   pub through_none : (own : Option ℕ) (site at : ℕ) (steps : List Step) (old world left new : Worlds S) (before lane later : Lane) → before.default ≡ Some d → own ≡ Some site
-      → entries_on before.id (spans_in spans old d).lanes ≡ [] → Begins does at None old before world lane → StepsOn spans hint enables does touches lane at (now_of steps) world left
+      → entries_on before.id (spans_in spans old d).lanes ≡ [] → BeginsInside does at None old before world lane → StepsOn spans hint enables does touches lane at (now_of steps) world left
       → ReplacedOn (λ id s t. does s (Exit id at lane later) t) left new None → (◌≡◌ {A = Held} None None → later ≡ lane) → Through None own site at steps old new before later
   through_none own site at steps old world left new before lane later default own_is none_open begins on exits none =
       let here : IsAt d site (record { held = None; site = own }) None = subst (λ (o : Option ℕ). IsAt d site (record { held = None; site = o }) None) (sym own_is) disabled in
@@ -118,17 +118,17 @@ module _ {S : Type 0} (spans : S → Spans) (hint : S → Option LevelFilter) (e
 
   -- of an enabled handle
   pub through_some : (id : ℕ) (own : Option ℕ) (site at : ℕ) (steps : List Step) (old world left new : Worlds S) (before lane later : Lane) → before.default ≡ Some d → own ≡ Some site
-      → entries_on before.id (spans_in spans old d).lanes ≡ [] → span_at (spans_in spans old d).made id ≡ alone site
-      → Begins does at (Some (d, id)) old before world lane → StepsOn spans hint enables does touches lane at (now_of steps) world left
+      → entries_on before.id (spans_in spans old d).lanes ≡ [] → span_at (spans_in spans old d).made id ≡ root_of_one_handle site
+      → BeginsInside does at (Some (d, id)) old before world lane → StepsOn spans hint enables does touches lane at (now_of steps) world left
       → ReplacedOn (λ id s t. does s (Exit id at lane later) t) left new (Some (d, id)) → Through (Some (d, id)) own site at steps old new before later
   through_some id own site at steps old world left new before lane later default own_is none_open is_alone begins on exits =
       let here : IsAt d site (record { held = Some (d, id); site = own }) (Some (id, site)) = subst (λ (o : Option ℕ). IsAt d site (record { held = Some (d, id); site = o }) (Some (id, site))) (sym own_is) (enabled id) in
       let e : Replaced (λ s t. does s (Enter id at before lane) t) old world d = begins.entered in
       let el = lanes e.before (Enter id at before lane) e.later e.did in
       let x : Spans = spans_in spans old d in
-      let entered_spans : spans_in spans world d ≡ entered x id before.id =
+      let entered_spans : spans_in spans world d ≡ with_span_entry x id before.id =
       seen_later (λ (s t : S). does s (Enter id at before lane) t) old world d e spans no_spans ∙ shows e.before (Enter id at before lane) e.later e.did
-      ∙ ap (λ (y : Spans). entered y id before.id) (sym (seen_before (λ (s t : S). does s (Enter id at before lane) t) old world d e spans no_spans)) in
+      ∙ ap (λ (y : Spans). with_span_entry y id before.id) (sym (seen_before (λ (s t : S). does s (Enter id at before lane) t) old world d e spans no_spans)) in
       let current : current_on lane.id (spans_in spans world d) ≡ Some (id, site) =
       ap (λ (n : ℕ). current_on n (spans_in spans world d)) el.0.id ∙ ap (λ (y : Spans). current_on before.id y) entered_spans ∙ entered_current x id before.id none_open site is_alone in
       let world_sites : world.sites ≡ old.sites = ap (λ (w : Worlds S). w.sites) e.others in
@@ -136,15 +136,15 @@ module _ {S : Type 0} (spans : S → Spans) (hint : S → Option LevelFilter) (e
       (record { held = Some (d, id); site = own }) (Some (id, site)) here refl steps world left world_sites current on in
       let q : Replaced (λ s t. does s (Exit id at lane later) t) left new d = exits in
       let ql = lanes q.before (Exit id at lane later) q.later q.did in
-      let y : Spans = entered x id before.id in
+      let y : Spans = with_span_entry x id before.id in
       let left_spans : spans_in spans left d ≡ y = did.1.spans_same ∙ entered_spans in
-      let exited_spans : spans_in spans new d ≡ exited y id before.id =
+      let exited_spans : spans_in spans new d ≡ with_span_exit y id before.id =
       seen_later (λ (s t : S). does s (Exit id at lane later) t) left new d q spans no_spans ∙ shows q.before (Exit id at lane later) q.later q.did
-      ∙ ap (λ (z : Spans). exited z id lane.id) (sym (seen_before (λ (s t : S). does s (Exit id at lane later) t) left new d q spans no_spans))
-      ∙ ap (λ (z : Spans). exited z id lane.id) left_spans ∙ ap (λ (n : ℕ). exited y id n) el.0.id in
+      ∙ ap (λ (z : Spans). with_span_exit z id lane.id) (sym (seen_before (λ (s t : S). does s (Exit id at lane later) t) left new d q spans no_spans))
+      ∙ ap (λ (z : Spans). with_span_exit z id lane.id) left_spans ∙ ap (λ (n : ℕ). with_span_exit y id n) el.0.id in
       let one : entries_on before.id y.lanes ≡ id ∷ [] = entered_entries x id before.id none_open in
       record {
-        made = ap (λ (z : Spans). z.made) exited_spans ∙ exited_made y id before.id one ∙ ap (λ (made : List Span). released made id) (entered_made x id before.id none_open) ∙ back x.made id site is_alone;
+        made = ap (λ (z : Spans). z.made) exited_spans ∙ exited_made y id before.id one ∙ ap (λ (made : List Span). without_hold made id) (entered_made x id before.id none_open) ∙ back x.made id site is_alone;
         none_open = ap (λ (n : ℕ). entries_on n (spans_in spans new d).lanes) (ql.0.id ∙ el.0.id) ∙ ap (λ (z : Spans). entries_on before.id z.lanes) exited_spans ∙ exited_entries y id before.id one;
         lane_id = ql.0.id ∙ el.0.id;
         default = ql.0.default ∙ el.0.default;
@@ -156,11 +156,11 @@ module _ {S : Type 0} (spans : S → Spans) (hint : S → Option LevelFilter) (e
   -- of either
   pub through : (held : Held) (own : Option ℕ) (site at : ℕ) (steps : List Step) (old world left new : Worlds S) (before lane later : Lane) → before.default ≡ Some d → own ≡ Some site
       → entries_on before.id (spans_in spans old d).lanes ≡ [] → IsAloneAs (spans_in spans old d).made d site held
-      → Begins does at held old before world lane → StepsOn spans hint enables does touches lane at (now_of steps) world left
+      → BeginsInside does at held old before world lane → StepsOn spans hint enables does touches lane at (now_of steps) world left
       → ReplacedOn (λ id s t. does s (Exit id at lane later) t) left new held → (held ≡ None → later ≡ lane) → Through held own site at steps old new before later
   through None own site at steps old world left new before lane later default own_is none_open is_alone begins on exits none = through_none own site at steps old world left new before lane later default own_is none_open begins on exits none
   through (Some h) own site at steps old world left new before lane later default own_is none_open is_alone begins on exits none =
       subst (λ (e : ℕ). Through (Some (e, h.1)) own site at steps old new before later) (sym is_alone.0)
       (through_some h.1 own site at steps old world left new before lane later default own_is none_open is_alone.1
-      (subst (λ (e : ℕ). Begins does at (Some (e, h.1)) old before world lane) is_alone.0 begins) on
+      (subst (λ (e : ℕ). BeginsInside does at (Some (e, h.1)) old before world lane) is_alone.0 begins) on
       (subst (λ (e : ℕ). ReplacedOn (λ id s t. does s (Exit id at lane later) t) left new (Some (e, h.1))) is_alone.0 exits))

@@ -4,27 +4,27 @@ use Rattle.otel_base.specs.declared.enter_error.EnterError.{EnterError}
 use Rattle.trace_base.specs.declared.callsite.Callsite.{Callsite}
 use Rattle.trace_base.specs.declared.lane.Lane.{Lane}
 use Rattle.trace_base.specs.declared.level.LevelFilter.{LevelFilter}
-use Rattle.trace_base.specs.Calls.{SubscriberCall, Enter, after, entered}
+use Rattle.trace_base.specs.Calls.{SubscriberCall, Enter, spans_after_call, with_span_entry}
 use Rattle.trace_base.specs.lanes.Contexts.{Lanes}
 use Rattle.trace_base.specs.Gate.{Worlds}
 use Rattle.trace_base.specs.Spans.{Spans, entries_on, current_on}
 use Rattle.span_handles.specs.Worlds.{Replaced, Chain, spans_in, no_spans}
 use Rattle.span_handles.specs.Handles.{Handle, Held, ReplacedOn}
-use Rattle.span_handles.specs.Entries.{Begins, LeavesLane, MeetsFullLane}
+use Rattle.span_handles.specs.Entries.{BeginsInside, LeavesLane, MeetsFullLane}
 use Rattle.span_handles.proofs.Showing.{seen_before, seen_later}
 use Rattle.span_futures.specs.declared.instrument.Instrumented.{Instrumented}
-use Rattle.span_futures.specs.Polls.{Polled, IsRefused, IsInside}
+use Rattle.span_futures.specs.Polls.{Polled, CannotEnter, IsInside}
 use Rattle.otel_layer.specs.Parts.{PartCall}
 use Rattle.span_script.specs.declared.request.Call.TheVariants as call
 use Rattle.span_script.specs.declared.request.Request.{Request}
-use Rattle.trace_tape.specs.Taping.{on_lane}
+use Rattle.trace_tape.specs.Taping.{on_first_lane}
 use Rattle.trace_tasks.specs.declared.running.Running.{Running}
 use Rattle.trace_tasks.specs.declared.script.Step.{Step}
 use Rattle.trace_tasks.specs.Acts.{left_of, PollsSteps, Wants, untouched, spare}
 use Rattle.trace_tasks.specs.Carrying.{Stage, Entered, Exited, Handled}
-use Rattle.trace_tasks.specs.Flat.{Left, step_call, moment_of, ends, poll}
+use Rattle.trace_tasks.specs.Flat.{Left, step_call, moment_of, drop_at_end, poll}
 use Rattle.trace_tasks.specs.Stops.{StopsPoll, TurnStops, MeetsFull}
-use Rattle.trace_tasks.specs.Turning.{serving, Ready, IsAlone, IsAloneAs, left_as}
+use Rattle.trace_tasks.specs.Turning.{dispatch_serving, Ready, IsAlone, IsAloneAs, left_as}
 use Rattle.trace_tasks.proofs.queues.RootLemmas.{entered_current, none_current}
 use Rattle.trace_tasks.proofs.polls.StepLemmas.{IsAt, disabled, enabled, first_acts, acts_carry}
 use Rattle.trace_tasks.proofs.polls.EntryLemmas.{get_push, current_by}
@@ -38,7 +38,7 @@ map_both f (x ∷ xs) ys = ap (λ zs. f x ∷ zs) (map_both f xs ys)
 
 module _ {S : Type 0} (spans : S → Spans) (hint : S → Option LevelFilter) (enables : S → ℕ → Callsite → Bool) (attaches : S → Bool) (activates : S → ℕ → Bool) (kept : S → ℕ → ℕ → ℕ) (is_whole : S → Type 0)
     (does : S → SubscriberCall → S → Type 0) (touches : S → PartCall → S → Type 0) (same : S → S → Type 0)
-    (shows : (s : S) (call : SubscriberCall) (t : S) → does s call t → spans t ≡ after (spans s) call) (lanes : (s : S) (call : SubscriberCall) (t : S) → does s call t → Lanes (attaches s) (kept s) call (kept t))
+    (shows : (s : S) (call : SubscriberCall) (t : S) → does s call t → spans t ≡ spans_after_call (spans s) call) (lanes : (s : S) (call : SubscriberCall) (t : S) → does s call t → Lanes (attaches s) (kept s) call (kept t))
     (stays : (s : S) (call : PartCall) (t : S) → touches s call t → spans t ≡ spans s) where
   -- what is current once a task's span was entered
   record Inner (d : ℕ) (held : Held) (own : Option ℕ) (site : ℕ) (old world : Worlds S) (before lane : Lane) : Type 0 where
@@ -48,7 +48,7 @@ module _ {S : Type 0} (spans : S → Spans) (hint : S → Option LevelFilter) (e
     here : IsAt d site (record { held = held; site = own }) (current_by held site)
 
   inner : (d : ℕ) (held : Held) (own : Option ℕ) (site at : ℕ) (old world : Worlds S) (before lane : Lane) → own ≡ Some site → entries_on before.id (spans_in spans old d).lanes ≡ []
-      → IsAloneAs (spans_in spans old d).made d site held → Begins does at held old before world lane → Inner d held own site old world before lane
+      → IsAloneAs (spans_in spans old d).made d site held → BeginsInside does at held old before world lane → Inner d held own site old world before lane
   inner d None own site at old world before lane own_is none_open lone begins =
       let lane_same : lane ≡ before = begins.none refl in
       let world_same : world ≡ old = begins.entered in
@@ -60,15 +60,15 @@ module _ {S : Type 0} (spans : S → Spans) (hint : S → Option LevelFilter) (e
       }
   inner d (Some h) own site at old world before lane own_is none_open lone begins =
       subst (λ (e : ℕ). Inner d (Some (e, h.1)) own site old world before lane) (sym lone.0)
-      (by_own (subst (λ (e : ℕ). Begins does at (Some (e, h.1)) old before world lane) lone.0 begins)) where
-        by_own : Begins does at (Some (d, h.1)) old before world lane → Inner d (Some (d, h.1)) own site old world before lane
+      (by_own (subst (λ (e : ℕ). BeginsInside does at (Some (e, h.1)) old before world lane) lone.0 begins)) where
+        by_own : BeginsInside does at (Some (d, h.1)) old before world lane → Inner d (Some (d, h.1)) own site old world before lane
         by_own begins =
             let e : Replaced (λ s t. does s (Enter h.1 at before lane) t) old world d = begins.entered in
             let el = lanes e.before (Enter h.1 at before lane) e.later e.did in
             let x : Spans = spans_in spans old d in
-            let entered_spans : spans_in spans world d ≡ entered x h.1 before.id =
+            let entered_spans : spans_in spans world d ≡ with_span_entry x h.1 before.id =
             seen_later (λ (s t : S). does s (Enter h.1 at before lane) t) old world d e spans no_spans ∙ shows e.before (Enter h.1 at before lane) e.later e.did
-            ∙ ap (λ (y : Spans). entered y h.1 before.id) (sym (seen_before (λ (s t : S). does s (Enter h.1 at before lane) t) old world d e spans no_spans)) in
+            ∙ ap (λ (y : Spans). with_span_entry y h.1 before.id) (sym (seen_before (λ (s t : S). does s (Enter h.1 at before lane) t) old world d e spans no_spans)) in
             record {
               sites = ap (λ (w : Worlds S). w.sites) e.others;
               default = el.0.default;
@@ -80,10 +80,10 @@ module _ {S : Type 0} (spans : S → Spans) (hint : S → Option LevelFilter) (e
   abbrev pub RunPolls : Running → Worlds S → Lane → ℕ → Polled (Unit {0}) → Running → Worlds S → Lane → Type 0
   RunPolls f world lane at r g new later = PollsSteps spans hint enables does touches same f.steps.now world lane at r g.steps.now new later
 
-  module _ (f g : Instrumented Running) (site : ℕ) (old world new : Worlds S) (before later : Lane) (e : EnterError) (ready : Ready spans kept is_whole old before) (lone : IsAlone (spans_in spans old (serving before)).made (serving before) site f.span)
+  module _ (f g : Instrumented Running) (site : ℕ) (old world new : Worlds S) (before later : Lane) (e : EnterError) (ready : Ready spans kept is_whole old before) (lone : IsAlone (spans_in spans old (dispatch_serving before)).made (dispatch_serving before) site f.span)
       (number k : ℕ) (handles : List Handle) (guards : List Held) (is : slice_get handles number ≡ Some f.span) (count : length guards ≡ k) where
     abbrev d : ℕ
-    d = serving before
+    d = dispatch_serving before
 
     abbrev t : Left
     t = left_as number site f.inner
@@ -116,7 +116,7 @@ module _ {S : Type 0} (spans : S → Spans) (hint : S → Option LevelFilter) (e
       full = full.1;
     }
 
-    refused : IsRefused {A = Unit {0}} same activates f old before (Err e) g world later → ReplacedOn (λ id s t. Chain spans does m (Some id) s t) world new f.span.held → StopsPoll spans hint enables activates does touches same d old.sites m k t e start new later
+    refused : CannotEnter {A = Unit {0}} same activates f old before (Err e) g world later → ReplacedOn (λ id s t. Chain spans does m (Some id) s t) world new f.span.held → StopsPoll spans hint enables activates does touches same d old.sites m k t e start new later
     refused r chain = record {
       part = [];
       others = poll old.sites k t;
@@ -140,7 +140,7 @@ module _ {S : Type 0} (spans : S → Spans) (hint : S → Option LevelFilter) (e
         let polled : PollsSteps spans hint enables does touches same f.inner.steps.now i.world i.lane m (Err e) g.inner.steps.now i.left_world i.left_lane = i.polled in
         let stop = polled.2 in
         let inn = inner d f.span.held f.span.site site m old i.world before i.lane lone.site_is ready.none_open lone.held_is i.entered in
-        let f' : Step → Request = λ s. on_lane m (step_call old.sites t s) in
+        let f' : Step → Request = λ s. on_first_lane m (step_call old.sites t s) in
         let enter : Entered spans hint enables does touches d m number start (record { world = i.world; lane = i.lane; handles = handles; guards = guarded }) = record {
           handle = f.span;
           is = is;
@@ -158,12 +158,12 @@ module _ {S : Type 0} (spans : S → Spans) (hint : S → Option LevelFilter) (e
           handles = refl;
           guards = refl;
         } in
-        let tail : List Request = on_lane m (call.Exit k) ∷ ends k number (left_of f.inner.steps.now) in
+        let tail : List Request = on_first_lane m (call.Exit k) ∷ drop_at_end k number (left_of f.inner.steps.now) in
         record {
-          part = on_lane m (call.Enter number) ∷ map f' stop.done;
+          part = on_first_lane m (call.Enter number) ∷ map f' stop.done;
           others = map f' stop.others ++ tail;
-          within = sym (append_assoc (on_lane m (call.Enter number) ∷ map f' stop.done) (map f' stop.others) tail)
-              ∙ ap (λ (xs : List Request). (on_lane m (call.Enter number) ∷ xs) ++ tail) (sym (map_both f' stop.done stop.others) ∙ ap (λ (xs : List Step). map f' xs) stop.within);
+          within = sym (append_assoc (on_first_lane m (call.Enter number) ∷ map f' stop.done) (map f' stop.others) tail)
+              ∙ ap (λ (xs : List Request). (on_first_lane m (call.Enter number) ∷ xs) ++ tail) (sym (map_both f' stop.done stop.others) ∙ ap (λ (xs : List Step). map f' xs) stop.within);
           not_entered = λ is_full. absurd (cc (polled.1, is_full));
           stopped = record {
             here = record { world = stop.world; lane = i.lane; handles = handles; guards = guarded };
@@ -177,19 +177,19 @@ module _ {S : Type 0} (spans : S → Spans) (hint : S → Option LevelFilter) (e
           handles = refl;
         }
 
-    either : IsRefused {A = Unit {0}} same activates f old before (Err e) g world later ⊎ IsInside does activates RunPolls f old before m (Err e) g world later → ReplacedOn (λ id s t. Chain spans does m (Some id) s t) world new g.span.held
+    either : CannotEnter {A = Unit {0}} same activates f old before (Err e) g world later ⊎ IsInside does activates RunPolls f old before m (Err e) g world later → ReplacedOn (λ id s t. Chain spans does m (Some id) s t) world new g.span.held
         → StopsPoll spans hint enables activates does touches same d old.sites m k t e start new later
     either (inl r) chain = refused r (subst (λ (h : Instrumented Running). ReplacedOn (λ id s t. Chain spans does m (Some id) s t) world new h.span.held) r.future_same chain)
     either (inr i) chain = inside i (subst (λ (h : Handle). ReplacedOn (λ id s t. Chain spans does m (Some id) s t) world new h.held) i.span_same chain)
 
-  pub stops : (f g : Instrumented Running) (at site : ℕ) (old world new : Worlds S) (before later : Lane) (e : EnterError) → Ready spans kept is_whole old before → IsAlone (spans_in spans old (serving before)).made (serving before) site f.span
-      → IsRefused {A = Unit {0}} same activates f old before (Err e) g world later ⊎ IsInside does activates RunPolls f old before at (Err e) g world later → ReplacedOn (λ id s t. Chain spans does at (Some id) s t) world new g.span.held
+  pub stops : (f g : Instrumented Running) (at site : ℕ) (old world new : Worlds S) (before later : Lane) (e : EnterError) → Ready spans kept is_whole old before → IsAlone (spans_in spans old (dispatch_serving before)).made (dispatch_serving before) site f.span
+      → CannotEnter {A = Unit {0}} same activates f old before (Err e) g world later ⊎ IsInside does activates RunPolls f old before at (Err e) g world later → ReplacedOn (λ id s t. Chain spans does at (Some id) s t) world new g.span.held
       → TurnStops spans hint enables activates does touches same at f old before e new later
   stops f g at site old world new before later e ready lone polled chain = record {
     stops = λ number own k handles guards moment is count own_is.
         let same_site : site ≡ own = cc (lone.site_is, own_is) in
-        subst (λ (n : ℕ). StopsPoll spans hint enables activates does touches same (serving before) old.sites n k (left_as number own f.inner) e (record { world = old; lane = before; handles = handles; guards = guards }) new later) (sym moment)
-        (either f g own old world new before later e ready (subst (λ (x : ℕ). IsAlone (spans_in spans old (serving before)).made (serving before) x f.span) same_site lone) number k handles guards is count
-        (subst (λ (n : ℕ). IsRefused {A = Unit {0}} same activates f old before (Err e) g world later ⊎ IsInside does activates RunPolls f old before n (Err e) g world later) moment polled)
+        subst (λ (n : ℕ). StopsPoll spans hint enables activates does touches same (dispatch_serving before) old.sites n k (left_as number own f.inner) e (record { world = old; lane = before; handles = handles; guards = guards }) new later) (sym moment)
+        (either f g own old world new before later e ready (subst (λ (x : ℕ). IsAlone (spans_in spans old (dispatch_serving before)).made (dispatch_serving before) x f.span) same_site lone) number k handles guards is count
+        (subst (λ (n : ℕ). CannotEnter {A = Unit {0}} same activates f old before (Err e) g world later ⊎ IsInside does activates RunPolls f old before n (Err e) g world later) moment polled)
         (subst (λ (n : ℕ). ReplacedOn (λ id s t. Chain spans does n (Some id) s t) world new g.span.held) moment chain));
   }

@@ -9,7 +9,7 @@ use Rattle.trace_base.specs.declared.field.ValueSet.{ValueSet}
 use Rattle.trace_base.specs.declared.lane.Lane.{Lane}
 use Rattle.trace_base.specs.declared.level.LevelFilter.{LevelFilter}
 use Rattle.trace_base.specs.declared.span.Parent.TheVariants as parent
-use Rattle.trace_base.specs.Calls.{SubscriberCall, Records, Event, after}
+use Rattle.trace_base.specs.Calls.{SubscriberCall, Records, Event, spans_after_call}
 use Rattle.trace_base.specs.Field.{place_of}
 use Rattle.trace_base.specs.Gate.{Worlds, dispatch_on}
 use Rattle.trace_base.specs.Spans.{Spans, current_on}
@@ -17,25 +17,25 @@ use Rattle.span_handles.specs.Worlds.{Replaced, spans_in, no_spans}
 use Rattle.span_handles.specs.Handles.{Handle, Held, RecordsAt, handle_of}
 use Rattle.span_handles.proofs.Showing.{as_many, seen_before, seen_later}
 use Rattle.otel_layer.specs.Parts.{PartCall, Applies}
-use Rattle.trace_tape.specs.Taping.{on_lane}
+use Rattle.trace_tape.specs.Taping.{on_first_lane}
 use Rattle.trace_tasks.specs.declared.script.Step.{Step}
 use Rattle.trace_tasks.specs.declared.script.Step.TheVariants as step
 use Rattle.trace_tasks.specs.Acts.{now_of, CallsIf, TellsAt, RecordsTo, StepAt, StepIf, StepOn, StepsOn}
-use Rattle.span_script.specs.Fields.{Fields, placed, values_of, values_by}
+use Rattle.span_script.specs.Fields.{Fields, declared_value, values_of, values_by}
 use Rattle.trace_tasks.specs.Flat.{Left, declared_ones, step_call}
 use Rattle.trace_tasks.specs.Carrying.{Stage, CarriesCall, Carries}
 
 -- what isn't declared has no place
-placed_one : (c : Callsite) (f : List ℕ × Value) (fs : Fields) → filter_map (placed c) (declared_ones (Some c) fs) ≡ filter_map (placed c) fs → (p : Option ℕ) → place_of f.0 c ≡ p
-    → filter_map (placed c) (declared_ones (Some c) (f ∷ fs)) ≡ filter_map (placed c) (f ∷ fs)
+placed_one : (c : Callsite) (f : List ℕ × Value) (fs : Fields) → filter_map (declared_value c) (declared_ones (Some c) fs) ≡ filter_map (declared_value c) fs → (p : Option ℕ) → place_of f.0 c ≡ p
+    → filter_map (declared_value c) (declared_ones (Some c) (f ∷ fs)) ≡ filter_map (declared_value c) (f ∷ fs)
 placed_one c f fs rest None is =
-    ap (λ (q : Option ℕ). filter_map (placed c) (cons_option (if is_some q then Some f else None) (declared_ones (Some c) fs))) is
-    ∙ rest ∙ sym (ap (λ (q : Option ℕ). cons_option (option_map (λ place. (place, f.1)) q) (filter_map (placed c) fs)) is)
+    ap (λ (q : Option ℕ). filter_map (declared_value c) (cons_option (if is_some q then Some f else None) (declared_ones (Some c) fs))) is
+    ∙ rest ∙ sym (ap (λ (q : Option ℕ). cons_option (option_map (λ place. (place, f.1)) q) (filter_map (declared_value c) fs)) is)
 placed_one c f fs rest (Some n) is =
-    ap (λ (q : Option ℕ). filter_map (placed c) (cons_option (if is_some q then Some f else None) (declared_ones (Some c) fs))) is
-    ∙ ap (λ (xs : List (ℕ × Value)). cons_option (placed c f) xs) rest
+    ap (λ (q : Option ℕ). filter_map (declared_value c) (cons_option (if is_some q then Some f else None) (declared_ones (Some c) fs))) is
+    ∙ ap (λ (xs : List (ℕ × Value)). cons_option (declared_value c f) xs) rest
 
-placed_declared : (c : Callsite) (fields : Fields) → filter_map (placed c) (declared_ones (Some c) fields) ≡ filter_map (placed c) fields
+placed_declared : (c : Callsite) (fields : Fields) → filter_map (declared_value c) (declared_ones (Some c) fields) ≡ filter_map (declared_value c) fields
 placed_declared c [] = refl
 placed_declared c (f ∷ fs) = placed_one c f fs (placed_declared c fs) (place_of f.0 c) refl
 
@@ -67,7 +67,7 @@ pub first_acts : (done others steps : List Step) → done ++ others ≡ now_of s
 first_acts done others steps is = acts_front done others (subst (λ (xs : List Step). AreActs xs) (sym is) (now_acts steps))
 
 module _ {S : Type 0} (spans : S → Spans) (hint : S → Option LevelFilter) (enables : S → ℕ → Callsite → Bool) (does : S → SubscriberCall → S → Type 0) (touches : S → PartCall → S → Type 0) (d : ℕ)
-    (shows : (s : S) (call : SubscriberCall) (t : S) → does s call t → spans t ≡ after (spans s) call) (stays : (s : S) (call : PartCall) (t : S) → touches s call t → spans t ≡ spans s) where
+    (shows : (s : S) (call : SubscriberCall) (t : S) → does s call t → spans t ≡ spans_after_call (spans s) call) (stays : (s : S) (call : PartCall) (t : S) → touches s call t → spans t ≡ spans s) where
   -- what a step leaves of the world
   pub record Leaves (old new : Worlds S) : Type 0 where
     pub spans_same : spans_in spans new d ≡ spans_in spans old d
@@ -142,9 +142,9 @@ module _ {S : Type 0} (spans : S → Spans) (hint : S → Option LevelFilter) (e
 
       one_step : (s : Step) (steps : List Step) (old new : Worlds S) → (s ≡ step.Yield → ⊥) → old.sites ≡ sites → current_on lane.id (spans_in spans old d) ≡ current
           → ((world : Worlds S) → world.sites ≡ sites → current_on lane.id (spans_in spans world d) ≡ current → StepsOn spans hint enables does touches lane at steps world new
-          → Carries spans hint enables does touches d (map (λ s. on_lane at (step_call sites t s)) steps) (stage world) (stage new) × Leaves world new)
+          → Carries spans hint enables does touches d (map (λ s. on_first_lane at (step_call sites t s)) steps) (stage world) (stage new) × Leaves world new)
           → StepsOn spans hint enables does touches lane at (s ∷ steps) old new
-          → Carries spans hint enables does touches d (map (λ s. on_lane at (step_call sites t s)) (s ∷ steps)) (stage old) (stage new) × Leaves old new
+          → Carries spans hint enables does touches d (map (λ s. on_first_lane at (step_call sites t s)) (s ∷ steps)) (stage old) (stage new) × Leaves old new
       one_step s steps old new act same now rest (world, on, more) =
           let step = at_dispatch s old world now on in
           let left = step_leaves lane at current s old world step in
@@ -153,10 +153,10 @@ module _ {S : Type 0} (spans : S → Spans) (hint : S → Option LevelFilter) (e
 
       -- steps none of which ends the poll
       pub acts_carry : (steps : List Step) → AreActs steps → (old new : Worlds S) → old.sites ≡ sites → current_on lane.id (spans_in spans old d) ≡ current → StepsOn spans hint enables does touches lane at steps old new
-          → Carries spans hint enables does touches d (map (λ s. on_lane at (step_call sites t s)) steps) (stage old) (stage new) × Leaves old new
+          → Carries spans hint enables does touches d (map (λ s. on_first_lane at (step_call sites t s)) steps) (stage old) (stage new) × Leaves old new
       acts_carry [] acts old new same now is = (ap stage is, leaves_none old new is)
       acts_carry (s ∷ steps) acts old new same now on = one_step s steps old new acts.0 same now (λ w a b c. acts_carry steps acts.1 w new a b c) on
 
       pub steps_carry : (steps : List Step) (old new : Worlds S) → old.sites ≡ sites → current_on lane.id (spans_in spans old d) ≡ current → StepsOn spans hint enables does touches lane at (now_of steps) old new
-          → Carries spans hint enables does touches d (map (λ s. on_lane at (step_call sites t s)) (now_of steps)) (stage old) (stage new) × Leaves old new
+          → Carries spans hint enables does touches d (map (λ s. on_first_lane at (step_call sites t s)) (now_of steps)) (stage old) (stage new) × Leaves old new
       steps_carry steps old new same now on = acts_carry (now_of steps) (now_acts steps) old new same now on

@@ -8,7 +8,7 @@ use Rattle.trace_base.specs.declared.lane.Lane.{Lane}
 use Rattle.trace_base.specs.declared.level.LevelFilter.{LevelFilter}
 use Rattle.trace_base.specs.Gate.{Worlds}
 use Rattle.trace_base.specs.Spans.{Spans}
-use Rattle.trace_base.specs.Calls.{SubscriberCall, after}
+use Rattle.trace_base.specs.Calls.{SubscriberCall, spans_after_call}
 use Rattle.trace_base.specs.lanes.Contexts.{Lanes}
 use Rattle.span_futures.specs.Calling.{CallsBy}
 use Rattle.span_futures.specs.Lent.{KeepsLent}
@@ -59,7 +59,7 @@ module _ {S : Type 0} (spans : S → Spans) (hint : S → Option LevelFilter) (e
     polling_first steps world = record { lent = keeps_nothing spans kept is_whole world lane; called = calls_none does (Asks touches) same same_refl same_trans at world; left = refl; done = []; split = refl; did = refl }
 
     module _ (same_spans : (s t : S) → same s t → spans t ≡ spans s) (same_kept : (s t : S) → same s t → kept t ≡ kept s) (same_whole : (s t : S) → same s t → is_whole s → is_whole t)
-        (shows : (s : S) (call : SubscriberCall) (t : S) → does s call t → spans t ≡ after (spans s) call) (lanes : (s : S) (call : SubscriberCall) (t : S) → does s call t → Lanes (attaches s) (kept s) call (kept t))
+        (shows : (s : S) (call : SubscriberCall) (t : S) → does s call t → spans t ≡ spans_after_call (spans s) call) (lanes : (s : S) (call : SubscriberCall) (t : S) → does s call t → Lanes (attaches s) (kept s) call (kept t))
         (keeps_whole : (s : S) (call : SubscriberCall) (t : S) → does s call t → is_whole s → is_whole t)
         (stays : (s : S) (call : PartCall) (t : S) → touches s call t → StaysStack spans kept attaches is_whole s t) where
       pub lent_more : (first steps : List Step) (old world next : Worlds S) → Polling first steps old world → Changes spans hint enables does touches same at world next → KeepsLent spans kept is_whole old next lane lane

@@ -6,45 +6,45 @@ use Rattle.futures.specs.declared.task.Poll.TheVariants as polls
 use Rattle.trace_base.specs.declared.callsite.Callsite.{Callsite}
 use Rattle.trace_base.specs.declared.lane.Lane.{Lane}
 use Rattle.trace_base.specs.declared.level.LevelFilter.{LevelFilter}
-use Rattle.trace_base.specs.Calls.{SubscriberCall, TryClose, Exit, after}
+use Rattle.trace_base.specs.Calls.{SubscriberCall, TryClose, Exit, spans_after_call}
 use Rattle.trace_base.specs.Conditions.{Allowed, HasFewHolds}
 use Rattle.trace_base.specs.lanes.Contexts.{Lanes}
 use Rattle.trace_base.specs.Gate.{Worlds}
-use Rattle.trace_base.specs.Spans.{Span, Spans, span_at, entries_on, next_of, released}
-use Rattle.span_handles.specs.Worlds.{Replaced, Chain, ended, closes, Released, all_released, releases, spans_in, no_spans}
+use Rattle.trace_base.specs.Spans.{Span, Spans, span_at, entries_on, next_of, without_hold}
+use Rattle.span_handles.specs.Worlds.{Replaced, Chain, ended, closes, ReleasesChain, all_released, releases, spans_in, no_spans}
 use Rattle.span_handles.specs.Handles.{Handle, Held, HasOn, ReplacedOn}
 use Rattle.span_handles.proofs.Showing.{as_many, seen_before, seen_later, chain_shown}
 use Rattle.span_futures.specs.declared.instrument.Instrumented.{Instrumented}
 use Rattle.span_futures.specs.Lent.{HasAll, AreAllAttached, KeepsLent}
-use Rattle.span_futures.specs.Polls.{Polled, IsRefused, IsInside}
+use Rattle.span_futures.specs.Polls.{Polled, CannotEnter, IsInside}
 use Rattle.span_futures.proofs.Keeping.{same_kept, keeps_all}
 use Rattle.otel_layer.specs.Parts.{PartCall}
 use Rattle.span_script.specs.declared.request.Call.TheVariants as call
-use Rattle.trace_tape.specs.Taping.{on_lane}
+use Rattle.trace_tape.specs.Taping.{on_first_lane}
 use Rattle.trace_tasks.specs.declared.running.Running.{Running}
 use Rattle.trace_tasks.specs.declared.script.Step.{Step}
 use Rattle.trace_tasks.specs.Acts.{now_of, StepsOn, PollsSteps}
 use Rattle.trace_tasks.specs.Carrying.{Stage, Handled, Carries}
-use Rattle.trace_tasks.specs.Flat.{Left, step_call, moment_of, ends}
-use Rattle.trace_tasks.specs.Turning.{served_by, serving, Ready, alone, IsAlone, IsAloneAs, left_as, Turned}
+use Rattle.trace_tasks.specs.Flat.{Left, step_call, moment_of, drop_at_end}
+use Rattle.trace_tasks.specs.Turning.{served_by, dispatch_serving, Ready, root_of_one_handle, IsAlone, IsAloneAs, left_as, Turned}
 use Rattle.trace_tasks.proofs.queues.RootLemmas.{others_stay, no_next}
 use Rattle.trace_tasks.proofs.polls.EntryLemmas.{Through, through}
 
-rel_none : (o : Option ℕ) (x y : Spans) → Released o x y → o ≡ None → y ≡ x
+rel_none : (o : Option ℕ) (x y : Spans) → ReleasesChain o x y → o ≡ None → y ≡ x
 rel_none _ _ _ (all_released x) is = refl
 rel_none _ _ _ (releases id at x y own rest) is = absurd (cc is)
 
 -- the release of a root closes it alone
-rel_some : (o : Option ℕ) (x y : Spans) → Released o x y → (id : ℕ) → o ≡ Some id → next_of x.made id ≡ None → y ≡ record x { made = released x.made id }
+rel_some : (o : Option ℕ) (x y : Spans) → ReleasesChain o x y → (id : ℕ) → o ≡ Some id → next_of x.made id ≡ None → y ≡ record x { made = without_hold x.made id }
 rel_some _ _ _ (all_released x) id is none = absurd (cc is)
 rel_some _ _ _ (releases i at x y own rest) id is none =
     let same : i ≡ id = cc is in
-    rel_none (next_of x.made i) (after x (TryClose i at)) y rest (ap (λ (n : ℕ). next_of x.made n) same ∙ none)
-    ∙ ap (λ (n : ℕ). let z : Spans = record x { made = released x.made n } in z) same
+    rel_none (next_of x.made i) (spans_after_call x (TryClose i at)) y rest (ap (λ (n : ℕ). next_of x.made n) same ∙ none)
+    ∙ ap (λ (n : ℕ). let z : Spans = record x { made = without_hold x.made n } in z) same
 
 module _ {S : Type 0} (spans : S → Spans) (hint : S → Option LevelFilter) (enables : S → ℕ → Callsite → Bool) (attaches : S → Bool) (activates : S → ℕ → Bool) (kept : S → ℕ → ℕ → ℕ) (is_whole : S → Type 0)
     (does : S → SubscriberCall → S → Type 0) (touches : S → PartCall → S → Type 0) (same : S → S → Type 0)
-    (allowed : (s : S) (call : SubscriberCall) (t : S) → does s call t → Allowed (spans s) call) (shows : (s : S) (call : SubscriberCall) (t : S) → does s call t → spans t ≡ after (spans s) call)
+    (allowed : (s : S) (call : SubscriberCall) (t : S) → does s call t → Allowed (spans s) call) (shows : (s : S) (call : SubscriberCall) (t : S) → does s call t → spans t ≡ spans_after_call (spans s) call)
     (lanes : (s : S) (call : SubscriberCall) (t : S) → does s call t → Lanes (attaches s) (kept s) call (kept t)) (keeps_attaches : (s : S) (call : SubscriberCall) (t : S) → does s call t → attaches t ≡ attaches s)
     (keeps_whole : (s : S) (call : SubscriberCall) (t : S) → does s call t → is_whole s → is_whole t) (stays : (s : S) (call : PartCall) (t : S) → touches s call t → spans t ≡ spans s) where
   -- what a poll of a task's steps is
@@ -52,15 +52,15 @@ module _ {S : Type 0} (spans : S → Spans) (hint : S → Option LevelFilter) (e
   RunPolls f world lane at r g new later = PollsSteps spans hint enables does touches same f.steps.now world lane at r g.steps.now new later
 
   -- a poll that was answered ran inside the span
-  pub inside_of : (f g : Instrumented Running) (old new : Worlds S) (before later : Lane) (at : ℕ) (p : Poll (Unit {0})) → IsRefused same activates f old before (Ok p) g new later ⊎ IsInside does activates RunPolls f old before at (Ok p) g new later
+  pub inside_of : (f g : Instrumented Running) (old new : Worlds S) (before later : Lane) (at : ℕ) (p : Poll (Unit {0})) → CannotEnter same activates f old before (Ok p) g new later ⊎ IsInside does activates RunPolls f old before at (Ok p) g new later
       → IsInside does activates RunPolls f old before at (Ok p) g new later
   inside_of f g old new before later at p (inl refused) = absurd (cc refused.is)
   inside_of f g old new before later at p (inr inside) = inside
 
   ready_after : (old new : Worlds S) (before later : Lane) → Ready spans kept is_whole old before → later.default ≡ before.default → length new.subscribers ≡ length old.subscribers → HasAll is_whole new → AreAllAttached kept new later
-      → entries_on later.id (spans_in spans new (serving before)).lanes ≡ [] → Ready spans kept is_whole new later
+      → entries_on later.id (spans_in spans new (dispatch_serving before)).lanes ≡ [] → Ready spans kept is_whole new later
   ready_after old new before later ready default count whole still none =
-      let e : serving later ≡ serving before = ap served_by default in
+      let e : dispatch_serving later ≡ dispatch_serving before = ap served_by default in
       record {
         default = default ∙ ready.default ∙ ap (λ (n : ℕ). Some n) (sym e);
         there = (let t = ready.there in omega (arith, e, t, count));
@@ -70,16 +70,16 @@ module _ {S : Type 0} (spans : S → Spans) (hint : S → Option LevelFilter) (e
       }
 
   -- the entry, the steps and the exit of a poll
-  through_of : (f g : Instrumented Running) (at site : ℕ) (old new : Worlds S) (before later : Lane) (p : Poll (Unit {0})) → Ready spans kept is_whole old before → IsAlone (spans_in spans old (serving before)).made (serving before) site f.span
+  through_of : (f g : Instrumented Running) (at site : ℕ) (old new : Worlds S) (before later : Lane) (p : Poll (Unit {0})) → Ready spans kept is_whole old before → IsAlone (spans_in spans old (dispatch_serving before)).made (dispatch_serving before) site f.span
       → (inside : IsInside does activates RunPolls f old before at (Ok p) g new later) → inside.left_lane ≡ inside.lane → StepsOn spans hint enables does touches inside.lane at (now_of f.inner.steps.now) inside.world inside.left_world
-      → Through spans hint enables attaches kept does touches (serving before) shows lanes stays f.span.held f.span.site site at f.inner.steps.now old new before later
+      → Through spans hint enables attaches kept does touches (dispatch_serving before) shows lanes stays f.span.held f.span.site site at f.inner.steps.now old new before later
   through_of f g at site old new before later p ready lone inside same_lane on =
-      through spans hint enables attaches kept does touches (serving before) shows lanes stays f.span.held f.span.site site at f.inner.steps.now old inside.world inside.left_world new before inside.lane later
+      through spans hint enables attaches kept does touches (dispatch_serving before) shows lanes stays f.span.held f.span.site site at f.inner.steps.now old inside.world inside.left_world new before inside.lane later
       ready.default lone.site_is ready.none_open lone.held_is inside.entered on
       (subst (λ (l : Lane). ReplacedOn (λ id s t. does s (Exit id at l later) t) inside.left_world new f.span.held) same_lane inside.exited)
       (λ no. inside.none no ∙ same_lane)
 
-  pub pending : (f g : Instrumented Running) (at site : ℕ) (old new : Worlds S) (before later : Lane) → Ready spans kept is_whole old before → IsAlone (spans_in spans old (serving before)).made (serving before) site f.span
+  pub pending : (f g : Instrumented Running) (at site : ℕ) (old new : Worlds S) (before later : Lane) → Ready spans kept is_whole old before → IsAlone (spans_in spans old (dispatch_serving before)).made (dispatch_serving before) site f.span
       → KeepsLent spans kept is_whole old new before later → IsInside does activates RunPolls f old before at (Ok polls.Pending) g new later
       → Turned spans hint enables kept is_whole does touches at f old before (Some g) new later
   pending f g at site old new before later ready lone lent inside =
@@ -97,7 +97,7 @@ module _ {S : Type 0} (spans : S → Spans) (hint : S → Option LevelFilter) (e
             let same : site ≡ own = cc (lone.site_is, own_is) in
             let t : Left = left_as number own f.inner in
             let end : Stage S = record { world = new; lane = later; handles = handles; guards = guards ++ f.span.held ∷ [] } in
-            subst (λ (o : Option (List Step)). Carries spans hint enables does touches (serving before) (on_lane (moment_of k) (call.Enter number) ∷ map (λ s. on_lane (moment_of k) (step_call old.sites t s)) (now_of f.inner.steps.now) ++ on_lane (moment_of k) (call.Exit k) ∷ ends k number o)
+            subst (λ (o : Option (List Step)). Carries spans hint enables does touches (dispatch_serving before) (on_first_lane (moment_of k) (call.Enter number) ∷ map (λ s. on_first_lane (moment_of k) (step_call old.sites t s)) (now_of f.inner.steps.now) ++ on_first_lane (moment_of k) (call.Exit k) ∷ drop_at_end k number o)
             (record { world = old; lane = before; handles = handles; guards = guards }) end) (sym polled.1)
             (thr.carried t k handles guards [] end moment count (sym same) refl is refl);
       }
@@ -119,7 +119,7 @@ module _ {S : Type 0} (spans : S → Spans) (hint : S → Option LevelFilter) (e
     still = λ lane still. subst (λ (w : Worlds S). AreAllAttached kept w lane) (sym is) still;
   }
 
-  closed_some : (at d id site : ℕ) (old new : Worlds S) → span_at (spans_in spans old d).made id ≡ alone site → Replaced (λ s t. Chain spans does at (Some id) s t) old new d → Closed (Some (d, id)) d old new
+  closed_some : (at d id site : ℕ) (old new : Worlds S) → span_at (spans_in spans old d).made id ≡ root_of_one_handle site → Replaced (λ s t. Chain spans does at (Some id) s t) old new d → Closed (Some (d, id)) d old new
   closed_some at d id site old new is_alone r =
       let R : S → S → Type 0 = λ s t. Chain spans does at (Some id) s t in
       let shown = chain_shown spans attaches kept is_whole does allowed shows lanes keeps_attaches keeps_whole at old new d id r in
@@ -139,12 +139,12 @@ module _ {S : Type 0} (spans : S → Spans) (hint : S → Option LevelFilter) (e
       subst (λ (e : ℕ). Closed (Some (e, h.1)) d old new) (sym is_alone.0)
       (closed_some at d h.1 site old new is_alone.1 (subst (λ (e : ℕ). ReplacedOn (λ id s t. Chain spans does at (Some id) s t) old new (Some (e, h.1))) is_alone.0 r))
 
-  pub finished : (f g : Instrumented Running) (at site : ℕ) (old world new : Worlds S) (before later : Lane) → Ready spans kept is_whole old before → IsAlone (spans_in spans old (serving before)).made (serving before) site f.span
+  pub finished : (f g : Instrumented Running) (at site : ℕ) (old world new : Worlds S) (before later : Lane) → Ready spans kept is_whole old before → IsAlone (spans_in spans old (dispatch_serving before)).made (dispatch_serving before) site f.span
       → KeepsLent spans kept is_whole old world before later → IsInside does activates RunPolls f old before at (Ok (polls.Ready tt)) g world later
       → ReplacedOn (λ id s t. Chain spans does at (Some id) s t) world new g.span.held → HasAll is_whole new
       → Turned spans hint enables kept is_whole does touches at f old before None new later
   finished f g at site old world new before later ready lone lent inside chain whole =
-      let d : ℕ = serving before in
+      let d : ℕ = dispatch_serving before in
       let polled : PollsSteps spans hint enables does touches same f.inner.steps.now inside.world inside.lane at (Ok (polls.Ready tt)) g.inner.steps.now inside.left_world inside.left_lane = inside.polled in
       let thr = through_of f g at site old world before later (polls.Ready tt) ready lone inside polled.0 polled.2 in
       let ends_it : ReplacedOn (λ id s t. Chain spans does at (Some id) s t) world new f.span.held = subst (λ (h : Handle). ReplacedOn (λ id s t. Chain spans does at (Some id) s t) world new h.held) inside.span_same chain in
@@ -170,9 +170,9 @@ module _ {S : Type 0} (spans : S → Spans) (hint : S → Option LevelFilter) (e
               handles = refl;
               guards = refl;
             } in
-            subst (λ (o : Option (List Step)). Carries spans hint enables does touches d (on_lane m (call.Enter number) ∷ map (λ s. on_lane m (step_call old.sites t s)) (now_of f.inner.steps.now) ++ on_lane m (call.Exit k) ∷ ends k number o)
+            subst (λ (o : Option (List Step)). Carries spans hint enables does touches d (on_first_lane m (call.Enter number) ∷ map (λ s. on_first_lane m (step_call old.sites t s)) (now_of f.inner.steps.now) ++ on_first_lane m (call.Exit k) ∷ drop_at_end k number o)
             (record { world = old; lane = before; handles = handles; guards = guards }) end) (sym polled.1)
-            (thr.carried t k handles guards (on_lane m (call.Drop number) ∷ []) end moment count (sym same) refl is (end, drop, refl));
+            (thr.carried t k handles guards (on_first_lane m (call.Drop number) ∷ []) end moment count (sym same) refl is (end, drop, refl));
       }
 
 -- a root that one handle holds has few holds

@@ -20,15 +20,15 @@ use Rattle.otel_layer.specs.Parts.{PartCall}
 use Rattle.span_script.specs.declared.request.Call.TheVariants as call
 use Rattle.span_script.specs.declared.request.Place.TheVariants as place
 use Rattle.span_script.specs.declared.request.Request.{Request}
-use Rattle.trace_tape.specs.Taping.{on_lane}
+use Rattle.trace_tape.specs.Taping.{on_first_lane}
 use Rattle.trace_tasks.specs.declared.running.Running.{Running}
 use Rattle.trace_tasks.specs.declared.script.Task.{Task}
 use Rattle.trace_tasks.specs.Begun.{Begins, AreBegun, Ran}
 use Rattle.trace_tasks.specs.Carrying.{Stage, Carries}
-use Rattle.trace_tasks.specs.Flat.{Left, yields, polls_left, all_polls, begun, makings, moment_of, rounds, turns}
-use Rattle.trace_tasks.specs.Stops.{drops, leavings, StopsTurns, StopsBeginning, GaveUp}
-use Rattle.trace_tasks.specs.Turning.{IsAloneAs, Ready, serving}
-use Rattle.trace_tasks.specs.Waiting.{Waits, IsApart, AreApart, AllWait, AllKnown, Stands, AllStand, TakesTurns, polls_in}
+use Rattle.trace_tasks.specs.Flat.{Left, yields, polls_left, all_polls, tasks_at_first, makings, moment_of, rounds, turns}
+use Rattle.trace_tasks.specs.Stops.{drops_of_tasks, leavings, StopsTurns, StopsBeginning, GaveUp}
+use Rattle.trace_tasks.specs.Turning.{IsAloneAs, Ready, dispatch_serving}
+use Rattle.trace_tasks.specs.Waiting.{Waits, IsApart, AreApart, AllWait, AllKnown, TaskStands, AllStand, TakesTurns, polls_in}
 use Rattle.trace_tasks.proofs.polls.EntryLemmas.{get_push}
 use Rattle.trace_tasks.proofs.tapes.RoundsLemmas.{rounds_are_turns}
 
@@ -49,26 +49,26 @@ stand_more handles h [] (f ∷ fs) all = absurd all
 stand_more handles h (t ∷ ts) [] all = absurd all
 stand_more handles h (t ∷ ts) (f ∷ fs) all = (record { handle = get_before handles h f.span t.number all.0.handle; site = all.0.site; steps = all.0.steps }, stand_more handles h ts fs all.1)
 
-stand_end : (handles : List Handle) (ts : List Left) (fs : List (Instrumented Running)) (t : Left) (f : Instrumented Running) → AllStand handles ts fs → Stands handles t f → AllStand handles (ts ++ t ∷ []) (fs ++ f ∷ [])
+stand_end : (handles : List Handle) (ts : List Left) (fs : List (Instrumented Running)) (t : Left) (f : Instrumented Running) → AllStand handles ts fs → TaskStands handles t f → AllStand handles (ts ++ t ∷ []) (fs ++ f ∷ [])
 stand_end handles [] [] t f all one = (one, tt)
 stand_end handles [] (g ∷ fs) t f all one = absurd all
 stand_end handles (u ∷ ts) [] t f all one = absurd all
 stand_end handles (u ∷ ts) (g ∷ fs) t f all one = (all.0, stand_end handles ts fs t f all.1 one)
 
-begun_end : (n : ℕ) (tasks : List Task) (task : Task) → begun n (tasks ++ task ∷ []) ≡ begun n tasks ++ record { number = n + length tasks; site = task.site; steps = task.steps } ∷ []
+begun_end : (n : ℕ) (tasks : List Task) (task : Task) → tasks_at_first n (tasks ++ task ∷ []) ≡ tasks_at_first n tasks ++ record { number = n + length tasks; site = task.site; steps = task.steps } ∷ []
 begun_end n [] task = (let e : n ≡ n + 0 = omega arith in ap (λ (m : ℕ). let t : Left = record { number = m; site = task.site; steps = task.steps } in t ∷ []) e)
 begun_end n (x ∷ tasks) task =
     let t : Left = record { number = n; site = x.site; steps = x.steps } in
     let e : n + 1 + length tasks ≡ n + length (x ∷ tasks) = omega arith in
-    ap (λ (ts : List Left). t ∷ ts) (begun_end (n + 1) tasks task ∙ ap (λ (m : ℕ). let u : Left = record { number = m; site = task.site; steps = task.steps } in begun (n + 1) tasks ++ u ∷ []) e)
+    ap (λ (ts : List Left). t ∷ ts) (begun_end (n + 1) tasks task ∙ ap (λ (m : ℕ). let u : Left = record { number = m; site = task.site; steps = task.steps } in tasks_at_first (n + 1) tasks ++ u ∷ []) e)
 
-makings_end : (tasks : List Task) (task : Task) → makings (tasks ++ task ∷ []) ≡ makings tasks ++ on_lane 0 (call.New task.site place.Contextual task.fields) ∷ []
+makings_end : (tasks : List Task) (task : Task) → makings (tasks ++ task ∷ []) ≡ makings tasks ++ on_first_lane 0 (call.New task.site place.Contextual task.fields) ∷ []
 makings_end [] task = refl
-makings_end (x ∷ tasks) task = ap (λ (rs : List Request). on_lane 0 (call.New x.site place.Contextual x.fields) ∷ rs) (makings_end tasks task)
+makings_end (x ∷ tasks) task = ap (λ (rs : List Request). on_first_lane 0 (call.New x.site place.Contextual x.fields) ∷ rs) (makings_end tasks task)
 
 makings_both : (first others : List Task) → makings (first ++ others) ≡ makings first ++ makings others
 makings_both [] others = refl
-makings_both (x ∷ first) others = ap (λ (rs : List Request). on_lane 0 (call.New x.site place.Contextual x.fields) ∷ rs) (makings_both first others)
+makings_both (x ∷ first) others = ap (λ (rs : List Request). on_first_lane 0 (call.New x.site place.Contextual x.fields) ∷ rs) (makings_both first others)
 
 length_end : (tasks : List Task) (task : Task) → length (tasks ++ task ∷ []) ≡ length tasks + 1
 length_end [] task = refl
@@ -120,13 +120,13 @@ module _ {S : Type 0} (spans : S → Spans) (hint : S → Option LevelFilter) (e
   pub one_more_begun : (tasks : List Task) (task : Task) (lane : Lane) (old world new : Worlds S) (fs : List (Instrumented Running)) (f : Instrumented Running) → AreBegun spans hint enables kept is_whole does touches tasks lane old world fs
       → Begins spans hint enables kept is_whole does touches task lane world new f → KeepsHandles spans world new → AreBegun spans hint enables kept is_whole does touches (tasks ++ task ∷ []) lane old new (fs ++ f ∷ [])
   one_more_begun tasks task lane old world new fs f so_far one keeps =
-      let d : ℕ = serving lane in
+      let d : ℕ = dispatch_serving lane in
       let handles : List Handle = so_far.handles ++ f.span ∷ [] in
       let last : Left = record { number = 0 + length tasks; site = task.site; steps = task.steps } in
       record {
         handles = handles;
         count = (let a = handles_end so_far.handles f.span in let b = length_end tasks task in let c = so_far.count in omega (arith, a, b, c));
-        stand = subst (λ (ts : List Left). AllStand handles ts (fs ++ f ∷ [])) (sym (begun_end 0 tasks task)) (stand_end handles (begun 0 tasks) fs last f (stand_more so_far.handles f.span (begun 0 tasks) fs so_far.stand) (record {
+        stand = subst (λ (ts : List Left). AllStand handles ts (fs ++ f ∷ [])) (sym (begun_end 0 tasks task)) (stand_end handles (tasks_at_first 0 tasks) fs last f (stand_more so_far.handles f.span (tasks_at_first 0 tasks) fs so_far.stand) (record {
           handle = get_push so_far.handles f.span (0 + length tasks) (let c = so_far.count in omega (arith, c));
           site = one.site;
           steps = sym one.steps;
@@ -136,11 +136,11 @@ module _ {S : Type 0} (spans : S → Spans) (hint : S → Option LevelFilter) (e
         sites = one.sites ∙ so_far.sites;
         few = (let a = so_far.few in let b = one.count in let c = length_end tasks task in omega (arith, a, b, c));
         carried = subst (λ (rs : List Request). Carries spans hint enables does touches d rs (record { world = old; lane = lane; handles = []; guards = [] }) (record { world = new; lane = lane; handles = handles; guards = [] })) (sym (makings_end tasks task))
-            (then_one (makings tasks) (on_lane 0 (call.New task.site place.Contextual task.fields) ∷ []) (record { world = old; lane = lane; handles = []; guards = [] }) (record { world = world; lane = lane; handles = so_far.handles; guards = [] }) (record { world = new; lane = lane; handles = handles; guards = [] })
+            (then_one (makings tasks) (on_first_lane 0 (call.New task.site place.Contextual task.fields) ∷ []) (record { world = old; lane = lane; handles = []; guards = [] }) (record { world = world; lane = lane; handles = so_far.handles; guards = [] }) (record { world = new; lane = lane; handles = handles; guards = [] })
             so_far.carried (record { world = new; lane = lane; handles = handles; guards = [] }, one.made so_far.handles [], refl));
       } where
-        then_one : (rs more : List Request) (s m t : Stage S) → Carries spans hint enables does touches (serving lane) rs s m → Carries spans hint enables does touches (serving lane) more m t → Carries spans hint enables does touches (serving lane) (rs ++ more) s t
-        then_one [] more s m t is rest = subst (λ (x : Stage S). Carries spans hint enables does touches (serving lane) more x t) is rest
+        then_one : (rs more : List Request) (s m t : Stage S) → Carries spans hint enables does touches (dispatch_serving lane) rs s m → Carries spans hint enables does touches (dispatch_serving lane) more m t → Carries spans hint enables does touches (dispatch_serving lane) (rs ++ more) s t
+        then_one [] more s m t is rest = subst (λ (x : Stage S). Carries spans hint enables does touches (dispatch_serving lane) more x t) is rest
         then_one (r ∷ rs) more s m t (x, first, later) rest = (x, first, then_one rs more x m t later rest)
 
   -- no task yet
@@ -160,8 +160,8 @@ same_polls handles (t ∷ ts) (f ∷ fs) all = (
     omega (arith, a, b, e, r))
 
 module _ {S : Type 0} (spans : S → Spans) (hint : S → Option LevelFilter) (enables : S → ℕ → Callsite → Bool) (kept : S → ℕ → ℕ → ℕ) (is_whole : S → Type 0) (does : S → SubscriberCall → S → Type 0) (touches : S → PartCall → S → Type 0) where
-  pub few_polls : (tasks : List Task) (lane : Lane) (old world : Worlds S) (fs : List (Instrumented Running)) → AreBegun spans hint enables kept is_whole does touches tasks lane old world fs → all_polls (begun 0 tasks) < 2 ^ 60 → polls_in fs < 2 ^ 60
-  few_polls tasks lane old world fs all few = (let e = same_polls all.handles (begun 0 tasks) fs all.stand in omega (arith, e, few))
+  pub few_polls : (tasks : List Task) (lane : Lane) (old world : Worlds S) (fs : List (Instrumented Running)) → AreBegun spans hint enables kept is_whole does touches tasks lane old world fs → all_polls (tasks_at_first 0 tasks) < 2 ^ 60 → polls_in fs < 2 ^ 60
+  few_polls tasks lane old world fs all few = (let e = same_polls all.handles (tasks_at_first 0 tasks) fs all.stand in omega (arith, e, few))
 
   after_all : (d : ℕ) (rs more : List Request) (s m t : Stage S) → Carries spans hint enables does touches d rs s m → Carries spans hint enables does touches d more m t → Carries spans hint enables does touches d (rs ++ more) s t
   after_all d [] more s m t is rest = subst (λ (x : Stage S). Carries spans hint enables does touches d more x t) is rest
@@ -173,29 +173,29 @@ module _ {S : Type 0} (spans : S → Spans) (hint : S → Option LevelFilter) (e
       → IfOk result (λ polls. Ran spans hint enables does touches sites tasks old new lane later polls)
   ran sites tasks lane later old world new fs (Err e) same all turned = tt
   ran sites tasks lane later old world new fs (Ok polls) same all turned =
-      let ts : List Left = begun 0 tasks in
+      let ts : List Left = tasks_at_first 0 tasks in
       let taken = turned all.handles ts all.stand in
       let start : Stage S = record { world = old; lane = lane; handles = []; guards = [] } in
       let middle : Stage S = record { world = world; lane = lane; handles = all.handles; guards = [] } in
       let end : Stage S = record { world = new; lane = later; handles = all.handles; guards = taken.guards } in
-      let rest : Carries spans hint enables does touches (serving lane) (rounds sites (all_polls ts) 0 ts) middle end =
-      subst (λ (rs : List Request). Carries spans hint enables does touches (serving lane) rs middle end) (sym (rounds_are_turns sites (all_polls ts) 0 ts (omega arith)))
-      (subst (λ (xs : List Callsite). Carries spans hint enables does touches (serving lane) (turns xs (all_polls ts) 0 ts) middle end) (all.sites ∙ same) taken.carried) in
+      let rest : Carries spans hint enables does touches (dispatch_serving lane) (rounds sites (all_polls ts) 0 ts) middle end =
+      subst (λ (rs : List Request). Carries spans hint enables does touches (dispatch_serving lane) rs middle end) (sym (rounds_are_turns sites (all_polls ts) 0 ts (omega arith)))
+      (subst (λ (xs : List Callsite). Carries spans hint enables does touches (dispatch_serving lane) (turns xs (all_polls ts) 0 ts) middle end) (all.sites ∙ same) taken.carried) in
       record {
         answer = taken.polled;
         handles = all.handles;
         guards = taken.guards;
-        carried = after_all (serving lane) (makings tasks) (rounds sites (all_polls ts) 0 ts) start middle end all.carried rest;
+        carried = after_all (dispatch_serving lane) (makings tasks) (rounds sites (all_polls ts) 0 ts) start middle end all.carried rest;
       }
 
   -- a run that was refused in a poll
   pub gave_up_polls : (activates : S → ℕ → Bool) (same : S → S → Type 0) (sites : List Callsite) (tasks : List Task) (lane later : Lane) (old world new : Worlds S) (fs : List (Instrumented Running)) (e : EnterError) → old.sites ≡ sites
       → AreBegun spans hint enables kept is_whole does touches tasks lane old world fs
-      → ((handles : List Handle) (ts : List Left) → AllStand handles ts fs → StopsTurns spans hint enables activates does touches same (serving lane) world.sites ts e (record { world = world; lane = lane; handles = handles; guards = [] }) new later)
-      → GaveUp spans hint enables activates does touches same (serving lane) sites tasks e (record { world = old; lane = lane; handles = []; guards = [] }) new later
+      → ((handles : List Handle) (ts : List Left) → AllStand handles ts fs → StopsTurns spans hint enables activates does touches same (dispatch_serving lane) world.sites ts e (record { world = world; lane = lane; handles = handles; guards = [] }) new later)
+      → GaveUp spans hint enables activates does touches same (dispatch_serving lane) sites tasks e (record { world = old; lane = lane; handles = []; guards = [] }) new later
   gave_up_polls activates same sites tasks lane later old world new fs e is all stops =
-      let d : ℕ = serving lane in
-      let ts : List Left = begun 0 tasks in
+      let d : ℕ = dispatch_serving lane in
+      let ts : List Left = tasks_at_first 0 tasks in
       let start : Stage S = record { world = old; lane = lane; handles = []; guards = [] } in
       let middle : Stage S = record { world = world; lane = lane; handles = all.handles; guards = [] } in
       let stop : StopsTurns spans hint enables activates does touches same d sites ts e middle new later =
@@ -226,13 +226,13 @@ module _ {S : Type 0} (spans : S → Spans) (hint : S → Option LevelFilter) (e
   -- a run that was refused as it made spans
   pub gave_up_begun : (activates : S → ℕ → Bool) (same : S → S → Type 0) (sites : List Callsite) (tasks : List Task) (lane : Lane) (old world new : Worlds S) (fs : List (Instrumented Running))
       → StopsBeginning spans hint enables kept is_whole does touches same tasks lane old world fs
-      → ((handles : List Handle) (ts : List Left) → AllStand handles ts fs → (d : ℕ) (on : Lane) (gs : List Held) → Carries spans hint enables does touches d (drops 0 ts) (record { world = world; lane = on; handles = handles; guards = gs }) (record { world = new; lane = on; handles = handles; guards = gs }))
-      → GaveUp spans hint enables activates does touches same (serving lane) sites tasks faults.Memory (record { world = old; lane = lane; handles = []; guards = [] }) new lane
+      → ((handles : List Handle) (ts : List Left) → AllStand handles ts fs → (d : ℕ) (on : Lane) (gs : List Held) → Carries spans hint enables does touches d (drops_of_tasks 0 ts) (record { world = world; lane = on; handles = handles; guards = gs }) (record { world = new; lane = on; handles = handles; guards = gs }))
+      → GaveUp spans hint enables activates does touches same (dispatch_serving lane) sites tasks faults.Memory (record { world = old; lane = lane; handles = []; guards = [] }) new lane
   gave_up_begun activates same sites tasks lane old world new fs stop closes =
-      let d : ℕ = serving lane in
+      let d : ℕ = dispatch_serving lane in
       let b = stop.so_far in
       let made : List Request = makings stop.first in
-      let ts : List Left = begun 0 tasks in
+      let ts : List Left = tasks_at_first 0 tasks in
       let later : List Request = rounds sites (all_polls ts) 0 ts in
       let start : Stage S = record { world = old; lane = lane; handles = []; guards = [] } in
       let middle : Stage S = record { world = stop.world; lane = lane; handles = b.handles; guards = [] } in
@@ -253,24 +253,24 @@ module _ {S : Type 0} (spans : S → Spans) (hint : S → Option LevelFilter) (e
           failed = record { world = world; lane = lane; handles = b.handles; guards = [] };
           fails = record { world = stop.wants; lane = record { id = refl; name = refl; default = refl; live = refl }; handles = refl; guards = refl };
           guards = [];
-          closed = closes b.handles (begun 0 stop.first) b.stand d lane [];
+          closed = closes b.handles (tasks_at_first 0 stop.first) b.stand d lane [];
           full = λ is_full. absurd (cc is_full);
         };
       }
 
   pub gave_up_if : (activates : S → ℕ → Bool) (same : S → S → Type 0) (sites : List Callsite) (tasks : List Task) (lane later : Lane) (old world new : Worlds S) (fs : List (Instrumented Running)) (result : Result ℕ EnterError) → old.sites ≡ sites
       → AreBegun spans hint enables kept is_whole does touches tasks lane old world fs
-      → IfErr result (λ e. (handles : List Handle) (ts : List Left) → AllStand handles ts fs → StopsTurns spans hint enables activates does touches same (serving lane) world.sites ts e (record { world = world; lane = lane; handles = handles; guards = [] }) new later)
-      → IfErr result (λ e. GaveUp spans hint enables activates does touches same (serving lane) sites tasks e (record { world = old; lane = lane; handles = []; guards = [] }) new later)
+      → IfErr result (λ e. (handles : List Handle) (ts : List Left) → AllStand handles ts fs → StopsTurns spans hint enables activates does touches same (dispatch_serving lane) world.sites ts e (record { world = world; lane = lane; handles = handles; guards = [] }) new later)
+      → IfErr result (λ e. GaveUp spans hint enables activates does touches same (dispatch_serving lane) sites tasks e (record { world = old; lane = lane; handles = []; guards = [] }) new later)
   gave_up_if activates same sites tasks lane later old world new fs (Ok polls) is all stops = tt
   gave_up_if activates same sites tasks lane later old world new fs (Err e) is all stops = gave_up_polls activates same sites tasks lane later old world new fs e is all stops
 
 -- one poll for each task and one for each yield
-pub answer_is : (n : ℕ) (tasks : List Task) → all_polls (begun n tasks) ≡ sum_by (λ t. yields t.steps) tasks + length tasks
+pub answer_is : (n : ℕ) (tasks : List Task) → all_polls (tasks_at_first n tasks) ≡ sum_by (λ t. yields t.steps) tasks + length tasks
 answer_is n [] = refl
 answer_is n (t ∷ tasks) = (
     let u : Left = record { number = n; site = t.site; steps = t.steps } in
-    let a = sum_by-cons polls_left u (begun (n + 1) tasks) in
+    let a = sum_by-cons polls_left u (tasks_at_first (n + 1) tasks) in
     let b = sum_by-cons (λ (x : Task). yields x.steps) t tasks in
     let r = answer_is (n + 1) tasks in
     omega (arith, a, b, r))

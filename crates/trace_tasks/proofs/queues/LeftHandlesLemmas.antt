@@ -13,14 +13,14 @@ use Rattle.otel_layer.specs.Parts.{PartCall}
 use Rattle.trace_tasks.specs.declared.running.Running.{Running}
 use Rattle.trace_tasks.specs.Carrying.{Carries}
 use Rattle.trace_tasks.specs.Flat.{Left}
-use Rattle.trace_tasks.specs.Stops.{drops}
+use Rattle.trace_tasks.specs.Stops.{drops_of_tasks}
 use Rattle.trace_tasks.specs.Waiting.{AllStand}
 
 module _ {S : Type 0} (spans : S → Spans) (hint : S → Option LevelFilter) (enables : S → ℕ → Callsite → Bool) (does : S → SubscriberCall → S → Type 0) (touches : S → PartCall → S → Type 0) (at : ℕ) where
   -- drops of some handles lead from one world to another
   abbrev pub Drops : List Left → List Handle → Worlds S → Worlds S → Type 0
   Drops ts handles old new = (d : ℕ) (lane : Lane) (guards : List Held)
-      → Carries spans hint enables does touches d (drops at ts) (record { world = old; lane = lane; handles = handles; guards = guards }) (record { world = new; lane = lane; handles = handles; guards = guards })
+      → Carries spans hint enables does touches d (drops_of_tasks at ts) (record { world = old; lane = lane; handles = handles; guards = guards }) (record { world = new; lane = lane; handles = handles; guards = guards })
 
   -- so far: what is left to be closed leads on
   pub record Closing (first fs : List (Instrumented Running)) (old world : Worlds S) (handles : List Handle) (ts : List Left) : Type 0 where

@@ -7,7 +7,7 @@ use Rattle.trace_base.specs.declared.field.ValueSet.{ValueSet}
 use Rattle.trace_base.specs.declared.lane.Lane.{Lane}
 use Rattle.trace_base.specs.declared.level.LevelFilter.{LevelFilter}
 use Rattle.trace_base.specs.declared.span.Parent.TheVariants as parent
-use Rattle.trace_base.specs.Calls.{SubscriberCall, NewSpan, after, with_span}
+use Rattle.trace_base.specs.Calls.{SubscriberCall, NewSpan, spans_after_call, with_new_span}
 use Rattle.trace_base.specs.lanes.Contexts.{Lanes}
 use Rattle.trace_base.specs.Gate.{Worlds}
 use Rattle.trace_base.specs.Spans.{Span, Spans, span_at, entries_on, place_on}
@@ -24,7 +24,7 @@ use Rattle.trace_tasks.specs.Acts.{Wants, untouched, spare}
 use Rattle.trace_tasks.specs.Begun.{MakesOne, Begins}
 use Rattle.trace_tasks.specs.Carrying.{MakesGated}
 use Rattle.span_script.specs.Fields.{values_of}
-use Rattle.trace_tasks.specs.Turning.{alone, IsAlone, IsAloneAs, Ready, serving}
+use Rattle.trace_tasks.specs.Turning.{root_of_one_handle, IsAlone, IsAloneAs, Ready, dispatch_serving}
 
 -- something is at each place
 pub there : {X : Type 0} (xs : List X) (n : ℕ) → n < length xs → (x : X) × (slice_get xs n ≡ Some x)
@@ -48,12 +48,12 @@ one_longer [] new = refl
 one_longer (x ∷ made) new = (let r = one_longer made new in omega (arith, r))
 
 module _ {S : Type 0} (spans : S → Spans) (hint : S → Option LevelFilter) (enables : S → ℕ → Callsite → Bool) (attaches : S → Bool) (kept : S → ℕ → ℕ → ℕ) (is_whole : S → Type 0) (does : S → SubscriberCall → S → Type 0) (touches : S → PartCall → S → Type 0)
-    (shows : (s : S) (call : SubscriberCall) (t : S) → does s call t → spans t ≡ after (spans s) call) (lanes : (s : S) (call : SubscriberCall) (t : S) → does s call t → Lanes (attaches s) (kept s) call (kept t))
+    (shows : (s : S) (call : SubscriberCall) (t : S) → does s call t → spans t ≡ spans_after_call (spans s) call) (lanes : (s : S) (call : SubscriberCall) (t : S) → does s call t → Lanes (attaches s) (kept s) call (kept t))
     (keeps_whole : (s : S) (call : SubscriberCall) (t : S) → does s call t → is_whole s → is_whole t) where
   begun : (task : Task) (lane : Lane) (old new : Worlds S) (f : Instrumented Running) (one : MakesOne spans hint enables does touches task.site task.fields lane old new f.span) → Ready spans kept is_whole old lane → IsKnown spans new f.span.held → f.inner.steps.now ≡ task.steps
-      → (made : f.span.site ≡ Some task.site) → IsAlone (spans_in spans new (serving lane)).made (serving lane) task.site f.span → ((id : ℕ) → id_of f.span.held ≡ Some id → length (spans_in spans old (serving lane)).made ≤ id)
-      → ((q : ℕ) → q < length (spans_in spans old (serving lane)).made → span_at (spans_in spans new (serving lane)).made q ≡ span_at (spans_in spans old (serving lane)).made q)
-      → length (spans_in spans new (serving lane)).made ≤ length (spans_in spans old (serving lane)).made + 1 → Ready spans kept is_whole new lane → new.sites ≡ old.sites → Begins spans hint enables kept is_whole does touches task lane old new f
+      → (made : f.span.site ≡ Some task.site) → IsAlone (spans_in spans new (dispatch_serving lane)).made (dispatch_serving lane) task.site f.span → ((id : ℕ) → id_of f.span.held ≡ Some id → length (spans_in spans old (dispatch_serving lane)).made ≤ id)
+      → ((q : ℕ) → q < length (spans_in spans old (dispatch_serving lane)).made → span_at (spans_in spans new (dispatch_serving lane)).made q ≡ span_at (spans_in spans old (dispatch_serving lane)).made q)
+      → length (spans_in spans new (dispatch_serving lane)).made ≤ length (spans_in spans old (dispatch_serving lane)).made + 1 → Ready spans kept is_whole new lane → new.sites ≡ old.sites → Begins spans hint enables kept is_whole does touches task lane old new f
   begun task lane old new f one ready known steps site lone fresh stay count later sites = record {
     steps = steps;
     site = site;
@@ -71,12 +71,12 @@ module _ {S : Type 0} (spans : S → Spans) (hint : S → Option LevelFilter) (e
       → Begins spans hint enables kept is_whole does touches task lane old new f
   begins task lane old new f one ready known steps = by_gate one.admitted one.made where
     d : ℕ
-    d = serving lane
+    d = dispatch_serving lane
 
     x : Spans
     x = spans_in spans old d
 
-    by_gate : (admitted : Bool) → MakesGated spans hint enables does touches (serving lane) admitted old new lane 0 task.site one.callsite task.fields f.span → Begins spans hint enables kept is_whole does touches task lane old new f
+    by_gate : (admitted : Bool) → MakesGated spans hint enables does touches (dispatch_serving lane) admitted old new lane 0 task.site one.callsite task.fields f.span → Begins spans hint enables kept is_whole does touches task lane old new f
     by_gate false made =
         let same : spans_in spans new d ≡ x = ap (λ (w : Worlds S). spans_in spans w d) made.1 in
         let site : f.span.site ≡ Some task.site = ap (λ (h : Handle). h.site) made.0 in
@@ -93,13 +93,13 @@ module _ {S : Type 0} (spans : S → Spans) (hint : S → Option LevelFilter) (e
         let r = made.made in
         let call : SubscriberCall = NewSpan lane 0 parent.Current task.site made.callsite values in
         let R : S → S → Type 0 = λ s t. (made.id ≡ length (spans s).made) × does s call t in
-        let new_span : Span = alone task.site in
+        let new_span : Span = root_of_one_handle task.site in
         let grown : spans_in spans new d ≡ record x { made = x.made ++ new_span ∷ [] } =
-        seen_later R old new d r spans no_spans ∙ shows r.before call r.later r.did.1 ∙ ap (λ (y : Spans). after y call) (sym (seen_before R old new d r spans no_spans))
-        ∙ ap (λ (ids : List ℕ). with_span x (place_on ids parent.Current) task.site) ready.none_open in
+        seen_later R old new d r spans no_spans ∙ shows r.before call r.later r.did.1 ∙ ap (λ (y : Spans). spans_after_call y call) (sym (seen_before R old new d r spans no_spans))
+        ∙ ap (λ (ids : List ℕ). with_new_span x (place_on ids parent.Current) task.site) ready.none_open in
         let id_is : made.id ≡ length x.made = r.did.0 ∙ ap (λ (y : Spans). length y.made) (sym (seen_before R old new d r spans no_spans)) in
         let site : f.span.site ≡ Some task.site = ap (λ (h : Handle). h.site) made.handle_is in
-        let lone_at : span_at (spans_in spans new d).made made.id ≡ alone task.site = ap (λ (y : Spans). span_at y.made made.id) grown ∙ at_end x.made new_span made.id id_is in
+        let lone_at : span_at (spans_in spans new d).made made.id ≡ root_of_one_handle task.site = ap (λ (y : Spans). span_at y.made made.id) grown ∙ at_end x.made new_span made.id id_is in
         let kept_is : kept r.later ≡ kept r.before = lanes r.before call r.later r.did.1 in
         begun task lane old new f one ready known steps site
         (record { site_is = site; held_is = subst (λ (h : Handle). IsAloneAs (spans_in spans new d).made d task.site h.held) (sym made.handle_is) (refl, lone_at) })

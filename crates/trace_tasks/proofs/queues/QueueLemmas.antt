@@ -11,9 +11,9 @@ use Rattle.trace_tasks.specs.declared.running.Running.{Running}
 use Rattle.trace_tasks.specs.declared.script.Step.{Step}
 use Rattle.trace_tasks.specs.declared.script.Step.TheVariants as step
 use Rattle.trace_tasks.specs.Acts.{left_of}
-use Rattle.trace_tasks.specs.Flat.{Left, yields, polls_left, all_polls, polled, requeue}
+use Rattle.trace_tasks.specs.Flat.{Left, yields, polls_left, all_polls, after_poll, requeue}
 use Rattle.trace_tasks.specs.Turning.{IsAlone, IsAloneAs, IsLeft, SpansStay}
-use Rattle.trace_tasks.specs.Waiting.{Waits, IsApart, AreApart, AllWait, AllKnown, Stands, AllStand, KeepsBut, queued, polls_in}
+use Rattle.trace_tasks.specs.Waiting.{Waits, IsApart, AreApart, AllWait, AllKnown, TaskStands, AllStand, KeepsBut, queue_with, polls_in}
 
 -- ---- polls
 
@@ -38,7 +38,7 @@ pub polls_cons : (f : Instrumented Running) (fs : List (Instrumented Running)) �
 polls_cons f fs = sum_by-cons (λ (g : Instrumented Running). yields g.inner.steps.now + 1) f fs
 
 -- one poll less
-pub polls_after : (f : Instrumented Running) (fs : List (Instrumented Running)) (left : Option (Instrumented Running)) → IsLeft left f → polls_in (f ∷ fs) ≡ polls_in (queued fs left) + 1
+pub polls_after : (f : Instrumented Running) (fs : List (Instrumented Running)) (left : Option (Instrumented Running)) → IsLeft left f → polls_in (f ∷ fs) ≡ polls_in (queue_with fs left) + 1
 polls_after f fs None is = (let a = polls_cons f fs in let b = yields_none f.inner.steps.now is in omega (arith, a, b))
 polls_after f fs (Some g) is = (
     let a = polls_cons f fs in
@@ -58,19 +58,19 @@ left_after t ts (Some rest) is = (
     let c = sum_by_push polls_left ts u in
     omega (arith, a, b, c))
 
-pub left_less : (t : Left) (ts : List Left) → all_polls (t ∷ ts) ≡ suc (all_polls (requeue ts (polled t)))
+pub left_less : (t : Left) (ts : List Left) → all_polls (t ∷ ts) ≡ suc (all_polls (requeue ts (after_poll t)))
 left_less t ts = left_after t ts (left_of t.steps) refl
 
 -- ---- where the tasks stand
 
-stand_push : (handles : List Handle) (ts : List Left) (fs : List (Instrumented Running)) (t : Left) (f : Instrumented Running) → AllStand handles ts fs → Stands handles t f → AllStand handles (ts ++ t ∷ []) (fs ++ f ∷ [])
+stand_push : (handles : List Handle) (ts : List Left) (fs : List (Instrumented Running)) (t : Left) (f : Instrumented Running) → AllStand handles ts fs → TaskStands handles t f → AllStand handles (ts ++ t ∷ []) (fs ++ f ∷ [])
 stand_push handles [] [] t f all one = (one, tt)
 stand_push handles [] (g ∷ fs) t f all one = absurd all
 stand_push handles (u ∷ ts) [] t f all one = absurd all
 stand_push handles (u ∷ ts) (g ∷ fs) t f all one = (all.0, stand_push handles ts fs t f all.1 one)
 
-pub stand_after : (handles : List Handle) (t : Left) (ts : List Left) (f : Instrumented Running) (fs : List (Instrumented Running)) (left : Option (Instrumented Running)) → Stands handles t f → AllStand handles ts fs → IsLeft left f
-    → AllStand handles (requeue ts (polled t)) (queued fs left)
+pub stand_after : (handles : List Handle) (t : Left) (ts : List Left) (f : Instrumented Running) (fs : List (Instrumented Running)) (left : Option (Instrumented Running)) → TaskStands handles t f → AllStand handles ts fs → IsLeft left f
+    → AllStand handles (requeue ts (after_poll t)) (queue_with fs left)
 stand_after handles t ts f fs None one all is =
     subst (λ (o : Option (List Step)). AllStand handles (requeue ts (option_map (λ steps. record t { steps = steps }) o)) fs) (sym (ap left_of one.steps ∙ is)) all
 stand_after handles t ts f fs (Some g) one all is =
@@ -128,7 +128,7 @@ module _ {S : Type 0} (spans : S → Spans) where
 
   pub wait_after : (old new : Worlds S) (d : ℕ) (f : Instrumented Running) (fs : List (Instrumented Running)) (left : Option (Instrumented Running)) → AllWait spans old d (f ∷ fs) → IsLeft left f
       → SpansStay left f.span.held (spans_in spans old d).made (spans_in spans new d).made → KeepsBut spans old new f.span.held → ((g : Instrumented Running) → left ≡ Some g → IsKnown spans new g.span.held)
-      → AllWait spans new d (queued fs left)
+      → AllWait spans new d (queue_with fs left)
   wait_after old new d f fs None all is stay keeps known = others_wait old new d f keeps stay fs all.1 all.2
   wait_after old new d f fs (Some g) all is stay keeps known =
       wait_push new d fs g (others_wait old new d f keeps (stay_all (Some g) f.span.held (spans_in spans old d).made (spans_in spans new d).made stay) fs all.1 all.2) (same_apart f g fs is.1 all.1) (record {

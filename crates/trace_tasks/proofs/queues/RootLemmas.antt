@@ -3,25 +3,25 @@ use Rattle.std.proofs.Common.{◌≡◌, ℕ, zero, suc, ◌+◌, List, [], ◌�
 use Rattle.std.specs.Prelude.{if◌then◌else◌, ◌==◌}
 use Rattle.std.specs.Option.{option_map}
 use Rattle.std.proofs.lemmas.Bool.{eq-eqb, cond-true}
-use Rattle.trace_base.specs.Spans.{Span, Spans, span_at, entries_on, times_in, is_in, without_last, current_of, current_on, held, released, less_held, next_of}
-use Rattle.trace_base.specs.Calls.{entered, exited}
+use Rattle.trace_base.specs.Spans.{Span, Spans, span_at, entries_on, times_in, is_in, without_last, current_of, current_on, with_hold, without_hold, less_hold, next_of}
+use Rattle.trace_base.specs.Calls.{with_span_entry, with_span_exit}
 use Rattle.trace_base.proofs.Entering.{count_cons, with_same}
-use Rattle.trace_tasks.specs.Turning.{alone}
+use Rattle.trace_tasks.specs.Turning.{root_of_one_handle}
 
 -- entered and exited, it is as it was
-pub back : (made : List Span) (id site : ℕ) → span_at made id ≡ alone site → released (held made id) id ≡ made
+pub back : (made : List Span) (id site : ℕ) → span_at made id ≡ root_of_one_handle site → without_hold (with_hold made id) id ≡ made
 back [] id site is = absurd (let e = ap (λ (x : Span). x.holds) is in omega (arith, e))
-back (x ∷ made) zero site is = ap (λ (y : Span). less_held (record y { holds = y.holds + 1 }) ∷ made) is ∙ ap (λ (y : Span). y ∷ made) (sym is)
+back (x ∷ made) zero site is = ap (λ (y : Span). less_hold (record y { holds = y.holds + 1 }) ∷ made) is ∙ ap (λ (y : Span). y ∷ made) (sym is)
 back (x ∷ made) (suc id) site is = ap (λ (ys : List Span). x ∷ ys) (back made id site is)
 
 -- its callsite while it is entered
-pub held_site : (made : List Span) (id site : ℕ) → span_at made id ≡ alone site → (span_at (held made id) id).site ≡ site
+pub held_site : (made : List Span) (id site : ℕ) → span_at made id ≡ root_of_one_handle site → (span_at (with_hold made id) id).site ≡ site
 held_site [] id site is = absurd (let e = ap (λ (x : Span). x.holds) is in omega (arith, e))
 held_site (x ∷ made) zero site is = ap (λ (y : Span). y.site) is
 held_site (x ∷ made) (suc id) site is = held_site made id site is
 
 -- a release leaves the others
-pub others_stay : (made : List Span) (id q : ℕ) → (q ≡ id → ⊥) → span_at (released made id) q ≡ span_at made q
+pub others_stay : (made : List Span) (id q : ℕ) → (q ≡ id → ⊥) → span_at (without_hold made id) q ≡ span_at made q
 others_stay [] id q apart = refl
 others_stay (x ∷ made) zero zero apart = absurd (apart refl)
 others_stay (x ∷ made) zero (suc q) apart = refl
@@ -29,19 +29,19 @@ others_stay (x ∷ made) (suc id) zero apart = refl
 others_stay (x ∷ made) (suc id) (suc q) apart = others_stay made id q (λ e. apart (ap suc e))
 
 -- nothing is to be released after it
-pub no_next : (made : List Span) (id site : ℕ) → span_at made id ≡ alone site → next_of made id ≡ None
+pub no_next : (made : List Span) (id site : ℕ) → span_at made id ≡ root_of_one_handle site → next_of made id ≡ None
 no_next made id site is = ap (λ (x : Span). if x.holds == 1 then x.parent else None) is
 
 module _ (x : Spans) (id at : ℕ) (none : entries_on at x.lanes ≡ []) where
-  pub entered_made : (entered x id at).made ≡ held x.made id
-  entered_made = ap (λ (xs : List ℕ). if is_in id xs then x.made else held x.made id) none
+  pub entered_made : (with_span_entry x id at).made ≡ with_hold x.made id
+  entered_made = ap (λ (xs : List ℕ). if is_in id xs then x.made else with_hold x.made id) none
 
-  pub entered_entries : entries_on at (entered x id at).lanes ≡ id ∷ []
+  pub entered_entries : entries_on at (with_span_entry x id at).lanes ≡ id ∷ []
   entered_entries = with_same at (entries_on at x.lanes ++ id ∷ []) x.lanes ∙ ap (λ (xs : List ℕ). xs ++ id ∷ []) none
 
-  pub entered_current : (site : ℕ) → span_at x.made id ≡ alone site → current_on at (entered x id at) ≡ Some (id, site)
+  pub entered_current : (site : ℕ) → span_at x.made id ≡ root_of_one_handle site → current_on at (with_span_entry x id at) ≡ Some (id, site)
   entered_current site is =
-      ap (λ (xs : List ℕ). option_map (λ i. (i, (span_at (entered x id at).made i).site)) (current_of xs)) entered_entries
+      ap (λ (xs : List ℕ). option_map (λ i. (i, (span_at (with_span_entry x id at).made i).site)) (current_of xs)) entered_entries
       ∙ ap (λ (s : ℕ). Some (id, s)) (ap (λ (made : List Span). (span_at made id).site) entered_made ∙ held_site x.made id site is)
 
 module _ (y : Spans) (id at : ℕ) (one : entries_on at y.lanes ≡ id ∷ []) where
@@ -52,10 +52,10 @@ module _ (y : Spans) (id at : ℕ) (one : entries_on at y.lanes ≡ id ∷ []) w
       let k = cond-true {A = ℕ} (id == id) 1 0 (eq-eqb id id refl) in
       omega (arith, e, c, k)
 
-  pub exited_made : (exited y id at).made ≡ released y.made id
-  exited_made = cond-true {A = List Span} (times_in id (entries_on at y.lanes) == 1) (released y.made id) y.made (eq-eqb (times_in id (entries_on at y.lanes)) 1 times_one)
+  pub exited_made : (with_span_exit y id at).made ≡ without_hold y.made id
+  exited_made = cond-true {A = List Span} (times_in id (entries_on at y.lanes) == 1) (without_hold y.made id) y.made (eq-eqb (times_in id (entries_on at y.lanes)) 1 times_one)
 
-  pub exited_entries : entries_on at (exited y id at).lanes ≡ []
+  pub exited_entries : entries_on at (with_span_exit y id at).lanes ≡ []
   exited_entries =
       with_same at (without_last (λ x. x == id) (entries_on at y.lanes)) y.lanes
       ∙ ap (λ (xs : List ℕ). without_last (λ x. x == id) xs) one

@@ -6,30 +6,30 @@ use Rattle.std.proofs.lemmas.Bool.{eq-eqb, cond-true, lt-ltb}
 use Rattle.trace_base.specs.declared.callsite.Callsite.{Callsite}
 use Rattle.trace_base.specs.declared.lane.Lane.{Lane}
 use Rattle.trace_base.specs.declared.subscriber.Interest.TheVariants as interests
-use Rattle.trace_base.specs.Calls.{Enter, Exit, TryClose, entered, exited}
+use Rattle.trace_base.specs.Calls.{Enter, Exit, TryClose, with_span_entry, with_span_exit}
 use Rattle.trace_base.specs.Gate.{cached_at}
-use Rattle.trace_base.specs.Spans.{Span, Spans, span_at, entries_on, held, released, without_last, next_of}
+use Rattle.trace_base.specs.Spans.{Span, Spans, span_at, entries_on, with_hold, without_hold, without_last, next_of}
 use Rattle.span_handles.specs.Worlds.{Replaced, Chain, ended, closes}
 use Rattle.span_handles.specs.Handles.{Handle, Held, ReplacedOn, handle_of}
-use Rattle.span_handles.specs.Entries.{Begins}
+use Rattle.span_handles.specs.Entries.{BeginsInside}
 use Rattle.otel_state.specs.Stack.{last_passing}
 use Rattle.trace_tape.specs.declared.opened.Opened.{Opened}
 use Rattle.span_script.specs.declared.request.Call.TheVariants as call
 use Rattle.span_script.specs.declared.request.Request.{Request}
-use Rattle.trace_tape.specs.Taping.{Taped, DoesTape, on_lane, is_opened, is_due, let_go, exits, drops, handles_of, one_more}
+use Rattle.trace_tape.specs.Taping.{TapeValue, DoesTape, on_first_lane, is_opened, is_due, let_go, exit_requests, drop_requests, handles_of, one_more}
 use Rattle.trace_tape.specs.Touching.{TouchesTape, is_live}
 use Rattle.trace_tasks.specs.declared.script.Step.{Step}
 use Rattle.trace_tasks.specs.Acts.{now_of, left_of}
 use Rattle.trace_tasks.specs.Carrying.{Stage, Entered, Exited}
-use Rattle.trace_tasks.specs.Flat.{Left, step_call, moment_of, ends, poll}
+use Rattle.trace_tasks.specs.Flat.{Left, step_call, moment_of, drop_at_end, poll}
 use Rattle.trace_tasks.specs.Spelled.{tape_spans, CarriesTape, IsTested}
-use Rattle.trace_tasks.specs.Turning.{alone}
+use Rattle.trace_tasks.specs.Turning.{root_of_one_handle}
 use Rattle.trace_tasks.proofs.polls.EntryLemmas.{get_push}
 use Rattle.trace_tasks.proofs.queues.RootLemmas.{back, entered_made, entered_entries, exited_made, exited_entries, no_next}
 use Rattle.trace_tasks.proofs.tapes.SpelledLemmas.{one_call}
 use Rattle.trace_tasks.proofs.tapes.PollLemmas.{steps_add}
 
-pub split : (d : ℕ) (rs more : List Request) (s t : Stage Taped) → CarriesTape d (rs ++ more) s t → (m : Stage Taped) × CarriesTape d rs s m × CarriesTape d more m t
+pub split : (d : ℕ) (rs more : List Request) (s t : Stage TapeValue) → CarriesTape d (rs ++ more) s t → (m : Stage TapeValue) × CarriesTape d rs s m × CarriesTape d more m t
 split d [] more s t did = (s, refl, did)
 split d (r ∷ rs) more s t (x, one, rest) = (let two = split d rs more x t rest in (two.0, (x, one, two.1), two.2))
 
@@ -40,7 +40,7 @@ the_handle : (a b : Handle) → ◌≡◌ {A = Option Handle} (Some a) (Some b) 
 the_handle a b e = cc e
 
 -- a tape between polls, after k of them
-pub record Calm (d : ℕ) (sites : List Callsite) (k : ℕ) (s : Stage Taped) (tape : Taped) : Type 0 where
+pub record Calm (d : ℕ) (sites : List Callsite) (k : ℕ) (s : Stage TapeValue) (tape : TapeValue) : Type 0 where
   pub there : slice_get s.world.subscribers d ≡ Some tape
   pub sites_are : s.world.sites ≡ sites
   pub cached : (n : ℕ) → n < length sites → cached_at s.world.cached d n ≡ interests.Always
@@ -51,14 +51,14 @@ pub record Calm (d : ℕ) (sites : List Callsite) (k : ℕ) (s : Stage Taped) (t
   pub none_open : entries_on s.lane.id tape.below.spans.lanes ≡ []
 
 -- a task that waits, on a tape
-pub record Held_once (d : ℕ) (s : Stage Taped) (tape : Taped) (t : Left) : Type 0 where
+pub record Held_once (d : ℕ) (s : Stage TapeValue) (tape : TapeValue) (t : Left) : Type 0 where
   pub handle : slice_get s.handles t.number ≡ Some (handle_of d t.number t.site)
-  pub lone : span_at tape.below.spans.made t.number ≡ alone t.site
+  pub lone : span_at tape.below.spans.made t.number ≡ root_of_one_handle t.site
   pub once : handles_of tape.handles t.number ≡ 1
 
 -- what a poll made of a tape and of a task
-pub record Polled (d : ℕ) (sites : List Callsite) (k : ℕ) (t : Left) (s m : Stage Taped) (tape : Taped) : Type 0 where
-  pub now : Taped
+pub record Polled (d : ℕ) (sites : List Callsite) (k : ℕ) (t : Left) (s m : Stage TapeValue) (tape : TapeValue) : Type 0 where
+  pub now : TapeValue
   pub calm : Calm d sites (k + 1) m now
   pub requests : now.requests ≡ tape.requests ++ poll sites k t
   pub handles : m.handles ≡ s.handles
@@ -72,7 +72,7 @@ handles_other (x ∷ xs) zero (suc n) y apart = refl
 handles_other (x ∷ xs) (suc i) zero y apart = refl
 handles_other (x ∷ xs) (suc i) (suc n) y apart = handles_other xs i n y (λ e. apart (ap suc e))
 
-others_stay : (made : List Span) (id q : ℕ) → (q ≡ id → ⊥) → span_at (released made id) q ≡ span_at made q
+others_stay : (made : List Span) (id q : ℕ) → (q ≡ id → ⊥) → span_at (without_hold made id) q ≡ span_at made q
 others_stay [] id q apart = refl
 others_stay (x ∷ made) zero zero apart = absurd (apart refl)
 others_stay (x ∷ made) zero (suc q) apart = refl
@@ -80,18 +80,18 @@ others_stay (x ∷ made) (suc id) zero apart = refl
 others_stay (x ∷ made) (suc id) (suc q) apart = others_stay made id q (λ e. apart (ap suc e))
 
 -- a chain of a span whose parent isn't to be released is one release
-chain_none : (d at : ℕ) (o : Option ℕ) (s t : Taped) → Chain tape_spans DoesTape at o s t → o ≡ None → t ≡ s
+chain_none : (d at : ℕ) (o : Option ℕ) (s t : TapeValue) → Chain tape_spans DoesTape at o s t → o ≡ None → t ≡ s
 chain_none d at _ _ _ (ended s) is = refl
 chain_none d at _ _ _ (closes id s m t did rest) is = absurd (cc is)
 
-chain_one : (d at : ℕ) (o : Option ℕ) (s t : Taped) → Chain tape_spans DoesTape at o s t → (id : ℕ) → o ≡ Some id → next_of s.below.spans.made id ≡ None → DoesTape s (TryClose id at) t
+chain_one : (d at : ℕ) (o : Option ℕ) (s t : TapeValue) → Chain tape_spans DoesTape at o s t → (id : ℕ) → o ≡ Some id → next_of s.below.spans.made id ≡ None → DoesTape s (TryClose id at) t
 chain_one d at _ _ _ (ended s) id is none = absurd (cc is)
 chain_one d at _ _ _ (closes i s m t did rest) id is none =
     let same : i ≡ id = cc is in
     let last : t ≡ m = chain_none d at (next_of s.below.spans.made i) m t rest (ap (λ (n : ℕ). next_of s.below.spans.made n) same ∙ none) in
-    subst (λ (x : Taped). DoesTape s (TryClose id at) x) (sym last) (subst (λ (n : ℕ). DoesTape s (TryClose n at) m) same did)
+    subst (λ (x : TapeValue). DoesTape s (TryClose id at) x) (sym last) (subst (λ (n : ℕ). DoesTape s (TryClose n at) m) same did)
 
-held_live : (made : List Span) (id site : ℕ) → span_at made id ≡ alone site → (span_at (held made id) id).holds ≡ 2
+held_live : (made : List Span) (id site : ℕ) → span_at made id ≡ root_of_one_handle site → (span_at (with_hold made id) id).holds ≡ 2
 held_live [] id site is = absurd (let e = ap (λ (x : Span). x.holds) is in omega (arith, e))
 held_live (x ∷ made) zero site is = ap (λ (y : Span). y.holds + 1) is
 held_live (x ∷ made) (suc id) site is = held_live made id site is
@@ -113,10 +113,10 @@ few_more k few = cond-true {A = ℕ} (nat_lt k (2 ^ 64 - 1)) (k + 1) k (lt-ltb k
 
 module _ (d : ℕ) (sites : List Callsite) (k : ℕ) (t : Left) (few : k < 2 ^ 63) (c : Callsite) (site_is : slice_get sites t.site ≡ Some c) (tested : IsTested sites t.steps) where
   -- between the entry and the exit
-  pub record Inside (s m : Stage Taped) (tape : Taped) (rs : List Request) : Type 0 where
-    pub now : Taped
+  pub record Inside (s m : Stage TapeValue) (tape : TapeValue) (rs : List Request) : Type 0 where
+    pub now : TapeValue
     pub there : slice_get m.world.subscribers d ≡ Some now
-    pub spans_are : now.below.spans ≡ entered tape.below.spans t.number s.lane.id
+    pub spans_are : now.below.spans ≡ with_span_entry tape.below.spans t.number s.lane.id
     pub due : now.due ≡ None
     pub entries : now.entries ≡ record { lane = s.lane.id; id = t.number; guard = k } ∷ []
     pub guards : now.guards ≡ k + 1
@@ -128,25 +128,25 @@ module _ (d : ℕ) (sites : List Callsite) (k : ℕ) (t : Left) (few : k < 2 ^ 6
     pub table : m.handles ≡ s.handles
     pub guarded : m.guards ≡ s.guards ++ Some (d, t.number) ∷ []
 
-  enters : (s e : Stage Taped) (tape : Taped) → Calm d sites k s tape → Held_once d s tape t → Entered tape_spans (λ x. None) (λ x lane c. true) DoesTape TouchesTape d (moment_of k) t.number s e → Inside s e tape (on_lane (moment_of k) (call.Enter t.number) ∷ [])
+  enters : (s e : Stage TapeValue) (tape : TapeValue) → Calm d sites k s tape → Held_once d s tape t → Entered tape_spans (λ x. None) (λ x lane c. true) DoesTape TouchesTape d (moment_of k) t.number s e → Inside s e tape (on_first_lane (moment_of k) (call.Enter t.number) ∷ [])
   enters s e tape calm waits enter =
       let n : ℕ = t.number in
       let a : ℕ = moment_of k in
       let handle_is : enter.handle ≡ handle_of d n t.site = the_handle enter.handle (handle_of d n t.site) (sym enter.is ∙ waits.handle) in
       let held_is : enter.handle.held ≡ Some (d, n) = ap (λ (h : Handle). h.held) handle_is in
-      let began : Begins DoesTape a (Some (d, n)) s.world s.lane e.world e.lane = subst (λ (h : Handle). Begins DoesTape a h.held s.world s.lane e.world e.lane) handle_is enter.begins in
+      let began : BeginsInside DoesTape a (Some (d, n)) s.world s.lane e.world e.lane = subst (λ (h : Handle). BeginsInside DoesTape a h.held s.world s.lane e.world e.lane) handle_is enter.begins in
       let r : Replaced (λ x y. DoesTape x (Enter n a s.lane e.lane) y) s.world e.world d = began.entered in
       let one = one_call s.world e.world d tape (Enter n a s.lane e.lane) calm.there r in
       record {
         now = one.now;
         there = one.there;
         spans_are = one.spans_are;
-        due = ap (λ (x : Taped). x.due) one.is ∙ calm.no_due;
-        entries = ap (λ (x : Taped). x.entries) one.is ∙ ap (λ (xs : List Opened). xs ++ record { lane = s.lane.id; id = n; guard = tape.guards } ∷ []) calm.no_entries
+        due = ap (λ (x : TapeValue). x.due) one.is ∙ calm.no_due;
+        entries = ap (λ (x : TapeValue). x.entries) one.is ∙ ap (λ (xs : List Opened). xs ++ record { lane = s.lane.id; id = n; guard = tape.guards } ∷ []) calm.no_entries
             ∙ ap (λ (g : ℕ). let o : Opened = record { lane = s.lane.id; id = n; guard = g } in o ∷ []) calm.guards;
-        guards = ap (λ (x : Taped). x.guards) one.is ∙ ap one_more calm.guards ∙ few_more k few;
-        spells = ap (λ (x : Taped). x.requests) one.is;
-        holds = ap (λ (x : Taped). x.handles) one.is;
+        guards = ap (λ (x : TapeValue). x.guards) one.is ∙ ap one_more calm.guards ∙ few_more k few;
+        spells = ap (λ (x : TapeValue). x.requests) one.is;
+        holds = ap (λ (x : TapeValue). x.handles) one.is;
         sites_are = one.sites ∙ calm.sites_are;
         cached = one.cached;
         lane = r.did.below.lane;
@@ -155,11 +155,11 @@ module _ (d : ℕ) (sites : List Callsite) (k : ℕ) (t : Left) (few : k < 2 ^ 6
       }
 
   -- the steps
-  acts : (s e m : Stage Taped) (tape : Taped) → Calm d sites k s tape → Held_once d s tape t → (rs : List Request) → Inside s e tape rs
-      → CarriesTape d (map (λ x. on_lane (moment_of k) (step_call sites t x)) (now_of t.steps)) e m → Inside s m tape (rs ++ map (λ x. on_lane (moment_of k) (step_call sites t x)) (now_of t.steps))
+  acts : (s e m : Stage TapeValue) (tape : TapeValue) → Calm d sites k s tape → Held_once d s tape t → (rs : List Request) → Inside s e tape rs
+      → CarriesTape d (map (λ x. on_first_lane (moment_of k) (step_call sites t x)) (now_of t.steps)) e m → Inside s m tape (rs ++ map (λ x. on_first_lane (moment_of k) (step_call sites t x)) (now_of t.steps))
   acts s e m tape calm waits rs inside did =
       let n : ℕ = t.number in
-      let steps : List Request = map (λ x. on_lane (moment_of k) (step_call sites t x)) (now_of t.steps) in
+      let steps : List Request = map (λ x. on_first_lane (moment_of k) (step_call sites t x)) (now_of t.steps) in
       let live : is_live inside.now.below.spans n ≡ true =
       ap (λ (x : Spans). nat_lt 0 (span_at x.made n).holds) inside.spans_are ∙ ap (λ (made : List Span). nat_lt 0 (span_at made n).holds) (entered_made tape.below.spans n s.lane.id calm.none_open)
       ∙ ap (λ (h : ℕ). nat_lt 0 h) (held_live tape.below.spans.made n t.site waits.lone) in
@@ -169,11 +169,11 @@ module _ (d : ℕ) (sites : List Callsite) (k : ℕ) (t : Left) (few : k < 2 ^ 6
         now = adds.now;
         there = adds.there;
         spans_are = adds.spans_same ∙ inside.spans_are;
-        due = ap (λ (x : Taped). x.due) adds.is ∙ inside.due;
-        entries = ap (λ (x : Taped). x.entries) adds.is ∙ inside.entries;
-        guards = ap (λ (x : Taped). x.guards) adds.is ∙ inside.guards;
-        spells = ap (λ (x : Taped). x.requests) adds.is ∙ ap (λ (qs : List Request). qs ++ steps) inside.spells ∙ append_assoc tape.requests rs steps;
-        holds = ap (λ (x : Taped). x.handles) adds.is ∙ inside.holds;
+        due = ap (λ (x : TapeValue). x.due) adds.is ∙ inside.due;
+        entries = ap (λ (x : TapeValue). x.entries) adds.is ∙ inside.entries;
+        guards = ap (λ (x : TapeValue). x.guards) adds.is ∙ inside.guards;
+        spells = ap (λ (x : TapeValue). x.requests) adds.is ∙ ap (λ (qs : List Request). qs ++ steps) inside.spells ∙ append_assoc tape.requests rs steps;
+        holds = ap (λ (x : TapeValue). x.handles) adds.is ∙ inside.holds;
         sites_are = adds.sites ∙ inside.sites_are;
         cached = adds.cached ∙ inside.cached;
         lane = adds.lane ∙ inside.lane;
@@ -182,16 +182,16 @@ module _ (d : ℕ) (sites : List Callsite) (k : ℕ) (t : Left) (few : k < 2 ^ 6
       }
 
   -- after the exit
-  pub record Outside (s m : Stage Taped) (tape : Taped) (rs : List Request) : Type 0 where
-    pub now : Taped
+  pub record Outside (s m : Stage TapeValue) (tape : TapeValue) (rs : List Request) : Type 0 where
+    pub now : TapeValue
     pub calm : Calm d sites (k + 1) m now
     pub made : now.below.spans.made ≡ tape.below.spans.made
     pub spells : now.requests ≡ tape.requests ++ rs
     pub holds : now.handles ≡ tape.handles
     pub table : m.handles ≡ s.handles
 
-  leaves : (s e m : Stage Taped) (tape : Taped) → Calm d sites k s tape → Held_once d s tape t → (rs : List Request) → Inside s e tape rs → Exited tape_spans (λ x. None) (λ x lane c. true) DoesTape TouchesTape d (moment_of k) k e m
-      → Outside s m tape (rs ++ on_lane (moment_of k) (call.Exit k) ∷ [])
+  leaves : (s e m : Stage TapeValue) (tape : TapeValue) → Calm d sites k s tape → Held_once d s tape t → (rs : List Request) → Inside s e tape rs → Exited tape_spans (λ x. None) (λ x lane c. true) DoesTape TouchesTape d (moment_of k) k e m
+      → Outside s m tape (rs ++ on_first_lane (moment_of k) (call.Exit k) ∷ [])
   leaves s e m tape calm waits rs inside exit =
       let n : ℕ = t.number in
       let a : ℕ = moment_of k in
@@ -203,25 +203,25 @@ module _ (d : ℕ) (sites : List Callsite) (k : ℕ) (t : Left) (few : k < 2 ^ 6
       let o : Opened = record { lane = s.lane.id; id = n; guard = k } in
       let p : Opened → Bool = is_opened e.lane.id n in
       let passes : is_opened e.lane.id n o ≡ true = ap (λ (l : ℕ). is_opened l n o) at_start ∙ opened_is s.lane.id n k in
-      let y : Spans = entered tape.below.spans n s.lane.id in
+      let y : Spans = with_span_entry tape.below.spans n s.lane.id in
       let open_one : entries_on s.lane.id y.lanes ≡ n ∷ [] = entered_entries tape.below.spans n s.lane.id calm.none_open in
-      let spans_now : one.now.below.spans ≡ exited y n s.lane.id = one.spans_are ∙ ap (λ (x : Spans). exited x n e.lane.id) inside.spans_are ∙ ap (λ (l : ℕ). exited y n l) at_start in
+      let spans_now : one.now.below.spans ≡ with_span_exit y n s.lane.id = one.spans_are ∙ ap (λ (x : Spans). with_span_exit x n e.lane.id) inside.spans_are ∙ ap (λ (l : ℕ). with_span_exit y n l) at_start in
       record {
         now = one.now;
         calm = record {
           there = one.there;
           sites_are = one.sites ∙ inside.sites_are;
           cached = λ i less. ap (λ x. cached_at x d i) (one.cached ∙ inside.cached) ∙ calm.cached i less;
-          no_due = ap (λ (x : Taped). x.due) one.is ∙ inside.due;
-          no_entries = ap (λ (x : Taped). x.entries) one.is ∙ ap (λ (xs : List Opened). without_last p xs) inside.entries ∙ without_is p o passes;
-          guards = ap (λ (x : Taped). x.guards) one.is ∙ inside.guards;
+          no_due = ap (λ (x : TapeValue). x.due) one.is ∙ inside.due;
+          no_entries = ap (λ (x : TapeValue). x.entries) one.is ∙ ap (λ (xs : List Opened). without_last p xs) inside.entries ∙ without_is p o passes;
+          guards = ap (λ (x : TapeValue). x.guards) one.is ∙ inside.guards;
           guard_count = (let l = ap (λ (gs : List Held). length gs) (exit.guards ∙ inside.guarded) in let q = one_longer s.guards (Some (d, n)) in let z = calm.guard_count in omega (arith, l, q, z));
           none_open = ap (λ (l : Lane). entries_on l.id one.now.below.spans.lanes) (lane_same ∙ inside.lane) ∙ ap (λ (x : Spans). entries_on s.lane.id x.lanes) spans_now ∙ exited_entries y n s.lane.id open_one;
         };
-        made = ap (λ (x : Spans). x.made) spans_now ∙ exited_made y n s.lane.id open_one ∙ ap (λ (made : List Span). released made n) (entered_made tape.below.spans n s.lane.id calm.none_open) ∙ back tape.below.spans.made n t.site waits.lone;
-        spells = ap (λ (x : Taped). x.requests) one.is ∙ ap (λ (qs : List Request). qs ++ exits a (last_passing p inside.now.entries)) inside.spells
-            ∙ ap (λ (o' : Option Opened). (tape.requests ++ rs) ++ exits a o') (ap (λ (xs : List Opened). last_passing p xs) inside.entries ∙ last_is p o passes) ∙ append_assoc tape.requests rs (on_lane a (call.Exit k) ∷ []);
-        holds = ap (λ (x : Taped). x.handles) one.is ∙ inside.holds;
+        made = ap (λ (x : Spans). x.made) spans_now ∙ exited_made y n s.lane.id open_one ∙ ap (λ (made : List Span). without_hold made n) (entered_made tape.below.spans n s.lane.id calm.none_open) ∙ back tape.below.spans.made n t.site waits.lone;
+        spells = ap (λ (x : TapeValue). x.requests) one.is ∙ ap (λ (qs : List Request). qs ++ exit_requests a (last_passing p inside.now.entries)) inside.spells
+            ∙ ap (λ (o' : Option Opened). (tape.requests ++ rs) ++ exit_requests a o') (ap (λ (xs : List Opened). last_passing p xs) inside.entries ∙ last_is p o passes) ∙ append_assoc tape.requests rs (on_first_lane a (call.Exit k) ∷ []);
+        holds = ap (λ (x : TapeValue). x.handles) one.is ∙ inside.holds;
         table = exit.handles ∙ inside.table;
       } where
         one_longer : {X : Type 0} (xs : List X) (x : X) → length (xs ++ x ∷ []) ≡ length xs + 1
@@ -229,15 +229,15 @@ module _ (d : ℕ) (sites : List Callsite) (k : ℕ) (t : Left) (few : k < 2 ^ 6
         one_longer (y ∷ xs) x = (let r = one_longer xs x in omega (arith, r))
 
   -- the handle's drop, if the task is finished
-  finishes : (s e m : Stage Taped) (tape : Taped) → Held_once d s tape t → (rs : List Request) (out : Outside s e tape rs) → (o : Option (List Step)) → left_of t.steps ≡ o → CarriesTape d (ends k t.number o) e m
-      → (now : Taped) × Calm d sites (k + 1) m now × (now.requests ≡ tape.requests ++ (rs ++ ends k t.number o)) × (m.handles ≡ s.handles)
+  finishes : (s e m : Stage TapeValue) (tape : TapeValue) → Held_once d s tape t → (rs : List Request) (out : Outside s e tape rs) → (o : Option (List Step)) → left_of t.steps ≡ o → CarriesTape d (drop_at_end k t.number o) e m
+      → (now : TapeValue) × Calm d sites (k + 1) m now × (now.requests ≡ tape.requests ++ (rs ++ drop_at_end k t.number o)) × (m.handles ≡ s.handles)
       × ((i : ℕ) → (i ≡ t.number → ⊥) → (span_at now.below.spans.made i ≡ span_at tape.below.spans.made i) × (handles_of now.handles i ≡ handles_of tape.handles i))
       × ((rest : List Step) → o ≡ Some rest → (now.below.spans.made ≡ tape.below.spans.made) × (now.handles ≡ tape.handles))
   finishes s e m tape waits rs out (Some later) left_is did = (
     out.now,
-    subst (λ (x : Stage Taped). Calm d sites (k + 1) x out.now) (sym did) out.calm,
+    subst (λ (x : Stage TapeValue). Calm d sites (k + 1) x out.now) (sym did) out.calm,
     out.spells ∙ ap (λ (qs : List Request). tape.requests ++ qs) (sym (append-nil rs)),
-    ap (λ (x : Stage Taped). x.handles) did ∙ out.table,
+    ap (λ (x : Stage TapeValue). x.handles) did ∙ out.table,
     λ i apart. (ap (λ (made : List Span). span_at made i) out.made, ap (λ (hs : List ℕ). handles_of hs i) out.holds),
     λ rest is. (out.made, out.holds),
   )
@@ -247,8 +247,8 @@ module _ (d : ℕ) (sites : List Callsite) (k : ℕ) (t : Left) (few : k < 2 ^ 6
       let handle_is : drop.handle ≡ handle_of d n t.site = the_handle drop.handle (handle_of d n t.site) (sym drop.is ∙ ap (λ (hs : List Handle). slice_get hs n) out.table ∙ waits.handle) in
       let chain : Replaced (λ b q. Chain tape_spans DoesTape a (Some n) b q) e.world x.world d = subst (λ (h : Handle). ReplacedOn (λ id b q. Chain tape_spans DoesTape a (Some id) b q) e.world x.world h.held) handle_is drop.did.1 in
       let before_is : chain.before ≡ out.now = the_now chain.before out.now (sym chain.there ∙ out.calm.there) in
-      let lone : span_at out.now.below.spans.made n ≡ alone t.site = ap (λ (made : List Span). span_at made n) out.made ∙ waits.lone in
-      let no_more : next_of chain.before.below.spans.made n ≡ None = ap (λ (y : Taped). next_of y.below.spans.made n) before_is ∙ no_next out.now.below.spans.made n t.site lone in
+      let lone : span_at out.now.below.spans.made n ≡ root_of_one_handle t.site = ap (λ (made : List Span). span_at made n) out.made ∙ waits.lone in
+      let no_more : next_of chain.before.below.spans.made n ≡ None = ap (λ (y : TapeValue). next_of y.below.spans.made n) before_is ∙ no_next out.now.below.spans.made n t.site lone in
       let r : Replaced (λ b q. DoesTape b (TryClose n a) q) e.world x.world d = record {
         before = chain.before;
         later = chain.later;
@@ -260,45 +260,45 @@ module _ (d : ℕ) (sites : List Callsite) (k : ℕ) (t : Left) (few : k < 2 ^ 6
       let once : handles_of out.now.handles n ≡ 1 = ap (λ (hs : List ℕ). handles_of hs n) out.holds ∙ waits.once in
       -- what the release is, since nothing is due
       let let_it_go : one.now ≡ record (record (let_go out.now n a) { due = next_of out.now.below.spans.made n }) { below = one.now.below } =
-      one.is ∙ ap (λ (b : Bool). let y : Taped = record (record (if b then out.now else let_go out.now n a) { due = next_of out.now.below.spans.made n }) { below = one.now.below } in y) (ap (λ (o : Option ℕ). is_due o n) out.calm.no_due) in
-      let spans_now : one.now.below.spans.made ≡ released out.now.below.spans.made n = ap (λ (y : Spans). y.made) one.spans_are in (
+      one.is ∙ ap (λ (b : Bool). let y : TapeValue = record (record (if b then out.now else let_go out.now n a) { due = next_of out.now.below.spans.made n }) { below = one.now.below } in y) (ap (λ (o : Option ℕ). is_due o n) out.calm.no_due) in
+      let spans_now : one.now.below.spans.made ≡ without_hold out.now.below.spans.made n = ap (λ (y : Spans). y.made) one.spans_are in (
         one.now,
-        subst (λ (y : Stage Taped). Calm d sites (k + 1) y one.now) (sym last) (record {
+        subst (λ (y : Stage TapeValue). Calm d sites (k + 1) y one.now) (sym last) (record {
           there = one.there;
           sites_are = one.sites ∙ out.calm.sites_are;
           cached = λ i less. ap (λ c. cached_at c d i) one.cached ∙ out.calm.cached i less;
-          no_due = ap (λ (y : Taped). y.due) let_it_go ∙ no_next out.now.below.spans.made n t.site lone;
-          no_entries = ap (λ (y : Taped). y.entries) let_it_go ∙ out.calm.no_entries;
-          guards = ap (λ (y : Taped). y.guards) let_it_go ∙ out.calm.guards;
+          no_due = ap (λ (y : TapeValue). y.due) let_it_go ∙ no_next out.now.below.spans.made n t.site lone;
+          no_entries = ap (λ (y : TapeValue). y.entries) let_it_go ∙ out.calm.no_entries;
+          guards = ap (λ (y : TapeValue). y.guards) let_it_go ∙ out.calm.guards;
           guard_count = ap (λ (gs : List Held). length gs) drop.guards ∙ out.calm.guard_count;
           none_open = ap (λ (l : Lane). entries_on l.id one.now.below.spans.lanes) drop.did.0 ∙ ap (λ (y : Spans). entries_on e.lane.id y.lanes) one.spans_are ∙ out.calm.none_open;
         }),
-        ap (λ (y : Taped). y.requests) let_it_go ∙ ap (λ (h : ℕ). out.now.requests ++ drops a n h) once ∙ ap (λ (qs : List Request). qs ++ on_lane a (call.Drop n) ∷ []) out.spells ∙ append_assoc tape.requests rs (on_lane a (call.Drop n) ∷ []),
-        ap (λ (y : Stage Taped). y.handles) last ∙ drop.handles ∙ out.table,
+        ap (λ (y : TapeValue). y.requests) let_it_go ∙ ap (λ (h : ℕ). out.now.requests ++ drop_requests a n h) once ∙ ap (λ (qs : List Request). qs ++ on_first_lane a (call.Drop n) ∷ []) out.spells ∙ append_assoc tape.requests rs (on_first_lane a (call.Drop n) ∷ []),
+        ap (λ (y : Stage TapeValue). y.handles) last ∙ drop.handles ∙ out.table,
         (λ i apart. (
           ap (λ (made : List Span). span_at made i) spans_now ∙ others_stay out.now.below.spans.made n i apart ∙ ap (λ (made : List Span). span_at made i) out.made,
-          ap (λ (y : Taped). handles_of y.handles i) let_it_go ∙ handles_other out.now.handles n i (handles_of out.now.handles n - 1) apart ∙ ap (λ (hs : List ℕ). handles_of hs i) out.holds,
+          ap (λ (y : TapeValue). handles_of y.handles i) let_it_go ∙ handles_other out.now.handles n i (handles_of out.now.handles n - 1) apart ∙ ap (λ (hs : List ℕ). handles_of hs i) out.holds,
         )),
         (λ rest is. absurd (cc is)),
       ) where
-        the_now : (p q : Taped) → ◌≡◌ {A = Option Taped} (Some p) (Some q) → p ≡ q
+        the_now : (p q : TapeValue) → ◌≡◌ {A = Option TapeValue} (Some p) (Some q) → p ≡ q
         the_now p q e = cc e
 
-  pub poll_spells : (s m : Stage Taped) (tape : Taped) → Calm d sites k s tape → Held_once d s tape t → CarriesTape d (poll sites k t) s m → Polled d sites k t s m tape
+  pub poll_spells : (s m : Stage TapeValue) (tape : TapeValue) → Calm d sites k s tape → Held_once d s tape t → CarriesTape d (poll sites k t) s m → Polled d sites k t s m tape
   poll_spells s m tape calm waits (e, enter, rest) =
       let a : ℕ = moment_of k in
-      let first : List Request = on_lane a (call.Enter t.number) ∷ [] in
-      let steps : List Request = map (λ x. on_lane a (step_call sites t x)) (now_of t.steps) in
-      let last : List Request = ends k t.number (left_of t.steps) in
-      let parts = split d steps (on_lane a (call.Exit k) ∷ last) e m rest in
+      let first : List Request = on_first_lane a (call.Enter t.number) ∷ [] in
+      let steps : List Request = map (λ x. on_first_lane a (step_call sites t x)) (now_of t.steps) in
+      let last : List Request = drop_at_end k t.number (left_of t.steps) in
+      let parts = split d steps (on_first_lane a (call.Exit k) ∷ last) e m rest in
       let inside = enters s e tape calm waits enter in
       let acted = acts s e parts.0 tape calm waits first inside parts.1 in
       let out = leaves s parts.0 parts.2.0 tape calm waits (first ++ steps) acted parts.2.1 in
-      let end = finishes s parts.2.0 m tape waits ((first ++ steps) ++ on_lane a (call.Exit k) ∷ []) out (left_of t.steps) refl parts.2.2 in
+      let end = finishes s parts.2.0 m tape waits ((first ++ steps) ++ on_first_lane a (call.Exit k) ∷ []) out (left_of t.steps) refl parts.2.2 in
       record {
         now = end.0;
         calm = end.1;
-        requests = end.2 ∙ ap (λ (qs : List Request). tape.requests ++ qs) (append_assoc (first ++ steps) (on_lane a (call.Exit k) ∷ []) last);
+        requests = end.2 ∙ ap (λ (qs : List Request). tape.requests ++ qs) (append_assoc (first ++ steps) (on_first_lane a (call.Exit k) ∷ []) last);
         handles = end.3;
         others = end.4;
         left = end.5;

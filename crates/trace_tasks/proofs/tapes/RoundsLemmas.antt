@@ -9,51 +9,51 @@ use Rattle.trace_base.specs.declared.callsite.Callsite.{Callsite}
 use Rattle.span_script.specs.declared.request.Request.{Request}
 use Rattle.trace_tasks.specs.declared.script.Step.{Step}
 use Rattle.trace_tasks.specs.Acts.{left_of}
-use Rattle.trace_tasks.specs.Flat.{Left, polls_left, all_polls, poll, polled, requeue, round, rounds, turns}
+use Rattle.trace_tasks.specs.Flat.{Left, polls_left, all_polls, poll, after_poll, requeue, round, rounds, turns}
 use Rattle.trace_tasks.specs.Stops.{left_after}
 use Rattle.trace_tasks.proofs.queues.QueueLemmas.{yields_none, yields_some}
 
 module _ (sites : List Callsite) where
-  one_turn : (n k : ℕ) (t : Left) (ts kept : List Left) (o : Option Left) → turns sites (length ts + n) (k + 1) (requeue (ts ++ kept) o) ≡ round sites (k + 1) ts ++ turns sites n (k + 1 + length ts) (kept ++ cons_option o (filter_map polled ts))
-      → poll sites k t ++ turns sites (length ts + n) (k + 1) (requeue (ts ++ kept) o) ≡ (poll sites k t ++ round sites (k + 1) ts) ++ turns sites n (k + length (t ∷ ts)) (kept ++ cons_option o (filter_map polled ts))
+  one_turn : (n k : ℕ) (t : Left) (ts kept : List Left) (o : Option Left) → turns sites (length ts + n) (k + 1) (requeue (ts ++ kept) o) ≡ round sites (k + 1) ts ++ turns sites n (k + 1 + length ts) (kept ++ cons_option o (filter_map after_poll ts))
+      → poll sites k t ++ turns sites (length ts + n) (k + 1) (requeue (ts ++ kept) o) ≡ (poll sites k t ++ round sites (k + 1) ts) ++ turns sites n (k + length (t ∷ ts)) (kept ++ cons_option o (filter_map after_poll ts))
   one_turn n k t ts kept o rest =
       let e : k + 1 + length ts ≡ k + length (t ∷ ts) = omega arith in
-      ap (λ (rs : List Request). poll sites k t ++ rs) (rest ∙ ap (λ (m : ℕ). round sites (k + 1) ts ++ turns sites n m (kept ++ cons_option o (filter_map polled ts))) e)
-      ∙ sym (append_assoc (poll sites k t) (round sites (k + 1) ts) (turns sites n (k + length (t ∷ ts)) (kept ++ cons_option o (filter_map polled ts))))
+      ap (λ (rs : List Request). poll sites k t ++ rs) (rest ∙ ap (λ (m : ℕ). round sites (k + 1) ts ++ turns sites n m (kept ++ cons_option o (filter_map after_poll ts))) e)
+      ∙ sym (append_assoc (poll sites k t) (round sites (k + 1) ts) (turns sites n (k + length (t ∷ ts)) (kept ++ cons_option o (filter_map after_poll ts))))
 
   -- the turns of some tasks, whatever waits behind them
-  turns_round : (n k : ℕ) (ts kept : List Left) → turns sites (length ts + n) k (ts ++ kept) ≡ round sites k ts ++ turns sites n (k + length ts) (kept ++ filter_map polled ts)
+  turns_round : (n k : ℕ) (ts kept : List Left) → turns sites (length ts + n) k (ts ++ kept) ≡ round sites k ts ++ turns sites n (k + length ts) (kept ++ filter_map after_poll ts)
   turns_round n k [] kept =
       let e : 0 + n ≡ n = omega arith in
       let f : k ≡ k + 0 = omega arith in
       ap (λ (m : ℕ). turns sites m k kept) e ∙ ap (λ (m : ℕ). turns sites n m kept) f ∙ ap (λ (xs : List Left). turns sites n (k + 0) xs) (sym (append-nil kept))
   turns_round n k (t ∷ ts) kept =
       let e : length (t ∷ ts) + n ≡ suc (length ts + n) = omega arith in
-      ap (λ (m : ℕ). turns sites m k (t ∷ (ts ++ kept))) e ∙ one_turn n k t ts kept (polled t) (by_left n k ts kept (λ more. turns_round n (k + 1) ts more) (polled t)) where
-        by_left : (n k : ℕ) (ts kept : List Left) → ((more : List Left) → turns sites (length ts + n) (k + 1) (ts ++ more) ≡ round sites (k + 1) ts ++ turns sites n (k + 1 + length ts) (more ++ filter_map polled ts))
-            → (o : Option Left) → turns sites (length ts + n) (k + 1) (requeue (ts ++ kept) o) ≡ round sites (k + 1) ts ++ turns sites n (k + 1 + length ts) (kept ++ cons_option o (filter_map polled ts))
+      ap (λ (m : ℕ). turns sites m k (t ∷ (ts ++ kept))) e ∙ one_turn n k t ts kept (after_poll t) (by_left n k ts kept (λ more. turns_round n (k + 1) ts more) (after_poll t)) where
+        by_left : (n k : ℕ) (ts kept : List Left) → ((more : List Left) → turns sites (length ts + n) (k + 1) (ts ++ more) ≡ round sites (k + 1) ts ++ turns sites n (k + 1 + length ts) (more ++ filter_map after_poll ts))
+            → (o : Option Left) → turns sites (length ts + n) (k + 1) (requeue (ts ++ kept) o) ≡ round sites (k + 1) ts ++ turns sites n (k + 1 + length ts) (kept ++ cons_option o (filter_map after_poll ts))
         by_left n k ts kept rest None = rest kept
         by_left n k ts kept rest (Some u) =
             ap (λ (xs : List Left). turns sites (length ts + n) (k + 1) xs) (append_assoc ts kept (u ∷ []))
             ∙ rest (kept ++ u ∷ [])
-            ∙ ap (λ (xs : List Left). round sites (k + 1) ts ++ turns sites n (k + 1 + length ts) xs) (append_assoc kept (u ∷ []) (filter_map polled ts))
+            ∙ ap (λ (xs : List Left). round sites (k + 1) ts ++ turns sites n (k + 1 + length ts) xs) (append_assoc kept (u ∷ []) (filter_map after_poll ts))
 
 -- a round takes one poll of each task
-polls_split : (ts : List Left) → all_polls ts ≡ length ts + all_polls (filter_map polled ts)
+polls_split : (ts : List Left) → all_polls ts ≡ length ts + all_polls (filter_map after_poll ts)
 polls_split [] = refl
 polls_split (t ∷ ts) = by_left (polls_split ts) (left_of t.steps) refl where
-  by_left : all_polls ts ≡ length ts + all_polls (filter_map polled ts) → (o : Option (List Step)) → left_of t.steps ≡ o → all_polls (t ∷ ts) ≡ length (t ∷ ts) + all_polls (cons_option (option_map (λ steps. record t { steps = steps }) (left_of t.steps)) (filter_map polled ts))
+  by_left : all_polls ts ≡ length ts + all_polls (filter_map after_poll ts) → (o : Option (List Step)) → left_of t.steps ≡ o → all_polls (t ∷ ts) ≡ length (t ∷ ts) + all_polls (cons_option (option_map (λ steps. record t { steps = steps }) (left_of t.steps)) (filter_map after_poll ts))
   by_left rest None is = (
       let a = sum_by-cons polls_left t ts in
       let b = yields_none t.steps is in
-      let c = ap (λ (o : Option (List Step)). all_polls (cons_option (option_map (λ steps. let u : Left = record t { steps = steps } in u) o) (filter_map polled ts))) is in
+      let c = ap (λ (o : Option (List Step)). all_polls (cons_option (option_map (λ steps. let u : Left = record t { steps = steps } in u) o) (filter_map after_poll ts))) is in
       omega (arith, a, b, c, rest))
   by_left rest (Some later) is = (
       let u : Left = record t { steps = later } in
       let a = sum_by-cons polls_left t ts in
       let b = yields_some t.steps later is in
-      let c = ap (λ (o : Option (List Step)). all_polls (cons_option (option_map (λ steps. let u : Left = record t { steps = steps } in u) o) (filter_map polled ts))) is in
-      let e = sum_by-cons polls_left u (filter_map polled ts) in
+      let c = ap (λ (o : Option (List Step)). all_polls (cons_option (option_map (λ steps. let u : Left = record t { steps = steps } in u) o) (filter_map after_poll ts))) is in
+      let e = sum_by-cons polls_left u (filter_map after_poll ts) in
       omega (arith, a, b, c, e, rest))
 
 module _ (sites : List Callsite) where
@@ -63,7 +63,7 @@ module _ (sites : List Callsite) where
   rounds_are_turns (suc r) k [] few = rounds_are_turns r (k + 0) [] (omega arith)
   rounds_are_turns (suc r) k (t ∷ ts) few =
       let all : List Left = t ∷ ts in
-      let later : List Left = filter_map polled all in
+      let later : List Left = filter_map after_poll all in
       let a = polls_split all in
       let less : all_polls later ≤ r = omega (arith, a, few) in
       ap (λ (rs : List Request). round sites k all ++ rs) (rounds_are_turns r (k + length all) later less)
@@ -87,7 +87,7 @@ module _ (sites : List Callsite) where
   turns_split (suc n) m k (t ∷ ts) =
       let e : suc n + m ≡ suc (n + m) = omega arith in
       let f : k + 1 + n ≡ k + suc n = omega arith in
-      let rest : List Left = requeue ts (polled t) in
+      let rest : List Left = requeue ts (after_poll t) in
       ap (λ (x : ℕ). turns sites x k (t ∷ ts)) e
       ∙ ap (λ (rs : List Request). poll sites k t ++ rs) (turns_split n m (k + 1) rest ∙ ap (λ (x : ℕ). turns sites n (k + 1) rest ++ turns sites m x (left_after n rest)) f)
       ∙ sym (append_assoc (poll sites k t) (turns sites n (k + 1) rest) (turns sites m (k + suc n) (left_after n rest)))
@@ -106,7 +106,7 @@ left_none (suc m) = refl
 left_split : (n m : ℕ) (ts : List Left) → left_after (n + m) ts ≡ left_after m (left_after n ts)
 left_split zero m ts = (let e : 0 + m ≡ m = omega arith in ap (λ (x : ℕ). left_after x ts) e)
 left_split (suc n) m [] = (let e : suc n + m ≡ suc (n + m) = omega arith in ap (λ (x : ℕ). left_after x []) e ∙ sym (left_none m))
-left_split (suc n) m (t ∷ ts) = (let e : suc n + m ≡ suc (n + m) = omega arith in ap (λ (x : ℕ). left_after x (t ∷ ts)) e ∙ left_split n m (requeue ts (polled t)))
+left_split (suc n) m (t ∷ ts) = (let e : suc n + m ≡ suc (n + m) = omega arith in ap (λ (x : ℕ). left_after x (t ∷ ts)) e ∙ left_split n m (requeue ts (after_poll t)))
 
-pub left_more : (n : ℕ) (ts : List Left) (t : Left) (rest : List Left) → left_after n ts ≡ t ∷ rest → left_after (n + 1) ts ≡ requeue rest (polled t)
+pub left_more : (n : ℕ) (ts : List Left) (t : Left) (rest : List Left) → left_after n ts ≡ t ∷ rest → left_after (n + 1) ts ≡ requeue rest (after_poll t)
 left_more n ts t rest is = left_split n 1 ts ∙ ap (λ (xs : List Left). left_after 1 xs) is

@@ -10,7 +10,7 @@ use Rattle.std.specs.Option.{option_map, option_map_or}
 use Rattle.trace_base.specs.declared.callsite.Callsite.{Callsite}
 use Rattle.trace_base.specs.declared.lane.Lane.{Lane}
 use Rattle.trace_base.specs.declared.span.Parent.TheVariants as parent
-use Rattle.trace_base.specs.Calls.{SubscriberCall, NewSpan, with_span}
+use Rattle.trace_base.specs.Calls.{SubscriberCall, NewSpan, with_new_span}
 use Rattle.trace_base.specs.Gate.{Worlds, cached_at, gate}
 use Rattle.trace_base.specs.Spans.{Span, Spans, no_span, span_at, entries_on, place_on}
 use Rattle.span_handles.specs.Worlds.{Replaced, spans_in, no_spans}
@@ -18,18 +18,18 @@ use Rattle.span_handles.specs.Handles.{Handle, handle_of}
 use Rattle.span_script.specs.declared.request.Call.TheVariants as call
 use Rattle.span_script.specs.declared.request.Place.TheVariants as place
 use Rattle.span_script.specs.declared.request.Request.{Request}
-use Rattle.trace_tape.specs.Taping.{Taped, DoesTape, on_lane, named, handles_of}
+use Rattle.trace_tape.specs.Taping.{TapeValue, DoesTape, on_first_lane, named_values, handles_of}
 use Rattle.trace_tape.specs.Touching.{TouchesTape}
 use Rattle.trace_tasks.specs.declared.script.Step.{Step}
 use Rattle.trace_tasks.specs.declared.script.Step.TheVariants as step
 use Rattle.trace_tasks.specs.Acts.{left_of}
 use Rattle.trace_tasks.specs.Carrying.{Stage, MakesGated, Made}
 use Rattle.span_script.specs.Fields.{Fields, declares, values_of}
-use Rattle.trace_tasks.specs.Flat.{Left, poll, polled, requeue, turns, rounds, begun, makings, all_polls, flat}
+use Rattle.trace_tasks.specs.Flat.{Left, poll, after_poll, requeue, turns, rounds, tasks_at_first, makings, all_polls, flat}
 use Rattle.trace_tasks.specs.Spelled.{tape_spans, CarriesTape, IsDeclared, IsTested, AreTested, IsNewTape}
 use Rattle.trace_tasks.specs.Begun.{Ran}
 use Rattle.trace_tasks.specs.Stops.{GaveUp}
-use Rattle.trace_tasks.specs.Turning.{Ready, alone, serving}
+use Rattle.trace_tasks.specs.Turning.{Ready, root_of_one_handle, dispatch_serving}
 use Rattle.trace_tasks.specs.declared.script.Task.{Task}
 use Rattle.trace_tasks.proofs.tapes.PollsLemmas.{Calm, Held_once, Polled, poll_spells, split}
 use Rattle.trace_tasks.proofs.polls.EntryLemmas.{get_push}
@@ -47,7 +47,7 @@ tested_left sites (step.Record fields ∷ steps) rest tested is = tested_left si
 tested_left sites (step.SetAttribute key value ∷ steps) rest tested is = tested_left sites steps rest tested is
 
 -- a task that waits on a tape, with steps that were tested
-pub record Fit (d : ℕ) (sites : List Callsite) (s : Stage Taped) (tape : Taped) (t : Left) : Type 0 where
+pub record Fit (d : ℕ) (sites : List Callsite) (s : Stage TapeValue) (tape : TapeValue) (t : Left) : Type 0 where
   pub waits : Held_once d s tape t
   pub callsite : Callsite
   pub is : slice_get sites t.site ≡ Some callsite
@@ -57,7 +57,7 @@ abbrev pub Differs : Left → List Left → Type 0
 Differs t [] = Unit {0}
 Differs t (u ∷ us) = (u.number ≡ t.number → ⊥) × Differs t us
 
-abbrev pub AllFit : ℕ → List Callsite → Stage Taped → Taped → List Left → Type 0
+abbrev pub AllFit : ℕ → List Callsite → Stage TapeValue → TapeValue → List Left → Type 0
 AllFit d sites s tape [] = Unit {0}
 AllFit d sites s tape (t ∷ ts) = Fit d sites s tape t × Differs t ts × AllFit d sites s tape ts
 
@@ -65,12 +65,12 @@ differs_push : (t : Left) (ts : List Left) (u : Left) → Differs t ts → (u.nu
 differs_push t [] u all one = (one, tt)
 differs_push t (x ∷ ts) u all one = (all.0, differs_push t ts u all.1 one)
 
-fit_push : (d : ℕ) (sites : List Callsite) (s : Stage Taped) (tape : Taped) (ts : List Left) (u : Left) → AllFit d sites s tape ts → Differs u ts → Fit d sites s tape u → AllFit d sites s tape (ts ++ u ∷ [])
+fit_push : (d : ℕ) (sites : List Callsite) (s : Stage TapeValue) (tape : TapeValue) (ts : List Left) (u : Left) → AllFit d sites s tape ts → Differs u ts → Fit d sites s tape u → AllFit d sites s tape (ts ++ u ∷ [])
 fit_push d sites s tape [] u all differs one = (one, tt, tt)
 fit_push d sites s tape (t ∷ ts) u all differs one = (all.0, differs_push t ts u all.1 (λ e. differs.0 (sym e)), fit_push d sites s tape ts u all.2 differs.1 one)
 
 -- a poll of another task leaves a task as it is
-others_fit : (d : ℕ) (sites : List Callsite) (k : ℕ) (t : Left) (s m : Stage Taped) (tape : Taped) (p : Polled d sites k t s m tape) (ts : List Left) → Differs t ts → AllFit d sites s tape ts → AllFit d sites m p.now ts
+others_fit : (d : ℕ) (sites : List Callsite) (k : ℕ) (t : Left) (s m : Stage TapeValue) (tape : TapeValue) (p : Polled d sites k t s m tape) (ts : List Left) → Differs t ts → AllFit d sites s tape ts → AllFit d sites m p.now ts
 others_fit d sites k t s m tape p [] differs all = tt
 others_fit d sites k t s m tape p (u ∷ ts) differs all = (
   record {
@@ -87,7 +87,7 @@ others_fit d sites k t s m tape p (u ∷ ts) differs all = (
   others_fit d sites k t s m tape p ts differs.1 all.2,
 )
 
-fit_after : (d : ℕ) (sites : List Callsite) (k : ℕ) (t : Left) (s m : Stage Taped) (tape : Taped) (p : Polled d sites k t s m tape) (ts : List Left) → AllFit d sites s tape (t ∷ ts) → (o : Option (List Step)) → left_of t.steps ≡ o
+fit_after : (d : ℕ) (sites : List Callsite) (k : ℕ) (t : Left) (s m : Stage TapeValue) (tape : TapeValue) (p : Polled d sites k t s m tape) (ts : List Left) → AllFit d sites s tape (t ∷ ts) → (o : Option (List Step)) → left_of t.steps ≡ o
     → AllFit d sites m p.now (requeue ts (option_map (λ steps. record t { steps = steps }) o))
 fit_after d sites k t s m tape p ts all None is = others_fit d sites k t s m tape p ts all.1 all.2
 fit_after d sites k t s m tape p ts all (Some rest) is =
@@ -105,15 +105,15 @@ fit_after d sites k t s m tape p ts all (Some rest) is =
     })
 
 -- turns spell their requests
-pub turns_spell : (d : ℕ) (sites : List Callsite) (n k : ℕ) (ts : List Left) (s m : Stage Taped) (tape : Taped) → k + n < 2 ^ 63 → Calm d sites k s tape → AllFit d sites s tape ts → CarriesTape d (turns sites n k ts) s m
-    → (now : Taped) × (slice_get m.world.subscribers d ≡ Some now) × (now.requests ≡ tape.requests ++ turns sites n k ts)
-turns_spell d sites zero k ts s m tape few calm all did = (tape, ap (λ (x : Stage Taped). slice_get x.world.subscribers d) did ∙ calm.there, sym (append-nil tape.requests))
-turns_spell d sites (suc n) k [] s m tape few calm all did = (tape, ap (λ (x : Stage Taped). slice_get x.world.subscribers d) did ∙ calm.there, sym (append-nil tape.requests))
+pub turns_spell : (d : ℕ) (sites : List Callsite) (n k : ℕ) (ts : List Left) (s m : Stage TapeValue) (tape : TapeValue) → k + n < 2 ^ 63 → Calm d sites k s tape → AllFit d sites s tape ts → CarriesTape d (turns sites n k ts) s m
+    → (now : TapeValue) × (slice_get m.world.subscribers d ≡ Some now) × (now.requests ≡ tape.requests ++ turns sites n k ts)
+turns_spell d sites zero k ts s m tape few calm all did = (tape, ap (λ (x : Stage TapeValue). slice_get x.world.subscribers d) did ∙ calm.there, sym (append-nil tape.requests))
+turns_spell d sites (suc n) k [] s m tape few calm all did = (tape, ap (λ (x : Stage TapeValue). slice_get x.world.subscribers d) did ∙ calm.there, sym (append-nil tape.requests))
 turns_spell d sites (suc n) k (t ∷ ts) s m tape few calm all did =
-    let parts = split d (poll sites k t) (turns sites n (k + 1) (requeue ts (polled t))) s m did in
+    let parts = split d (poll sites k t) (turns sites n (k + 1) (requeue ts (after_poll t))) s m did in
     let p = poll_spells d sites k t (omega (arith, few)) all.0.callsite all.0.is all.0.tested s parts.0 tape calm all.0.waits parts.1 in
-    let rest = turns_spell d sites n (k + 1) (requeue ts (polled t)) parts.0 m p.now (omega (arith, few)) p.calm (fit_after d sites k t s parts.0 tape p ts all (left_of t.steps) refl) parts.2 in
-    (rest.0, rest.1, rest.2 ∙ ap (λ (qs : List Request). qs ++ turns sites n (k + 1) (requeue ts (polled t))) p.requests ∙ append_assoc tape.requests (poll sites k t) (turns sites n (k + 1) (requeue ts (polled t))))
+    let rest = turns_spell d sites n (k + 1) (requeue ts (after_poll t)) parts.0 m p.now (omega (arith, few)) p.calm (fit_after d sites k t s parts.0 tape p ts all (left_of t.steps) refl) parts.2 in
+    (rest.0, rest.1, rest.2 ∙ ap (λ (qs : List Request). qs ++ turns sites n (k + 1) (requeue ts (after_poll t))) p.requests ∙ append_assoc tape.requests (poll sites k t) (turns sites n (k + 1) (requeue ts (after_poll t))))
 
 -- ---- the makings
 
@@ -121,7 +121,7 @@ the_handle : (a b : Handle) → ◌≡◌ {A = Option Handle} (Some a) (Some b) 
 the_handle a b e = cc e
 
 -- a tape on which some spans were made and nothing else
-pub record Making (d : ℕ) (sites : List Callsite) (i : ℕ) (s : Stage Taped) (tape : Taped) : Type 0 where
+pub record Making (d : ℕ) (sites : List Callsite) (i : ℕ) (s : Stage TapeValue) (tape : TapeValue) : Type 0 where
   pub calm : Calm d sites 0 s tape
   pub made : length tape.below.spans.made ≡ i
   pub handles : length tape.handles ≡ i
@@ -148,17 +148,17 @@ longer [] x = refl
 longer (y ∷ xs) x = (let r = longer xs x in omega (arith, r))
 
 -- one making
-pub record MadeOne (d : ℕ) (sites : List Callsite) (i site : ℕ) (fields : Fields) (s m : Stage Taped) (tape : Taped) : Type 0 where
-  pub now : Taped
+pub record MadeOne (d : ℕ) (sites : List Callsite) (i site : ℕ) (fields : Fields) (s m : Stage TapeValue) (tape : TapeValue) : Type 0 where
+  pub now : TapeValue
   pub making : Making d sites (i + 1) m now
-  pub requests : now.requests ≡ tape.requests ++ on_lane 0 (call.New site place.Contextual fields) ∷ []
+  pub requests : now.requests ≡ tape.requests ++ on_first_lane 0 (call.New site place.Contextual fields) ∷ []
   pub handle : slice_get m.handles i ≡ Some (handle_of d i site)
-  pub lone : span_at now.below.spans.made i ≡ alone site
+  pub lone : span_at now.below.spans.made i ≡ root_of_one_handle site
   pub once : handles_of now.handles i ≡ 1
   pub earlier : (n : ℕ) → n < i → (span_at now.below.spans.made n ≡ span_at tape.below.spans.made n) × (handles_of now.handles n ≡ handles_of tape.handles n)
   pub before : (n : ℕ) (h : Handle) → slice_get s.handles n ≡ Some h → slice_get m.handles n ≡ Some h
 
-make_spells : (d : ℕ) (sites : List Callsite) (i site : ℕ) (fields : Fields) (s m : Stage Taped) (tape : Taped) → Making d sites i s tape → IsDeclared (slice_get sites site) fields
+make_spells : (d : ℕ) (sites : List Callsite) (i site : ℕ) (fields : Fields) (s m : Stage TapeValue) (tape : TapeValue) → Making d sites i s tape → IsDeclared (slice_get sites site) fields
     → Made tape_spans (λ x. None) (λ x lane c. true) DoesTape TouchesTape d 0 site fields s m → MadeOne d sites i site fields s m tape
 make_spells d sites i site fields s m tape making declared new =
     let calm = making.calm in
@@ -172,10 +172,10 @@ make_spells d sites i site fields s m tape making declared new =
     let one = one_call s.world m.world d tape sc calm.there q in
     let same_site : one_made.callsite ≡ c = the_callsite one_made.callsite c (sym one_made.is ∙ new.is) in
     let before_is : r.before ≡ tape = the_tape r.before tape (sym r.there ∙ calm.there) in
-    let id_is : one_made.id ≡ i = r.did.0 ∙ ap (λ (x : Taped). length x.below.spans.made) before_is ∙ making.made in
-    let grown : one.now.below.spans ≡ record tape.below.spans { made = tape.below.spans.made ++ alone site ∷ [] } = one.spans_are ∙ ap (λ (ids : List ℕ). with_span tape.below.spans (place_on ids parent.Current) site) calm.none_open in
-    let made_is : one.now.below.spans.made ≡ tape.below.spans.made ++ alone site ∷ [] = ap (λ (x : Spans). x.made) grown in
-    let held_is : one.now.handles ≡ tape.handles ++ 1 ∷ [] = ap (λ (x : Taped). x.handles) one.is in
+    let id_is : one_made.id ≡ i = r.did.0 ∙ ap (λ (x : TapeValue). length x.below.spans.made) before_is ∙ making.made in
+    let grown : one.now.below.spans ≡ record tape.below.spans { made = tape.below.spans.made ++ root_of_one_handle site ∷ [] } = one.spans_are ∙ ap (λ (ids : List ℕ). with_new_span tape.below.spans (place_on ids parent.Current) site) calm.none_open in
+    let made_is : one.now.below.spans.made ≡ tape.below.spans.made ++ root_of_one_handle site ∷ [] = ap (λ (x : Spans). x.made) grown in
+    let held_is : one.now.handles ≡ tape.handles ++ 1 ∷ [] = ap (λ (x : TapeValue). x.handles) one.is in
     let handle_is : new.handle ≡ handle_of d i site = one_made.handle_is ∙ ap (λ (n : ℕ). handle_of d n site) id_is in
     record {
       now = one.now;
@@ -184,22 +184,22 @@ make_spells d sites i site fields s m tape making declared new =
           there = one.there;
           sites_are = one.sites ∙ calm.sites_are;
           cached = λ n less. ap (λ x. cached_at x d n) one.cached ∙ calm.cached n less;
-          no_due = ap (λ (x : Taped). x.due) one.is ∙ calm.no_due;
-          no_entries = ap (λ (x : Taped). x.entries) one.is ∙ calm.no_entries;
-          guards = ap (λ (x : Taped). x.guards) one.is ∙ calm.guards;
+          no_due = ap (λ (x : TapeValue). x.due) one.is ∙ calm.no_due;
+          no_entries = ap (λ (x : TapeValue). x.entries) one.is ∙ calm.no_entries;
+          guards = ap (λ (x : TapeValue). x.guards) one.is ∙ calm.guards;
           guard_count = ap (λ gs. length gs) new.guards ∙ calm.guard_count;
           none_open = ap (λ (l : Lane). entries_on l.id one.now.below.spans.lanes) new.lane ∙ ap (λ (x : Spans). entries_on s.lane.id x.lanes) grown ∙ calm.none_open;
         };
-        made = ap (λ (xs : List Span). length xs) made_is ∙ longer tape.below.spans.made (alone site) ∙ ap (λ (n : ℕ). n + 1) making.made;
+        made = ap (λ (xs : List Span). length xs) made_is ∙ longer tape.below.spans.made (root_of_one_handle site) ∙ ap (λ (n : ℕ). n + 1) making.made;
         handles = ap (λ (xs : List ℕ). length xs) held_is ∙ longer tape.handles 1 ∙ ap (λ (n : ℕ). n + 1) making.handles;
         table = ap (λ (xs : List Handle). length xs) new.handles ∙ longer s.handles new.handle ∙ ap (λ (n : ℕ). n + 1) making.table;
       };
-      requests = ap (λ (x : Taped). x.requests) one.is ∙ ap (λ (fs : Fields). tape.requests ++ on_lane 0 (call.New site place.Contextual fs) ∷ []) (ap (λ (x : Callsite). named x (values_of c fields)) same_site ∙ named_back c fields (declared_by_it declared));
+      requests = ap (λ (x : TapeValue). x.requests) one.is ∙ ap (λ (fs : Fields). tape.requests ++ on_first_lane 0 (call.New site place.Contextual fs) ∷ []) (ap (λ (x : Callsite). named_values x (values_of c fields)) same_site ∙ named_back c fields (declared_by_it declared));
       handle = ap (λ (hs : List Handle). slice_get hs i) new.handles ∙ get_push s.handles new.handle i making.table ∙ ap (λ (h : Handle). Some h) handle_is;
-      lone = ap (λ (xs : List Span). span_at xs i) made_is ∙ at_push tape.below.spans.made (alone site) no_span i making.made;
+      lone = ap (λ (xs : List Span). span_at xs i) made_is ∙ at_push tape.below.spans.made (root_of_one_handle site) no_span i making.made;
       once = ap (λ (xs : List ℕ). handles_of xs i) held_is ∙ at_push tape.handles 1 0 i making.handles;
       earlier = λ n less. (
-        ap (λ (xs : List Span). span_at xs n) made_is ∙ at_before tape.below.spans.made (alone site) no_span n (let e = making.made in omega (arith, e, less)),
+        ap (λ (xs : List Span). span_at xs n) made_is ∙ at_before tape.below.spans.made (root_of_one_handle site) no_span n (let e = making.made in omega (arith, e, less)),
         ap (λ (xs : List ℕ). handles_of xs n) held_is ∙ at_before tape.handles 1 0 n (let e = making.handles in omega (arith, e, less)),
       );
       before = λ n h is. ap (λ (hs : List Handle). slice_get hs n) new.handles ∙ get_before s.handles new.handle h n is;
@@ -207,7 +207,7 @@ make_spells d sites i site fields s m tape making declared new =
       the_callsite : (a b : Callsite) → ◌≡◌ {A = Option Callsite} (Some a) (Some b) → a ≡ b
       the_callsite a b e = cc e
 
-      the_tape : (a b : Taped) → ◌≡◌ {A = Option Taped} (Some a) (Some b) → a ≡ b
+      the_tape : (a b : TapeValue) → ◌≡◌ {A = Option TapeValue} (Some a) (Some b) → a ≡ b
       the_tape a b e = cc e
 
       within : {X : Type 0} (xs : List X) (n : ℕ) (x : X) → slice_get xs n ≡ Some x → n < length xs
@@ -219,26 +219,26 @@ make_spells d sites i site fields s m tape making declared new =
       declared_by_it declared = subst (λ (o : Option Callsite). IsDeclared o fields) (ap (λ (xs : List Callsite). slice_get xs site) (sym making.calm.sites_are) ∙ new.is) declared
 
 -- the makings of tasks that were tested
-pub record MadeAll (d : ℕ) (sites : List Callsite) (i : ℕ) (tasks : List Task) (s m : Stage Taped) (tape : Taped) : Type 0 where
-  pub now : Taped
+pub record MadeAll (d : ℕ) (sites : List Callsite) (i : ℕ) (tasks : List Task) (s m : Stage TapeValue) (tape : TapeValue) : Type 0 where
+  pub now : TapeValue
   pub calm : Calm d sites 0 m now
   pub requests : now.requests ≡ tape.requests ++ makings tasks
-  pub fit : AllFit d sites m now (begun i tasks)
+  pub fit : AllFit d sites m now (tasks_at_first i tasks)
   pub earlier : (n : ℕ) → n < i → (span_at now.below.spans.made n ≡ span_at tape.below.spans.made n) × (handles_of now.handles n ≡ handles_of tape.handles n)
   pub before : (n : ℕ) (h : Handle) → slice_get s.handles n ≡ Some h → slice_get m.handles n ≡ Some h
 
-later_numbers : (j i : ℕ) (tasks : List Task) (t : Left) → t.number ≡ j → j < i → Differs t (begun i tasks)
+later_numbers : (j i : ℕ) (tasks : List Task) (t : Left) → t.number ≡ j → j < i → Differs t (tasks_at_first i tasks)
 later_numbers j i [] t is less = tt
 later_numbers j i (x ∷ tasks) t is less = ((λ e. absurd (omega (arith, e, is, less))), later_numbers j (i + 1) tasks t is (omega (arith, less)))
 
-pub makings_spell : (d : ℕ) (sites : List Callsite) (i : ℕ) (tasks : List Task) (s m : Stage Taped) (tape : Taped) → Making d sites i s tape → AreTested sites tasks → CarriesTape d (makings tasks) s m → MadeAll d sites i tasks s m tape
+pub makings_spell : (d : ℕ) (sites : List Callsite) (i : ℕ) (tasks : List Task) (s m : Stage TapeValue) (tape : TapeValue) → Making d sites i s tape → AreTested sites tasks → CarriesTape d (makings tasks) s m → MadeAll d sites i tasks s m tape
 makings_spell d sites i [] s m tape making tested did = record {
   now = tape;
-  calm = subst (λ (x : Stage Taped). Calm d sites 0 x tape) (sym did) making.calm;
+  calm = subst (λ (x : Stage TapeValue). Calm d sites 0 x tape) (sym did) making.calm;
   requests = sym (append-nil tape.requests);
   fit = tt;
   earlier = λ n less. (refl, refl);
-  before = λ n h is. ap (λ (x : Stage Taped). slice_get x.handles n) did ∙ is;
+  before = λ n h is. ap (λ (x : Stage TapeValue). slice_get x.handles n) did ∙ is;
 }
 makings_spell d sites i (t ∷ tasks) s m tape making tested (x, new, rest) =
     let one = make_spells d sites i t.site t.fields s x tape making tested.0 new in
@@ -248,7 +248,7 @@ makings_spell d sites i (t ∷ tasks) s m tape making tested (x, new, rest) =
     record {
       now = all.now;
       calm = all.calm;
-      requests = all.requests ∙ ap (λ (qs : List Request). qs ++ makings tasks) one.requests ∙ append_assoc tape.requests (on_lane 0 (call.New t.site place.Contextual t.fields) ∷ []) (makings tasks);
+      requests = all.requests ∙ ap (λ (qs : List Request). qs ++ makings tasks) one.requests ∙ append_assoc tape.requests (on_first_lane 0 (call.New t.site place.Contextual t.fields) ∷ []) (makings tasks);
       fit = (
         record {
           waits = record {
@@ -268,10 +268,10 @@ makings_spell d sites i (t ∷ tasks) s m tape making tested (x, new, rest) =
     }
 
 -- a run over a new tape leaves the flat list
-pub run_spells : (d : ℕ) (sites : List Callsite) (tasks : List Task) (s m : Stage Taped) (tape : Taped) → all_polls (begun 0 tasks) < 2 ^ 63 → IsNewTape s.world d tape → s.world.sites ≡ sites → s.handles ≡ [] → s.guards ≡ []
-    → entries_on s.lane.id tape.below.spans.lanes ≡ [] → AreTested sites tasks → CarriesTape d (flat sites tasks) s m → (now : Taped) × (slice_get m.world.subscribers d ≡ Some now) × (now.requests ≡ flat sites tasks)
+pub run_spells : (d : ℕ) (sites : List Callsite) (tasks : List Task) (s m : Stage TapeValue) (tape : TapeValue) → all_polls (tasks_at_first 0 tasks) < 2 ^ 63 → IsNewTape s.world d tape → s.world.sites ≡ sites → s.handles ≡ [] → s.guards ≡ []
+    → entries_on s.lane.id tape.below.spans.lanes ≡ [] → AreTested sites tasks → CarriesTape d (flat sites tasks) s m → (now : TapeValue) × (slice_get m.world.subscribers d ≡ Some now) × (now.requests ≡ flat sites tasks)
 run_spells d sites tasks s m tape few new same no_handles no_guards none_open tested did =
-    let ts : List Left = begun 0 tasks in
+    let ts : List Left = tasks_at_first 0 tasks in
     let parts = split d (makings tasks) (rounds sites (all_polls ts) 0 ts) s m did in
     let all = makings_spell d sites 0 tasks s parts.0 tape (record {
       calm = record {
@@ -297,23 +297,23 @@ run_spells d sites tasks s m tape few new same no_handles no_guards none_open te
 
 -- ---- as the function says it
 
-spans_there : (world : Worlds Taped) (d : ℕ) (tape : Taped) → IsNewTape world d tape → spans_in tape_spans world d ≡ tape.below.spans
-spans_there world d tape new = ap (λ (o : Option Taped). option_map_or tape_spans o no_spans) new.there
+spans_there : (world : Worlds TapeValue) (d : ℕ) (tape : TapeValue) → IsNewTape world d tape → spans_in tape_spans world d ≡ tape.below.spans
+spans_there world d tape new = ap (λ (o : Option TapeValue). option_map_or tape_spans o no_spans) new.there
 
-pub few_new : (world : Worlds Taped) (d n : ℕ) (tape : Taped) → IsNewTape world d tape → n < 2 ^ 63 → length (spans_in tape_spans world d).made + n < 2 ^ 63
+pub few_new : (world : Worlds TapeValue) (d n : ℕ) (tape : TapeValue) → IsNewTape world d tape → n < 2 ^ 63 → length (spans_in tape_spans world d).made + n < 2 ^ 63
 few_new world d n tape new few = (let e = ap (λ (x : Spans). length x.made) (spans_there world d tape new) in let z = ap (λ (xs : List Span). length xs) new.no_spans in omega (arith, e, z, few))
 
-pub spelled : (sites : List Callsite) (tasks : List Task) (old new : Worlds Taped) (before later : Lane) (tape : Taped) (result : Result ℕ EnterError) → IsNewTape old (serving before) tape → Ready tape_spans (λ s lane number. 0) (λ s. Unit {0}) old before
-    → old.sites ≡ sites → AreTested sites tasks → all_polls (begun 0 tasks) < 2 ^ 60 → IfOk result (λ polls. Ran tape_spans (λ s. None) (λ s lane c. true) DoesTape TouchesTape sites tasks old new before later polls)
-    → IfOk result (λ polls. (now : Taped) × (slice_get new.subscribers (serving before) ≡ Some now) × (now.requests ≡ flat sites tasks))
+pub spelled : (sites : List Callsite) (tasks : List Task) (old new : Worlds TapeValue) (before later : Lane) (tape : TapeValue) (result : Result ℕ EnterError) → IsNewTape old (dispatch_serving before) tape → Ready tape_spans (λ s lane number. 0) (λ s. Unit {0}) old before
+    → old.sites ≡ sites → AreTested sites tasks → all_polls (tasks_at_first 0 tasks) < 2 ^ 60 → IfOk result (λ polls. Ran tape_spans (λ s. None) (λ s lane c. true) DoesTape TouchesTape sites tasks old new before later polls)
+    → IfOk result (λ polls. (now : TapeValue) × (slice_get new.subscribers (dispatch_serving before) ≡ Some now) × (now.requests ≡ flat sites tasks))
 spelled sites tasks old new before later tape (Err e) is_new ready same tested few ran = tt
 spelled sites tasks old new before later tape (Ok polls) is_new ready same tested few ran =
-    let s : Stage Taped = record { world = old; lane = before; handles = []; guards = [] } in
-    run_spells (serving before) sites tasks s (record { world = new; lane = later; handles = ran.handles; guards = ran.guards }) tape (omega (arith, few)) is_new same refl refl
-    (sym (ap (λ (x : Spans). entries_on before.id x.lanes) (spans_there old (serving before) tape is_new)) ∙ ready.none_open) tested ran.carried
+    let s : Stage TapeValue = record { world = old; lane = before; handles = []; guards = [] } in
+    run_spells (dispatch_serving before) sites tasks s (record { world = new; lane = later; handles = ran.handles; guards = ran.guards }) tape (omega (arith, few)) is_new same refl refl
+    (sym (ap (λ (x : Spans). entries_on before.id x.lanes) (spans_there old (dispatch_serving before) tape is_new)) ∙ ready.none_open) tested ran.carried
 
 -- a tape attaches nothing, so no lane is full for it
-pub never_full : (d : ℕ) (sites : List Callsite) (tasks : List Task) (s : Stage Taped) (new : Worlds Taped) (later : Lane) (result : Result ℕ EnterError)
+pub never_full : (d : ℕ) (sites : List Callsite) (tasks : List Task) (s : Stage TapeValue) (new : Worlds TapeValue) (later : Lane) (result : Result ℕ EnterError)
     → IfErr result (λ e. GaveUp tape_spans (λ s. None) (λ s lane c. true) (λ s id. false) DoesTape TouchesTape (λ s t. t ≡ s) d sites tasks e s new later) → result ≡ Err faults.Full → ⊥
 never_full d sites tasks s new later (Ok polls) gave is = absurd (cc is)
 never_full d sites tasks s new later (Err e) gave is = (let full = gave.stopped.full (cc is) in absurd (true≢false (sym full.attaches)))

@@ -7,13 +7,13 @@ use Rattle.std.proofs.lemmas.Bool.{true≢false}
 use Rattle.std.specs.Cmp.Lexicographic.{same_text}
 use Rattle.std.proofs.lemmas.List.Quantifiers.{position-Some}
 use Rattle.trace_base.specs.declared.callsite.Callsite.{Callsite}
-use Rattle.trace_base.specs.Calls.{SubscriberCall, after}
+use Rattle.trace_base.specs.Calls.{SubscriberCall, spans_after_call}
 use Rattle.trace_base.specs.Field.{place_of}
 use Rattle.trace_base.specs.Gate.{Worlds}
 use Rattle.span_handles.specs.Worlds.{Replaced}
 use Rattle.span_handles.proofs.Showing.{now_there}
-use Rattle.trace_tape.specs.Taping.{Taped, DoesTape, taped_after, name_at, named}
-use Rattle.span_script.specs.Fields.{Fields, placed, declares, values_of}
+use Rattle.trace_tape.specs.Taping.{TapeValue, DoesTape, taped_after, name_at, named_values}
+use Rattle.span_script.specs.Fields.{Fields, declared_value, declares, values_of}
 use Rattle.trace_tasks.specs.Flat.{declared_ones}
 
 -- ---- names
@@ -27,15 +27,15 @@ module _ (c : Callsite) where
   name_back name n is = named_at name c.fields n is
 
   -- fields that are declared are spelled as they were given
-  pub named_back : (fields : Fields) → list_all (λ field. declares c field.0) fields ≡ true → named c (values_of c fields) ≡ fields
+  pub named_back : (fields : Fields) → list_all (λ field. declares c field.0) fields ≡ true → named_values c (values_of c fields) ≡ fields
   named_back [] all = refl
   named_back (f ∷ fs) all = by_place (λ rest. named_back fs rest) (place_of f.0 c) refl where
-    by_place : (list_all (λ field. declares c field.0) fs ≡ true → named c (values_of c fs) ≡ fs) → (p : Option ℕ) → place_of f.0 c ≡ p → map (λ pair. (name_at c pair.0, pair.1)) (cons_option (option_map (λ place. (place, f.1)) (place_of f.0 c)) (filter_map (placed c) fs)) ≡ f ∷ fs
+    by_place : (list_all (λ field. declares c field.0) fs ≡ true → named_values c (values_of c fs) ≡ fs) → (p : Option ℕ) → place_of f.0 c ≡ p → map (λ pair. (name_at c pair.0, pair.1)) (cons_option (option_map (λ place. (place, f.1)) (place_of f.0 c)) (filter_map (declared_value c) fs)) ≡ f ∷ fs
     by_place back None is = absurd (true≢false (sym all ∙ ap (λ (p : Option ℕ). is_some p && list_all (λ field. declares c field.0) fs) is))
     by_place back (Some n) is =
         let rest : list_all (λ field. declares c field.0) fs ≡ true = sym (ap (λ (p : Option ℕ). is_some p && list_all (λ field. declares c field.0) fs) is) ∙ all in
-        ap (λ (p : Option ℕ). map (λ pair. (name_at c pair.0, pair.1)) (cons_option (option_map (λ place. (place, f.1)) p) (filter_map (placed c) fs))) is
-        ∙ ap (λ (name : List ℕ). (name, f.1) ∷ map (λ pair. (name_at c pair.0, pair.1)) (filter_map (placed c) fs)) (name_back f.0 n is)
+        ap (λ (p : Option ℕ). map (λ pair. (name_at c pair.0, pair.1)) (cons_option (option_map (λ place. (place, f.1)) p) (filter_map (declared_value c) fs))) is
+        ∙ ap (λ (name : List ℕ). (name, f.1) ∷ map (λ pair. (name_at c pair.0, pair.1)) (filter_map (declared_value c) fs)) (name_back f.0 n is)
         ∙ ap (λ (xs : Fields). f ∷ xs) (back rest)
 
   -- the declared ones are declared
@@ -52,25 +52,25 @@ module _ (c : Callsite) where
 -- ---- one call
 
 -- the tape after a call, in its world
-pub record After (old new : Worlds Taped) (d : ℕ) (tape : Taped) (call : SubscriberCall) : Type 0 where
-  pub now : Taped
+pub record After (old new : Worlds TapeValue) (d : ℕ) (tape : TapeValue) (call : SubscriberCall) : Type 0 where
+  pub now : TapeValue
   pub there : slice_get new.subscribers d ≡ Some now
-  pub spans_are : now.below.spans ≡ after tape.below.spans call
+  pub spans_are : now.below.spans ≡ spans_after_call tape.below.spans call
   pub is : now ≡ record (taped_after tape call) { below = now.below }
   pub sites : new.sites ≡ old.sites
   pub cached : new.cached ≡ old.cached
 
-the_tape : (a b : Taped) → ◌≡◌ {A = Option Taped} (Some a) (Some b) → a ≡ b
+the_tape : (a b : TapeValue) → ◌≡◌ {A = Option TapeValue} (Some a) (Some b) → a ≡ b
 the_tape a b e = cc e
 
-pub one_call : (old new : Worlds Taped) (d : ℕ) (tape : Taped) (call : SubscriberCall) → slice_get old.subscribers d ≡ Some tape → Replaced (λ s t. DoesTape s call t) old new d → After old new d tape call
+pub one_call : (old new : Worlds TapeValue) (d : ℕ) (tape : TapeValue) (call : SubscriberCall) → slice_get old.subscribers d ≡ Some tape → Replaced (λ s t. DoesTape s call t) old new d → After old new d tape call
 one_call old new d tape call there r =
     let same : r.before ≡ tape = the_tape r.before tape (sym r.there ∙ there) in
     record {
       now = r.later;
-      there = now_there (λ (s t : Taped). DoesTape s call t) old new d r;
-      spans_are = r.did.below.shows ∙ ap (λ (x : Taped). after x.below.spans call) same;
-      is = r.did.tape ∙ ap (λ (x : Taped). let y : Taped = record (taped_after x call) { below = r.later.below } in y) same;
-      sites = ap (λ (w : Worlds Taped). w.sites) r.others;
-      cached = ap (λ (w : Worlds Taped). w.cached) r.others;
+      there = now_there (λ (s t : TapeValue). DoesTape s call t) old new d r;
+      spans_are = r.did.below.shows ∙ ap (λ (x : TapeValue). spans_after_call x.below.spans call) same;
+      is = r.did.tape ∙ ap (λ (x : TapeValue). let y : TapeValue = record (taped_after x call) { below = r.later.below } in y) same;
+      sites = ap (λ (w : Worlds TapeValue). w.sites) r.others;
+      cached = ap (λ (w : Worlds TapeValue). w.cached) r.others;
     }

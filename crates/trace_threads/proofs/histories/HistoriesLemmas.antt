@@ -6,16 +6,16 @@ use Rattle.std.proofs.lemmas.List.{append-nil}
 use Rattle.trace_threads.specs.declared.history.Entry.{Entry}
 use Rattle.trace_threads.specs.declared.history.What.{What}
 use Rattle.trace_threads.specs.declared.history.What.TheVariants.{Clone, Call, Join, Release}
-use Rattle.trace_threads.specs.History.{Sum, start, entry, has, without, is_none, clones_after, held_after, after, may, may_do, sum_of, is_legal, IsLegal, sum, IsHeld, entries_by, EndedForGood, EndedIsDone, NothingFollows, ends, has_end, WholeIsSeen}
+use Rattle.trace_threads.specs.History.{Sum, start, entry, has, others_in, is_none, clones_after, held_after, sum_after, may, may_do, sum_of, is_legal, IsLegal, sum, IsHeld, entries_by, EndedForGood, EndedIsDone, NothingFollows, ends_handle, has_end, WholeIsSeen}
 use Rattle.trace_threads.proofs.histories.HoldersLemmas.{both, has_more, has_new, has_back, has_without, in_without, Distinct, distinct_more, distinct_without}
 
-pub sum_push : (s : Sum) (log : List Entry) (e : Entry) → sum_of s (log ++ e ∷ []) ≡ after (sum_of s log) e
+pub sum_push : (s : Sum) (log : List Entry) (e : Entry) → sum_of s (log ++ e ∷ []) ≡ sum_after (sum_of s log) e
 sum_push s [] e = refl
-sum_push s (x ∷ log) e = sum_push (after s x) log e
+sum_push s (x ∷ log) e = sum_push (sum_after s x) log e
 
 pub legal_push : (s : Sum) (log : List Entry) (e : Entry) → is_legal s log ≡ true → may (sum_of s log) e ≡ true → is_legal s (log ++ e ∷ []) ≡ true
 legal_push s [] e l m = rw m refl
-legal_push s (x ∷ log) e l m = let p = both (may s x) _ l in rw p.0 (legal_push (after s x) log e p.1 m)
+legal_push s (x ∷ log) e l m = let p = both (may s x) _ l in rw p.0 (legal_push (sum_after s x) log e p.1 m)
 
 in_order : (a l : ℕ) → nat_le l (max a l) ≡ true
 in_order a l = grind (arith, nat_tests)
@@ -86,7 +86,7 @@ not_held s n false is next i = refl
 next_of : (s : Sum) (n c : ℕ) → may_do s c (Clone n) ≡ true → n ≡ s.clones + 1
 next_of s n c m = grind (arith, nat_tests)
 
-pub numbered_step : (s : Sum) (c a : ℕ) (w : What) → Numbered s → may_do s c w ≡ true → Numbered (after s (entry c a w))
+pub numbered_step : (s : Sum) (c a : ℕ) (w : What) → Numbered s → may_do s c w ≡ true → Numbered (sum_after s (entry c a w))
 numbered_step s c a (Clone n) i m =
     let is = next_of s n c m in record {
       within = λ k at. ⊎_elim (λ (h : has k s.held ≡ true). let le = i.within k h in omega (arith, le)) (λ (h : n ≡ k). omega (arith, is, h)) (has_back k n s.held at);
@@ -100,7 +100,7 @@ numbered_all : (s : Sum) (log : List Entry) → Numbered s → is_legal s log �
 numbered_all s [] i l = i
 numbered_all s (e ∷ log) i l =
     let p = both (may s e) _ l in
-    numbered_all (after s e) log (numbered_step s e.caller e.at e.what i (tested s e p.0).done) p.1
+    numbered_all (sum_after s e) log (numbered_step s e.caller e.at e.what i (tested s e p.0).done) p.1
 
 pub numbered_start : (made : ℕ) → Numbered (start made)
 numbered_start made = record { within = λ k e. first k (0 == k) refl e; distinct = (refl, tt) }
@@ -130,7 +130,7 @@ clones_step n Release = omega arith
 
 clones_grow : (s : Sum) (log : List Entry) → s.clones ≤ (sum_of s log).clones
 clones_grow s [] = omega arith
-clones_grow s (e ∷ log) = let a = clones_step s.clones e.what in let b = clones_grow (after s e) log in omega (arith, a, b)
+clones_grow s (e ∷ log) = let a = clones_step s.clones e.what in let b = clones_grow (sum_after s e) log in omega (arith, a, b)
 
 pub none_above : (s : Sum) (log : List Entry) (n : ℕ) → Numbered s → is_legal s log ≡ true → (sum_of s log).clones < n → entries_by n log ≡ []
 none_above s [] n i l lt = refl
@@ -141,7 +141,7 @@ none_above s (e ∷ log) n i l lt =
     let grows = clones_grow s (e ∷ log) in
     let less : e.caller < n = omega (arith, low, grows, lt) in
     let miss : (e.caller == n) ≡ false = grind (arith, nat_tests) in
-    rw miss (none_above (after s e) log n (numbered_step s e.caller e.at e.what i t.done) p.1 lt)
+    rw miss (none_above (sum_after s e) log n (numbered_step s e.caller e.at e.what i t.done) p.1 lt)
 
 -- the number of a new clone has made no entry
 pub fresh_entries : (made : ℕ) (log : List Entry) (c a n : ℕ) → IsLegal made log → may (sum made log) (entry c a (Clone n)) ≡ true → entries_by n log ≡ []
@@ -181,11 +181,11 @@ no_entry s (e ∷ log) k l gone low =
     let apart : e.caller ≢ k = λ same. gone (subst (λ (j : ℕ). has j s.held ≡ true) same t.held) in
     let miss : (e.caller == k) ≡ false = grind (arith, nat_tests) in
     let more = clones_step s.clones e.what in
-    rw miss (no_entry (after s e) log k p.1 (still_gone s k e.caller e.what gone low t.done) (omega (arith, more, low)))
+    rw miss (no_entry (sum_after s e) log k p.1 (still_gone s k e.caller e.what gone low t.done) (omega (arith, more, low)))
 
 pub legal_rest : (s : Sum) (xs ys : List Entry) → is_legal s (xs ++ ys) ≡ true → is_legal (sum_of s xs) ys ≡ true
 legal_rest s [] ys l = l
-legal_rest s (x ∷ xs) ys l = legal_rest (after s x) xs ys (both (may s x) _ l).1
+legal_rest s (x ∷ xs) ys l = legal_rest (sum_after s x) xs ys (both (may s x) _ l).1
 
 pub ended_for_good : EndedForGood
 ended_for_good made k xs ys l gone low = by_append k xs ys ∙ ap (λ zs. entries_by k xs ++ zs) (no_entry (sum made xs) ys k (legal_rest (start made) xs ys l) gone low) ∙ append-nil (entries_by k xs)
@@ -203,27 +203,27 @@ nothing_follows made xs ys l e = nothing_after (sum made xs) ys (legal_rest (sta
 
 -- ---- the whole history
 
-gone_case : (m x : ℕ) (h : List ℕ) (b : Bool) → (x == m) ≡ b → has m (without m h) ≡ false → has m (without m (x ∷ h)) ≡ false
+gone_case : (m x : ℕ) (h : List ℕ) (b : Bool) → (x == m) ≡ b → has m (others_in m h) ≡ false → has m (others_in m (x ∷ h)) ≡ false
 gone_case m x h true is ih = rw is ih
 gone_case m x h false is ih = rw is (rw is ih)
 
-gone_self : (m : ℕ) (h : List ℕ) → has m (without m h) ≡ false
+gone_self : (m : ℕ) (h : List ℕ) → has m (others_in m h) ≡ false
 gone_self m [] = refl
 gone_self m (x ∷ h) = gone_case m x h (x == m) refl (gone_self m h)
 
-gone_by : (k m : ℕ) (h : List ℕ) → (m == k) ≡ true → has k (without m h) ≡ true → ⊥
+gone_by : (k m : ℕ) (h : List ℕ) → (m == k) ≡ true → has k (others_in m h) ≡ true → ⊥
 gone_by k m h is at =
     let same : m ≡ k = grind (arith, nat_tests) in
-    true≢false (sym at ∙ subst (λ (j : ℕ). has j (without m h) ≡ false) same (gone_self m h))
+    true≢false (sym at ∙ subst (λ (j : ℕ). has j (others_in m h) ≡ false) same (gone_self m h))
 
-ended_at : (s : Sum) (k c : ℕ) (w : What) → ends k c w ≡ true → has k (held_after s.held c w) ≡ true → ⊥
+ended_at : (s : Sum) (k c : ℕ) (w : What) → ends_handle k c w ≡ true → has k (held_after s.held c w) ≡ true → ⊥
 ended_at s k c (Clone n) e at = absurd cc
 ended_at s k c (Call op) e at = absurd cc
 ended_at s k c (Join m) e at = gone_by k m s.held e at
 ended_at s k c Release e at = gone_by k c s.held e at
 
 -- who is ended had a number
-ended_low : (s : Sum) (k c : ℕ) (w : What) → Numbered s → has c s.held ≡ true → may_do s c w ≡ true → ends k c w ≡ true → k ≤ s.clones
+ended_low : (s : Sum) (k c : ℕ) (w : What) → Numbered s → has c s.held ≡ true → may_do s c w ≡ true → ends_handle k c w ≡ true → k ≤ s.clones
 ended_low s k c (Clone n) i h m e = absurd cc
 ended_low s k c (Call op) i h m e = absurd cc
 ended_low s k c (Join j) i h m e = let same : j ≡ k = grind (arith, nat_tests) in let low = i.within j (both (has j s.held) _ m).0 in omega (arith, same, low)
@@ -234,27 +234,27 @@ stays_gone s [] k l gone low at = gone at
 stays_gone s (e ∷ log) k l gone low at =
     let p = both (may s e) _ l in
     let more = clones_step s.clones e.what in
-    stays_gone (after s e) log k p.1 (still_gone s k e.caller e.what gone low (tested s e p.0).done) (omega (arith, more, low)) at
+    stays_gone (sum_after s e) log k p.1 (still_gone s k e.caller e.what gone low (tested s e p.0).done) (omega (arith, more, low)) at
 
-end_case : (s : Sum) (e : Entry) (log : List Entry) (k : ℕ) (b : Bool) → Numbered s → is_legal s (e ∷ log) ≡ true → ends k e.caller e.what ≡ b → (b || has_end k log) ≡ true
-    → (Numbered (after s e) → is_legal (after s e) log ≡ true → has_end k log ≡ true → has k (sum_of (after s e) log).held ≡ true → ⊥) → has k (sum_of (after s e) log).held ≡ true → ⊥
+end_case : (s : Sum) (e : Entry) (log : List Entry) (k : ℕ) (b : Bool) → Numbered s → is_legal s (e ∷ log) ≡ true → ends_handle k e.caller e.what ≡ b → (b || has_end k log) ≡ true
+    → (Numbered (sum_after s e) → is_legal (sum_after s e) log ≡ true → has_end k log ≡ true → has k (sum_of (sum_after s e) log).held ≡ true → ⊥) → has k (sum_of (sum_after s e) log).held ≡ true → ⊥
 end_case s e log k true i l is h ih at =
     let p = both (may s e) _ l in
     let t = tested s e p.0 in
     let low = ended_low s k e.caller e.what i t.held t.done is in
     let more = clones_step s.clones e.what in
-    stays_gone (after s e) log k p.1 (ended_at s k e.caller e.what is) (omega (arith, more, low)) at
+    stays_gone (sum_after s e) log k p.1 (ended_at s k e.caller e.what is) (omega (arith, more, low)) at
 end_case s e log k false i l is h ih at =
     let p = both (may s e) _ l in
     ih (numbered_step s e.caller e.at e.what i (tested s e p.0).done) p.1 h at
 
 after_end : (s : Sum) (log : List Entry) (k : ℕ) → Numbered s → is_legal s log ≡ true → has_end k log ≡ true → has k (sum_of s log).held ≡ true → ⊥
 after_end s [] k i l h at = absurd cc
-after_end s (e ∷ log) k i l h at = end_case s e log k (ends k e.caller e.what) i l refl h (λ i' l' h'. after_end (after s e) log k i' l' h') at
+after_end s (e ∷ log) k i l h at = end_case s e log k (ends_handle k e.caller e.what) i l refl h (λ i' l' h'. after_end (sum_after s e) log k i' l' h') at
 
 pub legal_first : (s : Sum) (xs ys : List Entry) → is_legal s (xs ++ ys) ≡ true → is_legal s xs ≡ true
 legal_first s [] ys l = refl
-legal_first s (x ∷ xs) ys l = let p = both (may s x) _ l in rw p.0 (legal_first (after s x) xs ys p.1)
+legal_first s (x ∷ xs) ys l = let p = both (may s x) _ l in rw p.0 (legal_first (sum_after s x) xs ys p.1)
 
 none_left : (h : List ℕ) → ((k : ℕ) → has k h ≡ true → ⊥) → is_none h ≡ true
 none_left [] f = refl
@@ -268,20 +268,20 @@ whole_is_seen made xs ys l ended =
 
 -- ---- an ended handle
 
-low_case : (s : Sum) (e : Entry) (log : List Entry) (k : ℕ) (b : Bool) → Numbered s → is_legal s (e ∷ log) ≡ true → ends k e.caller e.what ≡ b → (b || has_end k log) ≡ true
-    → (Numbered (after s e) → is_legal (after s e) log ≡ true → has_end k log ≡ true → k ≤ (sum_of (after s e) log).clones) → k ≤ (sum_of (after s e) log).clones
+low_case : (s : Sum) (e : Entry) (log : List Entry) (k : ℕ) (b : Bool) → Numbered s → is_legal s (e ∷ log) ≡ true → ends_handle k e.caller e.what ≡ b → (b || has_end k log) ≡ true
+    → (Numbered (sum_after s e) → is_legal (sum_after s e) log ≡ true → has_end k log ≡ true → k ≤ (sum_of (sum_after s e) log).clones) → k ≤ (sum_of (sum_after s e) log).clones
 low_case s e log k true i l is h ih =
     let p = both (may s e) _ l in
     let t = tested s e p.0 in
     let low = ended_low s k e.caller e.what i t.held t.done is in
     let a = clones_step s.clones e.what in
-    let b = clones_grow (after s e) log in
+    let b = clones_grow (sum_after s e) log in
     omega (arith, low, a, b)
 low_case s e log k false i l is h ih = let p = both (may s e) _ l in ih (numbered_step s e.caller e.at e.what i (tested s e p.0).done) p.1 h
 
 end_low : (s : Sum) (log : List Entry) (k : ℕ) → Numbered s → is_legal s log ≡ true → has_end k log ≡ true → k ≤ (sum_of s log).clones
 end_low s [] k i l h = absurd cc
-end_low s (e ∷ log) k i l h = low_case s e log k (ends k e.caller e.what) i l refl h (λ i' l' h'. end_low (after s e) log k i' l' h')
+end_low s (e ∷ log) k i l h = low_case s e log k (ends_handle k e.caller e.what) i l refl h (λ i' l' h'. end_low (sum_after s e) log k i' l' h')
 
 pub ended_is_done : EndedIsDone
 ended_is_done made k xs ys l h =

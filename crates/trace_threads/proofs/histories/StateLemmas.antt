@@ -14,12 +14,12 @@ use Rattle.trace_threads.specs.declared.history.Entry.{Entry}
 use Rattle.trace_threads.specs.declared.history.What.{What}
 use Rattle.trace_threads.specs.declared.history.What.TheVariants.{Clone, Call, Join, Release}
 use Rattle.otel_state.specs.Content.{Making as Base, content}
-use Rattle.otel_state.specs.Deeds.{Stamped}
-use Rattle.otel_state.specs.States.{Told, begun, changed_by, Stands, is_growing}
-use Rattle.otel_state.specs.Times.{InOrder}
+use Rattle.otel_state.specs.Deeds.{TimedOp}
+use Rattle.otel_state.specs.States.{SpanData, data_at_making, after_stamped, Stands, is_growing}
+use Rattle.otel_state.specs.Times.{MomentsRise}
 use Rattle.trace_threads.specs.Moves.{Move, enters, exits, stays, move_of, opens_after}
-use Rattle.trace_threads.specs.History.{Sum, start, entry, has, after, clones_after, held_after, inside_after, move_in, may, may_do, may_move, sum_of, is_legal, IsLegal, sum, IsHeld, is_closed}
-use Rattle.trace_threads.specs.Shared.{base_of, own_op, ops_by, ops_in, ops_of, told_by, started_by, ops_at_close, content_of, IsKept}
+use Rattle.trace_threads.specs.History.{Sum, start, entry, has, sum_after, clones_after, held_after, inside_after, move_in, may, may_do, may_move, sum_of, is_legal, IsLegal, sum, IsHeld, is_closed}
+use Rattle.trace_threads.specs.Shared.{base_of, own_op, ops_by, ops_in, ops_of, data_by, started_by, ops_at_close, content_of, IsKept}
 use Rattle.trace_threads.proofs.histories.HoldersLemmas.{both, Distinct, length_without, length_less}
 use Rattle.trace_threads.proofs.histories.HistoriesLemmas.{sum_push, legal_push, may_any, tested, distinct, counts_none}
 
@@ -47,19 +47,19 @@ inside_length s c (Join j) m = refl
 inside_length s c Release m = refl
 
 ops_push : (making : Making) (log : List Entry) (c at : ℕ) (w : What) → ops_of making (log ++ entry c at w ∷ []) ≡ ops_of making log ++ ops_by making.own at w
-ops_push making log c at w = ap (λ (l : List Stamped). record { at = making.made; op = ops.Update making.update } ∷ l) (flat_map-append (ops_in making.own) log (entry c at w ∷ []) ∙ ap (λ (l : List Stamped). flat_map (ops_in making.own) log ++ l) (append-nil (ops_by making.own at w)))
+ops_push making log c at w = ap (λ (l : List TimedOp). record { at = making.made; op = ops.Update making.update } ∷ l) (flat_map-append (ops_in making.own) log (entry c at w ∷ []) ∙ ap (λ (l : List TimedOp). flat_map (ops_in making.own) log ++ l) (append-nil (ops_by making.own at w)))
 
-told_push : (making : Making) (log : List Entry) (c at : ℕ) (w : What) → told_by making (log ++ entry c at w ∷ []) ≡ fold changed_by (told_by making log) (ops_by making.own at w)
-told_push making log c at w = ap (λ (l : List Stamped). fold changed_by (begun (base_of making)) l) (ops_push making log c at w) ∙ fold-append changed_by (begun (base_of making)) (ops_of making log) (ops_by making.own at w)
+told_push : (making : Making) (log : List Entry) (c at : ℕ) (w : What) → data_by making (log ++ entry c at w ∷ []) ≡ fold after_stamped (data_by making log) (ops_by making.own at w)
+told_push making log c at w = ap (λ (l : List TimedOp). fold after_stamped (data_at_making (base_of making)) l) (ops_push making log c at w) ∙ fold-append after_stamped (data_at_making (base_of making)) (ops_of making log) (ops_by making.own at w)
 
-pub kept_push : (making : Making) (log new : List Entry) (told told' : Told) (own : SpanContext) (last clones holders inside room clones' holders' inside' room' : ℕ) (c at l : ℕ) (w : What)
+pub kept_push : (making : Making) (log new : List Entry) (told told' : SpanData) (own : SpanContext) (last clones holders inside room clones' holders' inside' room' : ℕ) (c at l : ℕ) (w : What)
     → IsKept making log told own last clones holders inside room → IsHeld making.made c log → may_do (sum making.made log) c w ≡ true → at ≤ GREATEST → l ≡ max at last → new ≡ log ++ entry c l w ∷ []
-    → clones' ≡ clones_after clones w → holders' ≡ holders_after holders w → inside' ≡ opens_after inside (move_in w) → told' ≡ fold changed_by told (ops_by making.own l w)
+    → clones' ≡ clones_after clones w → holders' ≡ holders_after holders w → inside' ≡ opens_after inside (move_in w) → told' ≡ fold after_stamped told (ops_by making.own l w)
     → length log + 1 + holders' + inside' ≤ room' → IsKept making new told' own l clones' holders' inside' room'
 kept_push making log new told told' own last clones holders inside room clones' holders' inside' room' c at l w k h m low late is cs hs ins ts enough =
     let s : Sum = sum making.made log in
     let e : Entry = entry c l w in
-    let sums : sum making.made new ≡ after s e = ap (sum making.made) is ∙ sum_push (start making.made) log e in
+    let sums : sum making.made new ≡ sum_after s e = ap (sum making.made) is ∙ sum_push (start making.made) log e in
     let lasts : l ≡ max at s.last = late ∙ ap (max at) (sym k.at_last) in
     let can : may s e ≡ true = subst (λ (n : ℕ). may s (entry c n w) ≡ true) (sym lasts) (may_any s c at w h m) in
     let lows = k.low in
@@ -72,78 +72,78 @@ kept_push making log new told told' own last clones holders inside room clones' 
       entered = ap (λ (t : Sum). length t.inside) sums ∙ inside_length s c w m ∙ ap (λ (n : ℕ). opens_after n (move_in w)) k.entered ∙ sym ins;
       enough = let long = ap length is ∙ length-append log (e ∷ []) in omega (arith, long, enough);
       ids = k.ids;
-      came_to = ts ∙ ap (λ (t : Told). fold changed_by t (ops_by making.own l w)) k.came_to ∙ sym (told_push making log c l w) ∙ ap (told_by making) (sym is);
+      came_to = ts ∙ ap (λ (t : SpanData). fold after_stamped t (ops_by making.own l w)) k.came_to ∙ sym (told_push making log c l w) ∙ ap (data_by making) (sym is);
     }
 
-pub closed_by : (making : Making) (log : List Entry) (told : Told) (own : SpanContext) (last clones holders inside room : ℕ) (b : Bool) → IsKept making log told own last clones holders inside room → b ≡ (holders == 0) → b ≡ is_closed making.made log
+pub closed_by : (making : Making) (log : List Entry) (told : SpanData) (own : SpanContext) (last clones holders inside room : ℕ) (b : Bool) → IsKept making log told own last clones holders inside room → b ≡ (holders == 0) → b ≡ is_closed making.made log
 closed_by making log told own last clones holders inside room b k e = e ∙ ap (λ (n : ℕ). n == 0) (sym k.held) ∙ counts_none (sum making.made log).held
 
 -- ---- the close
 
-abbrev pub last_of : ℕ → List Stamped → ℕ
+abbrev pub last_of : ℕ → List TimedOp → ℕ
 last_of made [] = made
 last_of made (op ∷ more) = last_of op.at more
 
-ordered_push : (made at : ℕ) (more : List Stamped) (op : Op) → InOrder made more → last_of made more ≤ at → at ≤ GREATEST → InOrder made (more ++ record { at = at; op = op } ∷ [])
+ordered_push : (made at : ℕ) (more : List TimedOp) (op : Op) → MomentsRise made more → last_of made more ≤ at → at ≤ GREATEST → MomentsRise made (more ++ record { at = at; op = op } ∷ [])
 ordered_push made at [] op i le low = (le, low)
 ordered_push made at (x ∷ more) op i le low = (i.0, ordered_push x.at at more op i.1 le low)
 
-last_push : (made at : ℕ) (more : List Stamped) (op : Op) → last_of made (more ++ record { at = at; op = op } ∷ []) ≡ at
+last_push : (made at : ℕ) (more : List TimedOp) (op : Op) → last_of made (more ++ record { at = at; op = op } ∷ []) ≡ at
 last_push made at [] op = refl
 last_push made at (x ∷ more) op = last_push x.at at more op
 
 -- the ops of a history are in order, and none is later than its greatest moment
-record Ordered (making : Making) (ops : List Stamped) (last : ℕ) : Type 0 where
-  order : InOrder making.made ops
+record Ordered (making : Making) (ops : List TimedOp) (last : ℕ) : Type 0 where
+  order : MomentsRise making.made ops
   late : last_of making.made ops ≤ last
 
-ordered_by : (making : Making) (more : List Stamped) (last at : ℕ) (what : What) → Ordered making more last → last ≤ at → at ≤ GREATEST → Ordered making (more ++ ops_by making.own at what) at
-ordered_by making more last at (Clone n) o le low = record { order = subst (InOrder making.made) (sym (append-nil more)) o.order; late = subst (λ (l : List Stamped). last_of making.made l ≤ at) (sym (append-nil more)) (let l = o.late in omega (arith, l, le)) }
+ordered_by : (making : Making) (more : List TimedOp) (last at : ℕ) (what : What) → Ordered making more last → last ≤ at → at ≤ GREATEST → Ordered making (more ++ ops_by making.own at what) at
+ordered_by making more last at (Clone n) o le low = record { order = subst (MomentsRise making.made) (sym (append-nil more)) o.order; late = subst (λ (l : List TimedOp). last_of making.made l ≤ at) (sym (append-nil more)) (let l = o.late in omega (arith, l, le)) }
 ordered_by making more last at (Call op) o le low = record { order = ordered_push making.made at more (own_op making.own op) o.order (let l = o.late in omega (arith, l, le)) low; late = let l = last_push making.made at more (own_op making.own op) in omega (arith, l) }
-ordered_by making more last at (Join n) o le low = record { order = subst (InOrder making.made) (sym (append-nil more)) o.order; late = subst (λ (l : List Stamped). last_of making.made l ≤ at) (sym (append-nil more)) (let l = o.late in omega (arith, l, le)) }
-ordered_by making more last at Release o le low = record { order = subst (InOrder making.made) (sym (append-nil more)) o.order; late = subst (λ (l : List Stamped). last_of making.made l ≤ at) (sym (append-nil more)) (let l = o.late in omega (arith, l, le)) }
+ordered_by making more last at (Join n) o le low = record { order = subst (MomentsRise making.made) (sym (append-nil more)) o.order; late = subst (λ (l : List TimedOp). last_of making.made l ≤ at) (sym (append-nil more)) (let l = o.late in omega (arith, l, le)) }
+ordered_by making more last at Release o le low = record { order = subst (MomentsRise making.made) (sym (append-nil more)) o.order; late = subst (λ (l : List TimedOp). last_of making.made l ≤ at) (sym (append-nil more)) (let l = o.late in omega (arith, l, le)) }
 
 last_grows : (s : Sum) (log : List Entry) → is_legal s log ≡ true → s.last ≤ (sum_of s log).last
 last_grows s [] l = omega arith
 last_grows s (e ∷ log) l =
     let p = both (may s e) _ l in
     let a = (tested s e p.0).later in
-    let b = last_grows (after s e) log p.1 in
+    let b = last_grows (sum_after s e) log p.1 in
     omega (arith, a, b)
 
-ordered_all : (making : Making) (s : Sum) (log : List Entry) (more : List Stamped) → is_legal s log ≡ true → (sum_of s log).last ≤ GREATEST → Ordered making more s.last → Ordered making (more ++ flat_map (ops_in making.own) log) (sum_of s log).last
-ordered_all making s [] more l low o = subst (λ (l : List Stamped). Ordered making l s.last) (sym (append-nil more)) o
+ordered_all : (making : Making) (s : Sum) (log : List Entry) (more : List TimedOp) → is_legal s log ≡ true → (sum_of s log).last ≤ GREATEST → Ordered making more s.last → Ordered making (more ++ flat_map (ops_in making.own) log) (sum_of s log).last
+ordered_all making s [] more l low o = subst (λ (l : List TimedOp). Ordered making l s.last) (sym (append-nil more)) o
 ordered_all making s (e ∷ log) more l low o =
     let p = both (may s e) _ l in
-    let up = last_grows (after s e) log p.1 in
+    let up = last_grows (sum_after s e) log p.1 in
     let next = ordered_by making more s.last e.at e.what o (tested s e p.0).later (omega (arith, up, low)) in
-    subst (λ (l : List Stamped). Ordered making l (sum_of (after s e) log).last) (append_assoc more (ops_in making.own e) (flat_map (ops_in making.own) log))
-    (ordered_all making (after s e) log (more ++ ops_in making.own e) p.1 low next)
+    subst (λ (l : List TimedOp). Ordered making l (sum_of (sum_after s e) log).last) (append_assoc more (ops_in making.own e) (flat_map (ops_in making.own) log))
+    (ordered_all making (sum_after s e) log (more ++ ops_in making.own e) p.1 low next)
 
 ordered : (making : Making) (log : List Entry) → IsLegal making.made log → (sum making.made log).last ≤ GREATEST → Ordered making (ops_of making log) (sum making.made log).last
 ordered making log l low =
     let up = last_grows (start making.made) log l in
     ordered_all making (start making.made) log (record { at = making.made; op = ops.Update making.update } ∷ []) l low (record { order = (omega arith, omega (arith, up, low)); late = omega arith })
 
-close_case : (making : Making) (log : List Entry) (b : Bool) → is_some (told_by making log).own ≡ b → IsLegal making.made log → (sum making.made log).last ≤ GREATEST
-    → Stands (base_of making) (ops_at_close making log) (started_by making.own (sum making.made log).last (told_by making log)) × InOrder making.made (ops_at_close making log)
+close_case : (making : Making) (log : List Entry) (b : Bool) → is_some (data_by making log).own ≡ b → IsLegal making.made log → (sum making.made log).last ≤ GREATEST
+    → Stands (base_of making) (ops_at_close making log) (started_by making.own (sum making.made log).last (data_by making log)) × MomentsRise making.made (ops_at_close making log)
 close_case making log true is l low = let o = ordered making log l low in rw is (refl, o.order)
 close_case making log false is l low =
     let o = ordered making log l low in
     let at = (sum making.made log).last in
     rw is
-    (sym (fold-append changed_by (begun (base_of making)) (ops_of making log) (record { at = at; op = ops.Start making.own } ∷ [])), ordered_push making.made at (ops_of making log) (ops.Start making.own) o.order o.late low)
+    (sym (fold-append after_stamped (data_at_making (base_of making)) (ops_of making log) (record { at = at; op = ops.Start making.own } ∷ [])), ordered_push making.made at (ops_of making log) (ops.Start making.own) o.order o.late low)
 
 -- what the close of a state has to know
-pub closes : (making : Making) (log : List Entry) (told told' : Told) (own : SpanContext) (last clones holders inside room : ℕ) (result : Record) → IsKept making log told own last clones holders inside room → told' ≡ started_by own last told
-    → ((base : Base) (ops : List Stamped) → Stands base ops told' → InOrder base.made ops → result ≡ content base ops last) → result ≡ content_of making log
+pub closes : (making : Making) (log : List Entry) (told told' : SpanData) (own : SpanContext) (last clones holders inside room : ℕ) (result : Record) → IsKept making log told own last clones holders inside room → told' ≡ started_by own last told
+    → ((base : Base) (ops : List TimedOp) → Stands base ops told' → MomentsRise base.made ops → result ≡ content base ops last) → result ≡ content_of making log
 closes making log told told' own last clones holders inside room result k e f =
     let low : (sum making.made log).last ≤ GREATEST = let a = k.at_last in let b = k.low in omega (arith, a, b) in
-    let c = close_case making log (is_some (told_by making log).own) refl k.legal low in
-    let told_is : told' ≡ started_by making.own (sum making.made log).last (told_by making log) = e ∙ (λ i. started_by (k.ids i) (sym k.at_last i) (k.came_to i)) in
+    let c = close_case making log (is_some (data_by making log).own) refl k.legal low in
+    let told_is : told' ≡ started_by making.own (sum making.made log).last (data_by making log) = e ∙ (λ i. started_by (k.ids i) (sym k.at_last i) (k.came_to i)) in
     f (base_of making) (ops_at_close making log) (told_is ∙ c.0) c.1 ∙ ap (λ (n : ℕ). content (base_of making) (ops_at_close making log) n) (sym k.at_last)
 
-pub few_inside : (making : Making) (log : List Entry) (told : Told) (own : SpanContext) (last clones holders inside room : ℕ) → IsKept making log told own last clones holders inside room → room < 2 ^ 63 → length (sum making.made log).inside < 2 ^ 63
+pub few_inside : (making : Making) (log : List Entry) (told : SpanData) (own : SpanContext) (last clones holders inside room : ℕ) → IsKept making log told own last clones holders inside room → room < 2 ^ 63 → length (sum making.made log).inside < 2 ^ 63
 few_inside making log told own last clones holders inside room k small = let a = k.entered in let b = k.enough in omega (arith, a, b, small)
 
 -- ---- answers

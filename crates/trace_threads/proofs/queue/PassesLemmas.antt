@@ -16,8 +16,8 @@ use Rattle.trace_threads.specs.declared.turns.Stage.{Stage}
 use Rattle.trace_threads.specs.declared.turns.Stage.TheVariants.{Idle, Waits, Holds}
 use Rattle.trace_threads.specs.declared.turns.TheConstants.{LAST}
 use Rattle.trace_threads.specs.History.{start, IsLegal, sum, is_legal, may, entries_by, IsHeld, entry}
-use Rattle.trace_threads.specs.Shared.{shared}
-use Rattle.trace_threads.specs.Turns.{Turn, Slot, Mine, entries, home_of, AllBegin, Staged, Known, Placed, Fits, Ruled, Kept, passed_by, passed, PassedOn, MayEnd, MayTurn, Closed}
+use Rattle.trace_threads.specs.Shared.{shared_of}
+use Rattle.trace_threads.specs.Turns.{Turn, Slot, Mine, entries, home_of, AllBegin, Staged, Known, Placed, ViewFitsRule, KeepsRule, KeepsWords, passed_by, view_after, PassedOn, MayEnd, MayTurn, Closed}
 use Rattle.trace_threads.proofs.histories.HistoriesLemmas.{legal_push, Spares, held_push, by_other, by_own, fresh, fresh_entries, held_new}
 use Rattle.trace_threads.proofs.queue.SeatsLemmas.{prefix_self, prefix_more, all_more, Goes, allows, fits_set, at_own, sides}
 
@@ -91,7 +91,7 @@ first_of : (p q : ℕ × Bool) → p ≡ q → p.0 ≡ q.0
 first_of p q e = ap (λ (x : ℕ × Bool). x.0) e
 
 fits_passed : (turns : List Turn) (turn : Turn) (owner : ℕ → ℕ) (place : ℕ → ℕ × Bool) (tickets id j : ℕ) (v u : View) → j ≢ id → owner (length turns) ≡ id → IsLegal v.origin.made (entries turns) → MayTurn v (entries turns) turn
-    → Placed place (id, false) v.number → Placed place (id, true) v.other → Fits v.origin turns owner place tickets j u → Fits v.origin (turns ++ turn ∷ []) owner (placed_in place id turn) tickets j u
+    → Placed place (id, false) v.number → Placed place (id, true) v.other → ViewFitsRule v.origin turns owner place tickets j u → ViewFitsRule v.origin (turns ++ turn ∷ []) owner (placed_in place id turn) tickets j u
 fits_passed turns turn owner place tickets id j v u apart own legal m a b f =
     let l : (side : Bool) → Leaves v.origin place (placed_in place id turn) (entries turns) (entries (turns ++ turn ∷ [])) (j, side) = λ side. leaves_turn place id v turns turn (j, side) legal m a b (λ e. apart (sym (first_of _ _ e))) (λ e. apart (sym (first_of _ _ e))) in
     let x = known_more v.origin place (placed_in place id turn) (entries turns) (entries (turns ++ turn ∷ [])) (j, false) u.mine u.number (l false) f.own f.own_place in
@@ -100,7 +100,7 @@ fits_passed turns turn owner place tickets id j v u apart own legal m a b f =
 
 -- the view that made the entry
 fits_entry : (v : View) (e : Entry) (owner : ℕ → ℕ) (place : ℕ → ℕ × Bool) (tickets id : ℕ) (what : What) → e.what ≡ what → IsLegal v.origin.made (entries v.seen) → may (sum v.origin.made (entries v.seen)) (entry e.caller e.at what) ≡ true
-    → v.number ≡ Some e.caller → MayEnd v.other what → Fits v.origin v.seen owner place tickets id v → Fits v.origin (v.seen ++ Some e ∷ []) owner (placed_by place id what) tickets id (passed_by v (v.seen ++ Some e ∷ []) e what)
+    → v.number ≡ Some e.caller → MayEnd v.other what → ViewFitsRule v.origin v.seen owner place tickets id v → ViewFitsRule v.origin (v.seen ++ Some e ∷ []) owner (placed_by place id what) tickets id (passed_by v (v.seen ++ Some e ∷ []) e what)
 fits_entry v e owner place tickets id what is legal m num ends f = entry_by what is m ends
   where
     log : List Entry
@@ -128,7 +128,7 @@ fits_entry v e owner place tickets id what is legal m num ends f = entry_by what
         let y = known_more v.origin place (placed_by place id w) (entries v.seen) (entries v.seen ++ e ∷ []) (id, true) v.theirs v.other l f.other f.other_place in
         (subst (λ (ls : List Entry). Known v.origin ls v.theirs v.other) (sym (entries_some v.seen e)) y.0, y.1)
 
-    entry_by : (what : What) → e.what ≡ what → may (sum v.origin.made (entries v.seen)) (entry e.caller e.at what) ≡ true → MayEnd v.other what → Fits v.origin (v.seen ++ Some e ∷ []) owner (placed_by place id what) tickets id (passed_by v (v.seen ++ Some e ∷ []) e what)
+    entry_by : (what : What) → e.what ≡ what → may (sum v.origin.made (entries v.seen)) (entry e.caller e.at what) ≡ true → MayEnd v.other what → ViewFitsRule v.origin (v.seen ++ Some e ∷ []) owner (placed_by place id what) tickets id (passed_by v (v.seen ++ Some e ∷ []) e what)
     entry_by (Call op) is m ends =
         let y = other_more (Call op) is m (λ j no. absurd cc) in
         record {
@@ -180,8 +180,8 @@ fits_entry v e owner place tickets id what is legal m num ends f = entry_by what
           other_place = y.1;
         }
 
-fits_own : (v : View) (turn : Turn) (owner : ℕ → ℕ) (place : ℕ → ℕ × Bool) (tickets id : ℕ) → IsLegal v.origin.made (entries v.seen) → MayTurn v (entries v.seen) turn → Fits v.origin v.seen owner place tickets id v
-    → Fits v.origin (v.seen ++ turn ∷ []) owner (placed_in place id turn) tickets id (passed v turn)
+fits_own : (v : View) (turn : Turn) (owner : ℕ → ℕ) (place : ℕ → ℕ × Bool) (tickets id : ℕ) → IsLegal v.origin.made (entries v.seen) → MayTurn v (entries v.seen) turn → ViewFitsRule v.origin v.seen owner place tickets id v
+    → ViewFitsRule v.origin (v.seen ++ turn ∷ []) owner (placed_in place id turn) tickets id (view_after v turn)
 fits_own v None owner place tickets id legal m f = record {
   same = λ _. refl;
   begins = prefix_self (v.seen ++ None ∷ []);
@@ -203,18 +203,18 @@ abbrev pub Back : View → Turn → List (ℕ × Slot)
 Back v turn = (0, home_of v.origin (entries (v.seen ++ turn ∷ []))) ∷ []
 
 passed_case : (f : ℕ → ℕ) (id t : ℕ) (v : View) (turn : Turn) → ((n : ℕ) → n ≡ t → n < LAST → f n ≡ n + 1) → v.stage ≡ Holds t → MayTurn v (entries v.seen) turn
-    → (turns : List Turn) (owner : ℕ → ℕ) (place : ℕ → ℕ × Bool) (tickets : ℕ) (home : core.Option Slot) (views : List View) → Ruled v.origin turns owner place tickets home views → get_elem? views id ≡ core.some v
+    → (turns : List Turn) (owner : ℕ → ℕ) (place : ℕ → ℕ × Bool) (tickets : ℕ) (home : core.Option Slot) (views : List View) → KeepsRule v.origin turns owner place tickets home views → get_elem? views id ≡ core.some v
     → (length turns ≡ t) × (t < tickets) × (owner t ≡ id) × (v.seen ≡ turns)
-    → Goes v.origin f 0 id (v, Back v turn) (λ n w. w ≡ (passed v turn, [])) (length turns ∷ tickets ∷ []) (home ∷ []) views
+    → Goes v.origin f 0 id (v, Back v turn) (λ n w. w ≡ (view_after v turn, [])) (length turns ∷ tickets ∷ []) (home ∷ []) views
 passed_case f id t v turn adds holds may turns owner place tickets home views r at s =
-    let r' : Ruled v.origin v.seen owner place tickets home views = subst (λ (ts : List Turn). Ruled v.origin ts owner place tickets home views) (sym s.3) r in
+    let r' : KeepsRule v.origin v.seen owner place tickets home views = subst (λ (ts : List Turn). KeepsRule v.origin ts owner place tickets home views) (sym s.3) r in
     let long : length v.seen ≡ t = ap length s.3 ∙ s.0 in
     let own : owner (length v.seen) ≡ id = ap owner long ∙ s.2 in
     let fit = r'.each id v at in
-    let w = passed v turn in
+    let w = view_after v turn in
     let place' = placed_in place id turn in
     let more = v.seen ++ turn ∷ [] in
-    let ruled : Ruled v.origin more owner place' tickets (core.some (home_of v.origin (entries more))) (set views id w) = record {
+    let ruled : KeepsRule v.origin more owner place' tickets (core.some (home_of v.origin (entries more))) (set views id w) = record {
       capped = r.capped;
       behind = omega (arith, long, s.1, length-append v.seen (turn ∷ []));
       legal = legal_turn v v.seen turn r'.legal may;
@@ -230,8 +230,8 @@ passed_case f id t v turn adds holds may turns owner place tickets home views r 
     )
 
 passes : (making : Making) (f : ℕ → ℕ) (slots id t : ℕ) (v : View) (turn : Turn) → ((n : ℕ) → n ≡ t → n < LAST → f n ≡ n + 1) → v.stage ≡ Holds t → v.live ≡ true → MayTurn v (entries v.seen) turn
-    → Allows (Kept making) slots id (v, Back v turn) 0 f (λ n w. w ≡ (passed v turn, []))
-passes making f slots id t v turn adds holds live may = allows making slots f 0 id (v, Back v turn) (λ n w. w ≡ (passed v turn, [])) live
+    → Allows (KeepsWords making) slots id (v, Back v turn) 0 f (λ n w. w ≡ (view_after v turn, []))
+passes making f slots id t v turn adds holds live may = allows making slots f 0 id (v, Back v turn) (λ n w. w ≡ (view_after v turn, [])) live
     (λ turns owner place tickets home views r at. passed_case f id t v turn adds holds may turns owner place tickets home views r at (subst (Staged turns owner tickets id v.seen) holds (r.each id v at).staged))
 
 one_more : (t n : ℕ) → n ≡ t → n < LAST → (n + 1) % 2 ^ 64 ≡ n + 1
@@ -242,18 +242,18 @@ to_next t n is low = let yes : (n == t) ≡ true = grind (arith, nat_tests) in r
 
 -- as a caller meets it: the slot has the history with this turn, and some handle is held
 pub passes_on : (making : Making) (slots id t : ℕ) (me : Mine) (turn : Turn) → me.0.stage ≡ Holds t → me.0.live ≡ true → MayTurn me.0 (entries me.0.seen) turn
-    → me.1 ≡ (0, Some (shared me.0.origin (entries (me.0.seen ++ turn ∷ [])))) ∷ [] → home_of me.0.origin (entries (me.0.seen ++ turn ∷ [])) ≡ Some (shared me.0.origin (entries (me.0.seen ++ turn ∷ [])))
-    → Allows (Kept making) slots id me 0 (λ n. (n + 1) % 2 ^ 64) (PassedOn (step slots 0 1 0 core.none) me)
+    → me.1 ≡ (0, Some (shared_of me.0.origin (entries (me.0.seen ++ turn ∷ [])))) ∷ [] → home_of me.0.origin (entries (me.0.seen ++ turn ∷ [])) ≡ Some (shared_of me.0.origin (entries (me.0.seen ++ turn ∷ [])))
+    → Allows (KeepsWords making) slots id me 0 (λ n. (n + 1) % 2 ^ 64) (PassedOn (step slots 0 1 0 core.none) me)
 passes_on making slots id t me turn holds live may slot full =
     let back : Back me.0 turn ≡ me.1 = ap (λ (x : Slot). (0, x) ∷ []) full ∙ sym slot in
-    let base : Allows (Kept making) slots id (me.0, me.1) 0 (λ n. (n + 1) % 2 ^ 64) (λ n w. w ≡ (passed me.0 turn, [])) = subst (λ (c : List (ℕ × Slot)). Allows (Kept making) slots id (me.0, c) 0 (λ n. (n + 1) % 2 ^ 64) (λ n w. w ≡ (passed me.0 turn, []))) back (passes making (λ n. (n + 1) % 2 ^ 64) slots id t me.0 turn (one_more t) holds live may) in
+    let base : Allows (KeepsWords making) slots id (me.0, me.1) 0 (λ n. (n + 1) % 2 ^ 64) (λ n w. w ≡ (view_after me.0 turn, [])) = subst (λ (c : List (ℕ × Slot)). Allows (KeepsWords making) slots id (me.0, c) 0 (λ n. (n + 1) % 2 ^ 64) (λ n w. w ≡ (view_after me.0 turn, []))) back (passes making (λ n. (n + 1) % 2 ^ 64) slots id t me.0 turn (one_more t) holds live may) in
     λ s k len at wide. let x = base s k len at wide in (x.0, x.1, x.2, x.3, (turn, slot, x.4))
 
 -- as the last release meets it: the slot is empty, and what it had is told
 pub closes : (making : Making) (slots id t : ℕ) (me : Mine) (turn : Turn) (said : Slot) → me.0.stage ≡ Holds t → me.0.live ≡ true → MayTurn me.0 (entries me.0.seen) turn
-    → me.1 ≡ (0, None) ∷ [] → said ≡ Some (shared me.0.origin (entries (me.0.seen ++ turn ∷ []))) → home_of me.0.origin (entries (me.0.seen ++ turn ∷ [])) ≡ None
-    → Allows (Kept making) slots id me 0 (λ n. either (n == t) (t + 1) n) (Closed (step slots 0 t (t + 1) (core.some said)) me)
+    → me.1 ≡ (0, None) ∷ [] → said ≡ Some (shared_of me.0.origin (entries (me.0.seen ++ turn ∷ []))) → home_of me.0.origin (entries (me.0.seen ++ turn ∷ [])) ≡ None
+    → Allows (KeepsWords making) slots id me 0 (λ n. either (n == t) (t + 1) n) (Closed (step slots 0 t (t + 1) (core.some said)) me)
 closes making slots id t me turn said holds live may slot is none =
     let back : Back me.0 turn ≡ me.1 = ap (λ (x : Slot). (0, x) ∷ []) none ∙ sym slot in
-    let base : Allows (Kept making) slots id (me.0, me.1) 0 (λ n. either (n == t) (t + 1) n) (λ n w. w ≡ (passed me.0 turn, [])) = subst (λ (c : List (ℕ × Slot)). Allows (Kept making) slots id (me.0, c) 0 (λ n. either (n == t) (t + 1) n) (λ n w. w ≡ (passed me.0 turn, []))) back (passes making (λ n. either (n == t) (t + 1) n) slots id t me.0 turn (to_next t) holds live may) in
+    let base : Allows (KeepsWords making) slots id (me.0, me.1) 0 (λ n. either (n == t) (t + 1) n) (λ n w. w ≡ (view_after me.0 turn, [])) = subst (λ (c : List (ℕ × Slot)). Allows (KeepsWords making) slots id (me.0, c) 0 (λ n. either (n == t) (t + 1) n) (λ n w. w ≡ (view_after me.0 turn, []))) back (passes making (λ n. either (n == t) (t + 1) n) slots id t me.0 turn (to_next t) holds live may) in
     λ s k len at wide. let x = base s k len at wide in (x.0, x.1, x.2, x.3, (turn, ap core.some is, x.4))

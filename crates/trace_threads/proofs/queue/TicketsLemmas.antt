@@ -12,7 +12,7 @@ use Rattle.trace_threads.specs.declared.turns.View.{View}
 use Rattle.trace_threads.specs.declared.turns.Stage.{Stage}
 use Rattle.trace_threads.specs.declared.turns.Stage.TheVariants.{Idle, Waits, Holds}
 use Rattle.trace_threads.specs.declared.turns.TheConstants.{LAST}
-use Rattle.trace_threads.specs.Turns.{Turn, Slot, Mine, entries, home_of, view, Staged, Fits, IsHolder, IsHome, Ruled, Kept, staged, Drawn, HasTurn, LookedAs, Looked, Noticed}
+use Rattle.trace_threads.specs.Turns.{Turn, Slot, Mine, entries, home_of, view, Staged, ViewFitsRule, IsHolder, IsHome, KeepsRule, KeepsWords, at_stage, Drawn, HasTurn, LookedAs, Looked, Noticed}
 use Rattle.trace_threads.proofs.queue.SeatsLemmas.{prefix_self, Goes, allows, fits_set, there, same_view, home_else, no_holder, at_own, sides}
 
 -- ---- draw
@@ -31,19 +31,19 @@ staged_drawn turns owner n id j seen Idle s = tt
 staged_drawn turns owner n id j seen (Waits t) s = (s.0, omega (arith, s.1), drawn_else owner n id t s.1 ∙ s.2)
 staged_drawn turns owner n id j seen (Holds t) s = (s.0, omega (arith, s.1), drawn_else owner n id t s.1 ∙ s.2, s.3)
 
-fits_drawn : (making : Making) (turns : List Turn) (owner : ℕ → ℕ) (place : ℕ → ℕ × Bool) (n id j : ℕ) (u : View) → Fits making turns owner place n j u → Fits making turns (drawn_by owner n id) place (n + 1) j u
+fits_drawn : (making : Making) (turns : List Turn) (owner : ℕ → ℕ) (place : ℕ → ℕ × Bool) (n id j : ℕ) (u : View) → ViewFitsRule making turns owner place n j u → ViewFitsRule making turns (drawn_by owner n id) place (n + 1) j u
 fits_drawn making turns owner place n id j u f = record { same = f.same; begins = f.begins; before = f.before; staged = staged_drawn turns owner n id j u.seen u.stage f.staged; own = f.own; own_place = f.own_place; other = f.other; other_place = f.other_place }
 
 drawn_case : (id : ℕ) (v : View) (c : List (ℕ × Slot)) (old : ℕ) → v.stage ≡ Idle → old < LAST
-    → (turns : List Turn) (owner : ℕ → ℕ) (place : ℕ → ℕ × Bool) (tickets : ℕ) (home : core.Option Slot) (views : List View) → Ruled v.origin turns owner place tickets home views → get_elem? views id ≡ core.some v
+    → (turns : List Turn) (owner : ℕ → ℕ) (place : ℕ → ℕ × Bool) (tickets : ℕ) (home : core.Option Slot) (views : List View) → KeepsRule v.origin turns owner place tickets home views → get_elem? views id ≡ core.some v
     → (b : Bool) → (tickets == old) ≡ b
     → Goes v.origin (λ n. either (n == old) (old + 1) n) 1 id (v, c) (Drawn (step 1 1 old (old + 1) core.none) (v, c)) (length turns ∷ tickets ∷ []) (home ∷ []) views
 drawn_case id v c old idle low turns owner place tickets home views r at true is =
     let same : tickets ≡ old = grind (arith, nat_tests) in
-    let w = staged (Waits old) v in
+    let w = at_stage (Waits old) v in
     let f = r.each id v at in
-    let mine : Fits v.origin turns (drawn_by owner tickets id) place (tickets + 1) id w = record { same = λ _. refl; begins = f.begins; before = f.before; staged = (omega (arith, r.behind, same), omega (arith, same), ap (drawn_by owner tickets id) (sym same) ∙ drawn_here owner tickets id); own = f.own; own_place = f.own_place; other = f.other; other_place = f.other_place } in
-    let ruled : Ruled v.origin turns (drawn_by owner tickets id) place (tickets + 1) home (set views id w) = record {
+    let mine : ViewFitsRule v.origin turns (drawn_by owner tickets id) place (tickets + 1) id w = record { same = λ _. refl; begins = f.begins; before = f.before; staged = (omega (arith, r.behind, same), omega (arith, same), ap (drawn_by owner tickets id) (sym same) ∙ drawn_here owner tickets id); own = f.own; own_place = f.own_place; other = f.other; other_place = f.other_place } in
+    let ruled : KeepsRule v.origin turns (drawn_by owner tickets id) place (tickets + 1) home (set views id w) = record {
       capped = omega (arith, low, same);
       behind = omega (arith, r.behind);
       legal = r.legal;
@@ -60,19 +60,19 @@ drawn_case id v c old idle low turns owner place tickets home views r at false i
   v,
   keeps,
   tt,
-  record { turns = turns; owner = owner; place = place; tickets = tickets; home = home; words = rw is refl; homes = refl; ruled = subst (Ruled v.origin turns owner place tickets home) (sym (set_again views id v at)) r },
+  record { turns = turns; owner = owner; place = place; tickets = tickets; home = home; words = rw is refl; homes = refl; ruled = subst (KeepsRule v.origin turns owner place tickets home) (sym (set_again views id v at)) r },
   rw is refl,
 )
 
 pub draws : (making : Making) (slots id : ℕ) (v : View) (c : List (ℕ × Slot)) (old : ℕ) → v.stage ≡ Idle → v.live ≡ true → old < LAST
-    → Allows (Kept making) slots id (v, c) 1 (λ n. either (n == old) (old + 1) n) (Drawn (step slots 1 old (old + 1) core.none) (v, c))
+    → Allows (KeepsWords making) slots id (v, c) 1 (λ n. either (n == old) (old + 1) n) (Drawn (step slots 1 old (old + 1) core.none) (v, c))
 draws making slots id v c old idle live low = allows making slots _ 1 id (v, c) (Drawn (step slots 1 old (old + 1) core.none) (v, c)) live (λ turns owner place tickets home views r at. drawn_case id v c old idle low turns owner place tickets home views r at (tickets == old) refl)
 
 -- ---- look
 
 -- where the seat has the ticket that is served and hasn't looked, the slot is at home
 is_home : (making : Making) (turns : List Turn) (owner : ℕ → ℕ) (place : ℕ → ℕ × Bool) (tickets : ℕ) (home : core.Option Slot) (views : List View) (id t : ℕ) (v : View)
-    → Ruled making turns owner place tickets home views → get_elem? views id ≡ core.some v → v.stage ≡ Waits t → owner t ≡ id → length turns ≡ t → home ≡ core.some (home_of making (entries turns))
+    → KeepsRule making turns owner place tickets home views → get_elem? views id ≡ core.some v → v.stage ≡ Waits t → owner t ≡ id → length turns ≡ t → home ≡ core.some (home_of making (entries turns))
 is_home making turns owner place tickets home views id t v r at is own served = home_in r.at_home
   where
     owned : (h : ℕ) (stage : Stage) (seen : List Turn) → IsHolder stage → Staged turns owner tickets h seen stage → h ≡ id
@@ -90,7 +90,7 @@ staged_as : (turns : List Turn) (owner : ℕ → ℕ) (tickets j : ℕ) (seen : 
 staged_as turns owner tickets j seen stage t e s = subst (Staged turns owner tickets j seen) e s
 
 looked_case : (id t : ℕ) (v : View) → v.stage ≡ Waits t
-    → (turns : List Turn) (owner : ℕ → ℕ) (place : ℕ → ℕ × Bool) (tickets : ℕ) (home : core.Option Slot) (views : List View) → Ruled v.origin turns owner place tickets home views → get_elem? views id ≡ core.some v
+    → (turns : List Turn) (owner : ℕ → ℕ) (place : ℕ → ℕ × Bool) (tickets : ℕ) (home : core.Option Slot) (views : List View) → KeepsRule v.origin turns owner place tickets home views → get_elem? views id ≡ core.some v
     → (b : Bool) → (length turns == t) ≡ b
     → Goes v.origin (λ n. n) 0 id (v, []) (λ n w. MatchBool (n == t) (HasTurn (v, []) t w) (w ≡ (v, []))) (length turns ∷ tickets ∷ []) (home ∷ []) views
 looked_case id t v waits turns owner place tickets home views r at true is =
@@ -99,8 +99,8 @@ looked_case id t v waits turns owner place tickets home views r at true is =
     let s = staged_as turns owner tickets id v.seen v.stage t waits f.staged in
     let here = is_home v.origin turns owner place tickets home views id t v r at waits s.2 served in
     let w = view v.origin turns [] v.number v.mine v.other v.theirs (Holds t) in
-    let mine : Fits v.origin turns owner place tickets id w = record { same = λ _. refl; begins = prefix_self turns; before = tt; staged = (served, s.1, s.2, refl); own = f.own; own_place = f.own_place; other = f.other; other_place = f.other_place } in
-    let ruled : Ruled v.origin turns owner place tickets core.none (set views id w) = record {
+    let mine : ViewFitsRule v.origin turns owner place tickets id w = record { same = λ _. refl; begins = prefix_self turns; before = tt; staged = (served, s.1, s.2, refl); own = f.own; own_place = f.own_place; other = f.other; other_place = f.other_place } in
+    let ruled : KeepsRule v.origin turns owner place tickets core.none (set views id w) = record {
       capped = r.capped;
       behind = r.behind;
       legal = r.legal;
@@ -118,18 +118,18 @@ looked_case id t v waits turns owner place tickets home views r at false is = (
   v,
   keeps,
   tt,
-  record { turns = turns; owner = owner; place = place; tickets = tickets; home = home; words = refl; homes = refl; ruled = subst (Ruled v.origin turns owner place tickets home) (sym (set_again views id v at)) r },
+  record { turns = turns; owner = owner; place = place; tickets = tickets; home = home; words = refl; homes = refl; ruled = subst (KeepsRule v.origin turns owner place tickets home) (sym (set_again views id v at)) r },
   rw is refl,
 )
 
-looks : (making : Making) (slots id t : ℕ) (v : View) → v.stage ≡ Waits t → v.live ≡ true → Allows (Kept making) slots id (v, []) 0 (λ n. n) (Looked (step slots 0 0 0 core.none) (v, []))
+looks : (making : Making) (slots id t : ℕ) (v : View) → v.stage ≡ Waits t → v.live ≡ true → Allows (KeepsWords making) slots id (v, []) 0 (λ n. n) (Looked (step slots 0 0 0 core.none) (v, []))
 looks making slots id t v waits live =
-    let known : Allows (Kept making) slots id (v, []) 0 (λ n. n) (λ n w. LookedAs (v, []) n w (Waits t)) =
+    let known : Allows (KeepsWords making) slots id (v, []) 0 (λ n. n) (λ n w. LookedAs (v, []) n w (Waits t)) =
     allows making slots (λ n. n) 0 id (v, []) (λ n w. MatchBool (n == t) (HasTurn (v, []) t w) (w ≡ (v, []))) live (λ turns owner place tickets home views r at. looked_case id t v waits turns owner place tickets home views r at (length turns == t) refl) in
-    subst (λ (stage : Stage). Allows (Kept making) slots id (v, []) 0 (λ n. n) (λ n w. LookedAs (v, []) n w stage)) (sym waits) known
+    subst (λ (stage : Stage). Allows (KeepsWords making) slots id (v, []) 0 (λ n. n) (λ n w. LookedAs (v, []) n w stage)) (sym waits) known
 
-pub looks_as : (making : Making) (slots id t : ℕ) (me : Mine) → me.0.stage ≡ Waits t → me.0.live ≡ true → me.1 ≡ [] → Allows (Kept making) slots id me 0 (λ n. n) (Looked (step slots 0 0 0 core.none) me)
-looks_as making slots id t me waits live none = subst (λ (c : List (ℕ × Slot)). Allows (Kept making) slots id (me.0, c) 0 (λ n. n) (Looked (step slots 0 0 0 core.none) (me.0, c))) (sym none) (looks making slots id t me.0 waits live)
+pub looks_as : (making : Making) (slots id t : ℕ) (me : Mine) → me.0.stage ≡ Waits t → me.0.live ≡ true → me.1 ≡ [] → Allows (KeepsWords making) slots id me 0 (λ n. n) (Looked (step slots 0 0 0 core.none) me)
+looks_as making slots id t me waits live none = subst (λ (c : List (ℕ × Slot)). Allows (KeepsWords making) slots id (me.0, c) 0 (λ n. n) (Looked (step slots 0 0 0 core.none) (me.0, c))) (sym none) (looks making slots id t me.0 waits live)
 
 looked_at : (me : Mine) (n t : ℕ) (w : Mine) → me.0.stage ≡ Waits t → LookedAs me n w me.0.stage → MatchBool (n == t) (HasTurn me t w) (w ≡ me)
 looked_at me n t w waits l = subst (LookedAs me n w) waits l
@@ -142,13 +142,13 @@ looked_same me n t w waits l e = let not_yet : (n == t) ≡ false = grind (arith
 
 -- ---- a plain look
 
-pub notices : (making : Making) (slots id : ℕ) (me : Mine) → me.0.stage ≡ Idle → me.0.live ≡ true → Allows (Kept making) slots id me 0 (λ n. n) (Noticed (step slots 0 0 0 core.none) me)
+pub notices : (making : Making) (slots id : ℕ) (me : Mine) → me.0.stage ≡ Idle → me.0.live ≡ true → Allows (KeepsWords making) slots id me 0 (λ n. n) (Noticed (step slots 0 0 0 core.none) me)
 notices making slots id me idle live = allows making slots (λ n. n) 0 id me (Noticed (step slots 0 0 0 core.none) me) live (λ turns owner place tickets home views r at.
     let v = me.0 in
     let f = r.each id v at in
     let w = view v.origin turns [] v.number v.mine v.other v.theirs Idle in
-    let mine : Fits v.origin turns owner place tickets id w = record { same = λ _. refl; begins = prefix_self turns; before = tt; staged = tt; own = f.own; own_place = f.own_place; other = f.other; other_place = f.other_place } in
-    let ruled : Ruled v.origin turns owner place tickets home (set views id w) = record {
+    let mine : ViewFitsRule v.origin turns owner place tickets id w = record { same = λ _. refl; begins = prefix_self turns; before = tt; staged = tt; own = f.own; own_place = f.own_place; other = f.other; other_place = f.other_place } in
+    let ruled : KeepsRule v.origin turns owner place tickets home (set views id w) = record {
       capped = r.capped;
       behind = r.behind;
       legal = r.legal;

@@ -7,9 +7,9 @@ use Rattle.trace_threads.specs.declared.making.Making.{Making}
 use Rattle.trace_threads.specs.declared.history.Entry.{Entry}
 use Rattle.trace_threads.specs.declared.turns.Stage.TheVariants.{Waits}
 use Rattle.trace_threads.specs.History.{sum, IsHeld, has, is_none}
-use Rattle.trace_threads.specs.Shared.{Shared, shared, nothing}
-use Rattle.trace_threads.specs.Turns.{Turn, Slot, Mine, entries, home_of, Known, Kept, staged, HasTurn, passed, PassedOn, Closed}
-use Rattle.trace_threads.specs.Calls.{Begun, Finishes}
+use Rattle.trace_threads.specs.Shared.{Shared, shared_of, some_making}
+use Rattle.trace_threads.specs.Turns.{Turn, Slot, Mine, entries, home_of, Known, KeepsWords, at_stage, HasTurn, view_after, PassedOn, Closed}
+use Rattle.trace_threads.specs.Calls.{Begun, FinishesState}
 use Rattle.trace_threads.proofs.queue.PassesLemmas.{passes_on}
 
 -- a held handle finds the slot full
@@ -17,10 +17,10 @@ held_some : (k : ℕ) (h : List ℕ) → has k h ≡ true → is_none h ≡ fals
 held_some k [] e = absurd cc
 held_some k (x ∷ h) e = refl
 
-pub home_held : (making : Making) (k : ℕ) (log : List Entry) → IsHeld making.made k log → home_of making log ≡ Some (shared making log)
+pub home_held : (making : Making) (k : ℕ) (log : List Entry) → IsHeld making.made k log → home_of making log ≡ Some (shared_of making log)
 home_held making k log h = rw (held_some k (sum making.made log).held h) refl
 
-home_known : (making : Making) (log mine : List Entry) (num : Option ℕ) → IsSome num → Known making log mine num → home_of making log ≡ Some (shared making log)
+home_known : (making : Making) (log mine : List Entry) (num : Option ℕ) → IsSome num → Known making log mine num → home_of making log ≡ Some (shared_of making log)
 home_known making log mine None s k = absurd (true≢false (sym s))
 home_known making log mine (Some n) s k = home_held making n log k.1
 
@@ -29,20 +29,20 @@ value_in [] = None
 value_in (x ∷ xs) = x.1
 
 abbrev state_of : Slot → Shared
-state_of None = shared nothing []
+state_of None = shared_of some_making []
 state_of (Some l) = l
 
 abbrev rest_of : List (ℕ × Slot) → List (ℕ × Slot)
 rest_of [] = []
 rest_of (x ∷ xs) = xs
 
-there_is : (m : Mine) (t : ℕ) (w : Mine) → IsSome m.0.number → HasTurn m t w → w.1 ≡ (0, Some (shared m.0.origin (entries w.0.seen))) ∷ m.1
+there_is : (m : Mine) (t : ℕ) (w : Mine) → IsSome m.0.number → HasTurn m t w → w.1 ≡ (0, Some (shared_of m.0.origin (entries w.0.seen))) ∷ m.1
 there_is m t w s h = h.slot ∙ ap (λ (x : Slot). (0, x) ∷ m.1) (home_known m.0.origin (entries w.0.seen) m.0.mine m.0.number s h.own)
 
-begun : (m : Mine) (t : ℕ) (w u : Mine) (state : Shared) → IsSome m.0.number → m.1 ≡ [] → HasTurn (staged (Waits t) m.0, m.1) t w → w.1 ≡ (0, Some state) ∷ rest w.1 → u ≡ (w.0, (0, None) ∷ rest w.1) → Begun m u t state
+begun : (m : Mine) (t : ℕ) (w u : Mine) (state : Shared) → IsSome m.0.number → m.1 ≡ [] → HasTurn (at_stage (Waits t) m.0, m.1) t w → w.1 ≡ (0, Some state) ∷ rest w.1 → u ≡ (w.0, (0, None) ∷ rest w.1) → Begun m u t state
 begun m t w u state s empty h found after =
-    let full = there_is (staged (Waits t) m.0, m.1) t w s h in
-    let same : state ≡ shared m.0.origin (entries w.0.seen) = ap (λ l. state_of (value_in l)) (sym found ∙ full) in
+    let full = there_is (at_stage (Waits t) m.0, m.1) t w s h in
+    let same : state ≡ shared_of m.0.origin (entries w.0.seen) = ap (λ l. state_of (value_in l)) (sym found ∙ full) in
     let none : rest w.1 ≡ [] = ap rest_of (sym found ∙ full) ∙ empty in
     let made : Begun m (w.0, (0, None) ∷ rest w.1) t state = record {
       view = h.view;
@@ -57,32 +57,32 @@ begun m t w u state s empty h found after =
     } in
     subst (λ (x : Mine). Begun m x t state) (sym after) made
 
-pub finishes : (making : Making) (slots id : ℕ) (m me : Mine) (state : Shared) → m.1 ≡ (0, None) ∷ [] → m.0.live ≡ true → me ≡ (m.0, (0, Some state) ∷ rest m.1) → Finishes m.0 state
-    → Allows (Kept making) slots id me 0 (λ n. (n + 1) % 2 ^ 64) (PassedOn (step slots 0 1 0 core.none) me)
+pub finishes : (making : Making) (slots id : ℕ) (m me : Mine) (state : Shared) → m.1 ≡ (0, None) ∷ [] → m.0.live ≡ true → me ≡ (m.0, (0, Some state) ∷ rest m.1) → FinishesState m.0 state
+    → Allows (KeepsWords making) slots id me 0 (λ n. (n + 1) % 2 ^ 64) (PassedOn (step slots 0 1 0 core.none) me)
 finishes making slots id m me state slot live after f =
-    let out : (0, Some state) ∷ rest m.1 ≡ (0, Some (shared m.0.origin (entries (m.0.seen ++ f.1 ∷ [])))) ∷ [] = λ i. (0, Some (f.3 i)) ∷ rest (slot i) in
-    subst (λ (x : Mine). Allows (Kept making) slots id x 0 (λ n. (n + 1) % 2 ^ 64) (PassedOn (step slots 0 1 0 core.none) x)) (sym after)
+    let out : (0, Some state) ∷ rest m.1 ≡ (0, Some (shared_of m.0.origin (entries (m.0.seen ++ f.1 ∷ [])))) ∷ [] = λ i. (0, Some (f.3 i)) ∷ rest (slot i) in
+    subst (λ (x : Mine). Allows (KeepsWords making) slots id x 0 (λ n. (n + 1) % 2 ^ 64) (PassedOn (step slots 0 1 0 core.none) x)) (sym after)
     (passes_on making slots id f.0 (m.0, (0, Some state) ∷ rest m.1) f.1 f.2 live f.5 out f.4)
 
 pub finished : (st : Step Slot) (n : ℕ) (m me w : Mine) (state : Shared) → me ≡ (m.0, (0, Some state) ∷ rest m.1) → PassedOn st me n w
-    → (turn : Turn) × (state ≡ shared m.0.origin (entries (m.0.seen ++ turn ∷ []))) × (w ≡ (passed m.0 turn, []))
+    → (turn : Turn) × (state ≡ shared_of m.0.origin (entries (m.0.seen ++ turn ∷ []))) × (w ≡ (view_after m.0 turn, []))
 finished st n m me w state after p =
     let q : PassedOn st (m.0, (0, Some state) ∷ rest m.1) n w = subst (λ (x : Mine). PassedOn st x n w) after p in
     (q.0, ap (λ l. state_of (value_in l)) q.1, q.2)
 
-module _ (o : Mine) (t : ℕ) (m w : Mine) (drew : m ≡ (staged (Waits t) o.0, o.1)) (some_number : IsSome o.0.number) (h : HasTurn m t w) where
-  turn_of : HasTurn (staged (Waits t) o.0, o.1) t w
+module _ (o : Mine) (t : ℕ) (m w : Mine) (drew : m ≡ (at_stage (Waits t) o.0, o.1)) (some_number : IsSome o.0.number) (h : HasTurn m t w) where
+  turn_of : HasTurn (at_stage (Waits t) o.0, o.1) t w
   turn_of = subst (λ (x : Mine). HasTurn x t w) drew h
 
   pub takes_out : (x : Slot) × (w.1 ≡ (0, x) ∷ rest w.1)
-  takes_out = let full = there_is (staged (Waits t) o.0, o.1) t w some_number turn_of in (Some (shared o.0.origin (entries w.0.seen)), full ∙ ap (λ (l : List (ℕ × Slot)). (0, Some (shared o.0.origin (entries w.0.seen))) ∷ rest l) (sym full))
+  takes_out = let full = there_is (at_stage (Waits t) o.0, o.1) t w some_number turn_of in (Some (shared_of o.0.origin (entries w.0.seen)), full ∙ ap (λ (l : List (ℕ × Slot)). (0, Some (shared_of o.0.origin (entries w.0.seen))) ∷ rest l) (sym full))
 
   pub never_none : (x : Slot) → w.1 ≡ (0, x) ∷ rest w.1 → x ≡ None → ⊥
-  never_none x found e = let full = there_is (staged (Waits t) o.0, o.1) t w some_number turn_of in
-      let is : Some (shared o.0.origin (entries w.0.seen)) ≡ None = ap value_in (sym full ∙ found) ∙ e in absurd cc
+  never_none x found e = let full = there_is (at_stage (Waits t) o.0, o.1) t w some_number turn_of in
+      let is : Some (shared_of o.0.origin (entries w.0.seen)) ≡ None = ap value_in (sym full ∙ found) ∙ e in absurd cc
 
   pub begun_by : (u : Mine) (x : Slot) (state : Shared) → o.1 ≡ [] → w.1 ≡ (0, x) ∷ rest w.1 → x ≡ Some state → u ≡ (w.0, (0, None) ∷ rest w.1) → Begun o u t state
   begun_by u x state empty found is after = begun o t w u state some_number empty turn_of (found ∙ ap (λ (y : Slot). (0, y) ∷ rest w.1) is) after
 
-pub closed_as : (slots t : ℕ) (last : Slot) (n : ℕ) (me w : Mine) → Closed (step slots 0 t (t + 1) (core.some last)) me n w → (turn : Turn) × (last ≡ Some (shared me.0.origin (entries (me.0.seen ++ turn ∷ [])))) × (w ≡ (passed me.0 turn, []))
-closed_as slots t last n me w p = (p.0, core.some-injective last (Some (shared me.0.origin (entries (me.0.seen ++ p.0 ∷ [])))) p.1, p.2)
+pub closed_as : (slots t : ℕ) (last : Slot) (n : ℕ) (me w : Mine) → Closed (step slots 0 t (t + 1) (core.some last)) me n w → (turn : Turn) × (last ≡ Some (shared_of me.0.origin (entries (me.0.seen ++ turn ∷ [])))) × (w ≡ (view_after me.0 turn, []))
+closed_as slots t last n me w p = (p.0, core.some-injective last (Some (shared_of me.0.origin (entries (me.0.seen ++ p.0 ∷ [])))) p.1, p.2)

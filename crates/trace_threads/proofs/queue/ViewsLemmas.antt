@@ -12,8 +12,8 @@ use Rattle.atomic_table.proofs.Lists.{at_set, set_here, set_else, at_longer}
 use Rattle.trace_threads.specs.declared.making.Making.{Making}
 use Rattle.trace_threads.specs.declared.turns.View.{View}
 use Rattle.trace_threads.specs.declared.turns.Stage.TheVariants.{Idle}
-use Rattle.trace_threads.specs.Shared.{shared}
-use Rattle.trace_threads.specs.Turns.{Turn, Earlier, Slot, AllBegin, Staged, Placed, Fits, IsHolder, IsHome, Ruled, Kept, first_view, left_of, right_of, longer, both_of, spent_view}
+use Rattle.trace_threads.specs.Shared.{shared_of}
+use Rattle.trace_threads.specs.Turns.{Turn, Earlier, Slot, AllBegin, Staged, Placed, ViewFitsRule, IsHolder, IsHome, KeepsRule, KeepsWords, first_view, left_of, right_of, longer, both_of, spent_view}
 use Rattle.trace_threads.proofs.queue.SeatsLemmas.{prefix_self, fits_set, there, same_view, home_else, no_holder, sides}
 
 abbrev is_at : Option ℕ → ℕ → Bool
@@ -41,7 +41,7 @@ fst_apart a b x y n e = n (ap (λ (p : ℕ × Bool). p.0) e)
 
 -- the fit of a view whose numbers stay where they are
 fits_moved : (making : Making) (turns : List Turn) (owner : ℕ → ℕ) (place : ℕ → ℕ × Bool) (tickets j : ℕ) (u : View) (num : Option ℕ) (from to : ℕ × Bool) → Placed place from num → from ≢ (j, false) → from ≢ (j, true)
-    → Fits making turns owner place tickets j u → Fits making turns owner (moved place num to) tickets j u
+    → ViewFitsRule making turns owner place tickets j u → ViewFitsRule making turns owner (moved place num to) tickets j u
 fits_moved making turns owner place tickets j u num from to p a b f =
     record { same = f.same; begins = f.begins; before = f.before; staged = f.staged; own = f.own; own_place = moved_else place num u.number from to (j, false) p f.own_place a; other = f.other; other_place = moved_else place num u.other from to (j, true) p f.other_place b }
 
@@ -53,14 +53,14 @@ at_end (x ∷ xs) a b (suc j) e = ⊎_elim (λ t. inl (let l = t.0 in omega (ari
 
 -- ---- split
 
-module _ (making : Making) (turns : List Turn) (owner : ℕ → ℕ) (place : ℕ → ℕ × Bool) (tickets : ℕ) (home : core.Option Slot) (views : List View) (id : ℕ) (v : View) (live : v.live ≡ true) (r : Ruled making turns owner place tickets home views) (at : get_elem? views id ≡ core.some v) where
-  fit : Fits making turns owner place tickets id v
+module _ (making : Making) (turns : List Turn) (owner : ℕ → ℕ) (place : ℕ → ℕ × Bool) (tickets : ℕ) (home : core.Option Slot) (views : List View) (id : ℕ) (v : View) (live : v.live ≡ true) (r : KeepsRule making turns owner place tickets home views) (at : get_elem? views id ≡ core.some v) where
+  fit : ViewFitsRule making turns owner place tickets id v
   fit = r.each id v at
 
-  left_fits : Fits making turns owner (moved place v.other (length views, false)) tickets id (left_of v)
+  left_fits : ViewFitsRule making turns owner (moved place v.other (length views, false)) tickets id (left_of v)
   left_fits = record { same = λ _. fit.same live; begins = fit.begins; before = fit.before; staged = fit.staged; own = fit.own; own_place = moved_else place v.other v.number (id, true) (length views, false) (id, false) fit.other_place fit.own_place (λ e. sides id (sym e)); other = tt; other_place = tt }
 
-  right_fits : Fits making turns owner (moved place v.other (length views, false)) tickets (length views) (right_of v)
+  right_fits : ViewFitsRule making turns owner (moved place v.other (length views, false)) tickets (length views) (right_of v)
   right_fits = record { same = λ _. fit.same live; begins = fit.begins; before = tt; staged = tt; own = fit.other; own_place = moved_here place v.other (length views, false); other = tt; other_place = tt }
 
   split_home : IsHome making turns home views → IsHome making turns home (set views id (left_of v) ++ right_of v ∷ [])
@@ -70,7 +70,7 @@ module _ (making : Making) (turns : List Turn) (owner : ℕ → ℕ) (place : �
       (λ same. inr (t.0, id, left_of v, at_longer (set views id (left_of v)) (right_of v ∷ []) id (left_of v) (set_here views id (left_of v) (there views id v at)), subst (λ (x : View). IsHolder x.stage) (same_view views t.1 id t.2 v same t.3 at) t.4))
       (λ apart. inr (t.0, t.1, t.2, at_longer (set views id (left_of v)) (right_of v ∷ []) t.1 t.2 (set_else views id t.1 (left_of v) apart ∙ t.3), t.4))
 
-  split_each : (j : ℕ) (u : View) → get_elem? (set views id (left_of v) ++ right_of v ∷ []) j ≡ core.some u → Fits making turns owner (moved place v.other (length views, false)) tickets j u
+  split_each : (j : ℕ) (u : View) → get_elem? (set views id (left_of v) ++ right_of v ∷ []) j ≡ core.some u → ViewFitsRule making turns owner (moved place v.other (length views, false)) tickets j u
   split_each j u e =
       ⊎_elim
       (λ (t : (j < length (set views id (left_of v))) × (get_elem? (set views id (left_of v)) j ≡ core.some u)).
@@ -79,13 +79,13 @@ module _ (making : Making) (turns : List Turn) (owner : ℕ → ℕ) (place : �
       left_fits j u t.1)
       (λ (t : (j ≡ length (set views id (left_of v))) × (right_of v ≡ u)).
       let is : j ≡ length views = t.0 ∙ length-set views id (left_of v) in
-      subst (λ (y : ℕ × View). Fits making turns owner (moved place v.other (length views, false)) tickets y.0 y.1) (λ i. (sym is i, t.1 i)) right_fits)
+      subst (λ (y : ℕ × View). ViewFitsRule making turns owner (moved place v.other (length views, false)) tickets y.0 y.1) (λ i. (sym is i, t.1 i)) right_fits)
       (at_end (set views id (left_of v)) (right_of v) u j e)
 
-  split_ruled : Ruled making turns owner (moved place v.other (length views, false)) tickets home (set views id (left_of v) ++ right_of v ∷ [])
+  split_ruled : KeepsRule making turns owner (moved place v.other (length views, false)) tickets home (set views id (left_of v) ++ right_of v ∷ [])
   split_ruled = record { capped = r.capped; behind = r.behind; legal = r.legal; at_home = split_home r.at_home; each = split_each }
 
-pub splits : (making : Making) (id : ℕ) (v : View) → v.live ≡ true → Splits (Kept making) id v (left_of v) (right_of v)
+pub splits : (making : Making) (id : ℕ) (v : View) → v.live ≡ true → Splits (KeepsWords making) id v (left_of v) (right_of v)
 splits making id v live s k at = record { turns = k.turns; owner = k.owner; place = moved k.place v.other (length s.views, false); tickets = k.tickets; home = k.home; words = k.words; homes = k.homes; ruled = split_ruled making k.turns k.owner k.place k.tickets k.home s.views id v live k.ruled at }
 
 -- ---- join
@@ -98,18 +98,18 @@ all_append : (making : Making) (xs ys : List Earlier) (turns : List Turn) → Al
 all_append making [] ys turns p q = q
 all_append making (x ∷ xs) ys turns p q = (p.0, p.1, all_append making xs ys turns p.2 q)
 
-spent_fits : (making : Making) (turns : List Turn) (owner : ℕ → ℕ) (place : ℕ → ℕ × Bool) (tickets j : ℕ) → Fits making turns owner place tickets j spent_view
+spent_fits : (making : Making) (turns : List Turn) (owner : ℕ → ℕ) (place : ℕ → ℕ × Bool) (tickets j : ℕ) → ViewFitsRule making turns owner place tickets j spent_view
 spent_fits making turns owner place tickets j = record { same = λ e. absurd cc; begins = (turns, refl); before = tt; staged = tt; own = tt; own_place = tt; other = tt; other_place = tt }
 
-module _ (making : Making) (turns : List Turn) (owner : ℕ → ℕ) (place : ℕ → ℕ × Bool) (tickets : ℕ) (home : core.Option Slot) (views : List View) (id : ℕ) (v : View) (other : ℕ) (w : View) (live : v.live ≡ true) (live' : w.live ≡ true) (r : Ruled making turns owner place tickets home views)
+module _ (making : Making) (turns : List Turn) (owner : ℕ → ℕ) (place : ℕ → ℕ × Bool) (tickets : ℕ) (home : core.Option Slot) (views : List View) (id : ℕ) (v : View) (other : ℕ) (w : View) (live : v.live ≡ true) (live' : w.live ≡ true) (r : KeepsRule making turns owner place tickets home views)
     (at : get_elem? views id ≡ core.some v) (apart : other ≢ id) (at' : get_elem? views other ≡ core.some w) (idle : v.stage ≡ Idle) (idle' : w.stage ≡ Idle) where
-  f : Fits making turns owner place tickets id v
+  f : ViewFitsRule making turns owner place tickets id v
   f = r.each id v at
 
-  f' : Fits making turns owner place tickets other w
+  f' : ViewFitsRule making turns owner place tickets other w
   f' = r.each other w at'
 
-  both_fits : Fits making turns owner (moved place w.number (id, true)) tickets id (both_of v w)
+  both_fits : ViewFitsRule making turns owner (moved place w.number (id, true)) tickets id (both_of v w)
   both_fits = record {
     same = λ _. f.same live;
     begins = longer_case v.seen w.seen turns (nat_lt (length v.seen) (length w.seen)) f.begins f'.begins;
@@ -121,15 +121,15 @@ module _ (making : Making) (turns : List Turn) (owner : ℕ → ℕ) (place : �
     other_place = moved_here place w.number (id, true);
   }
 
-  join_each : (j : ℕ) (u : View) → get_elem? (set (set views id (both_of v w)) other spent_view) j ≡ core.some u → Fits making turns owner (moved place w.number (id, true)) tickets j u
+  join_each : (j : ℕ) (u : View) → get_elem? (set (set views id (both_of v w)) other spent_view) j ≡ core.some u → ViewFitsRule making turns owner (moved place w.number (id, true)) tickets j u
   join_each = fits_set making turns owner (moved place w.number (id, true)) tickets (set views id (both_of v w)) other spent_view
       (λ j u off e. ⊎_elim
-      (λ (x : (j ≡ id) × (both_of v w ≡ u)). subst (λ (y : ℕ × View). Fits making turns owner (moved place w.number (id, true)) tickets y.0 y.1) (λ i. (sym x.0 i, x.1 i)) both_fits)
+      (λ (x : (j ≡ id) × (both_of v w ≡ u)). subst (λ (y : ℕ × View). ViewFitsRule making turns owner (moved place w.number (id, true)) tickets y.0 y.1) (λ i. (sym x.0 i, x.1 i)) both_fits)
       (λ (x : (j ≢ id) × (get_elem? views j ≡ core.some u)). fits_moved making turns owner place tickets j u w.number (other, false) (id, true) f'.own_place (fst_apart other j false false (λ s. off (sym s))) (fst_apart other j false true (λ s. off (sym s))) (r.each j u x.1))
       (at_set views id j (both_of v w) u e))
       (spent_fits making turns owner (moved place w.number (id, true)) tickets other)
 
-  join_ruled : Ruled making turns owner (moved place w.number (id, true)) tickets home (set (set views id (both_of v w)) other spent_view)
+  join_ruled : KeepsRule making turns owner (moved place w.number (id, true)) tickets home (set (set views id (both_of v w)) other spent_view)
   join_ruled = record {
     capped = r.capped;
     behind = r.behind;
@@ -138,16 +138,16 @@ module _ (making : Making) (turns : List Turn) (owner : ℕ → ℕ) (place : �
     each = join_each;
   }
 
-pub joins : (making : Making) (id : ℕ) (v : View) (other : ℕ) (w : View) → v.stage ≡ Idle → v.live ≡ true → w.stage ≡ Idle → w.live ≡ true → Joins (Kept making) id v other w (both_of v w) spent_view
+pub joins : (making : Making) (id : ℕ) (v : View) (other : ℕ) (w : View) → v.stage ≡ Idle → v.live ≡ true → w.stage ≡ Idle → w.live ≡ true → Joins (KeepsWords making) id v other w (both_of v w) spent_view
 joins making id v other w idle live idle' live' s k at apart there_it =
     let at' : get_elem? s.views other ≡ core.some w = sym (set_else s.views id other (both_of v w) apart) ∙ there_it in
     record { turns = k.turns; owner = k.owner; place = moved k.place w.number (id, true); tickets = k.tickets; home = k.home; words = k.words; homes = k.homes; ruled = join_ruled making k.turns k.owner k.place k.tickets k.home s.views id v other w live live' k.ruled at apart at' idle idle' }
 
 -- ---- make
 
-fits_first : (making : Making) (j : ℕ) (v : View) → get_elem? (first_view making ∷ []) j ≡ core.some v → Fits making [] (λ t. 0) (λ k. (0, false)) 0 j v
-fits_first making zero v e = subst (Fits making [] (λ t. 0) (λ k. (0, false)) 0 0) (core.some-injective (first_view making) v e) (record { same = λ _. refl; begins = prefix_self []; before = tt; staged = tt; own = (refl, refl); own_place = refl; other = tt; other_place = tt })
+fits_first : (making : Making) (j : ℕ) (v : View) → get_elem? (first_view making ∷ []) j ≡ core.some v → ViewFitsRule making [] (λ t. 0) (λ k. (0, false)) 0 j v
+fits_first making zero v e = subst (ViewFitsRule making [] (λ t. 0) (λ k. (0, false)) 0 0) (core.some-injective (first_view making) v e) (record { same = λ _. refl; begins = prefix_self []; before = tt; staged = tt; own = (refl, refl); own_place = refl; other = tt; other_place = tt })
 fits_first making (suc j) v e = absurd (core.some-ne-none v (sym e))
 
-pub opens : (making : Making) → Kept making (opening (0 ∷ 0 ∷ []) (Some (shared making []) ∷ []) (first_view making))
-opens making = record { turns = []; owner = λ t. 0; place = λ k. (0, false); tickets = 0; home = core.some (Some (shared making [])); words = refl; homes = refl; ruled = record { capped = omega arith; behind = omega arith; legal = refl; at_home = inl refl; each = fits_first making } }
+pub opens : (making : Making) → KeepsWords making (opening (0 ∷ 0 ∷ []) (Some (shared_of making []) ∷ []) (first_view making))
+opens making = record { turns = []; owner = λ t. 0; place = λ k. (0, false); tickets = 0; home = core.some (Some (shared_of making [])); words = refl; homes = refl; ruled = record { capped = omega arith; behind = omega arith; legal = refl; at_home = inl refl; each = fits_first making } }

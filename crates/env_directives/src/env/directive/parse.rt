@@ -1,7 +1,7 @@
 //! Reading a directive from its text, one cut after the other.
 ghost use Rattle.std.specs.Prelude.{◌≡◌, [], IfOk, Some, false, true};
 ghost use Rattle.env_directives.specs.reading.Forms.{begins, may_begin, head_alone, target_at, level_behind, unless_empty};
-ghost use Rattle.env_directives.specs.reading.Reading.{Answers, read_last, read_level, LeadsToNoPattern, SpanLeadsToNoPattern, read_end, read_close, read_fields, read_fielded, read_bracket, reading};
+ghost use Rattle.env_directives.specs.reading.Reading.{AnswersRead, read_last, read_level, LeadsToNoPattern, SpanLeadsToNoPattern, read_end, read_close, read_fields, read_fielded, read_bracket, reading};
 ghost use Rattle.trace_base.specs.declared.level.LevelFilter.TheVariants.{TRACE};
 ghost use Rattle.env_directives.specs.reading.Faults.{HasNoPattern};
 ghost use Rattle.env_directives.specs.reading.Values.{HavePatterns};
@@ -20,7 +20,7 @@ use unicode::properties::{GeneralCategory, GeneralCategoryGroup, is_alphabetic};
 // Reads a text without white space at its ends.
 #[tactic(auto, unfolding(crate::specs::reading::Reading::reading))]
 pub(super) fn read(alloc: Global, text: &str, patterns: bool) -> Result<Directive, ParseError>
-    ensures is { Answers (λ d. d) patterns (HasNoPattern text.now) result (reading patterns text.now) }
+    ensures is { AnswersRead (λ d. d) patterns (HasNoPattern text.now) result (reading patterns text.now) }
     ensures patterns { IfOk result (λ d. HavePatterns d.fields) }
 {
     if !begins(text) {
@@ -96,7 +96,7 @@ fn unless_empty(alloc: Global, text: &str) -> Result<Option<Text>, Memory>
 // Nothing may stand behind a last comma.
 #[tactic(auto, unfolding(crate::specs::reading::Reading::read_last))]
 fn read_last(directive: Directive, rest: &str) -> Result<Directive, ParseError>
-    ensures { Answers (λ d. d) false ⊥ result (read_last directive rest.now) }
+    ensures { AnswersRead (λ d. d) false ⊥ result (read_last directive rest.now) }
 {
     if rest.is_empty() {
         Ok(directive)
@@ -108,7 +108,7 @@ fn read_last(directive: Directive, rest: &str) -> Result<Directive, ParseError>
 // Behind `=`: a level, and perhaps a comma.
 #[tactic(auto, unfolding(crate::specs::reading::Reading::read_level))]
 fn read_level(directive: Directive, text: &str) -> Result<Directive, ParseError>
-    ensures { Answers (λ d. d) false ⊥ result (read_level directive text.now) }
+    ensures { AnswersRead (λ d. d) false ⊥ result (read_level directive text.now) }
 {
     let pieces = cut(text, b",");
     let Some(level) = level_behind(pieces.front) else {
@@ -134,7 +134,7 @@ fn level_behind(text: &str) -> Option<LevelFilter>
 // Behind a bracket: the end, or a level.
 #[tactic(auto, unfolding(crate::specs::reading::Reading::read_end))]
 fn read_end(directive: Directive, rest: &str) -> Result<Directive, ParseError>
-    ensures { Answers (λ d. d) false ⊥ result (read_end directive rest.now) }
+    ensures { AnswersRead (λ d. d) false ⊥ result (read_end directive rest.now) }
 {
     if rest.is_empty() {
         return Ok(directive);
@@ -148,7 +148,7 @@ fn read_end(directive: Directive, rest: &str) -> Result<Directive, ParseError>
 // Behind a closing brace: the closing bracket.
 #[tactic(auto, unfolding(crate::specs::reading::Reading::read_close))]
 fn read_close(directive: Directive, rest: &str) -> Result<Directive, ParseError>
-    ensures { Answers (λ d. d) false ⊥ result (read_close directive rest.now) }
+    ensures { AnswersRead (λ d. d) false ⊥ result (read_close directive rest.now) }
 {
     match rest.strip_prefix(']') {
         Some(rest) => read_end(directive, rest),
@@ -164,7 +164,7 @@ fn read_bracket(
     text: &str,
     patterns: bool,
 ) -> Result<Directive, ParseError>
-    ensures is { Answers (λ d. d) patterns (SpanLeadsToNoPattern text.now) result (read_bracket patterns directive text.now) }
+    ensures is { AnswersRead (λ d. d) patterns (SpanLeadsToNoPattern text.now) result (read_bracket patterns directive text.now) }
     ensures patterns { HavePatterns directive.fields → IfOk result (λ d. HavePatterns d.fields) }
 {
     let pieces = cut(text, b"]{");
@@ -182,7 +182,7 @@ fn read_named(
     span: &str,
     rest: &str,
 ) -> Result<Directive, ParseError>
-    ensures { Answers (λ d. d) false ⊥ result (read_end (record directive { in_span = Some span.now }) rest.now) }
+    ensures { AnswersRead (λ d. d) false ⊥ result (read_end (record directive { in_span = Some span.now }) rest.now) }
 {
     let in_span = Some(text_of(alloc, span)?);
     read_end(
@@ -202,7 +202,7 @@ fn read_fielded(
     rest: &str,
     patterns: bool,
 ) -> Result<Directive, ParseError>
-    ensures is { Answers (λ d. d) patterns (LeadsToNoPattern rest.now) result (read_fielded (record directive { in_span = unless_empty span.now }) (read_fields patterns [] rest.now)) }
+    ensures is { AnswersRead (λ d. d) patterns (LeadsToNoPattern rest.now) result (read_fielded (record directive { in_span = unless_empty span.now }) (read_fields patterns [] rest.now)) }
     ensures patterns { IfOk result (λ d. HavePatterns d.fields) }
 {
     let in_span = unless_empty(alloc, span)?;
@@ -223,7 +223,7 @@ fn read_fields<'t>(
     text: &'t str,
     patterns: bool,
 ) -> Result<(Items<Match>, &'t str), ParseError>
-    ensures is { Answers (λ r. (r.0, r.1.now)) patterns (LeadsToNoPattern text.now) result (read_fields patterns [] text.now) }
+    ensures is { AnswersRead (λ r. (r.0, r.1.now)) patterns (LeadsToNoPattern text.now) result (read_fields patterns [] text.now) }
     ensures patterns { IfOk result (λ r. HavePatterns r.0) }
 {
     let mut fields = Items::new(alloc);

@@ -1,7 +1,7 @@
 -- By the rule for what a filter stands for.
 use Rattle.env_filter.specs.Filtering.{plain}
-use Rattle.env_filter.specs.Gating.{admitted}
+use Rattle.env_filter.specs.Gating.{gate_is_admitted}
 use Rattle.env_filter.proofs.laws.gates.Goals as goal
 
 pub returns : goal.returns
-returns c f lane callsite w = admitted (plain f) lane callsite w
+returns c f lane callsite w = gate_is_admitted (plain f) lane callsite w

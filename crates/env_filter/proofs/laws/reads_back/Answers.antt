@@ -1,7 +1,7 @@
 -- By the law of what a filter prints.
 use Rattle.std.proofs.Common.{[], None, false, sym, subst}
 use Rattle.env_filter.specs.texts.Building.{IsFilterOf}
-use Rattle.env_filter.specs.Filtering.{Filtered}
+use Rattle.env_filter.specs.Filtering.{FilterState}
 use Rattle.env_filter.specs.texts.Printing.{IsReadBack, fixed_builder, printed_of, text_of}
 use Rattle.env_filter.specs.Tables.{statics_of, dynamics_of, filter_of}
 use Rattle.env_filter.proofs.printed.TablesLemmas.{filter_again, each_printed}
@@ -13,7 +13,7 @@ pub returns-clause-alone : goal.returns-clause-alone
 returns-clause-alone c = read_back_each
 
 pub returns-clause-same : goal.returns-clause-same
-returns-clause-same c text ignored f utf8 was no_zero own = subst (λ (g : Filtered). IsFilterOf fixed_builder (text_of g) [] g) (sym was.is) again
+returns-clause-same c text ignored f utf8 was no_zero own = subst (λ (g : FilterState). IsFilterOf fixed_builder (text_of g) [] g) (sym was.is) again
   where
     again : IsFilterOf fixed_builder (text_of (filter_of false None was.directives)) [] (filter_of false None was.directives)
     again = record {

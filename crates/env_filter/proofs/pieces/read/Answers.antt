@@ -1,14 +1,14 @@
 -- One piece more is read.
 use Rattle.std.proofs.Common.{List, ap, ◌∙◌, ℕ}
 use Rattle.std.specs.Borrow.{Bor}
-use Rattle.env_filter.specs.texts.Pieces.{shown}
+use Rattle.env_filter.specs.texts.Pieces.{texts_of}
 use Rattle.env_filter.proofs.printed.PiecesLemmas.{reads_first, reads_more, reads_last}
 use Rattle.env_filter.proofs.pieces.read.Goals as goal
 
 pub loop-at-init : goal.loop-at-init
 loop-at-init c =
     reads_first c.args.patterns c.args.text.now c.deref-piece-items.result.now c.new-directives.result.items c.new-ignored.result.items c.new-directives.ensures.items c.new-ignored.ensures.items
-    (ap (λ (ps : List (Bor (List ℕ))). shown ps) c.deref-piece-items.ensures.value ∙ c.in_ok-pieces.ensures)
+    (ap (λ (ps : List (Bor (List ℕ))). texts_of ps) c.deref-piece-items.ensures.value ∙ c.in_ok-pieces.ensures)
 
 pub loop-at-preserved : goal.loop-at-preserved
 loop-at-preserved c =

@@ -2,8 +2,8 @@
 use Rattle.std.proofs.Common.{ℕ, List, ◌+◌, ◌++◌, drop}
 use Rattle.env_directives.specs.declared.env.directive.Directive.{Directive}
 use Rattle.env_filter.specs.declared.pieces.Ignored.{Ignored}
-use Rattle.env_filter.specs.texts.Pieces.{shown, ReadsAll, ReadsText}
+use Rattle.env_filter.specs.texts.Pieces.{texts_of, ReadsAll, ReadsText}
 use Rattle.env_filter.proofs.pieces.read.Given as goal
 
 abbrev pub invariant-loop-at : goal.invariant-loop-at
-invariant-loop-at l = (ds : List Directive) (is : List Ignored) → ReadsAll l.patterns (l.at + 1) (drop l.at (shown l.piece-items)) ds is → ReadsText l.patterns l.text (l.directives.items ++ ds) (l.ignored.items ++ is)
+invariant-loop-at l = (ds : List Directive) (is : List Ignored) → ReadsAll l.patterns (l.at + 1) (drop l.at (texts_of l.piece-items)) ds is → ReadsText l.patterns l.text (l.directives.items ++ ds) (l.ignored.items ++ is)

@@ -1,7 +1,7 @@
 -- By what a call makes of the stack.
 use Rattle.otel_layer.proofs.Replaying.{call_recording, layered_recording}
-use Rattle.otel_layer.specs.Recording.{recorded}
+use Rattle.otel_layer.specs.Recording.{layer_recording}
 use Rattle.otel_layer.proofs.recording.calls.Goals as goal
 
 pub returns : goal.returns
-returns c = λ old new dispatch call r. call_recording _ _ recorded layered_recording old new dispatch call r
+returns c = λ old new dispatch call r. call_recording _ _ layer_recording layered_recording old new dispatch call r

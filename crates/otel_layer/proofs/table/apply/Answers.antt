@@ -1,6 +1,6 @@
 -- The span is found, or isn't known.
 use Rattle.std.proofs.Common.{◌≡◌, Some, None, get_or, sym, refl, ◌∙◌}
-use Rattle.otel_state.specs.States.{changed}
+use Rattle.otel_state.specs.States.{after_op}
 use Rattle.otel_layer.proofs.Placing.{no_gap, found_read, found_update, found_same, found_ids, not_read, on_ok, on_err}
 use Rattle.otel_layer.proofs.Applying.{applies_found, applies_none}
 use Rattle.otel_layer.proofs.table.apply.Goals as goal
@@ -14,7 +14,7 @@ returns-in-Some-state-clause-did c =
     let was : (get_or xs n d).state ≡ Some c.in-Some-state.state = c.in-Some-state.is in
     let s = c.in-Some-state.state in
     applies_found _ _ _ _ c.args.id c.args.at c.args.op c.apply.result (found_read (λ s. s.told) c.args.id xs n d s place was)
-    (on_ok c.apply.result _ _ (λ h. found_update c.args.id (λ t. changed t c.args.at c.args.op) xs n d _ s c.apply.new.self place was refl refl h) c.apply.ensures.did) c.apply.ensures.reply
+    (on_ok c.apply.result _ _ (λ h. found_update c.args.id (λ t. after_op t c.args.at c.args.op) xs n d _ s c.apply.new.self place was refl refl h) c.apply.ensures.did) c.apply.ensures.reply
     (on_err c.apply.result _ _ (λ h. found_same (λ s. s.told) c.args.id xs n d _ s c.apply.new.self place was refl refl h) c.apply.ensures.memory_leaves) c.apply.ensures.memory
 
 pub returns-in-Some-state-clause-ids : goal.returns-in-Some-state-clause-ids

@@ -3,7 +3,7 @@ use Rattle.std.proofs.Common.{rules, List, sym, ap, subst, ◌∙◌}
 use Rattle.std.specs.Prelude.{true}
 use Rattle.std.proofs.lemmas.Fn.{filter_same}
 use Rattle.otel_layer.specs.declared.table.Entry.{Entry}
-use Rattle.otel_layer.specs.Table.{tolds, MayRise}
+use Rattle.otel_layer.specs.Table.{all_data, MayRise}
 use Rattle.otel_layer.proofs.Gaps.{is_kept, closed_read}
 use Rattle.otel_layer.proofs.Rising.{filtered_rise}
 use Rattle.otel_layer.proofs.table.close_gaps.Goals as goal
@@ -11,7 +11,7 @@ use Rattle.otel_layer.proofs.table.close_gaps.Goals as goal
 pub returns-then-known-len-clause-told : goal.returns-then-known-len-clause-told
 returns-then-known-len-clause-told c =
     let left = filter_same _ is_kept _ (λ x b f' k. search rules) c.args.entries.now.items _ c.retain.ensures.filtered in
-    ap (λ (xs : List Entry). tolds xs) left ∙ closed_read (λ s. s.told) c.args.entries.now.items
+    ap (λ (xs : List Entry). all_data xs) left ∙ closed_read (λ s. s.told) c.args.entries.now.items
 
 pub returns-then-known-len-clause-rises : goal.returns-then-known-len-clause-rises
 returns-then-known-len-clause-rises c =

@@ -1,6 +1,6 @@
 -- The span is found, or isn't known.
 use Rattle.std.proofs.Common.{◌≡◌, Some, None, get_or, sym, refl, ◌∙◌}
-use Rattle.otel_state.specs.States.{changed}
+use Rattle.otel_state.specs.States.{after_op}
 use Rattle.otel_layer.proofs.Placing.{no_gap, found_read, found_update, found_same, found_ids, not_updated}
 use Rattle.otel_layer.proofs.table.put.Goals as goal
 
@@ -20,7 +20,7 @@ returns-in-Some-state-clause-told c =
     let d = c.index-entries-place.result in
     let place = sym c.find.ensures ∙ c.in-Some.is in
     let was : (get_or xs n d).state ≡ Some c.in-Some-state.state = c.in-Some-state.is in
-    found_update c.args.id (λ t. changed t c.args.at c.args.op) xs n d _ c.in-Some-state.state c.put.new.self place was refl refl c.put.ensures.told
+    found_update c.args.id (λ t. after_op t c.args.at c.args.op) xs n d _ c.in-Some-state.state c.put.new.self place was refl refl c.put.ensures.told
 
 pub returns-in-Some-state-clause-rooms : goal.returns-in-Some-state-clause-rooms
 returns-in-Some-state-clause-rooms c =
@@ -49,4 +49,4 @@ unreachable-requires c =
     no_gap c.args.id xs n d place gap
 
 pub returns-in-None-clause-told : goal.returns-in-None-clause-told
-returns-in-None-clause-told c = sym (not_updated c.args.id (λ t. changed t c.args.at c.args.op) c.args.entries.now (sym c.find.ensures ∙ c.in-None.is))
+returns-in-None-clause-told c = sym (not_updated c.args.id (λ t. after_op t c.args.at c.args.op) c.args.entries.now (sym c.find.ensures ∙ c.in-None.is))

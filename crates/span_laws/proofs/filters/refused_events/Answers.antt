@@ -3,9 +3,9 @@ use Rattle.std.specs.Prelude.{Bool}
 use Rattle.otel_metrics.specs.Measures.{measures}
 use Rattle.otel_state.specs.fields.EventFields.{event_of}
 use Rattle.span_script.specs.calls.Here.{ops_on, ops_effect}
-use Rattle.span_script.specs.calls.Events.{if_told, counted_ops}
+use Rattle.span_script.specs.calls.Events.{if_enabled, counted_ops}
 use Rattle.span_script.specs.declared.reply.Reply.TheVariants as reply
 use Rattle.span_laws.proofs.filters.refused_events.Goals as goal
 
 pub returns : goal.returns
-returns c = λ stands site values reached no. ap (λ (b : Bool). record (ops_effect stands (reply.Enabled b) (if_told b (ops_on reached (counted_ops stands.setup.counting site (event_of site values stands.setup.layer stands.at))))) { measures = if_told b (measures site values) }) no
+returns c = λ stands site values reached no. ap (λ (b : Bool). record (ops_effect stands (reply.Enabled b) (if_enabled b (ops_on reached (counted_ops stands.setup.counting site (event_of site values stands.setup.layer stands.at))))) { measures = if_enabled b (measures site values) }) no

@@ -4,7 +4,7 @@ use Rattle.std.proofs.lemmas.List.Sums.{fold_push}
 use Rattle.span_script.specs.calls.Here.{Here}
 use Rattle.span_script.specs.calls.Filter.{reload_effect}
 use Rattle.span_script.specs.Setups.{Setup}
-use Rattle.span_script.specs.Tables.{History, Tables, no_tables, after, tables}
+use Rattle.span_script.specs.Tables.{History, Tables, no_tables, after_effect, tables}
 use Rattle.span_laws.specs.Laws.{IsHistory, none, more}
 use Rattle.span_laws.proofs.filters.reloads.Goals as goal
 
@@ -12,12 +12,12 @@ pub returns-clause-gate : goal.returns-clause-gate
 returns-clause-gate c = λ setup t stands lane text site. refl
 
 -- nothing is recorded of closed spans between two effects
-others : (setup : Setup) (h : History) (stands : Here) (text : List ℕ) → IsHistory setup h → after (tables setup h) (reload_effect stands text) ≡ record (tables setup h) { filter = Some text; heard = []; moment = stands.at }
+others : (setup : Setup) (h : History) (stands : Here) (text : List ℕ) → IsHistory setup h → after_effect (tables setup h) (reload_effect stands text) ≡ record (tables setup h) { filter = Some text; hooks = []; moment = stands.at }
 others setup _ stands text none = refl
 others setup _ stands text (more h request e before is) =
-    let t = after (tables setup h) e in
-    subst (λ (x : Tables). after x (reload_effect stands text) ≡ record x { filter = Some text; heard = []; moment = stands.at }) (sym (fold_push after (no_tables setup) h e))
-    (ap (λ (ids : List ℕ). record t { closed = ids; filter = Some text; heard = []; moment = stands.at }) (append-nil t.closed))
+    let t = after_effect (tables setup h) e in
+    subst (λ (x : Tables). after_effect x (reload_effect stands text) ≡ record x { filter = Some text; hooks = []; moment = stands.at }) (sym (fold_push after_effect (no_tables setup) h e))
+    (ap (λ (ids : List ℕ). record t { closed = ids; filter = Some text; hooks = []; moment = stands.at }) (append-nil t.closed))
 
 pub returns-clause-others : goal.returns-clause-others
 returns-clause-others c = others

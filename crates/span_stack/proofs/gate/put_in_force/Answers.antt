@@ -3,8 +3,8 @@ use Rattle.std.proofs.Common.{rules, None, []}
 use Rattle.trace_base.specs.Gate.{AreSame}
 use Rattle.otel_layer.specs.Recording.{no_recording}
 use Rattle.env_filter.proofs.kept.StackedLemmas.{same_in_place}
-use Rattle.span_stack.specs.Measured.{waiting}
-use Rattle.span_stack.specs.Reading.{recorded, counts_by, measured, in_place}
+use Rattle.span_stack.specs.Measured.{waiting_measures}
+use Rattle.span_stack.specs.Reading.{stack_recording, counts_by, stack_measures, in_place}
 use Rattle.span_stack.proofs.worlds.ExchangesLemmas.{room_over, put_back, filter_put, read_put, rest_put, alike_put, read_left, alike_left}
 use Rattle.span_stack.proofs.worlds.CacheLemmas.{middle_room, middle_recorded, middle_counter, middle_same, middle_counts, middle_measures, current_left}
 use Rattle.span_stack.proofs.gate.put_in_force.Goals as goal
@@ -19,7 +19,7 @@ pub returns-in-Ok-clause-counter : goal.returns-in-Ok-clause-counter
 returns-in-Ok-clause-counter c = read_put middle_room c.args.world.now c.exchange.new.world c.rebuild_interest.new.self c.args.dispatch c.args.filter c.exchange.new.filter c.exchange.ensures c.rebuild_interest.ensures.same middle_counter None middle_counts
 
 pub returns-in-Ok-clause-measures : goal.returns-in-Ok-clause-measures
-returns-in-Ok-clause-measures c = read_put middle_room c.args.world.now c.exchange.new.world c.rebuild_interest.new.self c.args.dispatch c.args.filter c.exchange.new.filter c.exchange.ensures c.rebuild_interest.ensures.same waiting [] middle_measures
+returns-in-Ok-clause-measures c = read_put middle_room c.args.world.now c.exchange.new.world c.rebuild_interest.new.self c.args.dispatch c.args.filter c.exchange.new.filter c.exchange.ensures c.rebuild_interest.ensures.same waiting_measures [] middle_measures
 
 pub returns-in-Ok-clause-others : goal.returns-in-Ok-clause-others
 returns-in-Ok-clause-others c = alike_put middle_room c.args.world.now c.exchange.new.world c.rebuild_interest.new.self c.args.dispatch c.args.filter c.exchange.new.filter c.exchange.ensures c.rebuild_interest.ensures.same _ _ _ _ c.room.ensures c.requires.new c.requires.in_place
@@ -32,13 +32,13 @@ abbrev all_left : (c : goal.After-drop-other-inside-3) → AreSame (room_over mi
 all_left c = put_back middle_room c.args.world.now c.exchange.new.world c.rebuild_interest.new.self c.exchange-in-Err.new.world c.args.dispatch c.args.filter c.exchange.new.filter c.exchange-in-Err.new.filter c.exchange.ensures c.rebuild_interest.ensures.same c.exchange-in-Err.ensures
 
 pub returns-clause-recording : goal.returns-clause-recording
-returns-clause-recording c = read_left (room_over middle_room) c.args.world.now c.exchange-in-Err.new.world c.args.dispatch c.exchange.ensures.before c.exchange.ensures.there (all_left c) recorded no_recording (λ s t h. middle_same s.inner t.inner h.0)
+returns-clause-recording c = read_left (room_over middle_room) c.args.world.now c.exchange-in-Err.new.world c.args.dispatch c.exchange.ensures.before c.exchange.ensures.there (all_left c) stack_recording no_recording (λ s t h. middle_same s.inner t.inner h.0)
 
 pub returns-clause-counter : goal.returns-clause-counter
 returns-clause-counter c = read_left (room_over middle_room) c.args.world.now c.exchange-in-Err.new.world c.args.dispatch c.exchange.ensures.before c.exchange.ensures.there (all_left c) counts_by None (λ s t h. middle_counts s.inner t.inner h.0)
 
 pub returns-clause-measures : goal.returns-clause-measures
-returns-clause-measures c = read_left (room_over middle_room) c.args.world.now c.exchange-in-Err.new.world c.args.dispatch c.exchange.ensures.before c.exchange.ensures.there (all_left c) measured [] (λ s t h. middle_measures s.inner t.inner h.0)
+returns-clause-measures c = read_left (room_over middle_room) c.args.world.now c.exchange-in-Err.new.world c.args.dispatch c.exchange.ensures.before c.exchange.ensures.there (all_left c) stack_measures [] (λ s t h. middle_measures s.inner t.inner h.0)
 
 pub returns-clause-others : goal.returns-clause-others
 returns-clause-others c = alike_left (room_over middle_room) c.args.world.now c.exchange-in-Err.new.world c.args.dispatch c.exchange.ensures.before c.exchange.ensures.there (all_left c) _ _ _ _ c.room.ensures

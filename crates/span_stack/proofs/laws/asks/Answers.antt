@@ -3,10 +3,10 @@ use Rattle.std.proofs.Common.{ap, sym, ◌∙◌, None, [], Option}
 use Rattle.std.specs.Option.{option_map}
 use Rattle.otel_layer.specs.Recording.{RecordsPart, no_recording}
 use Rattle.env_filter.specs.declared.reload.Layer.{Layer}
-use Rattle.env_filter.specs.Filtering.{Filtering, plain}
+use Rattle.env_filter.specs.Filtering.{FilterWithRoom, plain}
 use Rattle.span_stack.specs.declared.measuring.Measuring.{Measuring}
 use Rattle.span_stack.specs.Counters.{core_of}
-use Rattle.span_stack.specs.Measured.{waiting}
+use Rattle.span_stack.specs.Measured.{waiting_measures}
 use Rattle.span_stack.specs.Reading.{in_place, stack_interest, interest_over}
 use Rattle.span_stack.specs.Through.{below}
 use Rattle.span_stack.proofs.hooks.CountersLemmas.{plain_counter, base_recorded, base_counter, base_part}
@@ -20,12 +20,12 @@ returns c = record {
       along_two (λ before later. RecordsPart before call later) (seen_two base_recorded no_recording old dispatch) (seen_two base_recorded no_recording new dispatch)
       (read_two (λ before later. RecordsPart before call later) base_recorded no_recording (λ s t d. base_part (core_of s.layer) call (core_of t.layer) d.0.0) (below (below old)) (below (below new)) dispatch
       (c.of_stack.ensures.asks old new dispatch call r).inner);
-  filter = λ old new dispatch call r. kept_place in_place None (λ s t e. ap (λ (l : Layer Filtering). option_map plain l.inner) e) old new dispatch (c.of_stack.ensures.asks old new dispatch call r).filter;
+  filter = λ old new dispatch call r. kept_place in_place None (λ s t e. ap (λ (l : Layer FilterWithRoom). option_map plain l.inner) e) old new dispatch (c.of_stack.ensures.asks old new dispatch call r).filter;
   counter = λ old new dispatch call r. sym (seen_two base_counter None new dispatch)
-      ∙ kept_place base_counter None (λ s t d. ap (λ (o : Option Filtering). plain_counter o) d.0.1) (below (below old)) (below (below new)) dispatch (c.of_stack.ensures.asks old new dispatch call r).inner
+      ∙ kept_place base_counter None (λ s t d. ap (λ (o : Option FilterWithRoom). plain_counter o) d.0.1) (below (below old)) (below (below new)) dispatch (c.of_stack.ensures.asks old new dispatch call r).inner
       ∙ seen_two base_counter None old dispatch;
-  measures = λ old new dispatch call r. sym (seen_below waiting [] new dispatch)
-      ∙ kept_place waiting [] (λ s t e. ap (λ (l : Measuring). l.layer.measures) e) (below old) (below new) dispatch (c.of_stack.ensures.asks old new dispatch call r).measures
-      ∙ seen_below waiting [] old dispatch;
-  current = λ old new dispatch call r. fresh_later stack_interest _ (λ s t e. ap (λ (l : Layer Filtering). interest_over l) e) old new dispatch (c.of_stack.ensures.asks old new dispatch call r).filter;
+  measures = λ old new dispatch call r. sym (seen_below waiting_measures [] new dispatch)
+      ∙ kept_place waiting_measures [] (λ s t e. ap (λ (l : Measuring). l.layer.measures) e) (below old) (below new) dispatch (c.of_stack.ensures.asks old new dispatch call r).measures
+      ∙ seen_below waiting_measures [] old dispatch;
+  current = λ old new dispatch call r. fresh_later stack_interest _ (λ s t e. ap (λ (l : Layer FilterWithRoom). interest_over l) e) old new dispatch (c.of_stack.ensures.asks old new dispatch call r).filter;
 }

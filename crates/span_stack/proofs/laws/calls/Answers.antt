@@ -4,7 +4,7 @@ use Rattle.otel_layer.specs.Recording.{no_recording}
 use Rattle.otel_metrics.specs.declared.measure.Measure.{Measure}
 use Rattle.span_handles.specs.Worlds.{no_spans}
 use Rattle.span_stack.specs.Counting.{RecordsCallBy}
-use Rattle.span_stack.specs.Measured.{waiting, measured_by}
+use Rattle.span_stack.specs.Measured.{waiting_measures, measured_by}
 use Rattle.span_stack.specs.Through.{below}
 use Rattle.span_stack.proofs.hooks.CountersLemmas.{base_spans, base_recorded, base_counter, base_records, counter_kept}
 use Rattle.span_stack.proofs.worlds.ViewsLemmas.{seen_below, seen_two, along_four, read_step, kept_place}
@@ -20,8 +20,8 @@ returns c = record {
   counter = λ old new dispatch call r. sym (seen_two base_counter None new dispatch)
       ∙ kept_place base_counter None (λ s t d. counter_kept s call t d) (below (below old)) (below (below new)) dispatch (c.of_stack.ensures.calls old new dispatch call r).inner
       ∙ seen_two base_counter None old dispatch;
-  measures = λ old new dispatch call r. sym (seen_below waiting [] new dispatch)
+  measures = λ old new dispatch call r. sym (seen_below waiting_measures [] new dispatch)
       ∙ (c.of_stack.ensures.calls old new dispatch call r).measures
-      ∙ ap (λ (ms : List Measure). ms ++ measured_by call) (seen_below waiting [] old dispatch);
+      ∙ ap (λ (ms : List Measure). ms ++ measured_by call) (seen_below waiting_measures [] old dispatch);
   current = λ old new dispatch call r. (c.of_stack.ensures.calls old new dispatch call r).fresh;
 }

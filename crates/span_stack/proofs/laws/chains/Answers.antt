@@ -2,7 +2,7 @@
 use Rattle.std.proofs.Common.{None, Some, [], sym, ◌∙◌}
 use Rattle.otel_layer.specs.Recording.{no_recording, RecordsChain}
 use Rattle.span_handles.specs.Worlds.{no_spans}
-use Rattle.span_stack.specs.Measured.{waiting}
+use Rattle.span_stack.specs.Measured.{waiting_measures}
 use Rattle.span_stack.specs.Through.{below}
 use Rattle.span_stack.proofs.hooks.CountersLemmas.{BaseDoes, base_spans, base_recorded, base_counter, base_chain, counter_kept}
 use Rattle.span_stack.proofs.worlds.FreshInterestsLemmas.{chain_keeps}
@@ -18,6 +18,6 @@ returns c = record {
   counter = λ old new dispatch at id r. sym (seen_two base_counter None new dispatch)
       ∙ kept_place base_counter None (λ s t d. chain_keeps base_spans BaseDoes base_counter counter_kept at (Some id) s t d) (below (below old)) (below (below new)) dispatch (c.of_stack.ensures.chains old new dispatch at id r).inner
       ∙ seen_two base_counter None old dispatch;
-  measures = λ old new dispatch at id r. sym (seen_below waiting [] new dispatch) ∙ (c.of_stack.ensures.chains old new dispatch at id r).measures ∙ seen_below waiting [] old dispatch;
+  measures = λ old new dispatch at id r. sym (seen_below waiting_measures [] new dispatch) ∙ (c.of_stack.ensures.chains old new dispatch at id r).measures ∙ seen_below waiting_measures [] old dispatch;
   current = λ old new dispatch at id r. (c.of_stack.ensures.chains old new dispatch at id r).fresh;
 }

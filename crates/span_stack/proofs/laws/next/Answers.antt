@@ -3,13 +3,13 @@ use Rattle.std.proofs.Common.{◌≡◌, None, length, sym}
 use Rattle.trace_base.specs.Spans.{Spans}
 use Rattle.span_handles.specs.Worlds.{no_spans}
 use Rattle.otel_layer.specs.Recording.{Recording, no_recording}
-use Rattle.otel_layer.specs.Table.{told_at}
-use Rattle.span_stack.specs.Reading.{Stacks, recorded}
+use Rattle.otel_layer.specs.Table.{data_at}
+use Rattle.span_stack.specs.Reading.{Stacks, stack_recording}
 use Rattle.span_stack.proofs.hooks.CountersLemmas.{base_next}
 use Rattle.span_stack.proofs.worlds.ViewsLemmas.{see, along_two}
 use Rattle.span_stack.proofs.laws.next.Goals as goal
 
 pub returns : goal.returns
 returns c = λ world dispatch s there whole.
-    along_two (λ (spans : Spans) (recording : Recording). told_at (length spans.made) recording.spans ≡ None)
-    (sym (see (λ (p : Stacks). p.inner.inner.inner.spans) no_spans world dispatch s there)) (sym (see recorded no_recording world dispatch s there)) (base_next s.inner.inner whole.inner.inner.in_step)
+    along_two (λ (spans : Spans) (recording : Recording). data_at (length spans.made) recording.spans ≡ None)
+    (sym (see (λ (p : Stacks). p.inner.inner.inner.spans) no_spans world dispatch s there)) (sym (see stack_recording no_recording world dispatch s there)) (base_next s.inner.inner whole.inner.inner.in_step)

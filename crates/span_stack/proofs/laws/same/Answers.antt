@@ -1,7 +1,7 @@
 -- By what spare room is to the registry with its layer, to the filter, to the measures, and to the interests.
 use Rattle.std.proofs.Common.{None, [], sym, ◌∙◌}
 use Rattle.otel_layer.specs.Recording.{no_recording}
-use Rattle.span_stack.specs.Measured.{waiting}
+use Rattle.span_stack.specs.Measured.{waiting_measures}
 use Rattle.span_stack.specs.Through.{below}
 use Rattle.span_stack.proofs.hooks.CountersLemmas.{base_recorded, base_counter, base_same, counter_same}
 use Rattle.span_stack.proofs.worlds.ViewsLemmas.{seen_below, seen_two, kept_place}
@@ -16,6 +16,6 @@ returns c = record {
   counter = λ old new dispatch r. sym (seen_two base_counter None new dispatch)
       ∙ kept_place base_counter None counter_same (below (below old)) (below (below new)) dispatch (c.of_stack.ensures.same old new dispatch r).inner
       ∙ seen_two base_counter None old dispatch;
-  measures = λ old new dispatch r. sym (seen_below waiting [] new dispatch) ∙ (c.of_stack.ensures.same old new dispatch r).measures ∙ seen_below waiting [] old dispatch;
+  measures = λ old new dispatch r. sym (seen_below waiting_measures [] new dispatch) ∙ (c.of_stack.ensures.same old new dispatch r).measures ∙ seen_below waiting_measures [] old dispatch;
   current = λ old new dispatch r. (c.of_stack.ensures.same old new dispatch r).fresh;
 }

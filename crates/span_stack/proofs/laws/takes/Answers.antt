@@ -1,18 +1,18 @@
 -- A record is all that is gone.
 use Rattle.std.proofs.Common.{◌≡◌, ℕ, ◌+◌, Bool, false, refl, ap, sym, subst, None}
 use Rattle.std.specs.Prelude.{◌||◌, ◌&&◌}
-use Rattle.trace_base.specs.layers.Hooks.{Seen}
+use Rattle.trace_base.specs.layers.Hooks.{KnownSpans}
 use Rattle.span_registry.specs.Both.{InStep}
 use Rattle.otel_layer.specs.Recording.{no_recording}
-use Rattle.env_filter.specs.Reloading.{if_there, none_kept}
-use Rattle.span_stack.specs.Reading.{recorded, counts_by, stack_interest, without_first}
+use Rattle.env_filter.specs.Reloading.{layer_or, none_kept}
+use Rattle.span_stack.specs.Reading.{stack_recording, counts_by, stack_interest, without_first}
 use Rattle.span_stack.proofs.worlds.FreshInterestsLemmas.{fresh_later}
 use Rattle.span_stack.proofs.hooks.TakenRecordsLemmas.{one_less, taken_recorded, taken_counts_by, active_left, kept_left, seen_left, whole_left}
 use Rattle.span_stack.proofs.worlds.ViewsLemmas.{leave_alike, kept_place, read_two}
 use Rattle.span_stack.proofs.laws.takes.Goals as goal
 
 pub returns-clause-recording : goal.returns-clause-recording
-returns-clause-recording c = λ old new dispatch r. read_two one_less recorded no_recording taken_recorded old new dispatch r
+returns-clause-recording c = λ old new dispatch r. read_two one_less stack_recording no_recording taken_recorded old new dispatch r
 
 pub returns-clause-counter : goal.returns-clause-counter
 returns-clause-counter c = λ old new dispatch r. kept_place counts_by None taken_counts_by old new dispatch r
@@ -22,14 +22,14 @@ returns-clause-current c = λ old new dispatch r. fresh_later stack_interest _ (
 
 pub returns-clause-others : goal.returns-clause-others
 returns-clause-others c = λ old new dispatch r. leave_alike _ _ _ _ without_first (λ s. refl)
-    (λ s. ap (λ (b : Bool). if_there false (λ _. false) s.layer.inner || (b || false)) (active_left s.inner.inner.layer))
-    (λ s. (let upon : (ℕ → ℕ → ℕ) → ℕ → ℕ → ℕ = λ k lane number. if_there none_kept (λ _ lane number. 0) s.layer.inner lane number + (0 + (k lane number + 0)) in ap upon (kept_left s.inner.inner.layer)))
+    (λ s. ap (λ (b : Bool). layer_or false (λ _. false) s.layer.inner || (b || false)) (active_left s.inner.inner.layer))
+    (λ s. (let upon : (ℕ → ℕ → ℕ) → ℕ → ℕ → ℕ = λ k lane number. layer_or none_kept (λ _ lane number. 0) s.layer.inner lane number + (0 + (k lane number + 0)) in ap upon (kept_left s.inner.inner.layer)))
     (λ s w. record {
       inner = record {
         inner = record {
           inner = w.inner.inner.inner;
           outer = whole_left s.inner.inner.layer w.inner.inner.outer;
-          in_step = subst (λ (x : Seen). InStep s.inner.inner.inner.spans x) (sym (seen_left s.inner.inner.layer)) w.inner.inner.in_step;
+          in_step = subst (λ (x : KnownSpans). InStep s.inner.inner.inner.spans x) (sym (seen_left s.inner.inner.layer)) w.inner.inner.in_step;
           one_attaches = subst (λ (b : Bool). (b && false) ≡ false) (sym (active_left s.inner.inner.layer)) w.inner.inner.one_attaches;
         };
         outer = w.inner.outer;
@@ -38,5 +38,5 @@ returns-clause-others c = λ old new dispatch r. leave_alike _ _ _ _ without_fir
       };
       outer = w.outer;
       in_step = w.in_step;
-      one_attaches = subst (λ (b : Bool). (if_there false (λ _. false) s.layer.inner && (b || false)) ≡ false) (sym (active_left s.inner.inner.layer)) w.one_attaches;
+      one_attaches = subst (λ (b : Bool). (layer_or false (λ _. false) s.layer.inner && (b || false)) ≡ false) (sym (active_left s.inner.inner.layer)) w.one_attaches;
     }) old new dispatch r

@@ -1,5 +1,5 @@
 use Rattle.std.proofs.Common.{◌≡◌, ◌<◌, ◌∙◌, arith, length, slice_index_or}
-use Rattle.trace_threads.specs.Handles.{Held}
+use Rattle.trace_threads.specs.Handles.{SharedHandle}
 use Rattle.thread_work.proofs.Working.{same_get}
 use Rattle.thread_work.proofs.Sharing.{learnt_more, learnt_rest, set_len}
 use Rattle.thread_work.proofs.share.teach.Goals as goal
@@ -12,7 +12,7 @@ loop-i-preserved c =
     let n = i.len in
     let low : c.loop-i.i < length c.args.handles.now = omega (arith, t, n) in
     let in_hs : c.loop-i.i < length c.loop-i.handles = omega (arith, low, n) in
-    let h : Held = slice_index_or c.loop-i.handles c.loop-i.i c.index-handles-i.result in
+    let h : SharedHandle = slice_index_or c.loop-i.handles c.loop-i.i c.index-handles-i.result in
     let is : h ≡ slice_index_or c.loop-i.handles c.loop-i.i h = same_get c.loop-i.handles c.loop-i.i c.index-handles-i.result h in_hs in
     record {
       pass = (p.0 ∙ i.pass.0, p.1.0 ∙ i.pass.1, p.1.1 ∙ i.pass.2);

@@ -1,12 +1,12 @@
 -- The lines so far were followed.
 use Rattle.std.proofs.Common.{◌≡◌, ◌++◌, length, List, ℕ}
 use Rattle.trace_pipeline.specs.Lines.{lines_of}
-use Rattle.trace_records.specs.Following.{Follows}
+use Rattle.trace_records.specs.Following.{HasFollowed}
 use Rattle.trace_records.proofs.follow.follow_lines.Given as goal
 
 abbrev pub invariant-loop-rest : goal.invariant-loop-rest
 invariant-loop-rest g l =
-    (before : List (List ℕ)) × (lines_of l.fn.bytes ≡ before ++ lines_of l.rest) × Follows g.K.Kept.of_record l.fn.most_lanes before l.run
+    (before : List (List ℕ)) × (lines_of l.fn.bytes ≡ before ++ lines_of l.rest) × HasFollowed g.K.Kept.of_record l.fn.most_lanes before l.run
 
 abbrev pub decreases-loop-rest : goal.decreases-loop-rest
 decreases-loop-rest g l = length l.rest

@@ -1,13 +1,13 @@
 use Rattle.trace_run.specs.Commands.Batch.{TellsAll, accepts_few}
-use Rattle.trace_stream.specs.Streams.{Streams, seen}
+use Rattle.trace_stream.specs.Streams.{Streams, streams_of}
 use Rattle.trace_stream.proofs.AllLinesLemmas.{IsRead, carries_whole, carries_broken, stops_of}
 use Rattle.trace_run.proofs.batch.run_batch.Goals as goal
 
 pub returns-in-Ok-write_all-clause-carries : goal.returns-in-Ok-write_all-clause-carries
 returns-in-Ok-write_all-clause-carries g c =
     let read = c.in-Ok.ensures in
-    let before : Streams = seen g.R.Source.remaining g.R.Source.ends g.R.Source.faults g.W.Sink.holds g.W.Sink.faults c.args.source.now c.args.sink.now in
-    let now : Streams = seen g.R.Source.remaining g.R.Source.ends g.R.Source.faults g.W.Sink.holds g.W.Sink.faults c.read_all.new.source c.write_all.new.sink in
+    let before : Streams = streams_of g.R.Source.remaining g.R.Source.ends g.R.Source.faults g.W.Sink.holds g.W.Sink.faults c.args.source.now c.args.sink.now in
+    let now : Streams = streams_of g.R.Source.remaining g.R.Source.ends g.R.Source.faults g.W.Sink.holds g.W.Sink.faults c.read_all.new.source c.write_all.new.sink in
     let is : IsRead c.in-Ok.input.end before now c.in-Ok.input.bytes.items = record {
       took = read.bytes;
       none = read.whole;
@@ -30,8 +30,8 @@ returns-in-Ok-write_all-clause-stops g c =
 pub returns-clause-carries : goal.returns-clause-carries
 returns-clause-carries g c =
     let read = c.in-Ok.ensures in
-    let before : Streams = seen g.R.Source.remaining g.R.Source.ends g.R.Source.faults g.W.Sink.holds g.W.Sink.faults c.args.source.now c.args.sink.now in
-    let now : Streams = seen g.R.Source.remaining g.R.Source.ends g.R.Source.faults g.W.Sink.holds g.W.Sink.faults c.read_all.new.source c.write_all.new.sink in
+    let before : Streams = streams_of g.R.Source.remaining g.R.Source.ends g.R.Source.faults g.W.Sink.holds g.W.Sink.faults c.args.source.now c.args.sink.now in
+    let now : Streams = streams_of g.R.Source.remaining g.R.Source.ends g.R.Source.faults g.W.Sink.holds g.W.Sink.faults c.read_all.new.source c.write_all.new.sink in
     let did = carries_broken accepts_few (TellsAll c.args.size) c.in-Ok.input.end before now
     c.in-Ok.input.bytes.items c.in-Ok-batch_input.answer read.bytes read.whole c.in-Ok-batch_input.ensures
     (rw c.as_slice.ensures.value at c.in-Err.ensures.err) c.in-Err.ensures.cause read.end_once in

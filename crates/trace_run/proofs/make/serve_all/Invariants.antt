@@ -2,9 +2,9 @@
 use Rattle.std.proofs.Common.{◌≡◌, ◌++◌, List}
 use Rattle.span_script.specs.declared.request.Request.{Request}
 use Rattle.span_script.specs.Tables.{History}
-use Rattle.trace_run.specs.Making.{Counts, Serves}
+use Rattle.trace_run.specs.Making.{Counts, ServesRequests}
 use Rattle.trace_run.proofs.make.serve_all.Given as goal
 
 abbrev pub invariant-loop-request : goal.invariant-loop-request
 invariant-loop-request l = (h : History) → Counts h l.initial.pipeline l.initial.totals
-    → ((done : List Request) × (done ++ l.request-iterator.rest.items ≡ l.fn.requests.items) × Serves done h l.pipeline l.totals)
+    → ((done : List Request) × (done ++ l.request-iterator.rest.items ≡ l.fn.requests.items) × ServesRequests done h l.pipeline l.totals)

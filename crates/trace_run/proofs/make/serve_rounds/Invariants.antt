@@ -1,8 +1,8 @@
 -- The rounds so far are served.
 use Rattle.trace_pipeline.specs.Generated.{rounds}
-use Rattle.trace_run.specs.Making.{Counts, Serves}
+use Rattle.trace_run.specs.Making.{Counts, ServesRequests}
 use Rattle.trace_run.proofs.make.serve_rounds.Given as goal
 use Rattle.std.proofs.Common.{[]}
 
 abbrev pub invariant-loop-i : goal.invariant-loop-i
-invariant-loop-i l = Counts [] l.initial.pipeline l.initial.totals → Serves (rounds 0 l.i) [] l.pipeline l.totals
+invariant-loop-i l = Counts [] l.initial.pipeline l.initial.totals → ServesRequests (rounds 0 l.i) [] l.pipeline l.totals

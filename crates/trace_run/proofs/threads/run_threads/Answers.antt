@@ -1,5 +1,5 @@
 use Rattle.thread_run.specs.Inputs.{accepts_threads, TellsThreads}
-use Rattle.trace_stream.specs.Streams.{Streams, seen}
+use Rattle.trace_stream.specs.Streams.{Streams, streams_of}
 use Rattle.trace_stream.proofs.AllLinesLemmas.{IsRead, carries_whole, carries_broken, stops_of}
 use Rattle.trace_run.proofs.ThreadsLemmas.{ended_of, accepted_of}
 use Rattle.trace_run.proofs.threads.run_threads.Goals as goal
@@ -7,8 +7,8 @@ use Rattle.trace_run.proofs.threads.run_threads.Goals as goal
 pub returns-in-Ok-write_all-clause-carries : goal.returns-in-Ok-write_all-clause-carries
 returns-in-Ok-write_all-clause-carries g c =
     let read = c.in-Ok.ensures in
-    let before : Streams = seen g.R.Source.remaining g.R.Source.ends g.R.Source.faults g.W.Sink.holds g.W.Sink.faults c.args.source.now c.args.sink.now in
-    let now : Streams = seen g.R.Source.remaining g.R.Source.ends g.R.Source.faults g.W.Sink.holds g.W.Sink.faults c.read_all.new.source c.write_all.new.sink in
+    let before : Streams = streams_of g.R.Source.remaining g.R.Source.ends g.R.Source.faults g.W.Sink.holds g.W.Sink.faults c.args.source.now c.args.sink.now in
+    let now : Streams = streams_of g.R.Source.remaining g.R.Source.ends g.R.Source.faults g.W.Sink.holds g.W.Sink.faults c.read_all.new.source c.write_all.new.sink in
     let is : IsRead c.in-Ok.input.end before now c.in-Ok.input.bytes.items = record {
       took = read.bytes;
       none = read.whole;
@@ -27,8 +27,8 @@ returns-in-Ok-write_all-clause-carries g c =
 pub returns-in-Ok-write_all-clause-ended : goal.returns-in-Ok-write_all-clause-ended
 returns-in-Ok-write_all-clause-ended g c =
     let read = c.in-Ok.ensures in
-    let before : Streams = seen g.R.Source.remaining g.R.Source.ends g.R.Source.faults g.W.Sink.holds g.W.Sink.faults c.args.source.now c.args.sink.now in
-    let now : Streams = seen g.R.Source.remaining g.R.Source.ends g.R.Source.faults g.W.Sink.holds g.W.Sink.faults c.read_all.new.source c.write_all.new.sink in
+    let before : Streams = streams_of g.R.Source.remaining g.R.Source.ends g.R.Source.faults g.W.Sink.holds g.W.Sink.faults c.args.source.now c.args.sink.now in
+    let now : Streams = streams_of g.R.Source.remaining g.R.Source.ends g.R.Source.faults g.W.Sink.holds g.W.Sink.faults c.read_all.new.source c.write_all.new.sink in
     let o = c.in-Ok-threads_input.outcome in
     rw c.status_of.ensures
     (ended_of o.answer.refused c.in-Ok.input.end before now c.in-Ok.input.bytes.items o.answer.text.items o.ended.items read.bytes read.whole
@@ -42,8 +42,8 @@ returns-in-Ok-write_all-clause-stops g c =
 pub returns-clause-carries : goal.returns-clause-carries
 returns-clause-carries g c =
     let read = c.in-Ok.ensures in
-    let before : Streams = seen g.R.Source.remaining g.R.Source.ends g.R.Source.faults g.W.Sink.holds g.W.Sink.faults c.args.source.now c.args.sink.now in
-    let now : Streams = seen g.R.Source.remaining g.R.Source.ends g.R.Source.faults g.W.Sink.holds g.W.Sink.faults c.read_all.new.source c.write_all.new.sink in
+    let before : Streams = streams_of g.R.Source.remaining g.R.Source.ends g.R.Source.faults g.W.Sink.holds g.W.Sink.faults c.args.source.now c.args.sink.now in
+    let now : Streams = streams_of g.R.Source.remaining g.R.Source.ends g.R.Source.faults g.W.Sink.holds g.W.Sink.faults c.read_all.new.source c.write_all.new.sink in
     let did = carries_broken accepts_threads TellsThreads c.in-Ok.input.end before now
     c.in-Ok.input.bytes.items c.in-Ok-threads_input.outcome.answer read.bytes read.whole c.in-Ok-threads_input.ensures.tells
     (rw c.as_slice.ensures.value at c.in-Err.ensures.err) c.in-Err.ensures.cause read.end_once in

@@ -1,7 +1,7 @@
 use Rattle.std.proofs.Common.{rules, ◌≡◌, ◌<◌, ◌≤◌, ◌++◌, ◌∙◌, sym, subst, ℕ, List, length, take, false, true, inr}
 use Rattle.std.specs.Io.KnownBytes.{IsAtEnd}
 use Rattle.trace_pipeline.specs.declared.limits.TheConstants.{MAX_INPUT}
-use Rattle.trace_stream.specs.Streams.{MeetsEnd, Takes, seen}
+use Rattle.trace_stream.specs.Streams.{MeetsEnd, Takes, streams_of}
 use Rattle.trace_stream.specs.Progress.{IsMidway, HasFront}
 use Rattle.trace_stream.proofs.StreamsLemmas.{takes_more, takes_still}
 use Rattle.trace_stream.proofs.ProgressLemmas.{left_front, take_piece, size_on}
@@ -184,8 +184,8 @@ returns-then-is_refused-clause-refused g c =
     let midway : IsMidway c.args.signal (g.W.Sink.holds c.args.sink.now) (g.W.Sink.holds c.feed.new.sink) (take MAX_INPUT (told.0 ++ more)) c.feed.new.self =
     subst (λ (b : List ℕ). IsMidway c.args.signal (g.W.Sink.holds c.args.sink.now) (g.W.Sink.holds c.feed.new.sink) b c.feed.new.self) all (c.in-Ok-feed.ensures.midway (g.W.Sink.holds c.args.sink.now) (take MAX_INPUT told.0) told.3) in
     refused_at c.args.signal
-    (seen g.R.Source.remaining g.R.Source.ends g.R.Source.faults g.W.Sink.holds g.W.Sink.faults c.args.source.now c.args.sink.now)
-    (seen g.R.Source.remaining g.R.Source.ends g.R.Source.faults g.W.Sink.holds g.W.Sink.faults c.read.new.self c.feed.new.sink) (told.0 ++ more) c.feed.new.self
+    (streams_of g.R.Source.remaining g.R.Source.ends g.R.Source.faults g.W.Sink.holds g.W.Sink.faults c.args.source.now c.args.sink.now)
+    (streams_of g.R.Source.remaining g.R.Source.ends g.R.Source.faults g.W.Sink.holds g.W.Sink.faults c.read.new.self c.feed.new.sink) (told.0 ++ more) c.feed.new.self
     took midway c.in-Ok-feed.ensures.empty (sym c.if-is_refused.ensures)
 
 pub loop-total-preserved : goal.loop-total-preserved

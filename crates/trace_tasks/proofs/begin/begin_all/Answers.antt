@@ -7,7 +7,7 @@ use Rattle.trace_tasks.specs.declared.script.Task.{Task}
 use Rattle.trace_tasks.specs.Acts.{untouched}
 use Rattle.trace_tasks.specs.Begun.{AllSited, AreBegun}
 use Rattle.trace_tasks.specs.Stops.{StopsBeginning}
-use Rattle.trace_tasks.specs.Turning.{serving}
+use Rattle.trace_tasks.specs.Turning.{dispatch_serving}
 use Rattle.trace_tasks.specs.Waiting.{AllKnown}
 use Rattle.trace_tasks.proofs.queues.BegunTasksLemmas.{on_err, none_begun, one_more_begun, known_stays}
 use Rattle.trace_tasks.proofs.queues.QueueLemmas.{all_known}
@@ -28,15 +28,15 @@ begin-requires-clause-site g c =
 
 pub returns-in_err-reserve-clause-known : goal.returns-in_err-reserve-clause-known
 returns-in_err-reserve-clause-known g c =
-    subst (λ (fs : List (Instrumented Running)). AllKnown g.S.Subscriber.spans c.loop-task.world fs) (sym c.reserve.ensures.items) (all_known g.S.Subscriber.spans c.loop-task.world (serving c.args.lane.now) c.loop-task.queue.items c.loop-task.invariant.begun.wait)
+    subst (λ (fs : List (Instrumented Running)). AllKnown g.S.Subscriber.spans c.loop-task.world fs) (sym c.reserve.ensures.items) (all_known g.S.Subscriber.spans c.loop-task.world (dispatch_serving c.args.lane.now) c.loop-task.queue.items c.loop-task.invariant.begun.wait)
 
 pub returns-in_err-begun-clause-known : goal.returns-in_err-begun-clause-known
 returns-in_err-begun-clause-known g c =
     subst (λ (fs : List (Instrumented Running)). AllKnown g.S.Subscriber.spans c.begin.new.world fs) (sym c.reserve.ensures.items)
-    (known_stays g.S.Subscriber.spans c.loop-task.world c.begin.new.world c.loop-task.queue.items c.begin.ensures.keeps (all_known g.S.Subscriber.spans c.loop-task.world (serving c.args.lane.now) c.loop-task.queue.items c.loop-task.invariant.begun.wait))
+    (known_stays g.S.Subscriber.spans c.loop-task.world c.begin.new.world c.loop-task.queue.items c.begin.ensures.keeps (all_known g.S.Subscriber.spans c.loop-task.world (dispatch_serving c.args.lane.now) c.loop-task.queue.items c.loop-task.invariant.begun.wait))
 
 pub returns-clause-known : goal.returns-clause-known
-returns-clause-known g c = all_known g.S.Subscriber.spans c.loop-task.world (serving c.args.lane.now) c.loop-task.queue.items c.loop-task.invariant.begun.wait
+returns-clause-known g c = all_known g.S.Subscriber.spans c.loop-task.world (dispatch_serving c.args.lane.now) c.loop-task.queue.items c.loop-task.invariant.begun.wait
 
 pub returns-clause-ok : goal.returns-clause-ok
 returns-clause-ok g c =

@@ -1,7 +1,7 @@
 -- A disabled handle where the making isn't let through.
 use Rattle.std.proofs.Common.{◌≡◌, ℕ, Bool, false, Option, Some, refl, subst, rules}
 use Rattle.trace_base.specs.Gate.{Admits, dispatch_on}
-use Rattle.trace_tasks.specs.Turning.{serving}
+use Rattle.trace_tasks.specs.Turning.{dispatch_serving}
 use Rattle.trace_tasks.proofs.queues.NewTaskLemmas.{there, whole_made, wants_made}
 use Rattle.trace_tasks.proofs.begin.make.Goals as goal
 
@@ -13,7 +13,7 @@ returns-then-not-admits-clause-ok g c =
       callsite = found.0;
       is = found.1;
       admitted = false;
-      gate = subst (λ (b : Bool). Admits g.S.Subscriber.hint g.S.Subscriber.enables c.args.world.now c.args.lane.now.id c.args.site (Some (serving c.args.lane.now)) b) none
+      gate = subst (λ (b : Bool). Admits g.S.Subscriber.hint g.S.Subscriber.enables c.args.world.now c.args.lane.now.id c.args.site (Some (dispatch_serving c.args.lane.now)) b) none
           (subst (λ (o : Option ℕ). Admits g.S.Subscriber.hint g.S.Subscriber.enables c.args.world.now c.args.lane.now.id c.args.site (dispatch_on o c.args.world.now.global) c.admits.result) c.requires.ready.default c.admits.ensures);
       made = (c.new_disabled.ensures, refl);
     }

@@ -1,8 +1,8 @@
 -- The values so far are those of the fields that were passed.
 use Rattle.std.proofs.Common.{◌≡◌, ◌++◌, drop}
 use Rattle.std.specs.Prelude.{filter_map}
-use Rattle.span_script.specs.Fields.{placed}
+use Rattle.span_script.specs.Fields.{declared_value}
 use Rattle.trace_tasks.proofs.fields.values_of.Given as goal
 
 abbrev pub invariant-loop-name : goal.invariant-loop-name
-invariant-loop-name l = (l.pairs ++ filter_map (placed l.fn.callsite) (drop l.name-index l.fields)) ≡ filter_map (placed l.fn.callsite) l.fn.fields
+invariant-loop-name l = (l.pairs ++ filter_map (declared_value l.fn.callsite) (drop l.name-index l.fields)) ≡ filter_map (declared_value l.fn.callsite) l.fn.fields

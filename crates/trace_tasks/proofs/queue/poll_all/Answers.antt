@@ -5,7 +5,7 @@ use Rattle.std.proofs.lemmas.Grind.{common_steps}
 use Rattle.span_handles.specs.Handles.{IsKnown}
 use Rattle.span_futures.specs.declared.instrument.Instrumented.{Instrumented}
 use Rattle.trace_tasks.specs.declared.running.Running.{Running}
-use Rattle.trace_tasks.specs.Turning.{serving}
+use Rattle.trace_tasks.specs.Turning.{dispatch_serving}
 use Rattle.trace_tasks.specs.Waiting.{AllWait, polls_in}
 use Rattle.trace_tasks.proofs.queues.QueueLemmas.{all_known, known_after, polls_after}
 use Rattle.trace_tasks.proofs.queues.TurnsLemmas.{Taking, taking_first, taking_more, taken, stops_turns}
@@ -13,8 +13,8 @@ use Rattle.trace_tasks.proofs.queue.poll_all.Goals as goal
 
 pub close_all-requires-clause-known : goal.close_all-requires-clause-known
 close_all-requires-clause-known g c =
-    let wait = subst (λ (xs : List (Instrumented Running)). AllWait g.S.Subscriber.spans c.loop-task.world (serving c.loop-task.lane) xs) c.in-Some.ensures.items c.loop-task.invariant.taking.wait in
-    known_after g.S.Subscriber.spans c.loop-task.world c.turn.new.world c.in-Some.task c.pop_front.new.self.items c.turn.ensures.keeps wait.1 (all_known g.S.Subscriber.spans c.loop-task.world (serving c.loop-task.lane) c.pop_front.new.self.items wait.2)
+    let wait = subst (λ (xs : List (Instrumented Running)). AllWait g.S.Subscriber.spans c.loop-task.world (dispatch_serving c.loop-task.lane) xs) c.in-Some.ensures.items c.loop-task.invariant.taking.wait in
+    known_after g.S.Subscriber.spans c.loop-task.world c.turn.new.world c.in-Some.task c.pop_front.new.self.items c.turn.ensures.keeps wait.1 (all_known g.S.Subscriber.spans c.loop-task.world (dispatch_serving c.loop-task.lane) c.pop_front.new.self.items wait.2)
 
 pub loop-task-smaller : goal.loop-task-smaller
 loop-task-smaller g c =

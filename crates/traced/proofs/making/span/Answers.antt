@@ -2,7 +2,7 @@
 use Rattle.std.proofs.Common.{Ok, sym, subst}
 use Rattle.trace_base.specs.declared.span.Parent.TheVariants as parent
 use Rattle.span_handles.specs.Handles.{Handle}
-use Rattle.traced.specs.Gating.{Answers}
+use Rattle.traced.specs.Gating.{AnswersGate}
 use Rattle.traced.specs.Making.{MakesIfAnswered}
 use Rattle.traced.proofs.Gated.{makes, makes_none}
 use Rattle.traced.proofs.making.span.Goals as goal
@@ -10,10 +10,10 @@ use Rattle.traced.proofs.making.span.Goals as goal
 pub returns-then-admits : goal.returns-then-admits
 returns-then-admits g c =
     makes g.S.Subscriber c.args.world.now c.new.new.world c.args.lane.now c.args.at parent.Current c.args.site c.args.values.now c.lawful.ensures c.new.result c.requires
-    (subst (Answers g.S.Subscriber c.args.world.now c.args.lane.now c.args.site) c.if-admits.true c.admits.ensures) c.new.ensures.makes.ok c.new.ensures.makes.known c.new.ensures.makes.keeps c.new.ensures.makes.memory_leaves
+    (subst (AnswersGate g.S.Subscriber c.args.world.now c.args.lane.now c.args.site) c.if-admits.true c.admits.ensures) c.new.ensures.makes.ok c.new.ensures.makes.known c.new.ensures.makes.keeps c.new.ensures.makes.memory_leaves
 
 pub returns-else-admits : goal.returns-else-admits
 returns-else-admits g c =
     subst (λ (h : Handle). MakesIfAnswered g.S.Subscriber c.args.world.now c.args.world.now c.args.lane.now c.args.at parent.Current c.args.site c.args.values.now (Ok h)) (sym c.none.ensures)
     (makes_none g.S.Subscriber c.args.world.now c.args.world.now c.args.lane.now c.args.at parent.Current c.args.site c.args.values.now c.requires
-    (subst (Answers g.S.Subscriber c.args.world.now c.args.lane.now c.args.site) c.if-admits.false c.admits.ensures))
+    (subst (AnswersGate g.S.Subscriber c.args.world.now c.args.lane.now c.args.site) c.if-admits.false c.admits.ensures))

@@ -3,7 +3,7 @@ use Rattle.std.proofs.Common.{ℕ, Option, sym, ◌∙◌, subst, refl}
 use Rattle.std.specs.Prelude.{OnOk, OnErr}
 use Rattle.trace_base.specs.declared.span.Parent.TheVariants as parent
 use Rattle.span_handles.specs.Handles.{HasIf, ReplacedIf}
-use Rattle.traced.specs.Gating.{TellsIf}
+use Rattle.traced.specs.Gating.{TellsEventIf}
 use Rattle.traced.proofs.telling.deliver.Goals as goal
 
 pub tell-requires-clause-whole : goal.tell-requires-clause-whole
@@ -11,7 +11,7 @@ tell-requires-clause-whole g c = subst (HasIf g.S.Subscriber.is_whole c.args.wor
 
 pub returns-in-Some-clause-did : goal.returns-in-Some-clause-did
 returns-in-Some-clause-did g c =
-    subst (λ (o : Option ℕ). OnOk c.tell.result (TellsIf g.S.Subscriber c.args.world.now c.tell.new.world c.args.lane.now c.args.at parent.Current c.args.site c.args.values.now o)) (sym (sym c.get_default.ensures.value ∙ c.in-Some.is)) c.tell.ensures.did
+    subst (λ (o : Option ℕ). OnOk c.tell.result (TellsEventIf g.S.Subscriber c.args.world.now c.tell.new.world c.args.lane.now c.args.at parent.Current c.args.site c.args.values.now o)) (sym (sym c.get_default.ensures.value ∙ c.in-Some.is)) c.tell.ensures.did
 
 pub returns-in-Some-clause-memory_leaves : goal.returns-in-Some-clause-memory_leaves
 returns-in-Some-clause-memory_leaves g c =
@@ -19,4 +19,4 @@ returns-in-Some-clause-memory_leaves g c =
 
 pub returns-in-None-clause-did : goal.returns-in-None-clause-did
 returns-in-None-clause-did g c =
-    subst (λ (o : Option ℕ). TellsIf g.S.Subscriber c.args.world.now c.args.world.now c.args.lane.now c.args.at parent.Current c.args.site c.args.values.now o) (sym (sym c.get_default.ensures.value ∙ c.in-None.is)) refl
+    subst (λ (o : Option ℕ). TellsEventIf g.S.Subscriber c.args.world.now c.args.world.now c.args.lane.now c.args.at parent.Current c.args.site c.args.values.now o) (sym (sym c.get_default.ensures.value ∙ c.in-None.is)) refl

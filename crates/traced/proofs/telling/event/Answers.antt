@@ -2,7 +2,7 @@
 use Rattle.std.proofs.Common.{refl, subst}
 use Rattle.trace_base.specs.declared.span.Parent.TheVariants as parent
 use Rattle.trace_base.specs.Gate.{dispatch_on}
-use Rattle.traced.specs.Gating.{Answers}
+use Rattle.traced.specs.Gating.{AnswersGate}
 use Rattle.traced.proofs.Gated.{tells_one, apart}
 use Rattle.traced.proofs.Moves.{told_if, stays_same}
 use Rattle.traced.proofs.telling.event.Goals as goal
@@ -11,13 +11,13 @@ pub returns-then-admits-clause-told : goal.returns-then-admits-clause-told
 returns-then-admits-clause-told g c = λ yes. tells_one g.S.Subscriber c.args.world.now c.deliver.new.world c.args.lane.now c.args.at parent.Current c.args.site c.args.values.now c.deliver.result yes c.deliver.ensures.did
 
 pub returns-then-admits-clause-refused : goal.returns-then-admits-clause-refused
-returns-then-admits-clause-refused g c = λ no. absurd (apart g.S.Subscriber c.args.world.now c.args.lane.now c.args.site c.requires (subst (Answers g.S.Subscriber c.args.world.now c.args.lane.now c.args.site) c.if-admits.true c.admits.ensures) no)
+returns-then-admits-clause-refused g c = λ no. absurd (apart g.S.Subscriber c.args.world.now c.args.lane.now c.args.site c.requires (subst (AnswersGate g.S.Subscriber c.args.world.now c.args.lane.now c.args.site) c.if-admits.true c.admits.ensures) no)
 
 pub returns-then-admits-clause-stays : goal.returns-then-admits-clause-stays
 returns-then-admits-clause-stays g c = told_if g.S.Subscriber c.lawful.ensures c.args.world.now c.deliver.new.world c.args.lane.now c.args.at parent.Current c.args.site c.args.values.now (dispatch_on c.args.lane.now.default c.args.world.now.global) c.deliver.result c.deliver.ensures.did c.deliver.ensures.memory_leaves
 
 pub returns-else-admits-clause-told : goal.returns-else-admits-clause-told
-returns-else-admits-clause-told g c = λ yes. absurd (apart g.S.Subscriber c.args.world.now c.args.lane.now c.args.site c.requires yes (subst (Answers g.S.Subscriber c.args.world.now c.args.lane.now c.args.site) c.if-admits.false c.admits.ensures))
+returns-else-admits-clause-told g c = λ yes. absurd (apart g.S.Subscriber c.args.world.now c.args.lane.now c.args.site c.requires yes (subst (AnswersGate g.S.Subscriber c.args.world.now c.args.lane.now c.args.site) c.if-admits.false c.admits.ensures))
 
 pub returns-else-admits-clause-stays : goal.returns-else-admits-clause-stays
 returns-else-admits-clause-stays g c = stays_same g.S.Subscriber c.args.world.now c.args.world.now refl

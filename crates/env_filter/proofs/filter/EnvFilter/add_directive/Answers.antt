@@ -1,7 +1,7 @@
 -- Greatest levels only grow.
 use Rattle.std.proofs.Common.{sym, subst}
 use Rattle.std.specs.Prelude.{if◌then◌else◌}
-use Rattle.env_filter.specs.Filtering.{plain, AreWhole, IsNew}
+use Rattle.env_filter.specs.Filtering.{plain, AreWhole, IsNewFilter}
 use Rattle.env_filter.specs.Tables.{fixed_directive}
 use Rattle.env_filter.proofs.Wholes.{whole_placed, new_placed}
 use Rattle.env_filter.proofs.filter.EnvFilter.add_directive.Goals as goal
@@ -10,4 +10,4 @@ pub returns-in-Ok-clause-whole : goal.returns-in-Ok-clause-whole
 returns-in-Ok-clause-whole c = λ whole. subst AreWhole (sym c.in-Ok.ensures.ok) (whole_placed (plain c.args.self) (if (plain c.args.self).patterns then c.args.directive else fixed_directive c.args.directive) whole)
 
 pub returns-in-Ok-clause-new : goal.returns-in-Ok-clause-new
-returns-in-Ok-clause-new c = λ new. subst IsNew (sym c.in-Ok.ensures.ok) (new_placed (plain c.args.self) (if (plain c.args.self).patterns then c.args.directive else fixed_directive c.args.directive) new)
+returns-in-Ok-clause-new c = λ new. subst IsNewFilter (sym c.in-Ok.ensures.ok) (new_placed (plain c.args.self) (if (plain c.args.self).patterns then c.args.directive else fixed_directive c.args.directive) new)

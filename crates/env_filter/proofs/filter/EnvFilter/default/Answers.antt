@@ -3,7 +3,7 @@ use Rattle.std.proofs.Common.{sym, subst, true, ap, ◌∙◌}
 use Rattle.env_directives.specs.declared.directive.StaticDirective.{StaticDirective}
 use Rattle.env_directives.specs.declared.env.directive.Directive.{Directive}
 use Rattle.env_directives.specs.orders.Table.{Table, empty_table}
-use Rattle.env_filter.specs.Filtering.{IsNew}
+use Rattle.env_filter.specs.Filtering.{IsNewFilter}
 use Rattle.env_filter.specs.Tables.{with_tables}
 use Rattle.env_filter.proofs.Wholes.{new_default}
 use Rattle.env_filter.proofs.filter.EnvFilter.default.Goals as goal
@@ -12,4 +12,4 @@ pub returns-clause-new : goal.returns-clause-new
 returns-clause-new c =
     let statics = ap (λ (t : Table StaticDirective). with_tables true t c.new-2.result) c.new.ensures in
     let dynamics = ap (λ (t : Table Directive). with_tables true empty_table t) c.new-2.ensures in
-    subst IsNew (sym (c.with_tables.ensures ∙ statics ∙ dynamics)) (new_default true)
+    subst IsNewFilter (sym (c.with_tables.ensures ∙ statics ∙ dynamics)) (new_default true)

@@ -5,11 +5,11 @@ use Rattle.std.specs.List.{list_any}
 use Rattle.trace_base.specs.declared.level.Level.{Level}
 use Rattle.trace_base.specs.declared.level.LevelFilter.{LevelFilter}
 use Rattle.trace_base.specs.words.Level.{is_within}
-use Rattle.env_filter.specs.spans.Levels.{Opened}
-use Rattle.env_filter.specs.Filtering.{is_open}
+use Rattle.env_filter.specs.spans.Levels.{OpenLevel}
+use Rattle.env_filter.specs.Filtering.{levels_admit}
 use Rattle.env_filter.proofs.filter.EnvFilter.is_open.Goals as goal
 
-open_mapped : (level : Level) (es : List Opened) → list_any (λ (f : LevelFilter). is_within level f) (map (λ (e : Opened). e.level) es) ≡ is_open level es
+open_mapped : (level : Level) (es : List OpenLevel) → list_any (λ (f : LevelFilter). is_within level f) (map (λ (e : OpenLevel). e.level) es) ≡ levels_admit level es
 open_mapped level [] = refl
 open_mapped level (e ∷ es) = ap (λ (b : Bool). is_within level e.level || b) (open_mapped level es)
 

@@ -1,11 +1,11 @@
 -- The item at its place is the one of that number.
 use Rattle.std.proofs.Common.{◌≡◌, arith, ◌∙◌}
 use Rattle.std.specs.Prelude.{vec_capacity}
-use Rattle.otel_base.specs.Stack.{empty_context, without}
+use Rattle.otel_base.specs.Stack.{empty_context, without_number}
 use Rattle.otel_base.proofs.Numbered.{removed, rises_without, without_is_no_longer, room_after_detach}
 use Rattle.otel_base.proofs.stack.ContextStack.detach.Goals as goal
 
-taken : (c : goal.After-remove) → c.remove.new.self.items ≡ without c.attached.inside.number c.self.inside.items.items
+taken : (c : goal.After-remove) → c.remove.new.self.items ≡ without_number c.attached.inside.number c.self.inside.items.items
 taken c = c.remove.ensures.items ∙ removed 0 c.attached.inside.number c.self.inside.items.items c.place-at.result (0, empty_context) c.self.invariant.0 (rw c.as_slice.ensures.value at c.place-at.ensures.within) (rw c.as_slice.ensures.value at (c.place-at.ensures.found (0, empty_context)))
 
 pub invariant_of-self : goal.invariant_of-self

@@ -4,7 +4,7 @@ use Rattle.std.specs.Prelude.{Some}
 use Rattle.trace_base.specs.layers.Hooks.{OnEvent, ForEvent}
 use Rattle.otel_state.specs.fields.EventFields.{event_of}
 use Rattle.otel_layer.specs.Steps.{Step, all_events}
-use Rattle.otel_layer.specs.Ready.{IsReadyOtel, retimed}
+use Rattle.otel_layer.specs.Ready.{IsReadyOtel, with_moment}
 use Rattle.otel_layer.specs.Rooming.{stepped}
 use Rattle.otel_layer.proofs.Hooking.{op_is, room_retimed}
 use Rattle.otel_layer.proofs.hooks.OpenTelemetryLayerLayer.on_event.Goals as goal
@@ -21,7 +21,7 @@ returns-in-Happened g c =
     let callsite = c.args._callsite.now in
     let values = c.args._values.now in
     let ready = subst (λ r. IsReadyOtel s (ForEvent (Some c.in-Some.id) callsite values) r) c.in-Happened.is (subst (λ o. IsReadyOtel s (ForEvent o callsite values) c.args.prepared) c.in-Some.is c.requires.ready) in
-    let op = c.at_moment.ensures ∙ ap (retimed c.args.at) ready.0 in
+    let op = c.at_moment.ensures ∙ ap (with_moment c.args.at) ready.0 in
     stepped g.T.Tracer.does all_events s.core (OnEvent c.args.reached c.args._lane.now c.args.at callsite values) _
     (subst (λ o. Step g.T.Tracer.does all_events s.core (OnEvent o c.args._lane.now c.args.at callsite values) c.put_op.new.self.core) (sym c.in-Some.is)
     (op_is s.core _ c.in-Some.id c.args.at _ (event_of callsite values s.core.settings c.args.at) op c.put_op.ensures.core))

@@ -2,7 +2,7 @@
 use Rattle.std.proofs.Common.{◌<◌, ◌^◌, List, true, arith, refl, sym, ap, subst, ◌∙◌}
 use Rattle.std.proofs.lemmas.Bool.{true≢false}
 use Rattle.otel_layer.specs.declared.table.Entry.{Entry}
-use Rattle.otel_layer.specs.Table.{tolds, with_span, MayRise, RisesTo}
+use Rattle.otel_layer.specs.Table.{all_data, with_span_data, MayRise, RisesTo}
 use Rattle.otel_layer.proofs.Gaps.{within, read_added}
 use Rattle.otel_layer.proofs.Rising.{added_kept}
 use Rattle.otel_layer.proofs.table.Table.add.Goals as goal
@@ -31,5 +31,5 @@ invariant_of-self c =
 
 pub returns : goal.returns
 returns c =
-    ap (λ (xs : List Entry). tolds xs) c.in-Ok.ensures.items ∙ read_added (λ s. s.told) c.self.inside.entries.items _
-    ∙ ap (λ s. with_span c.args.id c.args.state.told s.spans) c.self.view_is
+    ap (λ (xs : List Entry). all_data xs) c.in-Ok.ensures.items ∙ read_added (λ s. s.told) c.self.inside.entries.items _
+    ∙ ap (λ s. with_span_data c.args.id c.args.state.told s.spans) c.self.view_is

@@ -1,9 +1,9 @@
 -- An op leaves the ids, and as many states.
 use Rattle.std.proofs.Common.{rules, ◌≡◌, List, length, ap, ◌∙◌}
 use Rattle.std.specs.Prelude.{ℕ}
-use Rattle.otel_state.specs.States.{Told, changed}
+use Rattle.otel_state.specs.States.{SpanData, after_op}
 use Rattle.otel_layer.specs.declared.table.Entry.{Entry}
-use Rattle.otel_layer.specs.Table.{ids, tolds, with_op}
+use Rattle.otel_layer.specs.Table.{entry_ids, all_data, with_op}
 use Rattle.otel_layer.proofs.Gaps.{updated_count}
 use Rattle.otel_layer.proofs.Rising.{kept_whole}
 use Rattle.otel_layer.proofs.table.Table.put.Goals as goal
@@ -13,6 +13,6 @@ invariant_of-self c =
     let old : List Entry = c.self.inside.entries.items in
     let now = c.put.new.entries in
     let as_many : length now ≡ c.self.inside.entries.len = search rules in
-    let told = c.put.ensures.told ∙ ap (λ (xs : List Entry). with_op c.args.id c.args.at c.args.op (tolds xs)) c.as_mut_slice.ensures.value in
-    let same = c.put.ensures.ids ∙ ap (λ (xs : List Entry). ids xs) c.as_mut_slice.ensures.value in
-    kept_whole c.self.inside.rising c.self.inside.known c.self.inside.entries.len old now as_many same (ap (λ (es : List (ℕ × Told)). length es) told ∙ updated_count c.args.id (λ t. changed t c.args.at c.args.op) (tolds old)) c.self.invariant
+    let told = c.put.ensures.told ∙ ap (λ (xs : List Entry). with_op c.args.id c.args.at c.args.op (all_data xs)) c.as_mut_slice.ensures.value in
+    let same = c.put.ensures.ids ∙ ap (λ (xs : List Entry). entry_ids xs) c.as_mut_slice.ensures.value in
+    kept_whole c.self.inside.rising c.self.inside.known c.self.inside.entries.len old now as_many same (ap (λ (es : List (ℕ × SpanData)). length es) told ∙ updated_count c.args.id (λ t. after_op t c.args.at c.args.op) (all_data old)) c.self.invariant

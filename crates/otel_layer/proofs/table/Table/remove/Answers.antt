@@ -2,7 +2,7 @@
 use Rattle.std.proofs.Common.{rules, ◌≡◌, List, length, ap, ◌∙◌}
 use Rattle.std.specs.Map.{remove_entry}
 use Rattle.otel_layer.specs.declared.table.Entry.{Entry}
-use Rattle.otel_layer.specs.Table.{ids, tolds, is_id, knows_span}
+use Rattle.otel_layer.specs.Table.{entry_ids, all_data, is_id, knows_span}
 use Rattle.otel_layer.proofs.Rising.{removed_kept}
 use Rattle.otel_layer.proofs.table.Table.remove.Goals as goal
 
@@ -11,7 +11,7 @@ invariant_of-self c =
     let old : List Entry = c.self.inside.entries.items in
     let now = c.take-state.new.entries in
     let as_many : length now ≡ c.self.inside.entries.len = search rules in
-    let same = c.take-state.ensures.ids ∙ ap (λ (xs : List Entry). ids xs) c.as_mut_slice.ensures.value in
-    let rest = c.take-state.ensures.rest ∙ ap (λ (xs : List Entry). remove_entry (is_id c.args.id) (tolds xs)) c.as_mut_slice.ensures.value in
+    let same = c.take-state.ensures.ids ∙ ap (λ (xs : List Entry). entry_ids xs) c.as_mut_slice.ensures.value in
+    let rest = c.take-state.ensures.rest ∙ ap (λ (xs : List Entry). remove_entry (is_id c.args.id) (all_data xs)) c.as_mut_slice.ensures.value in
     let known = ap (λ s. knows_span c.args.id s.spans) c.self.view_is ∙ c.requires in
     removed_kept c.self.inside.rising c.self.inside.known c.args.id c.self.inside.entries.len old now _ as_many same rest known c.close_gaps.ensures.told c.close_gaps.ensures.rises c.self.invariant

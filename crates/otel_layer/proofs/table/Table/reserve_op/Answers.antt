@@ -1,9 +1,9 @@
 -- Room leaves the ids, and as many states.
 use Rattle.std.proofs.Common.{rules, ◌≡◌, List, length, ap, ◌∙◌}
 use Rattle.std.specs.Prelude.{ℕ}
-use Rattle.otel_state.specs.States.{Told}
+use Rattle.otel_state.specs.States.{SpanData}
 use Rattle.otel_layer.specs.declared.table.Entry.{Entry}
-use Rattle.otel_layer.specs.Table.{ids, tolds}
+use Rattle.otel_layer.specs.Table.{entry_ids, all_data}
 use Rattle.otel_layer.proofs.Rising.{kept_whole}
 use Rattle.otel_layer.proofs.table.Table.reserve_op.Goals as goal
 
@@ -12,6 +12,6 @@ invariant_of-self c =
     let old : List Entry = c.self.inside.entries.items in
     let now = c.reserve_op.new.entries in
     let as_many : length now ≡ c.self.inside.entries.len = search rules in
-    let told = c.reserve_op.ensures.told ∙ ap (λ (xs : List Entry). tolds xs) c.as_mut_slice.ensures.value in
-    let same = c.reserve_op.ensures.ids ∙ ap (λ (xs : List Entry). ids xs) c.as_mut_slice.ensures.value in
-    kept_whole c.self.inside.rising c.self.inside.known c.self.inside.entries.len old now as_many same (ap (λ (es : List (ℕ × Told)). length es) told) c.self.invariant
+    let told = c.reserve_op.ensures.told ∙ ap (λ (xs : List Entry). all_data xs) c.as_mut_slice.ensures.value in
+    let same = c.reserve_op.ensures.ids ∙ ap (λ (xs : List Entry). entry_ids xs) c.as_mut_slice.ensures.value in
+    kept_whole c.self.inside.rising c.self.inside.known c.self.inside.entries.len old now as_many same (ap (λ (es : List (ℕ × SpanData)). length es) told) c.self.invariant

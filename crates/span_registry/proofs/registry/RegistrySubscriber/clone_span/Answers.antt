@@ -1,9 +1,9 @@
 -- The spans stay sound.
 use Rattle.std.proofs.Common.{sym, subst}
 use Rattle.trace_base.specs.Conditions.{IsLive}
-use Rattle.span_registry.specs.Registering.{Registered}
+use Rattle.span_registry.specs.Registering.{RegistryValue}
 use Rattle.trace_base.proofs.Sound.{sound_held}
 use Rattle.span_registry.proofs.registry.RegistrySubscriber.clone_span.Goals as goal
 
 pub invariant_of-self : goal.invariant_of-self
-invariant_of-self c = rw c.hold.ensures (sound_held (record { made = c.self.inside.table.made; lanes = c.self.inside.lanes.items }) c.args.id c.self.invariant (subst (λ (s : Registered). IsLive s.spans.made c.args.id) (sym c.self.view_is) c.requires.live))
+invariant_of-self c = rw c.hold.ensures (sound_held (record { made = c.self.inside.table.made; lanes = c.self.inside.lanes.items }) c.args.id c.self.invariant (subst (λ (s : RegistryValue). IsLive s.spans.made c.args.id) (sym c.self.view_is) c.requires.live))

@@ -3,18 +3,18 @@ use Rattle.std.proofs.Common.{sym, subst, List}
 use Rattle.trace_base.specs.Spans.{Span, Spans}
 use Rattle.trace_base.specs.Conditions.{IsLivePlace}
 use Rattle.trace_base.specs.Sound.{IsSound}
-use Rattle.span_registry.specs.Registering.{Registered}
+use Rattle.span_registry.specs.Registering.{RegistryValue}
 use Rattle.trace_base.proofs.Sound.{place_live, sound_new}
 use Rattle.span_registry.proofs.Sound.{either_way, err_made}
 use Rattle.span_registry.proofs.registry.RegistrySubscriber.new_span.Goals as goal
 
 pub add-requires-clause-live : goal.add-requires-clause-live
 add-requires-clause-live c =
-    rw (c.place-above.ensures, c.as_slice.ensures.value) (place_live (record { made = c.self.inside.table.made; lanes = c.self.inside.lanes.items }) c.args.lane.now.id c.args.parent c.self.invariant (subst (λ (s : Registered). IsLivePlace s.spans.made c.args.parent) (sym c.self.view_is) c.requires.live))
+    rw (c.place-above.ensures, c.as_slice.ensures.value) (place_live (record { made = c.self.inside.table.made; lanes = c.self.inside.lanes.items }) c.args.lane.now.id c.args.parent c.self.invariant (subst (λ (s : RegistryValue). IsLivePlace s.spans.made c.args.parent) (sym c.self.view_is) c.requires.live))
 
 pub invariant_of-self : goal.invariant_of-self
 invariant_of-self c =
-    let live = place_live (record { made = c.self.inside.table.made; lanes = c.self.inside.lanes.items }) c.args.lane.now.id c.args.parent c.self.invariant (subst (λ (s : Registered). IsLivePlace s.spans.made c.args.parent) (sym c.self.view_is) c.requires.live) in
+    let live = place_live (record { made = c.self.inside.table.made; lanes = c.self.inside.lanes.items }) c.args.lane.now.id c.args.parent c.self.invariant (subst (λ (s : RegistryValue). IsLivePlace s.spans.made c.args.parent) (sym c.self.view_is) c.requires.live) in
     either_way (λ (xs : List Span). let s : Spans = record { made = xs; lanes = c.self.inside.lanes.items } in IsSound s) c.add.result c.add.new.self.made _ _ c.add.ensures.ok (err_made c.add.result c.add.new.self c.self.inside.table c.add.ensures.memory_leaves)
     (sound_new (record { made = c.self.inside.table.made; lanes = c.self.inside.lanes.items }) c.place-above.result c.args.site c.self.invariant (rw (c.place-above.ensures, c.as_slice.ensures.value) live))
     c.self.invariant

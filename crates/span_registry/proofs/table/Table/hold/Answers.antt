@@ -2,7 +2,7 @@
 use Rattle.std.proofs.Common.{◌+◌, ◌∙◌, sym, ap, arith}
 use Rattle.std.proofs.lemmas.List.{get_or_default}
 use Rattle.trace_base.specs.Spans.{Span}
-use Rattle.span_registry.specs.Tabling.{place_in, Slotted, no_slot}
+use Rattle.span_registry.specs.Tabling.{place_in, SlotValue, no_slot}
 use Rattle.span_registry.proofs.Slotting.{no_place, shown_some, shown_set, tabled_set}
 use Rattle.span_registry.proofs.table.Table.hold.Goals as goal
 
@@ -17,7 +17,7 @@ overflow_add-slot c =
     let is = sym c.find.ensures ∙ c.in-Some.is in
     let at = c.self.invariant.known c.args.id c.in-Some.place is in
     let seen = c.slot.view_is ∙ c.index_mut-slot.ensures.value ∙ get_or_default c.self.inside.slots.items c.in-Some.place c.index_mut-slot.result.now no_slot at.within in
-    let e = ap (λ (y : Slotted). y.span.holds) seen in
+    let e = ap (λ (y : SlotValue). y.span.holds) seen in
     let r = ap (λ (s : Span). s.holds) (shown_some c.self.inside.count (place_in c.self.inside.places.items) c.self.inside.slots.items c.self.inside.free.items _ c.self.invariant c.args.self.now c.self.view_is c.args.id c.in-Some.place is) in
     omega (arith, e, r, c.requires.few)
 
@@ -26,7 +26,7 @@ invariant_of-self c =
     let is = sym c.find.ensures ∙ c.in-Some.is in
     let at = c.self.invariant.known c.args.id c.in-Some.place is in
     let seen = c.slot.view_is ∙ c.index_mut-slot.ensures.value ∙ get_or_default c.self.inside.slots.items c.in-Some.place c.index_mut-slot.result.now no_slot at.within in
-    tabled_set c.self.inside.count (place_in c.self.inside.places.items) c.self.inside.slots.items c.self.inside.free.items _ c.self.invariant c.args.id c.in-Some.place _ is (ap (λ (y : Slotted). y.id) seen) (omega arith)
+    tabled_set c.self.inside.count (place_in c.self.inside.places.items) c.self.inside.slots.items c.self.inside.free.items _ c.self.invariant c.args.id c.in-Some.place _ is (ap (λ (y : SlotValue). y.id) seen) (omega arith)
 
 pub returns : goal.returns
 returns c =
@@ -35,4 +35,4 @@ returns c =
     let seen = c.slot.view_is ∙ c.index_mut-slot.ensures.value ∙ get_or_default c.self.inside.slots.items c.in-Some.place c.index_mut-slot.result.now no_slot at.within in
     let read = shown_some c.self.inside.count (place_in c.self.inside.places.items) c.self.inside.slots.items c.self.inside.free.items _ c.self.invariant c.args.self.now c.self.view_is c.args.id c.in-Some.place is in
     shown_set c.self.inside.count (place_in c.self.inside.places.items) c.self.inside.slots.items c.self.inside.free.items _ c.self.invariant c.args.self.now c.self.view_is c.args.id c.in-Some.place _ _ is
-    (ap (λ (s : Span). let t : Span = record s { holds = s.holds + 1 } in t) (ap (λ (y : Slotted). y.span) seen ∙ sym read))
+    (ap (λ (s : Span). let t : Span = record s { holds = s.holds + 1 } in t) (ap (λ (y : SlotValue). y.span) seen ∙ sym read))

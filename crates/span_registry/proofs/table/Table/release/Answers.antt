@@ -4,7 +4,7 @@ use Rattle.std.specs.Prelude.{◌==◌, is_ok}
 use Rattle.std.proofs.lemmas.Bool.{cond-true, cond-false, eq-eqb, ne_eqb}
 use Rattle.std.proofs.lemmas.List.{get_or_default}
 use Rattle.trace_base.specs.Spans.{Span, span_at}
-use Rattle.span_registry.specs.Tabling.{place_in, Slotted, no_slot}
+use Rattle.span_registry.specs.Tabling.{place_in, SlotValue, no_slot}
 use Rattle.trace_base.proofs.Holding.{less_last, less_more}
 use Rattle.span_registry.proofs.Slotting.{no_place, shown_some, shown_set, shown_gone, tabled_set, tabled_gone, tabled_same, some_room}
 use Rattle.span_registry.proofs.table.Table.release.Goals as goal
@@ -20,8 +20,8 @@ overflow_sub-slot c =
     let is = sym c.find.ensures ∙ c.in-Some.is in
     let at = c.self.invariant.known c.args.id c.in-Some.place is in
     let seen = c.slot.view_is ∙ c.index_mut-slot.ensures.value ∙ get_or_default c.self.inside.slots.items c.in-Some.place c.index_mut-slot.result.now no_slot at.within in
-    let e = ap (λ (y : Slotted). y.span.holds) seen in
-    let span = ap (λ (y : Slotted). y.span) seen in
+    let e = ap (λ (y : SlotValue). y.span.holds) seen in
+    let span = ap (λ (y : SlotValue). y.span) seen in
     let read = shown_some c.self.inside.count (place_in c.self.inside.places.items) c.self.inside.slots.items c.self.inside.free.items _ c.self.invariant c.args.self.now c.self.view_is c.args.id c.in-Some.place is in
     let r = ap (λ (s : Span). s.holds) read in
     omega (arith, e, r, c.requires)
@@ -31,19 +31,19 @@ invariant_of-self c =
     let is = sym c.find.ensures ∙ c.in-Some.is in
     let at = c.self.invariant.known c.args.id c.in-Some.place is in
     let seen = c.slot.view_is ∙ c.index_mut-slot.ensures.value ∙ get_or_default c.self.inside.slots.items c.in-Some.place c.index_mut-slot.result.now no_slot at.within in
-    let e = ap (λ (y : Slotted). y.span.holds) seen in
-    let span = ap (λ (y : Slotted). y.span) seen in
+    let e = ap (λ (y : SlotValue). y.span.holds) seen in
+    let span = ap (λ (y : SlotValue). y.span) seen in
     let read = shown_some c.self.inside.count (place_in c.self.inside.places.items) c.self.inside.slots.items c.self.inside.free.items _ c.self.invariant c.args.self.now c.self.view_is c.args.id c.in-Some.place is in
     let r = ap (λ (s : Span). s.holds) read in
-    tabled_set c.self.inside.count (place_in c.self.inside.places.items) c.self.inside.slots.items c.self.inside.free.items _ c.self.invariant c.args.id c.in-Some.place _ is (ap (λ (y : Slotted). y.id) seen) c.if-slot-gt0.true
+    tabled_set c.self.inside.count (place_in c.self.inside.places.items) c.self.inside.slots.items c.self.inside.free.items _ c.self.invariant c.args.id c.in-Some.place _ is (ap (λ (y : SlotValue). y.id) seen) c.if-slot-gt0.true
 
 pub returns-then-slot-gt0-clause-made : goal.returns-then-slot-gt0-clause-made
 returns-then-slot-gt0-clause-made c =
     let is = sym c.find.ensures ∙ c.in-Some.is in
     let at = c.self.invariant.known c.args.id c.in-Some.place is in
     let seen = c.slot.view_is ∙ c.index_mut-slot.ensures.value ∙ get_or_default c.self.inside.slots.items c.in-Some.place c.index_mut-slot.result.now no_slot at.within in
-    let e = ap (λ (y : Slotted). y.span.holds) seen in
-    let span = ap (λ (y : Slotted). y.span) seen in
+    let e = ap (λ (y : SlotValue). y.span.holds) seen in
+    let span = ap (λ (y : SlotValue). y.span) seen in
     let read = shown_some c.self.inside.count (place_in c.self.inside.places.items) c.self.inside.slots.items c.self.inside.free.items _ c.self.invariant c.args.self.now c.self.view_is c.args.id c.in-Some.place is in
     let r = ap (λ (s : Span). s.holds) read in
     shown_set c.self.inside.count (place_in c.self.inside.places.items) c.self.inside.slots.items c.self.inside.free.items _ c.self.invariant c.args.self.now c.self.view_is c.args.id c.in-Some.place _ _ is
@@ -54,8 +54,8 @@ returns-then-slot-gt0-clause-closed c =
     let is = sym c.find.ensures ∙ c.in-Some.is in
     let at = c.self.invariant.known c.args.id c.in-Some.place is in
     let seen = c.slot.view_is ∙ c.index_mut-slot.ensures.value ∙ get_or_default c.self.inside.slots.items c.in-Some.place c.index_mut-slot.result.now no_slot at.within in
-    let e = ap (λ (y : Slotted). y.span.holds) seen in
-    let span = ap (λ (y : Slotted). y.span) seen in
+    let e = ap (λ (y : SlotValue). y.span.holds) seen in
+    let span = ap (λ (y : SlotValue). y.span) seen in
     let read = shown_some c.self.inside.count (place_in c.self.inside.places.items) c.self.inside.slots.items c.self.inside.free.items _ c.self.invariant c.args.self.now c.self.view_is c.args.id c.in-Some.place is in
     let r = ap (λ (s : Span). s.holds) read in
     sym (ne_eqb (span_at c.args.self.now.made c.args.id).holds 1 (λ one. omega (arith, one, r, e, c.if-slot-gt0.true)))
@@ -65,8 +65,8 @@ returns-then-slot-gt0-clause-next c =
     let is = sym c.find.ensures ∙ c.in-Some.is in
     let at = c.self.invariant.known c.args.id c.in-Some.place is in
     let seen = c.slot.view_is ∙ c.index_mut-slot.ensures.value ∙ get_or_default c.self.inside.slots.items c.in-Some.place c.index_mut-slot.result.now no_slot at.within in
-    let e = ap (λ (y : Slotted). y.span.holds) seen in
-    let span = ap (λ (y : Slotted). y.span) seen in
+    let e = ap (λ (y : SlotValue). y.span.holds) seen in
+    let span = ap (λ (y : SlotValue). y.span) seen in
     let read = shown_some c.self.inside.count (place_in c.self.inside.places.items) c.self.inside.slots.items c.self.inside.free.items _ c.self.invariant c.args.self.now c.self.view_is c.args.id c.in-Some.place is in
     let r = ap (λ (s : Span). s.holds) read in
     sym (cond-false {A = Option ℕ} ((span_at c.args.self.now.made c.args.id).holds == 1) (span_at c.args.self.now.made c.args.id).parent None (ne_eqb (span_at c.args.self.now.made c.args.id).holds 1 (λ one. omega (arith, one, r, e, c.if-slot-gt0.true))))
@@ -76,7 +76,7 @@ invariant_of-self-2 c =
     let is = sym c.find.ensures ∙ c.in-Some.is in
     let at = c.self.invariant.known c.args.id c.in-Some.place is in
     let seen = c.slot.view_is ∙ c.index_mut-slot.ensures.value ∙ get_or_default c.self.inside.slots.items c.in-Some.place c.index_mut-slot.result.now no_slot at.within in
-    let e = ap (λ (y : Slotted). y.span.holds) seen in
+    let e = ap (λ (y : SlotValue). y.span.holds) seen in
     let read = shown_some c.self.inside.count (place_in c.self.inside.places.items) c.self.inside.slots.items c.self.inside.free.items _ c.self.invariant c.args.self.now c.self.view_is c.args.id c.in-Some.place is in
     let r = ap (λ (s : Span). s.holds) read in
     let some = some_room c.self.inside.count (place_in c.self.inside.places.items) c.self.inside.slots.items c.self.inside.free.items _ c.self.invariant c.args.id c.in-Some.place is in
@@ -90,7 +90,7 @@ returns-clause-made c =
     let is = sym c.find.ensures ∙ c.in-Some.is in
     let at = c.self.invariant.known c.args.id c.in-Some.place is in
     let seen = c.slot.view_is ∙ c.index_mut-slot.ensures.value ∙ get_or_default c.self.inside.slots.items c.in-Some.place c.index_mut-slot.result.now no_slot at.within in
-    let e = ap (λ (y : Slotted). y.span.holds) seen in
+    let e = ap (λ (y : SlotValue). y.span.holds) seen in
     let read = shown_some c.self.inside.count (place_in c.self.inside.places.items) c.self.inside.slots.items c.self.inside.free.items _ c.self.invariant c.args.self.now c.self.view_is c.args.id c.in-Some.place is in
     let r = ap (λ (s : Span). s.holds) read in
     let one : (span_at c.args.self.now.made c.args.id).holds ≡ 1 = omega (arith, e, r, c.requires, c.if-slot-gt0.false) in
@@ -101,7 +101,7 @@ returns-clause-closed c =
     let is = sym c.find.ensures ∙ c.in-Some.is in
     let at = c.self.invariant.known c.args.id c.in-Some.place is in
     let seen = c.slot.view_is ∙ c.index_mut-slot.ensures.value ∙ get_or_default c.self.inside.slots.items c.in-Some.place c.index_mut-slot.result.now no_slot at.within in
-    let e = ap (λ (y : Slotted). y.span.holds) seen in
+    let e = ap (λ (y : SlotValue). y.span.holds) seen in
     let read = shown_some c.self.inside.count (place_in c.self.inside.places.items) c.self.inside.slots.items c.self.inside.free.items _ c.self.invariant c.args.self.now c.self.view_is c.args.id c.in-Some.place is in
     let r = ap (λ (s : Span). s.holds) read in
     let one : (span_at c.args.self.now.made c.args.id).holds ≡ 1 = omega (arith, e, r, c.requires, c.if-slot-gt0.false) in
@@ -112,9 +112,9 @@ returns-clause-next c =
     let is = sym c.find.ensures ∙ c.in-Some.is in
     let at = c.self.invariant.known c.args.id c.in-Some.place is in
     let seen = c.slot.view_is ∙ c.index_mut-slot.ensures.value ∙ get_or_default c.self.inside.slots.items c.in-Some.place c.index_mut-slot.result.now no_slot at.within in
-    let e = ap (λ (y : Slotted). y.span.holds) seen in
+    let e = ap (λ (y : SlotValue). y.span.holds) seen in
     let read = shown_some c.self.inside.count (place_in c.self.inside.places.items) c.self.inside.slots.items c.self.inside.free.items _ c.self.invariant c.args.self.now c.self.view_is c.args.id c.in-Some.place is in
     let r = ap (λ (s : Span). s.holds) read in
     let one : (span_at c.args.self.now.made c.args.id).holds ≡ 1 = omega (arith, e, r, c.requires, c.if-slot-gt0.false) in
-    c.again-next.ensures ∙ ap (λ (y : Slotted). y.span.parent) seen ∙ ap (λ (s : Span). s.parent) (sym read)
+    c.again-next.ensures ∙ ap (λ (y : SlotValue). y.span.parent) seen ∙ ap (λ (s : Span). s.parent) (sym read)
     ∙ sym (cond-true {A = Option ℕ} ((span_at c.args.self.now.made c.args.id).holds == 1) (span_at c.args.self.now.made c.args.id).parent None (eq-eqb (span_at c.args.self.now.made c.args.id).holds 1 one))

@@ -1,7 +1,7 @@
 -- A span's slot is read at its place.
 use Rattle.std.proofs.Common.{◌∙◌, sym, ap, arith}
 use Rattle.std.proofs.lemmas.List.{get_or_default}
-use Rattle.span_registry.specs.Tabling.{place_in, Slotted, no_slot}
+use Rattle.span_registry.specs.Tabling.{place_in, SlotValue, no_slot}
 use Rattle.span_registry.proofs.Slotting.{shown_some, shown_none}
 use Rattle.span_registry.proofs.table.Table.slot.Goals as goal
 
@@ -12,7 +12,7 @@ pub returns-in-Some-clause-some : goal.returns-in-Some-clause-some
 returns-in-Some-clause-some c =
     let is = sym c.find.ensures ∙ c.in-Some.is in
     let at = c.self.invariant.known c.args.id c.in-Some.place is in
-    ap (λ (y : Slotted). y.span) (c.index.ensures ∙ get_or_default c.self.inside.slots.items c.in-Some.place c.index.result.now no_slot at.within)
+    ap (λ (y : SlotValue). y.span) (c.index.ensures ∙ get_or_default c.self.inside.slots.items c.in-Some.place c.index.result.now no_slot at.within)
     ∙ sym (shown_some c.self.inside.count (place_in c.self.inside.places.items) c.self.inside.slots.items c.self.inside.free.items _ c.self.invariant c.args.self.now c.self.view_is c.args.id c.in-Some.place is)
 
 pub returns-in-None-clause-none : goal.returns-in-None-clause-none

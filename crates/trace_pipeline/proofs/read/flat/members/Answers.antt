@@ -3,7 +3,7 @@ use Rattle.std.specs.Str.{IsUtf8}
 use Rattle.serde_json.specs.Data.{no_members, put}
 use Rattle.trace_pipeline.specs.text.Compact.{plain_data, members_of}
 use Rattle.trace_pipeline.specs.declared.read.scan.TheConstants.{DEEPEST}
-use Rattle.trace_pipeline.specs.reading.Placed.{InOrder}
+use Rattle.trace_pipeline.specs.reading.Placed.{MembersInOrder}
 use Rattle.trace_pipeline.proofs.readings.OrderLemmas.{held_in_order}
 use Rattle.trace_pipeline.proofs.readings.CompactLemmas.{Named, AllNamed-push, held_push, members_first, members_on, members_text_end, object_read}
 use Rattle.trace_pipeline.proofs.read.flat.members.Goals as goal
@@ -14,7 +14,7 @@ loop-init c =
     ([], tt, members_first c.in_ok-rest.rest.now, ap members_of none)
 
 pub place-requires : goal.place-requires
-place-requires c = subst InOrder (sym c.loop.invariant.3) (held_in_order c.loop.invariant.0 no_members tt)
+place-requires c = subst MembersInOrder (sym c.loop.invariant.3) (held_in_order c.loop.invariant.0 no_members tt)
 
 pub returns-in-None : goal.returns-in-None
 returns-in-None c =

@@ -1,12 +1,12 @@
 use Rattle.std.proofs.Common.{◌≡◌, ◌++◌, [], ◌∷◌, List, ap, sym, subst, ◌∙◌, refl, rules}
 use Rattle.trace_pipeline.specs.text.Compact.{members_of}
-use Rattle.trace_pipeline.specs.reading.Placed.{InOrder, GoesLast}
+use Rattle.trace_pipeline.specs.reading.Placed.{MembersInOrder, GoesLast}
 use Rattle.trace_pipeline.proofs.readings.CompactLemmas.{Entry}
 use Rattle.trace_pipeline.proofs.readings.OrderLemmas.{put_at_end}
 use Rattle.trace_pipeline.proofs.read.flat.place.Goals as goal
 
 pub is_last-requires : goal.is_last-requires
-is_last-requires c = subst (λ (es : List Entry). InOrder (members_of es)) (sym c.as_slice.ensures.value) c.requires
+is_last-requires c = subst (λ (es : List Entry). MembersInOrder (members_of es)) (sym c.as_slice.ensures.value) c.requires
 
 pub returns-then-is_last : goal.returns-then-is_last
 returns-then-is_last c =

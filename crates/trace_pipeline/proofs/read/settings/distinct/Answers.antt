@@ -4,12 +4,12 @@ use Rattle.std.specs.BTreeSet.{contains}
 use Rattle.std.specs.BTreeMap.{is_at}
 use Rattle.std.specs.List.{list_any}
 use Rattle.trace_pipeline.specs.forms.Forms.{provided}
-use Rattle.trace_pipeline.specs.forms.SettingsForm.{ids}
+use Rattle.trace_pipeline.specs.forms.SettingsForm.{lane_ids}
 use Rattle.trace_pipeline.proofs.ids.DistinctLemmas.{begins, next_lane, same_lane}
 use Rattle.trace_pipeline.proofs.read.settings.distinct.Goals as goal
 
 pub loop-lane-init : goal.loop-lane-init
-loop-lane-init c = begins (contains nat_cmp c.new-seen.result) (ids c.args.lanes.now) (λ q. ap (list_any (is_at (nat_cmp q))) c.new-seen.ensures.empty)
+loop-lane-init c = begins (contains nat_cmp c.new-seen.result) (lane_ids c.args.lanes.now) (λ q. ap (list_any (is_at (nat_cmp q))) c.new-seen.ensures.empty)
 
 pub loop-lane-preserved : goal.loop-lane-preserved
 loop-lane-preserved c =

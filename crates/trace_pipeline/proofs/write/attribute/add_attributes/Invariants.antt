@@ -3,10 +3,10 @@ use Rattle.std.proofs.Common.{◌≡◌, ◌++◌, ℕ, List, drop, false}
 use Rattle.serde_json.specs.Written.{items_text}
 use Rattle.trace_pipeline.specs.reading.Object.{items}
 use Rattle.trace_pipeline.specs.values.RecordData.{attribute_data}
-use Rattle.trace_pipeline.specs.text.Writes.{Adds}
+use Rattle.trace_pipeline.specs.text.Writes.{AddsText}
 use Rattle.trace_pipeline.proofs.write.attribute.add_attributes.Given as goal
 
 abbrev pub invariant-loop-attribute : goal.invariant-loop-attribute
 invariant-loop-attribute l =
-    (w : List ℕ) × Adds l.initial.out.items l.out.items w
+    (w : List ℕ) × AddsText l.initial.out.items l.out.items w
     × (w ++ items_text l.later (items attribute_data (drop l.attribute-index l.attributes)) ≡ items_text false (items attribute_data l.attributes))

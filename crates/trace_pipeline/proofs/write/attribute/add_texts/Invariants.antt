@@ -3,10 +3,10 @@ use Rattle.std.proofs.Common.{◌≡◌, ◌++◌, ℕ, List, drop, false}
 use Rattle.serde_json.specs.Written.{items_text}
 use Rattle.trace_pipeline.specs.reading.Object.{items}
 use Rattle.serde_json.specs.Data.{string}
-use Rattle.trace_pipeline.specs.text.Writes.{Adds}
+use Rattle.trace_pipeline.specs.text.Writes.{AddsText}
 use Rattle.trace_pipeline.proofs.write.attribute.add_texts.Given as goal
 
 abbrev pub invariant-loop-text : goal.invariant-loop-text
 invariant-loop-text l =
-    (w : List ℕ) × Adds l.initial.out.items l.out.items w
+    (w : List ℕ) × AddsText l.initial.out.items l.out.items w
     × (w ++ items_text l.later (items string (drop l.text-index l.texts)) ≡ items_text false (items string l.texts))

@@ -3,7 +3,7 @@ use Rattle.std.specs.Fmt.{signed_decimal}
 use Rattle.json.specs.Print.{escape_byte}
 use Rattle.serde_json.specs.Find.{of_integer}
 use Rattle.serde_json.specs.Written.{number_text}
-use Rattle.trace_pipeline.specs.text.Writes.{Adds}
+use Rattle.trace_pipeline.specs.text.Writes.{AddsText}
 use Rattle.trace_pipeline.proofs.texts.AddsLemmas.{then, retold}
 use Rattle.trace_pipeline.proofs.texts.IntegersLemmas.{integer_text}
 use Rattle.trace_pipeline.proofs.write.measure.add_measure.Goals as goal
@@ -11,7 +11,7 @@ use Rattle.trace_pipeline.proofs.write.measure.add_measure.Goals as goal
 pub returns : goal.returns
 unfolding escape_byte
 returns c =
-    let told : Adds c.add_text-2.new.out.items c.add_long_integer.new.out.items (codes ",\"value\":" ++ signed_decimal c.args.measure.now.value) = search rules in
+    let told : AddsText c.add_text-2.new.out.items c.add_long_integer.new.out.items (codes ",\"value\":" ++ signed_decimal c.args.measure.now.value) = search rules in
     let value = retold _ _ _ (codes ",\"value\":" ++ number_text (of_integer c.args.measure.now.value)) told
     (ap (λ (text : List ℕ). codes ",\"value\":" ++ text) (sym (integer_text c.args.measure.now.value))) in
     retold _ _ _ _ (then _ _ _ _ _ c.in_ok-add_attributes.ensures (then _ _ _ _ _ c.in_ok-add_text.ensures (then _ _ _ _ _ c.in_ok-add_number.ensures

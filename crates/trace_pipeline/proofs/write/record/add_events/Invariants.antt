@@ -3,10 +3,10 @@ use Rattle.std.proofs.Common.{◌≡◌, ◌++◌, ℕ, List, drop, false}
 use Rattle.serde_json.specs.Written.{items_text}
 use Rattle.trace_pipeline.specs.reading.Object.{items}
 use Rattle.trace_pipeline.specs.values.RecordData.{event_data}
-use Rattle.trace_pipeline.specs.text.Writes.{Adds}
+use Rattle.trace_pipeline.specs.text.Writes.{AddsText}
 use Rattle.trace_pipeline.proofs.write.record.add_events.Given as goal
 
 abbrev pub invariant-loop-event : goal.invariant-loop-event
 invariant-loop-event l =
-    (w : List ℕ) × Adds l.initial.out.items l.out.items w
+    (w : List ℕ) × AddsText l.initial.out.items l.out.items w
     × (w ++ items_text l.later (items event_data (drop l.event-index l.events)) ≡ items_text false (items event_data l.events))

@@ -3,10 +3,10 @@ use Rattle.std.proofs.Common.{◌≡◌, ◌++◌, ℕ, List, drop, false}
 use Rattle.serde_json.specs.Written.{items_text}
 use Rattle.trace_pipeline.specs.reading.Object.{items}
 use Rattle.trace_pipeline.specs.values.RecordData.{link_data}
-use Rattle.trace_pipeline.specs.text.Writes.{Adds}
+use Rattle.trace_pipeline.specs.text.Writes.{AddsText}
 use Rattle.trace_pipeline.proofs.write.record.add_links.Given as goal
 
 abbrev pub invariant-loop-link : goal.invariant-loop-link
 invariant-loop-link l =
-    (w : List ℕ) × Adds l.initial.out.items l.out.items w
+    (w : List ℕ) × AddsText l.initial.out.items l.out.items w
     × (w ++ items_text l.later (items link_data (drop l.link-index l.links)) ≡ items_text false (items link_data l.links))

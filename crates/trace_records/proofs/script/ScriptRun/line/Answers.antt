@@ -3,7 +3,7 @@ use Rattle.std.proofs.Common.{◌≡◌, ◌++◌, ℕ, List, [], ◌∷◌, ref
 use Rattle.otel_base.specs.declared.record.Record.{Record}
 use Rattle.span_script.specs.Fits.{State}
 use Rattle.trace_records.specs.declared.finished.FinishedSpans.{FinishedSpans}
-use Rattle.trace_records.specs.Lines.{Answers, OpensLine, AnswersLine}
+use Rattle.trace_records.specs.Lines.{AnswersRequest, OpensLine, AnswersLine}
 use Rattle.trace_records.specs.Following.{IsRunning}
 use Rattle.trace_records.proofs.FollowingLemmas.{opened_on, answered_on, on_ok}
 use Rattle.trace_records.proofs.script.ScriptRun.line.Goals as goal
@@ -23,7 +23,7 @@ pub returns-in-Ok-2 : goal.returns-in-Ok-2
 returns-in-Ok-2 g c lines follows =
     let sum = rw c.in_ok-number.ensures.ok_part at c.checked_add.ensures in
     let r : IsRunning g.K.Kept.of_record c.args.most_lanes lines c.args.self.now.lines c.in-Running.pipeline c.args.self.now.finished = rw c.in-Running.is at follows in
-    let a : Answers c.args.line.now r.history c.in-Running.pipeline c.answer_line.new.pipeline c.in-Ok-2.answered =
+    let a : AnswersRequest c.args.line.now r.history c.in-Running.pipeline c.answer_line.new.pipeline c.in-Ok-2.answered =
     subst (AnswersLine c.args.line.now r.history c.in-Running.pipeline c.answer_line.new.pipeline) c.in-Ok-2.is (c.in_ok-answered-in-Running.ensures.answers r.history r.stands) in
     let left = c.drop_measures.ensures.records in
     on_ok c.take_records.result _ _ _ _

@@ -1,6 +1,6 @@
 use Rattle.std.proofs.Common.{◌≡◌, List, ℕ, Bor, Some, codes, sym, ◌∙◌, rules}
 use Rattle.std.proofs.lemmas.Result.{err_from_is_err_and}
-use Rattle.env_directives.specs.reading.Cuts.{cut}
+use Rattle.env_directives.specs.reading.Cuts.{pieces_at}
 use Rattle.env_directives.specs.reading.Values.{IsNoPatternField}
 use Rattle.env_directives.proofs.cuts.FieldsLemmas.{shape_left, empty_left, text_left, last_left, more_left, earlier_more, text_shorter, answers_fault}
 use Rattle.env_directives.proofs.forms.KeptPatternsLemmas.{with_patterned}
@@ -20,7 +20,7 @@ returns-then-is_empty-clause-is c =
 pub returns-in_err-parse-clause-is : goal.returns-in_err-parse-clause-is
 returns-in_err-parse-clause-is c =
     let p = err_from_is_err_and c.from_residual.result c.from_residual.ensures.1 in
-    let stopped : Some c.in-Some.stop ≡ (cut (codes ",}") c.fields.text.now).stop = sym c.in-Some.is ∙ c.cut-pieces.ensures.stop in
+    let stopped : Some c.in-Some.stop ≡ (pieces_at (codes ",}") c.fields.text.now).stop = sym c.in-Some.is ∙ c.cut-pieces.ensures.stop in
     let parts = c.fields.invariant.earlier in
     let view : List Match × Bor (List ℕ) → List Match × List ℕ = λ r. (r.0, r.1.now) in
     rw (p.1, p.2) (answers_fault view c.args.patterns (IsNoPatternField c.cut-pieces.result.front.now) _ _ c.in_err-parse.field-0.0 c.in_err-parse.ensures.err

@@ -1,10 +1,10 @@
 use Rattle.std.proofs.Common.{◌∙◌, Some, ap, sym}
 use Rattle.serde_json.specs.Find.{get_member}
-use Rattle.trace_pipeline.specs.reading.Left.{left}
+use Rattle.trace_pipeline.specs.reading.Left.{members_left}
 use Rattle.trace_pipeline.proofs.readings.MembersLemmas.{found}
 use Rattle.trace_pipeline.proofs.read.object.Object.optional.Goals as goal
 
 pub returns-in-Some-remove-clause-found : goal.returns-in-Some-remove-clause-found
 returns-in-Some-remove-clause-found c =
     found c.args.name.now c.in-Tree.members.entries (Some c.in-Some-remove.tree) c.in-Some-remove.ensures.value
-    ∙ ap (λ object. get_member c.args.name.now (left object)) (sym c.in-Tree.is)
+    ∙ ap (λ object. get_member c.args.name.now (members_left object)) (sym c.in-Tree.is)
