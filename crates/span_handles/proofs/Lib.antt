@@ -1,5 +1,6 @@
 pub mod Chaining
 pub mod Knowing
+pub mod Makers
 pub mod Owning
 pub mod Scoping
 pub mod Showing
