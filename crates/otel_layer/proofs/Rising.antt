@@ -1,6 +1,6 @@
 -- Entries whose ids rise, and where one of them is found.
 use Rattle.std.proofs.Common.{◌≡◌, ℕ, suc, zero, ◌+◌, ◌-◌, ◌<◌, ◌≤◌, List, [], ◌∷◌, ◌++◌, length, Bool, true, false, cond, get_or, take, drop, length-append, Option, Some, None, refl, sym, ap, subst, ◌∙◌, arith, inl, inr}
-use Rattle.std.specs.Prelude.{filter, ◌&&◌, ◌==◌, nat_lt, is_some}
+use Rattle.std.specs.Prelude.{IfSome, filter, ◌&&◌, ◌==◌, nat_lt, is_some}
 use Rattle.std.specs.Bool.{then_some}
 use Rattle.std.specs.List.{position}
 use Rattle.std.specs.Map.{remove_entry}
@@ -216,3 +216,8 @@ removed_kept rising known id len old now new as_many same rest there told rise h
       rises = λ is. rise (subst (λ (xs : List Entry). MayRise true xs) (sym whole) (λ _. subst (λ (ks : List ℕ). IdsRise 0 ks) (sym same) (h.rises is))) refl;
       counts = omega (arith, a, b, counts);
     }
+
+-- what is found, if anything is, is what is searched for
+pub if_found : (found wanted : Option ℕ) → found ≡ wanted → IfSome found (λ place. Some place ≡ wanted)
+if_found None wanted is = tt
+if_found (Some place) wanted is = is

@@ -235,17 +235,16 @@ fn guess(entries: &[Entry], places: &Vec<u32>, id: Id) -> Option<usize>
     requires { MayRise true entries.now }
     ensures { IfSome result (λ place. Some place ≡ position (is_of_id id) entries.now) }
 {
-    let place = *places.get(id.place() as usize)? as usize;
+    let wanted = id.place();
+    let place = *places.get(wanted as usize)? as usize;
     if place >= entries.len() {
         return None;
     }
-    if entries[place].id != id {
-        return None;
+    let there = entries[place].id.place();
+    if there == wanted {
+        return entries[place].state.is_some().then_some(place);
     }
-    if entries[place].state.is_none() {
-        return None;
-    }
-    Some(place)
+    None
 }
 
 // Notes where the entry of a span is put. Ids that don't come in turn are left out.
