@@ -37,13 +37,6 @@ abbrev pub StaysTold : {A : Type 0} → (A → A → Type 0) → Option A → Op
 StaysTold R None now = now ≡ None
 StaysTold {A} R (Some a) now = (b : A) × (now ≡ Some b) × R a b
 
--- what a layer tells changes at each hook as such things do, and what a subscriber tells at each call
-abbrev pub HearHooks : {L A : Type 0} → (A → Hook → A → Type 0) → (L → Hook → L → Type 0) → (L → Option A) → Type 0
-HearHooks {L} hears does told = (l : L) (hook : Hook) (m : L) → does l hook m → StaysTold (λ a b. hears a hook b) (told l) (told m)
-
-abbrev pub HearCalls : {S A : Type 0} → (A → Hook → A → Type 0) → (S → Spans) → (S → SubscriberCall → S → Type 0) → (S → Option A) → Type 0
-HearCalls {S} hears spans does told = (s : S) (call : SubscriberCall) (t : S) → does s call t → StaysTold (λ a b. HearsCall hears (spans s) a call b) (told s) (told t)
-
 -- what the layer tells, else what the subscriber below it does
 abbrev pub told_first : {A : Type 0} → Option A → Option A → Option A
 told_first None inner = inner
@@ -112,7 +105,3 @@ module _ {S L A : Type 0} (hears : A → Hook → A → Type 0) (spans : S → S
   both_told s t l m call sa sk tk (Some a) o' i i' lanes so ss si d =
       let h = outer_told s t l m call sa sk tk a o' lanes so ss d in
       (h.0, ap (λ (x : Option A). told_first x i') h.1, h.2)
-
--- spare room is nothing that is told
-pub told_same : {A : Type 0} (o o' i i' : Option A) → o' ≡ o → i' ≡ i → told_first o' i' ≡ told_first o i
-told_same {A} o o' i i' e f = ap (λ (x : Option A). told_first x i') e ∙ ap (λ (x : Option A). told_first o x) f

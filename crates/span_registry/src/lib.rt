@@ -9,8 +9,6 @@ pub mod layer;
 pub mod layered;
 pub mod registry;
 mod table;
-pub mod telling;
 
 pub use layered::Layered;
 pub use registry::Registry;
-pub use telling::{Heard, Telling, TellingLayer};
