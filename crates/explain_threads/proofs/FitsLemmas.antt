@@ -3,7 +3,7 @@ use Rattle.std.proofs.Common.{◌≡◌, ℕ, List, Bool, true, sym, subst, ◌�
 use Rattle.std.specs.Prelude.{bytes_eq}
 use Rattle.std.proofs.lemmas.Slice.Eq.{bytes_eq-Decides}
 use Rattle.thread_run.specs.Inputs.{TellsEnded, TellsThreads}
-use Rattle.thread_work.specs.declared.gather.Ended.{Ended}
+use Rattle.thread_handles.specs.declared.gather.Ended.{Ended}
 
 pub alike : (lines : List (List ℕ)) (ended : List Ended) (text slice output : List ℕ) (same : Bool) → TellsEnded lines ended text → slice ≡ text → same ≡ bytes_eq slice output → same ≡ true → TellsThreads lines output
 alike lines ended text slice output same told is compared holds =

@@ -7,7 +7,7 @@ use std::alloc::Global;
 use std::sync::atomic::{AtomicU64, Ordering};
 use std::thread::yield_now;
 use thread_lines::read_script;
-use thread_work::{ThreadScript, WorkerCall, WorkerOp};
+use thread_script::{ThreadScript, WorkerCall, WorkerOp};
 use turnstile::Turnstile;
 
 // How often a worker looks at most whether its turn has come.

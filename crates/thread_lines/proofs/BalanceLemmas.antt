@@ -15,13 +15,13 @@ use Rattle.trace_base.specs.declared.field.ValueSet.{ValueSet}
 use Rattle.trace_pipeline.specs.declared.told.Told.{Told}
 use Rattle.trace_threads.specs.Moves.{Move, enters, exits, stays, move_of, opens_after}
 use Rattle.span_script.specs.Effects.{is_bad_moment}
-use Rattle.thread_work.specs.declared.plan.Plan.{Plan}
-use Rattle.thread_work.specs.declared.script.ThreadScript.{ThreadScript}
-use Rattle.thread_work.specs.declared.script.WorkerOp.{WorkerOp}
-use Rattle.thread_work.specs.declared.script.WorkerCall.{WorkerCall}
-use Rattle.thread_work.specs.declared.script.WorkerCall.TheVariants as work
-use Rattle.thread_work.specs.Asks.{Ask, is_balanced, balanced_by}
-use Rattle.thread_work.specs.Plans.{op_asked, record_asked, event_asked, site_of, part_by, part_on, AreTimed}
+use Rattle.thread_script.specs.declared.plan.Plan.{Plan}
+use Rattle.thread_script.specs.declared.script.ThreadScript.{ThreadScript}
+use Rattle.thread_script.specs.declared.script.WorkerOp.{WorkerOp}
+use Rattle.thread_script.specs.declared.script.WorkerCall.{WorkerCall}
+use Rattle.thread_script.specs.declared.script.WorkerCall.TheVariants as work
+use Rattle.thread_script.specs.Asks.{Ask, is_balanced, balanced_by}
+use Rattle.thread_script.specs.Plans.{op_asked, record_asked, event_asked, site_of, part_by, part_on, AreTimed}
 use Rattle.thread_lines.specs.declared.line.ThreadOp.{ThreadOp}
 use Rattle.thread_lines.specs.declared.line.ThreadCall.{ThreadCall}
 use Rattle.thread_lines.specs.declared.line.ThreadCall.TheVariants as said

@@ -7,13 +7,13 @@ use Rattle.trace_base.specs.declared.callsite.Callsite.{Callsite}
 use Rattle.span_script.specs.declared.reply.What.{What}
 use Rattle.span_script.specs.declared.reply.What.TheVariants as what
 use Rattle.span_script.specs.Setups.{span_site}
-use Rattle.thread_work.specs.declared.plan.Plan.{Plan}
-use Rattle.thread_work.specs.declared.script.ThreadScript.{ThreadScript}
-use Rattle.thread_work.specs.declared.script.SharedLine.{SharedLine}
-use Rattle.thread_work.specs.declared.script.WorkerOp.{WorkerOp}
-use Rattle.thread_work.specs.Asks.{is_balanced}
-use Rattle.thread_work.specs.Plans.{plan_of, part_on}
-use Rattle.thread_work.specs.Tests.{IsTested, AllTested}
+use Rattle.thread_script.specs.declared.plan.Plan.{Plan}
+use Rattle.thread_script.specs.declared.script.ThreadScript.{ThreadScript}
+use Rattle.thread_script.specs.declared.script.SharedLine.{SharedLine}
+use Rattle.thread_script.specs.declared.script.WorkerOp.{WorkerOp}
+use Rattle.thread_script.specs.Asks.{is_balanced}
+use Rattle.thread_script.specs.Plans.{plan_of, part_on}
+use Rattle.thread_script.specs.Tests.{IsTested, AllTested}
 use Rattle.thread_lines.specs.declared.limits.TheConstants.{MOST_SPANS, MOST_WORKERS}
 use Rattle.thread_lines.specs.declared.line.ThreadLine.{ThreadLine}
 use Rattle.thread_lines.specs.declared.line.ThreadLine.TheVariants as line

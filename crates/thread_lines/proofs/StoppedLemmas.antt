@@ -4,7 +4,7 @@ use Rattle.std.specs.Prelude.{Result, if◌then◌else◌}
 use Rattle.trace_pipeline.specs.declared.told.Told.{Told}
 use Rattle.trace_pipeline.specs.Lines.{is_blank}
 use Rattle.script_lines.specs.Refusals.{are_blank}
-use Rattle.thread_work.specs.declared.script.ThreadScript.{ThreadScript}
+use Rattle.thread_script.specs.declared.script.ThreadScript.{ThreadScript}
 use Rattle.script_lines.specs.declared.refused_line.RefusedLine.{RefusedLine}
 use Rattle.thread_lines.specs.Steps.{script_opened, text_added, at_line, lines_added, script_from, script_of}
 

@@ -5,8 +5,8 @@ use Rattle.std.specs.List.{list_all}
 use Rattle.span_script.specs.declared.reply.Refusal.TheVariants as refusal
 use Rattle.trace_pipeline.specs.declared.told.Told.{Told}
 use Rattle.trace_pipeline.specs.declared.told.Told.TheVariants as told
-use Rattle.thread_work.specs.declared.script.ThreadScript.{ThreadScript}
-use Rattle.thread_work.specs.declared.script.WorkerOp.{WorkerOp}
+use Rattle.thread_script.specs.declared.script.ThreadScript.{ThreadScript}
+use Rattle.thread_script.specs.declared.script.WorkerOp.{WorkerOp}
 use Rattle.thread_lines.specs.declared.line.ThreadOp.{ThreadOp}
 use Rattle.thread_lines.specs.declared.limits.TheConstants.{MOST_WORKERS}
 use Rattle.thread_lines.specs.declared.stop.Stop.{Stop}

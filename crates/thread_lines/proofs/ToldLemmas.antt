@@ -16,8 +16,8 @@ use Rattle.trace_pipeline.specs.declared.told.Told.TheVariants as told
 use Rattle.trace_pipeline.specs.forms.Forms.{all_of}
 use Rattle.trace_pipeline.specs.Lines.{is_blank}
 use Rattle.trace_pipeline.specs.reading.Spelled.{value_on_line, settings_spelled}
-use Rattle.thread_work.specs.declared.script.ThreadScript.{ThreadScript}
-use Rattle.thread_work.specs.declared.script.SharedLine.{SharedLine}
+use Rattle.thread_script.specs.declared.script.ThreadScript.{ThreadScript}
+use Rattle.thread_script.specs.declared.script.SharedLine.{SharedLine}
 use Rattle.thread_lines.specs.declared.limits.TheConstants.{MOST_WORKERS}
 use Rattle.thread_lines.specs.declared.line.ThreadLine.{ThreadLine}
 use Rattle.thread_lines.specs.declared.line.ThreadLine.TheVariants as line

@@ -4,7 +4,7 @@ use Rattle.trace_pipeline.specs.declared.told.Told.{Told}
 use Rattle.trace_pipeline.specs.declared.read.LineError.{LineError}
 use Rattle.trace_pipeline.specs.declared.read.LineError.TheVariants as unread
 use Rattle.trace_pipeline.specs.declared.told.Told.TheVariants as told
-use Rattle.thread_work.specs.declared.script.ThreadScript.{ThreadScript}
+use Rattle.thread_script.specs.declared.script.ThreadScript.{ThreadScript}
 use Rattle.thread_lines.specs.declared.stop.Stop.{Stop}
 use Rattle.thread_lines.specs.declared.stop.Stop.TheVariants as stop
 

@@ -5,10 +5,10 @@ use Rattle.env_filter.specs.texts.Pieces.{ReadsText}
 use Rattle.otel_state.specs.declared.times.TheConstants.{GREATEST}
 use Rattle.span_script.specs.Setups.{span_site}
 use Rattle.trace_base.specs.declared.callsite.Callsite.{Callsite}
-use Rattle.thread_work.specs.declared.script.SharedLine.{SharedLine}
-use Rattle.thread_work.specs.declared.script.ThreadScript.{ThreadScript}
-use Rattle.thread_work.specs.Plans.{plan_of}
-use Rattle.thread_work.specs.Tests.{AllTested}
+use Rattle.thread_script.specs.declared.script.SharedLine.{SharedLine}
+use Rattle.thread_script.specs.declared.script.ThreadScript.{ThreadScript}
+use Rattle.thread_script.specs.Plans.{plan_of}
+use Rattle.thread_script.specs.Tests.{AllTested}
 use Rattle.thread_lines.specs.declared.limits.TheConstants.{MOST_SPANS, MOST_WORKERS}
 
 -- each piece of a filter's text that isn't empty is a directive

@@ -3,11 +3,11 @@ use Rattle.std.specs.Prelude.{ℕ, ◌+◌, ok_or, ◌&&◌, nat_lt, List, [], �
 use Rattle.std.specs.List.{list_all}
 use Rattle.otel_state.specs.declared.op.Op.{Op}
 use Rattle.trace_threads.specs.Moves.{Move, enters, exits, stays, move_of, opens_after}
-use Rattle.thread_work.specs.declared.script.ThreadScript.{ThreadScript}
-use Rattle.thread_work.specs.declared.script.SharedLine.{SharedLine}
-use Rattle.thread_work.specs.declared.script.WorkerOp.{WorkerOp}
-use Rattle.thread_work.specs.declared.script.WorkerCall.{WorkerCall}
-use Rattle.thread_work.specs.declared.script.WorkerCall.TheVariants as work
+use Rattle.thread_script.specs.declared.script.ThreadScript.{ThreadScript}
+use Rattle.thread_script.specs.declared.script.SharedLine.{SharedLine}
+use Rattle.thread_script.specs.declared.script.WorkerOp.{WorkerOp}
+use Rattle.thread_script.specs.declared.script.WorkerCall.{WorkerCall}
+use Rattle.thread_script.specs.declared.script.WorkerCall.TheVariants as work
 use Rattle.span_script.specs.declared.settings.Settings.{Settings}
 use Rattle.span_script.specs.declared.reply.Refusal.TheVariants as refusal
 use Rattle.span_script.specs.declared.reply.What.{What}

@@ -17,7 +17,7 @@ use otel_base::memory::Memory;
 use otel_base::record::Moment;
 use otel_base::text::Text;
 use std::alloc::Global;
-use thread_work::{SharedLine, ThreadScript};
+use thread_script::{SharedLine, ThreadScript};
 use trace_pipeline::{LineError, Settings, Told, read_settings};
 
 // Why nothing was read of a line.

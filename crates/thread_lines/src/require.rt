@@ -7,7 +7,7 @@ ghost use Rattle.thread_lines.specs.Steps.{refuse_unless, need, in_time, names_n
 
 use crate::stop::Stop;
 use otel_base::record::Moment;
-use thread_work::ThreadScript;
+use thread_script::ThreadScript;
 use trace_base::callsite::{Callsite, Kind};
 use trace_pipeline::{LAST_MOMENT, Refusal, Told, What};
 

@@ -10,7 +10,7 @@ use crate::stop::Stop;
 use otel_base::memory::Memory;
 use script_lines::{RefusedLine, first_line, is_blank};
 use std::alloc::Global;
-use thread_work::ThreadScript;
+use thread_script::ThreadScript;
 use trace_pipeline::Told;
 
 // A line's number, so many lines having come before. No input has so many that the sum wraps.

@@ -16,7 +16,7 @@ use otel_base::record::Moment;
 use otel_base::text::Text;
 use otel_state::Op;
 use std::alloc::Global;
-use thread_work::{ThreadScript, WorkerCall, WorkerOp, values_of};
+use thread_script::{ThreadScript, WorkerCall, WorkerOp, values_of};
 use trace_base::callsite::Callsite;
 use trace_base::field::{Value, ValueSet};
 use trace_pipeline::{Refusal, Told, What};

@@ -6,9 +6,9 @@ use denote.Struct.Declared.{shape}
 use Rattle.std.below.std_alloc.proofs.vec.deque.VecDeque.TheSendSync as deque
 use Rattle.trace_threads.specs.contracts.handle.Handle as handle
 use Rattle.trace_threads.specs.contracts.handle.Released as released
-use Rattle.thread_work.proofs.script.WorkerOp.TheSendSync as an_op
-use Rattle.thread_work.specs.contracts.script.WorkerOp as op
-use Rattle.thread_work.specs.contracts.job.Job as job
+use Rattle.thread_script.proofs.script.WorkerOp.TheSendSync as an_op
+use Rattle.thread_script.specs.contracts.script.WorkerOp as op
+use Rattle.thread_handles.specs.contracts.job.Job as job
 use Rattle.std.proofs.alloc.Global.TheSendSync as global
 use Rattle.std.proofs.vec.Vec.TheSendSync as vec
 use Rattle.std.below.std_heap.proofs.GlobalAllocator.TheSendSync as frees

@@ -1,11 +1,3 @@
-pub mod Following
-pub mod Opening
-pub mod Gathering
-pub mod Working
-pub mod Sharing
 pub mod Crossing
-pub mod Meeting
-pub mod Columns
 pub mod Spanning
 pub mod Preparing
-pub mod Filters

@@ -3,16 +3,16 @@ use Rattle.std.proofs.Common.{◌≡◌, ℕ, zero, suc, List, [], ◌∷◌, �
 use Rattle.trace_threads.specs.Handles.{SharedHandle}
 use Rattle.otel_state.specs.declared.op.Op.{Op}
 use Rattle.std.specs.Prelude.{Option, Some, None}
-use Rattle.thread_work.specs.declared.job.Job.{Job}
-use Rattle.thread_work.specs.declared.plan.Plan.{Plan}
-use Rattle.thread_work.specs.declared.script.WorkerOp.{WorkerOp}
-use Rattle.thread_work.specs.Asks.{Ask, is_balanced, balanced_by}
+use Rattle.thread_script.specs.declared.plan.Plan.{Plan}
+use Rattle.thread_script.specs.declared.script.WorkerOp.{WorkerOp}
+use Rattle.thread_script.specs.Asks.{Ask, is_balanced, balanced_by}
+use Rattle.thread_handles.specs.declared.job.Job.{Job}
 use Rattle.trace_threads.specs.Moves.{Move, enters, exits, stays, move_of}
 use Rattle.std.specs.Prelude.{Bool, ◌+◌, ◌-◌, ◌&&◌, nat_lt}
-use Rattle.thread_work.specs.Plans.{part_by, asked_on, part_on, release_at, later_at, last_at}
+use Rattle.thread_script.specs.Plans.{part_by, asked_on, part_on, release_at, later_at, last_at}
+use Rattle.thread_script.specs.Tests.{IsTested, AllTested, AllAtOpening}
 use Rattle.thread_work.specs.Jobs.{lists_of, gates_of}
 use Rattle.thread_work.specs.Spans.{IsPreparedFor, ArePreparedFor}
-use Rattle.thread_work.specs.Tests.{IsTested, AllTested, AllAtOpening}
 use Rattle.thread_work.specs.Preparing.{IsBegun, AllBegun}
 
 -- ---- one worker more

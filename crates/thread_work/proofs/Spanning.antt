@@ -10,23 +10,24 @@ use Rattle.trace_threads.specs.declared.handle.Released.{Released}
 use Rattle.trace_threads.specs.History.{opens_entry}
 use Rattle.trace_threads.specs.Turns.{entries}
 use Rattle.trace_threads.specs.Handles.{SharedHandle}
-use Rattle.thread_work.specs.declared.plan.Plan.{Plan}
-use Rattle.thread_work.specs.declared.script.WorkerOp.{WorkerOp}
-use Rattle.thread_work.specs.declared.job.Job.{Job}
-use Rattle.thread_work.specs.declared.gather.Ended.{Ended}
-use Rattle.thread_work.specs.Asks.{Ask, is_balanced}
-use Rattle.thread_work.specs.Plans.{last_at, release_at, part_by, asked_on, part_on, parts_on}
-use Rattle.thread_work.specs.Gathers.{IsEnded}
-use Rattle.thread_work.specs.Works.{part_of, AllAtWork, IsAtWork, AreMade, IsReadyWorker, IsLeft}
-use Rattle.thread_work.specs.Shares.{IsFresh, IsShared}
+use Rattle.thread_script.specs.declared.plan.Plan.{Plan}
+use Rattle.thread_script.specs.declared.script.WorkerOp.{WorkerOp}
+use Rattle.thread_script.specs.Asks.{Ask, is_balanced}
+use Rattle.thread_script.specs.Plans.{last_at, release_at, part_by, asked_on, part_on, parts_on}
+use Rattle.thread_handles.specs.declared.job.Job.{Job}
+use Rattle.thread_handles.specs.declared.gather.Ended.{Ended}
+use Rattle.thread_handles.specs.Gathers.{IsEnded}
+use Rattle.thread_handles.specs.Works.{part_of, AllAtWork, IsAtWork, AreMade, IsReadyWorker, IsLeft}
+use Rattle.thread_handles.specs.Shares.{IsFresh, IsShared}
+use Rattle.thread_handles.specs.Columns.{column, AreWhole, AreJoined}
+use Rattle.thread_handles.proofs.Gathering.{asks_plain}
+use Rattle.thread_handles.proofs.Following.{follows_none}
+use Rattle.thread_handles.proofs.Working.{same_get, get_drop, get_before, get_last}
+use Rattle.thread_handles.proofs.Sharing.{take_front}
+use Rattle.thread_handles.proofs.Meeting.{LeftFrom}
+use Rattle.thread_handles.proofs.Columns.{span_closed, span_ended}
 use Rattle.thread_work.specs.Jobs.{AreReady, WereRun, AreDone, lists_of}
-use Rattle.thread_work.specs.Spans.{column, AreWhole, AreJoined, AreFirsts, GotOne, GotNext, HaveMore, HaveRoomFor, HasGot, WasShared, WereShared, IsPreparedFor, ArePreparedFor, AllEnded}
-use Rattle.thread_work.proofs.Gathering.{asks_plain}
-use Rattle.thread_work.proofs.Following.{follows_none}
-use Rattle.thread_work.proofs.Working.{same_get, get_drop, get_before, get_last}
-use Rattle.thread_work.proofs.Sharing.{take_front}
-use Rattle.thread_work.proofs.Meeting.{LeftFrom}
-use Rattle.thread_work.proofs.Columns.{span_closed, span_ended}
+use Rattle.thread_work.specs.Spans.{AreFirsts, GotOne, GotNext, HaveMore, HaveRoomFor, HasGot, WasShared, WereShared, IsPreparedFor, ArePreparedFor, AllEnded}
 
 -- a worker makes no handle
 by_part : (at : ℕ) (op : Option Op) (rest : List Ask) → asks_plain rest ≡ true → asks_plain (part_by at op rest) ≡ true

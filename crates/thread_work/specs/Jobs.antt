@@ -1,9 +1,9 @@
 -- What the workers' threads work on.
 use Rattle.std.specs.Prelude.{◌≡◌, ℕ, ◌+◌, ◌<◌, ◌≤◌, List, [], ◌∷◌, length, true, slice_index_or, vec_len, vec_capacity}
-use Rattle.thread_work.specs.declared.script.WorkerOp.{WorkerOp}
-use Rattle.thread_work.specs.declared.plan.Plan.{Plan}
-use Rattle.thread_work.specs.declared.job.Job.{Job}
-use Rattle.thread_work.specs.Works.{IsReadyWorker, AllLeft}
+use Rattle.thread_script.specs.declared.script.WorkerOp.{WorkerOp}
+use Rattle.thread_script.specs.declared.plan.Plan.{Plan}
+use Rattle.thread_handles.specs.declared.job.Job.{Job}
+use Rattle.thread_handles.specs.Works.{IsReadyWorker, AllLeft}
 
 -- worker w may begin
 abbrev pub IsJobReady : {G : Type 0} → (G → List ℕ) → Plan → ℕ → Job G → Type 0

@@ -1,9 +1,3 @@
-pub mod Asks
-pub mod Plans
-pub mod Works
-pub mod Shares
-pub mod Gathers
 pub mod Jobs
 pub mod Spans
-pub mod Tests
 pub mod Preparing

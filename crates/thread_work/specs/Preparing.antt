@@ -1,9 +1,9 @@
 -- Workers before they have handles.
 use Rattle.std.specs.Prelude.{◌≡◌, ℕ, ◌≤◌, List, [], ◌∷◌, vec_capacity}
-use Rattle.thread_work.specs.declared.job.Job.{Job}
+use Rattle.thread_script.specs.declared.script.ThreadScript.{ThreadScript}
+use Rattle.thread_script.specs.Plans.{last_at, plan_of}
+use Rattle.thread_handles.specs.declared.job.Job.{Job}
 use Rattle.thread_work.specs.declared.prepare.Prepared.{Prepared}
-use Rattle.thread_work.specs.declared.script.ThreadScript.{ThreadScript}
-use Rattle.thread_work.specs.Plans.{last_at, plan_of}
 use Rattle.thread_work.specs.Jobs.{lists_of, gates_of}
 use Rattle.thread_work.specs.Spans.{HasRoomFor}
 

@@ -1,13 +1,9 @@
 //! What is made before any handle is cloned.
 ghost use Rattle.std.specs.Prelude.{◌≡◌, ◌≤◌, [], length, vec_capacity, IfOk, OnOk};
+ghost use Rattle.thread_script.specs.Plans.{last_at};
 ghost use Rattle.thread_work.specs.Jobs.{lists_of, gates_of};
-ghost use Rattle.thread_work.specs.Plans.{last_at};
 ghost use Rattle.thread_work.specs.Preparing.{IsBegun, AllBegun, WasPrepared};
 
-use crate::gather::Ended;
-use crate::job::Job;
-use crate::plan::Plan;
-use crate::script::{ThreadScript, WorkerOp};
 use crate::spans::end_jobs;
 use otel_base::list::Items;
 use otel_base::memory::Memory;
@@ -15,6 +11,8 @@ use otel_base::record::Moment;
 use std::alloc::Global;
 use std::collections::VecDeque;
 use std::sync::Wait;
+use thread_handles::{Ended, Job};
+use thread_script::{Plan, ThreadScript, WorkerOp};
 use trace_threads::handle::Released;
 
 // What all workers read, the workers without handles, and room for what the spans leave.

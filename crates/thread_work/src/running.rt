@@ -1,18 +1,18 @@
 //! Workers in threads over the shared spans of a script.
 ghost use Rattle.std.specs.Prelude.{◌≡◌, vec_len, IfOk};
-ghost use Rattle.thread_work.specs.Plans.{plan_of};
+ghost use Rattle.thread_script.specs.Plans.{plan_of};
+ghost use Rattle.thread_script.specs.Tests.{AllTested, AllAtOpening};
 ghost use Rattle.thread_work.specs.Spans.{AreFirsts, AllEnded};
-ghost use Rattle.thread_work.specs.Tests.{AllTested, AllAtOpening};
 
-use crate::gather::Ended;
 use crate::prepare::{Prepared, prepare};
-use crate::script::ThreadScript;
 use crate::spans::{end_handles, work_over};
 use event_gate::EventGate;
 use otel_base::memory::Memory;
 use std::alloc::Global;
 use std::sync::Wait;
 use std::thread::Threads;
+use thread_handles::Ended;
+use thread_script::ThreadScript;
 use trace_threads::handle::Handle;
 use turnstile::Turnstile;
 

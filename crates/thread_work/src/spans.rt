@@ -1,53 +1,19 @@
 //! Workers in threads over several shared spans.
 ghost use Rattle.std.specs.Prelude.{◌≡◌, ◌≤◌, [], length, vec_len, vec_capacity, OnOk, IfOk};
-ghost use Rattle.thread_work.specs.Gathers.{MetAll};
 ghost use Rattle.thread_work.specs.Jobs.{lists_of};
-ghost use Rattle.thread_work.specs.Spans.{HaveLeft, WereTaken, column, AreWhole, AreJoined, AreFirsts, GotNext, HaveMore, HaveRoomFor, WereShared, ArePreparedFor, AllEnded};
+ghost use Rattle.thread_work.specs.Spans.{AreFirsts, GotNext, HaveMore, HaveRoomFor, WereShared, ArePreparedFor, AllEnded};
 
-use crate::gather::{Ended, finish, meet};
-use crate::job::Job;
-use crate::plan::Plan;
-use crate::share::share;
 use crate::threads::{all_done, run_all};
-use crate::worker::end_one;
 use event_gate::EventGate;
 use otel_base::memory::Memory;
 use std::alloc::Global;
 use std::collections::VecDeque;
 use std::sync::Wait;
 use std::thread::Threads;
+use thread_handles::{Ended, Job, end_handle, gather_all, share};
+use thread_script::Plan;
 use trace_threads::handle::{Handle, Released};
 use turnstile::Turnstile;
-
-// Joins the next release of each worker to that of the first handle.
-fn gather_next<G>(jobs: &mut [Job<G>], first: Released) -> Released
-    requires left { HaveLeft first.pass.span 0 jobs.old }
-    ensures len { length jobs.new ≡ length jobs.old }
-    ensures taken { WereTaken 1 jobs.old jobs.new }
-    ensures met { MetAll first (column first 0 jobs.old) result }
-{
-    let mut met = first;
-    for w in 0..jobs.len() {
-        let other = jobs[w].left.remove(0);
-        met = meet(met, other);
-    }
-    met
-}
-
-// Joins what the workers' handles left to the releases of the first handles, span by span.
-fn gather_all<G>(jobs: &mut [Job<G>], mut firsts: Vec<Released>, ended: &mut Vec<Ended>)
-    requires whole { AreWhole firsts.items jobs.old }
-    requires empty { ended.old.items ≡ [] }
-    requires room { vec_len firsts ≤ vec_capacity ended.old }
-    ensures same { length jobs.new ≡ length jobs.old }
-    ensures len { vec_len ended.new ≡ vec_len firsts }
-    ensures joined { AreJoined firsts.items jobs.old ended.new.items }
-{
-    for _ in 0..firsts.len() {
-        let first = firsts.remove(0);
-        ended.push_reserved(finish(gather_next(jobs, first)));
-    }
-}
 
 // Gives each worker its next handle.
 fn give_next<G>(jobs: &mut [Job<G>], mut handles: Vec<Handle>)
@@ -95,7 +61,7 @@ fn share_all<R: Wait, G>(
 /// Ends handles, with the entries that they have open. It is for handles whose work isn't gone on with.
 pub fn end_handles<R: Wait>(rt: &R, mut handles: Vec<Handle>) {
     while let Some(handle) = handles.pop() {
-        drop(end_one(rt, handle, 0));
+        drop(end_handle(rt, handle, 0));
     }
     handles.destroy_empty();
 }

@@ -2,13 +2,12 @@
 ghost use Rattle.std.specs.Prelude.{◌≡◌, length, true};
 ghost use Rattle.thread_work.specs.Jobs.{AreReady, IsJobReady, WasRun, WereRun, AreDone};
 
-use crate::job::Job;
-use crate::plan::Plan;
-use crate::worker::run_job;
 use event_gate::EventGate;
 use std::alloc::Global;
 use std::sync::Wait;
 use std::thread::{Threads, for_each_mut};
+use thread_handles::{Job, run_job};
+use thread_script::Plan;
 use turnstile::Turnstile;
 
 // Runs each worker in a thread of its own, or here where none can be started.

@@ -10,8 +10,8 @@ use std::sync::atomic::{AtomicU64, Ordering};
 use std::sync::{Arc, Wait};
 use std::test::{Fail, *};
 use std::thread::Threads;
+use thread_handles::Ended;
 use thread_run::run_gated;
-use thread_work::Ended;
 use trace_base::callsite::Callsite;
 use turnstile::{OpenTurnstile, Turnstile};
 

@@ -1,6 +1,6 @@
 use Rattle.std.proofs.Common.{List, Ok, Err, sym, ap, ◌∙◌}
 use Rattle.std.proofs.lemmas.Result.{err_from_is_err_and}
-use Rattle.thread_work.specs.declared.script.WorkerOp.{WorkerOp}
+use Rattle.thread_script.specs.declared.script.WorkerOp.{WorkerOp}
 use Rattle.thread_lines.specs.Steps.{last_made}
 use Rattle.thread_lines.proofs.TestedLemmas.{worker_passed, worker_stopped}
 use Rattle.thread_lines.proofs.added.add_worker.Goals as goal

@@ -3,7 +3,7 @@ use Rattle.std.specs.Prelude.{Result, IfOk}
 use Rattle.trace_pipeline.specs.declared.told.Told.TheVariants as told
 use Rattle.trace_pipeline.specs.Lines.{lines_of}
 use Rattle.script_lines.specs.declared.refused_line.RefusedLine.{RefusedLine}
-use Rattle.thread_work.specs.declared.script.ThreadScript.{ThreadScript}
+use Rattle.thread_script.specs.declared.script.ThreadScript.{ThreadScript}
 use Rattle.thread_lines.specs.Steps.{script_opened, script_from, script_of}
 use Rattle.script_lines.proofs.FirstLineLemmas.{none_left}
 use Rattle.thread_lines.proofs.AddingLemmas.{not_answered, blank_from, opened_from, unopened_there, told_where}

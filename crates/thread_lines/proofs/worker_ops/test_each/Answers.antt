@@ -1,6 +1,6 @@
 use Rattle.std.proofs.Common.{◌≡◌, ◌∷◌, ◌∙◌, List, ℕ, length, Err, arith, sym, ap}
 use Rattle.std.proofs.lemmas.Result.{err_from_is_err_and}
-use Rattle.thread_work.specs.declared.script.WorkerOp.{WorkerOp}
+use Rattle.thread_script.specs.declared.script.WorkerOp.{WorkerOp}
 use Rattle.thread_lines.specs.declared.line.ThreadOp.{ThreadOp}
 use Rattle.thread_lines.specs.Steps.{ops_tested}
 use Rattle.thread_lines.proofs.TestedLemmas.{in_front, one_passed, refused_here}

@@ -1,9 +1,9 @@
 use Rattle.std.proofs.Common.{◌≡◌, List, length, sym, subst, arith, IfOk}
-use Rattle.thread_work.specs.declared.plan.Plan.{Plan}
-use Rattle.thread_work.specs.declared.script.WorkerOp.{WorkerOp}
+use Rattle.thread_script.specs.declared.plan.Plan.{Plan}
+use Rattle.thread_script.specs.declared.script.WorkerOp.{WorkerOp}
+use Rattle.thread_script.specs.Tests.{AllTested, AllAtOpening}
 use Rattle.thread_work.specs.Preparing.{AllBegun}
 use Rattle.thread_work.specs.Spans.{AreFirsts, AllEnded}
-use Rattle.thread_work.specs.Tests.{AllTested, AllAtOpening}
 use Rattle.thread_work.proofs.Preparing.{as_many, all_prepared}
 use Rattle.thread_work.proofs.running.work.Goals as goal
 

@@ -1,6 +1,6 @@
 use Rattle.std.proofs.Common.{◌≡◌, ℕ, ◌+◌, ◌<◌, ◌≤◌, length, drop, vec_len, slice_index_or}
 use Rattle.trace_threads.specs.Handles.{SharedHandle}
-use Rattle.thread_work.specs.declared.job.Job.{Job}
+use Rattle.thread_handles.specs.declared.job.Job.{Job}
 use Rattle.thread_work.specs.Spans.{GotOne}
 use Rattle.thread_work.proofs.spans.give_next.Given as goal
 

@@ -1,5 +1,5 @@
 use Rattle.std.proofs.Common.{◌≡◌, ℕ, ◌<◌, true, slice_index_or}
-use Rattle.thread_work.specs.declared.job.Job.{Job}
+use Rattle.thread_handles.specs.declared.job.Job.{Job}
 use Rattle.thread_work.proofs.threads.all_done.Given as goal
 
 abbrev pub invariant-loop-w : goal.invariant-loop-w

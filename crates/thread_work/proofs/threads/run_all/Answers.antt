@@ -1,7 +1,7 @@
 use denote.Exit.{no}
 use denote.Param.Send.{param_send, arg_send}
 use Rattle.std.proofs.Common.{subst, slice_index_or}
-use Rattle.thread_work.specs.declared.job.Job.{Job}
+use Rattle.thread_handles.specs.declared.job.Job.{Job}
 use Rattle.thread_work.specs.Jobs.{WasRun}
 use Rattle.thread_work.proofs.Crossing.{job_send}
 use Rattle.thread_work.proofs.threads.run_all.Goals as goal

@@ -1,0 +1,4 @@
+pub mod Works
+pub mod Shares
+pub mod Gathers
+pub mod Columns

@@ -1,0 +1,104 @@
+-- What a worker asks of each span by its list.
+use Rattle.std.specs.Prelude.{◌≡◌, ℕ, zero, suc, ◌≤◌, List, [], ◌∷◌, Bool, ◌==◌, if◌then◌else◌, Option, Some, None, option_map, filter_map, slice_get}
+use Rattle.trace_base.specs.declared.callsite.Callsite.{Callsite}
+use Rattle.trace_base.specs.declared.field.Value.{Value}
+use Rattle.trace_base.specs.declared.field.ValueSet.{ValueSet}
+use Rattle.trace_base.specs.Field.{place_of}
+use Rattle.otel_state.specs.declared.op.Op.{Op}
+use Rattle.otel_state.specs.declared.op.Op.TheVariants.{Update}
+use Rattle.otel_state.specs.declared.times.TheConstants.{GREATEST}
+use Rattle.otel_state.specs.fields.EventFields.{event_of}
+use Rattle.otel_state.specs.fields.SpanFields.{span_update}
+use Rattle.event_gate.specs.declared.levels.Levels.{Levels}
+use Rattle.event_gate.specs.Rules.{gate_rule, text_filter}
+use Rattle.trace_threads.specs.declared.history.What.TheVariants.{Call, Release}
+use Rattle.thread_script.specs.declared.plan.Plan.{Plan}
+use Rattle.thread_script.specs.declared.script.ThreadScript.{ThreadScript}
+use Rattle.thread_script.specs.declared.script.SharedLine.{SharedLine}
+use Rattle.thread_script.specs.declared.script.WorkerOp.{WorkerOp}
+use Rattle.thread_script.specs.declared.script.WorkerCall.{WorkerCall}
+use Rattle.thread_script.specs.declared.script.WorkerCall.TheVariants as calls
+use Rattle.thread_script.specs.Asks.{Ask, ask}
+
+-- what all workers read of a script
+abbrev pub plan_of : ThreadScript → Plan
+plan_of script = record { filter = script.filter; callsites = script.callsites; layer = script.layer; shared = script.shared }
+
+-- ---- what a call of a worker is on its span
+
+-- whether the filter of a text lets a callsite through on a lane without levels
+abbrev pub admits : List ℕ → Callsite → Bool
+admits text c = gate_rule (text_filter text) [] c
+
+abbrev pub AreNoLevels : Levels → Type 0
+AreNoLevels levels = (levels.reload ≡ 0) × (levels.list ≡ [])
+
+abbrev pub line_site : Plan → Option SharedLine → Option Callsite
+line_site plan None = None
+line_site plan (Some line) = slice_get plan.callsites line.site
+
+-- the callsite of a shared span
+abbrev pub site_of : Plan → ℕ → Option Callsite
+site_of plan s = line_site plan (slice_get plan.shared s)
+
+-- a field's value at the first place of its name, if the callsite declares the name
+abbrev pub declared_value : Callsite → List ℕ × Value → Option (ℕ × Value)
+declared_value c field = option_map (λ place. (place, field.1)) (place_of field.0 c)
+
+abbrev pub values_of : Callsite → List (List ℕ × Value) → ValueSet
+values_of c fields = record { pairs = filter_map (declared_value c) fields }
+
+-- fields write those of them that the span's callsite declares
+abbrev pub record_asked : Plan → List (List ℕ × Value) → Option Callsite → Option Op
+record_asked plan fields None = None
+record_asked plan fields (Some c) = Some (Update (span_update c (values_of c fields) plan.layer))
+
+-- an event is told if the filter lets it through
+abbrev pub event_asked : Plan → ℕ → ValueSet → Option Callsite → Option Op
+event_asked plan at values None = None
+event_asked plan at values (Some c) = if admits plan.filter c then Some (event_of c values plan.layer at) else None
+
+abbrev pub op_asked : Plan → ℕ → ℕ → WorkerCall → Option Op
+op_asked plan s at (calls.Record fields) = record_asked plan fields (site_of plan s)
+op_asked plan s at (calls.Event site values) = event_asked plan at values (slice_get plan.callsites site)
+op_asked plan s at (calls.Own op) = Some op
+
+-- what a call of a worker is on this span
+abbrev pub asked_on : Plan → ℕ → WorkerOp → Option Op
+asked_on plan s o = if o.span == s then op_asked plan o.span o.at o.what else None
+
+-- ---- what a worker asks of a span
+
+abbrev pub part_by : ℕ → Option Op → List Ask → List Ask
+part_by at None rest = rest
+part_by at (Some op) rest = ask at (Call op) ∷ rest
+
+-- what a worker asks of a span: its ops on it, and then a release at this moment
+abbrev pub part_on : Plan → ℕ → ℕ → List WorkerOp → List Ask
+part_on plan s at [] = ask at Release ∷ []
+part_on plan s at (o ∷ ops) = part_by o.at (asked_on plan s o) (part_on plan s at ops)
+
+abbrev pub later_at : ℕ → Option ℕ → Option ℕ
+later_at at None = Some at
+later_at at (Some later) = Some later
+
+-- the moment of the last call, if there is one
+abbrev pub last_at : List WorkerOp → Option ℕ
+last_at [] = None
+last_at (o ∷ ops) = later_at o.at (last_at ops)
+
+-- the moment of a worker's release: that of its last call, or of the making
+abbrev pub release_at : ℕ → Option ℕ → ℕ
+release_at made None = made
+release_at made (Some at) = at
+
+-- no moment is too great
+abbrev pub AreTimed : List WorkerOp → Type 0
+AreTimed [] = Unit {0}
+AreTimed (o ∷ ops) = (o.at ≤ GREATEST) × AreTimed ops
+
+-- what each worker asks of the span s, which was made at this moment
+abbrev pub parts_on : Plan → ℕ → ℕ → List (List WorkerOp) → ℕ → List Ask
+parts_on plan s made [] w = []
+parts_on plan s made (ops ∷ workers) zero = part_on plan s (release_at made (last_at ops)) ops
+parts_on plan s made (ops ∷ workers) (suc w) = parts_on plan s made workers w

@@ -1,0 +1,27 @@
+//! Values of declared fields.
+ghost use Rattle.std.specs.Prelude.{◌≡◌, IfOk};
+ghost use Rattle.thread_script.specs.Plans.{values_of};
+
+use otel_base::list::Items;
+use otel_base::memory::Memory;
+use otel_base::text::Text;
+use std::alloc::Global;
+use trace_base::callsite::Callsite;
+use trace_base::field::{Value, ValueSet};
+
+/// The values of those fields that a callsite declares, in their order.
+pub fn values_of(
+    alloc: Global,
+    callsite: &Callsite,
+    fields: Items<(Text, Value)>,
+) -> Result<ValueSet, Memory>
+    ensures { IfOk result (λ values. values ≡ values_of callsite.now fields) }
+{
+    let mut pairs = Items::new(alloc);
+    for (name, value) in fields.into_vec() {
+        if let Some(place) = callsite.field(name.as_str()) {
+            pairs.push((place, value))?;
+        }
+    }
+    Ok(ValueSet { pairs })
+}

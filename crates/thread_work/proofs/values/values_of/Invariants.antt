@@ -1,8 +1,0 @@
--- The values so far are those of the fields that were passed.
-use Rattle.std.proofs.Common.{◌≡◌, ◌++◌}
-use Rattle.std.specs.Prelude.{filter_map}
-use Rattle.thread_work.specs.Plans.{declared_value}
-use Rattle.thread_work.proofs.values.values_of.Given as goal
-
-abbrev pub invariant-loop-name : goal.invariant-loop-name
-invariant-loop-name l = (l.pairs ++ filter_map (declared_value l.fn.callsite) l.name-iterator.rest.items) ≡ filter_map (declared_value l.fn.callsite) l.fn.fields
