@@ -1,3 +1,1 @@
-pub mod Faults
-pub mod Order
-pub mod Serving
+pub mod Orders

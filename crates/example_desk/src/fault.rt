@@ -1,7 +1,7 @@
 //! Why an order isn't served.
-ghost use Rattle.std.specs.Prelude.{◌≡◌};
+ghost use Rattle.std.specs.Prelude.{◌≡◌, ◌↔◌};
+ghost use Rattle.otel_base.specs.declared.enter_error.EnterError.TheVariants as enter;
 ghost use Rattle.example_desk.specs.declared.fault.Fault.TheVariants as fault;
-ghost use Rattle.example_desk.specs.Faults.{fault_of};
 
 use otel_base::enter_error::EnterError;
 use otel_base::memory::Memory;
@@ -19,7 +19,7 @@ pub enum Fault {
 }
 
 impl From<EnterError> for Fault {
-    ghost from_gives = { λ error e. e ≡ fault_of error };
+    ghost from_gives = { λ error e. e ≡ fault.Full ↔ error ≡ enter.Full };
 
     fn from(error: EnterError) -> Fault {
         match error {

@@ -3,5 +3,6 @@
 
 pub mod desk;
 pub mod fault;
+pub mod given;
 pub mod payment;
 pub mod sites;

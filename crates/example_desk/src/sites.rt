@@ -1,18 +1,16 @@
-//! The callsites of the shop, and values for their fields.
-ghost use Rattle.std.specs.Prelude.{◌≡◌, IfOk, OnOk, length};
-ghost use Rattle.example_desk.specs.Order.{AreThere};
+//! The callsites of the shop.
+ghost use Rattle.std.specs.Prelude.{◌≡◌, [], ◌∷◌, IfOk, OnOk, map, length, codes};
 
 use otel_base::list::Items;
 use otel_base::memory::Memory;
 use otel_base::text::Text;
 use std::alloc::Global;
 use trace_base::callsite::{Callsite, Kind, SiteId};
-use trace_base::field::{Value, ValueSet};
 use trace_base::level::Level;
 use trace_base::subscriber::Subscriber;
 use trace_base::world::World;
 
-/// The callsites.
+/// The callsites, which have these numbers in their world.
 #[derive(Clone, Copy)]
 pub struct Sites {
     /// `info_span!("order", user, items)`.
@@ -25,15 +23,17 @@ pub struct Sites {
     pub failed: SiteId,
     /// `debug!("paid")`.
     pub paid: SiteId,
+    ghost numbered: { (order ≡ 0) × (pay ≡ 1) × (pack ≡ 2) × (failed ≡ 3) × (paid ≡ 4) },
 }
 
 impl Sites {
     /// The callsites, added to a world that has none.
     pub fn new<S: Subscriber>(alloc: Global, world: &mut World<S>) -> Result<Sites, Memory>
-        requires none { length world.old.sites ≡ 0 }
+        requires none { world.old.sites ≡ [] }
         requires alone { length world.old.subscribers ≡ 0 }
-        ensures there { IfOk result AreThere }
         ensures five { OnOk result (length world.new.sites ≡ 5) }
+        ensures names { OnOk result (map (λ site. site.name) world.new.sites
+            ≡ codes "order" ∷ codes "pay" ∷ codes "pack" ∷ codes "failed" ∷ codes "paid" ∷ []) }
         ensures alone { length world.new.subscribers ≡ 0 }
     {
         let order = site(alloc, Kind::Span, Level::INFO, "order", &["user", "items"])?;
@@ -64,7 +64,9 @@ fn site(
     level: Level,
     name: &str,
     names: &[&str],
-) -> Result<Callsite, Memory> {
+) -> Result<Callsite, Memory>
+    ensures { IfOk result (λ site. site.name ≡ name.now) }
+{
     let mut fields = Items::new(alloc);
     for field in names {
         fields.push(text(alloc, field)?)?;
@@ -81,48 +83,9 @@ fn site(
     })
 }
 
-/// What is given to the spans and the events of an order, each by the name of its callsite.
-#[derive(Drop)]
-pub struct Given {
-    pub order: ValueSet,
-    pub pay: ValueSet,
-    pub pack: ValueSet,
-    pub failed: ValueSet,
-    pub paid: ValueSet,
-}
-
-impl Given {
-    /// What is given for the order of a user; there is no box for what they want.
-    pub fn new(alloc: Global, user: &str) -> Result<Given, Memory> {
-        let error = Value::Error {
-            message: text(alloc, "no box")?,
-            chain: Items::new(alloc),
-        };
-        Ok(Given {
-            order: two_values(alloc, Value::Str(text(alloc, user)?), Value::U64(3))?,
-            pay: one_value(alloc, Value::Str(text(alloc, user)?))?,
-            pack: ValueSet {
-                pairs: Items::new(alloc),
-            },
-            failed: two_values(alloc, Value::Str(text(alloc, "failed")?), error)?,
-            paid: one_value(alloc, Value::Str(text(alloc, "paid")?))?,
-        })
-    }
-}
-
-// A value for the first field, and one for the second.
-fn one_value(alloc: Global, first: Value) -> Result<ValueSet, Memory> {
-    let mut pairs = Items::new(alloc);
-    pairs.push((0, first))?;
-    Ok(ValueSet { pairs })
-}
-
-fn two_values(alloc: Global, first: Value, second: Value) -> Result<ValueSet, Memory> {
-    let mut set = one_value(alloc, first)?;
-    set.pairs.push((1, second))?;
-    Ok(set)
-}
-
-fn text(alloc: Global, word: &str) -> Result<Text, Memory> {
+/// A text, as callsites and values have them.
+pub(crate) fn text(alloc: Global, word: &str) -> Result<Text, Memory>
+    ensures { IfOk result (λ text. text ≡ word.now) }
+{
     Ok(Text::from(String::from_str(alloc, word)?))
 }

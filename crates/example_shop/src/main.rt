@@ -2,15 +2,16 @@
 //! records of its spans. Its calls are `example_desk`, and `docs/USING.md` is read beside it.
 #![tactic(auto)]
 
-ghost use Rattle.std.specs.Prelude.{◌<◌, length};
+ghost use Rattle.std.specs.Prelude.{◌≡◌, ◌<◌, ◌^◌, ◌+◌, length};
 ghost use Rattle.env_filter.specs.Filtering.{plain, IsNewFilter};
-ghost use Rattle.example_desk.specs.Order.{DeskInOrder};
+ghost use Rattle.example_desk.specs.Orders.{on_front, Ready};
 
 mod report;
 
 use env_filter::filter::EnvFilter;
 use example_desk::desk::Desk;
 use example_desk::fault::Fault;
+use example_desk::given::Given;
 use futures::task;
 use futures::test::MockTask;
 use otel_base::context::{Context, SpanContext};
@@ -22,6 +23,7 @@ use span_stack::stack::{Stack, new_stack, take_record};
 use std::alloc::Global;
 use std::io::{self, ErrorKind};
 use trace_base::discard::Discard;
+use trace_base::dispatcher::Dispatch;
 use trace_base::subscriber::Subscriber;
 
 fn main(rt: HostRuntime) -> io::Result<()> {
@@ -39,51 +41,74 @@ fn main(rt: HostRuntime) -> io::Result<()> {
 fn run(alloc: Global, cx: &mut task::Context<'_>) -> Result<String, Fault> {
     let filter = EnvFilter::new(alloc, "info,[order{user=ada}]=debug")?;
     let stack = new_stack(alloc, LayerSettings::default(), filter, None);
-    let mut desk = Desk::new(alloc, stack)?;
-    let served = serve(alloc, &mut desk, cx);
-    let told = records(alloc, desk);
+    let (mut desk, dispatch) = Desk::new(alloc, stack)?;
+    let served = serve(alloc, &mut desk, dispatch, cx);
+    let told = records(alloc, desk, dispatch);
     served?;
     Ok(told?)
 }
 
 // Two orders, another filter, and a third one.
-#[tactic(auto, using(crate::proofs::Order::there))]
-fn serve(alloc: Global, desk: &mut Desk<Stack>, cx: &mut task::Context<'_>) -> Result<(), Fault>
-    requires { DeskInOrder ⟦<Stack as Subscriber>⟧ 0 desk.old }
-    ensures { desk.new.dispatch < length desk.new.world.subscribers }
+#[tactic(auto, using(crate::proofs::Ready::there))]
+fn serve(
+    alloc: Global,
+    desk: &mut Desk<Stack>,
+    dispatch: Dispatch,
+    cx: &mut task::Context<'_>,
+) -> Result<(), Fault>
+    requires ready { Ready ⟦<Stack as Subscriber>⟧ 0 on_front desk.old }
+    requires first { dispatch ≡ 0 }
+    ensures { dispatch < length desk.new.world.subscribers }
 {
     let remote = Context {
         span: Some(SpanContext { trace: 77, span: 7 }),
     };
-    desk.order(alloc, 0, "ada", remote, cx)?;
-    desk.order(alloc, 100, "bob", Context::empty(), cx)?;
+    take(alloc, desk, 0, "ada", remote, cx)?;
+    take(alloc, desk, 100, "bob", Context::empty(), cx)?;
     let filter = EnvFilter::new(alloc, "warn,[order]=info")?;
-    refilter(desk, filter)?;
-    desk.order(alloc, 200, "cleo", Context::empty(), cx)
+    refilter(desk, dispatch, filter)?;
+    take(alloc, desk, 200, "cleo", Context::empty(), cx)
+}
+
+// An order of a user at a moment.
+fn take(
+    alloc: Global,
+    desk: &mut Desk<Stack>,
+    at: u64,
+    user: &str,
+    remote: Context,
+    cx: &mut task::Context<'_>,
+) -> Result<(), Fault>
+    requires ready { Ready ⟦<Stack as Subscriber>⟧ at on_front desk.old }
+    requires early { at < 2 ^ 62 }
+    ensures { Ready ⟦<Stack as Subscriber>⟧ (at + 100) on_front desk.new }
+{
+    let given = Given::new(alloc, at, desk.sites, user)?;
+    desk.order(&given, remote, cx)
 }
 
 // Puts another filter in force, if there is one.
-fn refilter(desk: &mut Desk<Stack>, filter: EnvFilter) -> Result<(), Memory>
-    requires order { DeskInOrder ⟦<Stack as Subscriber>⟧ 200 desk.old }
+fn refilter(desk: &mut Desk<Stack>, dispatch: Dispatch, filter: EnvFilter) -> Result<(), Memory>
+    requires ready { Ready ⟦<Stack as Subscriber>⟧ 200 on_front desk.old }
+    requires first { dispatch ≡ 0 }
     requires new { IsNewFilter (plain filter) }
-    ensures { DeskInOrder ⟦<Stack as Subscriber>⟧ 200 desk.new }
+    ensures { Ready ⟦<Stack as Subscriber>⟧ 200 on_front desk.new }
 {
-    let stack = desk.world.subscriber(desk.dispatch);
+    let stack = desk.world.subscriber(dispatch);
     if stack.layer().with_current(|_| ()).is_err() {
         return Ok(());
     }
-    put_in_force(&mut desk.world, desk.dispatch, filter)
+    put_in_force(&mut desk.world, dispatch, filter)
 }
 
 // Takes the records, and tells them.
-fn records(alloc: Global, desk: Desk<Stack>) -> Result<String, Memory>
-    requires { desk.dispatch < length desk.world.subscribers }
+fn records(alloc: Global, desk: Desk<Stack>, dispatch: Dispatch) -> Result<String, Memory>
+    requires { dispatch < length desk.world.subscribers }
 {
     let Desk {
         mut world,
         front: _,
         back: _,
-        dispatch,
         sites: _,
     } = desk;
     let mut told = String::new(alloc);

@@ -16,7 +16,7 @@ use Rattle.traced.specs.Laws.{IsLawful}
 use Rattle.traced.specs.Standing.{CanMake, CanTell}
 use Rattle.traced.specs.Gating.{AnswersGate, MakesOne, TellsEventIf, TellsOne}
 use Rattle.traced.specs.Making.{MakesIfAnswered}
-use Rattle.traced.proofs.Restored.{unchanged}
+use Rattle.traced.proofs.changes.Restored.{unchanged}
 use Rattle.traced.proofs.Moves.{get_there, later, made, made_one, made_global, made_count, made_can_close, none_made}
 
 -- the gate has one answer
@@ -55,7 +55,8 @@ module _ {S : Type 0} (sub : Ghosts S) (old new : Worlds S) (lane : Lane) (at : 
         count = made_count sub law old new lane at place site values o result did left;
         closes = made_can_close sub law old new lane at place site values o result did known can.may;
         newest = λ dispatch serves. made_one sub law dispatch old new lane at place site values o result did known keeps serves;
-        memory_leaves = none_made sub law old new o result left;
+        memory_leaves = left;
+        memory_restores = none_made sub law old new o result left;
       }
 
   -- it doesn't, and nothing happens
@@ -74,6 +75,7 @@ module _ {S : Type 0} (sub : Ghosts S) (old new : Worlds S) (lane : Lane) (at : 
       newest = unchanged _ _ refl;
     };
     memory_leaves = tt;
+    memory_restores = tt;
   }
 
 -- an event that the lane's subscriber is told

@@ -1,10 +1,9 @@
-pub mod Begins
-pub mod Between
-pub mod Counts
+pub mod Asking
 pub mod Elsewhere
 pub mod Gated
 pub mod Inside
+pub mod Keeping
 pub mod Moves
-pub mod Restored
+pub mod Programs
 pub mod Rules
-pub mod Steps
+pub mod changes

@@ -30,8 +30,8 @@ use Rattle.traced.specs.AsBefore.{IsAsBefore, IsOfNewest, HadNoHandle, HasMade, 
 use Rattle.traced.specs.Gating.{TellsEventIf}
 use Rattle.traced.specs.Moving.{Enters, Refuses}
 use Rattle.traced.specs.Staying.{Stays}
-use Rattle.traced.proofs.Counts.{more, with_new, with_entry, with_exit, with_closes}
-use Rattle.traced.proofs.Restored.{unchanged, closes, exits, IsReleasedOn, IsExitedOn}
+use Rattle.traced.proofs.changes.Counts.{more, with_new, with_entry, with_exit, with_closes}
+use Rattle.traced.proofs.changes.Restored.{unchanged, closes, exits, IsReleasedOn, IsExitedOn}
 use Rattle.traced.proofs.Elsewhere.{beside, same_sites, same_global, alike_there, count_on, others_served, still_apart, attached_on_lane, stands_after}
 
 -- what is within a list is there
@@ -317,9 +317,11 @@ module _ {S : Type 0} (sub : Ghosts S) (law : IsLawful sub) where
   })
 
   pub enters : (old new : Worlds S) (before left : Lane) (at : ℕ) (handle : Handle) (result : Result EntryGuard EnterError) → IfOk result (λ guard. guard ≡ record { span = handle; lane = before.id }) → IsKnown sub.spans new handle.held → KeepsHandles sub.spans old new
-      → OnOk result (ReplacedOn (λ id s t. sub.does s (Enter id at before left) t) old new handle.held) → (handle.held ≡ None → left ≡ before) → IfOk result (Enters sub old new before left handle)
+      → OnOk result (ReplacedOn (λ id s t. sub.does s (Enter id at before left) t) old new handle.held) → (handle.held ≡ None → left ≡ before) → IfOk result (Enters sub old new before left at handle)
   enters old new before left at handle (Err error) is known keeps did none = tt
   enters old new before left at handle (Ok guard) is known keeps did none = record {
+    did = did;
+    none = none;
     lane_id = lane_same old new before left at handle.held did none;
     count = count_on _ old new handle.held did;
     of = ap (λ (o : EntryGuard). o.span) is;
@@ -328,13 +330,14 @@ module _ {S : Type 0} (sub : Ghosts S) (law : IsLawful sub) where
     entered = λ dispatch held. has_entered dispatch old new before left at handle guard is held known keeps.known did;
   }
 
-  pub refuses : (old new : Worlds S) (before left : Lane) (held : Held) (result : Result EntryGuard EnterError) → OnErr result (ReplacedOn (λ id s t. sub.same s t) old new held) → OnErr result (LeavesLane before left) → OnErr result (Refuses sub old new before left)
-  refuses old new before left held (Ok guard) same leaves = tt
-  refuses old new before left held (Err error) same leaves = record {
-    lane_id = leaves.id;
-    count = count_on _ old new held same;
-    stands = λ most dispatch sites others stands. refused_on most dispatch sites old new before left others held same leaves stands;
-    as_before = λ dispatch. stays_as_before sub dispatch old new (room_stays_on old new held same);
+  pub refuses : (old new : Worlds S) (before left : Lane) (handle : Handle) (result : Result EntryGuard EnterError) → OnErr result (ReplacedOn (λ id s t. sub.same s t) old new handle.held) → OnErr result (LeavesLane before left) → OnErr result (Refuses sub old new before left handle)
+  refuses old new before left handle (Ok guard) same leaves = tt
+  refuses old new before left handle (Err error) same leaves = record {
+    room = same;
+    lane_room = leaves;
+    count = count_on _ old new handle.held same;
+    stands = λ most dispatch sites others stands. refused_on most dispatch sites old new before left others handle.held same leaves stands;
+    as_before = λ dispatch. stays_as_before sub dispatch old new (room_stays_on old new handle.held same);
   }
 
   -- an exit

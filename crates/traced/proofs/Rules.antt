@@ -1,4 +1,4 @@
--- What callers need between their calls, for `using` of their tactics and for their answers.
+-- What calls ask for, of a world that stands.
 use Rattle.std.proofs.Common.{◌≡◌, ℕ, ◌+◌, ◌<◌, ◌^◌, List, ◌∷◌, length, Option, Some, None, sym, ap, ◌∙◌, subst, arith, slice_get}
 use Rattle.std.specs.Prelude.{◌==◌, IfSome}
 use Rattle.std.specs.Option.{option_map_or}
@@ -17,15 +17,8 @@ use Rattle.span_handles.specs.Handles.{Held, Handle, IsKnown, HasOn, IsOf, MayMa
 use Rattle.span_handles.specs.Entries.{EntryGuard, IsThere, IsStillOn}
 use Rattle.traced.specs.Standing.{AreAtMost, StandsReady, ServesLane, IsHeld, CanMake, CanTell, CanAsk, CanClose, CanEnter, CanExit}
 use Rattle.traced.specs.AsBefore.{IsLiveOn, IsOpen, IsInside}
-use Rattle.traced.specs.Moving.{Enters}
-use Rattle.traced.specs.Staying.{Stays}
 use Rattle.traced.proofs.Elsewhere.{stands_after}
-use Rattle.traced.proofs.Inside.{has_same}
 use Rattle.traced.proofs.Moves.{read_there, live_on}
-use Rattle.traced.proofs.Steps.{stepping}
-pub use Rattle.traced.proofs.Between.{makes_and_closes, enters_and_exits, tells_if_answered}
-pub use Rattle.traced.proofs.Moves.{stays_stands, stays_as_before}
-pub use Rattle.traced.proofs.Steps.{late, turned, inside_if_entered, held_after, made_after, entered_after, inside_after, again_stays, made_stays, entered_stays}
 
 -- what holds of the spans that are read holds of the subscriber
 has_spans : {S : Type 0} (sub : Ghosts S) (world : Worlds S) (dispatch : ℕ) (P : Spans → Type 0) → P (spans_in sub.spans world dispatch) → Has (λ s. P (sub.spans s)) world dispatch
@@ -117,36 +110,16 @@ can_exit {S} sub n dispatch sites world lane others guard stands inside here =
           (λ id. λ s there. subst (λ (k : ℕ → ℕ → ℕ). AreAttached k lane) (ap (λ (o : Option S). option_map_or sub.kept o (λ lane number. 0)) there) stands.served.0.attached);
     }
 
--- what holds of a handle's subscriber holds of it where nothing that is read changed
-there_stays : {S : Type 0} (sub : Ghosts S) (old new : Worlds S) (held : Held) → Stays sub old new → IsThere old held → IsThere new held
-there_stays sub old new None stays there = tt
-there_stays sub old new (Some h) stays there = (let count = (stays.alike h.0).count in omega (arith, count, there))
-
-has_stays : {S : Type 0} (sub : Ghosts S) (old new : Worlds S) (held : Held) → Stays sub old new → HasOn (λ s id. sub.is_whole s) old held → HasOn (λ s id. sub.is_whole s) new held
-has_stays sub old new None stays has = tt
-has_stays sub old new (Some h) stays has = (stays.alike h.0).whole has
-
-on_stays : {S : Type 0} (sub : Ghosts S) (old new : Worlds S) (Q : Spans → ℕ → Type 0) (held : Held) → Stays sub old new → HasOn (λ s id. Q (sub.spans s) id) old held → HasOn (λ s id. Q (sub.spans s) id) new held
-on_stays sub old new Q None stays has = tt
-on_stays sub old new Q (Some h) stays has = (let a = stays.alike h.0 in has_same sub.spans no_spans (λ x. Q x h.1) old new h.0 a.count a.spans_same has)
-
-kept_stays : {S : Type 0} (sub : Ghosts S) (old new : Worlds S) (lane : Lane) (held : Held) → Stays sub old new → IsStillOn sub.kept lane old held → IsStillOn sub.kept lane new held
-kept_stays sub old new lane None stays has = tt
-kept_stays sub old new lane (Some h) stays has = (let a = stays.alike h.0 in has_same sub.kept (λ lane number. 0) (λ f. AreAttached f lane) old new h.0 a.count a.kept_same has)
-
 -- a filter was exchanged, or something else that is read of no span and no lane
 pub alike_stands : {S : Type 0} (sub : Ghosts S) (n e dispatch sites : ℕ) (old new : Worlds S) (lanes : List Lane) → Alike sub.spans sub.attaches sub.kept sub.is_whole old new e → e ≡ dispatch → new.sites ≡ old.sites → new.global ≡ old.global → StandsReady sub n dispatch sites old lanes → StandsReady sub n dispatch sites new lanes
 alike_stands sub n e dispatch sites old new lanes alike is same global stands =
     let a = subst (Alike sub.spans sub.attaches sub.kept sub.is_whole old new) is alike in
     stands_after sub n n dispatch sites old new lanes a.count same global a.whole (λ few. subst (AreAtMost n) (sym a.spans_same) few) a.kept_same stands
 
--- What each call asks, on the first lane and on the second.
+-- what a call that makes a span asks
 module _ {S : Type 0} (sub : Ghosts S) (n dispatch sites : ℕ) (world : Worlds S) where
   pub can_make : (lane : Lane) (others : List Lane) (site : ℕ) → StandsReady sub n dispatch sites world (lane ∷ others) → n < 2 ^ 63 → site < sites → CanMake sub world lane parent.Current site
   can_make lane others site stands early within = make_at sub n dispatch sites world lane others parent.Current site early within tt stands
-
-  pub can_make_second : (first lane : Lane) (others : List Lane) (site : ℕ) → StandsReady sub n dispatch sites world (first ∷ lane ∷ others) → n < 2 ^ 63 → site < sites → CanMake sub world lane parent.Current site
-  can_make_second first lane others site stands early within = can_make lane (first ∷ others) site (turned stands) early within
 
   pub can_make_root : (lane : Lane) (others : List Lane) (site : ℕ) → StandsReady sub n dispatch sites world (lane ∷ others) → n < 2 ^ 63 → site < sites → CanMake sub world lane parent.Root site
   can_make_root lane others site stands early within = make_at sub n dispatch sites world lane others parent.Root site early within tt stands
@@ -154,42 +127,6 @@ module _ {S : Type 0} (sub : Ghosts S) (n dispatch sites : ℕ) (world : Worlds 
   pub can_make_under : (lane : Lane) (others : List Lane) (site : ℕ) (handle : Handle) → StandsReady sub n dispatch sites world (lane ∷ others) → n < 2 ^ 63 → site < sites → IsHeld sub dispatch world handle → CanMake sub world lane (place_under handle.held) site
   can_make_under lane others site handle stands early within held =
       make_at sub n dispatch sites world lane others (place_under handle.held) site early within (live_under handle.held (spans_in sub.spans world dispatch) (live_on sub dispatch world handle.held held.own held.known)) stands
-
-  pub can_make_under_second : (first lane : Lane) (others : List Lane) (site : ℕ) (handle : Handle) → StandsReady sub n dispatch sites world (first ∷ lane ∷ others) → n < 2 ^ 63 → site < sites → IsHeld sub dispatch world handle → CanMake sub world lane (place_under handle.held) site
-  can_make_under_second first lane others site handle stands early within held = can_make_under lane (first ∷ others) site handle (turned stands) early within held
-
-  pub can_tell_second : (first lane : Lane) (others : List Lane) (site : ℕ) → StandsReady sub n dispatch sites world (first ∷ lane ∷ others) → site < sites → CanTell sub world lane site
-  can_tell_second first lane others site stands within = can_tell sub n dispatch sites world lane (first ∷ others) site (turned stands) within
-
-  pub can_exit_second : (first lane : Lane) (others : List Lane) (guard : EntryGuard) → StandsReady sub n dispatch sites world (first ∷ lane ∷ others) → IsInside sub dispatch world guard → lane.id ≡ guard.lane → CanExit sub world lane guard
-  can_exit_second first lane others guard stands inside here = can_exit sub n dispatch sites world lane (first ∷ others) guard (turned stands) inside here
-
--- what is told, and exited, on the lane that was just entered
-module _ {S : Type 0} (sub : Ghosts S) (n dispatch sites : ℕ) (old new : Worlds S) (before left : Lane) (handle : Handle) (guard : EntryGuard) where
-  pub tell_entered : (others : List Lane) (site : ℕ) → Enters sub old new before left handle guard → StandsReady sub n dispatch sites old (before ∷ others) → IsHeld sub dispatch old handle → site < sites → CanTell sub new left site
-  tell_entered others site enters stands held within = can_tell sub (n + 1) dispatch sites new left others site (enters.stands n dispatch sites others held stands) within
-
-  pub tell_entered_second : (first : Lane) (others : List Lane) (site : ℕ) → Enters sub old new before left handle guard → StandsReady sub n dispatch sites old (first ∷ before ∷ others) → IsHeld sub dispatch old handle → site < sites → CanTell sub new left site
-  tell_entered_second first others site enters stands held within = tell_entered (first ∷ others) site enters (turned stands) held within
-
-  pub exit_entered : (others : List Lane) → Enters sub old new before left handle guard → StandsReady sub n dispatch sites old (before ∷ others) → IsHeld sub dispatch old handle → CanExit sub new left guard
-  exit_entered others enters stands held = can_exit sub (n + 1) dispatch sites new left others guard (enters.stands n dispatch sites others held stands) (inside_if_entered sub old new before left handle guard dispatch enters held) (enters.lane_id ∙ sym enters.on)
-
-  pub exit_entered_second : (first : Lane) (others : List Lane) → Enters sub old new before left handle guard → StandsReady sub n dispatch sites old (first ∷ before ∷ others) → IsHeld sub dispatch old handle → CanExit sub new left guard
-  exit_entered_second first others enters stands held = exit_entered (first ∷ others) enters (turned stands) held
-
--- and again where nothing that is read changed
-pub exit_stays : {S : Type 0} (sub : Ghosts S) (old new : Worlds S) (lane : Lane) (guard : EntryGuard) → Stays sub old new → CanExit sub old lane guard → CanExit sub new lane guard
-exit_stays sub old new lane guard stays can = record {
-  on = can.on;
-  there = there_stays sub old new guard.span.held stays can.there;
-  whole = has_stays sub old new guard.span.held stays can.whole;
-  may = on_stays sub old new (λ x id. MayExit x id lane.id) guard.span.held stays can.may;
-  still = kept_stays sub old new lane guard.span.held stays can.still;
-}
-
-pub close_stays : {S : Type 0} (sub : Ghosts S) (old new : Worlds S) (handle : Handle) → Stays sub old new → CanClose sub old handle → CanClose sub new handle
-close_stays sub old new handle stays can = record { known = stays.known.known handle.held can.known; whole = has_stays sub old new handle.held stays can.whole }
 
 -- a handle that can be closed can be asked
 pub can_ask : {S : Type 0} (sub : Ghosts S) (world : Worlds S) (handle : Handle) → CanClose sub world handle → CanAsk world handle
@@ -201,5 +138,3 @@ can_ask_held sub dispatch world handle held = record { there = there_on sub worl
 -- a handle is of the subscriber of a lane
 pub of_lane : {S : Type 0} (sub : Ghosts S) (dispatch : ℕ) (world : Worlds S) (lane : Lane) (handle : Handle) → IsHeld sub dispatch world handle → ServesLane dispatch world lane → IfSome (dispatch_on lane.default world.global) (IsOf handle.held)
 of_lane sub dispatch world lane handle held serves = subst (λ (o : Option ℕ). IfSome o (IsOf handle.held)) (sym serves.serves) held.own
-
-pub ruleset standing = (stepping, stays_as_before, alike_stands, can_make, can_make_second, can_make_root, can_make_under, can_make_under_second, can_tell, can_tell_second, can_close, can_enter, can_exit, can_exit_second, tell_entered, tell_entered_second, exit_entered, exit_entered_second, exit_stays, close_stays, can_ask, can_ask_held, of_lane)

@@ -1,5 +1,5 @@
 -- What is done between a span's making and its close, and between its entry and its exit, with the moments of both.
-use Rattle.std.specs.Prelude.{ℕ, Some, Ok}
+use Rattle.std.specs.Prelude.{◌≡◌, ℕ, Some, None, Ok}
 use Rattle.trace_base.specs.declared.field.ValueSet.{ValueSet}
 use Rattle.trace_base.specs.declared.lane.Lane.{Lane}
 use Rattle.trace_base.specs.declared.span.Parent.{Parent}
@@ -19,12 +19,14 @@ pub record MakesAndCloses {S : Type 0} (sub : Ghosts S) (lane : Lane) (place : P
   pub meanwhile : between handle begun ended
   pub closes : ReplacedOn (λ id s t. Chain sub.spans sub.does ends (Some id) s t) ended new handle.held
 
--- a span is entered on a lane at a moment, and exited there at another
+-- a span is entered on a lane at a moment, and exited there at another; where the handle is disabled, neither happens
 pub record EntersAndExits {S : Type 0} (sub : Ghosts S) (handle : Handle) (enters exits : ℕ) (between : Worlds S → Lane → Worlds S → Lane → Type 0) (old new : Worlds S) (before later : Lane) : Type 0 where
   pub world : Worlds S
   pub lane : Lane
   pub left_world : Worlds S
   pub left_lane : Lane
   pub entered : ReplacedOn (λ id s t. sub.does s (Enter id enters before lane) t) old world handle.held
+  pub none_entered : handle.held ≡ None → lane ≡ before
   pub meanwhile : between world lane left_world left_lane
   pub exited : ReplacedOn (λ id s t. sub.does s (Exit id exits left_lane later) t) left_world new handle.held
+  pub none_exited : handle.held ≡ None → later ≡ left_lane

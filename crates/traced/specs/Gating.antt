@@ -41,3 +41,8 @@ pub record TellsOne {S : Type 0} (sub : Ghosts S) (old new : Worlds S) (lane : L
 pub record TellsIfAnswered {S : Type 0} (sub : Ghosts S) (old new : Worlds S) (lane : Lane) (at : ℕ) (place : Parent) (site : ℕ) (values : ValueSet) : Type 0 where
   pub told : AnswersGate sub old lane site true → TellsOne sub old new lane at place site values
   pub refused : AnswersGate sub old lane site false → new ≡ old
+
+-- the same where something was so, and else nothing
+abbrev pub TellsWhen : {S : Type 0} → Bool → Ghosts S → Worlds S → Worlds S → Lane → ℕ → Parent → ℕ → ValueSet → Type 0
+TellsWhen true sub old new lane at place site values = TellsIfAnswered sub old new lane at place site values
+TellsWhen false sub old new lane at place site values = new ≡ old

@@ -1,8 +1,11 @@
 pub mod AsBefore
 pub mod Between
 pub mod Gating
+pub mod Keeping
 pub mod Laws
 pub mod Making
 pub mod Moving
+pub mod Programs
 pub mod Standing
 pub mod Staying
+pub mod Telling

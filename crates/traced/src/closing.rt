@@ -1,7 +1,5 @@
 //! Handles that are closed.
-ghost use Rattle.std.specs.Prelude.{Some};
-ghost use Rattle.span_handles.specs.Worlds.{Chain};
-ghost use Rattle.span_handles.specs.Handles.{ReplacedOn, ClosesOn};
+ghost use Rattle.span_handles.specs.Handles.{ClosesOn};
 ghost use Rattle.span_handles.specs.Knowing.{KeepsOthers, LosesOne};
 ghost use Rattle.traced.specs.Standing.{CanClose};
 ghost use Rattle.traced.specs.Moving.{Closes};
@@ -16,10 +14,9 @@ use trace_base::world::World;
 pub fn close<S: Subscriber>(span: Span, world: &mut World<S>, at: u64) -> bool
     requires { CanClose S.Subscriber world.old span }
     ensures value { ClosesOn S.spans world.old span.held result }
-    ensures did { ReplacedOn (λ id s t. Chain S.spans S.does at (Some id) s t) world.old world.new span.held }
     ensures keeps { KeepsOthers S.spans world.old world.new span.held }
     ensures fewer { LosesOne S.spans world.old world.new span.held }
-    ensures closes { Closes S.Subscriber world.old world.new span }
+    ensures closes { Closes S.Subscriber world.old world.new at span }
 {
     lawful::<S>();
     span.close(world, at)

@@ -1,8 +1,6 @@
 //! Spans that are entered and exited.
-ghost use Rattle.std.specs.Prelude.{◌≡◌, Err, IfOk, OnOk, OnErr, IsErr};
+ghost use Rattle.std.specs.Prelude.{◌≡◌, None, Err, IfOk, OnErr, IsOk, IsErr};
 ghost use Rattle.otel_base.specs.declared.enter_error.EnterError.TheVariants.{Full};
-ghost use Rattle.trace_base.specs.Calls.{Enter, Exit};
-ghost use Rattle.span_handles.specs.Handles.{ReplacedOn};
 ghost use Rattle.span_handles.specs.Entries.{MeetsFullLane};
 ghost use Rattle.traced.specs.Standing.{CanEnter, CanExit};
 ghost use Rattle.traced.specs.Moving.{Enters, Refuses, Exits};
@@ -23,10 +21,9 @@ pub fn enter<'a, S: Subscriber>(
     at: u64,
 ) -> Result<Entered<'a>, EnterError>
     requires { CanEnter S.Subscriber world.old span.now }
-    ensures did { OnOk result
-        (ReplacedOn (λ id s t. S.does s (Enter id at lane.old lane.new) t) world.old world.new span.now.held) }
-    ensures entered { IfOk result (Enters S.Subscriber world.old world.new lane.old lane.new span.now) }
-    ensures refused { OnErr result (Refuses S.Subscriber world.old world.new lane.old lane.new) }
+    ensures entered { IfOk result (Enters S.Subscriber world.old world.new lane.old lane.new at span.now) }
+    ensures refused { OnErr result (Refuses S.Subscriber world.old world.new lane.old lane.new span.now) }
+    ensures disabled { span.now.held ≡ None → IsOk result }
     ensures full { result ≡ Err Full → MeetsFullLane S.activates world.old lane.old span.now.held }
     ensures full_refused { MeetsFullLane S.activates world.old lane.old span.now.held → IsErr result }
 {
@@ -38,9 +35,7 @@ pub fn enter<'a, S: Subscriber>(
 /// else but what was closed and exited again, it leaves all as it was then.
 pub fn exit<S: Subscriber>(guard: Entered<'_>, world: &mut World<S>, lane: &mut Lane, at: u64)
     requires { CanExit S.Subscriber world.old lane.old guard }
-    ensures did { ReplacedOn (λ id s t. S.does s (Exit id at lane.old lane.new) t) world.old world.new
-        guard.entry.span.held }
-    ensures exits { Exits S.Subscriber world.old world.new lane.old lane.new guard.entry }
+    ensures { Exits S.Subscriber world.old world.new lane.old lane.new at guard.entry }
 {
     lawful::<S>();
     guard.exit(world, lane, at);

@@ -1,5 +1,5 @@
 //! Calls of a program that is traced, over any subscriber: what stands for the macros, and handles that are closed and
-//! entered where a program says so. A program carries one record of its world and lanes from call to call, `Stands` of
+//! entered where a program says so. A program carries one record of its world and lanes from call to call, `StandsReady` of
 //! `specs/Standing.antt`, and what it made and entered since, `specs/AsBefore.antt`.
 #![tactic(auto)]
 

@@ -1,12 +1,12 @@
 //! Events told where the gate lets their callsites through.
-ghost use Rattle.std.specs.Prelude.{◌≡◌, ◌<◌, length, IsOk, OnOk, OnErr, true, false};
+ghost use Rattle.std.specs.Prelude.{◌<◌, length, OnOk, OnErr};
 ghost use Rattle.trace_base.specs.declared.span.Parent.TheVariants as parent;
 ghost use Rattle.trace_base.specs.Gate.{dispatch_on};
 ghost use Rattle.span_handles.specs.Worlds.{Has, Replaced};
 ghost use Rattle.span_handles.specs.Handles.{ReplacedIf};
-ghost use Rattle.traced.specs.Gating.{AnswersGate, TellsEvent, TellsEventIf, TellsOne};
-ghost use Rattle.traced.specs.Staying.{Stays};
+ghost use Rattle.traced.specs.Gating.{TellsEvent, TellsEventIf};
 ghost use Rattle.traced.specs.Standing.{CanTell};
+ghost use Rattle.traced.specs.Telling.{Tells};
 
 use crate::laws::lawful;
 use otel_base::memory::Memory;
@@ -27,10 +27,7 @@ pub fn event<S: Subscriber>(
     values: &ValueSet,
 ) -> Result<(), Memory>
     requires { CanTell S.Subscriber world.old lane.now site }
-    ensures told { AnswersGate S.Subscriber world.old lane.now site true
-        → OnOk result (TellsOne S.Subscriber world.old world.new lane.now at parent.Current site values.now) }
-    ensures refused { AnswersGate S.Subscriber world.old lane.now site false → IsOk result × (world.new ≡ world.old) }
-    ensures stays { Stays S.Subscriber world.old world.new }
+    ensures { Tells S.Subscriber world.old world.new lane.now at parent.Current site values.now result }
 {
     lawful::<S>();
     if world.admits(lane, site) {

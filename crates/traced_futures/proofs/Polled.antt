@@ -24,9 +24,9 @@ no_error (Err e) is ok = absurd (cc ok)
 module _ {T S A : Type 0} (sub : Ghosts S) (law : IsLawful sub) (future : Instrumented T) (old : Worlds S) (before : Lane) (at : ℕ) (result : Polled A) (next : Instrumented T) (new : Worlds S) (left : Lane) where
   of_refused : CannotEnter sub.same sub.activates future old before result next new left → Polls sub old new before left future.span
   of_refused r =
-      let refused = refuses sub law old new before left future.span.held (Err r.error) r.nothing r.lane_same in
+      let refused = refuses sub law old new before left future.span (Err r.error) r.nothing r.lane_same in
       record {
-        lane_id = refused.lane_id;
+        lane_id = refused.lane_room.id;
         count = refused.count;
         stands = λ most dispatch sites others held stands. later sub most (most + 1) dispatch sites new (left ∷ others) (omega arith) (refused.stands most dispatch sites others stands);
         as_before = λ dispatch held. refused.as_before dispatch;

@@ -5,7 +5,8 @@ use Rattle.trace_base.specs.declared.lane.Lane.{Lane}
 use Rattle.trace_base.specs.declared.subscriber.Subscriber.{Ghosts}
 use Rattle.trace_base.specs.Gate.{Worlds, IsOwn}
 use Rattle.span_handles.specs.Handles.{Handle}
-use Rattle.span_futures.specs.declared.instrument.Instrumented.{Instrumented}
+pub use Rattle.span_futures.specs.declared.instrument.Instrumented.{Instrumented}
+pub use Rattle.span_futures.specs.declared.plain.Plain.{Plain}
 use Rattle.span_futures.specs.Lent.{HasAll, AreAllAttached}
 use Rattle.span_futures.specs.Polls.{Polled, CannotEnter, IsInside}
 use Rattle.traced.specs.Standing.{StandsReady, IsHeld}

@@ -1,9 +1,7 @@
 //! Polls of futures inside their spans, and the close of their handles.
-ghost use Rattle.std.specs.Prelude.{◌≡◌, Some, Err};
+ghost use Rattle.std.specs.Prelude.{◌≡◌, Err};
 ghost use Rattle.otel_base.specs.declared.enter_error.EnterError.TheVariants.{Full};
 ghost use Rattle.futures.specs.Task.{Keeps};
-ghost use Rattle.span_handles.specs.Worlds.{Chain};
-ghost use Rattle.span_handles.specs.Handles.{ReplacedOn};
 ghost use Rattle.span_handles.specs.Entries.{MeetsFullLane};
 ghost use Rattle.span_futures.specs.Polls.{IfEnded, UnlessEnded};
 ghost use Rattle.traced.specs.Standing.{CanClose, CanEnter};
@@ -57,9 +55,7 @@ pub fn is_ready<T>(polled: &Result<Poll<T>, EnterError>) -> bool
 pub fn into_inner<S: Subscriber, T>(future: Instrumented<T>, world: &mut World<S>, at: u64) -> T
     requires { CanClose S.Subscriber world.old future.span }
     ensures value { result ≡ future.inner }
-    ensures did { ReplacedOn (λ id s t. Chain S.spans S.does at (Some id) s t) world.old world.new
-        future.span.held }
-    ensures closes { Closes S.Subscriber world.old world.new future.span }
+    ensures closes { Closes S.Subscriber world.old world.new at future.span }
 {
     lawful::<S>();
     future.into_inner(world, at)

@@ -3,8 +3,10 @@ use Rattle.traced.proofs.Moves.{lane_left, exited_on, exited_again}
 use Rattle.traced.proofs.Elsewhere.{count_on}
 use Rattle.traced.proofs.entering.exit.Goals as goal
 
-pub returns-clause-exits : goal.returns-clause-exits
-returns-clause-exits g c = record {
+pub returns : goal.returns
+returns g c = record {
+  did = c.exit.ensures.did;
+  none = c.exit.ensures.none;
   lane_id = lane_left g.S.Subscriber c.lawful.ensures c.args.world.now c.exit.new.world c.args.lane.now c.exit.new.lane c.args.at c.args.guard.span.held c.exit.ensures.did c.exit.ensures.none;
   count = count_on _ c.args.world.now c.exit.new.world c.args.guard.span.held c.exit.ensures.did;
   stands = λ most dispatch sites others held stands.

@@ -1,5 +1,5 @@
 -- By what was added.
-use Rattle.traced.proofs.Begins.{begins_if, one_more}
+use Rattle.traced.proofs.changes.Begins.{begins_if, one_more}
 use Rattle.traced.proofs.starting.start.Goals as goal
 
 pub returns-clause-stands : goal.returns-clause-stands

@@ -7,17 +7,18 @@ use Rattle.traced.proofs.Gated.{tells_one, apart}
 use Rattle.traced.proofs.Moves.{told_if, stays_same}
 use Rattle.traced.proofs.telling.event.Goals as goal
 
-pub returns-then-admits-clause-told : goal.returns-then-admits-clause-told
-returns-then-admits-clause-told g c = λ yes. tells_one g.S.Subscriber c.args.world.now c.deliver.new.world c.args.lane.now c.args.at parent.Current c.args.site c.args.values.now c.deliver.result yes c.deliver.ensures.did
+pub returns-then-admits : goal.returns-then-admits
+returns-then-admits g c = record {
+  told = λ yes. tells_one g.S.Subscriber c.args.world.now c.deliver.new.world c.args.lane.now c.args.at parent.Current c.args.site c.args.values.now c.deliver.result yes c.deliver.ensures.did;
+  refused = λ no. absurd (apart g.S.Subscriber c.args.world.now c.args.lane.now c.args.site c.requires (subst (AnswersGate g.S.Subscriber c.args.world.now c.args.lane.now c.args.site) c.if-admits.true c.admits.ensures) no);
+  memory_leaves = c.deliver.ensures.memory_leaves;
+  stays = told_if g.S.Subscriber c.lawful.ensures c.args.world.now c.deliver.new.world c.args.lane.now c.args.at parent.Current c.args.site c.args.values.now (dispatch_on c.args.lane.now.default c.args.world.now.global) c.deliver.result c.deliver.ensures.did c.deliver.ensures.memory_leaves;
+}
 
-pub returns-then-admits-clause-refused : goal.returns-then-admits-clause-refused
-returns-then-admits-clause-refused g c = λ no. absurd (apart g.S.Subscriber c.args.world.now c.args.lane.now c.args.site c.requires (subst (AnswersGate g.S.Subscriber c.args.world.now c.args.lane.now c.args.site) c.if-admits.true c.admits.ensures) no)
-
-pub returns-then-admits-clause-stays : goal.returns-then-admits-clause-stays
-returns-then-admits-clause-stays g c = told_if g.S.Subscriber c.lawful.ensures c.args.world.now c.deliver.new.world c.args.lane.now c.args.at parent.Current c.args.site c.args.values.now (dispatch_on c.args.lane.now.default c.args.world.now.global) c.deliver.result c.deliver.ensures.did c.deliver.ensures.memory_leaves
-
-pub returns-else-admits-clause-told : goal.returns-else-admits-clause-told
-returns-else-admits-clause-told g c = λ yes. absurd (apart g.S.Subscriber c.args.world.now c.args.lane.now c.args.site c.requires yes (subst (AnswersGate g.S.Subscriber c.args.world.now c.args.lane.now c.args.site) c.if-admits.false c.admits.ensures))
-
-pub returns-else-admits-clause-stays : goal.returns-else-admits-clause-stays
-returns-else-admits-clause-stays g c = stays_same g.S.Subscriber c.args.world.now c.args.world.now refl
+pub returns-else-admits : goal.returns-else-admits
+returns-else-admits g c = record {
+  told = λ yes. absurd (apart g.S.Subscriber c.args.world.now c.args.lane.now c.args.site c.requires yes (subst (AnswersGate g.S.Subscriber c.args.world.now c.args.lane.now c.args.site) c.if-admits.false c.admits.ensures));
+  refused = λ no. (refl, refl);
+  memory_leaves = tt;
+  stays = stays_same g.S.Subscriber c.args.world.now c.args.world.now refl;
+}

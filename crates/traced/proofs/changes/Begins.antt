@@ -9,6 +9,7 @@ use Rattle.trace_base.specs.declared.subscriber.Subscriber.{Ghosts}
 use Rattle.trace_base.specs.Gate.{Worlds, AreSame, dispatch_on}
 use Rattle.span_registry.specs.Registering.{no_spans}
 use Rattle.span_handles.specs.Worlds.{spans_in, kept_in}
+use Rattle.traced.specs.Keeping.{StandsAlone}
 use Rattle.traced.specs.Laws.{IsLawful}
 use Rattle.traced.specs.Standing.{AreAtMost, AreServed, AreAssigned, StandsReady}
 use Rattle.traced.proofs.Moves.{get_there}
@@ -54,9 +55,12 @@ pub one_more : {S E : Type 0} (sub : Ghosts S) (first : S) (before world : World
 one_more sub first before world (Ok dispatch) are = (let c = are.count in omega (arith, c, length-append before.subscribers (first ∷ [])))
 one_more sub first before world (Err refused) are = tt
 
--- the first stack of a world serves two lanes with ids of their own
-pub first_two : {S : Type 0} {sub : Ghosts S} {world : Worlds S} {dispatch : ℕ} {front back : Lane} (old : Worlds S) (sites : ℕ) → dispatch ≡ 0 → sites ≤ length old.sites → front.default ≡ Some dispatch → back.default ≡ Some dispatch → (back.id ≡ front.id → ⊥)
-    → ((sites : ℕ) (lanes : List Lane) → sites ≤ length old.sites → AreAssigned world.global dispatch lanes → StandsReady sub 0 dispatch sites world lanes) → StandsReady sub 0 0 sites world (front ∷ back ∷ [])
-first_two {S} {sub} {world} {dispatch} {front} {back} old sites first within one other apart begins =
+-- the only stack of a world serves two lanes with ids of their own
+pub alone_two : {S : Type 0} {sub : Ghosts S} {world : Worlds S} {dispatch : ℕ} {front back : Lane} (old : Worlds S) (sites : ℕ) → dispatch ≡ 0 → length world.subscribers ≡ 1 → sites ≤ length old.sites → front.default ≡ Some dispatch → back.default ≡ Some dispatch → (back.id ≡ front.id → ⊥)
+    → ((sites : ℕ) (lanes : List Lane) → sites ≤ length old.sites → AreAssigned world.global dispatch lanes → StandsReady sub 0 dispatch sites world lanes) → StandsAlone sub 0 sites world (front ∷ back ∷ [])
+alone_two {S} {sub} {world} {dispatch} {front} {back} old sites first alone within one other apart begins =
     let serves : (lane : Lane) → lane.default ≡ Some dispatch → dispatch_on lane.default world.global ≡ Some dispatch = λ lane own. ap (λ (o : Option ℕ). dispatch_on o world.global) own in
-    subst (λ (d : ℕ). StandsReady sub 0 d sites world (front ∷ back ∷ [])) first (begins sites (front ∷ back ∷ []) within (serves front one, (apart, tt), (serves back other, tt, tt)))
+    record {
+      stands = subst (λ (d : ℕ). StandsReady sub 0 d sites world (front ∷ back ∷ [])) first (begins sites (front ∷ back ∷ []) within (serves front one, (apart, tt), (serves back other, tt, tt)));
+      alone = alone;
+    }
