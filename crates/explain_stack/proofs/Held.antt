@@ -1,29 +1,57 @@
 -- Three handles after a take, a put and a call.
-use Rattle.std.proofs.Common.{◌≡◌, ℕ, Bool, false, Some, None, refl, sym, ap, ◌∙◌, subst, inl, inr}
-use Rattle.std.specs.Prelude.{◌==◌, ◌&&◌}
+use Rattle.std.proofs.Common.{◌≡◌, ℕ, List, Bool, true, false, Option, Some, None, refl, sym, ap, ◌∙◌, subst}
+use Rattle.std.specs.Prelude.{◌==◌, ◌&&◌, if◌then◌else◌, codes, bytes_eq}
 use Rattle.std.proofs.lemmas.Bool.{eq-eqb, true≢false}
 use Rattle.trace_base.specs.Gate.{Worlds}
 use Rattle.trace_base.specs.Spans.{Spans}
+use Rattle.trace_base.specs.Calls.{SubscriberCall}
 use Rattle.span_handles.specs.Handles.{Handle, Held, IsKnown, no_handle, same_held}
 use Rattle.span_handles.specs.Knowing.{KeepsKnown, KeepsOthers}
 use Rattle.explain_stack.specs.declared.handles.Handles.{Handles}
 use Rattle.explain_stack.specs.Order.{IsHeld}
-use Rattle.explain_stack.specs.Places.{TakesHandle, PutsHandle, AreHeld}
+use Rattle.explain_stack.specs.Places.{AreHeld, IsNoneOf, ClosesNamed, named_at, put_at, handle_named, with_named}
+use Rattle.explain_stack.specs.Puts.{ClosesHeld}
 
 pub none_held : {S : Type 0} (spans : S → Spans) (sites : ℕ) (world : Worlds S) → IsHeld spans sites world no_handle
 none_held spans sites world = record { known = tt; site = tt }
 
-module _ {S : Type 0} (spans : S → Spans) (sites : ℕ) (world : Worlds S) where
-  pub takes_held : (old new : Handles) (slot : Handle) → TakesHandle old new slot → AreHeld spans sites world old → IsHeld spans sites world slot × AreHeld spans sites world new
-  takes_held old new slot (inl t) held = (subst (λ (h : Handle). IsHeld spans sites world h) (sym t.0) held.a, subst (λ (hs : Handles). AreHeld spans sites world hs) (sym t.1) (record { a = none_held spans sites world; b = held.b; c = held.c }))
-  takes_held old new slot (inr (inl t)) held = (subst (λ (h : Handle). IsHeld spans sites world h) (sym t.0) held.b, subst (λ (hs : Handles). AreHeld spans sites world hs) (sym t.1) (record { a = held.a; b = none_held spans sites world; c = held.c }))
-  takes_held old new slot (inr (inr t)) held = (subst (λ (h : Handle). IsHeld spans sites world h) (sym t.0) held.c, subst (λ (hs : Handles). AreHeld spans sites world hs) (sym t.1) (record { a = held.a; b = held.b; c = none_held spans sites world }))
+some_if : {A : Type 0} (P : A → Type 0) (b : Bool) (x : A) (rest : Option A) (slot : A) → Some slot ≡ (if b then Some x else rest) → P x → (Some slot ≡ rest → P slot) → P slot
+some_if {A} P true x rest slot is here there = (let same : slot ≡ x = cc is in subst (λ (y : A). P y) (sym same) here)
+some_if P false x rest slot is here there = there is
 
-  pub puts_held : (old new : Handles) (slot : Handle) → PutsHandle old slot new → IsHeld spans sites world slot → AreHeld spans sites world old → AreHeld spans sites world new
-  puts_held old new slot (inl p) one held = subst (λ (hs : Handles). AreHeld spans sites world hs) (sym p) (record { a = one; b = held.b; c = held.c })
-  puts_held old new slot (inr (inl p)) one held = subst (λ (hs : Handles). AreHeld spans sites world hs) (sym p) (record { a = held.a; b = one; c = held.c })
-  puts_held old new slot (inr (inr (inl p))) one held = subst (λ (hs : Handles). AreHeld spans sites world hs) (sym p) (record { a = held.a; b = held.b; c = one })
-  puts_held old new slot (inr (inr (inr p))) one held = subst (λ (hs : Handles). AreHeld spans sites world hs) (sym p) held
+if_holds : {A : Type 0} (P : A → Type 0) (b : Bool) (x y : A) → P x → P y → P (if b then x else y)
+if_holds P true x y here there = here
+if_holds P false x y here there = there
+
+module _ {S : Type 0} (spans : S → Spans) (sites : ℕ) (world : Worlds S) where
+  -- the one of a name is held, and all are where one is put
+  pub named_held : (name : List ℕ) (handles : Handles) (slot : Handle) → Some slot ≡ handle_named name handles → AreHeld spans sites world handles → IsHeld spans sites world slot
+  named_held name handles slot is held =
+      some_if (λ (h : Handle). IsHeld spans sites world h) (bytes_eq name (codes "a")) handles.a _ slot is held.a
+      (λ i. some_if (λ (h : Handle). IsHeld spans sites world h) (bytes_eq name (codes "b")) handles.b _ slot i held.b
+      (λ j. some_if (λ (h : Handle). IsHeld spans sites world h) (bytes_eq name (codes "c")) handles.c None slot j held.c (λ k. absurd (cc k))))
+
+  pub put_held : (name : List ℕ) (slot : Handle) (handles : Handles) → IsHeld spans sites world slot → AreHeld spans sites world handles → AreHeld spans sites world (with_named name slot handles)
+  put_held name slot handles one held =
+      if_holds (λ (hs : Handles). AreHeld spans sites world hs) (bytes_eq name (codes "a")) _ _ (record { a = one; b = held.b; c = held.c })
+      (if_holds (λ (hs : Handles). AreHeld spans sites world hs) (bytes_eq name (codes "b")) _ _ (record { a = held.a; b = one; c = held.c })
+      (if_holds (λ (hs : Handles). AreHeld spans sites world hs) (bytes_eq name (codes "c")) _ handles (record { a = held.a; b = held.b; c = one }) held))
+
+  pub none_put : (name : List ℕ) (slot : Handle) (old new : Handles) → slot ≡ no_handle → new ≡ with_named name slot old → AreHeld spans sites world old → AreHeld spans sites world new
+  none_put name slot old new none is held =
+      subst (λ (hs : Handles). AreHeld spans sites world hs) (sym is) (put_held name slot old (subst (λ (h : Handle). IsHeld spans sites world h) (sym none) (none_held spans sites world)) held)
+
+-- what was taken is put back
+put_back_at : (a b c : Bool) (slot : Handle) (handles : Handles) → Some slot ≡ named_at a b c handles → put_at a b c slot (put_at a b c no_handle handles) ≡ handles
+put_back_at true b c slot handles is = (let same : slot ≡ handles.a = cc is in ap (λ (h : Handle). record handles { a = h }) same)
+put_back_at false true c slot handles is = (let same : slot ≡ handles.b = cc is in ap (λ (h : Handle). record handles { b = h }) same)
+put_back_at false false true slot handles is = (let same : slot ≡ handles.c = cc is in ap (λ (h : Handle). record handles { c = h }) same)
+put_back_at false false false slot handles is = refl
+
+pub put_back : (name : List ℕ) (slot : Handle) (old left new : Handles) → Some slot ≡ handle_named name old → left ≡ with_named name no_handle old → new ≡ with_named name slot left → new ≡ old
+put_back name slot old left new is taken put =
+    put ∙ ap (λ (hs : Handles). with_named name slot hs) taken
+    ∙ put_back_at (bytes_eq name (codes "a")) (bytes_eq name (codes "b")) (bytes_eq name (codes "c")) slot old is
 
 module _ {S : Type 0} (spans : S → Spans) (sites : ℕ) (old new : Worlds S) where
   pub one_held : KeepsKnown spans old new → (handle : Handle) → IsHeld spans sites old handle → IsHeld spans sites new handle
@@ -39,10 +67,18 @@ module _ {S : Type 0} (spans : S → Spans) (sites : ℕ) (old new : Worlds S) w
       not_apart : (h : ℕ × ℕ) → same_held (Some h) (Some h) ≡ false → ⊥
       not_apart h e = true≢false (sym (ap (λ (x : Bool). x && (h.1 == h.1)) (eq-eqb h.0 h.0 refl) ∙ eq-eqb h.1 h.1 refl) ∙ e)
 
-  pub others_held : (closed : Held) → KeepsOthers spans old new closed → (handles : Handles) → same_held handles.a.held closed ≡ false → same_held handles.b.held closed ≡ false → same_held handles.c.held closed ≡ false
-      → AreHeld spans sites old handles → AreHeld spans sites new handles
-  others_held closed keeps handles a b c held = record {
-    a = record { known = apart_held closed handles.a.held keeps a held.a.known; site = held.a.site };
-    b = record { known = apart_held closed handles.b.held keeps b held.b.known; site = held.b.site };
-    c = record { known = apart_held closed handles.c.held keeps c held.c.known; site = held.c.site };
+  others_held : (closed : Handle) → KeepsOthers spans old new closed.held → (handles : Handles) → IsNoneOf handles closed → AreHeld spans sites old handles → AreHeld spans sites new handles
+  others_held closed keeps handles none held = record {
+    a = record { known = apart_held closed.held handles.a.held keeps none.a held.a.known; site = held.a.site };
+    b = record { known = apart_held closed.held handles.b.held keeps none.b held.b.known; site = held.b.site };
+    c = record { known = apart_held closed.held handles.c.held keeps none.c held.c.known; site = held.c.site };
   }
+
+  -- the others are held where the one of a name was closed
+  pub closed_held : (name : List ℕ) (closed : Handle) (handles left : Handles) → left ≡ with_named name no_handle handles → IsNoneOf left closed → KeepsOthers spans old new closed.held → AreHeld spans sites old handles → AreHeld spans sites new left
+  closed_held name closed handles left is none keeps held =
+      others_held closed keeps left none (subst (λ (hs : Handles). AreHeld spans sites old hs) (sym is) (put_held spans sites old name no_handle handles (none_held spans sites old) held))
+
+pub closes_named : {S : Type 0} (spans : S → Spans) (does : S → SubscriberCall → S → Type 0) (at : ℕ) (name : List ℕ) (closed : Handle) (handles : Handles) (old : Worlds S) (left : Handles) (new : Worlds S) → Some closed ≡ handle_named name handles → left ≡ with_named name no_handle handles
+    → ClosesHeld spans does at old new closed.held → ClosesNamed spans does at name handles old left new
+closes_named spans does at name closed handles old left new was is closes = record { handle = closed; was = was; closed = closes; left_is = is }

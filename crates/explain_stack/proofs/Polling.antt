@@ -16,6 +16,7 @@ use Rattle.span_futures.specs.Polls.{Polled, CannotEnter, IsInside}
 use Rattle.span_futures.specs.Lent.{all_kept}
 use Rattle.span_futures.specs.Served.{served_lane, lane_back}
 use Rattle.explain_stack.specs.Order.{Stands}
+use Rattle.explain_stack.specs.Puts.{PollsUnder}
 use Rattle.explain_stack.proofs.Moves.{entered_stands, exited_stands, lane_left}
 use Rattle.explain_stack.proofs.Quiet.{quiet_same}
 use Rattle.explain_stack.proofs.Steps.{quiet_on}
@@ -64,6 +65,16 @@ module _ {S : Type 0} (spans : S → Spans) (attaches : S → Bool) (kept : S �
   polled_stands same same_spans same_kept same_whole activates polls leaves future next old new before later other at r (inr inside) stands =
       let same_world = leaves future.inner inside.world inside.lane at r next.inner inside.left_world inside.left_lane inside.polled in
       inside_stands at future.span.held old inside.world inside.left_world new before inside.lane inside.left_lane later other inside.entered same_world.0 same_world.1 inside.exited inside.none stands
+
+-- a poll, and a disabled handle that is closed
+pub polls_under : {S T A : Type 0} (same : S → S → Type 0) (does : S → SubscriberCall → S → Type 0) (activates : S → ℕ → Bool) (polls : T → Worlds S → Lane → ℕ → Polled A → T → Worlds S → Lane → Type 0) (at : ℕ) (given future next : Instrumented T) (old left new : Worlds S) (before later : Lane) (r : Polled A) (closes : ℕ → S → S → Type 0) (closed : Held)
+    → future ≡ given → closed ≡ None → ReplacedOn closes left new closed
+    → CannotEnter same activates future old before r next left later ⊎ IsInside does activates polls future old before at r next left later
+    → PollsUnder same does activates polls given old before at r new later
+polls_under {S} {T} same does activates polls at given future next old left new before later r closes closed is none did polled =
+    subst (λ (f : Instrumented T). PollsUnder same does activates polls f old before at r new later) is
+    (subst (λ (w : Worlds S). PollsUnder same does activates polls future old before at r w later) (sym (subst (λ (h : Held). ReplacedOn closes left new h) none did))
+    (record { next = next; did = polled }))
 
 -- more is attached to the lane
 pub filled_stands : {S : Type 0} (spans : S → Spans) (kept : S → ℕ → ℕ → ℕ) (is_whole : S → Type 0) (dispatch made sites : ℕ) (world : Worlds S) (before later other : Lane) → later.id ≡ before.id → later.default ≡ before.default

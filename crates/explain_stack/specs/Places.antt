@@ -1,33 +1,33 @@
--- Three handles, of which one is taken or put.
-use Rattle.std.specs.Prelude.{◌≡◌, ◌⊎◌, ℕ, List, Option, Some, None, if◌then◌else◌, codes, bytes_eq}
+-- Three handles, by their names.
+use Rattle.std.specs.Prelude.{◌≡◌, ℕ, Bool, false, List, Option, Some, None, if◌then◌else◌, codes, bytes_eq}
 use Rattle.trace_base.specs.Gate.{Worlds}
 use Rattle.trace_base.specs.Spans.{Spans}
-use Rattle.span_handles.specs.Handles.{Handle, no_handle}
+use Rattle.trace_base.specs.Calls.{SubscriberCall}
+use Rattle.span_handles.specs.Handles.{Handle, no_handle, same_held}
 use Rattle.explain_stack.specs.declared.handles.Handles.{Handles}
 use Rattle.explain_stack.specs.declared.scene.Scene.{Scene}
 use Rattle.explain_stack.specs.Order.{SceneInOrder, IsHeld}
+use Rattle.explain_stack.specs.Puts.{ClosesHeld}
 
--- the one of a name, and the three with another one there
+-- the first of three that is asked for, and the three with another one there
+abbrev pub named_at : Bool → Bool → Bool → Handles → Option Handle
+named_at a b c handles = if a then Some handles.a else (if b then Some handles.b else (if c then Some handles.c else None))
+
+abbrev pub put_at : Bool → Bool → Bool → Handle → Handles → Handles
+put_at a b c slot handles = if a then record handles { a = slot } else (if b then record handles { b = slot } else (if c then record handles { c = slot } else handles))
+
+-- the same by a name
 abbrev pub handle_named : List ℕ → Handles → Option Handle
-handle_named name handles =
-    if bytes_eq name (codes "a") then Some handles.a else
-    (if bytes_eq name (codes "b") then Some handles.b else
-    (if bytes_eq name (codes "c") then Some handles.c else None))
+handle_named name handles = named_at (bytes_eq name (codes "a")) (bytes_eq name (codes "b")) (bytes_eq name (codes "c")) handles
 
 abbrev pub with_named : List ℕ → Handle → Handles → Handles
-with_named name slot handles =
-    if bytes_eq name (codes "a") then record handles { a = slot } else
-    (if bytes_eq name (codes "b") then record handles { b = slot } else
-    (if bytes_eq name (codes "c") then record handles { c = slot } else handles))
+with_named name slot handles = put_at (bytes_eq name (codes "a")) (bytes_eq name (codes "b")) (bytes_eq name (codes "c")) slot handles
 
--- one is taken, and a disabled one is left
-abbrev pub TakesHandle : Handles → Handles → Handle → Type 0
-TakesHandle old new slot = ((slot ≡ old.a) × (new ≡ record old { a = no_handle }))
-    ⊎ (((slot ≡ old.b) × (new ≡ record old { b = no_handle })) ⊎ ((slot ≡ old.c) × (new ≡ record old { c = no_handle })))
-
--- one is put, or none where there is no such place
-abbrev pub PutsHandle : Handles → Handle → Handles → Type 0
-PutsHandle old slot new = (new ≡ record old { a = slot }) ⊎ ((new ≡ record old { b = slot }) ⊎ ((new ≡ record old { c = slot }) ⊎ (new ≡ old)))
+-- none of the three is of the span of a handle
+pub record IsNoneOf (handles : Handles) (handle : Handle) : Type 0 where
+  pub a : same_held handles.a.held handle.held ≡ false
+  pub b : same_held handles.b.held handle.held ≡ false
+  pub c : same_held handles.c.held handle.held ≡ false
 
 -- all three are known, with callsites of the world
 pub record AreHeld {S : Type 0} (spans : S → Spans) (sites : ℕ) (world : Worlds S) (handles : Handles) : Type 0 where
@@ -39,3 +39,10 @@ pub record AreHeld {S : Type 0} (spans : S → Spans) (sites : ℕ) (world : Wor
 pub record InPlay {S : Type 0} (spans : S → Spans) (kept : S → ℕ → ℕ → ℕ) (is_whole : S → Type 0) (scene : Scene S) (handles : Handles) : Type 0 where
   pub order : SceneInOrder spans kept is_whole scene
   pub held : AreHeld spans scene.sites scene.world handles
+
+-- the handle of a name is closed, and a disabled one is left there
+pub record ClosesNamed {S : Type 0} (spans : S → Spans) (does : S → SubscriberCall → S → Type 0) (at : ℕ) (name : List ℕ) (handles : Handles) (old : Worlds S) (left : Handles) (new : Worlds S) : Type 0 where
+  pub handle : Handle
+  pub was : Some handle ≡ handle_named name handles
+  pub closed : ClosesHeld spans does at old new handle.held
+  pub left_is : left ≡ with_named name no_handle handles

@@ -1,7 +1,7 @@
 //! Three handles, by name.
-ghost use Rattle.std.specs.Prelude.{◌≡◌, false, IfSome, None};
-ghost use Rattle.span_handles.specs.Handles.{no_handle, same_held};
-ghost use Rattle.explain_stack.specs.Places.{TakesHandle, PutsHandle, handle_named, with_named};
+ghost use Rattle.std.specs.Prelude.{◌≡◌, false, Some, None, IfSome, option_map};
+ghost use Rattle.span_handles.specs.Handles.{no_handle};
+ghost use Rattle.explain_stack.specs.Places.{IsNoneOf, handle_named, with_named};
 
 use span_handles::entry::Entry;
 use span_handles::span::Span;
@@ -93,11 +93,22 @@ impl Handles {
         }
     }
 
+    /// The handle of a name; none where there is no such name.
+    pub fn get(&self, name: &str) -> Option<&Slot>
+        ensures { option_map (λ slot. slot.now) result ≡ handle_named name.now self.now }
+    {
+        match name {
+            "a" => Some(&self.a),
+            "b" => Some(&self.b),
+            "c" => Some(&self.c),
+            _ => None,
+        }
+    }
+
     /// Takes the handle of a name, and leaves a disabled one there; none where there is no such name.
     pub fn take(&mut self, name: &str) -> Option<Slot>
         ensures value { result ≡ handle_named name.now self.old }
         ensures rest { self.new ≡ with_named name.now no_handle self.old }
-        ensures some { IfSome result (TakesHandle self.old self.new) }
         ensures none { result ≡ None → self.new ≡ self.old }
     {
         match name {
@@ -108,10 +119,25 @@ impl Handles {
         }
     }
 
+    /// The same, unless the handle is entered or another one is of its span.
+    #[tactic(auto, using(crate::proofs::Held::put_back))]
+    pub fn take_last(&mut self, name: &str) -> Option<Slot>
+        ensures value { IfSome result (λ slot. Some slot ≡ handle_named name.now self.old) }
+        ensures rest { IfSome result (λ slot. self.new ≡ with_named name.now no_handle self.old) }
+        ensures last { IfSome result (IsNoneOf self.new) }
+        ensures none { result ≡ None → self.new ≡ self.old }
+    {
+        let slot = self.take(name)?;
+        if slot.is_entered() || self.has(&slot.span) {
+            self.put(name, slot);
+            return None;
+        }
+        Some(slot)
+    }
+
     /// Puts a handle where one was taken.
     pub fn put(&mut self, name: &str, slot: Slot)
-        ensures there { self.new ≡ with_named name.now slot self.old }
-        ensures puts { PutsHandle self.old slot self.new }
+        ensures { self.new ≡ with_named name.now slot self.old }
     {
         match name {
             "a" => mem::replace(&mut self.a, slot).discard(),
@@ -132,9 +158,7 @@ impl Handles {
 
     /// Whether one of them is of a span.
     pub fn has(&self, span: &Span) -> bool
-        ensures a { result ≡ false → same_held self.now.a.held span.now.held ≡ false }
-        ensures b { result ≡ false → same_held self.now.b.held span.now.held ≡ false }
-        ensures c { result ≡ false → same_held self.now.c.held span.now.held ≡ false }
+        ensures { result ≡ false → IsNoneOf self.now span.now }
     {
         self.a.span.same_span(span) || self.b.span.same_span(span) || self.c.span.same_span(span)
     }

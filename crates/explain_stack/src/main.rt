@@ -2,17 +2,11 @@
 //! is answered, and behind the last of a script the records that its stack gave.
 #![tactic(auto)]
 
-mod asks;
-mod calls;
 mod handles;
-mod inside;
-mod on_span;
 mod play;
-mod polls;
 mod scene;
 mod script;
 mod stack;
-mod tally;
 mod told;
 mod words;
 

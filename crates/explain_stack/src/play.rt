@@ -1,13 +1,17 @@
 //! Lines of calls, made on the handles of a scene.
-ghost use Rattle.std.specs.Prelude.{◌≡◌, ◌<◌, IfOk, IfSome};
-ghost use Rattle.span_handles.specs.Handles.{IsKnown};
-ghost use Rattle.explain_stack.specs.Order.{SceneInOrder, IsHeld, KeepsScene};
-ghost use Rattle.explain_stack.specs.Places.{AreHeld, InPlay};
+ghost use Rattle.std.specs.Prelude.{◌≡◌, ◌⊎◌, ◌<◌, IfOk, IfSome};
+ghost use Rattle.explain_stack.specs.Order.{SceneInOrder, IsHeld};
+ghost use Rattle.explain_stack.specs.Places.{InPlay, ClosesNamed};
+
+mod inside;
+mod on_handle;
+mod on_span;
+mod polls;
 
 use crate::handles::{Handles, Slot};
 use crate::scene::Scene;
 use crate::stack::Stack;
-use crate::{inside, on_span, polls, told, words};
+use crate::{told, words};
 use futures::task;
 use otel_base::memory::Memory;
 use span_handles::span::Span;
@@ -42,11 +46,12 @@ pub fn answer<S: Stack>(
         "around" => polls::around(alloc, scene, handles, at, name),
         "inside" => inside::told(alloc, scene.dispatch),
         "poll" => polls::polled(alloc, scene, handles, at, name, words, cx),
-        _ => one(alloc, scene, handles, at, call, name, words),
+        _ => on_handle::tell(alloc, scene, handles, at, call, name, words),
     }
 }
 
 // A new span of the words `PARENT SITE VALUES`, where a parent is a handle, `current` or `root`.
+#[tactic(auto, using(crate::proofs::Held::none_put))]
 fn make<S: Stack>(
     alloc: Global,
     scene: &mut Scene<S>,
@@ -63,10 +68,29 @@ fn make<S: Stack>(
     let Some(site) = scene.site_at(words::number(site).unwrap_or(0)) else {
         return told::refused(alloc);
     };
-    if !scene.admits(alloc, site) {
+    if !scene.admits(alloc, scene.lanes().0, site) {
         handles.put(name, Slot::of(Span::none()));
         return told::done(alloc, false);
     }
+    make_at(alloc, scene, handles, at, name, parent, site, words)
+}
+
+// A new span of a callsite that is taken.
+#[tactic(auto, using(crate::proofs::Held::put_held))]
+fn make_at<S: Stack>(
+    alloc: Global,
+    scene: &mut Scene<S>,
+    handles: &mut Handles,
+    at: u64,
+    name: &str,
+    parent: &str,
+    site: SiteId,
+    words: &str,
+) -> Result<String, Memory>
+    requires play { InPlay S.spans S.kept S.is_whole scene.old handles.old }
+    requires site { site < scene.old.sites }
+    ensures play { InPlay S.spans S.kept S.is_whole scene.new handles.new }
+{
     let values = words::values(alloc, words)?;
     let made = made(scene, handles, at, parent, site, &values);
     drop(values);
@@ -80,18 +104,18 @@ fn make<S: Stack>(
 }
 
 // The span that is made.
-#[tactic(auto, using(crate::proofs::Held::takes_held, crate::proofs::Held::puts_held, crate::proofs::Held::still_held))]
+#[tactic(auto, using(crate::proofs::Held::named_held, crate::proofs::Held::still_held))]
 fn made<S: Stack>(
     scene: &mut Scene<S>,
-    handles: &mut Handles,
+    handles: &Handles,
     at: u64,
     parent: &str,
     site: SiteId,
     values: &ValueSet,
 ) -> Result<Option<Span>, Memory>
-    requires play { InPlay S.spans S.kept S.is_whole scene.old handles.old }
+    requires play { InPlay S.spans S.kept S.is_whole scene.old handles.now }
     requires site { site < scene.old.sites }
-    ensures play { InPlay S.spans S.kept S.is_whole scene.new handles.new }
+    ensures play { InPlay S.spans S.kept S.is_whole scene.new handles.now }
     ensures made { IfOk result (λ made. IfSome made (IsHeld S.spans scene.new.sites scene.new.world)) }
 {
     if parent == "root" {
@@ -103,12 +127,10 @@ fn made<S: Stack>(
     if parent == "current" {
         return scene.make_current(at, site, values);
     }
-    let Some(slot) = handles.take(parent) else {
-        return Ok(None);
-    };
-    let made = scene.make_under(at, slot.span(), site, values);
-    handles.put(parent, slot);
-    made
+    match handles.get(parent) {
+        Some(slot) => scene.make_under(at, slot.span(), site, values),
+        None => Ok(None),
+    }
 }
 
 // Whether what the callsite of a number makes is taken on the lane of an id.
@@ -123,8 +145,8 @@ fn admits<S: Stack>(
     let Some(site) = scene.site_at(words::number(site).unwrap_or(0)) else {
         return told::refused(alloc);
     };
-    let admits = scene.admits_on(alloc, words::number(lane).unwrap_or(0), site);
-    Ok(format!(in alloc; "  admits {admits}\n")?)
+    let admits = scene.admits(alloc, words::number(lane).unwrap_or(0), site);
+    told::answer(alloc, "admits", admits)
 }
 
 // Calls are made on the lane of an id from here on.
@@ -136,6 +158,7 @@ fn turn<S: Stack>(
 ) -> Result<String, Memory>
     requires play { InPlay S.spans S.kept S.is_whole scene.old handles.old }
     ensures play { InPlay S.spans S.kept S.is_whole scene.new handles.new }
+    ensures handles { handles.new ≡ handles.old }
 {
     let (here, there) = scene.lanes();
     let lane = words::number(lane).unwrap_or(0);
@@ -147,86 +170,28 @@ fn turn<S: Stack>(
 }
 
 // A span follows from another, which may be itself.
+#[tactic(auto, using(crate::proofs::Held::named_held, crate::proofs::Held::still_held))]
 fn follow<S: Stack>(
     alloc: Global,
     scene: &mut Scene<S>,
-    handles: &mut Handles,
+    handles: &Handles,
     at: u64,
     name: &str,
     other: &str,
 ) -> Result<String, Memory>
-    requires play { InPlay S.spans S.kept S.is_whole scene.old handles.old }
-    ensures play { InPlay S.spans S.kept S.is_whole scene.new handles.new }
+    requires play { InPlay S.spans S.kept S.is_whole scene.old handles.now }
+    ensures play { InPlay S.spans S.kept S.is_whole scene.new handles.now }
 {
-    if name == other {
-        follow_itself(scene, handles, at, name)?;
-    } else {
-        follow_other(scene, handles, at, name, other)?;
+    if let Some(slot) = handles.get(name) {
+        if let Some(from) = handles.get(other) {
+            scene.follow(at, slot.span(), from.span())?;
+        }
     }
     told::done(alloc, true)
 }
 
-#[tactic(auto, using(crate::proofs::Held::takes_held, crate::proofs::Held::puts_held, crate::proofs::Held::still_held))]
-fn follow_itself<S: Stack>(
-    scene: &mut Scene<S>,
-    handles: &mut Handles,
-    at: u64,
-    name: &str,
-) -> Result<(), Memory>
-    requires play { InPlay S.spans S.kept S.is_whole scene.old handles.old }
-    ensures play { InPlay S.spans S.kept S.is_whole scene.new handles.new }
-{
-    let Some(slot) = handles.take(name) else {
-        return Ok(());
-    };
-    let done = scene.follow(at, slot.span(), slot.span());
-    handles.put(name, slot);
-    done
-}
-
-#[tactic(auto, using(crate::proofs::Held::takes_held, crate::proofs::Held::puts_held, crate::proofs::Held::still_held))]
-fn follow_other<S: Stack>(
-    scene: &mut Scene<S>,
-    handles: &mut Handles,
-    at: u64,
-    name: &str,
-    other: &str,
-) -> Result<(), Memory>
-    requires play { InPlay S.spans S.kept S.is_whole scene.old handles.old }
-    ensures play { InPlay S.spans S.kept S.is_whole scene.new handles.new }
-{
-    let Some(slot) = handles.take(name) else {
-        return Ok(());
-    };
-    let done = follow_slot(scene, handles, at, slot.span(), other);
-    handles.put(name, slot);
-    done
-}
-
-// The span of a handle that was taken follows from another.
-#[tactic(auto, using(crate::proofs::Held::takes_held, crate::proofs::Held::puts_held, crate::proofs::Held::still_held))]
-fn follow_slot<S: Stack>(
-    scene: &mut Scene<S>,
-    handles: &mut Handles,
-    at: u64,
-    span: &Span,
-    other: &str,
-) -> Result<(), Memory>
-    requires play { InPlay S.spans S.kept S.is_whole scene.old handles.old }
-    requires known { IsKnown S.spans scene.old.world span.now.held }
-    ensures keeps { KeepsScene S.spans S.kept S.is_whole scene.old scene.new }
-    ensures held { AreHeld S.spans scene.new.sites scene.new.world handles.new }
-{
-    let Some(from) = handles.take(other) else {
-        return Ok(());
-    };
-    let done = scene.follow(at, span, from.span());
-    handles.put(other, from);
-    done
-}
-
 // A handle is closed, where no other is of its span and it isn't entered.
-#[tactic(auto, using(crate::proofs::Held::takes_held, crate::proofs::Held::puts_held, crate::proofs::Held::others_held))]
+#[tactic(auto, using(crate::proofs::Held::named_held, crate::proofs::Held::closes_named))]
 fn close<S: Stack>(
     alloc: Global,
     scene: &mut Scene<S>,
@@ -236,110 +201,12 @@ fn close<S: Stack>(
 ) -> Result<String, Memory>
     requires play { InPlay S.spans S.kept S.is_whole scene.old handles.old }
     ensures play { InPlay S.spans S.kept S.is_whole scene.new handles.new }
+    ensures closes { ((scene.new ≡ scene.old) × (handles.new ≡ handles.old))
+        ⊎ ClosesNamed S.spans S.does at name.now handles.old scene.old.world handles.new scene.new.world }
 {
-    let Some(slot) = handles.take(name) else {
+    let Some(slot) = handles.take_last(name) else {
         return told::refused(alloc);
     };
-    if slot.is_entered() || handles.has(slot.span()) {
-        handles.put(name, slot);
-        return told::refused(alloc);
-    }
     let closed = scene.close(at, slot.into_span());
-    Ok(format!(in alloc; "  closed {closed}\n")?)
-}
-
-// A call on one handle.
-#[tactic(auto, using(crate::proofs::Held::takes_held, crate::proofs::Held::puts_held, crate::proofs::Held::still_held))]
-fn one<S: Stack>(
-    alloc: Global,
-    scene: &mut Scene<S>,
-    handles: &mut Handles,
-    at: u64,
-    call: &str,
-    name: &str,
-    words: &str,
-) -> Result<String, Memory>
-    requires play { InPlay S.spans S.kept S.is_whole scene.old handles.old }
-    ensures play { InPlay S.spans S.kept S.is_whole scene.new handles.new }
-{
-    let Some(slot) = handles.take(name) else {
-        return told::refused(alloc);
-    };
-    let (slot, told) = act(alloc, scene, slot, at, call, words);
-    handles.put(name, slot);
-    told
-}
-
-fn act<S: Stack>(
-    alloc: Global,
-    scene: &mut Scene<S>,
-    slot: Slot,
-    at: u64,
-    call: &str,
-    words: &str,
-) -> (Slot, Result<String, Memory>)
-    requires order { SceneInOrder S.spans S.kept S.is_whole scene.old }
-    requires held { IsHeld S.spans scene.old.sites scene.old.world slot }
-    ensures keeps { KeepsScene S.spans S.kept S.is_whole scene.old scene.new }
-    ensures slot { result.0 ≡ slot }
-{
-    match call {
-        "enter" => enter(alloc, scene, slot, at),
-        "exit" => exit(alloc, scene, slot, at),
-        _ => {
-            let told = on_span::tell(alloc, scene, slot.span(), at, call, words);
-            (slot, told)
-        }
-    }
-}
-
-// Enters the span of a handle that isn't entered.
-fn enter<S: Stack>(
-    alloc: Global,
-    scene: &mut Scene<S>,
-    slot: Slot,
-    at: u64,
-) -> (Slot, Result<String, Memory>)
-    requires order { SceneInOrder S.spans S.kept S.is_whole scene.old }
-    requires held { IsHeld S.spans scene.old.sites scene.old.world slot }
-    ensures keeps { KeepsScene S.spans S.kept S.is_whole scene.old scene.new }
-    ensures slot { result.0 ≡ slot }
-{
-    let Slot { span, entry, other } = slot;
-    match entry {
-        Some(entry) => {
-            let entry = Some(entry);
-            (Slot { span, entry, other }, told::refused(alloc))
-        }
-        None => match scene.enter(at, &span) {
-            Ok(entry) => {
-                let entered = entry.is_some();
-                (Slot { span, entry, other }, told::done(alloc, entered))
-            }
-            Err(memory) => (Slot { span, entry, other }, Err(memory)),
-        },
-    }
-}
-
-// Exits the span of a handle that is entered.
-fn exit<S: Stack>(
-    alloc: Global,
-    scene: &mut Scene<S>,
-    slot: Slot,
-    at: u64,
-) -> (Slot, Result<String, Memory>)
-    requires order { SceneInOrder S.spans S.kept S.is_whole scene.old }
-    requires held { IsHeld S.spans scene.old.sites scene.old.world slot }
-    ensures keeps { KeepsScene S.spans S.kept S.is_whole scene.old scene.new }
-    ensures slot { result.0 ≡ slot }
-{
-    let Slot { span, entry, other } = slot;
-    match entry {
-        Some(entry) => {
-            let entry = scene.exit(at, &span, entry);
-            let exited = entry.is_none();
-            (Slot { span, entry, other }, told::done(alloc, exited))
-        }
-        None => (Slot { span, entry, other }, told::refused(alloc)),
-    }
+    told::answer(alloc, "closed", closed)
 }

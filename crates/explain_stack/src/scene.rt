@@ -9,8 +9,11 @@ ghost use Rattle.span_handles.specs.Worlds.{Has};
 ghost use Rattle.span_handles.specs.Knowing.{KeepsKnown, KeepsOthers};
 ghost use Rattle.explain_stack.specs.Order.{SceneInOrder, IsHeld};
 
+mod asks;
+mod calls;
+pub mod polls;
+
 use crate::stack::Stack;
-use crate::told;
 use otel_base::memory::Memory;
 use otel_base::stack::ContextStack;
 use span_handles::span::Span;
@@ -74,16 +77,8 @@ impl<S: Stack> Scene<S> {
         }
     }
 
-    /// Whether the stack takes what a callsite makes on the lane on which calls are made.
-    pub fn admits(&self, alloc: Global, site: SiteId) -> bool
-        requires order { SceneInOrder S.spans S.kept S.is_whole self.now }
-        requires site { site < self.now.sites }
-    {
-        self.admits_on(alloc, self.lane.id, site)
-    }
-
-    /// The same on the lane of an id.
-    pub fn admits_on(&self, alloc: Global, lane: u64, site: SiteId) -> bool
+    /// Whether the stack takes what a callsite makes on the lane of an id.
+    pub fn admits(&self, alloc: Global, lane: u64, site: SiteId) -> bool
         requires order { SceneInOrder S.spans S.kept S.is_whole self.now }
         requires site { site < self.now.sites }
     {
@@ -107,8 +102,8 @@ impl<S: Stack> Scene<S> {
         mem::swap(&mut self.lane, &mut self.other);
     }
 
-    /// The records that the stack's recorder still has; the rest of the scene is given up.
-    pub fn end(self, alloc: Global) -> Result<String, Memory>
+    /// Tells the records that the stack still has; the rest of the scene is given up.
+    pub fn end(self, alloc: Global, told: &mut String) -> Result<(), Memory>
         requires order { SceneInOrder S.spans S.kept S.is_whole self }
     {
         let Scene {
@@ -119,9 +114,9 @@ impl<S: Stack> Scene<S> {
             made: _,
             sites: _,
         } = self;
-        let told = records(alloc, world.subscriber_mut(dispatch));
+        let done = world.subscriber_mut(dispatch).tell(alloc, told);
         world.discard();
-        told
+        done
     }
 
     /// Whether a span may be held once more.
@@ -200,38 +195,4 @@ fn has_entry(registry: &Registry, lane: u64, id: Id) -> bool
     ensures { result ≡ is_in id (entries_on lane registry.now.spans.lanes) }
 {
     registry.entries(lane).iter().any(|open| *open == id)
-}
-
-// The records that are left.
-fn records<S: Stack>(alloc: Global, stack: &mut S) -> Result<String, Memory> {
-    let mut told = String::new(alloc);
-    for _ in 0..100 {
-        if !add_record(alloc, &mut told, stack)? {
-            break;
-        }
-    }
-    add_counts(alloc, &mut told, stack)?;
-    Ok(told)
-}
-
-// Adds the next record, if one is left.
-fn add_record<S: Stack>(alloc: Global, told: &mut String, stack: &mut S) -> Result<bool, Memory> {
-    let Some(record) = stack.take() else {
-        return Ok(false);
-    };
-    let line = told::record(alloc, &record);
-    drop(record);
-    told::add(told, line?)?;
-    Ok(true)
-}
-
-// Adds what the stack's tracer was asked for, where that is counted.
-fn add_counts<S: Stack>(alloc: Global, told: &mut String, stack: &mut S) -> Result<(), Memory> {
-    match stack.counts() {
-        Some((reserved, finished)) => told::add(
-            told,
-            format!(in alloc; "  reserved {reserved}, finished {finished}\n")?,
-        ),
-        None => Ok(()),
-    }
 }

@@ -7,8 +7,8 @@ ghost use Rattle.explain_stack.specs.Places.{InPlay};
 
 use crate::handles::Handles;
 use crate::scene::Scene;
+use crate::stack::tally::Tally;
 use crate::stack::{Judge, Stack};
-use crate::tally::Tally;
 use crate::{play, told, words};
 use env_directives::targets::Targets;
 use env_filter::filter::EnvFilter;
@@ -32,9 +32,9 @@ pub fn run(
 ) -> Result<String, Memory> {
     let (kind, words) = stack.split_once(' ').unwrap_or((stack, ""));
     match kind {
-        "layer" => run_layer(alloc, true, lines, cx),
-        "passive" => run_layer(alloc, false, lines, cx),
-        "counted" => run_counted(alloc, lines, cx),
+        "layer" => run_layer(alloc, true, false, lines, cx),
+        "passive" => run_layer(alloc, false, false, lines, cx),
+        "counted" => run_layer(alloc, true, true, lines, cx),
         "counting" => run_counting(alloc, EnvFilter::new(alloc, words)?, lines, cx),
         "targets" => match Targets::from_str(alloc, words) {
             Ok(targets) => run_counting(alloc, targets, lines, cx),
@@ -50,22 +50,17 @@ pub fn run(
     }
 }
 
-// Runs them under the layer, with or without activation.
+// Runs them under the layer, with or without activation, over a tally that may tell its counts.
 fn run_layer(
     alloc: Global,
     activation: bool,
+    is_counted: bool,
     lines: &[String],
     cx: &mut Context<'_>,
 ) -> Result<String, Memory> {
     let layer = OpenTelemetryLayer::new(alloc, Recorder::new(alloc));
+    let layer = layer.with_tracer(Tally::new(alloc, is_counted));
     let layer = layer.with_context_activation(activation);
-    run_on(alloc, Registry::new(alloc).with(layer), lines, cx)
-}
-
-// Runs them under the layer over a tracer that counts what it is asked for.
-fn run_counted(alloc: Global, lines: &[String], cx: &mut Context<'_>) -> Result<String, Memory> {
-    let layer = OpenTelemetryLayer::new(alloc, Recorder::new(alloc));
-    let layer = layer.with_tracer(Tally::new(alloc));
     run_on(alloc, Registry::new(alloc).with(layer), lines, cx)
 }
 
@@ -76,7 +71,7 @@ fn run_counting<F: Filter + Drop>(
     lines: &[String],
     cx: &mut Context<'_>,
 ) -> Result<String, Memory> {
-    let layer = OpenTelemetryLayer::new(alloc, Recorder::new(alloc));
+    let layer = OpenTelemetryLayer::new(alloc, Tally::new(alloc, false));
     let layer = layer.with_counting_event_filter(filter);
     run_on(alloc, Registry::new(alloc).with(layer), lines, cx)
 }
@@ -92,13 +87,9 @@ fn run_judged<J: Judge>(
     requires new { KnowsNone (J.seen judge) × (J.attaches judge ≡ false) }
     requires kept { (lane number : ℕ) → J.kept judge lane number ≡ 0 }
 {
-    let layer = OpenTelemetryLayer::new(alloc, Recorder::new(alloc));
-    run_on(
-        alloc,
-        Registry::new(alloc).with(layer).with(judge),
-        lines,
-        cx,
-    )
+    let layer = OpenTelemetryLayer::new(alloc, Tally::new(alloc, false));
+    let stack = Registry::new(alloc).with(layer).with(judge);
+    run_on(alloc, stack, lines, cx)
 }
 
 // Runs them under targets that were exchanged for others, over the layer; the words are both.
@@ -144,18 +135,11 @@ fn run_on<S: Stack>(
     };
     let mut scene = Scene::new(alloc, world, sites, stack)?;
     let mut handles = Handles::new();
-    let told = play(alloc, &mut scene, &mut handles, lines, cx);
+    let mut told = String::new(alloc);
+    let played = play(alloc, &mut scene, &mut handles, lines, &mut told, cx);
     handles.discard();
-    with_records(told, scene.end(alloc))
-}
-
-// What was told of calls, and behind it the records.
-fn with_records(
-    told: Result<String, Memory>,
-    records: Result<String, Memory>,
-) -> Result<String, Memory> {
-    let (mut told, records) = (told?, records?);
-    told::add(&mut told, records)?;
+    let ended = scene.end(alloc, &mut told);
+    played.and(ended)?;
     Ok(told)
 }
 
@@ -175,25 +159,25 @@ fn declare<S: Stack>(alloc: Global, world: &mut World<S>, lines: &[String]) -> R
     Ok(sites)
 }
 
-// Makes the calls of the other lines.
+// Makes the calls of the other lines, and tells each line and what is answered.
 fn play<S: Stack>(
     alloc: Global,
     scene: &mut Scene<S>,
     handles: &mut Handles,
     lines: &[String],
+    told: &mut String,
     cx: &mut Context<'_>,
-) -> Result<String, Memory>
+) -> Result<(), Memory>
     requires { InPlay S.spans S.kept S.is_whole scene.old handles.old }
     ensures { SceneInOrder S.spans S.kept S.is_whole scene.new }
 {
-    let mut told = String::new(alloc);
     for line in lines {
         told.push_str(line.as_str())?;
         told.push_str("\n")?;
         if !line.as_str().starts_with("site ") && !line.as_str().starts_with('#') {
             let answer = play::answer(alloc, scene, handles, line.as_str(), cx)?;
-            told.push_str(answer.as_str())?;
+            told::add(told, answer)?;
         }
     }
-    Ok(told)
+    Ok(())
 }

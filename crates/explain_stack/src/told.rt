@@ -10,14 +10,13 @@ use otel_base::status::Status;
 use otel_base::value::{KeyValue, OtelValue};
 use std::alloc::Global;
 
-/// A record: ids, times, and behind them its status, links, events and attributes, each on a line of its own.
-pub fn record(alloc: Global, record: &Record) -> Result<String, Memory> {
-    let mut told = head(alloc, record)?;
-    add(&mut told, status(alloc, &record.status)?)?;
-    add_links(alloc, &mut told, record)?;
-    add_events(alloc, &mut told, record)?;
-    add_attributes(alloc, &mut told, record)?;
-    Ok(told)
+/// Adds a record: ids, times, and behind them its status, links, events and attributes, each on a line of its own.
+pub fn add_record(alloc: Global, told: &mut String, record: &Record) -> Result<(), Memory> {
+    add(told, head(alloc, record)?)?;
+    add(told, status(alloc, &record.status)?)?;
+    add_links(alloc, told, record)?;
+    add_events(alloc, told, record)?;
+    add_attributes(alloc, told, record)
 }
 
 fn head(alloc: Global, record: &Record) -> Result<String, Memory> {
@@ -102,6 +101,11 @@ pub fn polled(
         Some(Err(EnterError::Full)) => Ok(String::from_str(alloc, "  full\n")?),
         Some(Err(EnterError::Memory)) => Err(Memory),
     }
+}
+
+/// Whether something is so.
+pub fn answer(alloc: Global, word: &str, is_so: bool) -> Result<String, Memory> {
+    Ok(format!(in alloc; "  {word} {is_so}\n")?)
 }
 
 /// That a call was made, if it was.

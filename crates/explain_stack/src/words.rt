@@ -32,7 +32,7 @@ pub fn callsite(alloc: Global, words: &str) -> Result<Option<Callsite>, Memory> 
 // The callsite of a level and the words `NAME FIELD ..`.
 fn callsite_at(alloc: Global, level: Level, words: &str) -> Result<Callsite, Memory> {
     let (name, names) = words.split_once(' ').unwrap_or((words, ""));
-    Ok(Callsite {
+    let mut callsite = Callsite {
         name: text(alloc, name)?,
         target: text(alloc, "app")?,
         level,
@@ -40,28 +40,34 @@ fn callsite_at(alloc: Global, level: Level, words: &str) -> Result<Callsite, Mem
         file: None,
         module_path: None,
         line: None,
-        fields: fields(alloc, names)?,
-    })
+        fields: Items::new(alloc),
+    };
+    add_fields(alloc, &mut callsite.fields, names)?;
+    Ok(callsite)
 }
 
-// The names of fields.
-fn fields(alloc: Global, names: &str) -> Result<Items<Text>, Memory> {
-    let mut fields = Items::new(alloc);
+// Adds the names of fields.
+fn add_fields(alloc: Global, fields: &mut Items<Text>, names: &str) -> Result<(), Memory> {
     for field in names.split(' ') {
         if !field.is_empty() {
             fields.push(text(alloc, field)?)?;
         }
     }
-    Ok(fields)
+    Ok(())
 }
 
 /// The values of words `PLACE=NUMBER` for the fields of a callsite; other words are left out.
 pub fn values(alloc: Global, words: &str) -> Result<ValueSet, Memory> {
     let mut pairs = Items::new(alloc);
-    for word in words.split(' ') {
-        add_value(alloc, &mut pairs, word)?;
-    }
+    add_values(alloc, &mut pairs, words)?;
     Ok(ValueSet { pairs })
+}
+
+fn add_values(alloc: Global, pairs: &mut Items<(usize, Value)>, words: &str) -> Result<(), Memory> {
+    for word in words.split(' ') {
+        add_value(alloc, pairs, word)?;
+    }
+    Ok(())
 }
 
 // Adds the value of a word `PLACE=NUMBER`, if it is such a word.

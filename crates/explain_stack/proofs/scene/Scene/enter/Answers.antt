@@ -25,3 +25,6 @@ returns-in-Err-Memory-clause-keeps g c = record {
   known = c.open_entry.ensures.keeps.known;
   sites = refl;
 }
+
+pub returns-in-Ok-clause-enters : goal.returns-in-Ok-clause-enters
+returns-in-Ok-clause-enters g c = record { entered = c.in-Ok.ensures.did; none = c.open_entry.ensures.none }

@@ -18,3 +18,6 @@ returns-clause-keeps g c = record {
   known = c.close_entry.ensures.keeps.known;
   sites = refl;
 }
+
+pub returns-clause-exits : goal.returns-clause-exits
+returns-clause-exits g c = λ none. c.close_entry.ensures.did

@@ -19,3 +19,6 @@ returns-clause-keeps g c =
       known = c.child_of_with.ensures.makes.keeps.known;
       sites = refl;
     }
+
+pub returns-clause-makes : goal.returns-clause-makes
+returns-clause-makes g c = c.in_ok-span.ensures.makes.ok

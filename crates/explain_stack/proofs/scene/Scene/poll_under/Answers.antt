@@ -1,7 +1,7 @@
 -- A poll, and a disabled handle that is closed.
 use Rattle.std.proofs.Common.{rules, Some, refl}
 use Rattle.span_handles.specs.Worlds.{Chain}
-use Rattle.explain_stack.proofs.Polling.{polled_stands}
+use Rattle.explain_stack.proofs.Polling.{polled_stands, polls_under}
 use Rattle.explain_stack.proofs.Quiet.{quiet_chain}
 use Rattle.explain_stack.proofs.Steps.{quiet_on}
 use Rattle.explain_stack.proofs.scene.Scene.poll_under.Goals as goal
@@ -13,3 +13,8 @@ returns-clause-keeps g c = record {
   known = search rules;
   sites = refl;
 }
+
+pub returns-clause-polls : goal.returns-clause-polls
+returns-clause-polls g c =
+    polls_under g.S.Subscriber.same g.S.Subscriber.does g.S.Subscriber.activates g.T.TracedFuture.polls c.args.at _ _ _ c.args.self.now.world c.poll_in-polled.new.world c.into_inner.new.world c.args.self.now.lane c.poll_in-polled.new.lane _ (λ id s t. Chain g.S.Subscriber.spans g.S.Subscriber.does c.args.at (Some id) s t) c.replace-span.new.dest.held
+    (search rules) (search rules) c.into_inner.ensures.did c.poll_in-polled.ensures.did

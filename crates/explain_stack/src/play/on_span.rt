@@ -66,7 +66,7 @@ fn event<S: Stack>(
 {
     let (site, words) = words.split_once(' ').unwrap_or((words, ""));
     if let Some(site) = scene.site_at(words::number(site).unwrap_or(0)) {
-        if scene.admits(alloc, site) {
+        if scene.admits(alloc, scene.lanes().0, site) {
             return event_at(alloc, scene, span, at, site, words);
         }
     }

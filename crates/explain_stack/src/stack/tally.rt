@@ -3,6 +3,8 @@ ghost use Rattle.std.specs.Prelude.{◌≡◌, []};
 ghost use Rattle.explain_stack.specs.Tallies.{Tallies, one_more};
 ghost use Rattle.explain_stack.specs.Counting.{tally_counts};
 
+use crate::stack::ToldTracer;
+use crate::told;
 use otel_base::context::{Context, SpanContext};
 use otel_base::memory::Memory;
 use otel_base::record::Record;
@@ -10,25 +12,28 @@ use otel_base::recorder::Recorder;
 use otel_base::tracer::Tracer;
 use std::alloc::Global;
 
-/// A recorder that counts what it is asked for; a count stands still at 2^64 - 1.
+/// A recorder that counts what it is asked for, and may tell it; a count stands still at 2^64 - 1.
 #[derive(Drop)]
 pub struct Tally {
     pub(crate) recorder: Recorder,
+    pub(crate) is_told: bool,
     pub(crate) reserved: u64,
     pub(crate) finished: u64,
 }
 
 impl Tally {
     /// One that was asked for nothing.
-    pub fn new(alloc: Global) -> Tally
+    pub fn new(alloc: Global, is_told: bool) -> Tally
         ensures { result ≡ record {
           recorder = record { started = 0; spare = 0; finished = [] };
+          is_told = is_told;
           reserved = 0;
           finished = 0;
         } }
     {
         Tally {
             recorder: Recorder::new(alloc),
+            is_told,
             reserved: 0,
             finished: 0,
         }
@@ -41,10 +46,36 @@ impl Tally {
         (self.reserved, self.finished)
     }
 
-    /// Takes out the oldest of the finished spans that it still has; none where it has none.
-    pub fn take(&mut self) -> Option<Record> {
-        self.recorder.take()
+    fn tell_counts(&self, alloc: Global, told: &mut String) -> Result<(), Memory> {
+        if self.is_told {
+            let (reserved, finished) = self.counts();
+            let line = format!(in alloc; "  reserved {reserved}, finished {finished}\n")?;
+            told::add(told, line)?;
+        }
+        Ok(())
     }
+}
+
+impl ToldTracer for Tally {
+    fn tell(&mut self, alloc: Global, told: &mut String) -> Result<(), Memory> {
+        for _ in 0..100 {
+            if !tell_next(alloc, told, self.recorder.take())? {
+                break;
+            }
+        }
+        self.tell_counts(alloc, told)
+    }
+}
+
+// Tells a record, if there is one.
+fn tell_next(alloc: Global, told: &mut String, next: Option<Record>) -> Result<bool, Memory> {
+    let Some(next) = next else {
+        return Ok(false);
+    };
+    let done = told::add_record(alloc, told, &next);
+    drop(next);
+    done?;
+    Ok(true)
 }
 
 impl Tracer for Tally {

@@ -1,27 +1,25 @@
 //! Futures that are polled under the spans of handles, and full lanes.
-ghost use Rattle.std.specs.Prelude.{◌≡◌, ◌≤◌, ℕ, Some, IfSome};
+ghost use Rattle.std.specs.Prelude.{◌≡◌, ◌≤◌, ℕ, true, false, Some, IfSome};
 ghost use Rattle.trace_base.specs.declared.span.Parent.TheVariants as parent;
 ghost use Rattle.trace_base.specs.Conditions.{HasFewHolds, HasFewHoldsAbove};
 ghost use Rattle.trace_base.specs.lanes.Contexts.{attached_as};
 ghost use Rattle.trace_base.specs.Gate.{dispatch_on};
-ghost use Rattle.span_handles.specs.Handles.{IsKnown, HasOn};
+ghost use Rattle.span_handles.specs.Handles.{IsKnown, HasOn, IsCurrent};
 ghost use Rattle.span_handles.specs.Knowing.{KeepsHandles, KeepsOthers, GainsOne, LosesOne};
 ghost use Rattle.span_handles.specs.Worlds.{Has};
 ghost use Rattle.explain_stack.specs.Looking.{looks};
 ghost use Rattle.explain_stack.specs.Order.{SceneInOrder, KeepsScene};
-ghost use Rattle.explain_stack.specs.Places.{InPlay};
+ghost use Rattle.explain_stack.specs.Puts.{ClosesHeld, PollsUnder, PutsAround};
 
-use crate::handles::{Handles, Slot};
 use crate::scene::Scene;
 use crate::stack::Stack;
-use crate::told;
 use futures::task::{Context, Poll};
 use otel_base::context::Context as OtelContext;
 use otel_base::enter_error::EnterError;
 use otel_base::memory::Memory;
 use span_futures::instrument::{Instrument, Instrumented};
 use span_futures::traced_future::TracedFuture;
-use span_futures::with_dispatch::WithSubscriber;
+use span_futures::with_dispatch::{WithDispatch, WithSubscriber};
 use span_handles::span::Span;
 use std::alloc::Global;
 use std::mem;
@@ -74,7 +72,7 @@ impl<S: Subscriber> TracedFuture<S> for Looks {
 
 impl<S: Stack> Scene<S> {
     /// Polls a future under a span, as it is or under the scene's stack; none where the span has too many holds.
-    fn poll(
+    pub fn poll(
         &mut self,
         at: u64,
         span: Span,
@@ -86,6 +84,14 @@ impl<S: Stack> Scene<S> {
         requires known { IsKnown S.spans self.old.world span.held }
         ensures keeps { KeepsScene S.spans S.kept S.is_whole self.old self.new }
         ensures back { result.0 ≡ span }
+        ensures polls { is_served ≡ false → IfSome result.1
+            (λ polled. PollsUnder S.same S.does S.activates ⟦<Looks as TracedFuture<S>>⟧.polls
+            (record { inner = future; span = span }) self.old.world self.old.lane at polled self.new.world
+            self.new.lane) }
+        ensures polls_served { is_served ≡ true → IfSome result.1
+            (λ polled. PollsUnder S.same S.does S.activates ⟦<WithDispatch<Looks> as TracedFuture<S>>⟧.polls
+            (record { inner = record { inner = future; dispatch = Some self.old.dispatch }; span = span })
+            self.old.world self.old.lane at polled self.new.world self.new.lane) }
     {
         if !self.has_room(&span) {
             return (span, None);
@@ -117,6 +123,8 @@ impl<S: Stack> Scene<S> {
 
         ensures keeps { KeepsScene S.spans S.kept S.is_whole self.old self.new }
         ensures back { result.0 ≡ span }
+        ensures polls { PollsUnder S.same S.does S.activates T.polls (record { inner = future; span = span })
+            self.old.world self.old.lane at result.1 self.new.world self.new.lane }
     {
         let mut future = future.instrument(span);
         let polled = future.poll_in(&mut self.world, &mut self.lane, at, cx);
@@ -128,9 +136,12 @@ impl<S: Stack> Scene<S> {
     /// Puts a future under the lane's current span, and answers whether that is the span of a handle; none where the stack
     /// doesn't serve the lane, or that span has too many holds.
     #[tactic(auto, using(crate::proofs::Around::known_again))]
-    fn is_around(&mut self, at: u64, span: &Span) -> Option<bool>
+    pub fn is_around(&mut self, at: u64, span: &Span) -> Option<bool>
         requires order { SceneInOrder S.spans S.kept S.is_whole self.old }
         ensures keeps { KeepsScene S.spans S.kept S.is_whole self.old self.new }
+        ensures around { IfSome result
+            (PutsAround S.spans S.does self.old.world self.new.world self.old.lane.id self.old.dispatch at
+            span.now.held) }
     {
         if get_default(&self.world, &self.lane) != Some(self.dispatch) || !self.has_room_around() {
             return None;
@@ -149,6 +160,8 @@ impl<S: Stack> Scene<S> {
             self.old.dispatch }
 
         ensures order { SceneInOrder S.spans S.kept S.is_whole self.new }
+        ensures current { IsCurrent S.spans S.does self.old.world self.new.world self.old.lane.id
+            (Some self.old.dispatch) result.span }
         ensures held { IsKnown S.spans self.new.world result.span.held }
         ensures keeps { KeepsHandles S.spans self.old.world self.new.world }
         ensures more { GainsOne S.spans self.old.world self.new.world result.span.held }
@@ -162,6 +175,7 @@ impl<S: Stack> Scene<S> {
         requires order { SceneInOrder S.spans S.kept S.is_whole self.old }
         requires known { IsKnown S.spans self.old.world future.span.held }
         ensures order { SceneInOrder S.spans S.kept S.is_whole self.new }
+        ensures closes { ClosesHeld S.spans S.does at self.old.world self.new.world future.span.held }
         ensures others { KeepsOthers S.spans self.old.world self.new.world future.span.held }
         ensures fewer { LosesOne S.spans self.old.world self.new.world future.span.held }
         ensures sites { self.new.sites ≡ self.old.sites }
@@ -170,7 +184,7 @@ impl<S: Stack> Scene<S> {
     }
 
     /// Attaches empty contexts to the lane until it is full.
-    fn fill(&mut self) -> Result<(), Memory>
+    pub fn fill(&mut self) -> Result<(), Memory>
         requires order { SceneInOrder S.spans S.kept S.is_whole self.old }
         ensures order { SceneInOrder S.spans S.kept S.is_whole self.new }
         ensures world { self.new.world ≡ self.old.world }
@@ -205,65 +219,4 @@ fn attach_empty(lane: &mut Lane) -> Result<(), EnterError>
 {
     lane.contexts.attach(OtelContext::empty())?.discard();
     Ok(())
-}
-
-/// Fills the lane on which calls are made.
-pub fn filled<S: Stack>(alloc: Global, scene: &mut Scene<S>) -> Result<String, Memory>
-    requires order { SceneInOrder S.spans S.kept S.is_whole scene.old }
-    ensures order { SceneInOrder S.spans S.kept S.is_whole scene.new }
-    ensures world { scene.new.world ≡ scene.old.world }
-    ensures sites { scene.new.sites ≡ scene.old.sites }
-{
-    scene.fill()?;
-    told::done(alloc, true)
-}
-
-/// Whether a future under the lane's current span is under that of a handle.
-#[tactic(auto, using(crate::proofs::Held::takes_held, crate::proofs::Held::puts_held, crate::proofs::Held::still_held))]
-pub fn around<S: Stack>(
-    alloc: Global,
-    scene: &mut Scene<S>,
-    handles: &mut Handles,
-    at: u64,
-    name: &str,
-) -> Result<String, Memory>
-    requires play { InPlay S.spans S.kept S.is_whole scene.old handles.old }
-    ensures play { InPlay S.spans S.kept S.is_whole scene.new handles.new }
-{
-    let Some(slot) = handles.take(name) else {
-        return told::refused(alloc);
-    };
-    let is_around = scene.is_around(at, slot.span());
-    handles.put(name, slot);
-    match is_around {
-        Some(is_around) => Ok(format!(in alloc; "  around {is_around}\n")?),
-        None => told::refused(alloc),
-    }
-}
-
-/// Polls a future under the span of a handle: one that is pending, one that is ready, or one that is ready and served by the
-/// stack.
-#[tactic(auto, using(crate::proofs::Held::takes_held, crate::proofs::Held::puts_held, crate::proofs::Held::still_held))]
-pub fn polled<S: Stack>(
-    alloc: Global,
-    scene: &mut Scene<S>,
-    handles: &mut Handles,
-    at: u64,
-    name: &str,
-    word: &str,
-    cx: &mut Context<'_>,
-) -> Result<String, Memory>
-    requires play { InPlay S.spans S.kept S.is_whole scene.old handles.old }
-    ensures play { InPlay S.spans S.kept S.is_whole scene.new handles.new }
-{
-    let Some(slot) = handles.take(name) else {
-        return told::refused(alloc);
-    };
-    let Slot { span, entry, other } = slot;
-    let future = Looks {
-        is_ready: word != "pending",
-    };
-    let (span, polled) = scene.poll(at, span, future, word == "served", cx);
-    handles.put(name, Slot { span, entry, other });
-    told::polled(alloc, polled)
 }

@@ -1,7 +1,7 @@
 -- What was attached to the lane is attached to it.
 use Rattle.std.specs.Prelude.{◌≡◌, ◌≤◌, ℕ}
 use Rattle.trace_base.specs.lanes.Contexts.{attached_as}
-use Rattle.explain_stack.proofs.polls.fill.Given as goal
+use Rattle.explain_stack.proofs.scene.polls.fill.Given as goal
 
 abbrev pub invariant-loop : goal.invariant-loop
 invariant-loop l = record {

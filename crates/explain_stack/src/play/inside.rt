@@ -1,6 +1,6 @@
 //! What lies inside a future under a span, a future under a subscriber, and a layer that counts.
-use crate::polls::Looks;
-use crate::tally::Tally;
+use crate::scene::polls::Looks;
+use crate::stack::tally::Tally;
 use env_directives::targets::Targets;
 use otel_base::memory::Memory;
 use otel_base::recorder::Recorder;
@@ -60,7 +60,7 @@ fn under_subscriber(dispatch: Dispatch) -> (bool, bool, bool) {
 fn under_counting(alloc: Global) -> (u64, u64) {
     let layer = OpenTelemetryLayer::new(alloc, Recorder::new(alloc));
     let layer = layer.with_counting_event_filter(Targets::new(alloc));
-    let mut layer = layer.map_inner(|inner| inner.with_tracer(Tally::new(alloc)));
+    let mut layer = layer.map_inner(|inner| inner.with_tracer(Tally::new(alloc, false)));
     let counts = layer.tracer_mut().counts();
     layer.discard();
     counts

@@ -1,8 +1,12 @@
 //! The calls of handles in a scene.
-ghost use Rattle.std.specs.Prelude.{◌≡◌, ◌<◌, IfOk, IfSome, OnOk, OnErr};
-ghost use Rattle.span_handles.specs.Handles.{IsKnown};
+ghost use Rattle.std.specs.Prelude.{◌≡◌, ◌<◌, None, IfOk, IfSome, OnOk, OnErr};
+ghost use Rattle.trace_base.specs.declared.span.Parent.TheVariants as parent;
+ghost use Rattle.trace_base.specs.Calls.{Exit};
+ghost use Rattle.span_handles.specs.Handles.{IsKnown, Makes, ReplacedOn, ClosesOn, place_under};
 ghost use Rattle.span_handles.specs.Knowing.{KeepsOthers};
+ghost use Rattle.span_handles.specs.Entries.{BeginsInside, LeavesLane};
 ghost use Rattle.explain_stack.specs.Order.{SceneInOrder, IsHeld, KeepsScene};
+ghost use Rattle.explain_stack.specs.Puts.{ClosesHeld};
 
 use crate::scene::Scene;
 use crate::stack::Stack;
@@ -27,6 +31,9 @@ impl<S: Stack> Scene<S> {
         requires site { site < self.old.sites }
         ensures keeps { KeepsScene S.spans S.kept S.is_whole self.old self.new }
         ensures made { IfOk result (λ made. IfSome made (IsHeld S.spans self.new.sites self.new.world)) }
+        ensures makes { IfOk result (λ made. IfSome made
+            (Makes S.spans S.does self.old.world self.new.world self.old.lane at (place_under parent.now.held) site
+            values.now self.old.dispatch)) }
     {
         if self.made >= 1000 || !self.has_room(parent) {
             return Ok(None);
@@ -55,6 +62,9 @@ impl<S: Stack> Scene<S> {
         requires site { site < self.old.sites }
         ensures keeps { KeepsScene S.spans S.kept S.is_whole self.old self.new }
         ensures made { IfOk result (λ made. IfSome made (IsHeld S.spans self.new.sites self.new.world)) }
+        ensures makes { IfOk result (λ made. IfSome made
+            (Makes S.spans S.does self.old.world self.new.world self.old.lane at parent.Current site values.now
+            self.old.dispatch)) }
     {
         if self.made >= 1000 || !self.has_room_around() {
             return Ok(None);
@@ -70,6 +80,9 @@ impl<S: Stack> Scene<S> {
         requires known { IsKnown S.spans self.old.world span.now.held }
         ensures keeps { KeepsScene S.spans S.kept S.is_whole self.old self.new }
         ensures entry { IfOk result (λ entry. IfSome entry (λ e. e ≡ span.now.held)) }
+        ensures enters { IfOk result (λ entry. IfSome entry
+            (λ e. BeginsInside S.does at span.now.held self.old.world self.old.lane self.new.world self.new.lane)) }
+        ensures refused { IfOk result (λ entry. entry ≡ None → LeavesLane self.old.lane self.new.lane) }
     {
         if !self.has_room(span) {
             return Ok(None);
@@ -88,6 +101,10 @@ impl<S: Stack> Scene<S> {
         requires own { entry ≡ span.now.held }
         ensures keeps { KeepsScene S.spans S.kept S.is_whole self.old self.new }
         ensures back { IfSome result (λ e. e ≡ span.now.held) }
+        ensures refused { IfSome result (λ e. self.new ≡ self.old) }
+        ensures exits { result ≡ None
+            → ReplacedOn (λ id s t. S.does s (Exit id at self.old.lane self.new.lane) t) self.old.world self.new.world
+            span.now.held }
     {
         if !self.is_open(span) {
             return Some(entry);
@@ -103,6 +120,8 @@ impl<S: Stack> Scene<S> {
         ensures order { SceneInOrder S.spans S.kept S.is_whole self.new }
         ensures others { KeepsOthers S.spans self.old.world self.new.world span.held }
         ensures sites { self.new.sites ≡ self.old.sites }
+        ensures value { ClosesOn S.spans self.old.world span.held result }
+        ensures closes { ClosesHeld S.spans S.does at self.old.world self.new.world span.held }
     {
         span.close(&mut self.world, at)
     }
