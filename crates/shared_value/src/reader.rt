@@ -69,7 +69,7 @@ impl<T: Drop> ValueReader<T> {
     }
 
     /// Takes over what is in place, where it is later than what it has. It takes no memory, and waits for nobody.
-    #[tactic(auto, using(crate::proofs::Firsts::ends_at, crate::proofs::Firsts::stays_at))]
+    #[tactic(auto, using(crate::proofs::Firsts::stays_at))]
     pub fn look(&mut self)
         ensures table { self.new.table ≡ self.old.table }
         ensures begins { IsPrefix self.old.values self.new.values }
@@ -87,7 +87,6 @@ impl<T: Drop> ValueReader<T> {
 
     /// Takes in what the reader's own writer told. From now on it has no older value than the note's; and where it had
     /// none past the note's, what it has seen is then what the writer had put in place.
-    #[tactic(auto, using(crate::proofs::Firsts::stands))]
     pub fn learn(&mut self, note: ValueNote<T>)
         requires { note.table ≡ self.old.table }
         ensures table { self.new.table ≡ self.old.table }

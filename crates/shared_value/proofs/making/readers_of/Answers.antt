@@ -1,5 +1,5 @@
 -- A reader more, of the last copy.
-use Rattle.std.proofs.Common.{◌∙◌, arith}
+use Rattle.std.proofs.Common.{◌∙◌, vec_capacity, arith}
 use Rattle.std.proofs.lemmas.List.Elements.{All-pop}
 use Rattle.std.specs.Arc.{arc_value}
 use Rattle.shared_value.specs.Knowing.{IsNew, IsFirst}
@@ -15,11 +15,12 @@ loop-preserved g c =
     let more = c.push_reserved.ensures.len in
     let table = (arc_value c.args.origin.now.home.value.board).shared.table_id in
     let first = c.args.origin.now.first.value in
+    let made = c.push_reserved.new.self in
     let copies = All-pop (λ t. IsFirst first (arc_value t)) c.loop.copies.items c.pop.new.self.items c.pop.result c.pop.ensures.items i.copies in
     record {
       left = omega (arith, fewer, left);
       copies = copies.0;
       count = omega (arith, more, count);
-      room = c.push_reserved.ensures.capacity ∙ i.room;
-      readers = all_pushed (IsNew table first) _ _ _ c.push_reserved.ensures.items i.readers c.reader_of.ensures;
+      room = ◌∙◌ {a = vec_capacity made} c.push_reserved.ensures.capacity i.room;
+      readers = all_pushed (IsNew table first) c.loop.made.items made.items c.reader_of.result c.push_reserved.ensures.items i.readers c.reader_of.ensures;
     }
